@@ -1,0 +1,11 @@
+pub mod Weights
+pub mod MagnitudeLemmas
+pub mod Nearness
+pub mod Halves
+pub mod Places
+pub mod Numerals
+pub mod Rounds
+pub mod MagnitudePowers
+pub mod Rounded
+pub mod NumberDigits
+pub mod Moved

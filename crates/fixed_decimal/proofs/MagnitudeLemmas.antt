@@ -1,0 +1,70 @@
+-- The greatest power of ten that a size reaches: laws of the magnitude, on places.
+use Rattle.std.proofs.Common.{◌≡◌, ℕ, zero, suc, ◌+◌, ◌-◌, ◌*◌, ◌^◌, ◌<◌, ◌≤◌, nat_le, ⊎_elim, refl, arith, leb-true, leb-false, ap, ◌∙◌}
+use Rattle.std.proofs.lemmas.Nat.{pow-add}
+use Rattle.std.proofs.lemmas.Bool.{cases_Bool, cases_order, cases_lt}
+use Rattle.fixed_decimal.specs.Size.{finest, place_up_to, magnitude}
+use Rattle.fixed_decimal.specs.Nearest.{IsMultiple}
+use Rattle.fixed_decimal.proofs.Weights.{ten_pos, ten_mono, ten_more}
+
+pub ten_above : (n : ℕ) → n < 10 ^ n
+ten_above zero = omega arith
+ten_above (suc n) = let next : 10 ^ suc n ≡ 10 * 10 ^ n = ap (λ k. 10 ^ k) (omega arith) ∙ ten_more n in omega (arith, ten_above n)
+
+place_low : (x top : ℕ) → 0 < x → 10 ^ place_up_to x top ≤ x
+unfolding place_up_to
+place_low x zero h = omega arith
+place_low x (suc p) h =
+    ⊎_elim (λ e. rw e (leb-true (10 ^ suc p) x e)) (λ e. rw e (place_low x p h)) (cases_Bool (nat_le (10 ^ suc p) x))
+
+place_high : (x top : ℕ) → x < 10 ^ suc top → x < 10 ^ suc (place_up_to x top)
+unfolding place_up_to
+place_high x zero h = h
+place_high x (suc p) h =
+    ⊎_elim (λ e. rw e h) (λ e. rw e (place_high x p (leb-false (10 ^ suc p) x e))) (cases_Bool (nat_le (10 ^ suc p) x))
+
+pub magnitude_low : (x : ℕ) → 0 < x → 10 ^ magnitude x ≤ x
+unfolding magnitude
+magnitude_low zero h = absurd (omega arith)
+magnitude_low (suc n) h = place_low (suc n) (suc n) h
+
+pub magnitude_high : (x : ℕ) → 0 < x → x < 10 ^ (magnitude x + 1)
+unfolding magnitude
+magnitude_high zero h = absurd (omega arith)
+magnitude_high (suc n) h =
+    let up = place_high (suc n) (suc n) (omega (arith, ten_above (suc n), ten_mono (suc n) (suc (suc n)) (omega arith))) in
+    omega (arith, up, ap (λ k. 10 ^ k) (one_more (place_up_to (suc n) (suc n))))
+  where
+    one_more : (k : ℕ) → suc k ≡ k + 1
+    one_more k = omega arith
+
+pub magnitude_is : (x p : ℕ) → 10 ^ p ≤ x → x < 10 ^ (p + 1) → magnitude x ≡ p
+magnitude_is x p low high =
+    let positive : 0 < x = omega (arith, ten_pos p) in
+    let l = magnitude_low x positive in
+    let g = magnitude_high x positive in
+    ⊎_elim (λ e. e)
+    (⊎_elim (λ (below : magnitude x < p). absurd (omega (arith, ten_mono (magnitude x + 1) p (omega arith))))
+    (λ (above : p < magnitude x). absurd (omega (arith, ten_mono (p + 1) (magnitude x) (omega arith)))))
+    (cases_order (magnitude x) p)
+
+pub magnitude-ten : (p : ℕ) → magnitude (10 ^ p) ≡ p
+magnitude-ten p = magnitude_is (10 ^ p) p (omega arith) (omega (arith, ten_more p, ten_pos p))
+
+pub magnitude-zero : magnitude 0 ≡ finest
+unfolding magnitude
+magnitude-zero = refl
+
+-- a power of ten is a multiple of each lower one
+pub ten_multiple : (p q : ℕ) → p ≤ q → IsMultiple (10 ^ p) (10 ^ q)
+ten_multiple p q h =
+    let split : q ≡ q - p + p = omega arith in
+    (10 ^ (q - p), ap (λ n. 10 ^ n) split ∙ pow-add 10 (q - p) p)
+
+-- a greater size has no lower magnitude
+pub magnitude_monotone : (x y : ℕ) → 0 < x → x ≤ y → magnitude x ≤ magnitude y
+magnitude_monotone x y some h =
+    let low = magnitude_low x some in
+    let high = magnitude_high y (omega arith) in
+    ⊎_elim (λ (above : magnitude y < magnitude x). absurd (omega (arith, ten_mono (magnitude y + 1) (magnitude x) (omega arith))))
+    (λ not_above. not_above)
+    (cases_lt (magnitude y) (magnitude x))

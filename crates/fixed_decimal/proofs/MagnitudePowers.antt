@@ -1,0 +1,143 @@
+-- The magnitude_power of a size, and places of powers.
+use Rattle.std.proofs.Common.{◌≡◌, ◌≢◌, ℕ, ◌+◌, ◌-◌, ◌*◌, ◌^◌, ◌<◌, ◌≤◌, ◌⊎◌, inl, inr, List, [], ◌∷◌, ◌++◌, length, drop, get_or, replicate, zero-add, refl, sym, ◌∙◌, ap, arith, ℤ, pos, negsuc, ◌+ℤ◌, ◌-ℤ◌, ◌≤ℤ◌, ◌<ℤ◌}
+use Rattle.std.proofs.lemmas.Int.{ints, by_lt_z}
+use Rattle.std.proofs.Math.Nat.{mul-le-mul_left}
+use Rattle.std.proofs.lemmas.Bool.{cases_eq, cases_lt}
+use Rattle.std.proofs.lemmas.List.{drop_more, drop_all, length-drop, append-nil}
+use Rattle.std.proofs.lemmas.List.Elements.{All-drop}
+use Rattle.fixed_decimal.specs.Unsigned.{Unsigned, IsUnsigned, AreDigits, high, integer_count}
+use Rattle.fixed_decimal.specs.Size.{weighed, finest, place, ten_to, magnitude, magnitude_power, size}
+use Rattle.fixed_decimal.proofs.MagnitudeLemmas.{magnitude_low, magnitude_high, magnitude-zero}
+use Rattle.fixed_decimal.proofs.Weights.{weighed-append, weighed_units, weighed-replicate_zero, weighed_lt, ten_pos, ten_mono}
+use Rattle.fixed_decimal.proofs.Rounds.{finest_large, weighed-zeros}
+
+-- the greatest m with 10 ^ m <= x, and 0 for zero: what the magnitude_power is
+abbrev pub IsMagnitude : ℕ → ℤ → Type 0
+IsMagnitude x m = ((x ≡ 0) × (m ≡ pos 0)) ⊎ ((ten_to m ≤ x) × ((n : ℤ) → ten_to n ≤ x → n ≤ℤ m))
+
+-- the place of a power n - s
+pub place_is : (p : ℤ) (n s : ℕ) → s ≤ finest → pos n -ℤ pos s ≡ p → place p + s ≡ finest + n
+place_is (pos k) n s fine e = omega (arith, ints)
+place_is (negsuc k) n s fine e = omega (arith, ints)
+
+-- 10 to a power and to a greater one
+pub place_mono : (p q : ℤ) → p ≤ℤ q → place p ≤ place q
+place_mono (pos a) (pos b) h = omega (arith, ints)
+place_mono (pos a) (negsuc b) h = absurd (omega (arith, ints))
+place_mono (negsuc a) (pos b) h = omega (arith, ints)
+place_mono (negsuc a) (negsuc b) h = omega (arith, ints)
+
+-- a size below the power h + 1 has a magnitude_power of h at most
+pub magnitude_le : (x : ℕ) (m : ℤ) (h : ℕ) → x < 10 ^ (finest + (h + 1)) → IsMagnitude x m → m ≤ℤ pos h
+magnitude_le x m h small (inl (none, e)) = rw e (omega (arith, ints))
+magnitude_le x m h small (inr (reached, greatest)) =
+    by_lt_z (pos h) m
+    (λ above.
+    let next : pos (h + 1) ≤ℤ m = omega (arith, ints) in
+    absurd (omega (arith, ten_mono (place (pos (h + 1))) (place m) (place_mono (pos (h + 1)) m next))))
+    (λ below. below)
+
+-- a size that reaches the power h has a magnitude_power of h at least
+pub magnitude_ge : (x : ℕ) (m : ℤ) (h : ℕ) → 10 ^ (finest + h) ≤ x → IsMagnitude x m → pos h ≤ℤ m
+magnitude_ge x m h large (inl (none, e)) = absurd (omega (arith, ten_pos (finest + h)))
+magnitude_ge x m h large (inr (reached, greatest)) = greatest (pos h) large
+
+-- the size of any decimal is below the power over its greatest one
+pub size_lt : (d : Unsigned) → IsUnsigned d → size d < 10 ^ (finest + integer_count d)
+size_lt d is =
+    let same : finest - d.scale + length d.digits ≡ finest + integer_count d = omega (arith, finest_large, is.low_limit, is.integer_some) in
+    rw (← same) (weighed_lt (finest - d.scale) d.digits is.below_ten)
+
+pub magnitude_le-high : (d : Unsigned) (m : ℤ) → IsUnsigned d → IsMagnitude (size d) m → m ≤ℤ high d
+magnitude_le-high d m is h =
+    let same : integer_count d - 1 + 1 ≡ integer_count d = omega (arith, is.integer_some) in
+    let bound = magnitude_le (size d) m (integer_count d - 1) (rw same (size_lt d is)) h in
+    omega (arith, ints)
+
+-- the place of a greater power is greater
+place_next : (m n : ℤ) (k : ℕ) → pos k ≡ pos finest +ℤ m → m <ℤ n → k + 1 ≤ place n
+place_next m (pos n) k e h = omega (arith, ints)
+place_next m (negsuc n) k e h = omega (arith, ints)
+
+pub IsMagnitude-at : (x : ℕ) (m : ℤ) (k : ℕ) → pos k ≡ pos finest +ℤ m → 10 ^ k ≤ x → x < 10 ^ (k + 1) → IsMagnitude x m
+IsMagnitude-at x m k e reached below =
+    inr (
+      rw (same m k e) reached,
+      λ n h. by_lt_z m n
+          (λ above. absurd (omega (arith, ten_mono (k + 1) (place n) (place_next m n k e above))))
+          (λ not_above. not_above),
+    )
+  where
+    same : (m : ℤ) (k : ℕ) → pos k ≡ pos finest +ℤ m → place m ≡ k
+    same (pos a) k e = omega (arith, ints)
+    same (negsuc a) k e = omega (arith, ints)
+
+-- the magnitude_power is the power of the first digit that is not 0
+pub magnitude_first : (ds : List ℕ) (s f : ℕ) (m : ℤ) → AreDigits ds → s ≤ finest → s < length ds → ds ≡ replicate f 0 ++ drop f ds → f < length ds → get_or ds f 0 ≢ 0 → m ≡ (pos (length ds - s) -ℤ pos 1) -ℤ pos f → IsMagnitude (weighed (finest - s) ds) m
+magnitude_first ds s f m digits fine some zeros within first e =
+    let g = finest - s in
+    let d = get_or ds f 0 in
+    let rest = drop (f + 1) ds in
+    let split : weighed g ds ≡ weighed g (d ∷ rest) =
+    ap (weighed g) zeros ∙ weighed-append g (replicate f 0) (drop f ds) ∙ rw (weighed-replicate_zero (g + length (drop f ds)) f, drop_more ds f 0 within) (zero-add _) in
+    let k = g + length rest in
+    let at : pos k ≡ pos finest +ℤ m = omega (arith, ints, length-drop (f + 1) ds) in
+    let one : 1 ≤ d = omega arith in
+    let here : AreDigits (d ∷ rest) = rw (drop_more ds f 0 within) at (All-drop (λ d. d < 10) f ds digits) in
+    let next : g + length (d ∷ rest) ≡ k + 1 = omega arith in
+    rw split (IsMagnitude-at (weighed g (d ∷ rest)) m k at (omega (arith, mul-le-mul_left (10 ^ k) one)) (rw next at (weighed_lt g (d ∷ rest) here)))
+
+pub magnitude_none : (ds : List ℕ) (s f : ℕ) → ds ≡ replicate f 0 ++ drop f ds → f ≡ length ds → IsMagnitude (weighed (finest - s) ds) (pos 0)
+magnitude_none ds s f zeros all =
+    let none : drop f ds ≡ [] = drop_all f ds (omega arith) in
+    let whole : ds ≡ replicate f 0 ++ [] = zeros ∙ ap (λ l. replicate f 0 ++ l) none in
+    inl (ap (weighed (finest - s)) whole ∙ rw (append-nil) (weighed-replicate_zero (finest - s) f), refl)
+
+-- zeros at the end do not count
+pub weighed_trimmed : (ds ys : List ℕ) (s s' z : ℕ) → ds ≡ ys ++ replicate z 0 → s ≡ s' + z → s ≤ finest → weighed (finest - s') ys ≡ weighed (finest - s) ds
+weighed_trimmed ds ys s s' z e f fine =
+    let same : finest - s + z ≡ finest - s' = omega arith in
+    let zeros : weighed (finest - s) (ys ++ replicate z 0) ≡ weighed 0 ys * 10 ^ (finest - s') = rw (zero-add z, same) at (weighed-zeros (finest - s) 0 z ys) in
+    weighed_units (finest - s') ys ∙ sym zeros ∙ ap (weighed (finest - s)) (sym e)
+
+-- the place of the magnitude_power
+pub place-magnitude : (x : ℕ) → place (magnitude_power x) ≡ magnitude x
+place-magnitude x = go (pos (magnitude x) -ℤ pos finest) refl
+  where
+    go : (p : ℤ) → pos (magnitude x) -ℤ pos finest ≡ p → place p ≡ magnitude x
+    go (pos n) e = omega (arith, ints)
+    go (negsuc n) e = omega (arith, ints)
+
+-- a power whose place is not above a place p
+pub place_below : (n : ℤ) (p : ℕ) → place n ≤ p → n ≤ℤ (pos p -ℤ pos finest)
+place_below (pos n) p h = omega (arith, ints)
+place_below (negsuc n) p h = omega (arith, ints)
+
+-- the magnitude_power is what its relation says, and the only one
+pub magnitude_has : (x : ℕ) → IsMagnitude x (magnitude_power x)
+magnitude_has x = elim (cases_eq x 0) [
+  | inl none ↦ inl (none, zero_at x none)
+  | inr some ↦
+      let positive : 0 < x = omega arith in
+      inr (
+        rw (place-magnitude x) (magnitude_low x positive),
+        λ n h. place_below n (magnitude x) (ten_below (place n) (magnitude x) x h (magnitude_high x positive)),
+      )
+]
+  where
+    zero_at : (x : ℕ) → x ≡ 0 → magnitude_power x ≡ pos 0
+    zero_at x none = let e : magnitude x ≡ finest = ap magnitude none ∙ magnitude-zero in omega (arith, ints)
+
+    ten_below : (i j x : ℕ) → 10 ^ i ≤ x → x < 10 ^ (j + 1) → i ≤ j
+    ten_below i j x l h = elim (cases_lt j i) [
+      | inl above ↦ absurd (omega (arith, ten_mono (j + 1) i (omega arith)))
+      | inr not_above ↦ not_above
+    ]
+
+pub magnitude_only : (x : ℕ) (m : ℤ) → IsMagnitude x m → m ≡ magnitude_power x
+magnitude_only x m (inl (none, e)) = let f : magnitude x ≡ finest = ap magnitude none ∙ magnitude-zero in omega (arith, ints)
+magnitude_only x m (inr (reached, greatest)) = both (magnitude_has x)
+  where
+    both : IsMagnitude x (magnitude_power x) → m ≡ magnitude_power x
+    both (inl (none, e)) = absurd (omega (arith, ten_pos (place m)))
+    both (inr (at, most)) = omega (arith, ints, greatest (magnitude_power x) at, most m reached)

@@ -1,0 +1,39 @@
+-- What holds of every size and every text; each is the contract of a function of `laws`.
+use Rattle.std.specs.Prelude.{◌≡◌, ℕ, ◌+◌, ◌^◌, ◌<◌, ◌≤◌, List}
+use Rattle.fixed_decimal.specs.declared.signs.Sign.{Sign}
+use Rattle.fixed_decimal.specs.Unsigned.{Unsigned}
+use Rattle.fixed_decimal.specs.Size.{magnitude, finest}
+use Rattle.fixed_decimal.specs.Nearest.{IsMultiple, IsNearest}
+use Rattle.fixed_decimal.specs.Text.{Reads}
+
+-- ten to the magnitude is at most the size
+abbrev pub MagnitudeIsReached : Type 0
+MagnitudeIsReached = (x : ℕ) → 0 < x → 10 ^ magnitude x ≤ x
+
+-- the size is below ten to the place after its magnitude
+abbrev pub MagnitudeIsGreatest : Type 0
+MagnitudeIsGreatest = (x : ℕ) → 0 < x → x < 10 ^ (magnitude x + 1)
+
+-- no other place has both
+abbrev pub MagnitudeIsUnique : Type 0
+MagnitudeIsUnique = (x p : ℕ) → 10 ^ p ≤ x → x < 10 ^ (p + 1) → magnitude x ≡ p
+
+-- a greater size has no lower magnitude
+abbrev pub MagnitudeIsMonotone : Type 0
+MagnitudeIsMonotone = (x y : ℕ) → 0 < x → x ≤ y → magnitude x ≤ magnitude y
+
+-- the magnitude of nothing is the place of power 0
+abbrev pub MagnitudeOfZero : Type 0
+MagnitudeOfZero = magnitude 0 ≡ finest
+
+-- each size has a nearest multiple of a unit, the even one of two equally near
+abbrev pub SomeMultipleIsNearest : Type 0
+SomeMultipleIsNearest = (unit x : ℕ) → 0 < unit → (y : ℕ) × IsNearest (IsMultiple unit) unit x y
+
+-- and one alone
+abbrev pub OneMultipleIsNearest : Type 0
+OneMultipleIsNearest = (unit x y z : ℕ) → 0 < unit → IsNearest (IsMultiple unit) unit x y → IsNearest (IsMultiple unit) unit x z → y ≡ z
+
+-- a text spells one sign and one number at most
+abbrev pub TextReadsOneDecimal : Type 0
+TextReadsOneDecimal = (text : List ℕ) (sign sign' : Sign) (d d' : Unsigned) → Reads text sign d → Reads text sign' d' → (sign ≡ sign') × (d ≡ d')

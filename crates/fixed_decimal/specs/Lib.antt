@@ -1,0 +1,9 @@
+pub mod Unsigned
+pub mod Size
+pub mod Text
+pub mod Nearest
+pub mod Rounding
+pub mod Scaling
+pub mod Trimming
+pub mod SignDisplay
+pub mod Laws

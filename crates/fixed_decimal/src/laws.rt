@@ -1,0 +1,32 @@
+//! What holds of all sizes, texts and decimals: each function does nothing, and its contract is the law.
+
+ghost use Rattle.std.specs.Prelude.{◌≡◌, ◌↔◌, IsTrue};
+ghost use Rattle.fixed_decimal.specs.Laws.{MagnitudeIsReached, MagnitudeIsGreatest, MagnitudeIsUnique, MagnitudeIsMonotone, MagnitudeOfZero, SomeMultipleIsNearest, OneMultipleIsNearest, TextReadsOneDecimal};
+
+use crate::{Decimal, UnsignedDecimal};
+
+/// The magnitude of a size is the greatest power of ten that it reaches, and that of power 0 for nothing.
+pub fn magnitude_is_the_greatest_power()
+    ensures reached { MagnitudeIsReached }
+    ensures greatest { MagnitudeIsGreatest }
+    ensures unique { MagnitudeIsUnique }
+    ensures monotone { MagnitudeIsMonotone }
+    ensures zero { MagnitudeOfZero }
+{}
+
+/// Each size has one nearest multiple of a unit, the even one of two equally near.
+pub fn nearest_multiple_is_unique()
+    ensures some { SomeMultipleIsNearest }
+    ensures one { OneMultipleIsNearest }
+{}
+
+/// A text is read as one decimal at most.
+pub fn text_reads_one_decimal()
+    ensures { TextReadsOneDecimal }
+{}
+
+/// Two decimals are equal exactly where sign, written range and digits are the same.
+pub fn equality_is_of_sign_range_and_digits()
+    ensures unsigned { (a b : _) → IsTrue (⟦<UnsignedDecimal as PartialEq>⟧.eq a b) ↔ (a ≡ b) }
+    ensures signed { (a b : _) → IsTrue (⟦<Decimal as PartialEq>⟧.eq a b) ↔ (a ≡ b) }
+{}

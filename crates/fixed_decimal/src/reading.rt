@@ -1,0 +1,121 @@
+//! Reading the text form of a decimal.
+
+ghost use Rattle.std.specs.Prelude.{◌≡◌, ◌≢◌, ◌+◌, ◌<◌, ◌≤◌, ◌↔◌, ◌++◌, length, slice_index, vec_len, vec_capacity, max, IfOk, IfSome, IfNone, IsErrOf, List, ℕ};
+ghost use Rattle.std.specs.List.{prefix_len, AllPass};
+ghost use Rattle.std.specs.Char.{is_ascii_digit};
+ghost use Rattle.fixed_decimal.specs.Unsigned.{IsUnsigned};
+ghost use Rattle.fixed_decimal.specs.Text.{sign_text, digit_values, IsNumeral, integer_of, Reads, ReadsNothing, ReadsPastLimits};
+
+use crate::{Decimal, DecimalError, Sign, UnsignedDecimal};
+use std::alloc::{AllocError, Global};
+
+/// The most digits that may stand before the point, and behind it.
+const MAX_DIGITS: usize = 32768;
+
+impl Decimal {
+    /// Reads the text form: an optional `+` or `-`; then ASCII digits, optionally with a point and digits behind it,
+    /// or a point and digits (ICU4X `Decimal::try_from_str`, without exponents).
+    ///
+    /// Each written digit widens the range: `0012` goes up to power 3, `1.20` down to -2, and `.5` has the digits 0
+    /// and 5. `Syntax` is judged before `Limit`, and both before memory is asked for.
+    pub fn try_from_str(alloc: Global, text: &str) -> Result<Decimal, DecimalError>
+        ensures reads { IfOk result (λ d. Reads text.now d.sign d.absolute) }
+        ensures valid { IfOk result (λ d. IsUnsigned d.absolute) }
+        ensures syntax { IsErrOf result DecimalError.Syntax ↔ ReadsNothing text.now }
+        ensures limit { IsErrOf result DecimalError.Limit ↔ ReadsPastLimits text.now }
+    {
+        let (sign, numeral) = split_sign(text.as_bytes());
+        let Some((before, after)) = split_numeral(numeral) else {
+            return Err(DecimalError::Syntax);
+        };
+        if before.len() > MAX_DIGITS || after.len() > MAX_DIGITS {
+            return Err(DecimalError::Limit);
+        }
+        match from_digits_text(alloc, before, after) {
+            Ok(absolute) => Ok(Decimal { sign, absolute }),
+            Err(_) => Err(DecimalError::OutOfMemory),
+        }
+    }
+}
+
+/// The sign that a text begins with, and the rest.
+fn split_sign(text: &[u8]) -> (Sign, &[u8])
+    ensures signed { text.now ≡ sign_text result.0 ++ result.1.now }
+    ensures unsigned { result.0 ≡ Sign.None → (slice_index text.now 0 ≢ 43) × (slice_index text.now 0 ≢ 45) }
+{
+    match text {
+        [b'-', rest @ ..] => (Sign::Negative, rest),
+        [b'+', rest @ ..] => (Sign::Positive, rest),
+        _ => (Sign::None, text),
+    }
+}
+
+/// How many digits a text begins with.
+fn leading_digits(text: &[u8]) -> usize
+    ensures count { result ≡ prefix_len is_ascii_digit text.now }
+    ensures within { result ≤ length text.now }
+{
+    text.iter().take_while(|b| b.is_ascii_digit()).count()
+}
+
+/// The digits before and after the point.
+fn split_numeral(text: &[u8]) -> Option<(&[u8], &[u8])>
+    ensures spelled { IfSome result (λ parts. IsNumeral text.now (digit_values parts.0.now) (digit_values parts.1.now)) }
+    ensures digits { IfSome result (λ parts. AllPass is_ascii_digit parts.0.now × AllPass is_ascii_digit parts.1.now) }
+    ensures none { IfNone result ((before after : List ℕ) → ¬ (IsNumeral text.now before after)) }
+{
+    let count = leading_digits(text);
+    let before = &text[..count];
+    if count == text.len() {
+        return if count > 0 {
+            Some((before, &text[count..]))
+        } else {
+            None
+        };
+    }
+    let after = &text[count + 1..];
+    if text[count] == b'.' && !after.is_empty() && leading_digits(after) == after.len() {
+        Some((before, after))
+    } else {
+        None
+    }
+}
+
+/// The decimal of these digits before and after the point.
+fn from_digits_text(
+    alloc: Global,
+    before: &[u8],
+    after: &[u8],
+) -> Result<UnsignedDecimal, AllocError>
+    requires before_digits { AllPass is_ascii_digit before.now }
+    requires after_digits { AllPass is_ascii_digit after.now }
+    requires before_limit { length before.now ≤ 32768 }
+    requires after_limit { length after.now ≤ 32768 }
+    ensures digits { IfOk result (λ d. d.digits ≡ integer_of (digit_values before.now) ++ digit_values after.now) }
+    ensures scale { IfOk result (λ d. d.scale ≡ length after.now) }
+    ensures valid { IfOk result (λ d. IsUnsigned d) }
+{
+    let mut digits = Vec::with_capacity(alloc, before.len().max(1) + after.len())?;
+    if before.is_empty() {
+        digits.push_reserved(0);
+    }
+    push_values(&mut digits, before);
+    push_values(&mut digits, after);
+    Ok(UnsignedDecimal {
+        digits,
+        scale: after.len() as u16,
+    })
+}
+
+/// Appends the digits that a text writes, for which there is room.
+fn push_values(digits: &mut Vec<u8>, text: &[u8])
+    requires room { vec_len digits.old + length text.now ≤ vec_capacity digits.old }
+    requires written { AllPass is_ascii_digit text.now }
+    ensures values { digits.new.items ≡ digits.old.items ++ digit_values text.now }
+    ensures len { vec_len digits.new ≡ vec_len digits.old + length text.now }
+    ensures capacity { vec_capacity digits.new ≡ vec_capacity digits.old }
+{
+    for b in text {
+        digits.push_reserved(*b - b'0');
+    }
+}

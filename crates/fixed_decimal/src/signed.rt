@@ -1,0 +1,120 @@
+//! Decimals with a sign.
+
+ghost use Rattle.std.specs.Prelude.{◌≡◌, ◌≢◌, ◌*◌, ◌↔◌, ◌==◌, ◌<ℤ◌, IfOk, IfErr, OnOk, OnErr, IsErrOf, IsOkUnless, MatchBool, pos, unsigned_abs, int_lt};
+ghost use Rattle.fixed_decimal.specs.Unsigned.{IsUnsigned, low, high};
+ghost use Rattle.fixed_decimal.specs.Size.{size, ten_to, magnitude_power};
+ghost use Rattle.fixed_decimal.specs.Rounding.{IsRounded, RoundsPastLimits};
+ghost use Rattle.fixed_decimal.specs.Scaling.{IsMoved, IsTimesTenTo, MovesPastLimits};
+ghost use Rattle.fixed_decimal.specs.SignDisplay.{displayed_sign};
+
+use crate::{DecimalError, Sign, SignDisplay, UnsignedDecimal};
+use std::alloc::Global;
+
+/// A decimal: a sign and a number without one. `-0` keeps its sign.
+#[derive(Debug, PartialEq, Eq, Drop)]
+pub struct Decimal {
+    pub sign: Sign,
+    pub absolute: UnsignedDecimal,
+}
+
+impl Decimal {
+    /// The digits of a whole number, without a sign and without leading zeros.
+    pub fn from_u64(alloc: Global, value: u64) -> Result<Self, DecimalError>
+        ensures sign { IfOk result (λ d. d.sign ≡ Sign.None) }
+        ensures size { IfOk result (λ d. size d.absolute ≡ value * ten_to (pos 0)) }
+        ensures low { IfOk result (λ d. low d.absolute ≡ pos 0) }
+        ensures high { IfOk result (λ d. high d.absolute ≡ magnitude_power (size d.absolute)) }
+        ensures memory { IsOkUnless result DecimalError.OutOfMemory }
+    {
+        let absolute = UnsignedDecimal::from_u64(alloc, value)?;
+        Ok(Decimal {
+            sign: Sign::None,
+            absolute,
+        })
+    }
+
+    /// The digits of a whole number, without leading zeros; `Negative` below zero, else without a sign.
+    pub fn from_i64(alloc: Global, value: i64) -> Result<Self, DecimalError>
+        ensures sign { IfOk result (λ d. MatchBool (int_lt value (pos 0)) (d.sign ≡ Sign.Negative) (d.sign ≡ Sign.None)) }
+        ensures size { IfOk result (λ d. size d.absolute ≡ unsigned_abs value * ten_to (pos 0)) }
+        ensures low { IfOk result (λ d. low d.absolute ≡ pos 0) }
+        ensures high { IfOk result (λ d. high d.absolute ≡ magnitude_power (size d.absolute)) }
+        ensures memory { IsOkUnless result DecimalError.OutOfMemory }
+    {
+        let absolute = UnsignedDecimal::from_u64(alloc, value.unsigned_abs())?;
+        let sign = if value < 0 {
+            Sign::Negative
+        } else {
+            Sign::None
+        };
+        Ok(Decimal { sign, absolute })
+    }
+
+    /// Multiplies by ten to the power, the sign kept (ICU4X `multiply_pow10`): each digit so many powers higher, and
+    /// the range widened to include 0.
+    ///
+    /// `Limit` is judged before memory is asked for; after a refusal the value is as it was.
+    pub fn multiply_pow10(&mut self, power: i16) -> Result<(), DecimalError>
+        ensures moved { OnOk result (IsMoved self.old.absolute power self.new.absolute) }
+        ensures size { OnOk result (IsTimesTenTo power (size self.old.absolute) (size self.new.absolute)) }
+        ensures sign { self.new.sign ≡ self.old.sign }
+        ensures limit { IsErrOf result DecimalError.Limit ↔ MovesPastLimits self.old.absolute power }
+        ensures no_syntax { ¬ (IsErrOf result DecimalError.Syntax) }
+        ensures unchanged { OnErr result (self.new ≡ self.old) }
+    {
+        self.absolute.multiply_pow10(power)
+    }
+
+    /// The nearest multiple of ten to the power, the even one of two equally near, the sign kept.
+    ///
+    /// Where a carry would need power 32768 the answer is `Limit`; a value that is refused is handed back.
+    pub fn rounded(self, power: i16) -> Result<Self, (Self, DecimalError)>
+        ensures rounded { IfOk result (λ y. IsRounded self.absolute power y.absolute) }
+        ensures sign { IfOk result (λ y. y.sign ≡ self.sign) }
+        ensures within { OnOk result (¬ (RoundsPastLimits self.absolute power)) }
+        ensures limit { IfErr result (λ e. e.1 ≡ DecimalError.Limit → RoundsPastLimits self.absolute power) }
+        ensures no_syntax { IfErr result (λ e. e.1 ≢ DecimalError.Syntax) }
+        ensures handed_back { IfErr result (λ e. e.0 ≡ self) }
+    {
+        let Decimal { sign, absolute } = self;
+        match absolute.rounded(power) {
+            Ok(absolute) => Ok(Decimal { sign, absolute }),
+            Err((absolute, error)) => Err((Decimal { sign, absolute }, error)),
+        }
+    }
+
+    /// The same number with the sign that is to be shown (ICU4X `with_sign_display`).
+    pub fn with_sign_display(self, display: SignDisplay) -> Self
+        ensures sign { result.sign ≡ displayed_sign display (size self.absolute == 0) self.sign }
+        ensures absolute { result.absolute ≡ self.absolute }
+    {
+        let Decimal { sign, absolute } = self;
+        let sign = displayed_sign(display, absolute.is_zero(), sign);
+        Decimal { sign, absolute }
+    }
+}
+
+/// The sign shown, of a number that is zero or not and has this sign.
+fn displayed_sign(display: SignDisplay, is_zero: bool, sign: Sign) -> Sign
+    ensures { result ≡ displayed_sign display is_zero sign }
+{
+    match display {
+        SignDisplay::Auto => minus_or(sign, Sign::None),
+        SignDisplay::Always => minus_or(sign, Sign::Positive),
+        SignDisplay::Never => Sign::None,
+        SignDisplay::ExceptZero | SignDisplay::Negative if is_zero => Sign::None,
+        SignDisplay::ExceptZero => minus_or(sign, Sign::Positive),
+        SignDisplay::Negative => minus_or(sign, Sign::None),
+    }
+}
+
+/// A minus, or else the other sign.
+fn minus_or(sign: Sign, other: Sign) -> Sign
+    ensures negative { sign ≡ Sign.Negative → result ≡ Sign.Negative }
+    ensures other { sign ≢ Sign.Negative → result ≡ other }
+{
+    match sign {
+        Sign::Negative => Sign::Negative,
+        Sign::None | Sign::Positive => other,
+    }
+}
