@@ -1,17 +1,21 @@
 #!/usr/bin/env bash
-# Runs the tests of each library once for each allocation that they make, with that one allocation refused.
-# A test holds whichever is refused: the call answers as usual or refuses for want of memory, and answers as usual when
-# it is called again. The last line is 'N passed, M failed', one for each library.
+# Runs the tests of each library with one allocation refused: the first, then the second, and so on. A test holds
+# whichever is refused: the call answers as usual or refuses for want of memory, and answers as usual when it is called
+# again. Each test counts its own allocations, and every call that may want memory comes within the first ones of some
+# test. The last line is 'N passed, M failed', one for each library and allocation.
 set -u
 cd "$(dirname "$0")/.." || exit 1
 passed=0
 failed=0
 for crate in fixed_decimal; do
-    if (cd "crates/$crate" && rt try --test --fail-alloc 1..); then
-        passed=$((passed + 1))
-    else
-        failed=$((failed + 1))
-    fi
+    for allocation in 1 2 3 4 5; do
+        if (cd "crates/$crate" && rt try --test --fail-alloc "$allocation"); then
+            passed=$((passed + 1))
+        else
+            echo "$crate: a test does not hold with allocation $allocation refused"
+            failed=$((failed + 1))
+        fi
+    done
 done
 echo "$passed passed, $failed failed"
 [ "$failed" -eq 0 ]

@@ -2,7 +2,6 @@
 use Rattle.std.specs.Prelude.{◌≡◌, ℕ, ◌*◌, ◌^◌, ◌⊎◌, ℤ, pos, negsuc, ◌+ℤ◌, ◌<ℤ◌}
 use Rattle.std.specs.Int.{int_min, int_max}
 use Rattle.fixed_decimal.specs.Unsigned.{Unsigned, digit_at, high, low}
-use Rattle.fixed_decimal.specs.Size.{size}
 use Rattle.fixed_decimal.specs.Rounding.{scale_at, zeros_at}
 
 -- y has each digit of d, and d's range, k powers higher; the range is then widened to include 0

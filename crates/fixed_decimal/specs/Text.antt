@@ -1,6 +1,6 @@
 -- The text form of a decimal, as a relation between a text's bytes and what they spell (ICU4X `Decimal::try_from_str`,
 -- without exponents): an optional sign, then digits with an optional point and digits, or a point and digits.
-use Rattle.std.specs.Prelude.{◌≡◌, ℕ, ◌+◌, ◌-◌, ◌<◌, ◌≤◌, List, [], ◌∷◌, ◌++◌, length, map}
+use Rattle.std.specs.Prelude.{◌≡◌, ℕ, ◌+◌, ◌-◌, ◌<◌, List, [], ◌∷◌, ◌++◌, length, map}
 use Rattle.fixed_decimal.specs.declared.signs.Sign.{Sign}
 use Rattle.fixed_decimal.specs.declared.signs.Sign.TheVariants.{None, Negative, Positive}
 use Rattle.fixed_decimal.specs.Unsigned.{Unsigned, AreDigits, IsWithinLimits}

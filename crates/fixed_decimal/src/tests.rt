@@ -249,6 +249,19 @@ fn scales_and_rounds_with_a_sign(rt: HostRuntime) -> Result<(), Fail> {
 }
 
 #[test]
+fn grows_again_after_a_refusal(rt: HostRuntime) {
+    let alloc = rt.alloc();
+    match rounded(number(&rt, alloc, "5"), 6) {
+        Ok(number) => assert!(rt; is_written(&number, "000000")),
+        Err(_) => panic!(rt; "5 at 6"),
+    }
+    match scaled(number(&rt, alloc, "1"), 3) {
+        Ok(number) => assert!(rt; is_written(&number, "1000")),
+        Err(_) => panic!(rt; "1 by 3"),
+    }
+}
+
+#[test]
 fn trims_zeros_below_the_point(rt: HostRuntime) {
     for (text, want) in [
         ("0.10", "0.1"),
