@@ -99,8 +99,8 @@ fn from_digits_text(
     if before.is_empty() {
         digits.push_reserved(0);
     }
-    push_values(&mut digits, before);
-    push_values(&mut digits, after);
+    let integer = push_values(digits, before);
+    let digits = push_values(integer, after);
     Ok(UnsignedDecimal {
         digits,
         scale: after.len() as u16,
@@ -108,14 +108,15 @@ fn from_digits_text(
 }
 
 /// Appends the digits that a text writes, for which there is room.
-fn push_values(digits: &mut Vec<u8>, text: &[u8])
-    requires room { vec_len digits.old + length text.now ≤ vec_capacity digits.old }
+fn push_values(mut digits: Vec<u8>, text: &[u8]) -> Vec<u8>
+    requires room { vec_len digits + length text.now ≤ vec_capacity digits }
     requires written { AllPass is_ascii_digit text.now }
-    ensures values { digits.new.items ≡ digits.old.items ++ digit_values text.now }
-    ensures len { vec_len digits.new ≡ vec_len digits.old + length text.now }
-    ensures capacity { vec_capacity digits.new ≡ vec_capacity digits.old }
+    ensures values { result.items ≡ digits.items ++ digit_values text.now }
+    ensures len { vec_len result ≡ vec_len digits + length text.now }
+    ensures capacity { vec_capacity result ≡ vec_capacity digits }
 {
-    for b in text {
-        digits.push_reserved(*b - b'0');
+    for i in 0..text.len() {
+        digits.push_reserved(text[i] - b'0');
     }
+    digits
 }
