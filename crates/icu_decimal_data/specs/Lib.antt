@@ -1,0 +1,4 @@
+pub mod Held
+pub mod Symbols
+pub mod Given
+pub mod DecimalSymbols
