@@ -1,0 +1,56 @@
+#!/usr/bin/env python3
+"""Writes one of the two inputs of the comparison, always the same: `generate.py mixed|long`."""
+
+import sys
+
+COUNT = {"mixed": 1_000_000, "long": 1_800}
+
+
+class Numbers:
+    """A 64-bit linear congruential generator (Knuth's MMIX constants)."""
+
+    def __init__(self, seed):
+        self.state = seed
+
+    def below(self, limit):
+        self.state = (self.state * 6364136223846793005 + 1442695040888963407) % 2**64
+        return (self.state >> 33) % limit
+
+    def digits(self, count):
+        """Digits of which the first isn't 0."""
+        text = [str(1 + self.below(9))]
+        left = count - 1
+        while left > 0:
+            width = min(left, 8)
+            text.append(str(self.below(10**width)).zfill(width))
+            left -= width
+        return "".join(text)
+
+
+def mixed_line(numbers):
+    """A short or long whole number, a fraction or a negative number."""
+    kind = numbers.below(8)
+    sign = "-" if numbers.below(4) == 0 else ""
+    if kind < 3:
+        return sign + numbers.digits(1 + numbers.below(6))
+    if kind < 5:
+        return sign + numbers.digits(7 + numbers.below(9))
+    return sign + numbers.digits(1 + numbers.below(8)) + "." + numbers.digits(1 + numbers.below(4))
+
+
+def long_line(numbers):
+    """A whole number of some thousand to 30,000 digits, every third one negative."""
+    length = 100 + numbers.below(13_000) if numbers.below(8) else 20_000 + numbers.below(10_001)
+    return ("-" if numbers.below(3) == 0 else "") + numbers.digits(length)
+
+
+def main():
+    shape = sys.argv[1]
+    numbers = Numbers({"mixed": 1, "long": 2}[shape])
+    line = {"mixed": mixed_line, "long": long_line}[shape]
+    out = sys.stdout
+    for _ in range(COUNT[shape]):
+        out.write(line(numbers) + "\n")
+
+
+main()

@@ -1,0 +1,8 @@
+pub mod Answering
+pub mod Fed
+pub mod Known
+pub mod LineLaws
+pub mod Parts
+pub mod Readings
+pub mod Returns
+pub mod Runs

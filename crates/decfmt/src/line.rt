@@ -1,0 +1,66 @@
+//! The answer to a line.
+
+ghost use Rattle.std.specs.Prelude.{◌≡◌, ◌++◌, ◌∷◌, [], OnOk, codes};
+ghost use Rattle.decfmt.specs.Answers.{answer_to};
+ghost use Rattle.decfmt.specs.Lines.{without_return, line_output};
+ghost use Rattle.decfmt.specs.Plain.{plain_text};
+
+use crate::mode::Mode;
+use fixed_decimal::{Decimal, DecimalError};
+use icu_base::Writeable;
+use std::alloc::{AllocError, Global};
+
+/// Without one carriage return at the end.
+#[tactic(auto, using(crate::proofs::Returns::returns_dropped))]
+fn without_return(line: &[u8]) -> &[u8]
+    ensures { result.now ≡ without_return line.now }
+{
+    if !line.is_empty() && line[line.len() - 1] == b'\r' {
+        &line[..line.len() - 1]
+    } else {
+        line
+    }
+}
+
+/// Appends the text of a decimal; without memory some bytes of it may stand there.
+#[tactic(auto, unfolding(crate::specs::Plain::plain_text))]
+fn push_decimal(mode: &Mode, decimal: &Decimal, out: &mut Vec<u8>) -> Result<(), AllocError>
+    ensures { OnOk result (out.new.items ≡ out.old.items ++ plain_text mode.now decimal.now.sign decimal.now.absolute) }
+{
+    let formatted = mode.formatter().format(decimal);
+    match formatted.write_events(out) {
+        Ok(()) => Ok(()),
+        Err(_) => Err(AllocError),
+    }
+}
+
+/// Appends the answer to a text; without memory some bytes of it may stand there.
+#[tactic(auto, using(crate::proofs::Answering::answering))]
+fn push_answer(alloc: Global, mode: &Mode, text: &[u8], out: &mut Vec<u8>) -> Result<(), AllocError>
+    ensures { OnOk result (out.new.items ≡ out.old.items ++ answer_to mode.now text.now) }
+{
+    let Ok(text) = std::str::from_utf8(text) else {
+        return out.extend_from_slice(b"error: not a decimal");
+    };
+    match Decimal::try_from_str(alloc, text) {
+        Ok(decimal) => push_decimal(mode, &decimal, out),
+        Err(DecimalError::Syntax) => out.extend_from_slice(b"error: not a decimal"),
+        Err(DecimalError::Limit) => out.extend_from_slice(b"error: too many digits"),
+        Err(DecimalError::OutOfMemory) => Err(AllocError),
+    }
+}
+
+/// Appends what is written for a line; without memory some bytes of it may stand there.
+#[tactic(auto, unfolding(crate::specs::Lines::line_output))]
+pub fn push_line(
+    alloc: Global,
+    mode: &Mode,
+    line: &[u8],
+    out: &mut Vec<u8>,
+) -> Result<(), AllocError>
+    ensures { OnOk result (out.new.items ≡ out.old.items ++ line_output (answer_to mode.now) line.now) }
+{
+    push_answer(alloc, mode, without_return(line), out)?;
+    out.push(b'\n')?;
+    Ok(())
+}

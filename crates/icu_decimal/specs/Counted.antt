@@ -1,0 +1,11 @@
+-- How many digits come before the next separator.
+use Rattle.std.specs.Prelude.{◌≡◌, ℕ, ◌+◌, ◌-◌, ◌%◌, ◌<◌, ◌≤◌, ◌==◌, if◌then◌else◌}
+
+-- what is left of the group that begins with the last `count` digits
+abbrev pub IsGap : ℕ → ℕ → ℕ → ℕ → Type 0
+IsGap primary secondary count left =
+    (count ≤ primary → left ≡ count) × (primary < count → left ≡ (count - primary - 1) % secondary + 1)
+
+-- the size of the group that the last `count` digits begin with, where a group ends before them
+abbrev pub next_size : ℕ → ℕ → ℕ → ℕ
+next_size primary secondary count = if count == primary then primary else secondary

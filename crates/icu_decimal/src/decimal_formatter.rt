@@ -1,0 +1,125 @@
+//! The plain formatter.
+
+ghost use Rattle.std.specs.Prelude.{◌≡◌, List, IfOk, IsOkUnless, codes};
+ghost use Rattle.std.specs.String.{string_bytes};
+ghost use Rattle.icu_base.specs.Events.{Event, text_of};
+ghost use Rattle.icu_decimal.specs.Decimal.{decimal_events, signed_events, unsigned_events};
+
+use crate::error::FormatError;
+use crate::formatted_decimal::{FormattedDecimal, FormattedUnsignedDecimal};
+use crate::formatted_sign::FormattedSign;
+use crate::lent::Cow;
+use crate::options::DecimalFormatterOptions;
+use crate::parts;
+use fixed_decimal::{Decimal, Sign, UnsignedDecimal};
+use icu_base::Writeable;
+use icu_decimal_data::DecimalSymbols;
+use std::alloc::Global;
+use std::marker::Model;
+
+/// Writes decimals in the digits, signs, separators and group sizes of a locale (ICU4X `DecimalFormatter`).
+#[derive(Drop)]
+pub struct DecimalFormatter {
+    options: DecimalFormatterOptions,
+    symbols: DecimalSymbols,
+    digits: [char; 10],
+}
+
+impl Model for DecimalFormatter {
+    ghost use Rattle.icu_decimal.specs.Decimal.{DecimalFormat};
+
+    ghost Value = { DecimalFormat };
+
+    ghost view = { λ f. record { symbols = f.symbols; digits = f.digits; options = f.options } };
+}
+
+impl DecimalFormatter {
+    ghost use Rattle.icu_decimal.specs.Formatted.{decimal_shown, unsigned_shown};
+    ghost use Rattle.icu_decimal.specs.Lent.{value_of};
+    ghost use Rattle.icu_decimal.specs.Signed.{affixed_events};
+
+    /// The formatter of these symbols, these characters of the digits 0 to 9, and these options.
+    pub fn from_parts(
+        symbols: DecimalSymbols,
+        digits: [char; 10],
+        options: DecimalFormatterOptions,
+    ) -> Self
+        ensures { result ≡ record { symbols = symbols; digits = digits; options = options } }
+    {
+        DecimalFormatter {
+            options,
+            symbols,
+            digits,
+        }
+    }
+
+    /// An equal formatter, with memory of its own.
+    pub fn copy(&self, alloc: Global) -> Result<Self, FormatError>
+        ensures equal { IfOk result (λ f. f ≡ self.now) }
+        ensures memory { IsOkUnless result FormatError.OutOfMemory }
+    {
+        match self.symbols.copy(alloc) {
+            Ok(symbols) => Ok(DecimalFormatter {
+                options: self.options,
+                symbols,
+                digits: self.digits,
+            }),
+            Err(_) => Err(FormatError::OutOfMemory),
+        }
+    }
+
+    /// The decimal as it is to be written; this takes no memory, and writing it takes only what the sink takes.
+    pub fn format<'l>(&'l self, value: &'l Decimal) -> FormattedDecimal<'l>
+        ensures { decimal_shown result ≡ decimal_events self.now value.now.sign value.now.absolute }
+    {
+        let number = self.format_unsigned(Cow::Borrowed(&value.absolute));
+        FormattedDecimal(self.format_sign(value.sign, number))
+    }
+
+    /// The text of the decimal.
+    pub fn format_to_string(&self, alloc: Global, value: &Decimal) -> Result<String, FormatError>
+        ensures text { IfOk result (λ t. string_bytes t ≡ text_of (decimal_events self.now value.now.sign value.now.absolute)) }
+        ensures memory { IsOkUnless result FormatError.OutOfMemory }
+    {
+        match self.format(value).write_to_string(alloc) {
+            Ok(text) => Ok(text),
+            Err(_) => Err(FormatError::OutOfMemory),
+        }
+    }
+
+    /// The number without its sign.
+    pub(crate) fn format_unsigned<'l>(
+        &'l self,
+        value: Cow<'l, UnsignedDecimal>,
+    ) -> FormattedUnsignedDecimal<'l>
+        ensures { unsigned_shown result ≡ unsigned_events self.now (value_of value.entry) }
+    {
+        FormattedUnsignedDecimal {
+            value,
+            options: &self.options,
+            symbols: &self.symbols,
+            digits: &self.digits,
+        }
+    }
+
+    /// The value with the affixes of the sign around it.
+    pub(crate) fn format_sign<'l, T>(&'l self, sign: Sign, value: T) -> FormattedSign<'l, T>
+        ensures value { result.value ≡ value }
+        ensures affixes { (es : List Event) → affixed_events result.sign es ≡ signed_events self.now.symbols sign es }
+    {
+        let sign = match sign {
+            Sign::None => None,
+            Sign::Negative => Some((
+                parts::MINUS_SIGN,
+                self.symbols.minus_sign_prefix(),
+                self.symbols.minus_sign_suffix(),
+            )),
+            Sign::Positive => Some((
+                parts::PLUS_SIGN,
+                self.symbols.plus_sign_prefix(),
+                self.symbols.plus_sign_suffix(),
+            )),
+        };
+        FormattedSign { value, sign }
+    }
+}

@@ -1,0 +1,173 @@
+//! Formatted decimals: what a formatter writes, as a value.
+
+ghost use Rattle.std.specs.Prelude.{◌≡◌, ◌≤◌, ◌<◌, ◌++◌, map, length, All};
+ghost use Rattle.icu_base.specs.Events.{Event, text_of};
+ghost use Rattle.icu_decimal.specs.Decimal.{group_events};
+ghost use Rattle.icu_decimal.specs.Grouping.{cut, joined};
+ghost use Rattle.icu_decimal.specs.Part.{in_decimal_part};
+
+use crate::formatted_sign::{FormattedSign, write_part};
+use crate::grouper::{first_group, is_grouped, next_group, secondary_size};
+use crate::lent::Cow;
+use crate::options::{DecimalFormatterOptions, GroupingStrategy};
+use crate::parts;
+use fixed_decimal::UnsignedDecimal;
+use icu_base::{EventWriter, WriteFault, Writeable};
+use icu_decimal_data::DecimalSymbols;
+use std::fmt;
+
+/// A formatted decimal (ICU4X `FormattedDecimal`): its characters with their parts.
+#[derive(PartialEq, Drop)]
+pub struct FormattedDecimal<'l>(pub(crate) FormattedSign<'l, FormattedUnsignedDecimal<'l>>);
+
+/// A formatted number without sign (ICU4X `FormattedUnsignedDecimal`).
+#[derive(Drop)]
+pub struct FormattedUnsignedDecimal<'l> {
+    pub(crate) value: Cow<'l, UnsignedDecimal>,
+    pub(crate) options: &'l DecimalFormatterOptions,
+    pub(crate) symbols: &'l DecimalSymbols,
+    pub(crate) digits: &'l [char; 10],
+}
+
+impl PartialEq for FormattedUnsignedDecimal<'_> {
+    ghost use Rattle.std.specs.Ordering.{eq_of_both, on};
+    ghost use Rattle.std.proofs.Common.{rules};
+    ghost use Rattle.std.specs.Cmp.{and_per, on_per};
+    ghost use Rattle.std.specs.Cmp.Rules.{comparing};
+    ghost use Rattle.icu_decimal.specs.Lent.{value_of};
+
+    ghost eq = { eq_of_both (on (λ f. value_of f.value) ⟦<UnsignedDecimal as PartialEq>⟧.eq)
+        (eq_of_both (on (λ f. f.options.now) ⟦<DecimalFormatterOptions as PartialEq>⟧.eq)
+        (eq_of_both (on (λ f. f.symbols.now) ⟦<DecimalSymbols as PartialEq>⟧.eq)
+        (on (λ f. f.digits.now) ⟦<[char; 10] as PartialEq>⟧.eq))) };
+
+    ghost laws = { and_per (on_per (λ f. value_of f.value) {E = ⟦<UnsignedDecimal as PartialEq>⟧.eq} (Prim.search (comparing, rules)))
+        (and_per (on_per (λ f. f.options.now) {E = ⟦<DecimalFormatterOptions as PartialEq>⟧.eq} (Prim.search (comparing, rules)))
+        (and_per (on_per (λ f. f.symbols.now) {E = ⟦<DecimalSymbols as PartialEq>⟧.eq} (Prim.search (comparing, rules)))
+        (on_per (λ f. f.digits.now) {E = ⟦<[char; 10] as PartialEq>⟧.eq} (Prim.search (comparing, rules))))) };
+
+    /// Whether the numbers, the options, the symbols and the digits are equal, wherever they are kept.
+    fn eq(&self, other: &Self) -> bool {
+        self.value.get() == other.value.get()
+            && self.options == other.options
+            && self.symbols == other.symbols
+            && self.digits == other.digits
+    }
+}
+
+impl Writeable for FormattedDecimal<'_> {
+    ghost use Rattle.icu_decimal.specs.Formatted.{decimal_shown};
+
+    ghost events = { decimal_shown };
+
+    fn write_events<K: EventWriter>(&self, out: &mut K) -> Result<(), WriteFault> {
+        self.0.write_events(out)
+    }
+}
+
+impl Writeable for FormattedUnsignedDecimal<'_> {
+    ghost use Rattle.icu_decimal.specs.Formatted.{unsigned_shown};
+
+    ghost events = { unsigned_shown };
+
+    fn write_events<K: EventWriter>(&self, out: &mut K) -> Result<(), WriteFault> {
+        let value = self.value.get();
+        self.write_integer(value.integer(), out)?;
+        self.write_fraction(value.fraction(), out)
+    }
+}
+
+impl FormattedUnsignedDecimal<'_> {
+    ghost use Rattle.icu_decimal.specs.Decimal.{grouped_events, integer_events, fraction_events, separator_events};
+    ghost use Rattle.icu_decimal.specs.Formatted.{format_of};
+
+    /// Writes the digits at power 0 and above, as the integer part.
+    fn write_integer<K: EventWriter>(&self, integer: &[u8], out: &mut K) -> Result<(), WriteFault>
+        requires { All (λ d. d < 10) integer.now }
+        ensures { K.wrote out.old result (integer_events (format_of self.now) integer.now) out.new }
+    {
+        out.open(parts::INTEGER)?;
+        self.write_grouped(integer, out)?;
+        out.close()
+    }
+
+    /// Writes digits in the groups that the options ask for.
+    fn write_grouped<K: EventWriter>(&self, integer: &[u8], out: &mut K) -> Result<(), WriteFault>
+        requires { All (λ d. d < 10) integer.now }
+        ensures { K.wrote out.old result (grouped_events (format_of self.now) integer.now) out.new }
+    {
+        let strategy = self
+            .options
+            .grouping_strategy
+            .unwrap_or(GroupingStrategy::Auto);
+        let sizes = self.symbols.grouping_sizes;
+        if !is_grouped(integer.len(), strategy, sizes) {
+            return out.digits(integer, self.digits);
+        }
+        self.write_groups(integer, sizes.primary as usize, secondary_size(sizes), out)
+    }
+
+    /// Writes digits in groups, with the separator between two.
+    fn write_groups<K: EventWriter>(
+        &self,
+        digits: &[u8],
+        primary: usize,
+        secondary: usize,
+        out: &mut K,
+    ) -> Result<(), WriteFault>
+        requires primary { 0 < primary }
+        requires secondary { 0 < secondary }
+        requires more { primary < length digits.now }
+        requires below_ten { All (λ d. d < 10) digits.now }
+        ensures { K.wrote out.old result (joined (separator_events (format_of self.now)) (group_events self.now.digits.now (cut primary secondary digits.now))) out.new }
+    {
+        let separator = self.symbols.grouping_separator();
+        let (first, mut rest) = digits.split_at(first_group(digits.len(), primary, secondary));
+        out.digits(first, self.digits)?;
+        'groups: while !rest.is_empty() {
+            let (group, after) = rest.split_at(next_group(rest.len(), primary, secondary));
+            write_part(out, parts::GROUP, separator)?;
+            out.digits(group, self.digits)?;
+            rest = after;
+        }
+        Ok(())
+    }
+
+    /// Writes the decimal separator and the digits below power 0, as parts; without such digits nothing.
+    fn write_fraction<K: EventWriter>(&self, fraction: &[u8], out: &mut K) -> Result<(), WriteFault>
+        requires { All (λ d. d < 10) fraction.now }
+        ensures { K.wrote out.old result (fraction_events (format_of self.now) fraction.now) out.new }
+    {
+        if fraction.is_empty() {
+            return Ok(());
+        }
+        write_part(out, parts::DECIMAL, self.symbols.decimal_separator())?;
+        out.open(parts::FRACTION)?;
+        out.digits(fraction, self.digits)?;
+        out.close()
+    }
+}
+
+impl fmt::Display for FormattedDecimal<'_> {
+    ghost use Rattle.std.specs.Prelude.{Some};
+    ghost use Rattle.icu_base.specs.Events.{text_of};
+    ghost use Rattle.icu_decimal.specs.Formatted.{decimal_shown};
+
+    ghost output = { λ f. Some (text_of (decimal_shown f)) };
+
+    fn fmt<W: fmt::Write>(&self, f: &mut fmt::Formatter<W>) -> fmt::Result {
+        self.write_events(f).map_err(|_| fmt::Error)
+    }
+}
+
+impl fmt::Display for FormattedUnsignedDecimal<'_> {
+    ghost use Rattle.std.specs.Prelude.{Some};
+    ghost use Rattle.icu_base.specs.Events.{text_of};
+    ghost use Rattle.icu_decimal.specs.Formatted.{unsigned_shown};
+
+    ghost output = { λ f. Some (text_of (unsigned_shown f)) };
+
+    fn fmt<W: fmt::Write>(&self, f: &mut fmt::Formatter<W>) -> fmt::Result {
+        self.write_events(f).map_err(|_| fmt::Error)
+    }
+}

@@ -1,0 +1,25 @@
+//! A value that is lent or kept.
+
+ghost use Rattle.std.specs.Prelude.{◌≡◌};
+ghost use Rattle.icu_decimal.specs.Lent.{value_of};
+
+/// A value that is lent or kept (ICU4X `Cow`).
+#[derive(Debug, PartialEq, Eq, Drop)]
+pub enum Cow<'a, T> {
+    /// The value is another's.
+    Borrowed(&'a T),
+    /// The value is kept here.
+    Owned(T),
+}
+
+impl<T> Cow<'_, T> {
+    /// The value.
+    pub fn get(&self) -> &T
+        ensures { result.now ≡ value_of self.now }
+    {
+        match self {
+            Cow::Borrowed(value) => value,
+            Cow::Owned(value) => value,
+        }
+    }
+}

@@ -1,0 +1,25 @@
+//! Decimals in the digits, signs, separators and groups of a locale: a port of ICU4X's `icu_decimal`.
+#![tactic(auto)]
+
+mod decimal_formatter;
+pub mod error;
+mod formatted_decimal;
+mod formatted_sign;
+pub mod grouper;
+pub mod laws;
+mod lent;
+pub mod options;
+pub mod parts;
+pub mod provider;
+#[cfg(test)]
+mod tests;
+
+/// What a formatter takes.
+pub mod input {
+    pub use fixed_decimal::{Decimal, SignDisplay};
+}
+
+pub use decimal_formatter::DecimalFormatter;
+pub use formatted_decimal::{FormattedDecimal, FormattedUnsignedDecimal};
+pub use formatted_sign::FormattedSign;
+pub use lent::Cow;
