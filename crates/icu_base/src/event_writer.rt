@@ -11,7 +11,8 @@ ghost use Rattle.icu_base.specs.Writes.{LentWrites-nothing, LentWrites-then, Len
 use crate::sink::{Part, PartsWrite, WriteFault};
 use std::{fmt, mem};
 
-/// Where the events of a value go: a sink with parts, a sink that takes its characters alone, a text, or a formatter.
+/// Where the events of a value go: a sink with parts, a sink that takes its characters alone, a text, a buffer of bytes
+/// (in UTF-8), or a formatter. All but the first take the characters alone.
 ///
 /// A value writes itself once, over this trait, and so has the same events in every output.
 pub trait EventWriter {

@@ -2,6 +2,7 @@
 use super::*;
 use std::alloc::Global;
 
+mod bytes;
 mod limit;
 mod spans;
 mod systems;

@@ -1,20 +1,19 @@
--- What the formatted values show.
+-- Formatted numbers, and what they show.
 use Rattle.std.specs.Prelude.{List}
+use Rattle.fixed_decimal.specs.Unsigned.{Unsigned}
 use Rattle.icu_base.specs.Events.{Event}
-use Rattle.icu_decimal.specs.declared.formatted_decimal.FormattedUnsignedDecimal.{FormattedUnsignedDecimal}
-use Rattle.icu_decimal.specs.declared.formatted_decimal.FormattedDecimal.{FormattedDecimal}
 use Rattle.icu_decimal.specs.Decimal.{DecimalFormat, unsigned_events}
-use Rattle.icu_decimal.specs.Lent.{value_of}
-use Rattle.icu_decimal.specs.Signed.{affixed_events}
+use Rattle.icu_decimal.specs.Signed.{Signed, affixed_events}
 
--- what a formatted number is written with
-abbrev pub format_of : FormattedUnsignedDecimal → DecimalFormat
-format_of f = record { symbols = f.symbols.now; digits = f.digits.now; options = f.options.now }
+-- a number without its sign, and all that it is written with
+pub record FormattedNumber : Type 0 where
+  pub format : DecimalFormat
+  pub number : Unsigned
 
 -- the events of a formatted number without sign
-abbrev pub unsigned_shown : FormattedUnsignedDecimal → List Event
-unsigned_shown f = unsigned_events (format_of f) (value_of f.value)
+abbrev pub unsigned_shown : FormattedNumber → List Event
+unsigned_shown f = unsigned_events f.format f.number
 
 -- the events of a formatted decimal
-abbrev pub decimal_shown : FormattedDecimal → List Event
-decimal_shown f = affixed_events f.0.sign (unsigned_shown f.0.value)
+abbrev pub decimal_shown : Signed FormattedNumber → List Event
+decimal_shown f = affixed_events f.affixes (unsigned_shown f.value)

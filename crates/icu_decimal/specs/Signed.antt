@@ -1,18 +1,49 @@
 -- The affixes of a sign around a value.
-use Rattle.std.specs.Prelude.{List, ◌++◌, Option, Some, None, ℕ}
+use Rattle.std.specs.Prelude.{ℕ, List, ◌++◌, Bool, Option, Some, None, nat_eq}
 use Rattle.std.specs.Borrow.{Bor}
+use Rattle.std.specs.Cmp.{IsEquivalence}
+use Rattle.std.specs.Cmp.Lexicographic.{pointwise}
+use Rattle.std.specs.Ordering.{eq_of_both, on}
+use Rattle.std.proofs.lemmas.Cmp.{and_equiv, on_equiv, nat_list_eq_equiv}
 use Rattle.icu_base.specs.Events.{Event, text_events}
 use Rattle.icu_base.specs.declared.sink.Part.{Part}
-use Rattle.icu_decimal.specs.declared.formatted_sign.FormattedSign.{FormattedSign}
 use Rattle.icu_decimal.specs.Part.{in_part}
 
--- the events between the two affixes, each in its part; without affixes the events alone
-abbrev pub affixed_events : Option (Part × Bor (List ℕ) × Bor (List ℕ)) → List Event → List Event
-affixed_events None es = es
-affixed_events (Some (part, prefix, suffix)) es =
-    in_part part.category.now part.value.now (text_events prefix.now)
-    ++ (es ++ in_part part.category.now part.value.now (text_events suffix.now))
+-- what stands before and after a value, each text in a part of this category and name
+pub record Affixes : Type 0 where
+  pub category : List ℕ
+  pub name : List ℕ
+  pub prefix : List ℕ
+  pub suffix : List ℕ
 
--- the value inside the sign
-abbrev pub value_of_sign : {T : Type 0} → FormattedSign T → T
-value_of_sign f = f.value
+-- a value, and the affixes of its sign; none without a sign
+pub record Signed (T : Type 0) : Type 0 where
+  pub affixes : Option Affixes
+  pub value : T
+
+-- a part and two texts as affixes
+abbrev pub affixes_of : Part × Bor (List ℕ) × Bor (List ℕ) → Affixes
+affixes_of (part, prefix, suffix) = record { category = part.category.now; name = part.value.now; prefix = prefix.now; suffix = suffix.now }
+
+-- the events between the two affixes, each in its part; without affixes the events alone
+abbrev pub affixed_events : Option Affixes → List Event → List Event
+affixed_events None es = es
+affixed_events (Some affixes) es =
+    in_part affixes.category affixes.name (text_events affixes.prefix)
+    ++ (es ++ in_part affixes.category affixes.name (text_events affixes.suffix))
+
+-- whether the parts and the texts are equal
+abbrev pub same_affixes : Affixes → Affixes → Bool
+same_affixes =
+    eq_of_both (on (λ (a : Affixes). a.category) (pointwise nat_eq))
+    (eq_of_both (on (λ (a : Affixes). a.name) (pointwise nat_eq))
+    (eq_of_both (on (λ (a : Affixes). a.prefix) (pointwise nat_eq))
+    (on (λ (a : Affixes). a.suffix) (pointwise nat_eq))))
+
+-- this is an equivalence
+pub same_affixes_laws : IsEquivalence same_affixes
+same_affixes_laws =
+    and_equiv (on_equiv (λ (a : Affixes). a.category) nat_list_eq_equiv)
+    (and_equiv (on_equiv (λ (a : Affixes). a.name) nat_list_eq_equiv)
+    (and_equiv (on_equiv (λ (a : Affixes). a.prefix) nat_list_eq_equiv)
+    (on_equiv (λ (a : Affixes). a.suffix) nat_list_eq_equiv)))

@@ -73,7 +73,9 @@ impl DecimalFormatter {
         ensures { decimal_shown result ≡ decimal_events self.now value.now.sign value.now.absolute }
     {
         let number = self.format_unsigned(Cow::Borrowed(&value.absolute));
-        FormattedDecimal(self.format_sign(value.sign, number))
+        FormattedDecimal {
+            signed: self.format_sign(value.sign, number),
+        }
     }
 
     /// The text of the decimal.
@@ -105,7 +107,7 @@ impl DecimalFormatter {
     /// The value with the affixes of the sign around it.
     pub(crate) fn format_sign<'l, T>(&'l self, sign: Sign, value: T) -> FormattedSign<'l, T>
         ensures value { result.value ≡ value }
-        ensures affixes { (es : List Event) → affixed_events result.sign es ≡ signed_events self.now.symbols sign es }
+        ensures affixes { (es : List Event) → affixed_events result.affixes es ≡ signed_events self.now.symbols sign es }
     {
         let sign = match sign {
             Sign::None => None,

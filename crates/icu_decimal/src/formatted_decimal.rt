@@ -15,10 +15,24 @@ use fixed_decimal::UnsignedDecimal;
 use icu_base::{EventWriter, WriteFault, Writeable};
 use icu_decimal_data::DecimalSymbols;
 use std::fmt;
+use std::marker::Model;
 
 /// A formatted decimal (ICU4X `FormattedDecimal`): its characters with their parts.
 #[derive(PartialEq, Drop)]
-pub struct FormattedDecimal<'l>(pub(crate) FormattedSign<'l, FormattedUnsignedDecimal<'l>>);
+pub struct FormattedDecimal<'l> {
+    pub(crate) signed: FormattedSign<'l, FormattedUnsignedDecimal<'l>>,
+}
+
+impl<'l> Model for FormattedDecimal<'l> {
+    ghost use Rattle.icu_decimal.specs.Formatted.{FormattedNumber};
+    ghost use Rattle.icu_decimal.specs.Signed.{Signed};
+
+    ghost Value = { Signed FormattedNumber };
+
+    ghost view = { λ f. f.signed };
+
+    ghost inverse = { λ signed. record { signed = signed } };
+}
 
 /// A formatted number without sign (ICU4X `FormattedUnsignedDecimal`).
 #[derive(Drop)]
@@ -29,22 +43,33 @@ pub struct FormattedUnsignedDecimal<'l> {
     pub(crate) digits: &'l [char; 10],
 }
 
+impl<'l> Model for FormattedUnsignedDecimal<'l> {
+    ghost use Rattle.icu_decimal.specs.Formatted.{FormattedNumber};
+    ghost use Rattle.icu_decimal.specs.Lent.{value_of};
+
+    ghost Value = { FormattedNumber };
+
+    ghost view = { λ f. record {
+      format = record { symbols = f.symbols.now; digits = f.digits.now; options = f.options.now };
+      number = value_of f.value;
+    } };
+}
+
 impl PartialEq for FormattedUnsignedDecimal<'_> {
     ghost use Rattle.std.specs.Ordering.{eq_of_both, on};
     ghost use Rattle.std.proofs.Common.{rules};
     ghost use Rattle.std.specs.Cmp.{and_per, on_per};
     ghost use Rattle.std.specs.Cmp.Rules.{comparing};
-    ghost use Rattle.icu_decimal.specs.Lent.{value_of};
 
-    ghost eq = { eq_of_both (on (λ f. value_of f.value) ⟦<UnsignedDecimal as PartialEq>⟧.eq)
-        (eq_of_both (on (λ f. f.options.now) ⟦<DecimalFormatterOptions as PartialEq>⟧.eq)
-        (eq_of_both (on (λ f. f.symbols.now) ⟦<DecimalSymbols as PartialEq>⟧.eq)
-        (on (λ f. f.digits.now) ⟦<[char; 10] as PartialEq>⟧.eq))) };
+    ghost eq = { eq_of_both (on (λ f. f.number) ⟦<UnsignedDecimal as PartialEq>⟧.eq)
+        (eq_of_both (on (λ f. f.format.options) ⟦<DecimalFormatterOptions as PartialEq>⟧.eq)
+        (eq_of_both (on (λ f. f.format.symbols) ⟦<DecimalSymbols as PartialEq>⟧.eq)
+        (on (λ f. f.format.digits) ⟦<[char; 10] as PartialEq>⟧.eq))) };
 
-    ghost laws = { and_per (on_per (λ f. value_of f.value) {E = ⟦<UnsignedDecimal as PartialEq>⟧.eq} (Prim.search (comparing, rules)))
-        (and_per (on_per (λ f. f.options.now) {E = ⟦<DecimalFormatterOptions as PartialEq>⟧.eq} (Prim.search (comparing, rules)))
-        (and_per (on_per (λ f. f.symbols.now) {E = ⟦<DecimalSymbols as PartialEq>⟧.eq} (Prim.search (comparing, rules)))
-        (on_per (λ f. f.digits.now) {E = ⟦<[char; 10] as PartialEq>⟧.eq} (Prim.search (comparing, rules))))) };
+    ghost laws = { and_per (on_per (λ f. f.number) {E = ⟦<UnsignedDecimal as PartialEq>⟧.eq} (Prim.search (comparing, rules)))
+        (and_per (on_per (λ f. f.format.options) {E = ⟦<DecimalFormatterOptions as PartialEq>⟧.eq} (Prim.search (comparing, rules)))
+        (and_per (on_per (λ f. f.format.symbols) {E = ⟦<DecimalSymbols as PartialEq>⟧.eq} (Prim.search (comparing, rules)))
+        (on_per (λ f. f.format.digits) {E = ⟦<[char; 10] as PartialEq>⟧.eq} (Prim.search (comparing, rules))))) };
 
     /// Whether the numbers, the options, the symbols and the digits are equal, wherever they are kept.
     fn eq(&self, other: &Self) -> bool {
@@ -61,7 +86,7 @@ impl Writeable for FormattedDecimal<'_> {
     ghost events = { decimal_shown };
 
     fn write_events<K: EventWriter>(&self, out: &mut K) -> Result<(), WriteFault> {
-        self.0.write_events(out)
+        self.signed.write_events(out)
     }
 }
 
@@ -79,12 +104,11 @@ impl Writeable for FormattedUnsignedDecimal<'_> {
 
 impl FormattedUnsignedDecimal<'_> {
     ghost use Rattle.icu_decimal.specs.Decimal.{grouped_events, integer_events, fraction_events, separator_events};
-    ghost use Rattle.icu_decimal.specs.Formatted.{format_of};
 
     /// Writes the digits at power 0 and above, as the integer part.
     fn write_integer<K: EventWriter>(&self, integer: &[u8], out: &mut K) -> Result<(), WriteFault>
         requires { All (λ d. d < 10) integer.now }
-        ensures { K.wrote out.old result (integer_events (format_of self.now) integer.now) out.new }
+        ensures { K.wrote out.old result (integer_events self.now.format integer.now) out.new }
     {
         out.open(parts::INTEGER)?;
         self.write_grouped(integer, out)?;
@@ -94,7 +118,7 @@ impl FormattedUnsignedDecimal<'_> {
     /// Writes digits in the groups that the options ask for.
     fn write_grouped<K: EventWriter>(&self, integer: &[u8], out: &mut K) -> Result<(), WriteFault>
         requires { All (λ d. d < 10) integer.now }
-        ensures { K.wrote out.old result (grouped_events (format_of self.now) integer.now) out.new }
+        ensures { K.wrote out.old result (grouped_events self.now.format integer.now) out.new }
     {
         let strategy = self
             .options
@@ -119,7 +143,7 @@ impl FormattedUnsignedDecimal<'_> {
         requires secondary { 0 < secondary }
         requires more { primary < length digits.now }
         requires below_ten { All (λ d. d < 10) digits.now }
-        ensures { K.wrote out.old result (joined (separator_events (format_of self.now)) (group_events self.now.digits.now (cut primary secondary digits.now))) out.new }
+        ensures { K.wrote out.old result (joined (separator_events self.now.format) (group_events self.now.format.digits (cut primary secondary digits.now))) out.new }
     {
         let separator = self.symbols.grouping_separator();
         let (first, mut rest) = digits.split_at(first_group(digits.len(), primary, secondary));
@@ -136,7 +160,7 @@ impl FormattedUnsignedDecimal<'_> {
     /// Writes the decimal separator and the digits below power 0, as parts; without such digits nothing.
     fn write_fraction<K: EventWriter>(&self, fraction: &[u8], out: &mut K) -> Result<(), WriteFault>
         requires { All (λ d. d < 10) fraction.now }
-        ensures { K.wrote out.old result (fraction_events (format_of self.now) fraction.now) out.new }
+        ensures { K.wrote out.old result (fraction_events self.now.format fraction.now) out.new }
     {
         if fraction.is_empty() {
             return Ok(());
@@ -156,7 +180,7 @@ impl fmt::Display for FormattedDecimal<'_> {
     ghost output = { λ f. Some (text_of (decimal_shown f)) };
 
     fn fmt<W: fmt::Write>(&self, f: &mut fmt::Formatter<W>) -> fmt::Result {
-        self.write_events(f).map_err(|_| fmt::Error)
+        self.signed.fmt(f)
     }
 }
 

@@ -41,7 +41,7 @@ fn least_before(strategy: GroupingStrategy, sizes: GroupingSizes) -> usize
 }
 
 /// Whether this many digits are grouped.
-pub fn is_grouped(count: usize, strategy: GroupingStrategy, sizes: GroupingSizes) -> bool
+pub(crate) fn is_grouped(count: usize, strategy: GroupingStrategy, sizes: GroupingSizes) -> bool
     ensures { result ≡ is_grouped count sizes strategy }
 {
     let primary = usize::from(sizes.primary);
@@ -51,7 +51,7 @@ pub fn is_grouped(count: usize, strategy: GroupingStrategy, sizes: GroupingSizes
 }
 
 /// The size of the groups before the last one.
-pub fn secondary_size(sizes: GroupingSizes) -> usize
+pub(crate) fn secondary_size(sizes: GroupingSizes) -> usize
     ensures { result ≡ secondary_size sizes }
 {
     if sizes.secondary == 0 {
@@ -71,7 +71,7 @@ fn ends_group(magnitude: usize, sizes: GroupingSizes) -> bool
 }
 
 /// How many digits stand before the first separator.
-pub fn first_group(count: usize, primary: usize, secondary: usize) -> usize
+pub(crate) fn first_group(count: usize, primary: usize, secondary: usize) -> usize
     requires { 0 < secondary }
     ensures { IsGap primary secondary count result }
 {
@@ -83,7 +83,7 @@ pub fn first_group(count: usize, primary: usize, secondary: usize) -> usize
 }
 
 /// How many digits stand in the group that the last `count` digits begin with.
-pub fn next_group(count: usize, primary: usize, secondary: usize) -> usize
+pub(crate) fn next_group(count: usize, primary: usize, secondary: usize) -> usize
     ensures { result ≡ next_size primary secondary count }
 {
     if count == primary { primary } else { secondary }

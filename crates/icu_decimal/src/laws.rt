@@ -3,7 +3,6 @@
 ghost use Rattle.std.specs.Prelude.{◌≡◌, IsTrue};
 ghost use Rattle.icu_decimal.specs.Formatted.{decimal_shown, unsigned_shown};
 ghost use Rattle.icu_decimal.specs.Laws.{AutoAndAlwaysWriteAlike, NoneActsAsAuto, SeparatorsTakenOut, DigitsHaveAGrouping, DigitsHaveOneGrouping};
-ghost use Rattle.icu_decimal.specs.Signed.{affixed_events};
 
 use crate::formatted_decimal::{FormattedDecimal, FormattedUnsignedDecimal};
 use crate::formatted_sign::FormattedSign;
@@ -33,7 +32,7 @@ pub fn grouping_is_unique()
 pub fn equal_signed_values_write_equal_events<T: Writeable + PartialEq>()
     ensures { ((x y : _) → IsTrue (T.eq x y) → T.events x ≡ T.events y) →
         (a b : _) → IsTrue (⟦<FormattedSign<'static, T> as PartialEq>⟧.eq a b) →
-        affixed_events a.sign (T.events a.value) ≡ affixed_events b.sign (T.events b.value) }
+        ⟦<FormattedSign<'static, T> as Writeable>⟧.events a ≡ ⟦<FormattedSign<'static, T> as Writeable>⟧.events b }
 {}
 
 /// Equal formatted numbers and decimals write equal events.

@@ -11,4 +11,4 @@ returns-clause-numbers c a b h =
     unsigned_shown-same a b (same.numbers _ _ first.0) (same.options _ _ second.0) (same.symbols _ _ third.0) (same.digits _ _ third.1)
 
 pub returns-clause-decimals : goal.returns-clause-decimals
-returns-clause-decimals c a b h = c.equal_signed_values_write_equal_events.ensures (returns-clause-numbers c) a.0 b.0 h
+returns-clause-decimals c a b h = c.equal_signed_values_write_equal_events.ensures (returns-clause-numbers c) a b h

@@ -1,7 +1,6 @@
 use Rattle.std.proofs.Common.{◌≡◌, ◌⊎◌, ◌<◌, [], All, length, Result}
 use Rattle.icu_base.specs.declared.sink.WriteFault.{WriteFault}
 use Rattle.icu_decimal.specs.Decimal.{group_events, separator_events}
-use Rattle.icu_decimal.specs.Formatted.{format_of}
 use Rattle.icu_decimal.specs.Grouping.{cut, joined, joined_after}
 use Rattle.icu_decimal.proofs.Groupings.{IsDue}
 use Rattle.icu_decimal.proofs.formatted_decimal.FormattedUnsignedDecimal.write_groups.Given as goal
@@ -12,8 +11,8 @@ invariant-groups g l = record {
   due : (l.rest ≡ []) ⊎ IsDue l.primary l.secondary (length l.rest);
   below_ten : All (λ d. d < 10) l.rest;
   rest_ends : (r : Result (Unit {0}) WriteFault) (end : _) →
-      g.K.EventWriter.wrote l.out r (joined_after (separator_events (format_of l.self)) (group_events l.self.digits.now (cut l.primary l.secondary l.rest))) end →
-      g.K.EventWriter.wrote l.fn.out r (joined (separator_events (format_of l.self)) (group_events l.self.digits.now (cut l.primary l.secondary l.fn.digits))) end;
+      g.K.EventWriter.wrote l.out r (joined_after (separator_events l.self.format) (group_events l.self.format.digits (cut l.primary l.secondary l.rest))) end →
+      g.K.EventWriter.wrote l.fn.out r (joined (separator_events l.self.format) (group_events l.self.format.digits (cut l.primary l.secondary l.fn.digits))) end;
 }
 
 abbrev pub decreases-groups : goal.decreases-groups
