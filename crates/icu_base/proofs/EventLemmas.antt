@@ -1,11 +1,11 @@
 -- Lemmas on the events of a text.
-use Rattle.std.specs.Prelude.{◌≡◌, ℕ, List, ◌++◌, map, [], ◌∷◌}
+use Rattle.std.specs.Prelude.{◌≡◌, ℕ, List, ◌++◌, map, [], ◌∷◌, slice_index}
 use Rattle.std.specs.Str.{chars, encode_utf8_all, IsUtf8}
 use Rattle.std.specs.Char.{IsScalar, encode_utf8}
 use Rattle.std.proofs.Common.{ap, ◌∙◌, refl, sym, append-nil}
 use Rattle.std.proofs.lemmas.Str.{encodes-chars, chars-encodes, chars-append, chars-nil}
 use Rattle.std.proofs.lemmas.List.{map-append}
-use Rattle.icu_base.specs.Events.{text_events, text_of, without_parts, characters}
+use Rattle.icu_base.specs.Events.{text_events, digit_events, text_of, without_parts, characters}
 use Rattle.icu_base.specs.Events.Event.{Char}
 
 characters-map_Char : (cs : List ℕ) → characters (map Char cs) ≡ cs
@@ -32,3 +32,10 @@ pub text_events-encode : (c : ℕ) → IsScalar c → text_events (encode_utf8 c
 text_events-encode c h = ap (map Char) (ap chars (sym (append-nil (encode_utf8 c))) ∙ chars-encodes (c ∷ []) (rw h refl))
 
 pub ruleset text_steps = (text_of-text_events, without_parts-text_events)
+
+-- digits have no parts
+pub without_parts-digit_events : (characters digits : List ℕ) → without_parts (digit_events characters digits) ≡ digit_events characters digits
+without_parts-digit_events characters [] = refl
+without_parts-digit_events characters (d ∷ ds) = ap (λ l. Char (slice_index characters d) ∷ l) (without_parts-digit_events characters ds)
+
+pub ruleset digit_steps = (without_parts-digit_events)

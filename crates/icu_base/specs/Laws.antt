@@ -1,7 +1,11 @@
--- Laws of events, for the callers of this crate.
-use Rattle.std.specs.Prelude.{◌≡◌, ℕ, List, ◌++◌, map, length}
+-- Laws of events and of operands, for the callers of this crate.
+use Rattle.std.specs.Prelude.{◌≡◌, ℕ, ◌*◌, ◌/◌, ◌^◌, pos, IsTrue, List, ◌++◌, map, length}
 use Rattle.std.specs.Str.{IsUtf8}
+use Rattle.fixed_decimal.specs.Unsigned.{Unsigned, IsUnsigned}
+use Rattle.fixed_decimal.specs.Size.{size, ten_to}
 use Rattle.icu_base.specs.Events.{Event, text_events, without_parts, text_of}
+use Rattle.icu_base.specs.Elements.{is_exactly}
+use Rattle.icu_base.specs.Operands.{number_of, integer_after_moving, operands_of}
 use Rattle.icu_base.specs.Spans.{spans, moved, IsClosed}
 
 -- the events of a text followed by a text are those of the joined text
@@ -23,3 +27,12 @@ PartsHaveNoText = (events : List Event) → text_of (without_parts events) ≡ t
 -- the spans of closed events followed by events are those of both, the second's moved by the bytes of the first's text
 abbrev pub ClosedEventsKeepTheirSpans : Type 0
 ClosedEventsKeepTheirSpans = (first second : List Event) → IsClosed first → spans (first ++ second) ≡ spans first ++ map (moved (length (text_of first))) (spans second)
+
+-- once the point is moved some places to the right, the digits before it write the integer part of the number times
+-- ten to the places
+abbrev pub MovingThePointMultiplies : Type 0
+MovingThePointMultiplies = (d : Unsigned) (places : ℕ) → IsUnsigned d → number_of (integer_after_moving places d) ≡ size d * 10 ^ places / ten_to (pos 0)
+
+-- a number that is exactly n by its operands, written without fraction digits or an exponent, is n
+abbrev pub ExactlyIsTheNumber : Type 0
+ExactlyIsTheNumber = (d : Unsigned) (n : ℕ) → IsUnsigned d → IsTrue (is_exactly n (operands_of d 0)) → size d ≡ n * ten_to (pos 0)

@@ -136,6 +136,11 @@ impl<K: EventWriter> EventWriter for WithoutParts<'_, K> {
         self.out.character(character)
     }
 
+    #[tactic(auto, using(crate::proofs::EventLemmas::digit_steps))]
+    fn digits(&mut self, digits: &[u8], characters: &[char; 10]) -> Result<(), WriteFault> {
+        self.out.digits(digits, characters)
+    }
+
     fn open(&mut self, _part: Part) -> Result<(), WriteFault> {
         Ok(())
     }

@@ -1,5 +1,5 @@
-//! What holds of all events. The functions do nothing: each is its contract.
-ghost use Rattle.icu_base.specs.Laws.{JoinedTextsJoinTheirEvents, EventsTellTheText, JoinedEventsJoinTheirTexts, PartsHaveNoText, ClosedEventsKeepTheirSpans};
+//! What holds of all events and operands. The functions do nothing: each is its contract.
+ghost use Rattle.icu_base.specs.Laws.{JoinedTextsJoinTheirEvents, EventsTellTheText, JoinedEventsJoinTheirTexts, PartsHaveNoText, ClosedEventsKeepTheirSpans, MovingThePointMultiplies, ExactlyIsTheNumber};
 
 /// Writing a text in two pieces writes the same events as writing it whole.
 #[tactic(auto, using(crate::proofs::LawLemmas::law_steps))]
@@ -29,4 +29,16 @@ pub fn parts_have_no_text()
 #[tactic(auto, using(crate::proofs::LawLemmas::law_steps))]
 pub fn closed_events_keep_their_spans()
     ensures { ClosedEventsKeepTheirSpans }
+{}
+
+/// The integer that operands are taken of is that of the number times ten to the exponent.
+#[tactic(auto, using(crate::proofs::MovedPoint::moving_the_point_multiplies))]
+pub fn moving_the_point_multiplies()
+    ensures { MovingThePointMultiplies }
+{}
+
+/// What is selected for exactly zero or exactly one is so for these numbers alone.
+#[tactic(auto, using(crate::proofs::MovedPoint::exactly_is_the_number))]
+pub fn exactly_is_the_number()
+    ensures { ExactlyIsTheNumber }
 {}

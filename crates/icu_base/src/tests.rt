@@ -1,9 +1,15 @@
-//! Worked texts with parts: their spans, the limit of a sink, and each way to write a value.
+//! Worked texts, patterns, operands, elements and plural rules.
 use super::*;
 use std::alloc::Global;
 
 mod bytes;
+mod cardinals;
+mod elements;
 mod limit;
+mod operands;
+mod patterns;
+mod plural;
+mod rules;
 mod spans;
 mod systems;
 mod written;
