@@ -1,2 +1,9 @@
 pub mod Lengths
 pub mod Texts
+pub mod SameEntries
+pub mod EntryFaults
+pub mod KeptTables
+pub mod KeptSteps
+pub mod EntryPlaces
+pub mod KeptMeaning
+pub mod Worked

@@ -2,3 +2,9 @@ pub mod Held
 pub mod Symbols
 pub mod Given
 pub mod DecimalSymbols
+pub mod CompactTable
+pub mod Kept
+pub mod CompactFaults
+pub mod KeptSince
+pub mod SameTable
+pub mod Faithful

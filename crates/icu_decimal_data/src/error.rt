@@ -1,7 +1,4 @@
-//! Why symbols are refused.
-
-ghost use Rattle.std.specs.Prelude.{◌≡◌};
-ghost use Rattle.icu_decimal_data.specs.declared.error.SymbolsError.TheVariants.{OutOfMemory};
+//! Why symbols and compact tables are refused.
 
 use std::alloc::{AllocError, AllocFailed};
 use thiserror::Error;
@@ -21,6 +18,9 @@ pub enum SymbolsError {
 }
 
 impl From<AllocError> for SymbolsError {
+    ghost use Rattle.std.specs.Prelude.{◌≡◌};
+    ghost use Rattle.icu_decimal_data.specs.declared.error.SymbolsError.TheVariants.{OutOfMemory};
+
     ghost from_gives = { λ _ e. e ≡ OutOfMemory };
 
     fn from(_e: AllocError) -> SymbolsError {
@@ -29,9 +29,54 @@ impl From<AllocError> for SymbolsError {
 }
 
 impl<T: Drop> From<AllocFailed<T>> for SymbolsError {
+    ghost use Rattle.std.specs.Prelude.{◌≡◌};
+    ghost use Rattle.icu_decimal_data.specs.declared.error.SymbolsError.TheVariants.{OutOfMemory};
+
     ghost from_gives = { λ _ e. e ≡ OutOfMemory };
 
     fn from(_e: AllocFailed<T>) -> SymbolsError {
         SymbolsError::OutOfMemory
+    }
+}
+
+/// Why a table of compact patterns was not made.
+#[derive(Clone, Copy, Debug, PartialEq, Eq, Error)]
+pub enum CompactError {
+    /// Somewhere in the given map an exponent is below that of the type just before.
+    #[error("Compact exponents should be nondecreasing")]
+    ExponentsFall,
+    /// A kept type has an exponent above it.
+    #[error("a compact exponent is above its type")]
+    ExponentAboveType,
+    /// A kept type is more than 15 above its exponent, so a pattern would stand beside more than 16 digits.
+    #[error("Pattern has too many zeros")]
+    TooManyZeros,
+    /// The literals of the kept patterns are more than 65,535 bytes together.
+    #[error("the literals of the compact patterns are more than 65535 bytes together")]
+    TooLarge,
+    /// Memory ran out.
+    #[error("out of memory")]
+    OutOfMemory,
+}
+
+impl From<AllocError> for CompactError {
+    ghost use Rattle.std.specs.Prelude.{◌≡◌};
+    ghost use Rattle.icu_decimal_data.specs.declared.error.CompactError.TheVariants.{OutOfMemory};
+
+    ghost from_gives = { λ _ e. e ≡ OutOfMemory };
+
+    fn from(_e: AllocError) -> CompactError {
+        CompactError::OutOfMemory
+    }
+}
+
+impl<T: Drop> From<AllocFailed<T>> for CompactError {
+    ghost use Rattle.std.specs.Prelude.{◌≡◌};
+    ghost use Rattle.icu_decimal_data.specs.declared.error.CompactError.TheVariants.{OutOfMemory};
+
+    ghost from_gives = { λ _ e. e ≡ OutOfMemory };
+
+    fn from(_e: AllocFailed<T>) -> CompactError {
+        CompactError::OutOfMemory
     }
 }

@@ -9,6 +9,9 @@ use std::process::Abort;
 use std::str;
 use std::test::Fail;
 
+mod compact;
+mod tables;
+
 const SIZES: GroupingSizes = GroupingSizes {
     primary: 3,
     secondary: 2,

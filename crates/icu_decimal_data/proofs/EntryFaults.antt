@@ -1,0 +1,31 @@
+-- What a map without a fault has.
+use Rattle.std.proofs.Common.{◌≡◌, ◌+◌, ◌≤◌, ⊎_elim, true, false, refl, List, Option, Some, None, nat_lt, ltb-false}
+use Rattle.std.specs.Option.{option_or}
+use Rattle.std.proofs.lemmas.Bool.{cases_Bool}
+use Rattle.icu_decimal_data.specs.CompactTable.{PatternElements, TableEntry}
+use Rattle.icu_decimal_data.specs.Kept.{kept}
+use Rattle.icu_decimal_data.specs.CompactFaults.{entry_fault, first_entry_fault, fault_of, has_falling_exponents}
+
+pub none_or : {T : Type 0} (a b : Option T) → option_or a b ≡ None → (a ≡ None) × (b ≡ None)
+none_or None b h = (refl, h)
+none_or (Some x) b h = absurd (cc)
+
+-- its exponent is not above the type, and at most 15 below
+pub sound_entry : (e : TableEntry) → entry_fault e ≡ None → (e.exponent ≤ e.log10_type) × (e.log10_type ≤ e.exponent + 15)
+sound_entry e h =
+    ⊎_elim
+    (λ (over : nat_lt e.log10_type e.exponent ≡ true). absurd (let k = rw over at h in cc))
+    (λ (under : nat_lt e.log10_type e.exponent ≡ false).
+    ⊎_elim
+    (λ (far : nat_lt (e.exponent + 15) e.log10_type ≡ true). absurd (let k = rw (under, far) at h in cc))
+    (λ (near : nat_lt (e.exponent + 15) e.log10_type ≡ false). (ltb-false e.log10_type e.exponent under, ltb-false (e.exponent + 15) e.log10_type near))
+    (cases_Bool (nat_lt (e.exponent + 15) e.log10_type)))
+    (cases_Bool (nat_lt e.log10_type e.exponent))
+
+-- no exponent falls, and no kept entry has a fault
+pub no_entry_fault : (plain : Option PatternElements) (es : List TableEntry) → fault_of plain es ≡ None → (has_falling_exponents es ≡ false) × (first_entry_fault (kept plain es) ≡ None)
+no_entry_fault plain es h =
+    ⊎_elim
+    (λ (falls : has_falling_exponents es ≡ true). absurd (let k = rw falls at h in cc))
+    (λ (rise : has_falling_exponents es ≡ false). (rise, (none_or (first_entry_fault (kept plain es)) _ (rw rise at h)).0))
+    (cases_Bool (has_falling_exponents es))

@@ -1,0 +1,54 @@
+-- What a walk through a map finds.
+use Rattle.std.proofs.Common.{◌≡◌, ℕ, suc, ◌+◌, ◌-◌, ◌<◌, ⊎_elim, min, true, false, refl, arith, sym, ap, ◌∙◌, List, [], ◌∷◌, ◌++◌, length, Option, Some, None, slice_index_or, slice_get, append_assoc, length-append, drop, drop-cons, add-one, sum_by}
+use Rattle.std.proofs.lemmas.Bool.{cases_Bool}
+use Rattle.std.proofs.lemmas.List.Sums.{sum_by-cons}
+use Rattle.icu_base.specs.Patterns.{PatternText}
+use Rattle.icu_decimal_data.specs.CompactFaults.{slot_size}
+use Rattle.icu_base.specs.Elements.{without_explicit_one}
+use Rattle.icu_decimal_data.specs.CompactTable.{PatternElements, TableEntry}
+use Rattle.icu_decimal_data.specs.Kept.{kept, changes, repeats, is_zero_magnitude, same_patterns}
+use Rattle.icu_decimal_data.specs.KeptSince.{kept_since, last_elements, stays}
+use Rattle.icu_decimal_data.proofs.SameEntries.{the_same}
+
+pub size_step : (slots : List (Option PatternText)) (k size most : ℕ) → k < length slots
+    → min (min (size + slot_size (slice_index_or slots k None)) most + sum_by slot_size (drop (k + 1) slots)) most ≡ min (size + sum_by slot_size (drop k slots)) most
+size_step slots k size most h =
+    let parts : sum_by slot_size (drop k slots) ≡ slot_size (slice_index_or slots k None) + sum_by slot_size (drop (k + 1) slots) =
+    rw (add-one, drop-cons slots k None h) (sum_by-cons slot_size (slice_index_or slots k None) (drop (suc k) slots)) in
+    omega arith
+
+-- comparing with the last kept one is comparing with the one just before
+after : (plain : Option PatternElements) (last before : TableEntry) (es : List TableEntry) → without_explicit_one before.elements ≡ without_explicit_one last.elements
+    → kept_since plain (Some last.elements) es ≡ changes before es
+after plain last before [] h = refl
+after plain last before (e ∷ es) h =
+    ⊎_elim
+    (λ (r : repeats before e ≡ true).
+    let s : same_patterns (without_explicit_one last.elements) e.elements ≡ true = ap (λ (x : PatternElements). same_patterns x e.elements) (sym h) ∙ r in
+    let same : without_explicit_one e.elements ≡ without_explicit_one last.elements = ap without_explicit_one (sym (the_same (without_explicit_one last.elements) e.elements s)) in
+    rw (r, s) (after plain last e es same))
+    (λ (r : repeats before e ≡ false).
+    let s : same_patterns (without_explicit_one last.elements) e.elements ≡ false = ap (λ (x : PatternElements). same_patterns x e.elements) (sym h) ∙ r in
+    rw (r, s) (ap (λ (fs : List TableEntry). e ∷ fs) (after plain e e es refl)))
+    (cases_Bool (repeats before e))
+
+pub kept_since_start : (plain : Option PatternElements) (es : List TableEntry) → kept_since plain None es ≡ kept plain es
+kept_since_start plain [] = refl
+kept_since_start plain (e ∷ es) =
+    ⊎_elim
+    (λ (z : is_zero_magnitude plain e.elements ≡ true). rw z (kept_since_start plain es))
+    (λ (z : is_zero_magnitude plain e.elements ≡ false). rw z (ap (λ (fs : List TableEntry). e ∷ fs) (after plain e e es refl)))
+    (cases_Bool (is_zero_magnitude plain e.elements))
+
+at_end : (items : List TableEntry) (e : TableEntry) → slice_get (items ++ e ∷ []) (length items) ≡ Some e
+at_end [] e = refl
+at_end (x ∷ xs) e = at_end xs e
+
+last_pushed : (items : List TableEntry) (e : TableEntry) → last_elements (items ++ e ∷ []) ≡ Some e.elements
+last_pushed items e =
+    let end : length (items ++ e ∷ []) - 1 ≡ length items = omega (arith, length-append items (e ∷ [])) in
+    rw (end, at_end items e) refl
+
+pub push_turn : (plain : Option PatternElements) (items : List TableEntry) (e : TableEntry) (es : List TableEntry) → stays plain (last_elements items) e.elements ≡ true
+    → (items ++ e ∷ []) ++ kept_since plain (last_elements (items ++ e ∷ [])) es ≡ items ++ kept_since plain (last_elements items) (e ∷ es)
+push_turn plain items e es h = rw (append_assoc, last_pushed items e, h) refl

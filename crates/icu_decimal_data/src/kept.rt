@@ -1,0 +1,113 @@
+//! Which types of a map a compact table keeps, and what refuses the map.
+
+ghost use Rattle.std.specs.Prelude.{◌≡◌, ◌+◌, min};
+ghost use Rattle.std.specs.Option.{option_map};
+ghost use Rattle.icu_decimal_data.specs.Kept.{given, at};
+ghost use Rattle.icu_decimal_data.specs.CompactFaults.{has_falling_exponents, fault_at, fault_of, slot_size, elements_size};
+ghost use Rattle.icu_decimal_data.specs.KeptSince.{last_elements, stays};
+
+use crate::compact_entry::Entry;
+use crate::error::CompactError;
+use icu_base::{Pattern, PatternBackend, PluralElements};
+use std::collections::BTreeMap;
+
+pub(crate) type Elements<P> = PluralElements<Pattern<P>>;
+
+/// Whether an exponent is below that of the type just before.
+fn exponents_fall<P: PatternBackend>(map: &BTreeMap<u8, (u8, Elements<P>)>) -> bool
+    ensures { result ≡ has_falling_exponents (given map.now.entries) }
+{
+    let mut before = 0;
+    for (_, value) in map {
+        if value.0 < before {
+            return true;
+        }
+        before = value.0;
+    }
+    false
+}
+
+/// What is wrong with a type and its exponent.
+fn fault_at(log10_type: u8, exponent: u8) -> Option<CompactError>
+    ensures { result ≡ fault_at log10_type exponent }
+{
+    if exponent > log10_type {
+        Some(CompactError::ExponentAboveType)
+    } else if log10_type - exponent > 15 {
+        Some(CompactError::TooManyZeros)
+    } else {
+        None
+    }
+}
+
+/// Whether elements are kept after the last kept ones, if any were kept before.
+pub(crate) fn stays<P: PatternBackend>(
+    zero_magnitude: Option<&Elements<P>>,
+    last: Option<&Elements<P>>,
+    elements: &Elements<P>,
+) -> bool
+    ensures { result ≡ stays (at zero_magnitude.entry) (at last.entry) elements.now }
+{
+    match (last, zero_magnitude) {
+        (Some(last), _) => !last.equal_without_explicit_one(elements),
+        (None, Some(zero)) => elements != zero,
+        (None, None) => true,
+    }
+}
+
+/// The elements of the last entry.
+pub(crate) fn last_elements<P: PatternBackend>(entries: &[Entry<P>]) -> Option<&Elements<P>>
+    ensures { at result ≡ last_elements entries.now }
+{
+    entries.last().map(|entry| &entry.elements)
+}
+
+/// The bytes of a pattern's literal.
+fn literal_size<P: PatternBackend>(slot: Option<&Pattern<P>>) -> usize
+    ensures { result ≡ slot_size (option_map (λ p. p.now) slot.entry) }
+{
+    match slot {
+        Some(pattern) => pattern.as_ref().literal().len(),
+        None => 0,
+    }
+}
+
+/// The size with the bytes of all literals added, as far as it fits.
+fn with_literals<P: PatternBackend>(size: usize, elements: &Elements<P>) -> usize
+    ensures { result ≡ min (size + elements_size elements.now) usize.MAX }
+{
+    let mut size = size;
+    for slot in 0..8 {
+        size = size.saturating_add(literal_size(elements.slot(slot)));
+    }
+    size
+}
+
+/// The first fault of a map, if it has one.
+pub(crate) fn first_fault<P: PatternBackend>(
+    map: &BTreeMap<u8, (u8, Elements<P>)>,
+    zero_magnitude: Option<&Elements<P>>,
+) -> Option<CompactError>
+    ensures { result ≡ fault_of (at zero_magnitude.entry) (given map.now.entries) }
+{
+    if exponents_fall(map) {
+        return Some(CompactError::ExponentsFall);
+    }
+    let mut last = None;
+    let mut size = 0;
+    for (log10_type, value) in map {
+        let elements = &value.1;
+        if stays(zero_magnitude, last, elements) {
+            if let Some(fault) = fault_at(*log10_type, value.0) {
+                return Some(fault);
+            }
+            size = with_literals(size, elements);
+            last = Some(elements);
+        }
+    }
+    if size > 65535 {
+        Some(CompactError::TooLarge)
+    } else {
+        None
+    }
+}
