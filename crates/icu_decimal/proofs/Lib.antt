@@ -4,3 +4,13 @@ pub mod Separators
 pub mod EventSteps
 pub mod GroupSteps
 pub mod FormattedLemmas
+pub mod PowerPlaces
+pub mod EntrySteps
+pub mod NearestLaws
+pub mod CarriedEntries
+pub mod CompactCore
+pub mod RoundingSteps
+pub mod DisplayedSteps
+pub mod OrderLaws
+pub mod DisplayedOnce
+pub mod WorkedNearest

@@ -6,3 +6,10 @@ pub mod Laws
 pub mod Lent
 pub mod Part
 pub mod Signed
+pub mod CompactNumber
+pub mod Displayed
+pub mod RoundedAt
+pub mod CompactLaws
+pub mod CompactFormat
+pub mod PatternGiven
+pub mod ExponentMismatch

@@ -94,7 +94,7 @@ impl DecimalFormatter {
         &'l self,
         value: Cow<'l, UnsignedDecimal>,
     ) -> FormattedUnsignedDecimal<'l>
-        ensures { unsigned_shown result ≡ unsigned_events self.now (value_of value.entry) }
+        ensures { result ≡ record { format = self.now; number = value_of value.entry } }
     {
         FormattedUnsignedDecimal {
             value,

@@ -1,11 +1,56 @@
 //! Why a number was not formatted.
 
+use std::fmt;
+use std::marker::Model;
 use thiserror::Error;
 
 /// Why a number was not formatted.
 #[derive(Clone, Copy, Debug, PartialEq, Eq, Error)]
 pub enum FormatError {
+    /// The nearest compact number is ten to the power 32768 or more.
+    #[error("the compact number is too large")]
+    Overflow,
     /// An allocation was refused.
     #[error("out of memory")]
     OutOfMemory,
 }
+
+/// The compact exponent given for a number isn't that of its magnitude (ICU4X `CompactExponentError`). It is a small
+/// value that takes no memory.
+#[derive(Clone, Copy, Debug)]
+pub struct CompactExponentError {
+    pub(crate) actual: u8,
+    pub(crate) expected: u8,
+    pub(crate) magnitude: i32,
+}
+
+impl Model for CompactExponentError {
+    ghost use Rattle.icu_decimal.specs.ExponentMismatch.{ExponentMismatch};
+
+    ghost Value = { ExponentMismatch };
+
+    ghost view = { λ s. record { actual = s.actual; expected = s.expected; magnitude = s.magnitude } };
+
+    ghost inverse = { λ m. record { actual = m.actual; expected = m.expected; magnitude = m.magnitude } };
+}
+
+impl fmt::Display for CompactExponentError {
+    ghost use Rattle.std.specs.Prelude.{Some};
+    ghost use Rattle.icu_decimal.specs.ExponentMismatch.{mismatch_text};
+
+    ghost output = { λ mismatch. Some (mismatch_text mismatch) };
+
+    fn fmt<W: fmt::Write>(&self, f: &mut fmt::Formatter<W>) -> fmt::Result {
+        let CompactExponentError {
+            actual,
+            expected,
+            magnitude,
+        } = *self;
+        write!(
+            f,
+            "Expected compact exponent {expected} for 10^{magnitude}, got {actual}"
+        )
+    }
+}
+
+impl std::error::Error for CompactExponentError {}

@@ -1,7 +1,8 @@
-//! What holds of all that a plain formatter writes: each function does nothing, and its contract is the law.
+//! What holds of all that a formatter writes: each function does nothing, and its contract is the law.
 
 ghost use Rattle.std.specs.Prelude.{◌≡◌, IsTrue};
 ghost use Rattle.icu_decimal.specs.Formatted.{decimal_shown, unsigned_shown};
+ghost use Rattle.icu_decimal.specs.CompactLaws.{OneCompactNumberIsNearest, DisplayedIsOne, NearestKeepsOrder, MagnitudeIsShown, CompactNumberIsItsNearest};
 ghost use Rattle.icu_decimal.specs.Laws.{AutoAndAlwaysWriteAlike, NoneActsAsAuto, SeparatorsTakenOut, DigitsHaveAGrouping, DigitsHaveOneGrouping};
 
 use crate::formatted_decimal::{FormattedDecimal, FormattedUnsignedDecimal};
@@ -10,6 +11,7 @@ use crate::options::DecimalFormatterOptions;
 use fixed_decimal::UnsignedDecimal;
 use icu_base::Writeable;
 use icu_decimal_data::DecimalSymbols;
+pub use icu_decimal_data::laws::kept_means_full;
 
 /// The strategies `Auto` and `Always` write the same, and so does no strategy.
 pub fn auto_and_always_write_alike()
@@ -50,4 +52,19 @@ fn equal_parts_are_the_same()
     ensures options { (a b : _) → IsTrue (⟦<DecimalFormatterOptions as PartialEq>⟧.eq a b) → a ≡ b }
     ensures symbols { (a b : _) → IsTrue (⟦<DecimalSymbols as PartialEq>⟧.eq a b) → a ≡ b }
     ensures digits { (a b : _) → IsTrue (⟦<[char; 10] as PartialEq>⟧.eq a b) → a ≡ b }
+{}
+
+/// Each size has one nearest compact number by the entries of a table, and what is displayed of a decimal is one: the size,
+/// the entry and the significand.
+pub fn nearest_is_unique()
+    ensures nearest { OneCompactNumberIsNearest }
+    ensures displayed { DisplayedIsOne }
+{}
+
+/// Of two sizes the smaller never has the larger nearest compact number; a size other than zero is shown as the power of
+/// ten of its magnitude at least; and a compact number is shown as itself.
+pub fn smaller_never_shows_larger()
+    ensures in_order { NearestKeepsOrder }
+    ensures not_lost { MagnitudeIsShown }
+    ensures itself { CompactNumberIsItsNearest }
 {}

@@ -3,6 +3,8 @@
 ghost use Rattle.std.specs.Prelude.{◌≡◌};
 ghost use Rattle.icu_decimal.specs.Lent.{value_of};
 
+use icu_base::{EventWriter, WriteFault, Writeable};
+
 /// A value that is lent or kept (ICU4X `Cow`).
 #[derive(Debug, PartialEq, Eq, Drop)]
 pub enum Cow<'a, T> {
@@ -21,5 +23,16 @@ impl<T> Cow<'_, T> {
             Cow::Borrowed(value) => value,
             Cow::Owned(value) => value,
         }
+    }
+}
+
+// The value, wherever it is.
+impl<T: Writeable> Writeable for Cow<'_, T> {
+    ghost use Rattle.icu_decimal.specs.Lent.{value_of};
+
+    ghost events = { λ c. T.events (value_of c) };
+
+    fn write_events<K: EventWriter>(&self, out: &mut K) -> Result<(), WriteFault> {
+        self.get().write_events(out)
     }
 }

@@ -1,8 +1,11 @@
 //! Decimals in the digits, signs, separators and groups of a locale: a port of ICU4X's `icu_decimal`.
 #![tactic(auto)]
 
+mod compact_formatter;
+mod compact_rounding;
 mod decimal_formatter;
 pub mod error;
+mod formatted_compact;
 mod formatted_decimal;
 mod formatted_sign;
 pub mod grouper;
@@ -19,7 +22,9 @@ pub mod input {
     pub use fixed_decimal::{Decimal, SignDisplay};
 }
 
+pub use compact_formatter::CompactDecimalFormatter;
 pub use decimal_formatter::DecimalFormatter;
+pub use formatted_compact::{FormattedUnsignedCompactDecimal, InterpolatedDecimal};
 pub use formatted_decimal::{FormattedDecimal, FormattedUnsignedDecimal};
 pub use formatted_sign::FormattedSign;
 pub use lent::Cow;

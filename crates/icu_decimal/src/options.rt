@@ -32,3 +32,58 @@ impl From<GroupingStrategy> for DecimalFormatterOptions {
         }
     }
 }
+
+/// How a compact decimal formatter writes (ICU4X `CompactDecimalFormatterOptions`).
+#[derive(Debug, Clone, PartialEq, Eq, Drop)]
+pub struct CompactDecimalFormatterOptions {
+    /// When separators are written; `None` acts as `Auto`, though ICU4X's documentation names `Min2` for it.
+    pub grouping_strategy: Option<GroupingStrategy>,
+}
+
+/// The default asks for `Min2`.
+impl Default for CompactDecimalFormatterOptions {
+    ghost use Rattle.std.specs.Prelude.{◌≡◌, Some};
+    ghost use Rattle.icu_decimal.specs.declared.options.GroupingStrategy.TheVariants.{Min2};
+
+    ghost is_default = { λ options. options ≡ record { grouping_strategy = Some Min2 } };
+
+    fn default() -> Self {
+        CompactDecimalFormatterOptions::from(GroupingStrategy::Min2)
+    }
+}
+
+impl From<GroupingStrategy> for CompactDecimalFormatterOptions {
+    ghost use Rattle.std.specs.Prelude.{◌≡◌, Some};
+
+    ghost from_gives = { λ strategy options. options ≡ record { grouping_strategy = Some strategy } };
+
+    fn from(grouping_strategy: GroupingStrategy) -> Self {
+        CompactDecimalFormatterOptions {
+            grouping_strategy: Some(grouping_strategy),
+        }
+    }
+}
+
+impl From<DecimalFormatterOptions> for CompactDecimalFormatterOptions {
+    ghost use Rattle.std.specs.Prelude.{◌≡◌};
+
+    ghost from_gives = { λ plain compact. compact ≡ record { grouping_strategy = plain.grouping_strategy } };
+
+    fn from(plain: DecimalFormatterOptions) -> Self {
+        CompactDecimalFormatterOptions {
+            grouping_strategy: plain.grouping_strategy,
+        }
+    }
+}
+
+impl From<CompactDecimalFormatterOptions> for DecimalFormatterOptions {
+    ghost use Rattle.std.specs.Prelude.{◌≡◌};
+
+    ghost from_gives = { λ compact plain. plain ≡ record { grouping_strategy = compact.grouping_strategy } };
+
+    fn from(compact: CompactDecimalFormatterOptions) -> Self {
+        DecimalFormatterOptions {
+            grouping_strategy: compact.grouping_strategy,
+        }
+    }
+}

@@ -1,5 +1,6 @@
 //! What a locale says about numbers.
 
 pub use icu_decimal_data::{
-    DecimalSymbolStrsBuilder, DecimalSymbols, DecimalSymbolsStrs, GroupingSizes, SymbolsError,
+    CompactError, CompactPatterns, DecimalSymbolStrsBuilder, DecimalSymbols, DecimalSymbolsStrs,
+    GroupingSizes, SymbolsError,
 };

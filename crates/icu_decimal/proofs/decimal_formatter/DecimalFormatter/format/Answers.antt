@@ -5,4 +5,4 @@ use Rattle.icu_decimal.proofs.decimal_formatter.DecimalFormatter.format.Goals as
 
 pub returns : goal.returns
 returns c =
-    c.format_sign.ensures.affixes _ ∙ ap (signed_events c.args.self.now.symbols c.args.value.now.sign) (ap unsigned_shown c.format_sign.ensures.value ∙ c.format_unsigned-number.ensures)
+    c.format_sign.ensures.affixes _ ∙ ap (signed_events c.args.self.now.symbols c.args.value.now.sign) (ap unsigned_shown c.format_sign.ensures.value ∙ ap unsigned_shown c.format_unsigned-number.ensures)

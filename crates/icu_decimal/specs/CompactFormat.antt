@@ -1,0 +1,84 @@
+-- What a compact formatter writes for a decimal (ICU4X `CompactDecimalFormatter`; UTS 35 Part 3, Compact Number Formats).
+use Rattle.std.specs.Prelude.{◌≡◌, ℕ, ◌+◌, List, Option, ℤ, pos, ◌+ℤ◌}
+use Rattle.fixed_decimal.specs.declared.signs.Sign.{Sign}
+use Rattle.fixed_decimal.specs.Size.{place, size, magnitude_power}
+use Rattle.fixed_decimal.specs.Unsigned.{Unsigned}
+use Rattle.icu_base.specs.Events.{Event, without_parts}
+use Rattle.icu_base.specs.Operands.{operands_of}
+use Rattle.icu_base.specs.Patterns.{PatternText, interpolated}
+use Rattle.icu_base.specs.Rules.{Rule, category_of}
+use Rattle.icu_decimal_data.specs.CompactTable.{TableEntry, entry_for, exponent_for, exponent_of}
+use Rattle.icu_decimal_data.specs.Faithful.{pattern_for}
+use Rattle.icu_decimal.specs.Decimal.{DecimalFormat, signed_events, unsigned_events}
+use Rattle.icu_decimal.specs.Displayed.{IsDisplayed}
+use Rattle.icu_decimal.specs.Formatted.{FormattedNumber, unsigned_shown}
+use Rattle.icu_decimal.specs.Signed.{Signed, affixed_events}
+
+-- all that a compact formatter writes with: what its numbers are written with, plural rules, and a compact table
+pub record CompactFormat : Type 0 where
+  pub decimal : DecimalFormat
+  pub rules : List Rule
+  pub table : List TableEntry
+
+-- the pattern of an entry for a significand, by the operands of the significand as it is written, without exponent;
+-- without an entry the number alone
+abbrev pub pattern_of : CompactFormat → Option TableEntry → Unsigned → PatternText
+pattern_of format entry significand =
+    pattern_for (operands_of significand 0) (category_of format.rules (operands_of significand 0)) entry
+
+-- the significand in its pattern, with the parts of the number
+abbrev pub filled_events : CompactFormat → Option TableEntry → Unsigned → List Event
+filled_events format entry significand = interpolated (pattern_of format entry significand) (unsigned_events format.decimal significand)
+
+-- The decimal d is written by `format` as these events, with a significand and an exponent: there are a size, which is
+-- the compact number nearest to d, and an entry, which is the displayed one, such that the significand times ten to the
+-- entry's exponent is the size; and the events are the sign around the characters of the significand in its pattern.
+pub record IsCompactFormat (format : CompactFormat) (sign : Sign) (d significand : Unsigned) (exponent : ℕ) (events : List Event) : Type 0 where
+  pub shown : ℕ
+  pub entry : Option TableEntry
+  pub displayed : IsDisplayed format.table d shown entry significand
+  pub exponent_is : exponent ≡ exponent_of entry
+  pub events_are : events ≡ signed_events format.decimal.symbols sign (without_parts (filled_events format entry significand))
+
+-- the magnitude of a significand with an exponent, as a power
+abbrev pub magnitude_with : Unsigned → ℕ → ℤ
+magnitude_with significand exponent = magnitude_power (size significand) +ℤ pos exponent
+
+-- the exponent that a significand with an exponent needs: that of its magnitude
+abbrev pub exponent_needed : CompactFormat → Unsigned → ℕ → ℕ
+exponent_needed format significand exponent = exponent_for format.table (place (magnitude_with significand exponent))
+
+-- what `format_with_exponent` writes: the sign around the digits as they are given, in their pattern, with their parts
+abbrev pub given_events : CompactFormat → Sign → Unsigned → ℕ → List Event
+given_events format sign significand exponent =
+    signed_events format.decimal.symbols sign (filled_events format (entry_for format.table (place (magnitude_with significand exponent))) significand)
+
+-- a number in a pattern
+pub record FilledNumber : Type 0 where
+  pub pattern : PatternText
+  pub number : FormattedNumber
+
+-- its events
+abbrev pub filled_shown : FilledNumber → List Event
+filled_shown f = interpolated f.pattern (unsigned_shown f.number)
+
+-- the events of such a number with a sign
+abbrev pub given_shown : Signed FilledNumber → List Event
+given_shown f = affixed_events f.affixes (filled_shown f.value)
+
+-- a compact number: a significand in its pattern, and its exponent
+pub record FormattedCompact : Type 0 where
+  pub filled : FilledNumber
+  pub exponent : ℕ
+
+-- its significand
+abbrev pub significand_of : FormattedCompact → Unsigned
+significand_of f = f.filled.number.number
+
+-- its events: characters alone
+abbrev pub compact_shown : FormattedCompact → List Event
+compact_shown f = without_parts (filled_shown f.filled)
+
+-- the events of a compact number with a sign
+abbrev pub signed_compact_shown : Signed FormattedCompact → List Event
+signed_compact_shown f = affixed_events f.affixes (compact_shown f.value)

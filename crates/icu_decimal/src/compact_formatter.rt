@@ -1,0 +1,153 @@
+//! The compact formatter.
+
+ghost use Rattle.std.specs.Prelude.{◌≡◌, ◌↔◌, ℕ, List, IfOk, IfErr, IsOk, OnOk, IsErrOf};
+ghost use Rattle.std.specs.String.{string_bytes};
+ghost use Rattle.fixed_decimal.specs.Size.{place, size};
+ghost use Rattle.icu_base.specs.Events.{Event, text_of};
+ghost use Rattle.icu_decimal_data.specs.CompactTable.{IsIndex, entry_at, exponent_for};
+ghost use Rattle.icu_decimal.specs.CompactNumber.{ShowsPastLimits};
+ghost use Rattle.icu_decimal.specs.CompactFormat.{IsCompactFormat, pattern_of, exponent_needed, magnitude_with, given_events, given_shown, significand_of, signed_compact_shown};
+ghost use Rattle.icu_decimal.specs.PatternGiven.{pattern_or_alone};
+
+use crate::compact_rounding::{exponent_or_zero, nearest_compact};
+use crate::decimal_formatter::DecimalFormatter;
+use crate::error::{CompactExponentError, FormatError};
+use crate::formatted_compact::{FormattedUnsignedCompactDecimal, InterpolatedDecimal};
+use crate::formatted_sign::FormattedSign;
+use crate::lent::Cow;
+use fixed_decimal::{Decimal, UnsignedDecimal};
+use icu_base::{PatternRef, PluralOperands, PluralRules, SinglePlaceholder, Writeable};
+use icu_decimal_data::CompactPatterns;
+use std::alloc::Global;
+use std::marker::Model;
+
+/// Writes decimals in compact form, as `15K` (ICU4X `CompactDecimalFormatter`; UTS 35 Part 3, Compact Number Formats).
+#[derive(Drop)]
+pub struct CompactDecimalFormatter {
+    decimal_formatter: DecimalFormatter,
+    plural_rules: PluralRules,
+    patterns: CompactPatterns<SinglePlaceholder>,
+}
+
+impl Model for CompactDecimalFormatter {
+    ghost use Rattle.icu_decimal.specs.CompactFormat.{CompactFormat};
+
+    ghost Value = { CompactFormat };
+
+    ghost view = { λ f. record { decimal = f.decimal_formatter; rules = f.plural_rules; table = f.patterns } };
+}
+
+impl CompactDecimalFormatter {
+    /// The formatter of these parts.
+    pub fn from_parts(
+        decimal_formatter: DecimalFormatter,
+        plural_rules: PluralRules,
+        patterns: CompactPatterns<SinglePlaceholder>,
+    ) -> Self
+        ensures { result ≡ record { decimal = decimal_formatter; rules = plural_rules; table = patterns } }
+    {
+        CompactDecimalFormatter {
+            decimal_formatter,
+            plural_rules,
+            patterns,
+        }
+    }
+
+    /// The decimal as the nearest compact number.
+    ///
+    /// Compact numbers are 0 and the multiples of ten to the rounding place of their own magnitude: the place of the
+    /// exponent that the table gives the magnitude, where the magnitude is above it, and else one below the magnitude, so
+    /// that two digits are shown. What is written is the input's sign around the characters of a significand in its
+    /// pattern: significand times ten to the exponent is the compact number nearest to the input among those of all
+    /// magnitudes, of two equally near the even one.
+    ///
+    /// `Overflow` where that number is ten to the power 32768 or more.
+    pub fn format<'l>(
+        &'l self,
+        alloc: Global,
+        value: &Decimal,
+    ) -> Result<FormattedSign<'l, FormattedUnsignedCompactDecimal<'l>>, FormatError>
+        ensures nearest { IfOk result (λ r. IsCompactFormat self.now value.now.sign value.now.absolute (significand_of r.value) r.value.exponent (signed_compact_shown r)) }
+        ensures within { OnOk result (¬ (ShowsPastLimits self.now.table (size value.now.absolute))) }
+        ensures overflow { IsErrOf result FormatError.Overflow → ShowsPastLimits self.now.table (size value.now.absolute) }
+    {
+        let compacted = nearest_compact(alloc, &self.patterns, &value.absolute)?;
+        let pattern = self.pattern_of(compacted.index, &compacted.significand);
+        let number = self
+            .decimal_formatter
+            .format_unsigned(Cow::Owned(compacted.significand));
+        let compact = FormattedUnsignedCompactDecimal {
+            filled: InterpolatedDecimal { number, pattern },
+            exponent: compacted.exponent,
+        };
+        Ok(self.decimal_formatter.format_sign(value.sign, compact))
+    }
+
+    /// The text of the nearest compact number.
+    pub fn format_to_string(&self, alloc: Global, value: &Decimal) -> Result<String, FormatError>
+        ensures nearest { IfOk result (λ t. (significand : _) × (exponent : ℕ) × (events : List Event) × IsCompactFormat self.now value.now.sign value.now.absolute significand exponent events × (string_bytes t ≡ text_of events)) }
+        ensures within { OnOk result (¬ (ShowsPastLimits self.now.table (size value.now.absolute))) }
+        ensures overflow { IsErrOf result FormatError.Overflow → ShowsPastLimits self.now.table (size value.now.absolute) }
+    {
+        let formatted = self.format(alloc, value)?;
+        match formatted.write_to_string(alloc) {
+            Ok(text) => Ok(text),
+            Err(_) => Err(FormatError::OutOfMemory),
+        }
+    }
+
+    /// A significand with a given exponent, its digits as they are given, with their parts; this takes no memory.
+    ///
+    /// The exponent has to be the one that the magnitude of significand and exponent together needs; 0 stands at the
+    /// magnitude 0.
+    pub fn format_with_exponent<'l>(
+        &'l self,
+        significand: &'l Decimal,
+        exponent: u8,
+    ) -> Result<FormattedSign<'l, InterpolatedDecimal<'l>>, CompactExponentError>
+        ensures accepted { IsOk result ↔ (exponent ≡ exponent_needed self.now significand.now.absolute exponent) }
+        ensures given { IfOk result (λ r. given_shown r ≡ given_events self.now significand.now.sign significand.now.absolute exponent) }
+        ensures refused { IfErr result (λ e. e ≡ record { actual = exponent; expected = exponent_needed self.now significand.now.absolute exponent; magnitude = magnitude_with significand.now.absolute exponent }) }
+    {
+        let absolute = &significand.absolute;
+        let magnitude = absolute.nonzero_magnitude_start() as i32 + exponent as i32;
+        let index = self.patterns.entry_index(magnitude);
+        let expected = exponent_or_zero(&self.patterns, index);
+        if exponent != expected {
+            return Err(CompactExponentError {
+                actual: exponent,
+                expected,
+                magnitude,
+            });
+        }
+        let pattern = self.pattern_of(index, absolute);
+        let number = self
+            .decimal_formatter
+            .format_unsigned(Cow::Borrowed(absolute));
+        let filled = InterpolatedDecimal { number, pattern };
+        Ok(self.decimal_formatter.format_sign(significand.sign, filled))
+    }
+
+    /// The exponent that numbers of a magnitude are written with; 0 where no pattern names one.
+    pub fn compact_exponent_for_magnitude(&self, magnitude: i16) -> u8
+        ensures { result ≡ exponent_for self.now.table (place magnitude) }
+    {
+        exponent_or_zero(&self.patterns, self.patterns.entry_index(magnitude as i32))
+    }
+
+    /// The pattern of an entry for a significand; none without an entry.
+    fn pattern_of(
+        &self,
+        index: Option<usize>,
+        significand: &UnsignedDecimal,
+    ) -> Option<PatternRef<'_, SinglePlaceholder>>
+        requires { IsIndex self.now.table index }
+        ensures { pattern_or_alone result ≡ pattern_of self.now (entry_at self.now.table index) significand.now }
+    {
+        let operands = PluralOperands::from_significand_and_exponent(significand, 0);
+        match index {
+            Some(index) => Some(self.patterns.pick(index, &operands, &self.plural_rules)),
+            None => None,
+        }
+    }
+}

@@ -1,0 +1,71 @@
+//! Options, their defaults and conversions, and the text of an exponent's refusal.
+use super::displayed;
+use crate::error::CompactExponentError;
+use crate::options::{CompactDecimalFormatterOptions, DecimalFormatterOptions, GroupingStrategy};
+use std::test::Fail;
+
+const STRATEGIES: [GroupingStrategy; 4] = [
+    GroupingStrategy::Auto,
+    GroupingStrategy::Never,
+    GroupingStrategy::Always,
+    GroupingStrategy::Min2,
+];
+
+#[test]
+fn asks_for_two_digits_by_default_in_compact_form_alone(rt: HostRuntime) {
+    let compact = CompactDecimalFormatterOptions::default();
+    assert_eq!(rt; compact.grouping_strategy, Some(GroupingStrategy::Min2));
+    let plain = DecimalFormatterOptions::default();
+    assert_eq!(rt; plain.grouping_strategy, None);
+}
+
+#[test]
+fn takes_a_strategy_as_options(rt: HostRuntime) {
+    for strategy in STRATEGIES {
+        let compact = CompactDecimalFormatterOptions::from(strategy);
+        assert_eq!(rt; compact.grouping_strategy, Some(strategy));
+    }
+}
+
+/// Options of both kinds with this strategy are converted into each other.
+fn converts(strategy: Option<GroupingStrategy>) -> bool {
+    let plain = DecimalFormatterOptions {
+        grouping_strategy: strategy,
+    };
+    let compact = CompactDecimalFormatterOptions {
+        grouping_strategy: strategy,
+    };
+    CompactDecimalFormatterOptions::from(plain) == compact
+        && DecimalFormatterOptions::from(compact) == plain
+}
+
+#[test]
+fn converts_options_with_the_strategy_as_it_is(rt: HostRuntime) {
+    assert!(rt; converts(None));
+    for strategy in STRATEGIES {
+        assert!(rt; converts(Some(strategy)), "{strategy:?}");
+    }
+}
+
+#[test]
+fn tells_the_exponent_expected_and_given(rt: HostRuntime) -> Result<(), Fail> {
+    for (expected, magnitude, actual, text) in [
+        (6, 6, 5, "Expected compact exponent 6 for 10^6, got 5"),
+        (5, 6, 6, "Expected compact exponent 5 for 10^6, got 6"),
+        (
+            12,
+            33022,
+            255,
+            "Expected compact exponent 12 for 10^33022, got 255",
+        ),
+        (0, -3, 3, "Expected compact exponent 0 for 10^-3, got 3"),
+    ] {
+        let error = CompactExponentError {
+            actual,
+            expected,
+            magnitude,
+        };
+        assert_eq!(rt; displayed(rt.alloc(), &error)?.as_str(), text);
+    }
+    Ok(())
+}
