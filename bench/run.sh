@@ -83,3 +83,41 @@ for name in "${list[@]}"; do
     esac
     row "$name" "$(ratio "$name" mixed)" "${equal[$name,mixed]}" "$(ratio "$name" long)" "${equal[$name,long]:-–}" "$counted"
 done
+
+# Compact numbers: the library's public calls beside a straightforward Rust program. `rt` takes a crate below its own
+# repository alone, so one is made of copies; the program is proved safe as any other.
+compact_program() {
+    local made=build/compact crate
+    mkdir -p $made/crates/compactfmt/src
+    for crate in fixed_decimal icu_base icu_decimal_data icu_decimal; do
+        rm -rf "$made/crates/$crate" && cp -r "../crates/$crate" $made/crates/
+    done
+    cp compact/main.rt.in $made/crates/compactfmt/src/main.rt
+    cp ../HANDLES $made/
+    grep -v '^decfmt' ../crates.txt >$made/crates.txt
+    echo 'compactfmt: fixed_decimal icu_base icu_decimal icu_decimal_data' >>$made/crates.txt
+    (cd $made/crates/compactfmt && rt run </dev/null) >build/compact.log 2>&1
+}
+
+if command -v rt >/dev/null && compact_program; then
+    "${rust[@]}" peers/rust_compact.rs -o build/rust_compact || exit 1
+    command[rust_compact]=build/rust_compact
+    command['compact by the library']=build/compact/crates/compactfmt/out/compactfmt
+    best=()
+    for name in rust_compact 'compact by the library'; do
+        for turn in $(seq 1 "$runs"); do
+            took=$(once "$name" mixed)
+            [ "$took" -lt "${best[$name]:-999999999}" ] && best[$name]=$took
+        done
+        ${command[$name]} <build/mixed.txt >"build/$name.output"
+    done
+    echo
+    row 'compact short English' ratio 'same output' 'instructions a line' '' ''
+    row --- --- --- --- '' ''
+    for name in rust_compact 'compact by the library'; do
+        same=$(cmp -s "build/$name.output" build/rust_compact.output && echo yes || echo no)
+        counted=–
+        command -v valgrind >/dev/null && counted=$(instructions "$name" 20000 mixed)
+        row "$name" "$(awk -v a="${best[$name]}" -v b="${best[rust_compact]}" 'BEGIN {printf "%.2f (%.0f ms)", a / b, a / 1000}')" "$same" "$counted" '' ''
+    done
+fi
