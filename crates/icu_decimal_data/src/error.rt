@@ -48,7 +48,7 @@ pub enum CompactError {
     /// A kept type has an exponent above it.
     #[error("a compact exponent is above its type")]
     ExponentAboveType,
-    /// A kept type is more than 15 above its exponent, so a pattern would stand beside more than 16 digits.
+    /// A kept type is more than 15 above its exponent.
     #[error("Pattern has too many zeros")]
     TooManyZeros,
     /// The literals of the kept patterns are more than 65,535 bytes together.
