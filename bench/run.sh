@@ -90,7 +90,7 @@ compact_program() {
     local made=build/compact crate
     mkdir -p $made/crates/compactfmt/src
     for crate in fixed_decimal icu_base icu_decimal_data icu_decimal; do
-        rm -rf "$made/crates/$crate" && cp -r "../crates/$crate" $made/crates/
+        rm -rf "$made/crates/$crate" && cp -a "../crates/$crate" $made/crates/
     done
     cp compact/main.rt.in $made/crates/compactfmt/src/main.rt
     cp ../HANDLES $made/

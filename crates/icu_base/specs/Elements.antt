@@ -1,5 +1,5 @@
 -- The values of plural elements, and which of them a number selects.
-use Rattle.std.specs.Prelude.{ℕ, Bool, not, ◌&&◌, ◌==◌, if◌then◌else◌, List, [], ◌∷◌, Option, Some, None, unwrap_or}
+use Rattle.std.specs.Prelude.{ℕ, Bool, not, ◌&&◌, ◌||◌, ◌==◌, is_some, if◌then◌else◌, List, [], ◌∷◌, Option, Some, None, unwrap_or}
 use Rattle.std.specs.Option.{option_eq}
 use Rattle.icu_base.specs.Operands.{Operands}
 use Rattle.icu_base.specs.declared.plurals.category.PluralCategory.{PluralCategory}
@@ -23,6 +23,13 @@ only_other value = record { explicit_zero = None; explicit_one = None; zero = No
 -- the eight slots in their order; the last is never empty
 abbrev pub slots : {T : Type 0} → Elements T → List (Option T)
 slots e = e.explicit_zero ∷ e.explicit_one ∷ e.zero ∷ e.one ∷ e.two ∷ e.few ∷ e.many ∷ Some e.other ∷ []
+
+-- the value for all numbers, where there is no other
+abbrev pub sole_value : {T : Type 0} → Elements T → Option T
+sole_value e =
+    let small = is_some e.explicit_zero || (is_some e.explicit_one || is_some e.zero) in
+    let large = is_some e.one || (is_some e.two || (is_some e.few || is_some e.many)) in
+    if small || large then None else Some e.other
 
 -- the same with no value for exactly one
 abbrev pub without_explicit_one : {T : Type 0} → Elements T → Elements T

@@ -1,5 +1,5 @@
 -- What a compact formatter writes for a decimal (ICU4X `CompactDecimalFormatter`; UTS 35 Part 3, Compact Number Formats).
-use Rattle.std.specs.Prelude.{◌≡◌, ℕ, ◌+◌, List, Option, ℤ, pos, ◌+ℤ◌}
+use Rattle.std.specs.Prelude.{◌≡◌, ℕ, List, Option, ℤ, pos, ◌+ℤ◌}
 use Rattle.fixed_decimal.specs.declared.signs.Sign.{Sign}
 use Rattle.fixed_decimal.specs.Size.{place, size, magnitude_power}
 use Rattle.fixed_decimal.specs.Unsigned.{Unsigned}

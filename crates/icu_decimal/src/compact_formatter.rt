@@ -1,9 +1,13 @@
 //! The compact formatter.
 
-ghost use Rattle.std.specs.Prelude.{◌≡◌, ◌↔◌, ℕ, List, IfOk, IfErr, IsOk, OnOk, IsErrOf};
+ghost use Rattle.std.specs.Prelude.{◌≡◌, ◌↔◌, ◌<◌, ℕ, List, length, slice_get, IfSome, IfOk, IfErr, IsOk, OnOk, IsErrOf};
 ghost use Rattle.std.specs.String.{string_bytes};
 ghost use Rattle.fixed_decimal.specs.Size.{place, size};
+ghost use Rattle.icu_base.specs.Elements.{selected};
 ghost use Rattle.icu_base.specs.Events.{Event, text_of};
+ghost use Rattle.icu_base.specs.Operands.{operands_of};
+ghost use Rattle.icu_base.specs.Refs.{text_of_ref};
+ghost use Rattle.icu_base.specs.Rules.{category_of};
 ghost use Rattle.icu_decimal_data.specs.CompactTable.{IsIndex, entry_at, exponent_for};
 ghost use Rattle.icu_decimal.specs.CompactNumber.{ShowsPastLimits};
 ghost use Rattle.icu_decimal.specs.CompactFormat.{IsCompactFormat, pattern_of, exponent_needed, magnitude_with, given_events, given_shown, significand_of, signed_compact_shown};
@@ -144,10 +148,25 @@ impl CompactDecimalFormatter {
         requires { IsIndex self.now.table index }
         ensures { pattern_or_alone result ≡ pattern_of self.now (entry_at self.now.table index) significand.now }
     {
-        let operands = PluralOperands::from_significand_and_exponent(significand, 0);
         match index {
-            Some(index) => Some(self.patterns.pick(index, &operands, &self.plural_rules)),
+            Some(index) => Some(self.pattern_at(index, significand)),
             None => None,
         }
+    }
+
+    /// The pattern of the entry at an index for a significand; where the entry has one alone, no operands are wanted.
+    fn pattern_at(
+        &self,
+        index: usize,
+        significand: &UnsignedDecimal,
+    ) -> PatternRef<'_, SinglePlaceholder>
+        requires { index < length self.now.table }
+        ensures { IfSome (slice_get self.now.table index) (λ e. text_of_ref result ≡ selected e.elements (operands_of significand.now 0) (category_of self.now.rules (operands_of significand.now 0))) }
+    {
+        if let Some(pattern) = self.patterns.sole_pattern(index) {
+            return pattern;
+        }
+        let operands = PluralOperands::from_significand_and_exponent(significand, 0);
+        self.patterns.pick(index, &operands, &self.plural_rules)
     }
 }

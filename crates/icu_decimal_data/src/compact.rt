@@ -2,7 +2,9 @@
 
 ghost use Rattle.std.specs.Prelude.{◌≡◌, ◌↔◌, ◌+◌, ◌<◌, nat_le, IfOk, IfSome, IsErrOf, IsTrue, MatchOption, IsOkUnless, None, [], length, option_map, slice_get, slice_index_or};
 ghost use Rattle.fixed_decimal.specs.Size.{finest, place};
-ghost use Rattle.icu_base.specs.Elements.{slots, selected};
+ghost use Rattle.icu_base.specs.Elements.{slots, selected, sole_value};
+ghost use Rattle.icu_base.specs.Operands.{Operands};
+ghost use Rattle.icu_base.specs.declared.plurals.category.PluralCategory.{PluralCategory};
 ghost use Rattle.icu_base.specs.Refs.{text_of_ref};
 ghost use Rattle.icu_base.specs.Rules.{category_of};
 ghost use Rattle.icu_decimal_data.specs.CompactTable.{IsCompactTable, IsIndex, entry_at, entry_for, next_entry, index_after, log10_type_of, exponent_of, reached};
@@ -142,6 +144,18 @@ impl<P: PatternBackend> CompactPatterns<P> {
     {
         let entry = &self.entries[index];
         match entry.elements.slot(slot) {
+            Some(pattern) => Some(pattern.as_ref()),
+            None => None,
+        }
+    }
+
+    /// The pattern of an entry that has one for all numbers and no other: what `pick` answers for every number.
+    pub fn sole_pattern(&self, index: usize) -> Option<PatternRef<'_, P>>
+        requires { index < length self.now }
+        ensures pattern { IfSome (slice_get self.now index) (λ e. option_map text_of_ref result ≡ sole_value e.elements) }
+        ensures picked { IfSome (slice_get self.now index) (λ e. IfSome result (λ p. (operands : Operands) (category : PluralCategory) → selected e.elements operands category ≡ text_of_ref p)) }
+    {
+        match self.entries[index].elements.sole() {
             Some(pattern) => Some(pattern.as_ref()),
             None => None,
         }

@@ -32,9 +32,11 @@ impl<T> Model for PluralElements<T> {
 }
 
 impl<T> PluralElements<T> {
-    ghost use Rattle.std.specs.Prelude.{◌≡◌, ◌<◌, None, slice_index_or};
+    ghost use Rattle.std.specs.Prelude.{◌≡◌, ◌<◌, IfSome, None, slice_index_or};
     ghost use Rattle.std.specs.Option.{option_copied};
-    ghost use Rattle.icu_base.specs.Elements.{only_other, slots, same_elements, without_explicit_one, selected, explicit_value, category_value};
+    ghost use Rattle.icu_base.specs.Operands.{Operands};
+    ghost use Rattle.icu_base.specs.declared.plurals.category.PluralCategory.{PluralCategory};
+    ghost use Rattle.icu_base.specs.Elements.{only_other, slots, sole_value, same_elements, without_explicit_one, selected, explicit_value, category_value};
     ghost use Rattle.icu_base.specs.Rules.{category_of};
 
     /// One value for all numbers.
@@ -138,6 +140,25 @@ impl<T> PluralElements<T> {
             5 => self.few.as_ref(),
             6 => self.many.as_ref(),
             _ => Some(&self.other),
+        }
+    }
+
+    /// The value for all numbers, where there is no other: what `get` answers for every number.
+    pub fn sole(&self) -> Option<&T>
+        ensures value { option_copied result ≡ sole_value self.now }
+        ensures selected { IfSome result (λ value. (operands : Operands) (category : PluralCategory) → selected self.now operands category ≡ value.now) }
+    {
+        let small = self.explicit_zero.is_some()
+            || self.explicit_one.is_some()
+            || self.zero.is_some();
+        let large = self.one.is_some()
+            || self.two.is_some()
+            || self.few.is_some()
+            || self.many.is_some();
+        if small || large {
+            None
+        } else {
+            Some(&self.other)
         }
     }
 

@@ -76,6 +76,29 @@ fn each_setter_sets_its_own_slot(rt: HostRuntime) {
 }
 
 #[test]
+fn answers_the_value_without_others(rt: HostRuntime) {
+    let none = || PluralElements::new(8_u8);
+    assert_eq!(rt; none().sole().copied(), Some(8));
+    for (slot, elements) in [
+        none().with_explicit_zero_value(Some(8)),
+        none().with_explicit_one_value(Some(8)),
+        none().with_zero_value(Some(8)),
+        none().with_one_value(Some(8)),
+        none().with_two_value(Some(8)),
+        none().with_few_value(Some(8)),
+        none().with_many_value(Some(8)),
+        all_slots(),
+    ]
+    .into_iter()
+    .enumerate()
+    {
+        assert_eq!(rt; elements.sole().copied(), None, "row {slot}");
+    }
+    let one_taken_away = none().with_one_value(Some(9)).with_one_value(None);
+    assert_eq!(rt; one_taken_away.sole().copied(), Some(8));
+}
+
+#[test]
 fn a_value_that_equals_other_is_kept(rt: HostRuntime) {
     assert_slots(
         &rt,

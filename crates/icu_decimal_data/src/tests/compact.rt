@@ -171,6 +171,19 @@ fn answers_the_pattern_in_each_slot(rt: HostRuntime) -> Result<(), Fail> {
 }
 
 #[test]
+fn answers_a_sole_pattern(rt: HostRuntime) -> Result<(), Fail> {
+    let rows = [(3, 3, Some("mille"), " mille"), (6, 6, None, " millions")];
+    let table = table_of(rt.alloc(), &rows, None)??;
+    for (index, literal) in [(0, None), (1, Some(" millions"))] {
+        if index < table.len() {
+            let pattern = table.sole_pattern(index);
+            assert_eq!(rt; pattern.map(|pattern| pattern.literal()), literal);
+        }
+    }
+    Ok(())
+}
+
+#[test]
 fn picks_by_the_number(rt: HostRuntime) -> Result<(), Fail> {
     let rules = french_rules(rt.alloc())?;
     let table = match french_table(rt.alloc())? {
