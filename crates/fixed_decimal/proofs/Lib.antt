@@ -9,3 +9,5 @@ pub mod MagnitudePowers
 pub mod Rounded
 pub mod NumberDigits
 pub mod Moved
+pub mod LeftDigits
+pub mod Significands

@@ -1,5 +1,6 @@
 -- The greatest power of ten that a size reaches: laws of the magnitude, on places.
 use Rattle.std.proofs.Common.{◌≡◌, ℕ, zero, suc, ◌+◌, ◌-◌, ◌*◌, ◌^◌, ◌<◌, ◌≤◌, nat_le, ⊎_elim, refl, arith, leb-true, leb-false, ap, ◌∙◌}
+use Rattle.std.proofs.Math.Nat.{mul-le-mul_right}
 use Rattle.std.proofs.lemmas.Nat.{pow-add}
 use Rattle.std.proofs.lemmas.Bool.{cases_Bool, cases_order, cases_lt}
 use Rattle.fixed_decimal.specs.Size.{finest, place_up_to, magnitude}
@@ -53,6 +54,15 @@ magnitude-ten p = magnitude_is (10 ^ p) p (omega arith) (omega (arith, ten_more 
 pub magnitude-zero : magnitude 0 ≡ finest
 unfolding magnitude
 magnitude-zero = refl
+
+-- a size times a power of ten
+pub magnitude_times : (n e : ℕ) → 0 < n → magnitude (n * 10 ^ e) ≡ magnitude n + e
+magnitude_times n e some =
+    let next : 10 ^ (magnitude n + e + 1) ≡ 10 ^ (magnitude n + 1) * 10 ^ e = ap (λ k. 10 ^ k) (omega arith) ∙ pow-add 10 (magnitude n + 1) e in
+    let low = mul-le-mul_right (10 ^ e) (magnitude_low n some) in
+    let above : suc n ≤ 10 ^ (magnitude n + 1) = magnitude_high n some in
+    let high = mul-le-mul_right (10 ^ e) above in
+    magnitude_is (n * 10 ^ e) (magnitude n + e) (omega (arith, low, pow-add 10 (magnitude n) e)) (omega (arith, high, next, ten_pos e))
 
 -- a power of ten is a multiple of each lower one
 pub ten_multiple : (p q : ℕ) → p ≤ q → IsMultiple (10 ^ p) (10 ^ q)

@@ -1,10 +1,9 @@
 -- Each way that rounding goes gives a rounded decimal.
-use Rattle.std.proofs.Common.{◌≡◌, ◌≢◌, ℕ, suc, zero, ◌+◌, ◌-◌, ◌^◌, ◌<◌, ◌≤◌, ◌⊎◌, inl, inr, List, [], ◌∷◌, ◌++◌, length, take, drop, get_or, set, replicate, length-append, refl, sym, ◌∙◌, ap, subst, arith, Result, OnOk, ℤ, pos, negsuc, ◌-ℤ◌, ◌≤ℤ◌}
+use Rattle.std.proofs.Common.{◌≡◌, ◌≢◌, ℕ, suc, zero, ◌+◌, ◌-◌, ◌^◌, ◌<◌, ◌≤◌, ◌⊎◌, inl, inr, List, [], ◌∷◌, ◌++◌, length, take, drop, get_or, replicate, length-append, refl, ◌∙◌, ap, arith, ℤ, pos, negsuc, ◌-ℤ◌, ◌≤ℤ◌}
 use Rattle.std.specs.Int.{int_min, int_max}
 use Rattle.std.proofs.lemmas.Int.{ints, clamps}
-use Rattle.std.proofs.lemmas.List.{length-replicate, length-take-le, take_more, append_assoc, get_or_at, set_at}
+use Rattle.std.proofs.lemmas.List.{length-replicate, length-take-le}
 use Rattle.std.proofs.lemmas.List.Elements.{All-append, All-take, All-push, All-get_or, All-drop, All-replicate, All-cons, All-nil}
-use Rattle.std.proofs.lemmas.Result.{on_ok_weaker}
 use Rattle.fixed_decimal.specs.Unsigned.{Unsigned, IsUnsigned, AreDigits, integer_count}
 use Rattle.fixed_decimal.specs.Size.{weighed, finest, place, ten_to, magnitude_power, size}
 use Rattle.fixed_decimal.specs.Rounding.{RoundsUp, RoundsDown, IsRounded, IsNearestMultiple, RoundsPastLimits, scale_at, zeros_at}
@@ -169,29 +168,7 @@ module _ (ds : List ℕ) (s : ℕ) (p : ℤ) (is : IsUnsigned (record { digits =
         pub past_limits : length ds - s ≡ 32768 → RoundsPastLimits (record { digits = ds; scale = s }) p
         past_limits full = (weighed (finest - scale_at p) (1 ∷ replicate (kept + zeros_at p) 0), near_carry, rw full at reaches)
 
--- the digit before the zeros, raised by one
-pub raise_shape : (ds new : List ℕ) (left m x : ℕ) → new ≡ take left ds ++ replicate m 0 → 0 < left → left ≤ length ds → x ≡ get_or new (left - 1) x → (x ≡ get_or ds (left - 1) 0) × (set new (left - 1) (x + 1) ≡ (take (left - 1) ds ++ (get_or ds (left - 1) 0 + 1) ∷ []) ++ replicate m 0)
-raise_shape ds new left m x e some le read =
-    let front = take (left - 1) ds in
-    let g = get_or ds (left - 1) 0 in
-    let same : left ≡ left - 1 + 1 = omega arith in
-    let last : take left ds ≡ front ++ g ∷ [] = ap (λ n. take n ds) same ∙ take_more ds (left - 1) 0 (omega arith) in
-    let shape : new ≡ front ++ g ∷ replicate m 0 = e ∙ ap (λ l. l ++ replicate m 0) last ∙ append_assoc front (g ∷ []) (replicate m 0) in
-    let l : length front ≡ left - 1 = length-take-le (left - 1) ds (omega arith) in
-    let value : x ≡ g = read ∙ ap (λ l. get_or l (left - 1) x) shape ∙ get_or_at front g (replicate m 0) x (left - 1) l in
-    (value, ap (λ l. set l (left - 1) (x + 1)) shape ∙ set_at front g (replicate m 0) (x + 1) (left - 1) l ∙ ap (λ y. front ++ (y + 1) ∷ replicate m 0) value ∙ sym (append_assoc front ((g + 1) ∷ []) (replicate m 0)))
-
-pub carry_shape : (ds new : List ℕ) (m : ℕ) → new ≡ take 1 ds ++ replicate m 0 → 0 < length ds → set new 0 1 ≡ 1 ∷ replicate m 0
-carry_shape [] new m e some = absurd (omega arith)
-carry_shape (d ∷ ds) new m e some = ap (λ l. set l 0 1) e
-
--- a clause on the digits that a call left, from what they are
-pub on_ok_digits : {T E : Type 0} (r : Result T E) (P : List ℕ → Type 0) (xs ys : List ℕ) → OnOk r (xs ≡ ys) → P ys → OnOk r (P xs)
-on_ok_digits r P xs ys h p = on_ok_weaker r (λ (e : xs ≡ ys). subst P (sym e) p) h
-
-abbrev pub Becomes : List ℕ → ℕ → ℤ → List ℕ → Type 0
-Becomes ds s p ys = IsRounded (record { digits = ds; scale = s }) p (record { digits = ys; scale = scale_at p })
-
+-- where none is left but nines, all were nines
 pub all_nines : (ds : List ℕ) (kept left : ℕ) → left ≤ 0 → take kept ds ≡ take left ds ++ replicate (kept - left) 9 → take kept ds ≡ replicate kept 9
 all_nines ds kept zero h e =
     let same : kept - 0 ≡ kept = omega arith in

@@ -3,7 +3,9 @@ pub mod Size
 pub mod Text
 pub mod Nearest
 pub mod Rounding
+pub mod RoundedDigits
 pub mod Scaling
 pub mod Trimming
+pub mod Significand
 pub mod SignDisplay
 pub mod Laws

@@ -1,8 +1,10 @@
 //! Lists of digits: what they begin and end with, and zeros around them.
 
-ghost use Rattle.std.specs.Prelude.{◌≡◌, ◌≢◌, ◌+◌, ◌-◌, ◌<◌, ◌≤◌, ◌^◌, ◌↔◌, ◌++◌, IsTrue, All, OnOk, OnErr, IsOkUnless, length, take, drop, replicate, slice_index, vec_len, vec_capacity};
+ghost use Rattle.std.specs.Prelude.{◌≡◌, ◌≢◌, ◌+◌, ◌-◌, ◌<◌, ◌≤◌, ◌^◌, ◌↔◌, ◌++◌, IsTrue, All, OnOk, OnErr, IsOkUnless, length, take, drop, replicate, reverse, slice_index};
+ghost use Rattle.smallvec.specs.SmallVec.{HasRoomFor, small_vec_len};
 
 use crate::DecimalError;
+use crate::unsigned::Digits;
 
 /// Whether every digit is 0.
 pub fn is_all_zero(digits: &[u8]) -> bool
@@ -61,11 +63,10 @@ pub fn without_nines(digits: &[u8], kept: usize) -> usize
 }
 
 /// Writes `count` zeros at the end, for which there is room.
-pub fn push_zeros(digits: &mut Vec<u8>, count: usize)
-    requires room { vec_len digits.old + count ≤ vec_capacity digits.old }
+pub fn push_zeros(digits: &mut Digits, count: usize)
+    requires room { HasRoomFor digits.old count }
     ensures zeros { digits.new.items ≡ digits.old.items ++ replicate count 0 }
-    ensures len { vec_len digits.new ≡ vec_len digits.old + count }
-    ensures capacity { vec_capacity digits.new ≡ vec_capacity digits.old }
+    ensures capacity { digits.new.capacity ≡ digits.old.capacity }
 {
     for _ in 0..count {
         digits.push_reserved(0);
@@ -73,8 +74,8 @@ pub fn push_zeros(digits: &mut Vec<u8>, count: usize)
 }
 
 /// Writes zeros before and behind the digits; where memory is refused the digits are as they were.
-pub fn widen(digits: &mut Vec<u8>, front: usize, back: usize) -> Result<(), DecimalError>
-    requires { vec_len digits.old + (front + back) < 2 ^ 32 }
+pub fn widen(digits: &mut Digits, front: usize, back: usize) -> Result<(), DecimalError>
+    requires { small_vec_len digits.old + (front + back) < 2 ^ 32 }
     ensures items { OnOk result (digits.new.items ≡ replicate front 0 ++ (digits.old.items ++ replicate back 0)) }
     ensures memory { IsOkUnless result DecimalError.OutOfMemory }
     ensures unchanged { OnErr result (digits.new.items ≡ digits.old.items) }
@@ -86,16 +87,9 @@ pub fn widen(digits: &mut Vec<u8>, front: usize, back: usize) -> Result<(), Deci
     Ok(())
 }
 
-/// Keeps the first digits and writes zeros behind them; where memory is refused the digits are as they were.
-pub fn resize_digits(digits: &mut Vec<u8>, kept: usize, zeros: usize) -> Result<(), DecimalError>
-    requires within { kept ≤ vec_len digits.old }
-    requires small { kept + zeros < 200000 }
-    ensures items { OnOk result (digits.new.items ≡ take kept digits.old.items ++ replicate zeros 0) }
-    ensures memory { IsOkUnless result DecimalError.OutOfMemory }
-    ensures unchanged { OnErr result (digits.new.items ≡ digits.old.items) }
+/// Turns the order of the digits around.
+pub fn reverse_digits(digits: &mut Digits)
+    ensures { digits.new.items ≡ reverse digits.old.items }
 {
-    digits.reserve((kept + zeros).saturating_sub(digits.len()))?;
-    digits.truncate(kept);
-    push_zeros(digits, zeros);
-    Ok(())
+    digits.reverse();
 }

@@ -7,6 +7,7 @@ ghost use Rattle.std.specs.Cmp.Rules.{comparing};
 ghost use Rattle.std.specs.Ordering.{eq_of_both, on};
 
 use crate::{Decimal, DecimalError, UnsignedDecimal};
+use smallvec::SmallVec;
 use std::alloc::Global;
 
 impl PartialEq for UnsignedDecimal {
@@ -29,7 +30,7 @@ impl UnsignedDecimal {
         ensures equal { IfOk result (λ d. d ≡ self.now) }
         ensures memory { IsOkUnless result DecimalError.OutOfMemory }
     {
-        let digits = Vec::from_slice(alloc, &self.digits)?;
+        let digits = SmallVec::from_slice(alloc, &self.digits)?;
         Ok(UnsignedDecimal {
             digits,
             scale: self.scale,

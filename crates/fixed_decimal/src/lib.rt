@@ -12,6 +12,7 @@ mod reading;
 mod rounding;
 mod scaling;
 mod signed;
+mod significand;
 mod signs;
 #[cfg(test)]
 mod tests;

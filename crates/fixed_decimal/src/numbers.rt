@@ -4,7 +4,9 @@ ghost use Rattle.std.specs.Prelude.{◌≡◌, ◌*◌, IfOk, IsOkUnless, pos};
 ghost use Rattle.fixed_decimal.specs.Unsigned.{IsUnsigned, low, high, one};
 ghost use Rattle.fixed_decimal.specs.Size.{size, ten_to, magnitude_power};
 
+use crate::digits::reverse_digits;
 use crate::{DecimalError, UnsignedDecimal};
+use smallvec::SmallVec;
 use std::alloc::Global;
 
 /// How many digits the greatest u64 has.
@@ -19,14 +21,14 @@ impl UnsignedDecimal {
         ensures valid { IfOk result (λ d. IsUnsigned d) }
         ensures memory { IsOkUnless result DecimalError.OutOfMemory }
     {
-        let mut digits = Vec::with_capacity(alloc, U64_DIGITS)?;
+        let mut digits = SmallVec::with_capacity(alloc, U64_DIGITS)?;
         digits.push_reserved((value % 10) as u8);
         let mut rest = value / 10;
         while rest > 0 {
             digits.push_reserved((rest % 10) as u8);
             rest /= 10;
         }
-        digits.reverse();
+        reverse_digits(&mut digits);
         Ok(UnsignedDecimal { digits, scale: 0 })
     }
 
@@ -35,7 +37,7 @@ impl UnsignedDecimal {
         ensures one { IfOk result (λ d. d ≡ one) }
         ensures memory { IsOkUnless result DecimalError.OutOfMemory }
     {
-        let mut digits = Vec::with_capacity(alloc, 1)?;
+        let mut digits = SmallVec::with_capacity(alloc, 1)?;
         digits.push_reserved(1);
         Ok(UnsignedDecimal { digits, scale: 0 })
     }

@@ -1,12 +1,15 @@
 //! Reading the text form of a decimal.
 
-ghost use Rattle.std.specs.Prelude.{◌≡◌, ◌≢◌, ◌+◌, ◌<◌, ◌≤◌, ◌↔◌, ◌++◌, length, slice_index, vec_len, vec_capacity, max, IfOk, IfSome, IfNone, IsErrOf, List, ℕ};
+ghost use Rattle.std.specs.Prelude.{◌≡◌, ◌≢◌, ◌+◌, ◌<◌, ◌≤◌, ◌↔◌, ◌++◌, length, slice_index, max, IfOk, IfSome, IfNone, IsErrOf, List, ℕ};
 ghost use Rattle.std.specs.List.{prefix_len, AllPass};
 ghost use Rattle.std.specs.Char.{is_ascii_digit};
+ghost use Rattle.smallvec.specs.SmallVec.{HasRoomFor, small_vec_len};
 ghost use Rattle.fixed_decimal.specs.Unsigned.{IsUnsigned};
 ghost use Rattle.fixed_decimal.specs.Text.{sign_text, digit_values, IsNumeral, integer_of, Reads, ReadsNothing, ReadsPastLimits};
 
+use crate::unsigned::Digits;
 use crate::{Decimal, DecimalError, Sign, UnsignedDecimal};
+use smallvec::SmallVec;
 use std::alloc::{AllocError, Global};
 
 /// The most digits that may stand before the point, and behind it.
@@ -95,7 +98,7 @@ fn from_digits_text(
     ensures scale { IfOk result (λ d. d.scale ≡ length after.now) }
     ensures valid { IfOk result (λ d. IsUnsigned d) }
 {
-    let mut digits = Vec::with_capacity(alloc, before.len().max(1) + after.len())?;
+    let mut digits = SmallVec::with_capacity(alloc, before.len().max(1) + after.len())?;
     if before.is_empty() {
         digits.push_reserved(0);
     }
@@ -108,12 +111,12 @@ fn from_digits_text(
 }
 
 /// Appends the digits that a text writes, for which there is room.
-fn push_values(mut digits: Vec<u8>, text: &[u8]) -> Vec<u8>
-    requires room { vec_len digits + length text.now ≤ vec_capacity digits }
+fn push_values(mut digits: Digits, text: &[u8]) -> Digits
+    requires room { HasRoomFor digits (length text.now) }
     requires written { AllPass is_ascii_digit text.now }
     ensures values { result.items ≡ digits.items ++ digit_values text.now }
-    ensures len { vec_len result ≡ vec_len digits + length text.now }
-    ensures capacity { vec_capacity result ≡ vec_capacity digits }
+    ensures len { small_vec_len result ≡ small_vec_len digits + length text.now }
+    ensures capacity { result.capacity ≡ digits.capacity }
 {
     for i in 0..text.len() {
         digits.push_reserved(text[i] - b'0');

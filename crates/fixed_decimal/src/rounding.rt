@@ -1,68 +1,124 @@
 //! Rounding to a multiple of a power of ten, half to even.
 
-ghost use Rattle.std.specs.Prelude.{◌≡◌, ◌≢◌, ◌<◌, ◌≤◌, ◌^◌, MatchBool, All, length, take, drop, OnOk, OnErr, IfOk, IfErr, IfNone, IfSome, IsErrOf, pos, negsuc, ◌-ℤ◌, ◌≤ℤ◌};
+ghost use Rattle.std.specs.Prelude.{◌≡◌, ◌≢◌, ◌+◌, ◌<◌, ◌≤◌, ◌^◌, ◌++◌, ◌↔◌, None, MatchBool, All, length, take, drop, replicate, option_to_list, OnOk, OnErr, IfOk, IfErr, IfNone, IfSome, IsErrAnd, pos, negsuc, ◌-ℤ◌, ◌≤ℤ◌};
+ghost use Rattle.smallvec.specs.SmallVec.{HasRoomFor, small_vec_len};
 ghost use Rattle.fixed_decimal.specs.Unsigned.{IsUnsigned};
 ghost use Rattle.fixed_decimal.specs.Size.{weighed};
 ghost use Rattle.fixed_decimal.specs.Rounding.{IsRounded, RoundsPastLimits, RoundsUp, RoundsDown, scale_at, zeros_at};
+ghost use Rattle.fixed_decimal.specs.RoundedDigits.{digits_left};
 
-use crate::digits::{is_all_zero, resize_digits, without_nines};
+use crate::digits::{is_all_zero, push_zeros, without_nines};
+use crate::unsigned::Digits;
 use crate::{DecimalError, UnsignedDecimal};
+use std::alloc::AllocError;
+
+/// Digits as rounding leaves them: the first ones of a value, then one that a carry raised, then zeros.
+#[derive(Clone, Copy)]
+pub(crate) struct RoundedDigits {
+    pub(crate) kept: usize,
+    pub(crate) raised: Option<u8>,
+    pub(crate) zeros: usize,
+}
 
 impl UnsignedDecimal {
     /// The nearest multiple of ten to the power, the even one of two equally near.
     ///
-    /// Where a carry would need power 32768 the answer is `Limit`; a value that is refused is handed back.
+    /// Where a carry would need power 32768 the answer is `Limit`, before memory is asked for; a value that is refused
+    /// is handed back.
     pub fn rounded(mut self, power: i16) -> Result<Self, (Self, DecimalError)>
         ensures rounded { IfOk result (λ y. IsRounded self power y) }
         ensures valid { IfOk result (λ y. IsUnsigned y) }
-        ensures within { OnOk result (¬ (RoundsPastLimits self power)) }
-        ensures limit { IfErr result (λ e. e.1 ≡ DecimalError.Limit → RoundsPastLimits self power) }
+        ensures limit { IsErrAnd result (λ e. e.1 ≡ DecimalError.Limit) ↔ RoundsPastLimits self power }
         ensures no_syntax { IfErr result (λ e. e.1 ≢ DecimalError.Syntax) }
         ensures handed_back { IfErr result (λ e. e.0 ≡ self) }
     {
-        match round_digits(&mut self.digits, self.scale, power) {
+        let Some(rounded) = round_digits(&self.digits, self.scale, power) else {
+            return Err((self, DecimalError::Limit));
+        };
+        match leave(&mut self.digits, rounded) {
             Ok(()) => {
                 self.scale = scale_below(power);
                 Ok(self)
             }
-            Err(error) => Err((self, error)),
+            Err(_) => Err((self, DecimalError::OutOfMemory)),
         }
     }
 }
 
-/// Rounds digits of which `scale` stand below power 0.
-fn round_digits(digits: &mut Vec<u8>, scale: u16, power: i16) -> Result<(), DecimalError>
-    requires { IsUnsigned (record { digits = digits.old.items; scale = scale }) }
-    ensures valid { OnOk result (IsUnsigned (record { digits = digits.new.items; scale = scale_at power })) }
-    ensures rounded { OnOk result (IsRounded (record { digits = digits.old.items; scale = scale }) power (record { digits = digits.new.items; scale = scale_at power })) }
-    ensures limit { IsErrOf result DecimalError.Limit → RoundsPastLimits (record { digits = digits.old.items; scale = scale }) power }
-    ensures no_syntax { ¬ (IsErrOf result DecimalError.Syntax) }
-    ensures unchanged { OnErr result (digits.new.items ≡ digits.old.items) }
+/// What rounding leaves of digits of which `scale` stand below power 0; none where a carry would need power 32768.
+pub(crate) fn round_digits(digits: &[u8], scale: u16, power: i16) -> Option<RoundedDigits>
+    requires { IsUnsigned (record { digits = digits.now; scale = scale }) }
+    ensures kept { IfSome result (λ r. r.kept ≤ length digits.now) }
+    ensures small { IfSome result (λ r. r.kept + r.zeros < 200000) }
+    ensures raised { IfSome result (λ r. IfSome r.raised (λ d. d ≢ 0)) }
+    ensures valid { IfSome result (λ r. IsUnsigned (record { digits = digits_left digits.now r.kept r.raised r.zeros; scale = scale_at power })) }
+    ensures rounded { IfSome result (λ r. IsRounded (record { digits = digits.now; scale = scale }) power (record { digits = digits_left digits.now r.kept r.raised r.zeros; scale = scale_at power })) }
+    ensures none { IfNone result (RoundsPastLimits (record { digits = digits.now; scale = scale }) power) }
 {
     let count = digits.len();
     let integer_count = count - scale as usize;
     let zeros = zeros_below(power);
     let Some(kept) = kept_count(integer_count, power) else {
-        return resize_digits(digits, 0, zeros);
+        return Some(cut(0, zeros));
     };
     if kept >= count {
-        return resize_digits(digits, count, kept - count);
+        return Some(cut(count, kept - count));
     }
     if !rounds_up(digits, kept) {
-        return resize_digits(digits, kept, zeros);
+        return Some(cut(kept, zeros));
     }
     let left = without_nines(digits, kept);
     if left > 0 {
-        resize_digits(digits, left, kept - left + zeros)?;
-        digits[left - 1] += 1;
-        return Ok(());
+        return Some(RoundedDigits {
+            kept: left - 1,
+            raised: Some(digits[left - 1] + 1),
+            zeros: kept - left + zeros,
+        });
     }
     if integer_count == 32768 {
-        return Err(DecimalError::Limit);
+        return None;
     }
-    resize_digits(digits, 1, kept + zeros)?;
-    digits[0] = 1;
+    Some(RoundedDigits {
+        kept: 0,
+        raised: Some(1),
+        zeros: kept + zeros,
+    })
+}
+
+/// The first digits and then zeros, none of them raised.
+pub(crate) fn cut(kept: usize, zeros: usize) -> RoundedDigits
+    ensures { result ≡ record { kept = kept; raised = None; zeros = zeros } }
+{
+    RoundedDigits {
+        kept,
+        raised: None,
+        zeros,
+    }
+}
+
+/// Leaves of digits what rounding leaves; where memory is refused they are as they were.
+fn leave(digits: &mut Digits, rounded: RoundedDigits) -> Result<(), AllocError>
+    requires kept { rounded.kept ≤ small_vec_len digits.old }
+    requires small { rounded.kept + rounded.zeros < 200000 }
+    ensures items { OnOk result (digits.new.items ≡ digits_left digits.old.items rounded.kept rounded.raised rounded.zeros) }
+    ensures unchanged { OnErr result (digits.new.items ≡ digits.old.items) }
+{
+    let count = rounded.kept + rounded.zeros + 1;
+    digits.reserve(count.saturating_sub(digits.len()))?;
+    digits.truncate(rounded.kept);
+    push_rest(digits, rounded);
     Ok(())
+}
+
+/// Writes what stands behind the first digits, for which there is room.
+pub(crate) fn push_rest(digits: &mut Digits, rounded: RoundedDigits)
+    requires { HasRoomFor digits.old (rounded.zeros + 1) }
+    ensures { digits.new.items ≡ (digits.old.items ++ option_to_list rounded.raised) ++ replicate rounded.zeros 0 }
+{
+    if let Some(digit) = rounded.raised {
+        digits.push_reserved(digit);
+    }
+    push_zeros(digits, rounded.zeros);
 }
 
 /// Whether the digits from index `kept` on round the digits before it up, half to even.
@@ -95,7 +151,7 @@ fn zeros_below(power: i16) -> usize
 }
 
 /// How many digits stand below power 0 in a number rounded at the power.
-fn scale_below(power: i16) -> u16
+pub(crate) fn scale_below(power: i16) -> u16
     ensures { result ≡ scale_at power }
 {
     (-(power.min(0) as i32)) as u16

@@ -1,6 +1,6 @@
 //! Decimals with a sign.
 
-ghost use Rattle.std.specs.Prelude.{◌≡◌, ◌≢◌, ◌*◌, ◌↔◌, ◌==◌, ◌<ℤ◌, IfOk, IfErr, OnOk, OnErr, IsErrOf, IsOkUnless, MatchBool, pos, unsigned_abs, int_lt};
+ghost use Rattle.std.specs.Prelude.{◌≡◌, ◌≢◌, ◌*◌, ◌↔◌, ◌==◌, ◌<ℤ◌, IfOk, IfErr, OnOk, OnErr, IsErrAnd, IsErrOf, IsOkUnless, MatchBool, pos, unsigned_abs, int_lt};
 ghost use Rattle.fixed_decimal.specs.Unsigned.{IsUnsigned, low, high};
 ghost use Rattle.fixed_decimal.specs.Size.{size, ten_to, magnitude_power};
 ghost use Rattle.fixed_decimal.specs.Rounding.{IsRounded, RoundsPastLimits};
@@ -67,12 +67,12 @@ impl Decimal {
 
     /// The nearest multiple of ten to the power, the even one of two equally near, the sign kept.
     ///
-    /// Where a carry would need power 32768 the answer is `Limit`; a value that is refused is handed back.
+    /// Where a carry would need power 32768 the answer is `Limit`, before memory is asked for; a value that is refused
+    /// is handed back.
     pub fn rounded(self, power: i16) -> Result<Self, (Self, DecimalError)>
         ensures rounded { IfOk result (λ y. IsRounded self.absolute power y.absolute) }
         ensures sign { IfOk result (λ y. y.sign ≡ self.sign) }
-        ensures within { OnOk result (¬ (RoundsPastLimits self.absolute power)) }
-        ensures limit { IfErr result (λ e. e.1 ≡ DecimalError.Limit → RoundsPastLimits self.absolute power) }
+        ensures limit { IsErrAnd result (λ e. e.1 ≡ DecimalError.Limit) ↔ RoundsPastLimits self.absolute power }
         ensures no_syntax { IfErr result (λ e. e.1 ≢ DecimalError.Syntax) }
         ensures handed_back { IfErr result (λ e. e.0 ≡ self) }
     {

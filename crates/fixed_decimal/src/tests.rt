@@ -1,3 +1,5 @@
+mod significands;
+
 use crate::{Decimal, DecimalError, Sign, SignDisplay, UnsignedDecimal};
 use std::alloc::{AllocError, Global};
 use std::process::Abort;
@@ -138,6 +140,7 @@ fn rounded(number: UnsignedDecimal, power: i16) -> Result<UnsignedDecimal, Decim
 #[test]
 fn rounds_half_to_even(rt: HostRuntime) {
     for (text, power, want) in [
+        ("5", 20, "00000000000000000000"),
         ("1650", 2, "1600"),
         ("1.25", -1, "1.2"),
         ("1.35", -1, "1.4"),
@@ -199,6 +202,7 @@ fn scaled(number: UnsignedDecimal, power: i16) -> Result<UnsignedDecimal, Decima
 fn scales_by_powers_of_ten(rt: HostRuntime) {
     let alloc = rt.alloc();
     for (text, power, want) in [
+        ("1", 20, "100000000000000000000"),
         ("1", 3, "1000"),
         ("200050", -2, "2000.50"),
         ("1.0", 1, "10"),
@@ -230,34 +234,39 @@ fn scales_and_rounds_with_a_sign(rt: HostRuntime) -> Result<(), Fail> {
     };
     assert!(rt; decimal.multiply_pow10(32767) == Err(DecimalError::Limit));
     assert!(rt; is_written(&decimal.absolute, "10"));
-    if decimal.multiply_pow10(-3).is_err() {
+    if decimal.multiply_pow10(-18).is_err() {
         assert!(rt; is_written(&decimal.absolute, "10"));
-        assert!(rt; decimal.multiply_pow10(-3).is_ok());
+        assert!(rt; decimal.multiply_pow10(-18).is_ok());
     }
     assert_eq!(rt; decimal.sign, Sign::Negative);
-    assert!(rt; is_written(&decimal.absolute, "0.010"));
-    let rounded = match decimal.rounded(-2) {
+    assert!(rt; is_written(&decimal.absolute, "0.000000000000000010"));
+    let rounded = match decimal.rounded(-40) {
         Ok(rounded) => Ok(rounded),
-        Err((decimal, _)) => decimal.rounded(-2),
+        Err((decimal, _)) => decimal.rounded(-40),
     };
     let Ok(rounded) = rounded else {
-        panic!(rt; "-0.010 at -2");
+        panic!(rt; "-0.000000000000000010 at -40");
     };
     assert_eq!(rt; rounded.sign, Sign::Negative);
-    assert!(rt; is_written(&rounded.absolute, "0.01"));
+    assert!(rt;
+        is_written(
+            &rounded.absolute,
+            "0.0000000000000000100000000000000000000000"
+        )
+    );
     Ok(())
 }
 
 #[test]
 fn grows_again_after_a_refusal(rt: HostRuntime) {
     let alloc = rt.alloc();
-    match rounded(number(&rt, alloc, "5"), 6) {
-        Ok(number) => assert!(rt; is_written(&number, "000000")),
-        Err(_) => panic!(rt; "5 at 6"),
+    match rounded(number(&rt, alloc, "5"), 18) {
+        Ok(number) => assert!(rt; is_written(&number, "000000000000000000")),
+        Err(_) => panic!(rt; "5 at 18"),
     }
-    match scaled(number(&rt, alloc, "1"), 3) {
-        Ok(number) => assert!(rt; is_written(&number, "1000")),
-        Err(_) => panic!(rt; "1 by 3"),
+    match scaled(number(&rt, alloc, "1"), 18) {
+        Ok(number) => assert!(rt; is_written(&number, "1000000000000000000")),
+        Err(_) => panic!(rt; "1 by 18"),
     }
 }
 
@@ -351,6 +360,7 @@ fn makes_whole_numbers(rt: HostRuntime) {
 fn compares_sign_range_and_digits(rt: HostRuntime) {
     let alloc = rt.alloc();
     for (left, right, want) in [
+        ("1234567890123456789", "1234567890123456789", true),
         ("1", "1", true),
         ("1.0", "1", false),
         ("01", "1", false),

@@ -4,8 +4,12 @@ ghost use Rattle.std.specs.Prelude.{◌≡◌, ◌<◌, ◌↔◌, All, IsTrue};
 ghost use Rattle.std.specs.Range.{range_inclusive_start, range_inclusive_end};
 
 use crate::digits::{digit_or_zero, is_all_zero, leading_zeros};
+use smallvec::SmallVec;
 use std::marker::Model;
 use std::ops::RangeInclusive;
+
+/// The digits of a decimal: short numbers keep them in the value, and take no memory.
+pub(crate) type Digits = SmallVec<u8, 16>;
 
 /// A decimal without a sign: a written range of powers that includes 0, and a digit at each power of the range.
 ///
@@ -13,7 +17,7 @@ use std::ops::RangeInclusive;
 #[derive(Debug, Drop)]
 pub struct UnsignedDecimal {
     /// The digits, that of the greatest power first.
-    pub(crate) digits: Vec<u8>,
+    pub(crate) digits: Digits,
     /// How many of them stand below power 0.
     pub(crate) scale: u16,
 }

@@ -9,6 +9,7 @@ use Rattle.fixed_decimal.specs.Trimming.{IsTrimmed}
 use Rattle.fixed_decimal.specs.Unsigned.{IsUnsigned, Unsigned, high, one}
 use Rattle.fixed_decimal.specs.Nearest.{IsMultiple}
 use Rattle.fixed_decimal.proofs.Weights.{ten_pos, ten_mono, same_power, weighed_units}
+use Rattle.fixed_decimal.proofs.Nearness.{nearest_some}
 use Rattle.fixed_decimal.proofs.MagnitudeLemmas.{magnitude_low, magnitude_monotone, magnitude-ten, ten_multiple}
 use Rattle.icu_decimal_data.specs.CompactTable.{TableEntry, IsCompactTable, type_place, entry_for, next_entry, entry_at, exponent_of, exponent_for}
 use Rattle.icu_decimal.specs.CompactNumber.{rounding_place, rounding_place_for, ShowsPastLimits}
@@ -28,6 +29,13 @@ magnitude_rounded exponent (suc k) y r =
 -- a size whose rounding passes the limits of a decimal is displayed past them
 pub past_limits_from_rounded : (table : List TableEntry) (x : ℕ) → RoundsPast (rounding_place_for table (magnitude x)) x → ShowsPastLimits table x
 past_limits_from_rounded table x (y, r, large) = (y, nearest_compact_from_rounded table x y r, large)
+
+-- and one that is displayed past them is rounded past them
+pub rounded_from_past_limits : (table : List TableEntry) (x : ℕ) → ShowsPastLimits table x → RoundsPast (rounding_place_for table (magnitude x)) x
+rounded_from_past_limits table x (z, near, large) =
+    let rounded = nearest_some (10 ^ rounding_place_for table (magnitude x)) x (ten_pos (rounding_place_for table (magnitude x))) in
+    let same : z ≡ rounded.0 = nearest_compact_same table x rounded.0 z (nearest_compact_from_rounded table x rounded.0 rounded.1) near in
+    (rounded.0, rounded.1, omega arith)
 
 -- and one that is rounded within the limits is displayed within them
 pub within_limits_from_rounded : (table : List TableEntry) (x y : ℕ) → IsRoundedAt (rounding_place_for table (magnitude x)) x y → ¬ (RoundsPast (rounding_place_for table (magnitude x)) x) → ¬ (ShowsPastLimits table x)

@@ -1,6 +1,6 @@
 //! The compact formatter.
 
-ghost use Rattle.std.specs.Prelude.{◌≡◌, ◌↔◌, ◌<◌, ℕ, List, length, slice_get, IfSome, IfOk, IfErr, IsOk, OnOk, IsErrOf};
+ghost use Rattle.std.specs.Prelude.{◌≡◌, ◌↔◌, ◌<◌, ℕ, List, length, slice_get, IfSome, IfOk, IfErr, IsOk, IsErrOf};
 ghost use Rattle.std.specs.String.{string_bytes};
 ghost use Rattle.fixed_decimal.specs.Size.{place, size};
 ghost use Rattle.icu_base.specs.Elements.{selected};
@@ -65,15 +65,14 @@ impl CompactDecimalFormatter {
     /// pattern: significand times ten to the exponent is the compact number nearest to the input among those of all
     /// magnitudes, of two equally near the even one.
     ///
-    /// `Overflow` where that number is ten to the power 32768 or more.
+    /// `Overflow` exactly where that number is ten to the power 32768 or more; memory is asked for after that.
     pub fn format<'l>(
         &'l self,
         alloc: Global,
         value: &Decimal,
     ) -> Result<FormattedSign<'l, FormattedUnsignedCompactDecimal<'l>>, FormatError>
         ensures nearest { IfOk result (λ r. IsCompactFormat self.now value.now.sign value.now.absolute (significand_of r.value) r.value.exponent (signed_compact_shown r)) }
-        ensures within { OnOk result (¬ (ShowsPastLimits self.now.table (size value.now.absolute))) }
-        ensures overflow { IsErrOf result FormatError.Overflow → ShowsPastLimits self.now.table (size value.now.absolute) }
+        ensures overflow { IsErrOf result FormatError.Overflow ↔ ShowsPastLimits self.now.table (size value.now.absolute) }
     {
         let compacted = nearest_compact(alloc, &self.patterns, &value.absolute)?;
         let pattern = self.pattern_of(compacted.index, &compacted.significand);
@@ -90,8 +89,7 @@ impl CompactDecimalFormatter {
     /// The text of the nearest compact number.
     pub fn format_to_string(&self, alloc: Global, value: &Decimal) -> Result<String, FormatError>
         ensures nearest { IfOk result (λ t. (significand : _) × (exponent : ℕ) × (events : List Event) × IsCompactFormat self.now value.now.sign value.now.absolute significand exponent events × (string_bytes t ≡ text_of events)) }
-        ensures within { OnOk result (¬ (ShowsPastLimits self.now.table (size value.now.absolute))) }
-        ensures overflow { IsErrOf result FormatError.Overflow → ShowsPastLimits self.now.table (size value.now.absolute) }
+        ensures overflow { IsErrOf result FormatError.Overflow ↔ ShowsPastLimits self.now.table (size value.now.absolute) }
     {
         let formatted = self.format(alloc, value)?;
         match formatted.write_to_string(alloc) {

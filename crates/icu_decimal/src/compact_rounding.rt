@@ -1,10 +1,10 @@
 //! The nearest compact number of a decimal: the entry by which it is displayed, and its significand.
 
-ghost use Rattle.std.specs.Prelude.{◌≡◌, ℕ, ◌+◌, ◌*◌, ◌^◌, ◌≤◌, ◌<◌, ◌⊎◌, length, slice_get, IfSome, IfNone, IfOk, OnOk, IsErrOf, IsOkUnless, ℤ, pos, ◌-ℤ◌, ◌≤ℤ◌, ◌<ℤ◌};
+ghost use Rattle.std.specs.Prelude.{◌≡◌, ℕ, ◌+◌, ◌*◌, ◌^◌, ◌≤◌, ◌<◌, ◌⊎◌, length, slice_get, IfSome, IfNone, IfOk, IsErrOf, ◌↔◌, ℤ, pos, negsuc, ◌-ℤ◌, ◌≤ℤ◌, ◌<ℤ◌};
 ghost use Rattle.std.specs.Int.{int_max};
 ghost use Rattle.fixed_decimal.specs.Size.{place, magnitude, magnitude_power, size};
 ghost use Rattle.fixed_decimal.specs.Trimming.{IsTrimmed};
-ghost use Rattle.fixed_decimal.specs.Unsigned.{IsUnsigned, low, high};
+ghost use Rattle.fixed_decimal.specs.Unsigned.{IsUnsigned, high};
 ghost use Rattle.icu_decimal_data.specs.CompactTable.{IsIndex, entry_at, next_entry, index_after, exponent_of};
 ghost use Rattle.icu_decimal.specs.CompactNumber.{rounding_place, ShowsPastLimits};
 ghost use Rattle.icu_decimal.specs.Displayed.{carried, IsDisplayed};
@@ -33,32 +33,27 @@ pub(crate) fn nearest_compact<P: PatternBackend>(
     ensures displayed { IfOk result (λ r. (y : ℕ) × IsDisplayed table.now value.now y (entry_at table.now r.index) r.significand) }
     ensures exponent { IfOk result (λ r. r.exponent ≡ exponent_of (entry_at table.now r.index)) }
     ensures index { IfOk result (λ r. IsIndex table.now r.index) }
-    ensures within { OnOk result (¬ (ShowsPastLimits table.now (size value.now))) }
-    ensures overflow { IsErrOf result FormatError.Overflow → ShowsPastLimits table.now (size value.now) }
+    ensures overflow { IsErrOf result FormatError.Overflow ↔ ShowsPastLimits table.now (size value.now) }
 {
     let power = value.nonzero_magnitude_start();
     let index = table.entry_index(power as i32);
     let exponent = exponent_or_zero(table, index);
-    let copy = value.copy(alloc).map_err(|_| FormatError::OutOfMemory)?;
-    let rounded = rounded_for(copy, power, exponent)?;
-    let to = rounded.nonzero_magnitude_start();
-    match carried_index(table, index, power, to) {
-        Some(next) => {
-            let significand = UnsignedDecimal::one(alloc).map_err(|_| FormatError::OutOfMemory)?;
-            Ok(Compacted {
-                significand,
-                exponent: table.exponent(next),
-                index: Some(next),
-            })
-        }
-        None => {
-            let significand = divided(rounded, exponent)?;
-            Ok(Compacted {
-                significand,
-                exponent,
-                index,
-            })
-        }
+    let significand = significand_at(alloc, value, power, exponent)?;
+    let to = significand.nonzero_magnitude_start() as i32 + exponent as i32;
+    let Some(next) = carried_index(table, index, power, to) else {
+        return Ok(Compacted {
+            significand,
+            exponent,
+            index,
+        });
+    };
+    match UnsignedDecimal::one(alloc) {
+        Ok(significand) => Ok(Compacted {
+            significand,
+            exponent: table.exponent(next),
+            index: Some(next),
+        }),
+        Err(_) => Err(FormatError::OutOfMemory),
     }
 }
 
@@ -97,18 +92,19 @@ fn carried_index<P: PatternBackend>(
     table: &CompactPatterns<P>,
     index: Option<usize>,
     power: i16,
-    to: i16,
+    to: i32,
 ) -> Option<usize>
     requires index { IsIndex table.now index }
+    requires to { negsuc 32767 ≤ℤ to }
     requires next { slice_get table.now (index_after index) ≡ next_entry table.now (place power) }
     ensures entry { entry_at table.now result ≡ carried table.now (place power) (place to) }
     ensures index { IsIndex table.now result }
 {
-    if to as i32 != power as i32 + 1 {
+    if to != power as i32 + 1 {
         return None;
     }
     let next = next_of(table, index)?;
-    if table.exponent(next) as i16 == to {
+    if table.exponent(next) as i32 == to {
         Some(next)
     } else {
         None
@@ -131,47 +127,33 @@ fn round_power(exponent: u8, magnitude: i16) -> i32
     }
 }
 
-/// The number rounded where its magnitude and the exponent there say.
-fn rounded_for(
-    value: UnsignedDecimal,
+/// The significand, over ten to the exponent, of the number rounded where its magnitude and the exponent there say.
+fn significand_at(
+    alloc: Global,
+    value: &UnsignedDecimal,
     power: i16,
     exponent: u8,
 ) -> Result<UnsignedDecimal, FormatError>
-    requires power { power ≡ magnitude_power (size value) }
-    requires valid { IsUnsigned value }
+    requires power { power ≡ magnitude_power (size value.now) }
+    requires valid { IsUnsigned value.now }
     requires exponent { (exponent ≡ 0) ⊎ (pos exponent ≤ℤ power) }
-    ensures nearest { IfOk result (λ y. IsRoundedAt (rounding_place exponent (magnitude (size value))) (size value) (size y)) }
-    ensures high { IfOk result (λ y. high y ≡ int_max (high value) (magnitude_power (size y))) }
-    ensures low { IfOk result (λ y. (exponent ≡ 0) ⊎ (low y ≡ pos 0)) }
-    ensures within { OnOk result (¬ (RoundsPast (rounding_place exponent (magnitude (size value))) (size value))) }
-    ensures overflow { IsErrOf result FormatError.Overflow → RoundsPast (rounding_place exponent (magnitude (size value))) (size value) }
+    ensures nearest { IfOk result (λ s. IsRoundedAt (rounding_place exponent (magnitude (size value.now))) (size value.now) (size s * 10 ^ exponent)) }
+    ensures high { IfOk result (λ s. high s ≡ int_max (pos 0) (int_max (high value.now) (magnitude_power (size s * 10 ^ exponent)) -ℤ pos exponent)) }
+    ensures trimmed { IfOk result (λ s. IsTrimmed s) }
+    ensures valid { IfOk result (λ s. IsUnsigned s) }
+    ensures overflow { IsErrOf result FormatError.Overflow ↔ RoundsPast (rounding_place exponent (magnitude (size value.now))) (size value.now) }
 {
     let at = round_power(exponent, power);
     if at < -32768 {
-        return Ok(value);
+        return match value.copy(alloc) {
+            Ok(copy) => Ok(copy.trimmed_end()),
+            Err(_) => Err(FormatError::OutOfMemory),
+        };
     }
-    match value.rounded(at as i16) {
-        Ok(rounded) => Ok(rounded),
-        Err((_, DecimalError::Limit)) => Err(FormatError::Overflow),
-        Err((_, DecimalError::OutOfMemory)) => Err(FormatError::OutOfMemory),
-        Err((_, DecimalError::Syntax)) => unreachable!(),
-    }
-}
-
-/// The number by 10 to the exponent, without zeros at its end below power 0.
-fn divided(value: UnsignedDecimal, exponent: u8) -> Result<UnsignedDecimal, FormatError>
-    requires valid { IsUnsigned value }
-    requires low { (exponent ≡ 0) ⊎ (low value ≡ pos 0) }
-    ensures size { IfOk result (λ s. size s * 10 ^ exponent ≡ size value) }
-    ensures high { IfOk result (λ s. high s ≡ int_max (pos 0) (high value -ℤ pos exponent)) }
-    ensures trimmed { IfOk result (λ s. IsTrimmed s) }
-    ensures valid { IfOk result (λ s. IsUnsigned s) }
-    ensures memory { IsOkUnless result FormatError.OutOfMemory }
-{
-    match value.multiplied_pow10(-(exponent as i16)) {
-        Ok(moved) => Ok(moved.trimmed_end()),
-        Err((_, DecimalError::OutOfMemory)) => Err(FormatError::OutOfMemory),
-        Err((_, DecimalError::Limit)) => unreachable!(),
-        Err((_, DecimalError::Syntax)) => unreachable!(),
+    match value.rounded_significand(alloc, at as i16, exponent) {
+        Ok(significand) => Ok(significand),
+        Err(DecimalError::Limit) => Err(FormatError::Overflow),
+        Err(DecimalError::OutOfMemory) => Err(FormatError::OutOfMemory),
+        Err(DecimalError::Syntax) => unreachable!(),
     }
 }

@@ -1,5 +1,5 @@
-use Rattle.std.proofs.Common.{◌≡◌, ◌+◌, ◌≤◌, ◌++◌, replicate, vec_len, vec_capacity}
+use Rattle.std.proofs.Common.{◌≡◌, ◌++◌, replicate}
 use Rattle.fixed_decimal.proofs.digits.push_zeros.Given as goal
 
 abbrev pub invariant-loop : goal.invariant-loop
-invariant-loop l = (l.digits.items ≡ l.initial.digits.items ++ replicate l.counter 0) × (vec_len l.digits ≡ vec_len l.initial.digits + l.counter) × (vec_capacity l.initial.digits ≤ vec_capacity l.digits)
+invariant-loop l = (l.digits.items ≡ l.initial.digits.items ++ replicate l.counter 0) × (l.digits.capacity ≡ l.initial.digits.capacity)

@@ -8,7 +8,7 @@ use Rattle.fixed_decimal.proofs.unsigned.UnsignedDecimal.from_u64.Goals as goal
 pub loop-rest-init : goal.loop-rest-init
 loop-rest-init c =
     let e : c.push_reserved.new.self.items ≡ c.args.value % 10 ∷ [] = grind (arith, common_steps) in
-    rw e (split_start c.args.value, omega arith, omega (arith, c.in_ok-digits.ensures.exact))
+    rw e (split_start c.args.value, omega arith, omega (arith, c.in_ok-digits.ensures.capacity))
 
 pub push_reserved-requires-in-loop-rest : goal.push_reserved-requires-in-loop-rest
 push_reserved-requires-in-loop-rest c =
@@ -25,13 +25,13 @@ loop-rest-preserved c =
     )
 
 pub invariant_of-result : goal.invariant_of-result
-invariant_of-result c = split_valid c.args.value c.loop-rest.rest c.loop-rest.digits.items c.reverse.new.self.items c.reverse.ensures.items c.loop-rest.invariant.1 c.loop-rest.invariant.0
+invariant_of-result c = split_valid c.args.value c.loop-rest.rest c.loop-rest.digits.items c.reverse_digits.new.digits.items c.reverse_digits.ensures c.loop-rest.invariant.1 c.loop-rest.invariant.0
 
 pub returns-clause-valid : goal.returns-clause-valid
-returns-clause-valid c = split_valid c.args.value c.loop-rest.rest c.loop-rest.digits.items c.reverse.new.self.items c.reverse.ensures.items c.loop-rest.invariant.1 c.loop-rest.invariant.0
+returns-clause-valid c = split_valid c.args.value c.loop-rest.rest c.loop-rest.digits.items c.reverse_digits.new.digits.items c.reverse_digits.ensures c.loop-rest.invariant.1 c.loop-rest.invariant.0
 
 pub returns-clause-size : goal.returns-clause-size
-returns-clause-size c = split_size c.args.value c.loop-rest.rest c.loop-rest.digits.items c.reverse.new.self.items c.reverse.ensures.items c.loop-rest-test.false c.loop-rest.invariant.0
+returns-clause-size c = split_size c.args.value c.loop-rest.rest c.loop-rest.digits.items c.reverse_digits.new.digits.items c.reverse_digits.ensures c.loop-rest-test.false c.loop-rest.invariant.0
 
 pub returns-clause-high : goal.returns-clause-high
-returns-clause-high c = magnitude_only _ _ (split_high c.args.value c.loop-rest.rest c.loop-rest.digits.items c.reverse.new.self.items _ c.reverse.ensures.items c.loop-rest-test.false c.loop-rest.invariant.0 refl)
+returns-clause-high c = magnitude_only _ _ (split_high c.args.value c.loop-rest.rest c.loop-rest.digits.items c.reverse_digits.new.digits.items _ c.reverse_digits.ensures c.loop-rest-test.false c.loop-rest.invariant.0 refl)
