@@ -1,7 +1,7 @@
 -- Lists of digits as rounding leaves them, and the zeros at their end.
-use Rattle.std.proofs.Common.{◌≡◌, ◌≢◌, ℕ, ◌+◌, ◌-◌, ◌<◌, ◌≤◌, List, [], ◌∷◌, ◌++◌, Option, Some, None, false, length, take, get_or, replicate, length-append, refl, sym, ◌∙◌, ap, arith}
+use Rattle.std.proofs.Common.{◌≡◌, ◌≢◌, ℕ, ◌+◌, ◌-◌, ◌<◌, ◌≤◌, List, [], ◌++◌, Option, Some, None, false, length, take, get_or, replicate, length-append, refl, sym, ◌∙◌, ap, arith}
 use Rattle.std.specs.Option.{is_some}
-use Rattle.std.proofs.lemmas.List.{length-take-le, length-replicate, append-nil, append_assoc, replicate-append-replicate, take-take, get_or-take, get_or_at}
+use Rattle.std.proofs.lemmas.List.{length-take-le, length-replicate, append-nil, append_assoc, replicate-append-replicate, take-take, get_or-take}
 use Rattle.fixed_decimal.specs.RoundedDigits.{digits_left}
 
 -- no raised digit
@@ -34,9 +34,3 @@ last_left ds k left within below some last =
     let le : left ≤ k = omega (arith, length-take-le k ds within) in
     let l : length (take left ds) ≡ left = length-take-le left ds (omega arith) in
     rw (left_alone ds left, l, get_or-take left ds (left - 1) 0 (omega arith)) (rw (get_or-take k ds (left - 1) 0 (omega arith)) at last)
-
--- a raised digit at the end
-pub last_raised : (front : List ℕ) (d : ℕ) → d ≢ 0 → get_or ((front ++ d ∷ []) ++ []) (length ((front ++ d ∷ []) ++ []) - 1) 0 ≢ 0
-last_raised front d some =
-    let l : length (front ++ d ∷ []) - 1 ≡ length front = omega (arith, length-append front (d ∷ [])) in
-    rw (append-nil (front ++ d ∷ []), l, get_or_at front d [] 0 (length front) refl) some

@@ -12,14 +12,6 @@ use Rattle.fixed_decimal.proofs.Nearness.{nearest-unique}
 use Rattle.fixed_decimal.proofs.Rounds.{finest_large, down, up, exact, nothing, raised, carried}
 use Rattle.fixed_decimal.proofs.MagnitudePowers.{place_is, magnitude_has, magnitude_ge, magnitude_le-high, size_lt}
 
-pub zeros_at_is : (p : ℤ) (n : ℕ) → pos n ≡ int_max p (pos 0) → n ≡ zeros_at p
-zeros_at_is (pos k) n e = omega (arith, ints, clamps)
-zeros_at_is (negsuc k) n e = omega (arith, ints, clamps)
-
-pub scale_at_is : (p : ℤ) (n : ℕ) → pos n ≡ pos 0 -ℤ int_min p (pos 0) → n ≡ scale_at p
-scale_at_is (pos k) n e = omega (arith, ints, clamps)
-scale_at_is (negsuc k) n e = omega (arith, ints, clamps)
-
 pub power_is : (p : ℤ) → pos (zeros_at p) -ℤ pos (scale_at p) ≡ p
 power_is (pos n) = omega (arith, ints)
 power_is (negsuc n) = omega (arith, ints)

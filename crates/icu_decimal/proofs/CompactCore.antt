@@ -37,12 +37,6 @@ rounded_from_past_limits table x (z, near, large) =
     let same : z ≡ rounded.0 = nearest_compact_same table x rounded.0 z (nearest_compact_from_rounded table x rounded.0 rounded.1) near in
     (rounded.0, rounded.1, omega arith)
 
--- and one that is rounded within the limits is displayed within them
-pub within_limits_from_rounded : (table : List TableEntry) (x y : ℕ) → IsRoundedAt (rounding_place_for table (magnitude x)) x y → ¬ (RoundsPast (rounding_place_for table (magnitude x)) x) → ¬ (ShowsPastLimits table x)
-within_limits_from_rounded table x y r within (z, near, large) =
-    let same : z ≡ y = nearest_compact_same table x y z (nearest_compact_from_rounded table x y r) near in
-    within (y, r, omega arith)
-
 -- no exponent but 0 of an entry is above the magnitude
 pub exponent_le_magnitude : (table : List TableEntry) (m : ℕ) → IsCompactTable table → (exponent_of (entry_for table m) ≡ 0) ⊎ (exponent_of (entry_for table m) + finest ≤ m)
 exponent_le_magnitude table m t = go (entry_for table m) (entry_has (λ e. e.exponent ≤ e.log10_type) table m t.exponents_small) (entry_reached table m)

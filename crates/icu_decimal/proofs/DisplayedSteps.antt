@@ -14,7 +14,7 @@ use Rattle.icu_decimal.specs.declared.error.FormatError.{FormatError}
 use Rattle.icu_decimal.specs.CompactNumber.{rounding_place, rounding_place_for, ShowsPastLimits}
 use Rattle.icu_decimal.specs.RoundedAt.{IsRoundedAt, RoundsPast}
 use Rattle.icu_decimal.specs.Displayed.{carried, IsDisplayed}
-use Rattle.icu_decimal.proofs.CompactCore.{magnitude_rounded, rounded_from_past_limits, past_limits_from_rounded, within_limits_from_rounded, exponent_le_magnitude, carry_is_displayed, rounded_is_displayed}
+use Rattle.icu_decimal.proofs.CompactCore.{magnitude_rounded, rounded_from_past_limits, past_limits_from_rounded, exponent_le_magnitude, carry_is_displayed, rounded_is_displayed}
 
 -- an answer is no refusal
 pub not_refused : {T : Type 0} {x : T} {e : FormatError} → IsErrOf {T = T} {E = FormatError} (Ok x) e → ⊥
@@ -44,8 +44,8 @@ module _ (table : List TableEntry) (d : Unsigned) (e : ℕ) (power wide : ℤ) (
   overflows past = past_limits_from_rounded table (size d) (subst (λ u. RoundsPast u (size d)) rounding_place_here past)
 
   -- and where that number passes them, rounding does
-  pub not_overflows : ShowsPastLimits table (size d) → RoundsPast (rounding_place e (magnitude (size d))) (size d)
-  not_overflows past = subst (λ u. RoundsPast u (size d)) (sym rounding_place_here) (rounded_from_past_limits table (size d) past)
+  pub rounds_past : ShowsPastLimits table (size d) → RoundsPast (rounding_place e (magnitude (size d))) (size d)
+  rounds_past past = subst (λ u. RoundsPast u (size d)) (sym rounding_place_here) (rounded_from_past_limits table (size d) past)
 
   -- where the significand of the rounded number reaches
   pub scaled_magnitude : (s : Unsigned) (t to : ℤ) → IsRoundedAt (rounding_place e (magnitude (size d))) (size d) (size s * 10 ^ e) → t ≡ magnitude_power (size s) → to ≡ t +ℤ pos e → (e ≡ 0) ⊎ (pos e ≤ℤ power) → to ≡ magnitude_power (size s * 10 ^ e)
@@ -66,10 +66,6 @@ module _ (table : List TableEntry) (d : Unsigned) (e : ℕ) (power wide : ℤ) (
   module _ (y : ℕ) (r : IsRoundedAt (rounding_place e (magnitude (size d))) (size d) y) where
     rounded : IsRoundedAt (rounding_place_for table (magnitude (size d))) (size d) y
     rounded = subst (λ u. IsRoundedAt u (size d) y) rounding_place_here r
-
-    -- and where it does not, neither does that number
-    pub displayed_within : ¬ (RoundsPast (rounding_place e (magnitude (size d))) (size d)) → ¬ (ShowsPastLimits table (size d))
-    displayed_within within = within_limits_from_rounded table (size d) y rounded (λ past. within (subst (λ u. RoundsPast u (size d)) (sym rounding_place_here) past))
 
     module _ (p to : ℤ) (from : p ≡ power) (reached : to ≡ magnitude_power y) where
       carried_here : carried table (place p) (place to) ≡ carried table (magnitude (size d)) (magnitude y)

@@ -39,11 +39,6 @@ module _ (d : Unsigned) (e : ℕ) (power at : ℤ) (top : power ≡ magnitude_po
         let one : size s * 10 ^ e ≡ size d = rw none (omega (arith, same)) in
         rw one unrounded
 
-    pub unrounded_high : (s : Unsigned) → size s ≡ size d → high s ≡ high d → e ≡ 0 → high s ≡ int_max (pos 0) (int_max (high d) (magnitude_power (size s * 10 ^ e)) -ℤ pos e)
-    unrounded_high s same top none =
-        let one : size s * 10 ^ e ≡ size d = rw none (omega (arith, same)) in
-        rw one (omega (arith, ints, clamps, valid.integer_some, magnitude_le-high d (magnitude_power (size d)) valid (magnitude_has (size d))))
-
   -- no exponent that is taken is above the decimal
   pub exponent_below_high : IsUnsigned d → (e ≡ 0) ⊎ (pos e ≤ℤ power) → pos e ≤ℤ high d
   exponent_below_high valid (inl none) = omega (arith, ints, valid.integer_some)

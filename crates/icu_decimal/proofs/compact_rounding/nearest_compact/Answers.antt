@@ -6,7 +6,7 @@ use Rattle.fixed_decimal.specs.Size.{size}
 use Rattle.fixed_decimal.specs.Unsigned.{one}
 use Rattle.icu_decimal.specs.declared.error.FormatError.{FormatError}
 use Rattle.icu_decimal.specs.declared.error.FormatError.TheVariants.{Overflow}
-use Rattle.icu_decimal.proofs.DisplayedSteps.{exponent_within, overflows, not_overflows, displayed_within, displayed_carried, displayed_plain, scaled_magnitude, not_refused}
+use Rattle.icu_decimal.proofs.DisplayedSteps.{exponent_within, overflows, rounds_past, displayed_carried, displayed_plain, scaled_magnitude, not_refused}
 use Rattle.icu_decimal.proofs.compact_rounding.nearest_compact.Goals as goal
 
 pub significand_at-requires-clause-exponent : goal.significand_at-requires-clause-exponent
@@ -17,7 +17,7 @@ pub returns-in_err-significand-clause-overflow : goal.returns-in_err-significand
 returns-in_err-significand-clause-overflow g c =
     let h = c.in_err-significand.ensures.overflow in
     let p = err_from_is_err_and c.from_residual.result c.from_residual.ensures.1 in
-    (λ over. overflows c.args.table.now c.args.value.now c.exponent_or_zero-exponent.result c.nonzero_magnitude_start-power.result _ _ c.nonzero_magnitude_start-power.ensures.power (omega (arith, ints)) c.entry_index-index.ensures.entry c.exponent_or_zero-exponent.ensures (h.0 (ap Err (which over p.1 p.2))), λ past. over_then p.1 p.2 (h.1 (not_overflows c.args.table.now c.args.value.now c.exponent_or_zero-exponent.result c.nonzero_magnitude_start-power.result _ _ c.nonzero_magnitude_start-power.ensures.power (omega (arith, ints)) c.entry_index-index.ensures.entry c.exponent_or_zero-exponent.ensures past)))
+    (λ over. overflows c.args.table.now c.args.value.now c.exponent_or_zero-exponent.result c.nonzero_magnitude_start-power.result _ _ c.nonzero_magnitude_start-power.ensures.power (omega (arith, ints)) c.entry_index-index.ensures.entry c.exponent_or_zero-exponent.ensures (h.0 (ap Err (which over p.1 p.2))), λ past. over_then p.1 p.2 (h.1 (rounds_past c.args.table.now c.args.value.now c.exponent_or_zero-exponent.result c.nonzero_magnitude_start-power.result _ _ c.nonzero_magnitude_start-power.ensures.power (omega (arith, ints)) c.entry_index-index.ensures.entry c.exponent_or_zero-exponent.ensures past)))
   where
     which : {T : Type 0} {r : Result T FormatError} {e f : FormatError} → IsErrOf r Overflow → r ≡ Err e → e ≡ f → f ≡ Overflow
     which over is same = cc
@@ -37,9 +37,7 @@ returns-in_default-clause-displayed g c =
 
 pub returns-in_default-clause-overflow : goal.returns-in_default-clause-overflow
 returns-in_default-clause-overflow g c =
-    let near = c.in_ok-significand.ensures.nearest in
-    let within = displayed_within c.args.table.now c.args.value.now c.exponent_or_zero-exponent.result c.nonzero_magnitude_start-power.result _ _ c.nonzero_magnitude_start-power.ensures.power (omega (arith, ints)) c.entry_index-index.ensures.entry c.exponent_or_zero-exponent.ensures _ near (λ past. absurd (not_refused (c.in_ok-significand.ensures.overflow.1 past))) in
-    (λ none. absurd (not_refused none), λ past. absurd (within past))
+    (λ none. absurd (not_refused none), λ past. absurd (not_refused (c.in_ok-significand.ensures.overflow.1 (rounds_past c.args.table.now c.args.value.now c.exponent_or_zero-exponent.result c.nonzero_magnitude_start-power.result _ _ c.nonzero_magnitude_start-power.ensures.power (omega (arith, ints)) c.entry_index-index.ensures.entry c.exponent_or_zero-exponent.ensures past))))
 
 pub returns-in-Ok-clause-displayed : goal.returns-in-Ok-clause-displayed
 returns-in-Ok-clause-displayed g c =
@@ -53,12 +51,8 @@ returns-in-Ok-clause-displayed g c =
 
 pub returns-in-Ok-clause-overflow : goal.returns-in-Ok-clause-overflow
 returns-in-Ok-clause-overflow g c =
-    let near = c.in_ok-significand.ensures.nearest in
-    let within = displayed_within c.args.table.now c.args.value.now c.exponent_or_zero-exponent.result c.nonzero_magnitude_start-power.result _ _ c.nonzero_magnitude_start-power.ensures.power (omega (arith, ints)) c.entry_index-index.ensures.entry c.exponent_or_zero-exponent.ensures _ near (λ past. absurd (not_refused (c.in_ok-significand.ensures.overflow.1 past))) in
-    (λ none. absurd (not_refused none), λ past. absurd (within past))
+    (λ none. absurd (not_refused none), λ past. absurd (not_refused (c.in_ok-significand.ensures.overflow.1 (rounds_past c.args.table.now c.args.value.now c.exponent_or_zero-exponent.result c.nonzero_magnitude_start-power.result _ _ c.nonzero_magnitude_start-power.ensures.power (omega (arith, ints)) c.entry_index-index.ensures.entry c.exponent_or_zero-exponent.ensures past))))
 
 pub returns-clause-overflow : goal.returns-clause-overflow
 returns-clause-overflow g c =
-    let near = c.in_ok-significand.ensures.nearest in
-    let within = displayed_within c.args.table.now c.args.value.now c.exponent_or_zero-exponent.result c.nonzero_magnitude_start-power.result _ _ c.nonzero_magnitude_start-power.ensures.power (omega (arith, ints)) c.entry_index-index.ensures.entry c.exponent_or_zero-exponent.ensures _ near (λ past. absurd (not_refused (c.in_ok-significand.ensures.overflow.1 past))) in
-    (λ other. absurd (cc), λ past. absurd (within past))
+    (λ other. absurd (cc), λ past. absurd (not_refused (c.in_ok-significand.ensures.overflow.1 (rounds_past c.args.table.now c.args.value.now c.exponent_or_zero-exponent.result c.nonzero_magnitude_start-power.result _ _ c.nonzero_magnitude_start-power.ensures.power (omega (arith, ints)) c.entry_index-index.ensures.entry c.exponent_or_zero-exponent.ensures past))))
