@@ -38,3 +38,15 @@ fn displayed<T: Display>(alloc: Global, value: &T) -> Result<String, Fail> {
         Err(_) => Ok(value.to_string(alloc)?),
     }
 }
+
+/// Whether a value is displayed so; asked once more where memory was refused.
+fn is_displayed<T: Display>(alloc: Global, value: &T, want: &str) -> bool {
+    let text: Result<String, AllocError> = value.to_string(alloc);
+    match text {
+        Ok(text) => text.as_str() == want,
+        Err(_) => match value.to_string(alloc) {
+            Ok(text) => text.as_str() == want,
+            Err(_) => false,
+        },
+    }
+}

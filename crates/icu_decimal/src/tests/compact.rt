@@ -4,7 +4,7 @@ use super::languages::{
     FRENCH_RULES, LAKHS, LONG_BANGLA, LONG_ENGLISH, LONG_FRENCH, LONG_JAPANESE, Language,
     SHORT_ENGLISH, WORDS, compact,
 };
-use super::{displayed, read};
+use super::{displayed, is_displayed, read};
 use crate::error::FormatError;
 use crate::options::GroupingStrategy;
 use crate::{
@@ -222,145 +222,208 @@ fn is_marked(
     decimal: &Decimal,
     text: &str,
     want: &[(usize, usize, Part)],
-) -> Result<bool, Fail> {
-    let value = formatted(alloc, formatter, decimal)?;
-    let sink = compact_sink(alloc, &value)?;
-    Ok(is_annotated(alloc, &sink, text, want)?)
+) -> bool {
+    match formatted(alloc, formatter, decimal) {
+        Ok(value) => match compact_sink(alloc, &value) {
+            Ok(sink) => matches!(is_annotated(alloc, &sink, text, want), Ok(true)),
+            Err(_) => false,
+        },
+        Err(_) => false,
+    }
 }
 
-#[test]
-fn marks_the_sign_alone(rt: HostRuntime) -> Result<(), Fail> {
-    let alloc = rt.alloc();
-    let formatter = compact(&rt, alloc, SHORT_ENGLISH, GroupingStrategy::Min2);
-    let minus = read(&rt, alloc, "-1172700");
-    let spans = [(0, 1, parts::MINUS_SIGN)];
-    assert!(rt; is_marked(alloc, &formatter, &minus, "-1.2M", &spans)?);
-    Ok(())
-}
-
-#[test]
-fn marks_the_sign_that_is_asked_for(rt: HostRuntime) -> Result<(), Fail> {
-    let alloc = rt.alloc();
-    let formatter = compact(&rt, alloc, SHORT_ENGLISH, GroupingStrategy::Min2);
-    let plus = read(&rt, alloc, "2500").with_sign_display(SignDisplay::ExceptZero);
-    let spans = [(0, 1, parts::PLUS_SIGN)];
-    assert!(rt; is_marked(alloc, &formatter, &plus, "+2.5K", &spans)?);
-    Ok(())
-}
-
-/// What is written of a significand with an exponent, or of its refusal.
-fn given(
+/// Whether a text is written in short English as this text with these spans.
+fn marks(
     rt: &impl Abort,
     alloc: Global,
+    (text, display): (&str, SignDisplay),
+    want: &str,
+    spans: &[(usize, usize, Part)],
+) -> bool {
+    let formatter = compact(rt, alloc, SHORT_ENGLISH, GroupingStrategy::Min2);
+    let decimal = read(rt, alloc, text).with_sign_display(display);
+    is_marked(alloc, &formatter, &decimal, want, spans)
+}
+
+#[test]
+fn marks_the_sign_alone(rt: HostRuntime) {
+    let spans = [(0, 1, parts::MINUS_SIGN)];
+    let given = ("-1172700", SignDisplay::Auto);
+    assert!(rt; marks(&rt, rt.alloc(), given, "-1.2M", &spans));
+}
+
+#[test]
+fn marks_the_sign_that_is_asked_for(rt: HostRuntime) {
+    let spans = [(0, 1, parts::PLUS_SIGN)];
+    let given = ("2500", SignDisplay::ExceptZero);
+    assert!(rt; marks(&rt, rt.alloc(), given, "+2.5K", &spans));
+}
+
+/// Whether a significand with an exponent, or its refusal, is written so.
+fn is_given(
+    alloc: Global,
     formatter: &CompactDecimalFormatter,
-    text: &str,
+    significand: &Decimal,
     exponent: u8,
-) -> Result<String, Fail> {
+    want: &str,
+) -> bool {
+    match formatter.format_with_exponent(significand, exponent) {
+        Ok(value) => is_displayed(alloc, &value, want),
+        Err(error) => is_displayed(alloc, &error, want),
+    }
+}
+
+/// Whether a text with an exponent is written so in a language.
+fn gives(
+    rt: &impl Abort,
+    alloc: Global,
+    language: Language,
+    (text, exponent): (&str, u8),
+    want: &str,
+) -> bool {
+    let formatter = compact(rt, alloc, language, GroupingStrategy::Min2);
     let significand = read(rt, alloc, text);
-    match formatter.format_with_exponent(&significand, exponent) {
-        Ok(value) => displayed(alloc, &value),
-        Err(error) => displayed(alloc, &error),
+    is_given(alloc, &formatter, &significand, exponent, want)
+}
+
+const GIVEN: [(Language, &str, u8, &str); 9] = [
+    (SHORT_ENGLISH, "999", 3, "999K"),
+    (SHORT_ENGLISH, "0", 3, "0K"),
+    (
+        SHORT_ENGLISH,
+        "1000",
+        3,
+        "Expected compact exponent 6 for 10^6, got 3",
+    ),
+    (LONG_FRENCH, "1.20", 6, "1,20 million"),
+    (LONG_FRENCH, "+3", 6, "+3 millions"),
+    (LONG_FRENCH, "1", 3, "mille"),
+    (
+        LONG_FRENCH,
+        "10",
+        5,
+        "Expected compact exponent 6 for 10^6, got 5",
+    ),
+    (LONG_BANGLA, "10", 5, "১০ লাখ"),
+    (
+        LONG_BANGLA,
+        "1.20",
+        6,
+        "Expected compact exponent 5 for 10^6, got 6",
+    ),
+];
+
+#[test]
+fn writes_given_exponents(rt: HostRuntime) {
+    for (language, text, exponent, want) in GIVEN {
+        assert!(rt;
+            gives(&rt, rt.alloc(), language, (text, exponent), want),
+            "{want}"
+        );
     }
 }
 
-#[test]
-fn writes_given_exponents(rt: HostRuntime) -> Result<(), Fail> {
-    for (language, text, exponent, want) in [
-        (SHORT_ENGLISH, "999", 3, "999K"),
-        (SHORT_ENGLISH, "0", 3, "0K"),
-        (
-            SHORT_ENGLISH,
-            "1000",
-            3,
-            "Expected compact exponent 6 for 10^6, got 3",
-        ),
-        (LONG_FRENCH, "1.20", 6, "1,20 million"),
-        (LONG_FRENCH, "+3", 6, "+3 millions"),
-        (LONG_FRENCH, "1", 3, "mille"),
-        (
-            LONG_FRENCH,
-            "10",
-            5,
-            "Expected compact exponent 6 for 10^6, got 5",
-        ),
-        (LONG_BANGLA, "10", 5, "১০ লাখ"),
-        (
-            LONG_BANGLA,
-            "1.20",
-            6,
-            "Expected compact exponent 5 for 10^6, got 6",
-        ),
-    ] {
-        let formatter = compact(&rt, rt.alloc(), language, GroupingStrategy::Min2);
-        let shown = given(&rt, rt.alloc(), &formatter, text, exponent)?;
-        assert_eq!(rt; shown.as_str(), want);
+/// Whether a significand with the exponent three is written as this text with these spans.
+fn is_given_marked(
+    alloc: Global,
+    formatter: &CompactDecimalFormatter,
+    significand: &Decimal,
+    text: &str,
+    want: &[(usize, usize, Part)],
+) -> bool {
+    match formatter.format_with_exponent(significand, 3) {
+        Ok(value) => match given_sink(alloc, &value) {
+            Ok(sink) => {
+                matches!(is_annotated(alloc, &sink, text, want), Ok(true))
+                    && is_displayed(alloc, value.value(), text)
+            }
+            Err(_) => false,
+        },
+        Err(_) => false,
     }
-    Ok(())
+}
+
+fn marks_given(rt: &impl Abort, alloc: Global, want: &[(usize, usize, Part)]) -> bool {
+    let formatter = compact(rt, alloc, SHORT_ENGLISH, GroupingStrategy::Min2);
+    let significand = read(rt, alloc, "2.5");
+    is_given_marked(alloc, &formatter, &significand, "2.5K", want)
 }
 
 #[test]
-fn marks_the_parts_of_a_given_number(rt: HostRuntime) -> Result<(), Fail> {
-    let alloc = rt.alloc();
-    let formatter = compact(&rt, alloc, SHORT_ENGLISH, GroupingStrategy::Min2);
-    let significand = read(&rt, alloc, "2.5");
+fn marks_the_parts_of_a_given_number(rt: HostRuntime) {
     let spans = [
         (0, 1, parts::INTEGER),
         (1, 2, parts::DECIMAL),
         (2, 3, parts::FRACTION),
     ];
-    match formatter.format_with_exponent(&significand, 3) {
-        Ok(value) => {
-            assert!(rt; is_annotated(alloc, &given_sink(alloc, &value)?, "2.5K", &spans)?);
-            assert_eq!(rt; displayed(alloc, value.value())?.as_str(), "2.5K");
-        }
-        Err(_) => panic!(rt; "the exponent was refused"),
-    }
-    Ok(())
+    assert!(rt; marks_given(&rt, rt.alloc(), &spans));
 }
+
+/// Whether a language has this exponent at a magnitude.
+fn tells(rt: &impl Abort, alloc: Global, language: Language, magnitude: i16, exponent: u8) -> bool {
+    let formatter = compact(rt, alloc, language, GroupingStrategy::Min2);
+    formatter.compact_exponent_for_magnitude(magnitude) == exponent
+}
+
+const EXPONENTS: [(Language, i16, u8); 9] = [
+    (SHORT_ENGLISH, -1, 0),
+    (SHORT_ENGLISH, 2, 0),
+    (SHORT_ENGLISH, 3, 3),
+    (SHORT_ENGLISH, 5, 3),
+    (SHORT_ENGLISH, 6, 6),
+    (SHORT_ENGLISH, 32767, 12),
+    (LONG_FRENCH, 6, 6),
+    (LONG_BANGLA, 6, 5),
+    (LONG_JAPANESE, 6, 4),
+];
 
 #[test]
 fn tells_the_exponent_of_a_magnitude(rt: HostRuntime) {
-    let alloc = rt.alloc();
-    let short = compact(&rt, alloc, SHORT_ENGLISH, GroupingStrategy::Min2);
-    for (magnitude, exponent) in [(-1, 0), (2, 0), (3, 3), (5, 3), (6, 6), (32767, 12)] {
-        assert_eq!(rt; short.compact_exponent_for_magnitude(magnitude), exponent);
-    }
-    for (language, exponent) in [(LONG_FRENCH, 6), (LONG_BANGLA, 5), (LONG_JAPANESE, 4)] {
-        let formatter = compact(&rt, alloc, language, GroupingStrategy::Min2);
-        assert_eq!(rt; formatter.compact_exponent_for_magnitude(6), exponent);
+    for (language, magnitude, exponent) in EXPONENTS {
+        assert!(rt;
+            tells(&rt, rt.alloc(), language, magnitude, exponent),
+            "{magnitude}"
+        );
     }
 }
 
 /// A text of nines, each asked for once more where memory was refused.
-fn nines(alloc: Global, count: usize) -> Result<String, Fail> {
+fn nines(rt: &impl Abort, alloc: Global, count: usize) -> String {
     let mut text = String::new(alloc);
     for _ in 0..count {
-        if text.push('9').is_err() {
-            text.push('9')?;
+        if text.push('9').is_err() && text.push('9').is_err() {
+            panic!(rt; "memory was refused");
         }
     }
-    Ok(text)
+    text
+}
+
+/// Whether so many digits are refused.
+fn overflows(rt: &impl Abort, alloc: Global) -> bool {
+    let formatter = compact(rt, alloc, SHORT_ENGLISH, GroupingStrategy::Min2);
+    let text = nines(rt, alloc, 32768);
+    let largest = read(rt, alloc, text.as_str());
+    matches!(
+        &formatted(alloc, &formatter, &largest),
+        Err(FormatError::Overflow)
+    )
+}
+
+/// Whether an exponent past the largest is refused with a number that is told whole.
+fn refuses_an_exponent(rt: &impl Abort, alloc: Global) -> bool {
+    let formatter = compact(rt, alloc, SHORT_ENGLISH, GroupingStrategy::Min2);
+    let mut power = read(rt, alloc, "1");
+    if power.multiply_pow10(32767).is_err() && power.multiply_pow10(32767).is_err() {
+        return false;
+    }
+    let want = "Expected compact exponent 12 for 10^33022, got 255";
+    is_given(alloc, &formatter, &power, 255, want)
 }
 
 #[test]
-fn refuses_what_is_past_the_limits(rt: HostRuntime) -> Result<(), Fail> {
-    let alloc = rt.alloc();
-    let formatter = compact(&rt, alloc, SHORT_ENGLISH, GroupingStrategy::Min2);
-    let largest = read(&rt, alloc, nines(alloc, 32768)?.as_str());
-    let refused = formatted(alloc, &formatter, &largest);
-    assert!(rt; matches!(&refused, Err(FormatError::Overflow)));
-    let mut power = read(&rt, alloc, "1");
-    if power.multiply_pow10(32767).is_err() {
-        assert!(rt; power.multiply_pow10(32767).is_ok());
-    }
-    match formatter.format_with_exponent(&power, 255) {
-        Ok(_) => panic!(rt; "the exponent was accepted"),
-        Err(error) => {
-            let want = "Expected compact exponent 12 for 10^33022, got 255";
-            assert_eq!(rt; displayed(alloc, &error)?.as_str(), want);
-        }
-    }
-    Ok(())
+fn refuses_what_is_past_the_limits(rt: HostRuntime) {
+    assert!(rt; overflows(&rt, rt.alloc()));
+    assert!(rt; refuses_an_exponent(&rt, rt.alloc()));
 }
 
 /// The French rules, read once more where memory was refused.
@@ -371,25 +434,52 @@ fn french(alloc: Global) -> Result<PluralRules, RulesError> {
     }
 }
 
-#[test]
-fn tells_the_operands_of_a_compact_number(rt: HostRuntime) -> Result<(), Fail> {
-    let alloc = rt.alloc();
-    let formatter = compact(&rt, alloc, LONG_FRENCH, GroupingStrategy::Min2);
-    let decimal = read(&rt, alloc, "999999");
-    let value = formatted(alloc, &formatter, &decimal)?;
-    let number = value.value();
-    let significand = read(&rt, alloc, "1");
-    assert!(rt; *number.significand() == significand.absolute);
-    assert_eq!(rt; number.exponent(), 6);
-    let rules = french(alloc)?;
-    let shown = number.plural_operands();
-    let given = PluralOperands::from_significand_and_exponent(&decimal.absolute, 0);
-    assert_eq!(rt; rules.category_for(shown), PluralCategory::Many);
-    assert_eq!(rt; rules.category_for(given), PluralCategory::Other);
+/// The operands of a compact number whose significand is one and whose exponent is six.
+fn operands(
+    rt: &impl Abort,
+    alloc: Global,
+    formatter: &CompactDecimalFormatter,
+    decimal: &Decimal,
+) -> Option<PluralOperands> {
+    let significand = read(rt, alloc, "1");
+    match formatted(alloc, formatter, decimal) {
+        Ok(value) => {
+            let number = value.value();
+            if *number.significand() == significand.absolute && number.exponent() == 6 {
+                Some(number.plural_operands())
+            } else {
+                None
+            }
+        }
+        Err(_) => None,
+    }
+}
+
+/// Whether the French rules tell a million shown compactly from one that is not.
+fn are_told(rules: &PluralRules, shown: PluralOperands, given: PluralOperands) -> bool {
     let dollars = PluralElements::new("dollars US")
         .with_one_value(Some("dollar US"))
         .with_many_value(Some("de dollars US"));
-    assert_eq!(rt; *dollars.get(shown, &rules), "de dollars US");
-    assert_eq!(rt; *dollars.get(given, &rules), "dollars US");
-    Ok(())
+    rules.category_for(shown) == PluralCategory::Many
+        && rules.category_for(given) == PluralCategory::Other
+        && *dollars.get(shown, rules) == "de dollars US"
+        && *dollars.get(given, rules) == "dollars US"
+}
+
+fn tells_operands(rt: &impl Abort, alloc: Global) -> bool {
+    let formatter = compact(rt, alloc, LONG_FRENCH, GroupingStrategy::Min2);
+    let decimal = read(rt, alloc, "999999");
+    let given = PluralOperands::from_significand_and_exponent(&decimal.absolute, 0);
+    match operands(rt, alloc, &formatter, &decimal) {
+        Some(shown) => match french(alloc) {
+            Ok(rules) => are_told(&rules, shown, given),
+            Err(_) => false,
+        },
+        None => false,
+    }
+}
+
+#[test]
+fn tells_the_operands_of_a_compact_number(rt: HostRuntime) {
+    assert!(rt; tells_operands(&rt, rt.alloc()));
 }
