@@ -1,44 +1,7 @@
-//! What holds of all events and operands. The functions do nothing: each is its contract.
-ghost use Rattle.icu_base.specs.Laws.{JoinedTextsJoinTheirEvents, EventsTellTheText, JoinedEventsJoinTheirTexts, PartsHaveNoText, ClosedEventsKeepTheirSpans, MovingThePointMultiplies, ExactlyIsTheNumber};
+//! What holds of all events and operands.
 
-/// Writing a text in two pieces writes the same events as writing it whole.
-#[tactic(auto, using(crate::proofs::LawLemmas::law_steps))]
-pub fn joined_texts_join_their_events()
-    ensures { JoinedTextsJoinTheirEvents }
-{}
-
-/// The events of a text have that text.
-#[tactic(auto, using(crate::proofs::LawLemmas::law_steps))]
-pub fn events_tell_the_text()
-    ensures { EventsTellTheText }
-{}
-
-/// Values written one after the other have their texts one after the other.
-#[tactic(auto, using(crate::proofs::LawLemmas::law_steps))]
-pub fn joined_events_join_their_texts()
-    ensures { JoinedEventsJoinTheirTexts }
-{}
-
-/// Leaving the parts out leaves the text as it is.
-#[tactic(auto, using(crate::proofs::LawLemmas::law_steps))]
-pub fn parts_have_no_text()
-    ensures { PartsHaveNoText }
-{}
-
-/// What closes its parts has the same spans wherever it is written, and moves the spans of what follows.
-#[tactic(auto, using(crate::proofs::LawLemmas::law_steps))]
-pub fn closed_events_keep_their_spans()
-    ensures { ClosedEventsKeepTheirSpans }
-{}
-
-/// The integer that operands are taken of is that of the number times ten to the exponent.
-#[tactic(auto, using(crate::proofs::MovedPoint::moving_the_point_multiplies))]
-pub fn moving_the_point_multiplies()
-    ensures { MovingThePointMultiplies }
-{}
-
-/// What is selected for exactly zero or exactly one is so for these numbers alone.
-#[tactic(auto, using(crate::proofs::MovedPoint::exactly_is_the_number))]
-pub fn exactly_is_the_number()
-    ensures { ExactlyIsTheNumber }
-{}
+pub use icu_plurals::laws::{exactly_is_the_number, moving_the_point_multiplies};
+pub use writeable::laws::{
+    closed_events_keep_their_spans, events_tell_the_text, joined_events_join_their_texts,
+    joined_texts_join_their_events, parts_have_no_text,
+};

@@ -4,7 +4,7 @@ use Rattle.std.specs.Prelude.{All, IsUtf8}
 use Rattle.std.specs.Str.{is_utf8}
 use Rattle.std.proofs.lemmas.List.Elements.{All-nil, All-cons}
 use Rattle.std.proofs.lemmas.Str.{IsUtf8-had, is_utf8-from_IsUtf8}
-use Rattle.icu_base.specs.NumberingSystem.{IsNumberingSystem}
+use Rattle.icu_provider.specs.NumberingSystem.{IsNumberingSystem}
 use Rattle.icu_decimal_data.specs.Symbols.{SymbolTexts, IsSymbolTexts, texts_of, total_len}
 use Rattle.icu_decimal_data.specs.Held.{texts_held}
 use Rattle.icu_decimal_data.specs.declared.symbols.DecimalSymbolsStrs.TheInside.{Inside}

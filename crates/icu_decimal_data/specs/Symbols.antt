@@ -6,7 +6,7 @@ use Rattle.std.specs.Cmp.{IsEquivalence}
 use Rattle.std.specs.Cmp.Lexicographic.{pointwise, pointwise_decides, bytes_decides}
 use Rattle.std.proofs.Common.{ap}
 use Rattle.std.proofs.lemmas.Cmp.{on_equiv, lists_equiv, nat_list_eq_equiv}
-use Rattle.icu_base.specs.NumberingSystem.{IsNumberingSystem}
+use Rattle.icu_provider.specs.NumberingSystem.{IsNumberingSystem}
 
 -- the seven texts (ICU4X DecimalSymbolsStrs)
 pub record SymbolTexts : Type 0 where

@@ -1,7 +1,7 @@
 //! Symbols with the sizes of digit groups.
 
 ghost use Rattle.std.specs.Prelude.{◌≡◌, IfOk, IsOkUnless};
-ghost use Rattle.icu_base.specs.NumberingSystem.{IsNumberingSystem};
+ghost use Rattle.icu_provider.specs.NumberingSystem.{IsNumberingSystem};
 ghost use Rattle.icu_decimal_data.specs.declared.error.SymbolsError.TheVariants.{OutOfMemory};
 
 use crate::error::SymbolsError;
@@ -22,7 +22,7 @@ impl DecimalSymbols {
     ghost use Rattle.icu_decimal_data.specs.DecimalSymbols.{english_symbols};
 
     /// English symbols, for tests and examples.
-    #[tactic(auto, unfolding(icu_base::specs::NumberingSystem::is_numbering_system))]
+    #[tactic(auto, unfolding(icu_provider::specs::NumberingSystem::is_numbering_system))]
     pub fn new_en_for_testing(alloc: Global) -> Result<Self, SymbolsError>
         ensures english { IfOk result (λ symbols. symbols ≡ english_symbols) }
         ensures memory { IsOkUnless result OutOfMemory }

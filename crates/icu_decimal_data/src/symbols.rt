@@ -1,12 +1,12 @@
 //! The seven texts of symbols, and the builder that makes them.
 
 ghost use Rattle.std.specs.Prelude.{◌≡◌, ℕ, ◌<◌, ◌≤◌, ◌↔◌, length, map, IsTrue, IfOk, IsOk, IsErrOf};
-ghost use Rattle.icu_base.specs.NumberingSystem.{IsNumberingSystem};
+ghost use Rattle.icu_provider.specs.NumberingSystem.{IsNumberingSystem};
 ghost use Rattle.icu_decimal_data.specs.Symbols.{IsSymbolTexts, total, total_len};
 ghost use Rattle.icu_decimal_data.specs.declared.error.SymbolsError.TheVariants.{TooLarge, BadNumberingSystem};
 
 use crate::error::SymbolsError;
-use icu_base::NumberingSystem;
+use icu_provider::NumberingSystem;
 use std::alloc::Global;
 use std::marker::Model;
 

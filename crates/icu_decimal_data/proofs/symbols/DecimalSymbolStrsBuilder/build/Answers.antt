@@ -1,5 +1,5 @@
 use Rattle.std.proofs.Common.{rules, ◌≡◌, ◌≤◌, sym, subst}
-use Rattle.icu_base.specs.NumberingSystem.{IsNumberingSystem}
+use Rattle.icu_provider.specs.NumberingSystem.{IsNumberingSystem}
 use Rattle.icu_decimal_data.specs.Symbols.{SymbolTexts, IsSymbolTexts, total_len}
 use Rattle.icu_decimal_data.specs.Held.{texts_held}
 use Rattle.icu_decimal_data.specs.Given.{texts_given}

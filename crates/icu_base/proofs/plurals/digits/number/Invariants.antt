@@ -1,6 +1,0 @@
-use Rattle.std.proofs.Common.{◌≡◌, take}
-use Rattle.icu_base.specs.Operands.{number_of}
-use Rattle.icu_base.proofs.plurals.digits.number.Given as goal
-
-abbrev pub invariant-loop-digit : goal.invariant-loop-digit
-invariant-loop-digit l = l.number ≡ number_of (take l.digit-index l.digits)

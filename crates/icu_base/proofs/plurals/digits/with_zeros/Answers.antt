@@ -1,6 +1,0 @@
-use Rattle.icu_base.proofs.DigitNumbers.{IsReadAfter-more_zeros}
-use Rattle.icu_base.proofs.plurals.digits.with_zeros.Goals as goal
-
-pub loop-preserved : goal.loop-preserved
-loop-preserved c =
-    IsReadAfter-more_zeros _ _ _ c.loop.counter c.loop.invariant c.with_digit-whole.ensures.seen c.with_digit-whole.ensures.digit

@@ -1,7 +1,0 @@
-use Rattle.std.proofs.Common.{◌≡◌, map, drop}
-use Rattle.icu_base.specs.Rules.{rule_of, category_of}
-use Rattle.icu_base.proofs.plurals.rules.first_category.Given as goal
-
--- the rules that are left decide
-abbrev pub invariant-loop-rule : goal.invariant-loop-rule
-invariant-loop-rule l = category_of (map rule_of (drop l.rule-index l.rules)) l.operands ≡ category_of (map rule_of l.rules) l.operands

@@ -1,8 +1,0 @@
-use Rattle.std.proofs.Common.{◌≡◌, map, drop, take, None}
-use Rattle.std.specs.List.{AllZip}
-use Rattle.icu_base.specs.Rules.{given_rules, bad_rule_from, rule_of, IsReadFrom}
-use Rattle.icu_base.proofs.plurals.rules.read_rules.Given as goal
-
--- the rules before are read, and the others have no fault
-abbrev pub invariant-loop-index : goal.invariant-loop-index
-invariant-loop-index l = (AllZip IsReadFrom (given_rules (take l.index l.fn.rules)) (map rule_of l.read.items)) × (bad_rule_from l.index (given_rules (drop l.index l.fn.rules)) ≡ None)

@@ -1,0 +1,42 @@
+-- Lemmas on what the backends of patterns accept, and on the equality of patterns. They stand here and not in proofs/
+-- because the impls of `PatternBackend` and of the comparisons cite them.
+use Rattle.std.specs.Prelude.{◌≡◌, true, ℕ, ◌≤◌, ◌<◌, List, Option, Some, None, IfSome, IsTrue, is_none, length, slice_index}
+use Rattle.std.specs.Cmp.{IsEquivalence}
+use Rattle.std.specs.Cmp.Lexicographic.{options_equiv}
+use Rattle.std.specs.Option.{option_map_or}
+use Rattle.std.specs.Str.{IsCharBoundary}
+use Rattle.std.proofs.Common.{arith, inl, inr}
+use Rattle.std.proofs.lemmas.Bool.{leb-true, ltb-true, and_parts, or_cases}
+use Rattle.std.proofs.lemmas.Cmp.{and_equiv, on_equiv, nat_eq_equiv, nat_list_eq_equiv}
+use Rattle.icu_pattern.specs.Patterns.{PatternText, PlaceFits, is_boundary, has_fitting_place, has_no_place, same_pattern}
+
+-- what passes the test is a place where a text may be cut
+pub IsCharBoundary-tested : (text : List ℕ) (k : ℕ) → is_boundary text k ≡ true → IsCharBoundary text k
+IsCharBoundary-tested text k e =
+    let p = and_parts _ _ e in (
+      leb-true _ _ p.0,
+      λ within high. elim (or_cases _ _ p.1) [
+        | inl l ↦ absurd (let m : length text ≤ k = leb-true _ _ l in omega arith)
+        | inr r ↦ elim (or_cases _ _ r) [ inl l ↦ absurd (let m : slice_index text k < 128 = ltb-true _ _ l in omega arith) | inr l ↦ leb-true _ _ l ]
+      ],
+    )
+
+-- what passes the test of no place or one that fits has no other
+pub PlaceFits-tested : (p : PatternText) → IsTrue (has_fitting_place p) → PlaceFits p
+PlaceFits-tested p h = go p.literal p.place h
+  where
+    go : (literal : List ℕ) (place : Option ℕ) → IsTrue (option_map_or (is_boundary literal) place true) → IfSome place (λ k. IsCharBoundary literal k)
+    go literal None h = tt
+    go literal (Some k) h = IsCharBoundary-tested literal k h
+
+-- a pattern without a place has none that doesn't fit
+pub PlaceFits-without : (p : PatternText) → IsTrue (has_no_place p) → PlaceFits p
+PlaceFits-without p h = go p.literal p.place h
+  where
+    go : (literal : List ℕ) (place : Option ℕ) → IsTrue (is_none place) → IfSome place (λ k. IsCharBoundary literal k)
+    go literal None h = tt
+    go literal (Some k) h = absurd (cc)
+
+-- the equality of patterns is an equivalence
+pub same_pattern_equiv : IsEquivalence same_pattern
+same_pattern_equiv = and_equiv (on_equiv (λ (p : PatternText). p.place) (options_equiv nat_eq_equiv)) (on_equiv (λ (p : PatternText). p.literal) nat_list_eq_equiv)

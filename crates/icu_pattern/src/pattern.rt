@@ -1,0 +1,192 @@
+//! Patterns, kept and lent.
+
+ghost use Rattle.std.specs.Prelude.{IsTrue};
+
+use crate::backend::{PatternBackend, SinglePlaceholder};
+use crate::error::PatternError;
+use std::alloc::{AllocError, Global};
+use std::marker::{Model, PhantomData};
+
+/// A pattern that owns its literal (ICU4X, `Pattern`).
+#[derive(Drop)]
+#[derive_where(Debug)]
+pub struct Pattern<P: PatternBackend> {
+    place: Option<usize>,
+    literal: String,
+    backend: PhantomData<P>,
+}
+
+impl<P: PatternBackend> Model for Pattern<P> {
+    ghost use Rattle.std.specs.Prelude.{IsTrue};
+    ghost use Rattle.std.specs.String.{string_bytes};
+    ghost use Rattle.icu_pattern.specs.Patterns.{PatternText};
+
+    ghost Value = { PatternText };
+
+    ghost view = { λ p. record { place = p.place; literal = string_bytes p.literal } };
+
+    ghost invariant = { λ p. IsTrue (P.accepted (record { place = p.place; literal = string_bytes p.literal })) };
+}
+
+impl<P: PatternBackend> Pattern<P> {
+    ghost use Rattle.std.specs.Prelude.{◌≡◌, ◌↔◌, false, IsTrue, IfOk, IsErrOf, IsOkUnless};
+    ghost use Rattle.icu_pattern.specs.Refs.{text_of_ref};
+
+    /// The pattern with this place and this literal.
+    pub fn try_new(alloc: Global, place: Option<usize>, literal: &str) -> Result<Self, PatternError>
+        ensures given { IfOk result (λ p. p ≡ record { place = place; literal = literal.now }) }
+        ensures bad_place { IsErrOf result PatternError.BadPlace ↔ (P.accepted (record { place = place; literal = literal.now }) ≡ false) }
+    {
+        if !P::accepts(place, literal) {
+            return Err(PatternError::BadPlace);
+        }
+        Ok(Pattern {
+            place,
+            literal: String::from_str(alloc, literal)?,
+            backend: PhantomData,
+        })
+    }
+
+    /// An equal pattern, with memory of its own.
+    pub fn copy(&self, alloc: Global) -> Result<Self, PatternError>
+        ensures equal { IfOk result (λ p. p ≡ self.now) }
+        ensures memory { IsOkUnless result PatternError.OutOfMemory }
+    {
+        let place = self.place;
+        let literal = String::from_str(alloc, self.literal.as_str())?;
+        Ok(Pattern {
+            place,
+            literal,
+            backend: PhantomData,
+        })
+    }
+
+    /// The pattern, lent.
+    pub fn as_ref(&self) -> PatternRef<'_, P>
+        ensures lent { text_of_ref result ≡ self.now }
+        ensures accepted { IsTrue (P.accepted self.now) }
+    {
+        PatternRef {
+            place: self.place,
+            literal: self.literal.as_str(),
+            backend: PhantomData,
+        }
+    }
+}
+
+impl Pattern<SinglePlaceholder> {
+    ghost use Rattle.std.specs.Prelude.{◌≡◌, List};
+    ghost use Rattle.writeable.specs.Events.{Event};
+    ghost use Rattle.icu_pattern.specs.Patterns.{place_alone, interpolated};
+
+    /// The pattern that is a place alone: it writes a value as it is. It takes no memory.
+    #[tactic(auto, using(crate::proofs::Boundaries::interpolated_alone))]
+    pub fn pass_through(alloc: Global) -> Self
+        ensures alone { result ≡ place_alone }
+        ensures as_it_is { (es : List Event) → interpolated result es ≡ es }
+    {
+        Pattern {
+            place: Some(0),
+            literal: String::new(alloc),
+            backend: PhantomData,
+        }
+    }
+}
+
+impl<P: PatternBackend> PartialEq for Pattern<P> {
+    ghost use Rattle.std.specs.Prelude.{◌≡◌, ◌↔◌, IsTrue};
+    ghost use Rattle.std.specs.Cmp.{partial_equiv_from_equiv};
+    ghost use Rattle.icu_pattern.specs.Patterns.{same_pattern};
+    ghost use Rattle.icu_pattern.specs.Backends.{same_pattern_equiv};
+
+    ghost eq = { same_pattern };
+
+    ghost laws = { partial_equiv_from_equiv same_pattern_equiv };
+
+    /// Whether both the places and the literals are equal.
+    fn eq(&self, other: &Self) -> bool
+        ensures computed { result ≡ same_pattern self.now other.now }
+        ensures same { IsTrue result ↔ (self.now ≡ other.now) }
+    {
+        self.as_ref() == other.as_ref()
+    }
+}
+
+impl<P: PatternBackend> Eq for Pattern<P> {
+    ghost use Rattle.icu_pattern.specs.Backends.{same_pattern_equiv};
+
+    ghost laws = { same_pattern_equiv };
+}
+
+/// A pattern that borrows its literal.
+#[derive_where(Debug)]
+pub struct PatternRef<'a, P: PatternBackend> {
+    place: Option<usize>,
+    literal: &'a str,
+    backend: PhantomData<P>,
+    ghost accepted: { IsTrue (P.accepted (record { place = place; literal = literal.now })) },
+}
+
+impl<P: PatternBackend> Clone for PatternRef<'_, P> {
+    ghost use Rattle.std.specs.Prelude.{◌≡◌, ⊤};
+
+    ghost is_clone = { λ s r. r ≡ s };
+
+    ghost is_infallible = { λ _. ⊤ };
+
+    fn clone(&self) -> Result<Self, AllocError> {
+        Ok(*self)
+    }
+}
+
+impl<P: PatternBackend> Copy for PatternRef<'_, P> {}
+
+impl<'a, P: PatternBackend> PatternRef<'a, P> {
+    ghost use Rattle.std.specs.Prelude.{◌≡◌, IsTrue};
+    ghost use Rattle.icu_pattern.specs.Refs.{text_of_ref};
+
+    /// How many bytes of the literal stand before the value; none where the pattern has no place.
+    pub fn place(&self) -> Option<usize>
+        ensures place { result ≡ (text_of_ref self.now).place }
+        ensures accepted { IsTrue (P.accepted (text_of_ref self.now)) }
+    {
+        self.place
+    }
+
+    /// The literal.
+    pub fn literal(&self) -> &'a str
+        ensures { result.now ≡ (text_of_ref self.now).literal }
+    {
+        self.literal
+    }
+}
+
+impl<P: PatternBackend> PartialEq for PatternRef<'_, P> {
+    ghost use Rattle.std.specs.Prelude.{◌≡◌, ◌↔◌, IsTrue};
+    ghost use Rattle.std.specs.Cmp.{partial_equiv_from_equiv};
+    ghost use Rattle.std.specs.Ordering.{on};
+    ghost use Rattle.std.proofs.lemmas.Cmp.{on_equiv};
+    ghost use Rattle.icu_pattern.specs.Patterns.{same_pattern};
+    ghost use Rattle.icu_pattern.specs.Backends.{same_pattern_equiv};
+    ghost use Rattle.icu_pattern.specs.Refs.{text_of_ref};
+
+    ghost eq = { on text_of_ref same_pattern };
+
+    ghost laws = { partial_equiv_from_equiv (on_equiv text_of_ref same_pattern_equiv) };
+
+    /// Whether both the places and the literals are equal.
+    fn eq(&self, other: &Self) -> bool
+        ensures computed { result ≡ same_pattern (text_of_ref self.now) (text_of_ref other.now) }
+        ensures same { IsTrue result ↔ (text_of_ref self.now ≡ text_of_ref other.now) }
+    {
+        (self.place, self.literal) == (other.place, other.literal)
+    }
+}
+
+impl<P: PatternBackend> Eq for PatternRef<'_, P> {
+    ghost use Rattle.std.proofs.lemmas.Cmp.{on_equiv};
+    ghost use Rattle.icu_pattern.specs.Backends.{same_pattern_equiv};
+    ghost use Rattle.icu_pattern.specs.Refs.{text_of_ref};
+
+    ghost laws = { on_equiv text_of_ref same_pattern_equiv };
+}

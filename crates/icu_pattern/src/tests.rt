@@ -1,0 +1,2 @@
+//! Worked patterns.
+mod patterns;

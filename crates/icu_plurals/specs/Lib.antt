@@ -1,0 +1,14 @@
+pub mod ConditionLaws
+pub mod Drafts
+pub mod Elements
+pub mod Grammar
+pub mod Laws
+pub mod Lexer
+pub mod Meaning
+pub mod Operands
+pub mod Owned
+pub mod Reading
+pub mod Rules
+pub mod SameElements
+pub mod Tokens
+pub mod WholeNumber

@@ -1,0 +1,36 @@
+//! What holds of all operands and of all texts of conditions. The functions do nothing: each is its contract.
+ghost use Rattle.icu_plurals.specs.Laws.{MovingThePointMultiplies, ExactlyIsTheNumber};
+ghost use Rattle.icu_plurals.specs.ConditionLaws.{EachTextIsJudged, NoTextIsJudgedTwice, FirstFaultsAreUnique, ConditionsAreUnique, TurnedRangesAreEmpty};
+
+/// Each text spells a condition or has a first fault, and none has both.
+pub fn each_text_is_judged_once()
+    ensures judged { EachTextIsJudged }
+    ensures once { NoTextIsJudgedTwice }
+{}
+
+/// A text has at most one first fault.
+pub fn first_faults_are_unique()
+    ensures { FirstFaultsAreUnique }
+{}
+
+/// A text spells at most one condition.
+pub fn conditions_are_unique()
+    ensures { ConditionsAreUnique }
+{}
+
+/// A range whose first value is greater than its last holds nothing.
+pub fn turned_ranges_are_empty()
+    ensures { TurnedRangesAreEmpty }
+{}
+
+/// The integer that operands are taken of is that of the number times ten to the exponent.
+#[tactic(auto, using(crate::proofs::MovedPoint::moving_the_point_multiplies))]
+pub fn moving_the_point_multiplies()
+    ensures { MovingThePointMultiplies }
+{}
+
+/// What is selected for exactly zero or exactly one is so for these numbers alone.
+#[tactic(auto, using(crate::proofs::MovedPoint::exactly_is_the_number))]
+pub fn exactly_is_the_number()
+    ensures { ExactlyIsTheNumber }
+{}

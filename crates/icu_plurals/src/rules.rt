@@ -1,0 +1,124 @@
+//! Plural rules, and the category of a number by them.
+ghost use Rattle.std.specs.Prelude.{◌≡◌, ◌↔◌, ℕ, None, IfOk, IsOkUnless, IsErrOf, map};
+ghost use Rattle.std.specs.List.{AllZip};
+ghost use Rattle.icu_plurals.specs.Rules.{given_rules, IsReadFrom, IsFirstBadRule, category_of, rule_of, bad_rule_from};
+
+use crate::category::PluralCategory;
+use crate::condition::Condition;
+use crate::error::RulesError;
+use crate::operands::PluralOperands;
+use crate::reader::{first_fault, read_condition};
+use std::alloc::Global;
+use std::marker::Model;
+
+#[derive(Drop)]
+struct Rule {
+    category: PluralCategory,
+    condition: Condition,
+}
+
+/// Rules that give a number its plural category (UTS 35 Part 3, Language Plural Rules), in their order.
+///
+/// They are read once into small values; no text is kept.
+#[derive(Drop)]
+pub struct PluralRules {
+    rules: Vec<Rule>,
+}
+
+impl Model for PluralRules {
+    ghost use Rattle.std.specs.Prelude.{List, map};
+    ghost use Rattle.icu_plurals.specs.Rules.{Rule as PluralRule, rule_of};
+
+    ghost Value = { List PluralRule };
+
+    ghost view = { λ s. map rule_of s.rules.items };
+}
+
+/// The first rule whose text isn't in the grammar, and the byte of its first fault.
+fn first_bad_rule(rules: &[(PluralCategory, &str)]) -> Option<(usize, usize)>
+    ensures { result ≡ bad_rule_from 0 (given_rules rules.now) }
+{
+    for index in 0..rules.len() {
+        let (_, text) = rules[index];
+        if let Some(byte) = first_fault(text) {
+            return Some((index, byte));
+        }
+    }
+    None
+}
+
+/// The rules of texts that are all in the grammar.
+fn read_rules(alloc: Global, rules: &[(PluralCategory, &str)]) -> Result<PluralRules, RulesError>
+    requires { bad_rule_from 0 (given_rules rules.now) ≡ None }
+    ensures read { IfOk result (λ r. AllZip IsReadFrom (given_rules rules.now) r) }
+    ensures memory { IsOkUnless result RulesError.OutOfMemory }
+{
+    let mut read = Vec::new(alloc);
+    for index in 0..rules.len() {
+        let (category, text) = rules[index];
+        let condition = read_condition(alloc, text)?;
+        read.push(Rule {
+            category,
+            condition,
+        })?;
+    }
+    Ok(PluralRules { rules: read })
+}
+
+fn copy_rules(alloc: Global, rules: &[Rule]) -> Result<Vec<Rule>, RulesError>
+    ensures copied { IfOk result (λ v. map rule_of v.items ≡ map rule_of rules.now) }
+    ensures memory { IsOkUnless result RulesError.OutOfMemory }
+{
+    let mut copied = Vec::new(alloc);
+    for rule in rules {
+        copied.push(Rule {
+            category: rule.category,
+            condition: rule.condition.copy(alloc)?,
+        })?;
+    }
+    Ok(copied)
+}
+
+/// The category of the first rule that holds.
+fn first_category(rules: &[Rule], operands: PluralOperands) -> PluralCategory
+    ensures { result ≡ category_of (map rule_of rules.now) operands }
+{
+    for rule in rules {
+        if rule.condition.holds(operands) {
+            return rule.category;
+        }
+    }
+    PluralCategory::Other
+}
+
+impl PluralRules {
+    /// The rules of these categories and texts. A text is a condition by the grammar of UTS 35 Part 3 (Plural rules
+    /// syntax), of which samples, from `@` on, aren't read. The texts are judged from left to right, rule by rule, before
+    /// memory is asked for, so a bad rule is told however little memory is left.
+    pub fn from_rules(alloc: Global, rules: &[(PluralCategory, &str)]) -> Result<Self, RulesError>
+        ensures read { IfOk result (λ r. AllZip IsReadFrom (given_rules rules.now) r) }
+        ensures refused { (rule byte : ℕ) → IsErrOf result (RulesError.BadRule rule byte) ↔ IsFirstBadRule (given_rules rules.now) rule byte }
+    {
+        if let Some((rule, byte)) = first_bad_rule(rules) {
+            return Err(RulesError::BadRule { rule, byte });
+        }
+        read_rules(alloc, rules)
+    }
+
+    /// The category of a number with these operands: that of the first rule whose condition holds, and `Other` where none
+    /// does. It takes no memory.
+    pub fn category_for(&self, operands: PluralOperands) -> PluralCategory
+        ensures category { result ≡ category_of self.now operands }
+    {
+        first_category(&self.rules, operands)
+    }
+
+    /// Equal rules, with memory of their own.
+    pub fn copy(&self, alloc: Global) -> Result<Self, RulesError>
+        ensures equal { IfOk result (λ r. r ≡ self.now) }
+        ensures memory { IsOkUnless result RulesError.OutOfMemory }
+    {
+        let rules = copy_rules(alloc, &self.rules)?;
+        Ok(PluralRules { rules })
+    }
+}

@@ -1,0 +1,2 @@
+//! Names of numbering systems.
+mod systems;

@@ -1,0 +1,6 @@
+pub mod EventLemmas
+pub mod LawLemmas
+pub mod MarkLemmas
+pub mod SpanLemmas
+pub mod TextLemmas
+pub mod DigitEvents

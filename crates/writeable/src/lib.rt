@@ -1,0 +1,19 @@
+//! Text with marked parts: sinks that take characters and named parts, and values that write themselves to sinks, after
+//! ICU4X's crate `writeable`.
+#![tactic(auto)]
+
+pub mod error;
+pub mod event_writer;
+pub mod laws;
+pub mod parts_text;
+pub mod sink;
+pub mod writeable;
+
+pub use error::OutOfMemory;
+pub use event_writer::EventWriter;
+pub use parts_text::PartsText;
+pub use sink::{Part, PartsWrite, WriteFault};
+pub use writeable::Writeable;
+
+#[cfg(test)]
+mod tests;

@@ -1,0 +1,79 @@
+//! Worked texts with parts.
+use super::*;
+use std::alloc::Global;
+
+mod bytes;
+mod limit;
+mod spans;
+mod written;
+
+const INTEGER: Part = Part {
+    category: "decimal",
+    value: "integer",
+};
+
+const GROUP: Part = Part {
+    category: "decimal",
+    value: "group",
+};
+
+const MINUS_SIGN: Part = Part {
+    category: "decimal",
+    value: "minusSign",
+};
+
+const DECIMAL: Part = Part {
+    category: "decimal",
+    value: "decimal",
+};
+
+const FRACTION: Part = Part {
+    category: "decimal",
+    value: "fraction",
+};
+
+/// Writes one event for each character: an opening bracket opens a part, `)` closes one, and the others are text.
+fn write_marked(sink: &mut PartsText, marked: &str) -> Result<(), WriteFault> {
+    for character in marked.chars() {
+        match character {
+            '(' => sink.open_part(INTEGER)?,
+            '[' => sink.open_part(GROUP)?,
+            '{' => sink.open_part(MINUS_SIGN)?,
+            '<' => sink.open_part(DECIMAL)?,
+            '/' => sink.open_part(FRACTION)?,
+            ')' => sink.close_part()?,
+            text => sink.write_char(text)?,
+        }
+    }
+    Ok(())
+}
+
+/// The marked text in a new sink, and what the last call answered. Where a growth was refused it is written again.
+fn sink_with(
+    alloc: Global,
+    limit: Option<usize>,
+    marked: &str,
+) -> (Result<(), WriteFault>, PartsText) {
+    let mut sink = new_sink(alloc, limit);
+    let mut written = write_marked(&mut sink, marked);
+    if sink.growth_refused() {
+        sink = new_sink(alloc, limit);
+        written = write_marked(&mut sink, marked);
+    }
+    (written, sink)
+}
+
+fn new_sink(alloc: Global, limit: Option<usize>) -> PartsText {
+    match limit {
+        Some(limit) => PartsText::with_limit(alloc, limit),
+        None => PartsText::new(alloc),
+    }
+}
+
+/// The spans, asked for again where memory was wanting.
+fn spans_of(alloc: Global, sink: &PartsText) -> Result<Vec<(usize, usize, Part)>, OutOfMemory> {
+    match sink.spans(alloc) {
+        Ok(spans) => Ok(spans),
+        Err(OutOfMemory) => sink.spans(alloc),
+    }
+}
