@@ -89,7 +89,7 @@ done
 compact_program() {
     local made=build/compact crate
     mkdir -p $made/crates/compactfmt/src
-    for crate in fixed_decimal icu_base icu_decimal_data icu_decimal; do
+    for crate in writeable icu_pattern icu_provider fixed_decimal icu_plurals icu_base icu_decimal_data icu_decimal; do
         rm -rf "$made/crates/$crate" && cp -a "../crates/$crate" $made/crates/
     done
     cp compact/main.rt.in $made/crates/compactfmt/src/main.rt

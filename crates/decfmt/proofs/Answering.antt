@@ -10,9 +10,9 @@ use Rattle.fixed_decimal.specs.Text.{Reads, ReadsNothing, ReadsPastLimits}
 use Rattle.fixed_decimal.specs.Unsigned.{IsWithinLimits}
 use Rattle.icu_decimal.specs.Decimal.{DecimalFormat}
 use Rattle.decfmt.specs.Plain.{plain_text}
-use Rattle.decfmt.specs.Reading.{reading}
+use Rattle.fixed_decimal.specs.Reading.{reading}
 use Rattle.decfmt.specs.Answers.{IsAnswer, is_within_limits, answer_for, answer_to}
-use Rattle.decfmt.proofs.Readings.{reading-reads, reading-spells, reading-nothing, reads_nothing}
+use Rattle.fixed_decimal.proofs.Readings.{reading-reads, reading-spells, reading-nothing, nothing-reading, reads_nothing}
 
 is_within-limits : (d : Unsigned) → IsWithinLimits d → is_within_limits d ≡ true
 is_within-limits d w =
@@ -72,11 +72,8 @@ module _ (format : DecimalFormat) (text : List ℕ) where
 
       go : (o : Option (Sign × Unsigned)) → reading text ≡ o → IsAnswer format text (answer_to format text)
       go None e =
-          let none : ReadsNothing text = λ s d r. absurd (unread s d (sym e ∙ reading-reads text s d r)) in
+          let none = nothing-reading text e in
           inr (inl (none, answer_to-nothing none))
-        where
-          unread : (s : Sign) (d : Unsigned) → ◌≡◌ {A = Option (Sign × Unsigned)} None (Some (s, d)) → ⊥
-          unread s d f = cc
       go (Some (s, d)) e = limited s d e (is_within_limits d) refl
 
   pub answer_to-only : (answer : List ℕ) → IsAnswer format text answer → answer ≡ answer_to format text

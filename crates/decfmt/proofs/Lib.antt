@@ -3,6 +3,5 @@ pub mod Fed
 pub mod Known
 pub mod LineLaws
 pub mod Parts
-pub mod Readings
 pub mod Returns
 pub mod Runs

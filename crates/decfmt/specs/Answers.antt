@@ -6,7 +6,7 @@ use Rattle.fixed_decimal.specs.Text.{Reads, ReadsNothing, ReadsPastLimits}
 use Rattle.fixed_decimal.specs.Unsigned.{IsWithinLimits}
 use Rattle.icu_decimal.specs.Decimal.{DecimalFormat}
 use Rattle.decfmt.specs.Plain.{plain_text}
-use Rattle.decfmt.specs.Reading.{reading}
+use Rattle.fixed_decimal.specs.Reading.{reading}
 
 -- the plain text of the decimal that the text reads as
 pub record ShowsDecimal (format : DecimalFormat) (text answer : List ℕ) : Type 0 where

@@ -27,7 +27,12 @@ enum Failure {
 }
 
 impl Failure {
-    fn message(&self) -> &'static str {
+    ghost use Rattle.std.specs.Prelude.{◌≡◌};
+    ghost use Rattle.decfmt.specs.Endings.{message_of, status_of};
+
+    fn message(&self) -> &'static str
+        ensures { result.now ≡ message_of self.now }
+    {
         match self {
             Failure::Streams => "error: input or output failed",
             Failure::Memory => "error: out of memory",
@@ -35,7 +40,9 @@ impl Failure {
         }
     }
 
-    fn status(&self) -> u8 {
+    fn status(&self) -> u8
+        ensures { result ≡ status_of self.now }
+    {
         match self {
             Failure::Streams | Failure::Memory => 1,
             Failure::Words => 2,

@@ -1,13 +1,12 @@
-//! Rows of text against their output, and readers and writers that fail.
+//! Rows of text against their output, and readers and writers that fail. Values live in functions that answer whether
+//! they hold.
 
 use crate::laws::{inputs_have_one_list_of_lines, texts_have_one_answer};
-use crate::mode::{Mode, StartError};
+use crate::mode::Mode;
 use crate::running::{RunError, run};
-use std::alloc::Global;
+use std::alloc::{AllocError, Global};
 use std::io;
 use std::io::{ErrorKind, Read, Write};
-use std::process::Abort;
-use std::test::Fail;
 
 /// Gives one byte a call, and after `good` bytes an error, if there are more.
 #[derive(Drop)]
@@ -64,166 +63,275 @@ impl Write for SlowWriter {
     }
 }
 
-/// A run over these bytes, of which `good` can be read, into a writer with this room.
-fn run_over(
+/// Whether a run over these bytes, of which `good` can be read, into a writer with this room ends so and leaves this.
+fn runs_slowly(
     alloc: Global,
-    bytes: &[u8],
-    good: usize,
-    room: usize,
-    full: Full,
-) -> Result<(Result<(), RunError>, Vec<u8>), StartError> {
-    let mode = Mode::english(alloc)?;
+    mode: &Mode,
+    (bytes, good): (&[u8], usize),
+    (room, full): (usize, Full),
+    (outcome, want): (Result<(), RunError>, &[u8]),
+) -> bool {
     let mut reader = SlowReader { bytes, good };
     let mut writer = SlowWriter {
         held: Vec::new(alloc),
         room,
         full,
     };
-    let outcome = run(alloc, &mode, &mut reader, &mut writer);
-    let SlowWriter {
-        held,
-        room: _,
-        full: _,
-    } = writer;
-    Ok((outcome, held))
+    let ended = run(alloc, mode, &mut reader, &mut writer);
+    ended == outcome && writer.held.as_slice() == want
 }
 
-/// The output of an input, also checked one byte a call.
-fn output_of(rt: &(impl Abort + Alloc<A = Global>), bytes: &[u8]) -> Result<Vec<u8>, Fail> {
-    let alloc = rt.alloc();
-    let mode = Mode::english(alloc)?;
+/// Whether the English run ends so and leaves this.
+fn ends(
+    alloc: Global,
+    input: (&[u8], usize),
+    output: (usize, Full),
+    want: (Result<(), RunError>, &[u8]),
+) -> bool {
+    match Mode::english(alloc) {
+        Ok(mode) => runs_slowly(alloc, &mode, input, output, want),
+        Err(_) => false,
+    }
+}
+
+/// Whether the output of an input is this.
+fn runs_at_once(alloc: Global, mode: &Mode, input: &[u8], want: &[u8]) -> bool {
     let mut written = Vec::new(alloc);
-    let mut rest = bytes;
-    let outcome = run(alloc, &mode, &mut rest, &mut written);
-    assert_eq!(rt; outcome, Ok(()));
-    let (outcome, slowly) = run_over(alloc, bytes, usize::MAX, usize::MAX, Full::Fails)?;
-    assert_eq!(rt; outcome, Ok(()));
-    assert_eq!(rt; slowly.as_slice(), written.as_slice());
-    Ok(written)
-}
-
-/// A line and its answer, with a space between.
-const ANSWERS: &str = "\
-1000007 1,000,007
--987654.321 -987,654.321
-0012 0,012
--0 -0
-1.20 1.20
-.5 0.5
--.05 -0.05
-+5 +5
-+1234567.1234567 +1,234,567.1234567
-123 123
-12. error: not a decimal
-1e3 error: not a decimal
-+ error: not a decimal
-. error: not a decimal
-1,000 error: not a decimal
-1.2.3 error: not a decimal
-";
-
-#[test]
-fn answers_each_line(rt: HostRuntime) -> Result<(), Fail> {
-    let mut input = Vec::new(rt.alloc());
-    let mut want = Vec::new(rt.alloc());
-    for row in ANSWERS.lines() {
-        let (line, answer) = row.split_once(' ').ok_or("two columns")?;
-        input.extend_from_slice(line.as_bytes())?;
-        input.push(b'\n')?;
-        want.extend_from_slice(answer.as_bytes())?;
-        want.push(b'\n')?;
+    let mut rest = input;
+    match run(alloc, mode, &mut rest, &mut written) {
+        Ok(()) => written.as_slice() == want,
+        Err(_) => false,
     }
-    let output = output_of(&rt, &input)?;
-    assert_eq!(rt; output.as_slice(), want.as_slice());
-    Ok(())
 }
 
-#[test]
-fn cuts_lines_and_returns(rt: HostRuntime) -> Result<(), Fail> {
-    let rows: [(&[u8], &str); 6] = [
-        (b"", ""),
-        (b"\n", "error: not a decimal\n"),
-        (b"5\n6\r\n7", "5\n6\n7\n"),
-        (b"5\r", "5\n"),
-        (b"5\r\r\n6\n", "error: not a decimal\n6\n"),
-        (
-            b"\xff\n5 \n",
-            "error: not a decimal\nerror: not a decimal\n",
-        ),
-    ];
-    for (input, want) in rows {
-        let output = output_of(&rt, input)?;
-        assert_eq!(rt; output.as_slice(), want.as_bytes(), "at {want}");
+/// Whether the output of an input is this, also one byte a call.
+fn answers(alloc: Global, input: &[u8], want: &[u8]) -> bool {
+    match Mode::english(alloc) {
+        Ok(mode) => {
+            runs_at_once(alloc, &mode, input, want)
+                && runs_slowly(
+                    alloc,
+                    &mode,
+                    (input, usize::MAX),
+                    (usize::MAX, Full::Fails),
+                    (Ok(()), want),
+                )
+        }
+        Err(_) => false,
     }
-    Ok(())
 }
 
-#[test]
-fn refuses_too_many_digits(rt: HostRuntime) -> Result<(), Fail> {
-    let mut nines = Vec::from_elem(rt.alloc(), b'9', 32768)?;
-    let longest = output_of(&rt, &nines)?;
-    assert_eq!(rt; longest.len(), 43691);
-    assert_eq!(rt; longest.iter().filter(|b| **b == b',').count(), 10922);
-    nines.push(b'9')?;
-    let past = output_of(&rt, &nines)?;
-    assert_eq!(rt; past.as_slice(), b"error: too many digits\n".as_slice());
-    nines.push(b'x')?;
-    let other = output_of(&rt, &nines)?;
-    assert_eq!(rt; other.as_slice(), b"error: not a decimal\n".as_slice());
-    Ok(())
-}
+/// A line and its answer.
+const ANSWERS: [(&str, &str); 16] = [
+    ("1000007", "1,000,007"),
+    ("-987654.321", "-987,654.321"),
+    ("0012", "0,012"),
+    ("-0", "-0"),
+    ("1.20", "1.20"),
+    (".5", "0.5"),
+    ("-.05", "-0.05"),
+    ("+5", "+5"),
+    ("+1234567.1234567", "+1,234,567.1234567"),
+    ("123", "123"),
+    ("12.", "error: not a decimal"),
+    ("1e3", "error: not a decimal"),
+    ("+", "error: not a decimal"),
+    (".", "error: not a decimal"),
+    ("1,000", "error: not a decimal"),
+    ("1.2.3", "error: not a decimal"),
+];
 
-#[test]
-fn cuts_lines_across_blocks(rt: HostRuntime) -> Result<(), Fail> {
-    let mut input = Vec::new(rt.alloc());
-    let mut want = Vec::new(rt.alloc());
-    for _ in 0..20000 {
-        input.extend_from_slice(b"-1234567.8\r\n")?;
-        want.extend_from_slice(b"-1,234,567.8\n")?;
+/// The lines of one column of the answers.
+fn column(alloc: Global, answers: bool) -> Result<Vec<u8>, AllocError> {
+    let mut lines = Vec::new(alloc);
+    for (line, answer) in ANSWERS {
+        let text = if answers { answer } else { line };
+        lines.extend_from_slice(text.as_bytes())?;
+        lines.push(b'\n')?;
     }
-    let output = output_of(&rt, &input)?;
-    assert!(rt; output.as_slice() == want.as_slice());
-    Ok(())
+    Ok(lines)
+}
+
+/// Whether the answers' lines are answered so.
+fn answers_lines(alloc: Global) -> bool {
+    match column(alloc, false) {
+        Ok(input) => match column(alloc, true) {
+            Ok(want) => answers(alloc, &input, &want),
+            Err(_) => false,
+        },
+        Err(_) => false,
+    }
 }
 
 #[test]
-fn keeps_a_beginning_where_writing_fails(rt: HostRuntime) -> Result<(), Fail> {
-    let want = b"5\n6\n7\n";
-    for room in 0..6 {
-        let (outcome, held) = run_over(rt.alloc(), b"5\n6\r\n7", usize::MAX, room, Full::Fails)?;
-        assert_eq!(rt; outcome, Err(RunError::Write), "after {room}");
-        assert_eq!(rt; held.as_slice(), &want[..room], "after {room}");
+fn answers_each_line(rt: HostRuntime) {
+    assert!(rt; answers_lines(rt.alloc()));
+}
+
+const CUT: [(&[u8], &str); 6] = [
+    (b"", ""),
+    (b"\n", "error: not a decimal\n"),
+    (b"5\n6\r\n7", "5\n6\n7\n"),
+    (b"5\r", "5\n"),
+    (b"5\r\r\n6\n", "error: not a decimal\n6\n"),
+    (
+        b"\xff\n5 \n",
+        "error: not a decimal\nerror: not a decimal\n",
+    ),
+];
+
+#[test]
+fn cuts_lines_and_returns(rt: HostRuntime) {
+    for (input, want) in CUT {
+        assert!(rt; answers(rt.alloc(), input, want.as_bytes()), "at {want}");
     }
-    let (outcome, held) = run_over(rt.alloc(), b"5\n", usize::MAX, 0, Full::TakesNothing)?;
-    assert_eq!(rt; outcome, Err(RunError::Write));
-    assert_eq!(rt; held.len(), 0);
-    Ok(())
+}
+
+/// Nines, and behind them another byte.
+fn nines(alloc: Global, count: usize, last: u8) -> Result<Vec<u8>, AllocError> {
+    let mut nines = Vec::from_elem(alloc, b'9', count)?;
+    nines.push(last)?;
+    Ok(nines)
+}
+
+fn answers_nines(alloc: Global, count: usize, last: u8, want: &[u8]) -> bool {
+    match nines(alloc, count, last) {
+        Ok(input) => answers(alloc, &input, want),
+        Err(_) => false,
+    }
+}
+
+/// So many nines in groups of three, and a line's end.
+fn grouped(alloc: Global, count: usize) -> Result<Vec<u8>, AllocError> {
+    let mut grouped = Vec::new(alloc);
+    for left in (0..count).rev() {
+        grouped.push(b'9')?;
+        if left > 0 && left % 3 == 0 {
+            grouped.push(b',')?;
+        }
+    }
+    grouped.push(b'\n')?;
+    Ok(grouped)
+}
+
+/// Whether the longest number is written with 10922 separators.
+fn answers_longest(alloc: Global) -> bool {
+    match grouped(alloc, 32768) {
+        Ok(want) => want.len() == 43691 && answers_nines(alloc, 32767, b'9', &want),
+        Err(_) => false,
+    }
 }
 
 #[test]
-fn keeps_whole_lines_where_reading_fails(rt: HostRuntime) -> Result<(), Fail> {
-    let rows: [(usize, &str); 4] = [(0, ""), (1, ""), (3, "5\n"), (5, "5\n6\n")];
-    for (good, want) in rows {
-        let (outcome, held) = run_over(rt.alloc(), b"5\n6\r\n7", good, usize::MAX, Full::Fails)?;
-        assert_eq!(rt; outcome, Err(RunError::Read), "after {good}");
-        assert_eq!(rt; held.as_slice(), want.as_bytes(), "after {good}");
+fn refuses_too_many_digits(rt: HostRuntime) {
+    assert!(rt; answers_longest(rt.alloc()));
+    assert!(rt; answers_nines(rt.alloc(), 32768, b'9', b"error: too many digits\n"));
+    assert!(rt; answers_nines(rt.alloc(), 32769, b'x', b"error: not a decimal\n"));
+}
+
+/// A line so many times.
+fn many(alloc: Global, line: &[u8], count: usize) -> Result<Vec<u8>, AllocError> {
+    let mut lines = Vec::new(alloc);
+    for _ in 0..count {
+        lines.extend_from_slice(line)?;
     }
-    Ok(())
+    Ok(lines)
+}
+
+/// Whether a line is answered so, so many times.
+fn answers_many(alloc: Global, line: &[u8], answer: &[u8], count: usize) -> bool {
+    match many(alloc, line, count) {
+        Ok(input) => match many(alloc, answer, count) {
+            Ok(want) => answers(alloc, &input, &want),
+            Err(_) => false,
+        },
+        Err(_) => false,
+    }
+}
+
+#[test]
+fn cuts_lines_across_blocks(rt: HostRuntime) {
+    assert!(rt; answers_many(rt.alloc(), b"-1234567.8\r\n", b"-1,234,567.8\n", 20000));
+}
+
+const LINES: &[u8] = b"5\n6\r\n7";
+
+/// How much room there is, and what is held where it ends.
+const ROOMS: [(usize, &str); 6] = [
+    (0, ""),
+    (1, "5"),
+    (2, "5\n"),
+    (3, "5\n6"),
+    (4, "5\n6\n"),
+    (5, "5\n6\n7"),
+];
+
+#[test]
+fn keeps_a_beginning_where_writing_fails(rt: HostRuntime) {
+    for (room, want) in ROOMS {
+        assert!(rt;
+            ends(
+                rt.alloc(),
+                (LINES, usize::MAX),
+                (room, Full::Fails),
+                (Err(RunError::Write), want.as_bytes())
+            ),
+            "after {room}"
+        );
+    }
+    assert!(rt;
+        ends(
+            rt.alloc(),
+            (b"5\n", usize::MAX),
+            (0, Full::TakesNothing),
+            (Err(RunError::Write), b"")
+        )
+    );
+}
+
+/// How many bytes can be read, and what is written of them.
+const GOOD: [(usize, &str); 4] = [(0, ""), (1, ""), (3, "5\n"), (5, "5\n6\n")];
+
+#[test]
+fn keeps_whole_lines_where_reading_fails(rt: HostRuntime) {
+    for (good, want) in GOOD {
+        assert!(rt;
+            ends(
+                rt.alloc(),
+                (LINES, good),
+                (usize::MAX, Full::Fails),
+                (Err(RunError::Read), want.as_bytes())
+            ),
+            "after {good}"
+        );
+    }
+}
+
+/// Whether a run answers as usual or for want of memory.
+fn runs_or_wants_memory(alloc: Global, input: &[u8], want: &[u8]) -> bool {
+    let mut written = Vec::new(alloc);
+    let mut rest = input;
+    match Mode::english(alloc) {
+        Ok(mode) => match run(alloc, &mode, &mut rest, &mut written) {
+            Ok(()) => written.as_slice() == want,
+            Err(error) => error != RunError::Read,
+        },
+        Err(_) => true,
+    }
 }
 
 /// Holds whichever one allocation is refused: the answer is the usual one or want of memory.
 #[test]
-fn runs_again_after_want_of_memory(rt: HostRuntime) -> Result<(), Fail> {
-    let input = b"1000007\n-987654.321\n";
-    let want = b"1,000,007\n-987,654.321\n";
+fn runs_again_after_want_of_memory(rt: HostRuntime) {
     for _ in 0..2 {
-        match run_over(rt.alloc(), input, usize::MAX, usize::MAX, Full::Fails) {
-            Ok((Ok(()), held)) => assert_eq!(rt; held.as_slice(), want.as_slice()),
-            Ok((Err(error), _)) => assert!(rt; error != RunError::Read),
-            Err(_) => {}
-        }
+        assert!(rt;
+            runs_or_wants_memory(
+                rt.alloc(),
+                b"1000007\n-987654.321\n",
+                b"1,000,007\n-987,654.321\n"
+            )
+        );
     }
-    Ok(())
 }
 
 #[test]

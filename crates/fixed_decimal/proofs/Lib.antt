@@ -4,6 +4,7 @@ pub mod Nearness
 pub mod Halves
 pub mod Places
 pub mod Numerals
+pub mod Readings
 pub mod Rounds
 pub mod MagnitudePowers
 pub mod Rounded

@@ -1,10 +1,11 @@
 -- What holds of every size and every text; each is the contract of a function of `laws`.
-use Rattle.std.specs.Prelude.{◌≡◌, ℕ, ◌+◌, ◌^◌, ◌<◌, ◌≤◌, List}
+use Rattle.std.specs.Prelude.{◌≡◌, ◌↔◌, ℕ, ◌+◌, ◌^◌, ◌<◌, ◌≤◌, List, Some, None}
 use Rattle.fixed_decimal.specs.declared.signs.Sign.{Sign}
 use Rattle.fixed_decimal.specs.Unsigned.{Unsigned}
 use Rattle.fixed_decimal.specs.Size.{magnitude, finest}
 use Rattle.fixed_decimal.specs.Nearest.{IsMultiple, IsNearest}
-use Rattle.fixed_decimal.specs.Text.{Reads}
+use Rattle.fixed_decimal.specs.Text.{Reads, ReadsNothing}
+use Rattle.fixed_decimal.specs.Reading.{reading}
 
 -- ten to the magnitude is at most the size
 abbrev pub MagnitudeIsReached : Type 0
@@ -37,3 +38,11 @@ OneMultipleIsNearest = (unit x y z : ℕ) → 0 < unit → IsNearest (IsMultiple
 -- a text spells one sign and one number at most
 abbrev pub TextReadsOneDecimal : Type 0
 TextReadsOneDecimal = (text : List ℕ) (sign sign' : Sign) (d d' : Unsigned) → Reads text sign d → Reads text sign' d' → (sign ≡ sign') × (d ≡ d')
+
+-- what is computed of a text is the sign and the number that it spells
+abbrev pub ReadingIsSpelled : Type 0
+ReadingIsSpelled = (text : List ℕ) (sign : Sign) (d : Unsigned) → (reading text ≡ Some (sign, d)) ↔ Reads text sign d
+
+-- and nothing exactly where it spells none
+abbrev pub ReadingOfNothing : Type 0
+ReadingOfNothing = (text : List ℕ) → (reading text ≡ None) ↔ ReadsNothing text

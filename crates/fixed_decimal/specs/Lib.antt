@@ -1,6 +1,7 @@
 pub mod Unsigned
 pub mod Size
 pub mod Text
+pub mod Reading
 pub mod Nearest
 pub mod Rounding
 pub mod RoundedDigits

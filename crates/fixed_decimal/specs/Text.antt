@@ -5,23 +5,36 @@ use Rattle.fixed_decimal.specs.declared.signs.Sign.{Sign}
 use Rattle.fixed_decimal.specs.declared.signs.Sign.TheVariants.{None, Negative, Positive}
 use Rattle.fixed_decimal.specs.Unsigned.{Unsigned, AreDigits, IsWithinLimits}
 
+-- the bytes of the text form
+abbrev pub plus_sign : ℕ
+plus_sign = 43
+
+abbrev pub minus_sign : ℕ
+minus_sign = 45
+
+abbrev pub point : ℕ
+point = 46
+
+abbrev pub digit_zero : ℕ
+digit_zero = 48
+
 -- how a sign is written
 abbrev pub sign_text : Sign → List ℕ
 sign_text None = []
-sign_text Negative = 45 ∷ []
-sign_text Positive = 43 ∷ []
+sign_text Negative = minus_sign ∷ []
+sign_text Positive = plus_sign ∷ []
 
 -- how digits are written, and what written digits stand for
 abbrev pub digits_text : List ℕ → List ℕ
-digits_text ds = map (λ d. 48 + d) ds
+digits_text ds = map (λ d. digit_zero + d) ds
 
 abbrev pub digit_values : List ℕ → List ℕ
-digit_values bytes = map (λ c. c - 48) bytes
+digit_values bytes = map (λ c. c - digit_zero) bytes
 
 -- a point and the fraction's digits; without a digit no point
 abbrev pub fraction_text : List ℕ → List ℕ
 fraction_text [] = []
-fraction_text (d ∷ ds) = 46 ∷ digits_text (d ∷ ds)
+fraction_text (d ∷ ds) = point ∷ digits_text (d ∷ ds)
 
 -- the text is the digits before the point, then the point with the digits after it, if there are any;
 -- some digit is written

@@ -4,7 +4,13 @@ ghost use Rattle.std.specs.Prelude.{◌≡◌, ◌≢◌, ◌+◌, ◌-◌, ◌<
 ghost use Rattle.smallvec.specs.SmallVec.{HasRoomFor, small_vec_len};
 
 use crate::DecimalError;
-use crate::unsigned::Digits;
+use smallvec::SmallVec;
+
+/// The digits of a decimal: short numbers keep them in the value, and take no memory.
+pub(crate) type Digits = SmallVec<u8, 16>;
+
+/// The most digits that may stand at power 0 and above, and the most below it.
+pub const MAX_DIGITS: usize = 32768;
 
 /// Whether every digit is 0.
 pub fn is_all_zero(digits: &[u8]) -> bool

@@ -5,6 +5,7 @@ ghost use Rattle.std.proofs.Common.{rules};
 ghost use Rattle.std.specs.Cmp.Lexicographic.{pointwise};
 ghost use Rattle.std.specs.Cmp.Rules.{comparing};
 ghost use Rattle.std.specs.Ordering.{eq_of_both, on};
+ghost use Rattle.fixed_decimal.specs.Unsigned.{IsUnsigned};
 
 use crate::{Decimal, DecimalError, UnsignedDecimal};
 use smallvec::SmallVec;
@@ -28,6 +29,7 @@ impl UnsignedDecimal {
     /// An equal value, with memory of its own.
     pub fn copy(&self, alloc: Global) -> Result<Self, DecimalError>
         ensures equal { IfOk result (λ d. d ≡ self.now) }
+        ensures valid { IsUnsigned self.now }
         ensures memory { IsOkUnless result DecimalError.OutOfMemory }
     {
         let digits = SmallVec::from_slice(alloc, &self.digits)?;
@@ -42,6 +44,7 @@ impl Decimal {
     /// An equal value, with memory of its own.
     pub fn copy(&self, alloc: Global) -> Result<Self, DecimalError>
         ensures equal { IfOk result (λ d. d ≡ self.now) }
+        ensures valid { IsUnsigned self.now.absolute }
         ensures memory { IsOkUnless result DecimalError.OutOfMemory }
     {
         let absolute = self.absolute.copy(alloc)?;

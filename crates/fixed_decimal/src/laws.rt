@@ -1,7 +1,7 @@
 //! What holds of all sizes, texts and decimals: each function does nothing, and its contract is the law.
 
 ghost use Rattle.std.specs.Prelude.{◌≡◌, ◌↔◌, IsTrue};
-ghost use Rattle.fixed_decimal.specs.Laws.{MagnitudeIsReached, MagnitudeIsGreatest, MagnitudeIsUnique, MagnitudeIsMonotone, MagnitudeOfZero, SomeMultipleIsNearest, OneMultipleIsNearest, TextReadsOneDecimal};
+ghost use Rattle.fixed_decimal.specs.Laws.{MagnitudeIsReached, MagnitudeIsGreatest, MagnitudeIsUnique, MagnitudeIsMonotone, MagnitudeOfZero, SomeMultipleIsNearest, OneMultipleIsNearest, TextReadsOneDecimal, ReadingIsSpelled, ReadingOfNothing};
 
 use crate::{Decimal, UnsignedDecimal};
 
@@ -23,6 +23,12 @@ pub fn nearest_multiple_is_unique()
 /// A text is read as one decimal at most.
 pub fn text_reads_one_decimal()
     ensures { TextReadsOneDecimal }
+{}
+
+/// What is computed of a text is what it spells.
+pub fn reading_is_what_is_spelled()
+    ensures spelled { ReadingIsSpelled }
+    ensures nothing { ReadingOfNothing }
 {}
 
 /// Two decimals are equal exactly where sign, written range and digits are the same.

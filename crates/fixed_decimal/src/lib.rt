@@ -9,6 +9,7 @@ mod error;
 pub mod laws;
 mod numbers;
 mod reading;
+mod rounded_digits;
 mod rounding;
 mod scaling;
 mod signed;

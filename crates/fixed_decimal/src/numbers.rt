@@ -35,6 +35,7 @@ impl UnsignedDecimal {
     /// The number one, written `1` (ICU4X `UnsignedDecimal::ONE`).
     pub fn one(alloc: Global) -> Result<Self, DecimalError>
         ensures one { IfOk result (λ d. d ≡ one) }
+        ensures valid { IfOk result (λ d. IsUnsigned d) }
         ensures memory { IsOkUnless result DecimalError.OutOfMemory }
     {
         let mut digits = SmallVec::with_capacity(alloc, 1)?;

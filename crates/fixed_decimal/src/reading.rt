@@ -5,15 +5,12 @@ ghost use Rattle.std.specs.List.{prefix_len, AllPass};
 ghost use Rattle.std.specs.Char.{is_ascii_digit};
 ghost use Rattle.smallvec.specs.SmallVec.{HasRoomFor, small_vec_len};
 ghost use Rattle.fixed_decimal.specs.Unsigned.{IsUnsigned};
-ghost use Rattle.fixed_decimal.specs.Text.{sign_text, digit_values, IsNumeral, integer_of, Reads, ReadsNothing, ReadsPastLimits};
+ghost use Rattle.fixed_decimal.specs.Text.{plus_sign, minus_sign, sign_text, digit_values, IsNumeral, integer_of, Reads, ReadsNothing, ReadsPastLimits};
 
-use crate::unsigned::Digits;
+use crate::digits::{Digits, MAX_DIGITS};
 use crate::{Decimal, DecimalError, Sign, UnsignedDecimal};
 use smallvec::SmallVec;
 use std::alloc::{AllocError, Global};
-
-/// The most digits that may stand before the point, and behind it.
-const MAX_DIGITS: usize = 32768;
 
 impl Decimal {
     /// Reads the text form: an optional `+` or `-`; then ASCII digits, optionally with a point and digits behind it,
@@ -44,7 +41,7 @@ impl Decimal {
 /// The sign that a text begins with, and the rest.
 fn split_sign(text: &[u8]) -> (Sign, &[u8])
     ensures signed { text.now ≡ sign_text result.0 ++ result.1.now }
-    ensures unsigned { result.0 ≡ Sign.None → (slice_index text.now 0 ≢ 43) × (slice_index text.now 0 ≢ 45) }
+    ensures unsigned { result.0 ≡ Sign.None → (slice_index text.now 0 ≢ plus_sign) × (slice_index text.now 0 ≢ minus_sign) }
 {
     match text {
         [b'-', rest @ ..] => (Sign::Negative, rest),
@@ -92,8 +89,8 @@ fn from_digits_text(
 ) -> Result<UnsignedDecimal, AllocError>
     requires before_digits { AllPass is_ascii_digit before.now }
     requires after_digits { AllPass is_ascii_digit after.now }
-    requires before_limit { length before.now ≤ 32768 }
-    requires after_limit { length after.now ≤ 32768 }
+    requires before_limit { length before.now ≤ MAX_DIGITS }
+    requires after_limit { length after.now ≤ MAX_DIGITS }
     ensures digits { IfOk result (λ d. d.digits ≡ integer_of (digit_values before.now) ++ digit_values after.now) }
     ensures scale { IfOk result (λ d. d.scale ≡ length after.now) }
     ensures valid { IfOk result (λ d. IsUnsigned d) }

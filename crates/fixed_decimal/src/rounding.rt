@@ -1,24 +1,14 @@
 //! Rounding to a multiple of a power of ten, half to even.
 
-ghost use Rattle.std.specs.Prelude.{◌≡◌, ◌≢◌, ◌+◌, ◌<◌, ◌≤◌, ◌^◌, ◌++◌, ◌↔◌, None, MatchBool, All, length, take, drop, replicate, option_to_list, OnOk, OnErr, IfOk, IfErr, IfNone, IfSome, IsErrAnd, pos, negsuc, ◌-ℤ◌, ◌≤ℤ◌};
-ghost use Rattle.smallvec.specs.SmallVec.{HasRoomFor, small_vec_len};
+ghost use Rattle.std.specs.Prelude.{◌≡◌, ◌≢◌, ◌+◌, ◌<◌, ◌≤◌, ◌^◌, ◌↔◌, MatchBool, MatchResult, All, length, take, drop, IfOk, IfErr, IfNone, IfSome, IsErrAnd, pos, negsuc, ◌-ℤ◌, ◌≤ℤ◌};
 ghost use Rattle.fixed_decimal.specs.Unsigned.{IsUnsigned};
 ghost use Rattle.fixed_decimal.specs.Size.{weighed};
 ghost use Rattle.fixed_decimal.specs.Rounding.{IsRounded, RoundsPastLimits, RoundsUp, RoundsDown, scale_at, zeros_at};
 ghost use Rattle.fixed_decimal.specs.RoundedDigits.{digits_left};
 
-use crate::digits::{is_all_zero, push_zeros, without_nines};
-use crate::unsigned::Digits;
+use crate::digits::{MAX_DIGITS, is_all_zero, without_nines};
+use crate::rounded_digits::{RoundedDigits, TOO_MANY_DIGITS};
 use crate::{DecimalError, UnsignedDecimal};
-use std::alloc::AllocError;
-
-/// Digits as rounding leaves them: the first ones of a value, then one that a carry raised, then zeros.
-#[derive(Clone, Copy)]
-pub(crate) struct RoundedDigits {
-    pub(crate) kept: usize,
-    pub(crate) raised: Option<u8>,
-    pub(crate) zeros: usize,
-}
 
 impl UnsignedDecimal {
     /// The nearest multiple of ten to the power, the even one of two equally near.
@@ -27,7 +17,7 @@ impl UnsignedDecimal {
     /// is handed back.
     pub fn rounded(mut self, power: i16) -> Result<Self, (Self, DecimalError)>
         ensures rounded { IfOk result (λ y. IsRounded self power y) }
-        ensures valid { IfOk result (λ y. IsUnsigned y) }
+        ensures valid { MatchResult result (λ y. IsUnsigned y) (λ e. IsUnsigned e.0) }
         ensures limit { IsErrAnd result (λ e. e.1 ≡ DecimalError.Limit) ↔ RoundsPastLimits self power }
         ensures no_syntax { IfErr result (λ e. e.1 ≢ DecimalError.Syntax) }
         ensures handed_back { IfErr result (λ e. e.0 ≡ self) }
@@ -35,7 +25,7 @@ impl UnsignedDecimal {
         let Some(rounded) = round_digits(&self.digits, self.scale, power) else {
             return Err((self, DecimalError::Limit));
         };
-        match leave(&mut self.digits, rounded) {
+        match rounded.leave(&mut self.digits) {
             Ok(()) => {
                 self.scale = scale_below(power);
                 Ok(self)
@@ -59,13 +49,13 @@ pub(crate) fn round_digits(digits: &[u8], scale: u16, power: i16) -> Option<Roun
     let integer_count = count - scale as usize;
     let zeros = zeros_below(power);
     let Some(kept) = kept_count(integer_count, power) else {
-        return Some(cut(0, zeros));
+        return Some(RoundedDigits::cut(0, zeros));
     };
     if kept >= count {
-        return Some(cut(count, kept - count));
+        return Some(RoundedDigits::cut(count, kept - count));
     }
     if !rounds_up(digits, kept) {
-        return Some(cut(kept, zeros));
+        return Some(RoundedDigits::cut(kept, zeros));
     }
     let left = without_nines(digits, kept);
     if left > 0 {
@@ -75,7 +65,7 @@ pub(crate) fn round_digits(digits: &[u8], scale: u16, power: i16) -> Option<Roun
             zeros: kept - left + zeros,
         });
     }
-    if integer_count == 32768 {
+    if integer_count == MAX_DIGITS {
         return None;
     }
     Some(RoundedDigits {
@@ -83,42 +73,6 @@ pub(crate) fn round_digits(digits: &[u8], scale: u16, power: i16) -> Option<Roun
         raised: Some(1),
         zeros: kept + zeros,
     })
-}
-
-/// The first digits and then zeros, none of them raised.
-pub(crate) fn cut(kept: usize, zeros: usize) -> RoundedDigits
-    ensures { result ≡ record { kept = kept; raised = None; zeros = zeros } }
-{
-    RoundedDigits {
-        kept,
-        raised: None,
-        zeros,
-    }
-}
-
-/// Leaves of digits what rounding leaves; where memory is refused they are as they were.
-fn leave(digits: &mut Digits, rounded: RoundedDigits) -> Result<(), AllocError>
-    requires kept { rounded.kept ≤ small_vec_len digits.old }
-    requires small { rounded.kept + rounded.zeros < 200000 }
-    ensures items { OnOk result (digits.new.items ≡ digits_left digits.old.items rounded.kept rounded.raised rounded.zeros) }
-    ensures unchanged { OnErr result (digits.new.items ≡ digits.old.items) }
-{
-    let count = rounded.kept + rounded.zeros + 1;
-    digits.reserve(count.saturating_sub(digits.len()))?;
-    digits.truncate(rounded.kept);
-    push_rest(digits, rounded);
-    Ok(())
-}
-
-/// Writes what stands behind the first digits, for which there is room.
-pub(crate) fn push_rest(digits: &mut Digits, rounded: RoundedDigits)
-    requires { HasRoomFor digits.old (rounded.zeros + 1) }
-    ensures { digits.new.items ≡ (digits.old.items ++ option_to_list rounded.raised) ++ replicate rounded.zeros 0 }
-{
-    if let Some(digit) = rounded.raised {
-        digits.push_reserved(digit);
-    }
-    push_zeros(digits, rounded.zeros);
 }
 
 /// Whether the digits from index `kept` on round the digits before it up, half to even.
@@ -159,7 +113,7 @@ pub(crate) fn scale_below(power: i16) -> u16
 
 /// How many digits stand at the power and above, if it is not above the one over the first digit.
 fn kept_count(integer_count: usize, power: i16) -> Option<usize>
-    requires { integer_count ≤ 32768 }
+    requires { integer_count ≤ MAX_DIGITS }
     ensures none { IfNone result ((pos integer_count -ℤ power) ≤ℤ negsuc 0) }
     ensures some { IfSome result (λ kept. pos kept ≡ pos integer_count -ℤ power) }
 {

@@ -1,12 +1,12 @@
 //! Multiplying by a power of ten.
 
-ghost use Rattle.std.specs.Prelude.{◌≡◌, ◌≢◌, ◌<◌, ◌≤◌, ◌↔◌, ◌++◌, ◌⊎◌, replicate, OnOk, OnErr, OnSome, IfOk, IfErr, IfSome, IfNone, IsErrOf, IsErrAnd, pos, ◌+ℤ◌, ◌-ℤ◌, ◌≤ℤ◌, ◌<ℤ◌};
+ghost use Rattle.std.specs.Prelude.{MatchResult, ◌≡◌, ◌≢◌, ◌<◌, ◌≤◌, ◌↔◌, ◌++◌, ◌⊎◌, replicate, OnOk, OnErr, OnSome, IfOk, IfErr, IfSome, IfNone, IsErrOf, IsErrAnd, pos, ◌+ℤ◌, ◌-ℤ◌, ◌≤ℤ◌, ◌<ℤ◌};
 ghost use Rattle.std.specs.Int.{int_max};
 ghost use Rattle.fixed_decimal.specs.Unsigned.{IsUnsigned};
 ghost use Rattle.fixed_decimal.specs.Size.{size};
 ghost use Rattle.fixed_decimal.specs.Scaling.{IsMoved, IsTimesTenTo, MovesPastLimits};
 
-use crate::digits::widen;
+use crate::digits::{MAX_DIGITS, widen};
 use crate::{DecimalError, UnsignedDecimal};
 
 impl UnsignedDecimal {
@@ -17,7 +17,7 @@ impl UnsignedDecimal {
     pub fn multiplied_pow10(mut self, power: i16) -> Result<Self, (Self, DecimalError)>
         ensures moved { IfOk result (λ y. IsMoved self power y) }
         ensures size { IfOk result (λ y. IsTimesTenTo power (size self) (size y)) }
-        ensures valid { IfOk result (λ y. IsUnsigned y) }
+        ensures valid { MatchResult result (λ y. IsUnsigned y) (λ e. IsUnsigned e.0) }
         ensures limit { IsErrAnd result (λ e. e.1 ≡ DecimalError.Limit) ↔ MovesPastLimits self power }
         ensures no_syntax { IfErr result (λ e. e.1 ≢ DecimalError.Syntax) }
         ensures handed_back { IfErr result (λ e. e.0 ≡ self) }
@@ -32,7 +32,7 @@ impl UnsignedDecimal {
     pub(crate) fn multiply_pow10(&mut self, power: i16) -> Result<(), DecimalError>
         ensures moved { OnOk result (IsMoved self.old power self.new) }
         ensures size { OnOk result (IsTimesTenTo power (size self.old) (size self.new)) }
-        ensures valid { OnOk result (IsUnsigned self.new) }
+        ensures valid { IsUnsigned self.new }
         ensures limit { IsErrOf result DecimalError.Limit ↔ MovesPastLimits self.old power }
         ensures no_syntax { ¬ (IsErrOf result DecimalError.Syntax) }
         ensures unchanged { OnErr result (self.new ≡ self.old) }
@@ -47,6 +47,9 @@ impl UnsignedDecimal {
     }
 }
 
+/// How many powers a decimal may have at 0 and above, and how many below.
+const MAX_POWERS: i32 = 32768;
+
 /// How many zeros a moved range takes before and behind the digits, and how many digits then stand below power 0.
 #[derive(Clone, Copy)]
 struct MovedRange {
@@ -58,8 +61,8 @@ struct MovedRange {
 /// The range moved by a power and widened to include 0, if no power leaves the limits.
 fn moved_range(integer_count: usize, scale: u16, power: i16) -> Option<MovedRange>
     requires integer_some { 0 < integer_count }
-    requires integer_limit { integer_count ≤ 32768 }
-    requires scale_limit { scale ≤ 32768 }
+    requires integer_limit { integer_count ≤ MAX_DIGITS }
+    requires scale_limit { scale ≤ MAX_DIGITS }
     ensures front { IfSome result (λ r. pos r.front ≡ int_max (pos 0) (pos 1 -ℤ (pos integer_count +ℤ power))) }
     ensures back { IfSome result (λ r. pos r.back ≡ int_max (pos 0) (power -ℤ pos scale)) }
     ensures scale { IfSome result (λ r. pos r.scale ≡ int_max (pos 0) (pos scale -ℤ power)) }
@@ -69,7 +72,7 @@ fn moved_range(integer_count: usize, scale: u16, power: i16) -> Option<MovedRang
 {
     let high = integer_count as i32 + power as i32;
     let low = scale as i32 - power as i32;
-    if high > 32768 || low > 32768 {
+    if high > MAX_POWERS || low > MAX_POWERS {
         return None;
     }
     Some(MovedRange {

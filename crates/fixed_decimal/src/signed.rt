@@ -1,12 +1,13 @@
 //! Decimals with a sign.
 
-ghost use Rattle.std.specs.Prelude.{◌≡◌, ◌≢◌, ◌*◌, ◌↔◌, ◌==◌, ◌<ℤ◌, IfOk, IfErr, OnOk, OnErr, IsErrAnd, IsErrOf, IsOkUnless, MatchBool, pos, unsigned_abs, int_lt};
+ghost use Rattle.std.specs.Prelude.{◌≡◌, ◌≢◌, ◌*◌, ◌↔◌, ◌==◌, ◌<ℤ◌, IfOk, IfErr, OnOk, OnErr, IsErrAnd, IsErrOf, IsOkUnless, MatchBool, MatchResult, pos, unsigned_abs, int_lt};
 ghost use Rattle.fixed_decimal.specs.Unsigned.{IsUnsigned, low, high};
 ghost use Rattle.fixed_decimal.specs.Size.{size, ten_to, magnitude_power};
 ghost use Rattle.fixed_decimal.specs.Rounding.{IsRounded, RoundsPastLimits};
 ghost use Rattle.fixed_decimal.specs.Scaling.{IsMoved, IsTimesTenTo, MovesPastLimits};
 ghost use Rattle.fixed_decimal.specs.SignDisplay.{displayed_sign};
 
+use crate::signs::displayed_sign;
 use crate::{DecimalError, Sign, SignDisplay, UnsignedDecimal};
 use std::alloc::Global;
 
@@ -24,6 +25,7 @@ impl Decimal {
         ensures size { IfOk result (λ d. size d.absolute ≡ value * ten_to (pos 0)) }
         ensures low { IfOk result (λ d. low d.absolute ≡ pos 0) }
         ensures high { IfOk result (λ d. high d.absolute ≡ magnitude_power (size d.absolute)) }
+        ensures valid { IfOk result (λ d. IsUnsigned d.absolute) }
         ensures memory { IsOkUnless result DecimalError.OutOfMemory }
     {
         let absolute = UnsignedDecimal::from_u64(alloc, value)?;
@@ -39,6 +41,7 @@ impl Decimal {
         ensures size { IfOk result (λ d. size d.absolute ≡ unsigned_abs value * ten_to (pos 0)) }
         ensures low { IfOk result (λ d. low d.absolute ≡ pos 0) }
         ensures high { IfOk result (λ d. high d.absolute ≡ magnitude_power (size d.absolute)) }
+        ensures valid { IfOk result (λ d. IsUnsigned d.absolute) }
         ensures memory { IsOkUnless result DecimalError.OutOfMemory }
     {
         let absolute = UnsignedDecimal::from_u64(alloc, value.unsigned_abs())?;
@@ -58,6 +61,7 @@ impl Decimal {
         ensures moved { OnOk result (IsMoved self.old.absolute power self.new.absolute) }
         ensures size { OnOk result (IsTimesTenTo power (size self.old.absolute) (size self.new.absolute)) }
         ensures sign { self.new.sign ≡ self.old.sign }
+        ensures valid { IsUnsigned self.new.absolute }
         ensures limit { IsErrOf result DecimalError.Limit ↔ MovesPastLimits self.old.absolute power }
         ensures no_syntax { ¬ (IsErrOf result DecimalError.Syntax) }
         ensures unchanged { OnErr result (self.new ≡ self.old) }
@@ -72,6 +76,7 @@ impl Decimal {
     pub fn rounded(self, power: i16) -> Result<Self, (Self, DecimalError)>
         ensures rounded { IfOk result (λ y. IsRounded self.absolute power y.absolute) }
         ensures sign { IfOk result (λ y. y.sign ≡ self.sign) }
+        ensures valid { MatchResult result (λ y. IsUnsigned y.absolute) (λ e. IsUnsigned e.0.absolute) }
         ensures limit { IsErrAnd result (λ e. e.1 ≡ DecimalError.Limit) ↔ RoundsPastLimits self.absolute power }
         ensures no_syntax { IfErr result (λ e. e.1 ≢ DecimalError.Syntax) }
         ensures handed_back { IfErr result (λ e. e.0 ≡ self) }
@@ -87,34 +92,10 @@ impl Decimal {
     pub fn with_sign_display(self, display: SignDisplay) -> Self
         ensures sign { result.sign ≡ displayed_sign display (size self.absolute == 0) self.sign }
         ensures absolute { result.absolute ≡ self.absolute }
+        ensures valid { IsUnsigned result.absolute }
     {
         let Decimal { sign, absolute } = self;
         let sign = displayed_sign(display, absolute.is_zero(), sign);
         Decimal { sign, absolute }
-    }
-}
-
-/// The sign shown, of a number that is zero or not and has this sign.
-fn displayed_sign(display: SignDisplay, is_zero: bool, sign: Sign) -> Sign
-    ensures { result ≡ displayed_sign display is_zero sign }
-{
-    match display {
-        SignDisplay::Auto => minus_or(sign, Sign::None),
-        SignDisplay::Always => minus_or(sign, Sign::Positive),
-        SignDisplay::Never => Sign::None,
-        SignDisplay::ExceptZero | SignDisplay::Negative if is_zero => Sign::None,
-        SignDisplay::ExceptZero => minus_or(sign, Sign::Positive),
-        SignDisplay::Negative => minus_or(sign, Sign::None),
-    }
-}
-
-/// A minus, or else the other sign.
-fn minus_or(sign: Sign, other: Sign) -> Sign
-    ensures negative { sign ≡ Sign.Negative → result ≡ Sign.Negative }
-    ensures other { sign ≢ Sign.Negative → result ≡ other }
-{
-    match sign {
-        Sign::Negative => Sign::Negative,
-        Sign::None | Sign::Positive => other,
     }
 }

@@ -1,15 +1,11 @@
 //! Decimals without a sign.
 
-ghost use Rattle.std.specs.Prelude.{◌≡◌, ◌<◌, ◌↔◌, All, IsTrue};
-ghost use Rattle.std.specs.Range.{range_inclusive_start, range_inclusive_end};
+ghost use Rattle.std.specs.Prelude.{false, ◌≡◌, ◌<◌, ◌↔◌, All, IsTrue};
+ghost use Rattle.std.specs.Range.{range_inclusive_start, range_inclusive_end, range_inclusive_exhausted};
 
-use crate::digits::{digit_or_zero, is_all_zero, leading_zeros};
-use smallvec::SmallVec;
+use crate::digits::{Digits, digit_or_zero, is_all_zero, leading_zeros};
 use std::marker::Model;
 use std::ops::RangeInclusive;
-
-/// The digits of a decimal: short numbers keep them in the value, and take no memory.
-pub(crate) type Digits = SmallVec<u8, 16>;
 
 /// A decimal without a sign: a written range of powers that includes 0, and a digit at each power of the range.
 ///
@@ -40,6 +36,7 @@ impl UnsignedDecimal {
     pub fn magnitude_range(&self) -> RangeInclusive<i16>
         ensures low { range_inclusive_start result ≡ low self.now }
         ensures high { range_inclusive_end result ≡ high self.now }
+        ensures unspent { range_inclusive_exhausted result ≡ false }
         ensures valid { IsUnsigned self.now }
     {
         let integer_count = self.digits.len() - self.scale as usize;
@@ -99,7 +96,8 @@ impl UnsignedDecimal {
 
     /// Whether the number is zero, whatever its written range (ICU4X `is_zero`).
     pub fn is_zero(&self) -> bool
-        ensures { IsTrue result ↔ (size self.now ≡ 0) }
+        ensures zero { IsTrue result ↔ (size self.now ≡ 0) }
+        ensures valid { IsUnsigned self.now }
     {
         is_all_zero(&self.digits)
     }

@@ -1,23 +1,23 @@
 -- What the steps of displaying a decimal say of the size displayed.
-use Rattle.std.proofs.Common.{◌≡◌, ℕ, zero, suc, ◌+◌, ◌-◌, ◌*◌, ◌^◌, ◌<◌, ◌≤◌, ◌⊎◌, inl, inr, refl, arith, sym, ap, ◌∙◌, List, Option, Some, None, IfSome, Bool, true, false, ◌==◌, ◌&&◌, if◌then◌else◌, is_some, option_and_then, slice_get, length, pos, ◌-ℤ◌, mul_assoc, []}
+use Rattle.std.proofs.Common.{◌≡◌, ℕ, zero, suc, ◌+◌, ◌-◌, ◌*◌, ◌^◌, ◌<◌, ◌≤◌, ◌⊎◌, inl, inr, refl, arith, sym, ap, ◌∙◌, List, Option, Some, None, IfSome, false, pos, ◌-ℤ◌, mul_assoc}
 use Rattle.std.specs.Int.{int_max}
+use Rattle.std.proofs.lemmas.Int.{ints, clamps}
 use Rattle.std.proofs.lemmas.Nat.{pow-add}
-use Rattle.std.proofs.lemmas.List.Elements.{All-cons, All-nil}
-use Rattle.std.proofs.lemmas.Bool.{eqb-true}
+use Rattle.std.proofs.lemmas.Bool.{cases_lt, cases_eq}
 use Rattle.fixed_decimal.specs.Size.{finest, magnitude, magnitude_power, size, weighed}
 use Rattle.fixed_decimal.specs.Trimming.{IsTrimmed}
-use Rattle.fixed_decimal.specs.Unsigned.{IsUnsigned, Unsigned, high, one}
+use Rattle.fixed_decimal.specs.Unsigned.{IsUnsigned, Unsigned, high}
 use Rattle.fixed_decimal.specs.Nearest.{IsMultiple}
-use Rattle.fixed_decimal.proofs.Weights.{ten_pos, ten_mono, same_power, weighed_units}
+use Rattle.fixed_decimal.proofs.Weights.{ten_pos, ten_mono, weighed_units}
 use Rattle.fixed_decimal.proofs.Nearness.{nearest_some}
-use Rattle.fixed_decimal.proofs.MagnitudeLemmas.{magnitude_low, magnitude_monotone, magnitude-ten, ten_multiple}
-use Rattle.icu_decimal_data.specs.CompactTable.{TableEntry, IsCompactTable, type_place, entry_for, next_entry, entry_at, exponent_of, exponent_for}
+use Rattle.fixed_decimal.proofs.MagnitudeLemmas.{magnitude_low, magnitude_monotone, magnitude-ten, magnitude-zero, ten_multiple}
+use Rattle.icu_decimal_data.specs.CompactTable.{TableEntry, IsCompactTable, type_place, entry_for, exponent_of, exponent_for}
 use Rattle.icu_decimal.specs.CompactNumber.{rounding_place, rounding_place_for, ShowsPastLimits}
 use Rattle.icu_decimal.specs.RoundedAt.{IsRoundedAt, RoundsPast}
-use Rattle.icu_decimal.specs.Displayed.{carried_by, carried, exponent_place, IsDisplayed}
+use Rattle.icu_decimal.specs.Displayed.{are_same_entry, IsDisplayed}
 use Rattle.icu_decimal.proofs.NearestLaws.{nearest_to_itself, itself_nearest, rounded_zero, rounded_within, nearest_compact_from_rounded, nearest_compact_same}
 use Rattle.icu_decimal.proofs.EntrySteps.{entry_has, entry_reached}
-use Rattle.icu_decimal.proofs.CarriedEntries.{is_some-slice_get}
+use Rattle.icu_decimal.proofs.ChangedEntries.{same_entry-itself}
 
 -- rounding never lowers the magnitude
 pub magnitude_rounded : (exponent x y : ℕ) → IsRoundedAt (rounding_place exponent (magnitude x)) x y → magnitude x ≤ magnitude y
@@ -61,71 +61,68 @@ exact_within d u p h small few (z, near, large) =
     let same : z ≡ size d = itself_nearest (IsMultiple (10 ^ u)) (10 ^ u) (size d) z (exact_multiple d u h) near in
     omega (arith, ten_mono p (finest + 32768) few)
 
--- the size of one
-size-one : size one ≡ 10 ^ finest
-size-one =
-    let power : finest - 0 + 0 ≡ finest = omega arith in
-    let e : 10 ^ (finest - 0 + 0) ≡ 10 ^ finest = ap (λ n. 10 ^ n) power in
-    omega (arith, e)
-
--- one is a decimal
-one_valid : IsUnsigned one
-one_valid = record {
-  below_ten = All-cons (λ d. d < 10) 1 [] (omega arith) (All-nil (λ d. d < 10));
-  integer_some = omega arith;
-  high_limit = omega arith;
-  low_limit = omega arith;
-}
-
--- what an entry taken under two tests has, where both hold
-tested : (b c : Bool) (e : TableEntry) (P : TableEntry → Type 0) → (b ≡ true → c ≡ true → P e) → IfSome (if b && c then Some e else None) P
-tested true true e P h = h refl refl
-tested true false e P h = tt
-tested false c e P h = tt
-
--- the entry that a carry takes has the next magnitude, which is reached, as its key
-carried_has : (key : TableEntry → ℕ) (table : List TableEntry) (m to : ℕ) → IfSome (carried_by key table m to) (λ e. (to ≡ suc m) × (to ≡ key e))
-unfolding carried_by
-carried_has key table m to = go (next_entry table m)
-  where
-    go : (o : Option TableEntry) → IfSome (option_and_then (λ (e : TableEntry). if (to == suc m) && (to == key e) then Some e else None) o) (λ e. (to ≡ suc m) × (to ≡ key e))
-    go None = tt
-    go (Some e) = tested (to == suc m) (to == key e) e (λ e. (to ≡ suc m) × (to ≡ key e)) (λ a b. (eqb-true to (suc m) a, eqb-true to (key e) b))
+-- rounding leaves the magnitude as it is, or carries to the next one
+pub magnitude_steps : (exponent x y : ℕ) → IsRoundedAt (rounding_place exponent (magnitude x)) x y → (magnitude y ≡ magnitude x) ⊎ (magnitude y ≡ magnitude x + 1)
+magnitude_steps exponent zero y r = let none : y ≡ 0 = rounded_zero (rounding_place exponent (magnitude 0)) y r in inl (ap magnitude none)
+magnitude_steps exponent (suc k) y r =
+    let within = rounded_within exponent (suc k) y (omega arith) r in
+    let some : 0 < y = omega (arith, ten_pos (magnitude (suc k))) in
+    let low = magnitude_monotone (10 ^ magnitude (suc k)) y (ten_pos (magnitude (suc k))) within.0 in
+    let high = magnitude_monotone y (10 ^ (magnitude (suc k) + 1)) some within.1 in
+    elim (cases_eq (magnitude y) (magnitude (suc k))) [
+      | inl stays ↦ inl stays
+      | inr other ↦ inr (omega (arith, magnitude-ten (magnitude (suc k)), magnitude-ten (magnitude (suc k) + 1)))
+    ]
 
 -- where rounding carries to the next magnitude, it reaches just the power of ten
-carry_reaches : (table : List TableEntry) (x y : ℕ) → magnitude y ≡ suc (magnitude x) → IsRoundedAt (rounding_place_for table (magnitude x)) x y → y ≡ 10 ^ magnitude y
-carry_reaches table zero y carry r = let none : y ≡ 0 = rounded_zero (rounding_place_for table (magnitude 0)) y r in absurd (omega (arith, ap magnitude none))
-carry_reaches table (suc k) y carry r =
-    let within = rounded_within (exponent_for table (magnitude (suc k))) (suc k) y (omega arith) r in
-    let same : 10 ^ magnitude y ≡ 10 ^ (magnitude (suc k) + 1) = same_power (magnitude y) (magnitude (suc k) + 1) (omega arith) in
+carry_reaches : (exponent x y : ℕ) → magnitude y ≡ magnitude x + 1 → IsRoundedAt (rounding_place exponent (magnitude x)) x y → y ≡ 10 ^ magnitude y
+carry_reaches exponent zero y carry r = let none : y ≡ 0 = rounded_zero (rounding_place exponent (magnitude 0)) y r in absurd (omega (arith, ap magnitude none))
+carry_reaches exponent (suc k) y carry r =
+    let within = rounded_within exponent (suc k) y (omega arith) r in
+    let same : 10 ^ magnitude y ≡ 10 ^ (magnitude (suc k) + 1) = ap (λ n. 10 ^ n) carry in
     omega (arith, magnitude_low y (omega (arith, ten_pos (magnitude (suc k)))))
 
--- after a carry into an entry the significand 1 is displayed by that entry
-pub carry_is_displayed : (table : List TableEntry) (d : Unsigned) (y i : ℕ) → i < length table → entry_at table (Some i) ≡ carried table (magnitude (size d)) (magnitude y) → IsRoundedAt (rounding_place_for table (magnitude (size d))) (size d) y → IsDisplayed table d y (entry_at table (Some i)) one
-carry_is_displayed table d y i inside is r = go (slice_get table i) (is_some-slice_get table i inside) is
-  where
-    go : (o : Option TableEntry) → is_some o ≡ true → o ≡ carried table (magnitude (size d)) (magnitude y) → IsDisplayed table d y o one
-    go None some is = absurd (cc)
-    go (Some e) some is =
-        let has : (magnitude y ≡ suc (magnitude (size d))) × (magnitude y ≡ e.exponent + finest) = rw (← is) at (carried_has exponent_place table (magnitude (size d)) (magnitude y)) in
-        let power : y ≡ 10 ^ magnitude y = carry_reaches table (size d) y has.0 r in
-        record {
-          nearest = nearest_compact_from_rounded table (size d) y r;
-          entry_is = rw (← is) refl;
-          scaled = rw size-one (sym (pow-add 10 finest e.exponent) ∙ ap (λ n. 10 ^ n) (omega arith) ∙ sym power);
-          is_decimal = one_valid;
-          trimmed = inl refl;
-          high_is = rw (← is) refl;
-        }
+-- where the magnitude reached has another entry, it is the next one, and the size is the power of ten
+pub changed_is_ten : (table : List TableEntry) (exponent x y : ℕ) → IsRoundedAt (rounding_place exponent (magnitude x)) x y → are_same_entry (entry_for table (magnitude y)) (entry_for table (magnitude x)) ≡ false → y ≡ 10 ^ magnitude y
+changed_is_ten table exponent x y r changed = elim (magnitude_steps exponent x y r) [
+  | inl stays ↦ absurd (let itself = same_entry-itself (entry_for table (magnitude x)) in let same = rw stays at changed in cc)
+  | inr carry ↦ carry_reaches exponent x y carry r
+]
 
--- without one the rounded number is displayed by the entry of its magnitude, as the significand that its exponent leaves
-pub rounded_is_displayed : (table : List TableEntry) (d s : Unsigned) (y : ℕ) (by : Option TableEntry) → None ≡ carried table (magnitude (size d)) (magnitude y) → by ≡ entry_for table (magnitude (size d)) → IsRoundedAt (rounding_place_for table (magnitude (size d))) (size d) y
+-- what rounding reaches within the limits is below ten to the power 32768
+pub magnitude_within : (u x y : ℕ) → IsRoundedAt u x y → ¬ (RoundsPast u x) → magnitude y < finest + 32768
+magnitude_within u x y r within = elim (cases_lt (magnitude y) (finest + 32768)) [
+  | inl below ↦ below
+  | inr above ↦ elim (cases_eq y 0) [
+    | inl none ↦ absurd (let least : magnitude y ≡ finest = ap magnitude none ∙ magnitude-zero in omega arith)
+    | inr some ↦ absurd (within (y, r, omega (arith, magnitude_low y (omega arith), ten_mono (finest + 32768) (magnitude y) above)))
+  ]
+]
+
+-- by the entry of the input's magnitude, where that is the one of the magnitude reached too, the rounded number is displayed
+-- as the significand that the exponent leaves
+pub displayed_by_same : (table : List TableEntry) (d s : Unsigned) (y : ℕ) (by : Option TableEntry) → by ≡ entry_for table (magnitude (size d)) → by ≡ entry_for table (magnitude y) → IsRoundedAt (rounding_place_for table (magnitude (size d))) (size d) y
     → size s * 10 ^ exponent_of by ≡ y → IsUnsigned s → IsTrimmed s → high s ≡ int_max (pos 0) (int_max (high d) (magnitude_power y) -ℤ pos (exponent_of by)) → IsDisplayed table d y by s
-rounded_is_displayed table d s y by none is r scaled valid trimmed top = record {
+displayed_by_same table d s y by here is r scaled valid trimmed top = record {
   nearest = nearest_compact_from_rounded table (size d) y r;
-  entry_is = rw (← none) is;
+  entry_is = is;
   scaled = scaled;
   is_decimal = valid;
   trimmed = trimmed;
-  high_is = rw (← none) (top ∙ ap (λ (o : Option TableEntry). int_max (pos 0) (int_max (high d) (magnitude_power y) -ℤ pos (exponent_of o))) is);
+  high_is = rw (← here, ← is, same_entry-itself by) top;
 }
+
+-- by another entry it is displayed as the power of ten that the exponent leaves
+pub displayed_by_other : (table : List TableEntry) (d s : Unsigned) (y power : ℕ) (by : Option TableEntry) → by ≡ entry_for table (magnitude y) → are_same_entry by (entry_for table (magnitude (size d))) ≡ false
+    → IsRoundedAt (rounding_place_for table (magnitude (size d))) (size d) y → finest + power + exponent_of by ≡ magnitude y → size s ≡ 10 ^ (finest + power) → IsUnsigned s → IsTrimmed s → high s ≡ pos power → IsDisplayed table d y by s
+displayed_by_other table d s y power by is other r sum ten valid trimmed top =
+    let changed : are_same_entry (entry_for table (magnitude y)) (entry_for table (magnitude (size d))) ≡ false = rw (← is) other in
+    let reached : y ≡ 10 ^ magnitude y = changed_is_ten table (exponent_for table (magnitude (size d))) (size d) y r changed in
+    record {
+      nearest = nearest_compact_from_rounded table (size d) y r;
+      entry_is = is;
+      scaled = rw ten (sym (pow-add 10 (finest + power) (exponent_of by)) ∙ ap (λ n. 10 ^ n) sum ∙ sym reached);
+      is_decimal = valid;
+      trimmed = trimmed;
+      high_is = rw (← is, other) (omega (arith, ints, clamps));
+    }

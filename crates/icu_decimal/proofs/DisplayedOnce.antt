@@ -100,7 +100,7 @@ same_scaled entry other a b y z entries sizes p q =
 pub displayed_is_one : DisplayedIsOne
 displayed_is_one table d y z entry other significand another h k =
     let sizes : y ≡ z = nearest_compact_same table (size d) z y k.nearest h.nearest in
-    let entries : entry ≡ other = h.entry_is ∙ ap (displayed_entry table (size d)) sizes ∙ sym k.entry_is in (
+    let entries : entry ≡ other = h.entry_is ∙ ap (displayed_entry table) sizes ∙ sym k.entry_is in (
       sizes,
       entries,
       trimmed_told significand another h.is_decimal k.is_decimal h.trimmed k.trimmed

@@ -1,20 +1,21 @@
 -- What is displayed of a decimal, by the clauses of the steps.
-use Rattle.std.proofs.Common.{◌≡◌, ◌≢◌, ℕ, ◌+◌, ◌*◌, ◌^◌, ◌<◌, ◌≤◌, ◌⊎◌, inl, inr, arith, sym, ap, subst, ◌∙◌, List, Option, Some, None, Ok, length, ℤ, pos, ◌+ℤ◌, ◌-ℤ◌, ◌≤ℤ◌}
+use Rattle.std.proofs.Common.{◌≡◌, ◌≢◌, ℕ, ◌+◌, ◌*◌, ◌^◌, ◌≤◌, ◌⊎◌, inl, inr, arith, sym, ap, subst, ◌∙◌, List, Option, Ok, false, ℤ, pos, negsuc, ◌+ℤ◌, ◌-ℤ◌, ◌≤ℤ◌}
 use Rattle.std.specs.Prelude.{IsErrOf}
 use Rattle.std.specs.Int.{int_max}
 use Rattle.std.proofs.lemmas.Bool.{cases_eq}
 use Rattle.std.proofs.lemmas.Int.{ints}
-use Rattle.fixed_decimal.specs.Size.{finest, magnitude, magnitude_power, place, size}
+use Rattle.fixed_decimal.specs.Size.{finest, magnitude, magnitude_power, place, size, ten_to}
 use Rattle.fixed_decimal.specs.Trimming.{IsTrimmed}
-use Rattle.fixed_decimal.specs.Unsigned.{IsUnsigned, Unsigned, high, one}
+use Rattle.fixed_decimal.specs.Unsigned.{IsUnsigned, Unsigned, high}
 use Rattle.fixed_decimal.proofs.MagnitudeLemmas.{magnitude-zero, magnitude_times}
 use Rattle.fixed_decimal.proofs.MagnitudePowers.{place-magnitude}
-use Rattle.icu_decimal_data.specs.CompactTable.{TableEntry, IsCompactTable, entry_for, entry_at, exponent_of}
+use Rattle.icu_decimal_data.specs.CompactTable.{TableEntry, IsCompactTable, entry_for, exponent_of, exponent_for}
 use Rattle.icu_decimal.specs.declared.error.FormatError.{FormatError}
 use Rattle.icu_decimal.specs.CompactNumber.{rounding_place, rounding_place_for, ShowsPastLimits}
 use Rattle.icu_decimal.specs.RoundedAt.{IsRoundedAt, RoundsPast}
-use Rattle.icu_decimal.specs.Displayed.{carried, IsDisplayed}
-use Rattle.icu_decimal.proofs.CompactCore.{magnitude_rounded, rounded_from_past_limits, past_limits_from_rounded, exponent_le_magnitude, carry_is_displayed, rounded_is_displayed}
+use Rattle.icu_decimal.specs.Displayed.{are_same_entry, IsDisplayed}
+use Rattle.icu_decimal.proofs.ChangedEntries.{changed_entry_reached}
+use Rattle.icu_decimal.proofs.CompactCore.{magnitude_rounded, magnitude_within, rounded_from_past_limits, past_limits_from_rounded, exponent_le_magnitude, displayed_by_same, displayed_by_other}
 
 -- an answer is no refusal
 pub not_refused : {T : Type 0} {x : T} {e : FormatError} → IsErrOf {T = T} {E = FormatError} (Ok x) e → ⊥
@@ -67,17 +68,38 @@ module _ (table : List TableEntry) (d : Unsigned) (e : ℕ) (power wide : ℤ) (
     rounded : IsRoundedAt (rounding_place_for table (magnitude (size d))) (size d) y
     rounded = subst (λ u. IsRoundedAt u (size d) y) rounding_place_here r
 
-    module _ (p to : ℤ) (from : p ≡ power) (reached : to ≡ magnitude_power y) where
-      carried_here : carried table (place p) (place to) ≡ carried table (magnitude (size d)) (magnitude y)
-      carried_here = ap (λ n. carried table n (place to)) (ap place from ∙ at_power) ∙ ap (carried table (magnitude (size d))) (ap place reached ∙ place-magnitude y)
+    module _ (to : ℤ) (there : Option TableEntry) (reached : to ≡ magnitude_power y) (there_is : there ≡ entry_for table (place to)) where
+      entry_reached : there ≡ entry_for table (magnitude y)
+      entry_reached = there_is ∙ ap (entry_for table) (ap place reached ∙ place-magnitude y)
 
-      -- where the carry takes an entry, that entry and 1 are displayed
-      pub displayed_carried : (i : ℕ) → i < length table → entry_at table (Some i) ≡ carried table (place p) (place to) → IsDisplayed table d y (entry_at table (Some i)) one
-      displayed_carried i inside at = carry_is_displayed table d y i inside (at ∙ carried_here) rounded
-
-      -- where it takes none, the entry of the magnitude and what its exponent leaves of the rounded number
-      pub displayed_plain : (s : Unsigned) → entry_at table None ≡ carried table (place p) (place to) → size s * 10 ^ e ≡ y → IsUnsigned s → IsTrimmed s → high s ≡ int_max (pos 0) (int_max (high d) (magnitude_power y) -ℤ pos e) → IsDisplayed table d y o s
-      displayed_plain s none scaled valid trimmed high_is =
-          rounded_is_displayed table d s y o (none ∙ carried_here) entry_here rounded
+      -- where the magnitude reached has the same entry, that one and what its exponent leaves of the rounded number
+      pub displayed_same : there ≡ o → (s : Unsigned) → size s * 10 ^ e ≡ y → IsUnsigned s → IsTrimmed s → high s ≡ int_max (pos 0) (int_max (high d) (magnitude_power y) -ℤ pos e) → IsDisplayed table d y o s
+      displayed_same same s scaled valid trimmed high_is =
+          displayed_by_same table d s y o entry_here (sym same ∙ entry_reached) rounded
           (ap (λ n. size s * 10 ^ n) (sym exponent) ∙ scaled) valid trimmed
           (high_is ∙ ap (λ n. int_max (pos 0) (int_max (high d) (magnitude_power y) -ℤ pos n)) exponent)
+
+      module _ (t : IsCompactTable table) (different : are_same_entry there o ≡ false) where
+        different_here : are_same_entry (entry_for table (magnitude y)) (entry_for table (magnitude (size d))) ≡ false
+        different_here = rw (← entry_reached, ← entry_here) different
+
+        -- the other entry's exponent is at most the power of the magnitude reached
+        pub other_within : (n : ℕ) → n ≡ exponent_of there → pos n ≤ℤ to
+        other_within n is =
+            let least : finest ≤ magnitude y = changed_entry_reached table (magnitude (size d)) (magnitude y) (magnitude_rounded (exponent_for table (magnitude (size d))) (size d) y rounded) different_here in
+            let same : n ≡ exponent_of (entry_for table (magnitude y)) = is ∙ ap exponent_of entry_reached in
+            go (exponent_le_magnitude table (magnitude y) t) same least
+          where
+            go : (exponent_of (entry_for table (magnitude y)) ≡ 0) ⊎ (exponent_of (entry_for table (magnitude y)) + finest ≤ magnitude y) → n ≡ exponent_of (entry_for table (magnitude y)) → finest ≤ magnitude y → pos n ≤ℤ to
+            go (inl none) same least = omega (arith, ints)
+            go (inr above) same least = omega (arith, ints)
+
+        -- another entry displays the power of ten that its exponent leaves
+        pub displayed_other : (s : Unsigned) (n : ℕ) (k : ℤ) → n ≡ exponent_of there → k ≡ to -ℤ pos n → size s ≡ ten_to k → IsUnsigned s → IsTrimmed s → high s ≡ k → IsDisplayed table d y there s
+        displayed_other s n (negsuc k) is sum ten valid trimmed top = absurd (omega (arith, ints, other_within n is))
+        displayed_other s n (pos k) is sum ten valid trimmed top =
+            displayed_by_other table d s y k there entry_reached (rw (← entry_here) different) rounded (omega (arith, ints)) ten valid trimmed top
+
+    -- within the limits the power of the magnitude reached is at most 32767
+    pub reached_within : ¬ (RoundsPast (rounding_place e (magnitude (size d))) (size d)) → (to : ℤ) → to ≡ magnitude_power y → to ≤ℤ pos 32767
+    reached_within within to reached = omega (arith, ints, magnitude_within (rounding_place e (magnitude (size d))) (size d) y r within)

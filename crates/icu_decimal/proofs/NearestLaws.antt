@@ -1,5 +1,5 @@
 -- Each size has one nearest compact number: the nearest multiple of the unit at its own magnitude.
-use Rattle.std.proofs.Common.{◌≡◌, ◌≢◌, ℕ, suc, ◌+◌, ◌*◌, ◌^◌, ◌<◌, ◌≤◌, ◌⊎◌, ⊎_elim, inl, inr, refl, sym, ap, ◌∙◌, arith, List, nat_lt, ltb-true}
+use Rattle.std.proofs.Common.{◌≡◌, ◌≢◌, ℕ, suc, ◌+◌, ◌*◌, ◌^◌, ◌<◌, ◌≤◌, ◌⊎◌, ⊎_elim, inl, inr, refl, sym, ap, subst, ◌∙◌, arith, List, nat_lt, ltb-true}
 use Rattle.std.proofs.Math.Nat.{mul-le-mul_left}
 use Rattle.std.proofs.lemmas.Bool.{cases_Bool, cases_lt, cases_eq, cases_order}
 use Rattle.fixed_decimal.specs.Size.{finest, magnitude}
@@ -9,7 +9,7 @@ use Rattle.fixed_decimal.proofs.MagnitudeLemmas.{magnitude_low, magnitude_high, 
 use Rattle.fixed_decimal.proofs.Nearness.{nearest_some}
 use Rattle.icu_decimal_data.specs.CompactTable.{TableEntry, exponent_for}
 use Rattle.icu_decimal.specs.CompactNumber.{rounding_place, rounding_place_for, IsCompactNumber, IsNearestCompact}
-use Rattle.icu_decimal.specs.CompactLaws.{OneCompactNumberIsNearest}
+use Rattle.icu_decimal.specs.CompactLaws.{OneCompactNumberIsNearest, NearestIsRounded}
 use Rattle.icu_decimal.specs.RoundedAt.{IsRoundedAt}
 
 -- the nearest to a number between two allowed sizes lies between them
@@ -84,11 +84,11 @@ rounded_within exponent x y positive r =
     (magnitude_low x positive) (omega (arith, magnitude_high x positive)) r
 
 -- powers of ten are compact numbers, in any table
-ten_is_compact : (table : List TableEntry) (p : ℕ) → IsCompactNumber table (10 ^ p)
+pub ten_is_compact : (table : List TableEntry) (p : ℕ) → IsCompactNumber table (10 ^ p)
 ten_is_compact table p = rw magnitude-ten (ten_is_multiple (exponent_for table p) p)
 
 -- and 0 is one
-zero_is_compact : (table : List TableEntry) → IsCompactNumber table 0
+pub zero_is_compact : (table : List TableEntry) → IsCompactNumber table 0
 zero_is_compact table = (0, omega arith)
 
 module _ (table : List TableEntry) (x : ℕ) (positive : 0 < x) where
@@ -178,3 +178,14 @@ one_compact_is_nearest table x =
     let rounded = nearest_some (10 ^ place) x (ten_pos place) in
     let near = nearest_compact_from_rounded table x rounded.0 rounded.1 in
     (rounded.0, near, λ z n. nearest_compact_same table x rounded.0 z near n)
+
+-- the nearest compact number of a size is the size rounded at the rounding place of its own magnitude, and no other is
+pub nearest_is_rounded : NearestIsRounded
+nearest_is_rounded table x y = (
+  λ near.
+      let place : ℕ = rounding_place_for table (magnitude x) in
+      let rounded = nearest_some (10 ^ place) x (ten_pos place) in
+      let same : y ≡ rounded.0 = nearest_compact_same table x rounded.0 y (nearest_compact_from_rounded table x rounded.0 rounded.1) near in
+      subst (λ (z : ℕ). IsRoundedAt place x z) (sym same) rounded.1,
+  nearest_compact_from_rounded table x y,
+)

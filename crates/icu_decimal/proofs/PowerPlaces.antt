@@ -1,7 +1,10 @@
 -- The place of a power, as a sum over signed numbers.
-use Rattle.std.proofs.Common.{◌≡◌, ℕ, ◌+◌, ◌-◌, ◌<◌, arith, ℤ, pos, negsuc, ◌+ℤ◌, ◌-ℤ◌, ◌≤ℤ◌, ◌<ℤ◌, FitsSigned, w16, lt-ltb, le-ltb}
+use Rattle.std.proofs.Common.{◌≡◌, ℕ, ◌+◌, ◌-◌, ◌*◌, ◌^◌, ◌<◌, ap, arith, ℤ, pos, negsuc, ◌+ℤ◌, ◌-ℤ◌, ◌≤ℤ◌, ◌<ℤ◌, FitsSigned, w16, lt-ltb, le-ltb}
 use Rattle.std.proofs.lemmas.Int.{ints}
-use Rattle.fixed_decimal.specs.Size.{finest, place}
+use Rattle.std.proofs.lemmas.Nat.{pow-add}
+use Rattle.fixed_decimal.specs.Scaling.{IsTimesTenTo}
+use Rattle.fixed_decimal.specs.Size.{finest, place, size, ten_to}
+use Rattle.fixed_decimal.specs.Unsigned.{one}
 use Rattle.icu_decimal.specs.CompactNumber.{rounding_place}
 
 -- the places reach below each power of an i16, and one more
@@ -38,3 +41,13 @@ pub rounding_place_below_magnitude : (e : ℕ) (m r : ℤ) → FitsSigned w16 m 
 unfolding rounding_place
 rounding_place_below_magnitude e m r fits is below =
     rw (le-ltb (e + finest) (place m) (omega (arith, ints, place-i16 m fits)), is) (place-below m fits)
+
+-- the number one times ten to a power from 0 on is ten to the power
+pub ten_to-from_one : (k : ℤ) (x z : ℕ) → pos 0 ≤ℤ k → z ≡ size one → IsTimesTenTo k z x → x ≡ ten_to k
+ten_to-from_one (negsuc n) x z h is times = absurd (omega (arith, ints))
+ten_to-from_one (pos n) x z h is times =
+    let same : finest - 0 + 0 ≡ finest = omega arith in
+    let unit : 10 ^ (finest - 0 + 0) ≡ 10 ^ finest = ap (λ p. 10 ^ p) same in
+    let one_is : z ≡ 10 ^ finest = omega arith in
+    let whole : x * 10 ^ 0 ≡ 10 ^ finest * 10 ^ n = rw one_is at times in
+    omega (arith, pow-add 10 finest n)

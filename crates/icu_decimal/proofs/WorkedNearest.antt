@@ -1,5 +1,5 @@
 -- The premises of the laws of compact numbers, met: 1234 is displayed as 1.2K, and its nearest compact number is 1200.
-use Rattle.std.proofs.Common.{◌≡◌, ℕ, ◌+◌, ◌-◌, ◌*◌, ◌^◌, ◌<◌, ◌≤◌, inr, refl, ap, ◌∙◌, arith, List, [], ◌∷◌, Some, None, pos, ◌-ℤ◌}
+use Rattle.std.proofs.Common.{◌≡◌, ℕ, ◌+◌, ◌-◌, ◌*◌, ◌^◌, ◌<◌, ◌≤◌, inr, refl, ap, ◌∙◌, arith, List, [], ◌∷◌, Some, pos, ◌-ℤ◌}
 use Rattle.std.proofs.lemmas.Int.{ints}
 use Rattle.std.proofs.lemmas.Nat.{pow-add}
 use Rattle.std.proofs.lemmas.List.Elements.{All-nil, All-cons}
@@ -11,9 +11,9 @@ use Rattle.fixed_decimal.proofs.MagnitudeLemmas.{magnitude_is}
 use Rattle.fixed_decimal.proofs.Nearness.{nearest_below}
 use Rattle.fixed_decimal.proofs.Rounds.{finest_large}
 use Rattle.icu_base.specs.Elements.{only_other}
-use Rattle.icu_decimal_data.specs.CompactTable.{TableEntry, entry_for, next_entry}
+use Rattle.icu_decimal_data.specs.CompactTable.{TableEntry, entry_for}
 use Rattle.icu_decimal.specs.CompactNumber.{rounding_place, rounding_place_for, IsCompactNumber, IsNearestCompact}
-use Rattle.icu_decimal.specs.Displayed.{carried_by, carried, IsDisplayed}
+use Rattle.icu_decimal.specs.Displayed.{IsDisplayed}
 use Rattle.icu_decimal.proofs.NearestLaws.{nearest_to_itself, nearest_compact_from_rounded}
 
 -- `0K` from a thousand on
@@ -66,10 +66,6 @@ hundreds : rounding_place_for table (finest + 3) ≡ finest + 2
 unfolding entry_for rounding_place finest
 hundreds = refl
 
-not_carried : carried table (finest + 3) (finest + 3) ≡ None
-unfolding carried_by next_entry finest
-not_carried = refl
-
 entry_is : entry_for table (finest + 3) ≡ Some kilo
 unfolding entry_for finest
 entry_is = refl
@@ -90,11 +86,11 @@ number_nearest =
 pub number_displayed : IsDisplayed table number (12 * 10 ^ (finest + 2)) (Some kilo) significand
 number_displayed = record {
   nearest = number_nearest;
-  entry_is = rw (number_magnitude, displayed_magnitude, not_carried, entry_is) refl;
+  entry_is = rw (displayed_magnitude, entry_is) refl;
   scaled = two_digits (finest - 1) ∙ ap (λ n. 12 * n) (same_power (finest - 1 + 3) (finest + 2) (omega (arith, finest_large)));
   is_decimal = record { below_ten = two; integer_some = omega arith; high_limit = omega arith; low_limit = omega arith };
   trimmed = inr (λ e. absurd (omega arith));
-  high_is = rw (number_magnitude, displayed_magnitude, not_carried, entry_is, third_power) refl;
+  high_is = rw (number_magnitude, displayed_magnitude, entry_is, third_power) refl;
 }
   where
     two : AreDigits (1 ∷ 2 ∷ [])

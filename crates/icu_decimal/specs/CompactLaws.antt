@@ -1,14 +1,24 @@
 -- What holds of the nearest compact numbers and of what is displayed; each is the contract of a function of `laws`.
-use Rattle.std.specs.Prelude.{◌≡◌, ◌↔◌, ℕ, ◌^◌, ◌<◌, ◌≤◌, List, Option}
-use Rattle.fixed_decimal.specs.Size.{magnitude}
-use Rattle.fixed_decimal.specs.Unsigned.{Unsigned}
-use Rattle.icu_decimal_data.specs.CompactTable.{TableEntry}
-use Rattle.icu_decimal.specs.CompactNumber.{IsCompactNumber, IsNearestCompact}
+use Rattle.std.specs.Prelude.{◌≡◌, ◌↔◌, ℕ, ◌^◌, ◌<◌, ◌≤◌, List, Option, pos}
+use Rattle.std.specs.Int.{int_max}
+use Rattle.fixed_decimal.specs.declared.signs.Sign.{Sign}
+use Rattle.fixed_decimal.specs.Size.{magnitude, magnitude_power, size}
+use Rattle.fixed_decimal.specs.Unsigned.{Unsigned, high}
+use Rattle.icu_base.specs.Events.{Event, without_parts, text_of}
+use Rattle.icu_decimal_data.specs.CompactTable.{TableEntry, IsCompactTable}
+use Rattle.icu_decimal.specs.CompactFormat.{CompactFormat, IsCompactFormat, exponent_needed, given_events}
+use Rattle.icu_decimal.specs.CompactNumber.{IsCompactNumber, IsNearestCompact, ShowsPastLimits, rounding_place_for}
+use Rattle.icu_decimal.specs.RoundedAt.{IsRoundedAt}
 use Rattle.icu_decimal.specs.Displayed.{IsDisplayed}
 
 -- for every list of entries each size has a nearest compact number, and no other one
 abbrev pub OneCompactNumberIsNearest : Type 0
 OneCompactNumberIsNearest = (table : List TableEntry) (x : ℕ) → (y : ℕ) × IsNearestCompact table x y × ((z : ℕ) → IsNearestCompact table x z → z ≡ y)
+
+-- the nearest compact number of a size, among those of all magnitudes, is just the nearest multiple of ten to the rounding
+-- place of the size's own magnitude, the even one of two equally near
+abbrev pub NearestIsRounded : Type 0
+NearestIsRounded = (table : List TableEntry) (x y : ℕ) → IsNearestCompact table x y ↔ IsRoundedAt (rounding_place_for table (magnitude x)) x y
 
 -- what is displayed of a decimal is one: of any two the sizes, the entries and the significands agree
 abbrev pub DisplayedIsOne : Type 0
@@ -26,3 +36,34 @@ MagnitudeIsShown = (table : List TableEntry) (x y : ℕ) → 0 < x → IsNearest
 -- a compact number is its own nearest one, and no other is
 abbrev pub CompactNumberIsItsNearest : Type 0
 CompactNumberIsItsNearest = (table : List TableEntry) (x y : ℕ) → IsCompactNumber table x → IsNearestCompact table x y ↔ (y ≡ x)
+
+-- without leading padding: the greatest power that is written is that of the first digit that isn't 0, or power 0 where
+-- that one is lower
+abbrev pub IsUnpadded : Unsigned → Type 0
+IsUnpadded d = high d ≡ int_max (pos 0) (magnitude_power (size d))
+
+-- these are written of the decimal by `format`: a significand and an exponent as these events, shown as this size by this
+-- entry; and nothing else is written of it
+pub record IsWrittenAlone (format : CompactFormat) (sign : Sign) (d significand : Unsigned) (exponent : ℕ) (events : List Event) (shown : ℕ) (entry : Option TableEntry) : Type 0 where
+  pub written : IsCompactFormat format sign d significand exponent events
+  pub alone : (other : Unsigned) (another : ℕ) (others : List Event) (is : IsCompactFormat format sign d other another others)
+      → (is.shown ≡ shown) × (is.entry ≡ entry) × (other ≡ significand) × (another ≡ exponent) × (others ≡ events)
+
+-- What `format` writes of d is all that it writes of a decimal of the same sign whose size is the shown one: the size, the
+-- entry, the significand, the exponent and the events. And that decimal's nearest compact number is past the limits only
+-- where that of d is.
+pub record IsShownAgain (format : CompactFormat) (sign : Sign) (d again : Unsigned) : Type 0 where
+  pub alike : (significand : Unsigned) (exponent : ℕ) (events : List Event) (first : IsCompactFormat format sign d significand exponent events)
+      → size again ≡ first.shown → IsWrittenAlone format sign again significand exponent events first.shown first.entry
+  pub within : (y : ℕ) → IsNearestCompact format.table (size d) y → size again ≡ y → ShowsPastLimits format.table (size again) → ShowsPastLimits format.table (size d)
+
+-- `format_with_exponent` accepts a significand, with a sign, and an exponent, and writes the characters of the events
+pub record IsGivenAlike (format : CompactFormat) (sign : Sign) (significand : Unsigned) (exponent : ℕ) (events : List Event) : Type 0 where
+  pub accepted : exponent ≡ exponent_needed format significand exponent
+  pub characters_are : without_parts (given_events format sign significand exponent) ≡ without_parts events
+  pub text_is : text_of (given_events format sign significand exponent) ≡ text_of events
+
+-- for every table, whatever `format` writes of a decimal, its significand and its exponent are given alike
+abbrev pub ShownIsGiven : Type 0
+ShownIsGiven = (format : CompactFormat) (sign : Sign) (d significand : Unsigned) (exponent : ℕ) (events : List Event)
+    → IsCompactTable format.table → IsCompactFormat format sign d significand exponent events → IsGivenAlike format sign significand exponent events

@@ -3,13 +3,13 @@ use Rattle.std.specs.Prelude.{ℕ, List, [], ◌∷◌, ◌++◌, map, codes, un
 use Rattle.icu_base.specs.Events.{Event, text_events, digit_events}
 use Rattle.icu_decimal_data.specs.declared.decimal_symbols.DecimalSymbols.{DecimalSymbols}
 use Rattle.fixed_decimal.specs.declared.signs.Sign.{Sign}
-use Rattle.fixed_decimal.specs.declared.signs.Sign.TheVariants.{None, Negative, Positive}
 use Rattle.fixed_decimal.specs.Unsigned.{Unsigned, integer, fraction}
 use Rattle.icu_decimal.specs.declared.options.GroupingStrategy.{GroupingStrategy}
 use Rattle.icu_decimal.specs.declared.options.GroupingStrategy.TheVariants.{Auto}
 use Rattle.icu_decimal.specs.declared.options.DecimalFormatterOptions.{DecimalFormatterOptions}
 use Rattle.icu_decimal.specs.Grouping.{digit_groups, joined}
 use Rattle.icu_decimal.specs.Part.{in_decimal_part}
+use Rattle.icu_decimal.specs.Signed.{affixes_for, affixed_events}
 
 -- all that a plain formatter writes with: the symbols of a locale, the character of each digit, and the options
 pub record DecimalFormat : Type 0 where
@@ -51,13 +51,7 @@ unsigned_events format u = integer_events format (integer u) ++ fraction_events 
 
 -- the events of a value with a sign around them: both affixes of a plus or a minus stand in parts, empty ones too
 abbrev pub signed_events : DecimalSymbols → Sign → List Event → List Event
-signed_events symbols None es = es
-signed_events symbols Negative es =
-    in_decimal_part (codes "minusSign") (text_events symbols.strings.minus_sign_prefix)
-    ++ (es ++ in_decimal_part (codes "minusSign") (text_events symbols.strings.minus_sign_suffix))
-signed_events symbols Positive es =
-    in_decimal_part (codes "plusSign") (text_events symbols.strings.plus_sign_prefix)
-    ++ (es ++ in_decimal_part (codes "plusSign") (text_events symbols.strings.plus_sign_suffix))
+signed_events symbols sign es = affixed_events (affixes_for symbols sign) es
 
 -- a decimal: the number with its sign around it
 abbrev pub decimal_events : DecimalFormat → Sign → Unsigned → List Event

@@ -3,7 +3,7 @@ pub mod Decimal
 pub mod Formatted
 pub mod Grouping
 pub mod Laws
-pub mod Lent
+pub mod Cow
 pub mod Part
 pub mod Signed
 pub mod CompactNumber

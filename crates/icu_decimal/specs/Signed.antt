@@ -1,12 +1,15 @@
 -- The affixes of a sign around a value.
-use Rattle.std.specs.Prelude.{ℕ, List, ◌++◌, Bool, Option, Some, None, nat_eq}
+use Rattle.std.specs.Prelude.{ℕ, List, ◌++◌, Bool, Option, Some, None, nat_eq, codes}
 use Rattle.std.specs.Borrow.{Bor}
 use Rattle.std.specs.Cmp.{IsEquivalence}
 use Rattle.std.specs.Cmp.Lexicographic.{pointwise}
 use Rattle.std.specs.Ordering.{eq_of_both, on}
 use Rattle.std.proofs.lemmas.Cmp.{and_equiv, on_equiv, nat_list_eq_equiv}
+use Rattle.fixed_decimal.specs.declared.signs.Sign.{Sign}
+use Rattle.fixed_decimal.specs.declared.signs.Sign.TheVariants.{Negative, Positive, None as NoSign}
 use Rattle.icu_base.specs.Events.{Event, text_events}
 use Rattle.icu_base.specs.declared.sink.Part.{Part}
+use Rattle.icu_decimal_data.specs.declared.decimal_symbols.DecimalSymbols.{DecimalSymbols}
 use Rattle.icu_decimal.specs.Part.{in_part}
 
 -- what stands before and after a value, each text in a part of this category and name
@@ -24,6 +27,22 @@ pub record Signed (T : Type 0) : Type 0 where
 -- a part and two texts as affixes
 abbrev pub affixes_of : Part × Bor (List ℕ) × Bor (List ℕ) → Affixes
 affixes_of (part, prefix, suffix) = record { category = part.category.now; name = part.value.now; prefix = prefix.now; suffix = suffix.now }
+
+-- the affixes of a sign: both texts of a plus or a minus, empty ones too; none without a sign
+abbrev pub affixes_for : DecimalSymbols → Sign → Option Affixes
+affixes_for symbols NoSign = None
+affixes_for symbols Negative = Some (record {
+  category = codes "decimal";
+  name = codes "minusSign";
+  prefix = symbols.strings.minus_sign_prefix;
+  suffix = symbols.strings.minus_sign_suffix;
+})
+affixes_for symbols Positive = Some (record {
+  category = codes "decimal";
+  name = codes "plusSign";
+  prefix = symbols.strings.plus_sign_prefix;
+  suffix = symbols.strings.plus_sign_suffix;
+})
 
 -- the events between the two affixes, each in its part; without affixes the events alone
 abbrev pub affixed_events : Option Affixes → List Event → List Event

@@ -14,11 +14,11 @@ ghost use Rattle.icu_decimal.specs.CompactFormat.{IsCompactFormat, pattern_of, e
 ghost use Rattle.icu_decimal.specs.PatternGiven.{pattern_or_alone};
 
 use crate::compact_rounding::{exponent_or_zero, nearest_compact};
+use crate::cow::Cow;
 use crate::decimal_formatter::DecimalFormatter;
 use crate::error::{CompactExponentError, FormatError};
 use crate::formatted_compact::{FormattedUnsignedCompactDecimal, InterpolatedDecimal};
 use crate::formatted_sign::FormattedSign;
-use crate::lent::Cow;
 use fixed_decimal::{Decimal, UnsignedDecimal};
 use icu_base::{PatternRef, PluralOperands, PluralRules, SinglePlaceholder, Writeable};
 use icu_decimal_data::CompactPatterns;

@@ -1,13 +1,13 @@
 //! The nearest compact number of a decimal: the entry by which it is displayed, and its significand.
 
-ghost use Rattle.std.specs.Prelude.{◌≡◌, ℕ, ◌+◌, ◌*◌, ◌^◌, ◌≤◌, ◌<◌, ◌⊎◌, length, slice_get, IfSome, IfNone, IfOk, IsErrOf, ◌↔◌, ℤ, pos, negsuc, ◌-ℤ◌, ◌≤ℤ◌, ◌<ℤ◌};
+ghost use Rattle.std.specs.Prelude.{◌≡◌, ℕ, ◌*◌, ◌^◌, ◌⊎◌, IfOk, IsErrOf, IsOkUnless, ◌↔◌, ℤ, pos, ◌-ℤ◌, ◌≤ℤ◌, ◌<ℤ◌};
 ghost use Rattle.std.specs.Int.{int_max};
-ghost use Rattle.fixed_decimal.specs.Size.{place, magnitude, magnitude_power, size};
+ghost use Rattle.fixed_decimal.specs.Size.{place, ten_to, magnitude, magnitude_power, size};
 ghost use Rattle.fixed_decimal.specs.Trimming.{IsTrimmed};
 ghost use Rattle.fixed_decimal.specs.Unsigned.{IsUnsigned, high};
-ghost use Rattle.icu_decimal_data.specs.CompactTable.{IsIndex, entry_at, next_entry, index_after, exponent_of};
+ghost use Rattle.icu_decimal_data.specs.CompactTable.{IsIndex, entry_at, entry_for, exponent_of};
 ghost use Rattle.icu_decimal.specs.CompactNumber.{rounding_place, ShowsPastLimits};
-ghost use Rattle.icu_decimal.specs.Displayed.{carried, IsDisplayed};
+ghost use Rattle.icu_decimal.specs.Displayed.{IsDisplayed};
 ghost use Rattle.icu_decimal.specs.RoundedAt.{IsRoundedAt, RoundsPast};
 
 use crate::error::FormatError;
@@ -40,18 +40,21 @@ pub(crate) fn nearest_compact<P: PatternBackend>(
     let exponent = exponent_or_zero(table, index);
     let significand = significand_at(alloc, value, power, exponent)?;
     let to = significand.nonzero_magnitude_start() as i32 + exponent as i32;
-    let Some(next) = carried_index(table, index, power, to) else {
+    let reached = reached_index(table, index, power, to);
+    if reached == index {
         return Ok(Compacted {
             significand,
             exponent,
             index,
         });
-    };
-    match UnsignedDecimal::one(alloc) {
-        Ok(significand) => Ok(Compacted {
-            significand,
-            exponent: table.exponent(next),
-            index: Some(next),
+    }
+    let reached_exponent = exponent_or_zero(table, reached);
+    let left = power_left(to, reached_exponent);
+    match power_of_ten(alloc, left) {
+        Ok(ten) => Ok(Compacted {
+            significand: ten,
+            exponent: reached_exponent,
+            index: reached,
         }),
         Err(_) => Err(FormatError::OutOfMemory),
     }
@@ -71,43 +74,47 @@ pub(crate) fn exponent_or_zero<P: PatternBackend>(
     }
 }
 
-/// The index after an entry, if there is another, or the first without one.
-fn next_of<P: PatternBackend>(table: &CompactPatterns<P>, index: Option<usize>) -> Option<usize>
-    requires { IsIndex table.now index }
-    ensures some { IfSome result (λ next. next ≡ index_after index) }
-    ensures inside { IfSome result (λ next. next < length table.now) }
-    ensures none { IfNone result (length table.now ≤ index_after index) }
-{
-    let len = table.len();
-    let next = match index {
-        Some(index) => index + 1,
-        None => 0,
-    };
-    if next < len { Some(next) } else { None }
-}
-
-/// The index of the entry that rounding from one magnitude up to another takes: the next one, where its exponent is
-/// that magnitude.
-fn carried_index<P: PatternBackend>(
+/// The index of the entry at the magnitude that rounding reached; it is looked up only after a carry.
+fn reached_index<P: PatternBackend>(
     table: &CompactPatterns<P>,
     index: Option<usize>,
     power: i16,
     to: i32,
 ) -> Option<usize>
+    requires entry { entry_at table.now index ≡ entry_for table.now (place power) }
     requires index { IsIndex table.now index }
-    requires to { negsuc 32767 ≤ℤ to }
-    requires next { slice_get table.now (index_after index) ≡ next_entry table.now (place power) }
-    ensures entry { entry_at table.now result ≡ carried table.now (place power) (place to) }
+    ensures entry { entry_at table.now result ≡ entry_for table.now (place to) }
     ensures index { IsIndex table.now result }
 {
-    if to != power as i32 + 1 {
-        return None;
-    }
-    let next = next_of(table, index)?;
-    if table.exponent(next) as i32 == to {
-        Some(next)
+    if to == power as i32 {
+        index
     } else {
-        None
+        table.entry_index(to)
+    }
+}
+
+/// The power of ten that a power leaves over an exponent.
+fn power_left(power: i32, exponent: u8) -> i16
+    requires exponent { pos exponent ≤ℤ power }
+    requires within { power ≤ℤ pos 32767 }
+    ensures left { result ≡ power -ℤ pos exponent }
+    ensures low { pos 0 ≤ℤ result }
+{
+    (power - exponent as i32) as i16
+}
+
+/// Ten to a power from 0 on.
+fn power_of_ten(alloc: Global, power: i16) -> Result<UnsignedDecimal, DecimalError>
+    requires { pos 0 ≤ℤ power }
+    ensures size { IfOk result (λ s. size s ≡ ten_to power) }
+    ensures high { IfOk result (λ s. high s ≡ power) }
+    ensures trimmed { IfOk result (λ s. IsTrimmed s) }
+    ensures valid { IfOk result (λ s. IsUnsigned s) }
+    ensures memory { IsOkUnless result DecimalError.OutOfMemory }
+{
+    match UnsignedDecimal::one(alloc)?.multiplied_pow10(power) {
+        Ok(power) => Ok(power),
+        Err((_, error)) => Err(error),
     }
 }
 

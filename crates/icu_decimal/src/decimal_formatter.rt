@@ -5,10 +5,10 @@ ghost use Rattle.std.specs.String.{string_bytes};
 ghost use Rattle.icu_base.specs.Events.{Event, text_of};
 ghost use Rattle.icu_decimal.specs.Decimal.{decimal_events, signed_events, unsigned_events};
 
+use crate::cow::Cow;
 use crate::error::FormatError;
 use crate::formatted_decimal::{FormattedDecimal, FormattedUnsignedDecimal};
 use crate::formatted_sign::FormattedSign;
-use crate::lent::Cow;
 use crate::options::DecimalFormatterOptions;
 use crate::parts;
 use fixed_decimal::{Decimal, Sign, UnsignedDecimal};
@@ -35,8 +35,8 @@ impl Model for DecimalFormatter {
 
 impl DecimalFormatter {
     ghost use Rattle.icu_decimal.specs.Formatted.{decimal_shown, unsigned_shown};
-    ghost use Rattle.icu_decimal.specs.Lent.{value_of};
-    ghost use Rattle.icu_decimal.specs.Signed.{affixed_events};
+    ghost use Rattle.icu_decimal.specs.Cow.{value_of};
+    ghost use Rattle.icu_decimal.specs.Signed.{affixes_for};
 
     /// The formatter of these symbols, these characters of the digits 0 to 9, and these options.
     pub fn from_parts(
@@ -70,7 +70,8 @@ impl DecimalFormatter {
 
     /// The decimal as it is to be written; this takes no memory, and writing it takes only what the sink takes.
     pub fn format<'l>(&'l self, value: &'l Decimal) -> FormattedDecimal<'l>
-        ensures { decimal_shown result ≡ decimal_events self.now value.now.sign value.now.absolute }
+        ensures value { result ≡ record { affixes = affixes_for self.now.symbols value.now.sign; value = record { format = self.now; number = value.now.absolute } } }
+        ensures shown { decimal_shown result ≡ decimal_events self.now value.now.sign value.now.absolute }
     {
         let number = self.format_unsigned(Cow::Borrowed(&value.absolute));
         FormattedDecimal {
@@ -106,8 +107,7 @@ impl DecimalFormatter {
 
     /// The value with the affixes of the sign around it.
     pub(crate) fn format_sign<'l, T>(&'l self, sign: Sign, value: T) -> FormattedSign<'l, T>
-        ensures value { result.value ≡ value }
-        ensures affixes { (es : List Event) → affixed_events result.affixes es ≡ signed_events self.now.symbols sign es }
+        ensures { result ≡ record { affixes = affixes_for self.now.symbols sign; value = value } }
     {
         let sign = match sign {
             Sign::None => None,

@@ -1,6 +1,6 @@
 //! Why a number was not formatted.
 
-use std::fmt;
+use std::fmt::{self, InlineText, Write};
 use std::marker::Model;
 use thiserror::Error;
 
@@ -14,6 +14,9 @@ pub enum FormatError {
     #[error("out of memory")]
     OutOfMemory,
 }
+
+/// How many bytes the text of a `CompactExponentError` has at most.
+const LONGEST_TEXT: usize = 64;
 
 /// The compact exponent given for a number isn't that of its magnitude (ICU4X `CompactExponentError`). It is a small
 /// value that takes no memory.
@@ -40,16 +43,20 @@ impl fmt::Display for CompactExponentError {
 
     ghost output = { λ mismatch. Some (mismatch_text mismatch) };
 
+    ghost styled_output = { λ mismatch _. Some (mismatch_text mismatch) };
+
     fn fmt<W: fmt::Write>(&self, f: &mut fmt::Formatter<W>) -> fmt::Result {
         let CompactExponentError {
             actual,
             expected,
             magnitude,
         } = *self;
+        let mut text = InlineText::<LONGEST_TEXT>::new();
         write!(
-            f,
+            text,
             "Expected compact exponent {expected} for 10^{magnitude}, got {actual}"
-        )
+        )?;
+        f.write_str(text.as_str())
     }
 }
 

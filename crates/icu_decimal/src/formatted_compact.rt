@@ -2,8 +2,8 @@
 
 ghost use Rattle.std.specs.Prelude.{◌≡◌};
 
+use crate::cow::Cow;
 use crate::formatted_decimal::FormattedUnsignedDecimal;
-use crate::lent::Cow;
 use fixed_decimal::UnsignedDecimal;
 use icu_base::{EventWriter, PatternRef, PluralOperands, SinglePlaceholder, WriteFault, Writeable};
 use std::fmt;
@@ -99,6 +99,8 @@ impl fmt::Display for InterpolatedDecimal<'_> {
 
     ghost output = { λ f. Some (text_of (filled_shown f)) };
 
+    ghost styled_output = { λ f _. Some (text_of (filled_shown f)) };
+
     fn fmt<W: fmt::Write>(&self, f: &mut fmt::Formatter<W>) -> fmt::Result {
         self.write_events(f).map_err(|_| fmt::Error)
     }
@@ -110,6 +112,8 @@ impl fmt::Display for FormattedUnsignedCompactDecimal<'_> {
     ghost use Rattle.icu_decimal.specs.CompactFormat.{compact_shown};
 
     ghost output = { λ f. Some (text_of (compact_shown f)) };
+
+    ghost styled_output = { λ f _. Some (text_of (compact_shown f)) };
 
     fn fmt<W: fmt::Write>(&self, f: &mut fmt::Formatter<W>) -> fmt::Result {
         self.filled.write_characters(f).map_err(|_| fmt::Error)

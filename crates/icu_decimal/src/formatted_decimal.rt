@@ -6,9 +6,9 @@ ghost use Rattle.icu_decimal.specs.Decimal.{group_events};
 ghost use Rattle.icu_decimal.specs.Grouping.{cut, joined};
 ghost use Rattle.icu_decimal.specs.Part.{in_decimal_part};
 
-use crate::formatted_sign::{FormattedSign, write_part};
+use crate::cow::Cow;
+use crate::formatted_sign::FormattedSign;
 use crate::grouper::{first_group, is_grouped, next_group, secondary_size};
-use crate::lent::Cow;
 use crate::options::{DecimalFormatterOptions, GroupingStrategy};
 use crate::parts;
 use fixed_decimal::UnsignedDecimal;
@@ -45,7 +45,7 @@ pub struct FormattedUnsignedDecimal<'l> {
 
 impl<'l> Model for FormattedUnsignedDecimal<'l> {
     ghost use Rattle.icu_decimal.specs.Formatted.{FormattedNumber};
-    ghost use Rattle.icu_decimal.specs.Lent.{value_of};
+    ghost use Rattle.icu_decimal.specs.Cow.{value_of};
 
     ghost Value = { FormattedNumber };
 
@@ -150,7 +150,7 @@ impl FormattedUnsignedDecimal<'_> {
         out.digits(first, self.digits)?;
         'groups: while !rest.is_empty() {
             let (group, after) = rest.split_at(next_group(rest.len(), primary, secondary));
-            write_part(out, parts::GROUP, separator)?;
+            out.part(parts::GROUP, separator)?;
             out.digits(group, self.digits)?;
             rest = after;
         }
@@ -165,7 +165,7 @@ impl FormattedUnsignedDecimal<'_> {
         if fraction.is_empty() {
             return Ok(());
         }
-        write_part(out, parts::DECIMAL, self.symbols.decimal_separator())?;
+        out.part(parts::DECIMAL, self.symbols.decimal_separator())?;
         out.open(parts::FRACTION)?;
         out.digits(fraction, self.digits)?;
         out.close()
@@ -179,6 +179,8 @@ impl fmt::Display for FormattedDecimal<'_> {
 
     ghost output = { λ f. Some (text_of (decimal_shown f)) };
 
+    ghost styled_output = { λ f _. Some (text_of (decimal_shown f)) };
+
     fn fmt<W: fmt::Write>(&self, f: &mut fmt::Formatter<W>) -> fmt::Result {
         self.signed.fmt(f)
     }
@@ -190,6 +192,8 @@ impl fmt::Display for FormattedUnsignedDecimal<'_> {
     ghost use Rattle.icu_decimal.specs.Formatted.{unsigned_shown};
 
     ghost output = { λ f. Some (text_of (unsigned_shown f)) };
+
+    ghost styled_output = { λ f _. Some (text_of (unsigned_shown f)) };
 
     fn fmt<W: fmt::Write>(&self, f: &mut fmt::Formatter<W>) -> fmt::Result {
         self.write_events(f).map_err(|_| fmt::Error)

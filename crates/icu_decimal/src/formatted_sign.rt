@@ -2,8 +2,6 @@
 
 ghost use Rattle.std.specs.Prelude.{◌≡◌, Option, option_map};
 ghost use Rattle.std.specs.Option.{option_eq};
-ghost use Rattle.icu_base.specs.Events.{text_events};
-ghost use Rattle.icu_decimal.specs.Part.{in_part};
 ghost use Rattle.icu_decimal.specs.Signed.{affixes_of, same_affixes};
 
 use icu_base::{EventWriter, Part, WriteFault, Writeable};
@@ -80,23 +78,10 @@ impl<T: Writeable> Writeable for FormattedSign<'_, T> {
         let Some((part, prefix, suffix)) = self.sign else {
             return self.value.write_events(out);
         };
-        write_part(out, part, prefix)?;
+        out.part(part, prefix)?;
         self.value.write_events(out)?;
-        write_part(out, part, suffix)
+        out.part(part, suffix)
     }
-}
-
-/// Writes a text as a part.
-pub(crate) fn write_part<K: EventWriter>(
-    out: &mut K,
-    part: Part,
-    text: &str,
-) -> Result<(), WriteFault>
-    ensures { K.wrote out.old result (in_part part.category.now part.value.now (text_events text.now)) out.new }
-{
-    out.open(part)?;
-    out.text(text)?;
-    out.close()
 }
 
 impl<T: Writeable> fmt::Display for FormattedSign<'_, T> {
@@ -105,6 +90,8 @@ impl<T: Writeable> fmt::Display for FormattedSign<'_, T> {
     ghost use Rattle.icu_decimal.specs.Signed.{affixed_events};
 
     ghost output = { λ f. Some (text_of (affixed_events f.affixes (T.events f.value))) };
+
+    ghost styled_output = { λ f _. Some (text_of (affixed_events f.affixes (T.events f.value))) };
 
     fn fmt<W: fmt::Write>(&self, f: &mut fmt::Formatter<W>) -> fmt::Result {
         self.write_events(f).map_err(|_| fmt::Error)

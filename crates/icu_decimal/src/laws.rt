@@ -2,7 +2,10 @@
 
 ghost use Rattle.std.specs.Prelude.{◌≡◌, IsTrue};
 ghost use Rattle.icu_decimal.specs.Formatted.{decimal_shown, unsigned_shown};
-ghost use Rattle.icu_decimal.specs.CompactLaws.{OneCompactNumberIsNearest, DisplayedIsOne, NearestKeepsOrder, MagnitudeIsShown, CompactNumberIsItsNearest};
+ghost use Rattle.fixed_decimal.specs.declared.signs.Sign.{Sign};
+ghost use Rattle.fixed_decimal.specs.Unsigned.{Unsigned};
+ghost use Rattle.icu_decimal.specs.CompactFormat.{CompactFormat};
+ghost use Rattle.icu_decimal.specs.CompactLaws.{OneCompactNumberIsNearest, NearestIsRounded, DisplayedIsOne, NearestKeepsOrder, MagnitudeIsShown, CompactNumberIsItsNearest, IsUnpadded, IsShownAgain, ShownIsGiven};
 ghost use Rattle.icu_decimal.specs.Laws.{AutoAndAlwaysWriteAlike, NoneActsAsAuto, SeparatorsTakenOut, DigitsHaveAGrouping, DigitsHaveOneGrouping};
 
 use crate::formatted_decimal::{FormattedDecimal, FormattedUnsignedDecimal};
@@ -54,10 +57,12 @@ fn equal_parts_are_the_same()
     ensures digits { (a b : _) → IsTrue (⟦<[char; 10] as PartialEq>⟧.eq a b) → a ≡ b }
 {}
 
-/// Each size has one nearest compact number by the entries of a table, and what is displayed of a decimal is one: the size,
-/// the entry and the significand.
+/// Each size has one nearest compact number by the entries of a table: it is just the nearest multiple of ten to the
+/// rounding place of the size's own magnitude, the even one of two equally near. And what is displayed of a decimal is one:
+/// the size, the entry and the significand.
 pub fn nearest_is_unique()
     ensures nearest { OneCompactNumberIsNearest }
+    ensures rounded { NearestIsRounded }
     ensures displayed { DisplayedIsOne }
 {}
 
@@ -67,4 +72,13 @@ pub fn smaller_never_shows_larger()
     ensures in_order { NearestKeepsOrder }
     ensures not_lost { MagnitudeIsShown }
     ensures itself { CompactNumberIsItsNearest }
+{}
+
+/// The number that is shown is shown again in the same way, for every table: where a decimal has no leading padding, what
+/// `format` writes of it is what it writes of every decimal without leading padding that has the shown size and the same
+/// sign, the entry, the significand and the characters. And `format_with_exponent` accepts the significand that was shown
+/// with the exponent that was shown, whatever the padding, and writes the same characters.
+pub fn shown_again()
+    ensures again { (format : CompactFormat) (sign : Sign) (d again : Unsigned) → IsUnpadded d → IsUnpadded again → IsShownAgain format sign d again }
+    ensures given { ShownIsGiven }
 {}

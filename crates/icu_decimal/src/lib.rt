@@ -3,6 +3,7 @@
 
 mod compact_formatter;
 mod compact_rounding;
+mod cow;
 mod decimal_formatter;
 pub mod error;
 mod formatted_compact;
@@ -10,7 +11,6 @@ mod formatted_decimal;
 mod formatted_sign;
 pub mod grouper;
 pub mod laws;
-mod lent;
 pub mod options;
 pub mod parts;
 pub mod provider;
@@ -23,8 +23,8 @@ pub mod input {
 }
 
 pub use compact_formatter::CompactDecimalFormatter;
+pub use cow::Cow;
 pub use decimal_formatter::DecimalFormatter;
 pub use formatted_compact::{FormattedUnsignedCompactDecimal, InterpolatedDecimal};
 pub use formatted_decimal::{FormattedDecimal, FormattedUnsignedDecimal};
 pub use formatted_sign::FormattedSign;
-pub use lent::Cow;

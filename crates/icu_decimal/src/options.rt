@@ -1,10 +1,9 @@
 //! How a formatter is asked to group (ICU4X `options`).
 
 /// Whether and from how many digits on an integer is grouped (ICU4X `GroupingStrategy`).
-#[derive(Clone, Copy, Debug, Default, PartialEq, Eq, Hash)]
+#[derive(Clone, Copy, Debug, PartialEq, Eq, Hash)]
 pub enum GroupingStrategy {
     /// As the locale's sizes say.
-    #[default]
     Auto,
     /// No separators.
     Never,
@@ -14,11 +13,36 @@ pub enum GroupingStrategy {
     Min2,
 }
 
+/// The default is `Auto`.
+impl Default for GroupingStrategy {
+    ghost use Rattle.std.specs.Prelude.{◌≡◌};
+    ghost use Rattle.icu_decimal.specs.declared.options.GroupingStrategy.TheVariants.{Auto};
+
+    ghost is_default = { λ strategy. strategy ≡ Auto };
+
+    fn default() -> Self {
+        GroupingStrategy::Auto
+    }
+}
+
 /// How a decimal formatter writes (ICU4X `DecimalFormatterOptions`).
-#[derive(Clone, Copy, Debug, Default, PartialEq, Eq, Hash)]
+#[derive(Clone, Copy, Debug, PartialEq, Eq, Hash)]
 pub struct DecimalFormatterOptions {
     /// When separators are written; `None` acts as `Auto`.
     pub grouping_strategy: Option<GroupingStrategy>,
+}
+
+/// The default names no strategy.
+impl Default for DecimalFormatterOptions {
+    ghost use Rattle.std.specs.Prelude.{◌≡◌, None};
+
+    ghost is_default = { λ options. options ≡ record { grouping_strategy = None } };
+
+    fn default() -> Self {
+        DecimalFormatterOptions {
+            grouping_strategy: None,
+        }
+    }
 }
 
 impl From<GroupingStrategy> for DecimalFormatterOptions {

@@ -5,10 +5,12 @@ use std::fmt::Display;
 use std::process::Abort;
 use std::test::Fail;
 
+mod carries;
 mod compact;
 mod languages;
 mod options;
 mod plain;
+mod styles;
 
 const LATIN: [char; 10] = ['0', '1', '2', '3', '4', '5', '6', '7', '8', '9'];
 

@@ -1,4 +1,3 @@
-pub mod Lengths
 pub mod Texts
 pub mod SameEntries
 pub mod EntryFaults

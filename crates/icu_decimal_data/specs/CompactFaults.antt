@@ -3,7 +3,7 @@ use Rattle.std.specs.Prelude.{ℕ, ◌+◌, Bool, false, ◌||◌, nat_lt, List,
 use Rattle.std.specs.Option.{option_or, option_map_or}
 use Rattle.icu_base.specs.Patterns.{PatternText}
 use Rattle.icu_base.specs.Elements.{slots}
-use Rattle.icu_decimal_data.specs.CompactTable.{PatternElements, TableEntry}
+use Rattle.icu_decimal_data.specs.CompactTable.{PatternElements, TableEntry, shift_limit}
 use Rattle.icu_decimal_data.specs.Kept.{kept}
 use Rattle.icu_decimal_data.specs.declared.error.CompactError.{CompactError}
 use Rattle.icu_decimal_data.specs.declared.error.CompactError.TheVariants.{ExponentsFall, ExponentAboveType, TooManyZeros, TooLarge}
@@ -16,11 +16,11 @@ falls_after before (e ∷ es) = nat_lt e.exponent before || falls_after e.expone
 abbrev pub has_falling_exponents : List TableEntry → Bool
 has_falling_exponents es = falls_after 0 es
 
--- an exponent above its type, or a shift above 15
+-- an exponent above its type, or a type too far above its exponent
 abbrev pub fault_at : ℕ → ℕ → Option CompactError
 fault_at log10_type exponent =
     if nat_lt log10_type exponent then Some ExponentAboveType
-    else if nat_lt (exponent + 15) log10_type then Some TooManyZeros else None
+    else if nat_lt (exponent + shift_limit) log10_type then Some TooManyZeros else None
 
 abbrev pub entry_fault : TableEntry → Option CompactError
 entry_fault e = fault_at e.log10_type e.exponent
@@ -40,8 +40,12 @@ elements_size e = sum_by slot_size (slots e)
 abbrev pub literals_size : List TableEntry → ℕ
 literals_size es = sum_by (λ (e : TableEntry). elements_size e.elements) es
 
+-- the most bytes that all literals may have together
+abbrev pub literal_limit : ℕ
+literal_limit = 65535
+
 -- the first fault of a map: falling exponents anywhere in it, then faults of entries that are kept, by rising type, then the size
 abbrev pub fault_of : Option PatternElements → List TableEntry → Option CompactError
 fault_of plain es =
     if has_falling_exponents es then Some ExponentsFall
-    else option_or (first_entry_fault (kept plain es)) (if nat_lt 65535 (literals_size (kept plain es)) then Some TooLarge else None)
+    else option_or (first_entry_fault (kept plain es)) (if nat_lt literal_limit (literals_size (kept plain es)) then Some TooLarge else None)

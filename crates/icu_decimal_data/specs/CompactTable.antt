@@ -16,12 +16,16 @@ pub record TableEntry : Type 0 where
   pub exponent : ℕ
   pub elements : PatternElements
 
+-- the most that a type may be above its exponent
+abbrev pub shift_limit : ℕ
+shift_limit = 15
+
 -- Types rise, exponents do not fall, no exponent is above its type, and none is more than 15 below it.
 pub record IsCompactTable (table : List TableEntry) : Type 0 where
   pub types_rise : AllPairs (λ (e f : TableEntry). e.log10_type < f.log10_type) table
   pub exponents_rise : AllPairs (λ (e f : TableEntry). e.exponent ≤ f.exponent) table
   pub exponents_small : All (λ (e : TableEntry). e.exponent ≤ e.log10_type) table
-  pub shifts_small : All (λ (e : TableEntry). e.log10_type ≤ e.exponent + 15) table
+  pub shifts_small : All (λ (e : TableEntry). e.log10_type ≤ e.exponent + shift_limit) table
 
 -- the place of an entry's type; a magnitude is a place too, as that of a size
 abbrev pub type_place : TableEntry → ℕ

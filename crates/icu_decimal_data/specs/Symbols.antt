@@ -1,5 +1,5 @@
 -- The texts of a locale's number symbols, each as the list of its bytes, and what they may be.
-use Rattle.std.specs.Prelude.{◌≡◌, ℕ, ◌+◌, ◌≤◌, Bool, true, nat_eq, IsTrue, List, [], ◌∷◌, All, length, map}
+use Rattle.std.specs.Prelude.{◌≡◌, ℕ, ◌≤◌, Bool, true, nat_eq, IsTrue, List, [], ◌∷◌, All, length, sum_by}
 use Rattle.std.specs.Str.{is_utf8}
 use Rattle.std.specs.Ordering.{on}
 use Rattle.std.specs.Cmp.{IsEquivalence}
@@ -22,14 +22,9 @@ pub record SymbolTexts : Type 0 where
 abbrev pub texts_of : SymbolTexts → List (List ℕ)
 texts_of s = s.minus_sign_prefix ∷ s.minus_sign_suffix ∷ s.plus_sign_prefix ∷ s.plus_sign_suffix ∷ s.decimal_separator ∷ s.grouping_separator ∷ s.numsys ∷ []
 
--- the sum of numbers
-abbrev pub total : List ℕ → ℕ
-total [] = 0
-total (n ∷ ns) = n + total ns
-
 -- how many bytes the seven texts are together
 abbrev pub total_len : SymbolTexts → ℕ
-total_len s = total (map length (texts_of s))
+total_len s = sum_by length (texts_of s)
 
 -- What symbols may be: at most 255 bytes together, each a text, and the last the name of a numbering system.
 pub record IsSymbolTexts (s : SymbolTexts) : Type 0 where

@@ -11,6 +11,12 @@ use crate::error::CompactError;
 use icu_base::{Pattern, PatternBackend, PluralElements};
 use std::collections::BTreeMap;
 
+/// The most bytes that the literals of the kept patterns may have together.
+const MAX_LITERAL_BYTES: usize = 65535;
+
+/// The most that a type may be above its exponent.
+const MAX_ZEROS: u8 = 15;
+
 pub(crate) type Elements<P> = PluralElements<Pattern<P>>;
 
 /// Whether an exponent is below that of the type just before.
@@ -33,7 +39,7 @@ fn fault_at(log10_type: u8, exponent: u8) -> Option<CompactError>
 {
     if exponent > log10_type {
         Some(CompactError::ExponentAboveType)
-    } else if log10_type - exponent > 15 {
+    } else if log10_type - exponent > MAX_ZEROS {
         Some(CompactError::TooManyZeros)
     } else {
         None
@@ -105,7 +111,7 @@ pub(crate) fn first_fault<P: PatternBackend>(
             last = Some(elements);
         }
     }
-    if size > 65535 {
+    if size > MAX_LITERAL_BYTES {
         Some(CompactError::TooLarge)
     } else {
         None

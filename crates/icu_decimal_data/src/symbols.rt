@@ -1,8 +1,8 @@
 //! The seven texts of symbols, and the builder that makes them.
 
-ghost use Rattle.std.specs.Prelude.{◌≡◌, ℕ, ◌<◌, ◌≤◌, ◌↔◌, length, map, IsTrue, IfOk, IsOk, IsErrOf};
+ghost use Rattle.std.specs.Prelude.{◌≡◌, ℕ, ◌<◌, ◌≤◌, ◌↔◌, length, sum_by, IsTrue, IfOk, IsOk, IsErrOf};
 ghost use Rattle.icu_provider.specs.NumberingSystem.{IsNumberingSystem};
-ghost use Rattle.icu_decimal_data.specs.Symbols.{IsSymbolTexts, total, total_len};
+ghost use Rattle.icu_decimal_data.specs.Symbols.{IsSymbolTexts, total_len};
 ghost use Rattle.icu_decimal_data.specs.declared.error.SymbolsError.TheVariants.{TooLarge, BadNumberingSystem};
 
 use crate::error::SymbolsError;
@@ -35,7 +35,7 @@ pub struct DecimalSymbolStrsBuilder<'data> {
 /// Whether the texts are at most 255 bytes together. The lengths are never added up, since a sum could pass
 /// the largest `usize`.
 fn are_short(texts: &[&str]) -> bool
-    ensures { IsTrue result ↔ (total (map (λ t. length t.now) texts.now) ≤ 255) }
+    ensures { IsTrue result ↔ (sum_by (λ t. length t.now) texts.now ≤ MAX_LEN) }
 {
     let mut room = MAX_LEN;
     for text in texts {

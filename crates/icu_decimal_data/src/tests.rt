@@ -1,16 +1,23 @@
-//! Each test holds whichever single allocation fails: a call gives its usual answer or is refused for want of
-//! memory, and the same call then gives its usual answer.
+//! Rows are constant tables, and values live in functions that answer whether they hold. Each test holds whichever
+//! single allocation fails: a call gives its usual answer or is refused for want of memory, and the same call then gives
+//! its usual answer.
 
 use crate::{
     DecimalSymbolStrsBuilder, DecimalSymbols, DecimalSymbolsStrs, GroupingSizes, SymbolsError,
 };
 use std::alloc::Global;
-use std::process::Abort;
 use std::str;
-use std::test::Fail;
 
 mod compact;
 mod tables;
+
+/// The seven texts in their order: both minus signs, both plus signs, both separators, the system.
+type Texts = [&'static str; 7];
+
+/// Texts of several bytes a character, no two alike.
+const ARABIC: Texts = ["\u{61c}-", "₋", "\u{61c}+", "₊", "٫", "٬", "arab"];
+
+const ENGLISH: Texts = ["-", "", "+", "", ".", ",", "latn"];
 
 const SIZES: GroupingSizes = GroupingSizes {
     primary: 3,
@@ -18,16 +25,28 @@ const SIZES: GroupingSizes = GroupingSizes {
     min_grouping: 1,
 };
 
-/// Texts of several bytes a character, no two alike.
-fn arabic() -> DecimalSymbolStrsBuilder<'static> {
+const ENGLISH_SIZES: GroupingSizes = GroupingSizes {
+    primary: 3,
+    secondary: 3,
+    min_grouping: 1,
+};
+
+/// More than 255 bytes.
+const LONG: &str = "\
+    xxxxxxxxxxxxxxxxxxxxxxxxxxxxxxxxxxxxxxxxxxxxxxxxxxxxxxxxxxxxxxxx\
+    xxxxxxxxxxxxxxxxxxxxxxxxxxxxxxxxxxxxxxxxxxxxxxxxxxxxxxxxxxxxxxxx\
+    xxxxxxxxxxxxxxxxxxxxxxxxxxxxxxxxxxxxxxxxxxxxxxxxxxxxxxxxxxxxxxxx\
+    xxxxxxxxxxxxxxxxxxxxxxxxxxxxxxxxxxxxxxxxxxxxxxxxxxxxxxxxxxxxxxxx";
+
+fn builder(texts: Texts) -> DecimalSymbolStrsBuilder<'static> {
     DecimalSymbolStrsBuilder {
-        minus_sign_prefix: "\u{61c}-",
-        minus_sign_suffix: "₋",
-        plus_sign_prefix: "\u{61c}+",
-        plus_sign_suffix: "₊",
-        decimal_separator: "٫",
-        grouping_separator: "٬",
-        numsys: "arab",
+        minus_sign_prefix: texts[0],
+        minus_sign_suffix: texts[1],
+        plus_sign_prefix: texts[2],
+        plus_sign_suffix: texts[3],
+        decimal_separator: texts[4],
+        grouping_separator: texts[5],
+        numsys: texts[6],
     }
 }
 
@@ -71,192 +90,223 @@ fn copied(alloc: Global, symbols: &DecimalSymbols) -> Result<DecimalSymbols, Sym
     }
 }
 
-fn assert_texts(
-    rt: &impl Abort,
-    symbols: &DecimalSymbolsStrs,
-    given: &DecimalSymbolStrsBuilder<'_>,
-) {
-    assert!(rt; symbols.minus_sign_prefix() == given.minus_sign_prefix);
-    assert!(rt; symbols.minus_sign_suffix() == given.minus_sign_suffix);
-    assert!(rt; symbols.plus_sign_prefix() == given.plus_sign_prefix);
-    assert!(rt; symbols.plus_sign_suffix() == given.plus_sign_suffix);
-    assert!(rt; symbols.decimal_separator() == given.decimal_separator);
-    assert!(rt; symbols.grouping_separator() == given.grouping_separator);
-    assert!(rt; symbols.numsys() == given.numsys);
+/// Symbols of these texts and sizes.
+fn symbols_of(
+    alloc: Global,
+    texts: Texts,
+    grouping_sizes: GroupingSizes,
+) -> Result<DecimalSymbols, SymbolsError> {
+    match built(alloc, &builder(texts)) {
+        Ok(strings) => Ok(DecimalSymbols {
+            strings,
+            grouping_sizes,
+        }),
+        Err(error) => Err(error),
+    }
 }
 
+fn holds_texts(symbols: &DecimalSymbolsStrs, texts: Texts) -> bool {
+    symbols.minus_sign_prefix() == texts[0]
+        && symbols.minus_sign_suffix() == texts[1]
+        && symbols.plus_sign_prefix() == texts[2]
+        && symbols.plus_sign_suffix() == texts[3]
+        && symbols.decimal_separator() == texts[4]
+        && symbols.grouping_separator() == texts[5]
+        && symbols.numsys() == texts[6]
+}
+
+fn makes(
+    alloc: Global,
+    builder: &DecimalSymbolStrsBuilder<'_>,
+    symbols: &DecimalSymbolsStrs,
+) -> bool {
+    match built(alloc, builder) {
+        Ok(made) => made == *symbols,
+        Err(_) => false,
+    }
+}
+
+/// Whether the builder of symbols has the seven texts, and makes the same symbols.
+fn gives_back(alloc: Global, symbols: &DecimalSymbolsStrs, texts: Texts) -> bool {
+    let back = DecimalSymbolStrsBuilder::from(symbols);
+    back == builder(texts) && makes(alloc, &back, symbols)
+}
+
+fn holds_and_gives_back(alloc: Global, texts: Texts) -> bool {
+    match built(alloc, &builder(texts)) {
+        Ok(symbols) => holds_texts(&symbols, texts) && gives_back(alloc, &symbols, texts),
+        Err(_) => false,
+    }
+}
+
+const HELD: [Texts; 3] = [
+    ARABIC,
+    ["", "", "", "", "", "", "latn"],
+    ["", "", "", "", "\u{202f}", "", "123"],
+];
+
 #[test]
-fn holds_and_gives_back_the_seven_texts(rt: HostRuntime) -> Result<(), Fail> {
-    for given in [
-        arabic(),
-        nearly_empty("", "latn"),
-        nearly_empty("\u{202f}", "123"),
-    ] {
-        let symbols = built(rt.alloc(), &given)?;
-        assert_texts(&rt, &symbols, &given);
-        let back = DecimalSymbolStrsBuilder::from(&symbols);
-        assert!(rt; back == given, "the builder has the seven texts");
+fn holds_and_gives_back_the_seven_texts(rt: HostRuntime) {
+    for texts in HELD {
+        assert!(rt; holds_and_gives_back(rt.alloc(), texts), "{}", texts[6]);
+    }
+}
+
+/// Why symbols with a separator of so many bytes are refused, if they are.
+fn refusal(alloc: Global, len: usize, numsys: &str) -> Option<SymbolsError> {
+    let bytes = [b'x'; 300];
+    if len > bytes.len() {
+        return Some(SymbolsError::OutOfMemory);
+    }
+    match str::from_utf8(&bytes[..len]) {
+        Ok(text) => built(alloc, &nearly_empty(text, numsys)).err(),
+        Err(_) => Some(SymbolsError::OutOfMemory),
+    }
+}
+
+const REFUSED: [(usize, &str, Option<SymbolsError>); 10] = [
+    (251, "latn", None),
+    (252, "latn", Some(SymbolsError::TooLarge)),
+    (252, "Latn", Some(SymbolsError::TooLarge)),
+    (251, "Latn", Some(SymbolsError::BadNumberingSystem)),
+    (247, "abcdefgh", None),
+    (248, "abcdefgh", Some(SymbolsError::TooLarge)),
+    (246, "abcdefghi", Some(SymbolsError::BadNumberingSystem)),
+    (0, "la", Some(SymbolsError::BadNumberingSystem)),
+    (0, "", Some(SymbolsError::BadNumberingSystem)),
+    (300, "", Some(SymbolsError::TooLarge)),
+];
+
+#[test]
+fn refuses_more_than_255_bytes_and_then_bad_systems(rt: HostRuntime) {
+    for (len, numsys, want) in REFUSED {
         assert!(rt;
-            built(rt.alloc(), &back)? == symbols,
-            "and makes the same symbols"
+            refusal(rt.alloc(), len, numsys) == want,
+            "{len} bytes and {numsys}"
         );
     }
-    Ok(())
 }
 
+fn is_too_large(alloc: Global, texts: Texts) -> bool {
+    builder(texts).build(alloc).err() == Some(SymbolsError::TooLarge)
+}
+
+const TOO_LARGE: [Texts; 7] = [
+    [LONG, "", "", "", "", "", "latn"],
+    ["", LONG, "", "", "", "", "latn"],
+    ["", "", LONG, "", "", "", "latn"],
+    ["", "", "", LONG, "", "", "latn"],
+    ["", "", "", "", LONG, "", "latn"],
+    ["", "", "", "", "", LONG, "latn"],
+    ["", "", "", "", "", "", LONG],
+];
+
 #[test]
-fn refuses_more_than_255_bytes_and_then_bad_systems(rt: HostRuntime) -> Result<(), Fail> {
-    let bytes = [b'x'; 300];
-    let rows = [
-        (251, "latn", None),
-        (252, "latn", Some(SymbolsError::TooLarge)),
-        (252, "Latn", Some(SymbolsError::TooLarge)),
-        (251, "Latn", Some(SymbolsError::BadNumberingSystem)),
-        (247, "abcdefgh", None),
-        (248, "abcdefgh", Some(SymbolsError::TooLarge)),
-        (246, "abcdefghi", Some(SymbolsError::BadNumberingSystem)),
-        (0, "la", Some(SymbolsError::BadNumberingSystem)),
-        (0, "", Some(SymbolsError::BadNumberingSystem)),
-        (300, "", Some(SymbolsError::TooLarge)),
-    ];
-    for (len, numsys, refusal) in rows {
-        let text = str::from_utf8(&bytes[..len])?;
-        let answer = built(rt.alloc(), &nearly_empty(text, numsys));
-        assert!(rt; answer.err() == refusal, "{len} bytes and {numsys}");
+fn each_text_counts_to_the_255_bytes(rt: HostRuntime) {
+    for texts in TOO_LARGE {
+        assert!(rt; is_too_large(rt.alloc(), texts));
     }
-    Ok(())
 }
 
-#[test]
-fn each_text_counts_to_the_255_bytes(rt: HostRuntime) -> Result<(), Fail> {
-    let bytes = [b'x'; 256];
-    let long = str::from_utf8(&bytes)?;
-    let short = nearly_empty("", "latn");
-    let rows = [
-        DecimalSymbolStrsBuilder {
-            minus_sign_prefix: long,
-            ..short.clone()?
-        },
-        DecimalSymbolStrsBuilder {
-            minus_sign_suffix: long,
-            ..short.clone()?
-        },
-        DecimalSymbolStrsBuilder {
-            plus_sign_prefix: long,
-            ..short.clone()?
-        },
-        DecimalSymbolStrsBuilder {
-            plus_sign_suffix: long,
-            ..short.clone()?
-        },
-        DecimalSymbolStrsBuilder {
-            decimal_separator: long,
-            ..short.clone()?
-        },
-        DecimalSymbolStrsBuilder {
-            grouping_separator: long,
-            ..short.clone()?
-        },
-        DecimalSymbolStrsBuilder {
-            numsys: long,
-            ..short
-        },
-    ];
-    for builder in rows {
-        assert!(rt; builder.build(rt.alloc()).err() == Some(SymbolsError::TooLarge));
+fn shows_texts(symbols: &DecimalSymbols, texts: Texts) -> bool {
+    symbols.minus_sign_prefix() == texts[0]
+        && symbols.minus_sign_suffix() == texts[1]
+        && symbols.plus_sign_prefix() == texts[2]
+        && symbols.plus_sign_suffix() == texts[3]
+        && symbols.decimal_separator() == texts[4]
+        && symbols.grouping_separator() == texts[5]
+        && symbols.numsys() == texts[6]
+}
+
+fn is_english(alloc: Global) -> bool {
+    match english(alloc) {
+        Ok(symbols) => { shows_texts(&symbols, ENGLISH) && symbols.grouping_sizes == ENGLISH_SIZES }
+        Err(_) => false,
     }
-    Ok(())
 }
 
 #[test]
-fn english_symbols(rt: HostRuntime) -> Result<(), Fail> {
-    let symbols = english(rt.alloc())?;
-    assert_eq!(rt; symbols.minus_sign_prefix(), "-");
-    assert_eq!(rt; symbols.minus_sign_suffix(), "");
-    assert_eq!(rt; symbols.plus_sign_prefix(), "+");
-    assert_eq!(rt; symbols.plus_sign_suffix(), "");
-    assert_eq!(rt; symbols.decimal_separator(), ".");
-    assert_eq!(rt; symbols.grouping_separator(), ",");
-    assert_eq!(rt; symbols.numsys(), "latn");
-    let sizes = GroupingSizes {
-        primary: 3,
-        secondary: 3,
-        min_grouping: 1,
-    };
-    assert!(rt; symbols.grouping_sizes == sizes);
-    Ok(())
+fn english_symbols(rt: HostRuntime) {
+    assert!(rt; is_english(rt.alloc()));
 }
 
-#[test]
-fn equal_where_texts_and_sizes_are(rt: HostRuntime) -> Result<(), Fail> {
-    let symbols = DecimalSymbols {
-        strings: built(rt.alloc(), &arabic())?,
-        grouping_sizes: SIZES,
-    };
-    assert!(rt;
-        copied(rt.alloc(), &symbols)? == symbols,
-        "a copy equals its source"
-    );
-    assert!(rt; english(rt.alloc())? != symbols);
-    let other_sizes = [
+/// Whether symbols equal the Arabic ones.
+fn is_arabic(alloc: Global, symbols: &DecimalSymbols) -> Option<bool> {
+    match symbols_of(alloc, ARABIC, SIZES) {
+        Ok(arabic) => Some(arabic == *symbols),
+        Err(_) => None,
+    }
+}
+
+/// Whether a copy of symbols equals the Arabic ones.
+fn is_arabic_copied(alloc: Global, texts: Texts, sizes: GroupingSizes) -> Option<bool> {
+    match symbols_of(alloc, texts, sizes) {
+        Ok(symbols) => match copied(alloc, &symbols) {
+            Ok(copy) => is_arabic(alloc, &copy),
+            Err(_) => None,
+        },
+        Err(_) => None,
+    }
+}
+
+const COMPARED: [(Texts, GroupingSizes, bool); 5] = [
+    (ARABIC, SIZES, true),
+    (ENGLISH, ENGLISH_SIZES, false),
+    (
+        ARABIC,
         GroupingSizes {
             primary: 4,
             ..SIZES
         },
+        false,
+    ),
+    (
+        ARABIC,
         GroupingSizes {
             secondary: 3,
             ..SIZES
         },
+        false,
+    ),
+    (
+        ARABIC,
         GroupingSizes {
             min_grouping: 2,
             ..SIZES
         },
-    ];
-    for grouping_sizes in other_sizes {
-        let other = DecimalSymbols {
-            strings: built(rt.alloc(), &arabic())?,
-            grouping_sizes,
-        };
-        assert!(rt; other != symbols, "the sizes differ");
-    }
-    Ok(())
-}
+        false,
+    ),
+];
 
 #[test]
-fn other_texts_are_other_symbols(rt: HostRuntime) -> Result<(), Fail> {
-    let symbols = built(rt.alloc(), &arabic())?;
-    let rows = [
-        DecimalSymbolStrsBuilder {
-            minus_sign_prefix: "-",
-            ..arabic()
-        },
-        DecimalSymbolStrsBuilder {
-            minus_sign_suffix: "-",
-            ..arabic()
-        },
-        DecimalSymbolStrsBuilder {
-            plus_sign_prefix: "-",
-            ..arabic()
-        },
-        DecimalSymbolStrsBuilder {
-            plus_sign_suffix: "-",
-            ..arabic()
-        },
-        DecimalSymbolStrsBuilder {
-            decimal_separator: "-",
-            ..arabic()
-        },
-        DecimalSymbolStrsBuilder {
-            grouping_separator: "-",
-            ..arabic()
-        },
-        DecimalSymbolStrsBuilder {
-            numsys: "latn",
-            ..arabic()
-        },
-    ];
-    for builder in rows {
-        assert!(rt; built(rt.alloc(), &builder)? != symbols);
+fn equal_where_texts_and_sizes_are(rt: HostRuntime) {
+    for (texts, sizes, want) in COMPARED {
+        assert!(rt; is_arabic_copied(rt.alloc(), texts, sizes) == Some(want));
     }
-    Ok(())
+}
+
+/// Whether symbols of these texts equal the Arabic ones.
+fn are_arabic(alloc: Global, texts: Texts) -> Option<bool> {
+    match built(alloc, &builder(texts)) {
+        Ok(symbols) => Some(makes(alloc, &builder(ARABIC), &symbols)),
+        Err(_) => None,
+    }
+}
+
+const OTHERS: [Texts; 7] = [
+    ["-", "₋", "\u{61c}+", "₊", "٫", "٬", "arab"],
+    ["\u{61c}-", "-", "\u{61c}+", "₊", "٫", "٬", "arab"],
+    ["\u{61c}-", "₋", "-", "₊", "٫", "٬", "arab"],
+    ["\u{61c}-", "₋", "\u{61c}+", "-", "٫", "٬", "arab"],
+    ["\u{61c}-", "₋", "\u{61c}+", "₊", "-", "٬", "arab"],
+    ["\u{61c}-", "₋", "\u{61c}+", "₊", "٫", "-", "arab"],
+    ["\u{61c}-", "₋", "\u{61c}+", "₊", "٫", "٬", "latn"],
+];
+
+#[test]
+fn other_texts_are_other_symbols(rt: HostRuntime) {
+    assert!(rt; are_arabic(rt.alloc(), ARABIC) == Some(true));
+    for texts in OTHERS {
+        assert!(rt; are_arabic(rt.alloc(), texts) == Some(false));
+    }
 }

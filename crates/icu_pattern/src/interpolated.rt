@@ -72,6 +72,8 @@ impl<P: PatternBackend, W: Writeable> fmt::Display for Interpolated<'_, P, W> {
 
     ghost output = { λ i. Some (text_of (interpolated i.pattern (W.events i.value))) };
 
+    ghost styled_output = { λ i _. Some (text_of (interpolated i.pattern (W.events i.value))) };
+
     fn fmt<F: fmt::Write>(&self, f: &mut fmt::Formatter<F>) -> fmt::Result {
         self.write_events(f).map_err(|_| fmt::Error)
     }

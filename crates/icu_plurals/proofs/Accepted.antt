@@ -10,9 +10,7 @@ use Rattle.icu_plurals.specs.declared.lexer.Token.{Token}
 use Rattle.icu_plurals.specs.declared.lexer.Token.TheVariants.{Letter, And, Or, Number, Percent, Equals, NotEquals, Comma, Dots}
 use Rattle.icu_plurals.specs.Grammar.{Relation, IsRelation, IsWellFormed, Condition, separated, item_tokens, modulus_tokens, sign_of, relation_tokens, tokens_of, Placed, kinds}
 use Rattle.icu_plurals.specs.Reading.{Part, State, nothing, joined, subject, divided, reduced, listed, valued, ranged, ended, made, also, instead, finished, empty_part, step, finish, reading_from, reading}
-
-abbrev pub some : {A : Type 0} → A → Option A
-some s = Some s
+use Rattle.icu_plurals.proofs.Answered.{some}
 
 -- reading ends in c from the state s, by these tokens
 Reads : ℕ → State → List Token → Condition → Type 0

@@ -10,28 +10,17 @@ use Rattle.icu_plurals.specs.declared.condition.Condition.{Condition as OwnedCon
 use Rattle.icu_plurals.specs.declared.rules.Rule.{Rule as OwnedRule}
 use Rattle.icu_plurals.specs.Owned.{condition_in}
 use Rattle.icu_plurals.specs.Grammar.{Condition, IsConditionText, IsTextFault}
-use Rattle.icu_plurals.specs.Reading.{condition_of, fault_of}
+use Rattle.icu_plurals.specs.Reading.{condition_of, fault_byte}
 use Rattle.icu_plurals.specs.Rules.{Rule, GivenRule, given_rule, given_rules, IsReadFrom, IsFirstBadRule, rule_of, bad_rule_from}
 use Rattle.icu_plurals.proofs.Judged.{found_is_fault, none_is_condition, fault_is_found, condition_has_none, read_is_text}
-
-abbrev some : {A : Type 0} → A → Option A
-some x = Some x
-
-abbrev none : {A : Type 0} → Option A
-none = None
-
-none_is : {A : Type 0} {x : A} → none ≡ some x → ⊥
-none_is e = absurd cc
-
-some_is : {A : Type 0} {x y : A} → some x ≡ some y → x ≡ y
-some_is e = cc
+use Rattle.icu_plurals.proofs.Answered.{some, none, some_is, none_is}
 
 abbrev rest_of : ℕ → List GivenRule → Option ℕ → Option (ℕ × ℕ)
 rest_of k gs None = bad_rule_from (suc k) gs
 rest_of k gs (Some byte) = Some (k, byte)
 
-bad_is : (k : ℕ) (g : GivenRule) (gs : List GivenRule) → bad_rule_from k (g ∷ gs) ≡ rest_of k gs (fault_of (condition_of g.text))
-bad_is k g gs = by (fault_of (condition_of g.text))
+bad_is : (k : ℕ) (g : GivenRule) (gs : List GivenRule) → bad_rule_from k (g ∷ gs) ≡ rest_of k gs (fault_byte (condition_of g.text))
+bad_is k g gs = by (fault_byte (condition_of g.text))
   where
     by : (o : Option ℕ) → elim o as (λ _. Option (ℕ × ℕ)) [ None ↦ bad_rule_from (suc k) gs | Some byte ↦ Some (k, byte) ] ≡ rest_of k gs o
     by None = refl
@@ -66,13 +55,13 @@ second None = 0
 second (Some p) = p.1
 
 found_by : (k : ℕ) (g : GivenRule) (gs : List GivenRule) (r b : ℕ) → (bad_rule_from (suc k) gs ≡ Some (r, b) → FoundAt (suc k) gs r b)
-    → (o : Option ℕ) → fault_of (condition_of g.text) ≡ o → rest_of k gs o ≡ Some (r, b) → FoundAt k (g ∷ gs) r b
+    → (o : Option ℕ) → fault_byte (condition_of g.text) ≡ o → rest_of k gs o ≡ Some (r, b) → FoundAt k (g ∷ gs) r b
 found_by k g gs r b rest None e h = found_later k g gs r b (none_is_condition g.text e) (rest h)
 found_by k g gs r b rest (Some a) e h = found_here k g gs r b (sym (ap first h)) (found_is_fault g.text b (e ∙ ap (λ n. some n) (ap second h)))
 
 found_at : (k : ℕ) (gs : List GivenRule) (r b : ℕ) → bad_rule_from k gs ≡ Some (r, b) → FoundAt k gs r b
 found_at k [] r b h = absurd (none_is h)
-found_at k (g ∷ gs) r b h = found_by k g gs r b (λ e. found_at (suc k) gs r b e) (fault_of (condition_of g.text)) refl (sym (bad_is k g gs) ∙ h)
+found_at k (g ∷ gs) r b h = found_by k g gs r b (λ e. found_at (suc k) gs r b e) (fault_byte (condition_of g.text)) refl (sym (bad_is k g gs) ∙ h)
 
 -- what is sought is the first bad rule
 pub found_is_bad : (gs : List GivenRule) (r b : ℕ) → bad_rule_from 0 gs ≡ Some (r, b) → IsFirstBadRule gs r b
@@ -165,6 +154,6 @@ pub none_more : (xs : List (PluralCategory × Bor (List ℕ))) (i : ℕ) (d : Pl
     → condition_of (get_or xs i d).1.now ≡ Ok c → bad_rule_from (i + 1) (given_rules (drop (i + 1) xs)) ≡ None
 none_more xs i d c lt h k =
     let x = get_or xs i d in
-    let fine : fault_of (condition_of (given_rule x).text) ≡ none = ap fault_of k in
+    let fine : fault_byte (condition_of (given_rule x).text) ≡ none = ap fault_byte k in
     let cut : drop i xs ≡ x ∷ drop (suc i) xs = drop-cons xs i d lt in
     rw add-one (sym (ap (rest_of i (given_rules (drop (suc i) xs))) fine) ∙ sym (bad_is i (given_rule x) (given_rules (drop (suc i) xs))) ∙ sym (ap (λ l. bad_rule_from i (given_rules l)) cut) ∙ h)

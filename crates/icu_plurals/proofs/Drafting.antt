@@ -4,17 +4,18 @@ use Rattle.icu_plurals.specs.declared.condition.Item.TheVariants.{Value}
 use Rattle.icu_plurals.specs.declared.lexer.Token.{Token}
 use Rattle.icu_plurals.specs.declared.lexer.Token.TheVariants.{Letter, And, Or, Number, Percent, Equals, NotEquals, Comma, Dots, Unknown}
 use Rattle.icu_plurals.specs.declared.lexer.Found.{Found}
-use Rattle.icu_plurals.specs.declared.reader.Progress.{Progress}
-use Rattle.icu_plurals.specs.declared.reader.Progress.TheVariants.{Nothing, Joined, Subject, Divided, Reduced, Listed, Valued, Ranged, Ended}
+use Rattle.icu_plurals.specs.declared.progress.Progress.{Progress}
+use Rattle.icu_plurals.specs.declared.progress.Progress.TheVariants.{Nothing, Joined, Subject, Divided, Reduced, Listed, Valued, Ranged, Ended}
 use Rattle.icu_plurals.specs.Tokens.{part_of, tokens_from}
 use Rattle.icu_plurals.specs.Grammar.{Relation, Condition}
 use Rattle.icu_plurals.specs.Lexer.{IsFound}
-use Rattle.icu_plurals.specs.Reading.{Part, State, nothing, joined, subject, divided, reduced, listed, valued, ranged, ended, empty_part, made, also, instead, finished, step, finish, or_fault, reading_from, reading, condition_of, fault_of, progress_of, next_progress, may_end, fault_from}
+use Rattle.icu_plurals.specs.Reading.{Part, State, nothing, joined, subject, divided, reduced, listed, valued, ranged, ended, empty_part, made, also, instead, finished, step, finish, or_fault, reading_from, reading, condition_of, fault_byte, progress_of, next_progress, may_end, fault_from}
 use Rattle.icu_plurals.specs.Drafts.{Drafted, empty_draft, first_of, with_token, completed}
 use Rattle.icu_plurals.specs.declared.condition.Condition.{Condition as OwnedCondition}
 use Rattle.icu_plurals.specs.Owned.{condition_in}
 use Rattle.icu_plurals.proofs.Accepted.{next_reads}
 use Rattle.icu_plurals.proofs.Progressing.{fault_is, stop_at, not_zero}
+use Rattle.icu_plurals.proofs.Answered.{some, none, some_is, none_is}
 
 abbrev part_in : Drafted → Part
 part_in d = record { alternatives = d.alternatives; relations = d.relations }
@@ -54,18 +55,6 @@ record Keeps (g n : Progress) (t : Token) (d : Drafted) : Type 0 where
 
 abbrev as_ok : Condition → Result Condition ℕ
 as_ok c = Ok c
-
-abbrev some : {A : Type 0} → A → Option A
-some x = Some x
-
-abbrev none : {A : Type 0} → Option A
-none = None
-
-some_is : {A : Type 0} {x y : A} → some x ≡ some y → x ≡ y
-some_is e = cc
-
-none_is : {A : Type 0} {x : A} → none ≡ some x → ⊥
-none_is e = absurd cc
 
 abbrev whole : List (List Relation) → List Relation → Part
 whole a r = record { alternatives = a; relations = r }
@@ -231,12 +220,12 @@ unfolding condition_of reading
 reads-start text part d e h = rw (e, h) (record { at = 0; kept = (refl, refl, refl); read = refl })
 
 -- what is left has no fault, if the text has none
-left_fault : (text rest : List ℕ) (g : Progress) (d : Drafted) (r : Reads text rest g d) → fault_of (condition_of text) ≡ None → fault_from (length (part_of text)) g (tokens_from r.at rest) ≡ None
+left_fault : (text rest : List ℕ) (g : Progress) (d : Drafted) (r : Reads text rest g d) → fault_byte (condition_of text) ≡ None → fault_from (length (part_of text)) g (tokens_from r.at rest) ≡ None
 left_fault text rest g d r h =
     ap (λ k. fault_from (length (part_of text)) k (tokens_from r.at rest)) (sym (progress_is g d))
-    ∙ sym (fault_is (length (part_of text)) (state_of g d) (tokens_from r.at rest)) ∙ ap fault_of r.read ∙ h
+    ∙ sym (fault_is (length (part_of text)) (state_of g d) (tokens_from r.at rest)) ∙ ap fault_byte r.read ∙ h
 
-pub reads-goes_on : (text rest : List ℕ) (g : Progress) (d : Drafted) (f : Found) → Reads text rest g d → IsFound rest f → fault_of (condition_of text) ≡ None → next_progress g f.token ≡ None → ⊥
+pub reads-goes_on : (text rest : List ℕ) (g : Progress) (d : Drafted) (f : Found) → Reads text rest g d → IsFound rest f → fault_byte (condition_of text) ≡ None → next_progress g f.token ≡ None → ⊥
 reads-goes_on text rest g d f r k h e =
     let stopped : some (r.at + f.start) ≡ none = sym (stop_at (length (part_of text)) g (r.at + f.start, f.token) (tokens_from (r.at + f.end) (drop f.end rest)) e)
     ∙ sym (ap (fault_from (length (part_of text)) g) (k.tokens r.at)) ∙ left_fault text rest g d r h in
@@ -267,7 +256,7 @@ no_fault : (end : ℕ) (g : Progress) → fault_from end g [] ≡ cond (may_end 
 unfolding fault_from
 no_fault end g = refl
 
-pub reads-end : (text rest : List ℕ) (g : Progress) (d : Drafted) → Reads text rest g d → ((p : ℕ) → tokens_from p rest ≡ []) → fault_of (condition_of text) ≡ None → condition_of text ≡ Ok (completed g d)
+pub reads-end : (text rest : List ℕ) (g : Progress) (d : Drafted) → Reads text rest g d → ((p : ℕ) → tokens_from p rest ≡ []) → fault_byte (condition_of text) ≡ None → condition_of text ≡ Ok (completed g d)
 reads-end text rest g d r k h =
     let end = length (part_of text) in
     let ends : may_end g ≡ true = must_end g end (sym (no_fault end g) ∙ sym (ap (fault_from end g) (k r.at)) ∙ left_fault text rest g d r h) in

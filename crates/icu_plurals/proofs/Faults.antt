@@ -8,12 +8,7 @@ use Rattle.icu_plurals.specs.Reading.{State, nothing, joined, subject, divided, 
 use Rattle.icu_plurals.proofs.WellFormed.{read_is_well_formed}
 use Rattle.icu_plurals.proofs.Spelled.{read_is_spelled}
 use Rattle.icu_plurals.proofs.Accepted.{next_reads, spelled_is_read}
-
-abbrev done : Condition → Result Condition ℕ
-done c = Ok c
-
-abbrev fault : ℕ → Result Condition ℕ
-fault p = Err p
+use Rattle.icu_plurals.proofs.Answered.{done, fault}
 
 -- any state can go on to a condition
 completed : (end : ℕ) (s : State) → (more : List Placed) × (c : Condition) × (reading_from end s more ≡ Ok c)

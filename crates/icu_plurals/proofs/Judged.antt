@@ -1,26 +1,15 @@
 -- Each text spells one condition or has one first fault, and that is what is read.
-use Rattle.std.proofs.Common.{◌≡◌, ◌⊎◌, inl, inr, ℕ, suc, ◌<◌, ◌≤◌, List, ◌++◌, take, drop, length, Option, Some, None, Result, Ok, Err, refl, sym, ap, ◌∙◌, append_assoc, arith}
+use Rattle.std.proofs.Common.{◌≡◌, ◌⊎◌, inl, inr, ℕ, suc, ◌<◌, ◌≤◌, List, ◌++◌, take, drop, length, Some, None, Result, Ok, Err, refl, sym, ap, ◌∙◌, append_assoc, arith}
 use Rattle.std.proofs.lemmas.List.{take-append-drop, take-take}
 use Rattle.icu_plurals.specs.declared.lexer.Token.{Token}
 use Rattle.icu_plurals.specs.Tokens.{part_of}
 use Rattle.icu_plurals.specs.Grammar.{Condition, IsWellFormed, tokens_of, Placed, kinds, place_at, text_tokens, IsTextOf, IsConditionText, Begins, IsFirstFault, IsTextFault}
-use Rattle.icu_plurals.specs.Reading.{condition_of, fault_of}
+use Rattle.icu_plurals.specs.Reading.{condition_of, fault_byte}
 use Rattle.icu_plurals.proofs.WellFormed.{read_is_well_formed}
 use Rattle.icu_plurals.proofs.Spelled.{read_is_spelled}
 use Rattle.icu_plurals.proofs.Accepted.{spelled_is_read}
 use Rattle.icu_plurals.proofs.Faults.{first_fault}
-
-abbrev done : Condition → Result Condition ℕ
-done c = Ok c
-
-abbrev fault : ℕ → Result Condition ℕ
-fault b = Err b
-
-abbrev some : ℕ → Option ℕ
-some b = Some b
-
-abbrev none : Option ℕ
-none = None
+use Rattle.icu_plurals.proofs.Answered.{some, none, done, fault, some_is, none_is}
 
 -- a beginning of what begins a condition begins it
 begins_before : (ks : List Token) (i j : ℕ) → i ≤ j → Begins (take j ks) → Begins (take i ks)
@@ -83,35 +72,29 @@ pub refused_is_fault : (text : List ℕ) (b : ℕ) → condition_of text ≡ Err
 unfolding condition_of
 refused_is_fault text b e = first_fault (length (part_of text)) (text_tokens text) b e
 
-some_is : (a b : ℕ) → some a ≡ some b → a ≡ b
-some_is a b e = cc
-
-none_is : (b : ℕ) → none ≡ some b → ⊥
-none_is b e = absurd cc
-
-pub found_is_fault : (text : List ℕ) (b : ℕ) → fault_of (condition_of text) ≡ Some b → IsTextFault text b
+pub found_is_fault : (text : List ℕ) (b : ℕ) → fault_byte (condition_of text) ≡ Some b → IsTextFault text b
 found_is_fault text b e = by (condition_of text) refl e
   where
-    by : (x : Result Condition ℕ) → condition_of text ≡ x → fault_of x ≡ some b → IsTextFault text b
-    by (Ok c) h k = absurd (none_is b k)
-    by (Err a) h k = refused_is_fault text b (h ∙ ap fault (some_is a b k))
+    by : (x : Result Condition ℕ) → condition_of text ≡ x → fault_byte x ≡ some b → IsTextFault text b
+    by (Ok c) h k = absurd (none_is k)
+    by (Err a) h k = refused_is_fault text b (h ∙ ap fault (some_is k))
 
-pub none_is_condition : (text : List ℕ) → fault_of (condition_of text) ≡ None → IsConditionText text
+pub none_is_condition : (text : List ℕ) → fault_byte (condition_of text) ≡ None → IsConditionText text
 none_is_condition text e = by (condition_of text) refl e
   where
-    by : (x : Result Condition ℕ) → condition_of text ≡ x → fault_of x ≡ none → IsConditionText text
+    by : (x : Result Condition ℕ) → condition_of text ≡ x → fault_byte x ≡ none → IsConditionText text
     by (Ok c) h k = (c, read_is_text text c h)
-    by (Err a) h k = absurd (none_is a (sym k))
+    by (Err a) h k = absurd (none_is (sym k))
 
-pub fault_is_found : (text : List ℕ) (b : ℕ) → IsTextFault text b → fault_of (condition_of text) ≡ Some b
+pub fault_is_found : (text : List ℕ) (b : ℕ) → IsTextFault text b → fault_byte (condition_of text) ≡ Some b
 fault_is_found text b p = by (condition_of text) refl
   where
-    by : (x : Result Condition ℕ) → condition_of text ≡ x → fault_of x ≡ some b
+    by : (x : Result Condition ℕ) → condition_of text ≡ x → fault_byte x ≡ some b
     by (Ok c) h = absurd (fault_or_condition text b p (c, read_is_text text c h))
     by (Err a) h = ap (λ n. some n) (fault_is_unique text a b (refused_is_fault text a h) p)
 
-pub condition_has_none : (text : List ℕ) → IsConditionText text → fault_of (condition_of text) ≡ None
-condition_has_none text h = ap fault_of (text_is_read text h.0 h.1)
+pub condition_has_none : (text : List ℕ) → IsConditionText text → fault_byte (condition_of text) ≡ None
+condition_has_none text h = ap fault_byte (text_is_read text h.0 h.1)
 
 -- each text spells a condition or has a first fault
 pub one_of_both : (text : List ℕ) → (IsConditionText text) ⊎ ((b : ℕ) × IsTextFault text b)

@@ -1,3 +1,4 @@
+pub mod Answered
 pub mod DigitNumbers
 pub mod MovedPoint
 pub mod WellFormed

@@ -7,12 +7,12 @@ use Rattle.icu_plurals.specs.declared.condition.Item.{Item}
 use Rattle.icu_plurals.specs.declared.lexer.Token.{Token}
 use Rattle.icu_plurals.specs.declared.lexer.Token.TheVariants.{Letter, And, Or, Number, Percent, Equals, NotEquals, Comma, Dots, Unknown}
 use Rattle.icu_plurals.specs.declared.lexer.Found.{Found}
-use Rattle.icu_plurals.specs.declared.reader.Progress.{Progress}
-use Rattle.icu_plurals.specs.declared.reader.Progress.TheVariants.{Nothing}
+use Rattle.icu_plurals.specs.declared.progress.Progress.{Progress}
+use Rattle.icu_plurals.specs.declared.progress.Progress.TheVariants.{Nothing}
 use Rattle.icu_plurals.specs.Tokens.{part_of, tokens_from}
 use Rattle.icu_plurals.specs.Grammar.{Condition, Placed, text_tokens}
 use Rattle.icu_plurals.specs.Lexer.{IsFound}
-use Rattle.icu_plurals.specs.Reading.{Part, State, nothing, joined, subject, divided, reduced, listed, valued, ranged, ended, empty_part, expects_operand, after_subject, expects_modulus, expects_sign, expects_value, after_value, after_item, expects_end, step, finish, or_fault, reading_from, reading, condition_of, fault_of, progress_of, progress_at_operand, progress_after_subject, progress_at_modulus, progress_at_sign, progress_at_value, progress_at_end, progress_after_item, progress_after_value, next_progress, may_end, fault_from}
+use Rattle.icu_plurals.specs.Reading.{Part, State, nothing, joined, subject, divided, reduced, listed, valued, ranged, ended, empty_part, expects_operand, after_subject, expects_modulus, expects_sign, expects_value, after_value, after_item, expects_end, step, finish, or_fault, reading_from, reading, condition_of, fault_byte, progress_of, progress_at_operand, progress_after_subject, progress_at_modulus, progress_at_sign, progress_at_value, progress_at_end, progress_after_item, progress_after_value, next_progress, may_end, fault_from}
 
 abbrev how : Option State → Option Progress
 how None = None
@@ -130,7 +130,7 @@ step_how (valued p o m d xs a) t = after_value_how p o m d xs a t
 step_how (ranged p o m d xs a) t = end_how p o m d xs a t
 step_how (ended p o m d xs x) t = item_how p o m d xs x t
 
-finish_how : (end : ℕ) (s : State) → fault_of (or_fault (finish s) end) ≡ cond (may_end (progress_of s)) None (Some end)
+finish_how : (end : ℕ) (s : State) → fault_byte (or_fault (finish s) end) ≡ cond (may_end (progress_of s)) None (Some end)
 finish_how end nothing = refl
 finish_how end (joined p) = refl
 finish_how end (subject p o) = refl
@@ -145,8 +145,8 @@ abbrev more : ℕ → ℕ → List Placed → Option Progress → Option ℕ
 more end at ts None = Some at
 more end at ts (Some g) = fault_from end g ts
 
-next_fault : (end at : ℕ) (ts : List Placed) → ((s : State) → fault_of (reading_from end s ts) ≡ fault_from end (progress_of s) ts)
-    → (o : Option State) → fault_of (elim o as (λ _. Result Condition ℕ) [ None ↦ Err at | Some n ↦ reading_from end n ts ]) ≡ more end at ts (how o)
+next_fault : (end at : ℕ) (ts : List Placed) → ((s : State) → fault_byte (reading_from end s ts) ≡ fault_from end (progress_of s) ts)
+    → (o : Option State) → fault_byte (elim o as (λ _. Result Condition ℕ) [ None ↦ Err at | Some n ↦ reading_from end n ts ]) ≡ more end at ts (how o)
 next_fault end at ts rest None = refl
 next_fault end at ts rest (Some s) = rest s
 
@@ -158,7 +158,7 @@ more_is end g t ts = by (next_progress g t.1)
     by None = refl
     by (Some n) = refl
 
-pub fault_is : (end : ℕ) (s : State) (ts : List Placed) → fault_of (reading_from end s ts) ≡ fault_from end (progress_of s) ts
+pub fault_is : (end : ℕ) (s : State) (ts : List Placed) → fault_byte (reading_from end s ts) ≡ fault_from end (progress_of s) ts
 unfolding reading_from fault_from
 fault_is end s [] = finish_how end s
 fault_is end s (t ∷ ts) = next_fault end t.0 ts (λ n. fault_is end n ts) (step s t.1) ∙ ap (more end t.0 ts) (step_how s t.1) ∙ more_is end (progress_of s) t ts
@@ -167,7 +167,7 @@ fault_is end s (t ∷ ts) = next_fault end t.0 ts (λ n. fault_is end n ts) (ste
 pub record Looks (text : List ℕ) (end at : ℕ) (rest : List ℕ) (g : Progress) : Type 0 where
   pub is_end : end ≡ length (part_of text)
   pub place : at + length rest ≡ end
-  pub fault : fault_from end g (tokens_from at rest) ≡ fault_of (condition_of text)
+  pub fault : fault_from end g (tokens_from at rest) ≡ fault_byte (condition_of text)
 
 pub looks-start : (text part : List ℕ) (end : ℕ) → part ≡ part_of text → end ≡ length part → Looks text end 0 part Nothing
 unfolding condition_of reading
@@ -185,7 +185,7 @@ go_on : (end : ℕ) (g n : Progress) (t : Placed) (ts : List Placed) → next_pr
 go_on end g n t ts h = sym (more_is end g t ts) ∙ ap (more end t.0 ts) h
 
 -- a token that can't stand there is the first fault
-pub looks-stop : (text : List ℕ) (end at : ℕ) (rest : List ℕ) (g : Progress) (f : Found) → Looks text end at rest g → IsFound rest f → next_progress g f.token ≡ None → Some (at + f.start) ≡ fault_of (condition_of text)
+pub looks-stop : (text : List ℕ) (end at : ℕ) (rest : List ℕ) (g : Progress) (f : Found) → Looks text end at rest g → IsFound rest f → next_progress g f.token ≡ None → Some (at + f.start) ≡ fault_byte (condition_of text)
 looks-stop text end at rest g f h k e = sym (stop_at end g (at + f.start, f.token) (tokens_from (at + f.end) (drop f.end rest)) e) ∙ sym (ap (fault_from end g) (k.tokens at)) ∙ h.fault
 
 pub looks-next : (text : List ℕ) (end at : ℕ) (rest after : List ℕ) (g n : Progress) (f : Found) → Looks text end at rest g → IsFound rest f → next_progress g f.token ≡ Some n → after ≡ drop f.end rest → Looks text end (at + f.end) after n
@@ -195,6 +195,6 @@ looks-next text end at rest after g n f h k e same = rw same (record {
   fault = sym (go_on end g n (at + f.start, f.token) (tokens_from (at + f.end) (drop f.end rest)) e) ∙ sym (ap (fault_from end g) (k.tokens at)) ∙ h.fault;
 })
 
-pub looks-end : (text : List ℕ) (end at : ℕ) (rest : List ℕ) (g : Progress) → Looks text end at rest g → ((p : ℕ) → tokens_from p rest ≡ []) → cond (may_end g) None (Some end) ≡ fault_of (condition_of text)
+pub looks-end : (text : List ℕ) (end at : ℕ) (rest : List ℕ) (g : Progress) → Looks text end at rest g → ((p : ℕ) → tokens_from p rest ≡ []) → cond (may_end g) None (Some end) ≡ fault_byte (condition_of text)
 unfolding fault_from
 looks-end text end at rest g h k = sym (ap (fault_from end g) (k at)) ∙ h.fault

@@ -1,5 +1,5 @@
 -- The tokens that a state has read, and that what is read is spelled so.
-use Rattle.std.proofs.Common.{◌≡◌, ℕ, zero, suc, List, [], ◌∷◌, ◌++◌, Bool, Option, Some, None, Result, Ok, Err, refl, sym, ap, ◌∙◌, append_assoc}
+use Rattle.std.proofs.Common.{◌≡◌, ℕ, zero, suc, List, [], ◌∷◌, ◌++◌, Bool, Option, Some, None, Ok, refl, sym, ap, ◌∙◌, append_assoc}
 use Rattle.std.specs.List.{flat_map}
 use Rattle.std.proofs.lemmas.List.{append-nil}
 use Rattle.std.proofs.lemmas.List.Concat.{flat_map-append}
@@ -9,25 +9,8 @@ use Rattle.icu_plurals.specs.declared.condition.Item.TheVariants.{Value}
 use Rattle.icu_plurals.specs.declared.lexer.Token.{Token}
 use Rattle.icu_plurals.specs.declared.lexer.Token.TheVariants.{Letter, And, Or, Number, Percent, Equals, NotEquals, Comma, Dots, Unknown}
 use Rattle.icu_plurals.specs.Grammar.{Relation, Condition, separated, item_tokens, modulus_tokens, sign_of, relation_tokens, tokens_of, Placed, kinds}
-use Rattle.icu_plurals.specs.Reading.{Part, State, nothing, joined, subject, divided, reduced, listed, valued, ranged, ended, made, also, instead, finished, empty_part, expects_operand, after_subject, expects_modulus, expects_sign, expects_value, after_value, after_item, expects_end, step, finish, or_fault, reading_from, reading}
-
-abbrev some : {A : Type 0} → A → Option A
-some s = Some s
-
-abbrev none : {A : Type 0} → Option A
-none = None
-
-abbrev done : Condition → Result Condition ℕ
-done c = Ok c
-
-abbrev fault : ℕ → Result Condition ℕ
-fault p = Err p
-
-some_is : {A : Type 0} {s t : A} → some s ≡ some t → s ≡ t
-some_is e = cc
-
-none_is : {A : Type 0} {t : A} → none ≡ some t → ⊥
-none_is e = absurd cc
+use Rattle.icu_plurals.specs.Reading.{Part, State, nothing, joined, subject, divided, reduced, listed, valued, ranged, ended, made, also, instead, finished, empty_part, expects_operand, after_subject, expects_modulus, expects_sign, expects_value, after_value, after_item, expects_end, step, finish, reading_from, reading}
+use Rattle.icu_plurals.proofs.Answered.{done, fault, some_is, none_is, or_fault_ok}
 
 -- parts, each with a token after it
 abbrev pub followed : {A : Type 0} → Token → (A → List Token) → List A → List Token
@@ -190,10 +173,6 @@ finish_writes (listed p o m d xs) c e = absurd (none_is e)
 finish_writes (valued p o m d xs a) c e = rw (← some_is e) (relation_ends p o m d xs (Value a) ∙ sym (finished_tokens p (made o m d (xs ++ Value a ∷ []))))
 finish_writes (ranged p o m d xs a) c e = absurd (none_is e)
 finish_writes (ended p o m d xs x) c e = rw (← some_is e) (relation_ends p o m d xs x ∙ sym (finished_tokens p (made o m d (xs ++ x ∷ []))))
-
-or_fault_ok : (o : Option Condition) (p : ℕ) (c : Condition) → or_fault o p ≡ done c → o ≡ Some c
-or_fault_ok (Some x) p c e = cc
-or_fault_ok None p c e = absurd cc
 
 next_writes : (end : ℕ) (s : State) (t : Placed) (ts : List Placed) (c : Condition) → ((next : State) → reading_from end next ts ≡ done c → written next ++ kinds ts ≡ tokens_of c)
     → (o : Option State) → step s t.1 ≡ o → elim o [ None ↦ fault t.0 | Some next ↦ reading_from end next ts ] ≡ done c → written s ++ t.1 ∷ kinds ts ≡ tokens_of c

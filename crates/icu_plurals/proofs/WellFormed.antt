@@ -8,7 +8,8 @@ use Rattle.icu_plurals.specs.declared.condition.Item.TheVariants.{Value}
 use Rattle.icu_plurals.specs.declared.lexer.Token.{Token}
 use Rattle.icu_plurals.specs.declared.lexer.Token.TheVariants.{Letter, And, Or, Number, Percent, Equals, NotEquals, Comma, Dots, Unknown}
 use Rattle.icu_plurals.specs.Grammar.{Relation, IsRelation, IsWellFormed, Condition, Placed}
-use Rattle.icu_plurals.specs.Reading.{Part, State, nothing, joined, subject, divided, reduced, listed, valued, ranged, ended, made, also, instead, finished, empty_part, expects_operand, after_subject, expects_modulus, expects_sign, expects_value, after_value, after_item, expects_end, step, finish, or_fault, reading_from, reading}
+use Rattle.icu_plurals.specs.Reading.{Part, State, nothing, joined, subject, divided, reduced, listed, valued, ranged, ended, made, also, instead, finished, empty_part, expects_operand, after_subject, expects_modulus, expects_sign, expects_value, after_value, after_item, expects_end, step, finish, reading_from, reading}
+use Rattle.icu_plurals.proofs.Answered.{done, some_is, none_is, or_fault_ok}
 
 -- whole parts are well formed
 pub record IsPart (p : Part) : Type 0 where
@@ -28,21 +29,6 @@ IsState (listed p o m d xs) = IsPart p × IsModulus m
 IsState (valued p o m d xs a) = IsPart p × IsModulus m
 IsState (ranged p o m d xs a) = IsPart p × IsModulus m
 IsState (ended p o m d xs x) = IsPart p × IsModulus m
-
-abbrev none : {A : Type 0} → Option A
-none = None
-
-abbrev some : {A : Type 0} → A → Option A
-some s = Some s
-
-abbrev done : Condition → Result Condition ℕ
-done c = Ok c
-
-some_is : {A : Type 0} {s t : A} → some s ≡ some t → s ≡ t
-some_is e = cc
-
-none_is : {A : Type 0} {t : A} → none ≡ some t → ⊥
-none_is e = absurd cc
 
 all_push : {A : Type 0} (P : A → Type 0) (xs : List A) (x : A) → AllByRecursion P xs → P x → AllByRecursion P (xs ++ x ∷ [])
 all_push P [] x h k = (k, tt)
@@ -185,10 +171,6 @@ finish_keeps (listed p o m d xs) c h e = absurd (none_is e)
 finish_keeps (valued p o m d xs a) c h e = rw (← some_is e) (is_finished p (made o m d (xs ++ Value a ∷ [])) h.0 (is_made o m d xs (Value a) h.1))
 finish_keeps (ranged p o m d xs a) c h e = absurd (none_is e)
 finish_keeps (ended p o m d xs x) c h e = rw (← some_is e) (is_finished p (made o m d (xs ++ x ∷ [])) h.0 (is_made o m d xs x h.1))
-
-or_fault_ok : (o : Option Condition) (p : ℕ) (c : Condition) → or_fault o p ≡ done c → o ≡ Some c
-or_fault_ok (Some x) p c e = cc
-or_fault_ok None p c e = absurd cc
 
 next_keeps : (end : ℕ) (s : State) (t : Placed) (ts : List Placed) (c : Condition) → ((next : State) → IsState next → reading_from end next ts ≡ done c → IsWellFormed c)
     → IsState s → (o : Option State) → step s t.1 ≡ o → elim o as (λ _. Result Condition ℕ) [ None ↦ Err t.0 | Some next ↦ reading_from end next ts ] ≡ done c → IsWellFormed c

@@ -6,8 +6,8 @@ use Rattle.icu_plurals.specs.declared.condition.Item.{Item}
 use Rattle.icu_plurals.specs.declared.condition.Item.TheVariants.{Value, Range}
 use Rattle.icu_plurals.specs.declared.lexer.Token.{Token}
 use Rattle.icu_plurals.specs.declared.lexer.Token.TheVariants.{Letter, And, Or, Number, Percent, Equals, NotEquals, Comma, Dots, Unknown}
-use Rattle.icu_plurals.specs.declared.reader.Progress.{Progress}
-use Rattle.icu_plurals.specs.declared.reader.Progress.TheVariants.{Divided, Valued, Ranged, Ended}
+use Rattle.icu_plurals.specs.declared.progress.Progress.{Progress}
+use Rattle.icu_plurals.specs.declared.progress.Progress.TheVariants.{Divided, Valued, Ranged, Ended}
 use Rattle.icu_plurals.specs.declared.draft.Draft.{Draft}
 use Rattle.icu_plurals.specs.Grammar.{Relation, Condition}
 use Rattle.icu_plurals.specs.Reading.{made}

@@ -1,5 +1,6 @@
 -- The values of plural elements, and which of them a number selects.
-use Rattle.std.specs.Prelude.{ℕ, Bool, not, ◌&&◌, ◌||◌, ◌==◌, is_some, if◌then◌else◌, List, [], ◌∷◌, Option, Some, None, unwrap_or}
+use Rattle.std.specs.Prelude.{ℕ, Bool, not, ◌&&◌, ◌==◌, is_none, if◌then◌else◌, List, [], ◌∷◌, take, Option, Some, None, unwrap_or}
+use Rattle.std.specs.List.{list_all}
 use Rattle.std.specs.Option.{option_eq}
 use Rattle.icu_plurals.specs.Operands.{Operands}
 use Rattle.icu_plurals.specs.declared.category.PluralCategory.{PluralCategory}
@@ -24,12 +25,9 @@ only_other value = record { explicit_zero = None; explicit_one = None; zero = No
 abbrev pub slots : {T : Type 0} → Elements T → List (Option T)
 slots e = e.explicit_zero ∷ e.explicit_one ∷ e.zero ∷ e.one ∷ e.two ∷ e.few ∷ e.many ∷ Some e.other ∷ []
 
--- the value for all numbers, where there is no other
+-- the value for all numbers, where no other slot has one
 abbrev pub sole_value : {T : Type 0} → Elements T → Option T
-sole_value e =
-    let small = is_some e.explicit_zero || (is_some e.explicit_one || is_some e.zero) in
-    let large = is_some e.one || (is_some e.two || (is_some e.few || is_some e.many)) in
-    if small || large then None else Some e.other
+sole_value e = if list_all is_none (take 7 (slots e)) then Some e.other else None
 
 -- the same with no value for exactly one
 abbrev pub without_explicit_one : {T : Type 0} → Elements T → Elements T

@@ -6,8 +6,8 @@ use Rattle.icu_plurals.specs.declared.condition.Item.{Item}
 use Rattle.icu_plurals.specs.declared.condition.Item.TheVariants.{Value, Range}
 use Rattle.icu_plurals.specs.declared.lexer.Token.{Token}
 use Rattle.icu_plurals.specs.declared.lexer.Token.TheVariants.{Letter, And, Or, Number, Percent, Equals, NotEquals, Comma, Dots}
-use Rattle.icu_plurals.specs.declared.reader.Progress.{Progress}
-use Rattle.icu_plurals.specs.declared.reader.Progress.TheVariants.{Nothing, Joined, Subject, Divided, Reduced, Listed, Valued, Ranged, Ended}
+use Rattle.icu_plurals.specs.declared.progress.Progress.{Progress}
+use Rattle.icu_plurals.specs.declared.progress.Progress.TheVariants.{Nothing, Joined, Subject, Divided, Reduced, Listed, Valued, Ranged, Ended}
 use Rattle.icu_plurals.specs.Tokens.{part_of}
 use Rattle.icu_plurals.specs.Grammar.{Relation, Condition, Placed, text_tokens}
 
@@ -136,9 +136,9 @@ unfoldable pub condition_of : List ℕ → Result Condition ℕ
 condition_of text = reading (length (part_of text)) (text_tokens text)
 
 -- where a refused text has its first fault
-abbrev pub fault_of : Result Condition ℕ → Option ℕ
-fault_of (Ok c) = None
-fault_of (Err byte) = Some byte
+abbrev pub fault_byte : Result Condition ℕ → Option ℕ
+fault_byte (Ok c) = None
+fault_byte (Err byte) = Some byte
 
 -- which tokens may follow, whatever has been read
 abbrev pub progress_of : State → Progress

@@ -9,7 +9,7 @@ use Rattle.icu_plurals.specs.Operands.{Operands}
 use Rattle.icu_plurals.specs.Grammar.{Condition, IsTextOf, IsConditionText, IsTextFault}
 use Rattle.icu_plurals.specs.Meaning.{holds}
 use Rattle.icu_plurals.specs.Owned.{condition_in}
-use Rattle.icu_plurals.specs.Reading.{condition_of, fault_of}
+use Rattle.icu_plurals.specs.Reading.{condition_of, fault_byte}
 
 -- a category, and when a number has it
 pub record Rule : Type 0 where
@@ -50,4 +50,4 @@ rule_of r = record { category = r.category; condition = condition_in r.condition
 -- The first rule with a fault, from the k-th on, and its byte: how `IsFirstBadRule` is sought.
 abbrev pub bad_rule_from : ℕ → List GivenRule → Option (ℕ × ℕ)
 bad_rule_from k [] = None
-bad_rule_from k (g ∷ gs) = elim (fault_of (condition_of g.text)) [ None ↦ bad_rule_from (suc k) gs | Some byte ↦ Some (k, byte) ]
+bad_rule_from k (g ∷ gs) = elim (fault_byte (condition_of g.text)) [ None ↦ bad_rule_from (suc k) gs | Some byte ↦ Some (k, byte) ]

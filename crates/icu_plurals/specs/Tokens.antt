@@ -14,17 +14,78 @@ pub data Written : Type 0 where
   differs : Written
   dots : Written
 
+-- bytes of ASCII by their names
+abbrev pub letter_a : ℕ
+letter_a = 97
+
+abbrev pub letter_z : ℕ
+letter_z = 122
+
+abbrev pub digit_zero : ℕ
+digit_zero = 48
+
+abbrev pub digit_nine : ℕ
+digit_nine = 57
+
+abbrev pub space : ℕ
+space = 32
+
+abbrev pub tab : ℕ
+tab = 9
+
+abbrev pub point : ℕ
+point = 46
+
+abbrev pub exclamation_mark : ℕ
+exclamation_mark = 33
+
+abbrev pub equals_sign : ℕ
+equals_sign = 61
+
+abbrev pub at_sign : ℕ
+at_sign = 64
+
+abbrev pub percent_sign : ℕ
+percent_sign = 37
+
+abbrev pub comma : ℕ
+comma = 44
+
+abbrev pub letter_n : ℕ
+letter_n = 110
+
+abbrev pub letter_i : ℕ
+letter_i = 105
+
+abbrev pub letter_v : ℕ
+letter_v = 118
+
+abbrev pub letter_w : ℕ
+letter_w = 119
+
+abbrev pub letter_f : ℕ
+letter_f = 102
+
+abbrev pub letter_t : ℕ
+letter_t = 116
+
+abbrev pub letter_c : ℕ
+letter_c = 99
+
+abbrev pub letter_e : ℕ
+letter_e = 101
+
 -- a lower-case letter of ASCII
 abbrev pub is_letter : ℕ → Bool
-is_letter b = nat_le 97 b && nat_le b 122
+is_letter b = nat_le letter_a b && nat_le b letter_z
 
 -- a digit of ASCII
 abbrev pub is_digit : ℕ → Bool
-is_digit b = nat_le 48 b && nat_le b 57
+is_digit b = nat_le digit_zero b && nat_le b digit_nine
 
 -- a space or a tab
 abbrev pub is_space : ℕ → Bool
-is_space b = b == 32 || b == 9
+is_space b = b == space || b == tab
 
 -- a letter at place p makes one word with a word that begins just after it
 abbrev pub onto_word : ℕ → ℕ → List (ℕ × Written) → List (ℕ × Written)
@@ -53,13 +114,13 @@ unfoldable pub written_from : ℕ → List ℕ → List (ℕ × Written)
 written_from p [] = []
 written_from p (b ∷ []) = onto p b []
 written_from p (b ∷ c ∷ bs) =
-    if b == 46 && c == 46 then (p, dots) ∷ written_from (p + 2) bs
-    else (if b == 33 && c == 61 then (p, differs) ∷ written_from (p + 2) bs
+    if b == point && c == point then (p, dots) ∷ written_from (p + 2) bs
+    else (if b == exclamation_mark && c == equals_sign then (p, differs) ∷ written_from (p + 2) bs
     else onto p b (written_from (p + 1) (c ∷ bs)))
 
 -- any byte but `@`
 abbrev pub is_read : ℕ → Bool
-is_read b = not (b == 64)
+is_read b = not (b == at_sign)
 
 -- the part of a text that is read: what stands before its samples, which begin with `@`
 abbrev pub part_of : List ℕ → List ℕ
@@ -68,19 +129,19 @@ part_of text = take_while is_read text
 -- the number that digits spell, after a number of which the digits before them are
 abbrev pub decimal_from : ℕ → List ℕ → ℕ
 decimal_from n [] = n
-decimal_from n (b ∷ bs) = decimal_from (n * 10 + (b - 48)) bs
+decimal_from n (b ∷ bs) = decimal_from (n * 10 + (b - digit_zero)) bs
 
 -- the operand of a letter
 abbrev pub letter_token : ℕ → Token
 letter_token b =
-    if b == 110 then Letter N
-    else (if b == 105 then Letter I
-    else (if b == 118 then Letter V
-    else (if b == 119 then Letter W
-    else (if b == 102 then Letter F
-    else (if b == 116 then Letter T
-    else (if b == 99 then Letter C
-    else (if b == 101 then Letter E
+    if b == letter_n then Letter N
+    else (if b == letter_i then Letter I
+    else (if b == letter_v then Letter V
+    else (if b == letter_w then Letter W
+    else (if b == letter_f then Letter F
+    else (if b == letter_t then Letter T
+    else (if b == letter_c then Letter C
+    else (if b == letter_e then Letter E
     else Unknown)))))))
 
 -- the operand of a word of one letter
@@ -102,7 +163,7 @@ number_token w = if nat_le (length w) 18 then Number (decimal_from 0 w) else Unk
 
 -- every byte that begins no token can stand nowhere
 abbrev pub sign_token : ℕ → Token
-sign_token b = if b == 37 then Percent else (if b == 61 then Equals else (if b == 44 then Comma else Unknown))
+sign_token b = if b == percent_sign then Percent else (if b == equals_sign then Equals else (if b == comma then Comma else Unknown))
 
 -- the token of what is spelled
 abbrev pub token_of : Written → Token

@@ -6,7 +6,7 @@ ghost use Rattle.icu_plurals.specs.Owned.{condition_in};
 use crate::condition::{Alternative, Condition, Item, Operand, Relation};
 use crate::error::RulesError;
 use crate::lexer::Token;
-use crate::reader::Progress;
+use crate::progress::Progress;
 use std::alloc::Global;
 use std::mem;
 

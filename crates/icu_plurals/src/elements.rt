@@ -32,7 +32,7 @@ impl<T> Model for PluralElements<T> {
 }
 
 impl<T> PluralElements<T> {
-    ghost use Rattle.std.specs.Prelude.{◌≡◌, ◌<◌, IfSome, None, slice_index_or};
+    ghost use Rattle.std.specs.Prelude.{◌≡◌, ◌<◌, IfSome, IfNone, None, slice_index_or};
     ghost use Rattle.std.specs.Option.{option_copied};
     ghost use Rattle.icu_plurals.specs.Operands.{Operands};
     ghost use Rattle.icu_plurals.specs.declared.category.PluralCategory.{PluralCategory};
@@ -146,6 +146,8 @@ impl<T> PluralElements<T> {
     /// The value for all numbers, where there is no other: what `get` answers for every number.
     pub fn sole(&self) -> Option<&T>
         ensures value { option_copied result ≡ sole_value self.now }
+        ensures only { IfSome result (λ value. self.now ≡ only_other value.now) }
+        ensures none { IfNone result ((value : T) → self.now ≡ only_other value → ⊥) }
         ensures selected { IfSome result (λ value. (operands : Operands) (category : PluralCategory) → selected self.now operands category ≡ value.now) }
     {
         let small = self.explicit_zero.is_some()

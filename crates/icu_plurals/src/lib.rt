@@ -10,6 +10,7 @@ pub mod error;
 pub mod laws;
 mod lexer;
 pub mod operands;
+mod progress;
 mod reader;
 pub mod rules;
 mod whole_number;

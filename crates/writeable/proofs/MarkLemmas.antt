@@ -1,5 +1,5 @@
 -- Lemmas on a text with marks.
-use Rattle.std.specs.Prelude.{◌≡◌, ◌≤◌, ℕ, ◌+◌, ◌-◌, List, [], ◌∷◌, ◌++◌, length, take, drop, Option, Some, None, IfSome, IsTrue, Ok}
+use Rattle.std.specs.Prelude.{◌≡◌, ◌≤◌, ℕ, ◌+◌, ◌-◌, List, [], ◌∷◌, ◌++◌, length, take, drop, Option, Some, None, IfSome, Ok}
 use Rattle.std.specs.Option.{option_map}
 use Rattle.std.specs.Str.{IsUtf8}
 use Rattle.std.specs.Char.{IsScalar, encode_utf8}

@@ -1,7 +1,7 @@
 -- What a call does to a sink, which holds events and counts its failures.
 use Rattle.std.specs.Prelude.{◌≡◌, ℕ, ◌+◌, ◌-◌, ◌^◌, ◌<◌, ◌⊎◌, List, ◌++◌, length, min, Option, Some, Result, MatchResult, OnOk, OnErr, IsOk}
 use Rattle.std.specs.Borrow.{MutBor}
-use Rattle.std.specs.Fmt.{IsPlainFormatter, HasWritten}
+use Rattle.std.specs.Fmt.{IsFlush, HasWrittenStyled}
 use Rattle.std.specs.declared.fmt.Formatter.{Formatter}
 use Rattle.writeable.specs.declared.sink.WriteFault.{WriteFault}
 use Rattle.writeable.specs.Events.{Event, text_of}
@@ -49,6 +49,7 @@ pub record LentWrites {S : Type 0} (events : S → List Event) (failures : S →
   pub writes : Writes events failures s.now r es t.now
   pub limited : KeepsLimit events limit refusals s.now r es t.now
 
--- if the formatter is plain (no width, fill or precision), a success leaves it after the text of the events
+-- If the formatter is flush (it indents nothing), a success leaves it after the text of the events, its options as they
+-- were. Whatever its width, fill, precision and other options are, the text is the same.
 abbrev pub Displays : {W : Type 0} → (W → List ℕ → W → Type 0) → Formatter W → Result (Unit {0}) WriteFault → List Event → Formatter W → Type 0
-Displays took f r es g = IsPlainFormatter f → IsOk r → HasWritten took f (text_of es) g
+Displays took f r es g = IsFlush f → IsOk r → HasWrittenStyled took f (text_of es) g

@@ -1,8 +1,8 @@
 -- Lemmas on what calls write, one after another. They stand here and not in proofs/ because the impls of `EventWriter`
 -- cite them: what a ghost member imports of its own crate has to stand in specs/.
-use Rattle.std.specs.Prelude.{◌≡◌, ℕ, ◌+◌, ◌<◌, List, [], ◌∷◌, ◌++◌, length, Option, Result, Ok, Err, OnOk, IsErr}
+use Rattle.std.specs.Prelude.{◌≡◌, ℕ, List, [], ◌∷◌, ◌++◌, length, Option, Result, Ok, Err, OnOk, IsErr}
 use Rattle.std.specs.Borrow.{MutBor}
-use Rattle.std.specs.Fmt.{HasWritten, WritesInCalls}
+use Rattle.std.specs.Fmt.{HasWrittenStyled, WritesInCalls}
 use Rattle.std.specs.List.{FoldsTo, concat}
 use Rattle.std.specs.declared.fmt.Formatter.{Formatter}
 use Rattle.std.specs.Str.{encode_utf8_all}
@@ -125,14 +125,14 @@ OnOk-stop P (Ok x) err = cc
 OnOk-stop P (Err e) err = tt
 
 pub Displays-nothing : {W : Type 0} (took : W → List ℕ → W → Type 0) (f : Formatter W) → Displays took f (Ok tt) [] f
-Displays-nothing took f plain ok = record { wrote = record { parts = []; calls = refl; whole = refl }; plain = plain }
+Displays-nothing took f flush ok = record { wrote = record { parts = []; calls = refl; whole = refl }; spec = refl; flush = flush }
 
 pub Displays-then : {W : Type 0} (took : W → List ℕ → W → Type 0) (f g h : Formatter W) (r : Result (Unit {0}) WriteFault) (es fs : List Event) → Displays took f (Ok tt) es g → Displays took g r fs h → Displays took f r (es ++ fs) h
-Displays-then took f g h r es fs p q plain ok =
-    let x = p plain refl in
-    let y = q x.plain ok in
-    subst (λ (l : List ℕ). HasWritten took f l h) (sym (text_of-append es fs)) (record { wrote = WritesInCalls-append took _ (text_of es) _ (text_of fs) _ x.wrote y.wrote; plain = y.plain })
+Displays-then took f g h r es fs p q flush ok =
+    let x = p flush refl in
+    let y = q x.flush ok in
+    subst (λ (l : List ℕ). HasWrittenStyled took f l h) (sym (text_of-append es fs)) (record { wrote = WritesInCalls-append took _ (text_of es) _ (text_of fs) _ x.wrote y.wrote; spec = y.spec ∙ x.spec; flush = y.flush })
 
 pub Displays-stop : {W : Type 0} (took : W → List ℕ → W → Type 0) (f g : Formatter W) (e : WriteFault) (r : Result (Unit {0}) WriteFault) (es fs : List Event) → IsErr r → Displays took f (Err e) es g → Displays took f r (es ++ fs) g
-Displays-stop took f g e (Ok x) es fs err p plain ok = cc
-Displays-stop took f g e (Err d) es fs err p plain ok = cc
+Displays-stop took f g e (Ok x) es fs err p flush ok = cc
+Displays-stop took f g e (Err d) es fs err p flush ok = cc

@@ -46,6 +46,15 @@ pub trait EventWriter {
     fn close(&mut self) -> Result<(), WriteFault>
         ensures { wrote self.old result (Close ∷ []) self.new };
 
+    /// Writes a text as a part of its own.
+    fn part(&mut self, part: Part, text: &str) -> Result<(), WriteFault>
+        ensures { wrote self.old result (Open part.category.now part.value.now ∷ (text_events text.now ++ Close ∷ [])) self.new }
+    {
+        self.open(part)?;
+        self.text(text)?;
+        self.close()
+    }
+
     /// Where nothing was to be written, a writer is as it was.
     ghost nothing: { (a : Self) → wrote a (Ok tt) [] a };
 
@@ -276,7 +285,7 @@ fn push_digits(out: &mut Vec<u8>, digits: &[u8], characters: &[char; 10]) -> Res
     Ok(())
 }
 
-// On success a plain formatter, which has no width, fill or precision, has written the text of the events (`Displays`).
+// On success a formatter that indents nothing has written the text of the events, whatever its options are (`Displays`).
 impl<W: fmt::Write> EventWriter for fmt::Formatter<W> {
     ghost wrote = { λ a r es b. Displays W.write_str_gives a r es b };
 

@@ -70,10 +70,21 @@ fn new_sink(alloc: Global, limit: Option<usize>) -> PartsText {
     }
 }
 
-/// The spans, asked for again where memory was wanting.
-fn spans_of(alloc: Global, sink: &PartsText) -> Result<Vec<(usize, usize, Part)>, OutOfMemory> {
+/// Whether a sink holds this text with these spans; asked once more where memory was wanting.
+fn is_annotated(
+    alloc: Global,
+    sink: &PartsText,
+    text: &str,
+    want: &[(usize, usize, Part)],
+) -> bool {
+    if sink.text() != text {
+        return false;
+    }
     match sink.spans(alloc) {
-        Ok(spans) => Ok(spans),
-        Err(OutOfMemory) => sink.spans(alloc),
+        Ok(spans) => spans.as_slice() == want,
+        Err(OutOfMemory) => match sink.spans(alloc) {
+            Ok(spans) => spans.as_slice() == want,
+            Err(OutOfMemory) => false,
+        },
     }
 }

@@ -2,11 +2,11 @@
 
 use super::languages::{
     FRENCH_RULES, LAKHS, LONG_BANGLA, LONG_ENGLISH, LONG_FRENCH, LONG_JAPANESE, Language,
-    SHORT_ENGLISH, WORDS, compact,
+    SHORT_ENGLISH, WORDS, compact, compact_with,
 };
 use super::{displayed, is_displayed, read};
 use crate::error::FormatError;
-use crate::options::GroupingStrategy;
+use crate::options::{CompactDecimalFormatterOptions, DecimalFormatterOptions, GroupingStrategy};
 use crate::{
     CompactDecimalFormatter, FormattedSign, FormattedUnsignedCompactDecimal, InterpolatedDecimal,
     parts,
@@ -128,50 +128,129 @@ fn shows_other_languages(rt: HostRuntime) -> Result<(), Fail> {
     assert_shown(&rt, alloc, LONG_FRENCH, GroupingStrategy::Min2, &french)?;
     let bangla = [("35357670", "৩.৫ কোটি")];
     assert_shown(&rt, alloc, LONG_BANGLA, GroupingStrategy::Min2, &bangla)?;
-    let japanese = [("35357670", "3536万")];
-    assert_shown(&rt, alloc, LONG_JAPANESE, GroupingStrategy::Min2, &japanese)
+    Ok(())
+}
+
+/// Whether the formatter writes a decimal as this text; asked once more where memory was refused.
+fn is_text(
+    alloc: Global,
+    formatter: &CompactDecimalFormatter,
+    decimal: &Decimal,
+    want: &str,
+) -> bool {
+    match formatter.format_to_string(alloc, decimal) {
+        Ok(text) => text.as_str() == want,
+        Err(_) => match formatter.format_to_string(alloc, decimal) {
+            Ok(text) => text.as_str() == want,
+            Err(_) => false,
+        },
+    }
+}
+
+/// Whether a text is written so in a language with options.
+fn shows(
+    rt: &impl Abort,
+    alloc: Global,
+    language: Language,
+    options: DecimalFormatterOptions,
+    (text, want): (&str, &str),
+) -> bool {
+    let formatter = compact_with(rt, alloc, language, options);
+    let decimal = read(rt, alloc, text);
+    is_text(alloc, &formatter, &decimal, want)
+}
+
+/// Numbers below the first type that is kept, and at and between the two: the type 3 is skipped, since it shows its numbers
+/// as those of magnitude 0 are shown.
+const JAPANESE: [(&str, &str); 7] = [
+    ("999", "999"),
+    ("1234", "1234"),
+    ("9999.5", "1万"),
+    ("12345", "1.2万"),
+    ("35357670", "3536万"),
+    ("99999999", "1億"),
+    ("123456789", "1.2億"),
+];
+
+#[test]
+fn shows_a_table_with_a_skipped_type(rt: HostRuntime) {
+    for row in JAPANESE {
+        let options = DecimalFormatterOptions::from(CompactDecimalFormatterOptions::default());
+        assert!(rt;
+            shows(&rt, rt.alloc(), LONG_JAPANESE, options, row),
+            "{}",
+            row.0
+        );
+    }
+}
+
+/// A strategy, or none for the default options, and ten to the fifteenth and to the sixteenth as they are written with it.
+const GROUPED: [(Language, Option<GroupingStrategy>, &str, &str); 8] = [
+    (SHORT_ENGLISH, None, "1000T", "10,000T"),
+    (
+        SHORT_ENGLISH,
+        Some(GroupingStrategy::Min2),
+        "1000T",
+        "10,000T",
+    ),
+    (
+        SHORT_ENGLISH,
+        Some(GroupingStrategy::Always),
+        "1,000T",
+        "10,000T",
+    ),
+    (
+        SHORT_ENGLISH,
+        Some(GroupingStrategy::Never),
+        "1000T",
+        "10000T",
+    ),
+    (LONG_ENGLISH, None, "1000 trillion", "10,000 trillion"),
+    (
+        LONG_ENGLISH,
+        Some(GroupingStrategy::Min2),
+        "1000 trillion",
+        "10,000 trillion",
+    ),
+    (
+        LONG_ENGLISH,
+        Some(GroupingStrategy::Always),
+        "1,000 trillion",
+        "10,000 trillion",
+    ),
+    (
+        LONG_ENGLISH,
+        Some(GroupingStrategy::Never),
+        "1000 trillion",
+        "10000 trillion",
+    ),
+];
+
+/// The compact options with a strategy, or the default ones, as plain options.
+fn options_of(strategy: Option<GroupingStrategy>) -> DecimalFormatterOptions {
+    match strategy {
+        Some(strategy) => CompactDecimalFormatterOptions::from(strategy).into(),
+        None => CompactDecimalFormatterOptions::default().into(),
+    }
 }
 
 #[test]
-fn test_grouping(rt: HostRuntime) -> Result<(), Fail> {
-    for (language, strategy, fifteen, sixteen) in [
-        (SHORT_ENGLISH, GroupingStrategy::Min2, "1000T", "10,000T"),
-        (SHORT_ENGLISH, GroupingStrategy::Always, "1,000T", "10,000T"),
-        (SHORT_ENGLISH, GroupingStrategy::Never, "1000T", "10000T"),
-        (
-            LONG_ENGLISH,
-            GroupingStrategy::Min2,
-            "1000 trillion",
-            "10,000 trillion",
-        ),
-        (
-            LONG_ENGLISH,
-            GroupingStrategy::Always,
-            "1,000 trillion",
-            "10,000 trillion",
-        ),
-        (
-            LONG_ENGLISH,
-            GroupingStrategy::Never,
-            "1000 trillion",
-            "10000 trillion",
-        ),
-    ] {
-        let rows = [
-            ("1000000000000000", fifteen),
-            ("10000000000000000", sixteen),
-        ];
-        assert_shown(&rt, rt.alloc(), language, strategy, &rows)?;
+fn test_grouping(rt: HostRuntime) {
+    for (language, strategy, fifteen, sixteen) in GROUPED {
+        let options = options_of(strategy);
+        let row = ("1000000000000000", fifteen);
+        assert!(rt; shows(&rt, rt.alloc(), language, options, row), "{fifteen}");
+        let row = ("10000000000000000", sixteen);
+        assert!(rt; shows(&rt, rt.alloc(), language, options, row), "{sixteen}");
     }
-    Ok(())
 }
 
 #[test]
 fn shows_tables_whose_exponents_are_below_their_types(rt: HostRuntime) -> Result<(), Fail> {
     let alloc = rt.alloc();
-    let words = [("9999.5", "1W"), ("10000", "10,000")];
+    let words = [("9999.5", "10,000"), ("10000", "10,000")];
     assert_shown(&rt, alloc, WORDS, GroupingStrategy::Min2, &words)?;
-    let lakhs = [("999500", "1000K"), ("1000000", "10L")];
+    let lakhs = [("999500", "10L"), ("1000000", "10L")];
     assert_shown(&rt, alloc, LAKHS, GroupingStrategy::Min2, &lakhs)
 }
 
@@ -215,7 +294,7 @@ fn is_annotated(
     Ok(sink.text() == text && spans.as_slice() == want)
 }
 
-/// Whether a decimal is written as this text with these spans.
+/// Whether a decimal is written as this text, and with these spans.
 fn is_marked(
     alloc: Global,
     formatter: &CompactDecimalFormatter,
@@ -242,7 +321,8 @@ fn marks(
 ) -> bool {
     let formatter = compact(rt, alloc, SHORT_ENGLISH, GroupingStrategy::Min2);
     let decimal = read(rt, alloc, text).with_sign_display(display);
-    is_marked(alloc, &formatter, &decimal, want, spans)
+    is_text(alloc, &formatter, &decimal, want)
+        && is_marked(alloc, &formatter, &decimal, want, spans)
 }
 
 #[test]

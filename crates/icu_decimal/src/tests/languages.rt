@@ -23,10 +23,13 @@ pub(super) type Row = (
 #[derive(Clone, Copy)]
 pub(super) struct Language {
     digits: &'static [char; 10],
+    numsys: &'static str,
     separators: (&'static str, &'static str),
     sizes: GroupingSizes,
     rules: &'static [(PluralCategory, &'static str)],
     rows: &'static [Row],
+    /// The text that follows a number of magnitude 0, which the types below the first one share.
+    zero_magnitude: Option<&'static str>,
 }
 
 const BENGALI: [char; 10] = ['০', '১', '২', '৩', '৪', '৫', '৬', '৭', '৮', '৯'];
@@ -69,7 +72,11 @@ const LONG_ENGLISH_ROWS: [Row; 4] = [
     (12, 12, None, None, " trillion"),
 ];
 
-const LONG_JAPANESE_ROWS: [Row; 2] = [(4, 4, None, None, "万"), (8, 8, None, None, "億")];
+const LONG_JAPANESE_ROWS: [Row; 3] = [
+    (3, 0, None, None, ""),
+    (4, 4, None, None, "万"),
+    (8, 8, None, None, "億"),
+];
 
 const LONG_FRENCH_ROWS: [Row; 6] = [
     (3, 3, Some("mille"), None, " mille"),
@@ -88,64 +95,95 @@ const LONG_BANGLA_ROWS: [Row; 3] = [
 
 const WORDS_ROWS: [Row; 1] = [(5, 4, None, None, "W")];
 
+const SHORT_SPANISH_ROWS: [Row; 3] = [
+    (3, 3, None, None, " mil"),
+    (6, 6, None, None, " M"),
+    (10, 9, None, None, " mil M"),
+];
+
 const LAKHS_ROWS: [Row; 2] = [(3, 3, None, None, "K"), (6, 5, None, None, "L")];
 
 pub(super) const SHORT_ENGLISH: Language = Language {
     digits: &LATIN,
+    numsys: "latn",
     separators: (".", ","),
     sizes: ENGLISH,
     rules: &ENGLISH_RULES,
     rows: &SHORT_ENGLISH_ROWS,
+    zero_magnitude: None,
 };
 
 pub(super) const LONG_ENGLISH: Language = Language {
     digits: &LATIN,
+    numsys: "latn",
     separators: (".", ","),
     sizes: ENGLISH,
     rules: &ENGLISH_RULES,
     rows: &LONG_ENGLISH_ROWS,
+    zero_magnitude: None,
 };
 
 /// Words of ten thousand that begin at a hundred thousand.
 pub(super) const WORDS: Language = Language {
     digits: &LATIN,
+    numsys: "latn",
     separators: (".", ","),
     sizes: ENGLISH,
     rules: &ENGLISH_RULES,
     rows: &WORDS_ROWS,
+    zero_magnitude: None,
 };
 
 /// Thousands, and from a million on words of a hundred thousand.
 pub(super) const LAKHS: Language = Language {
     digits: &LATIN,
+    numsys: "latn",
     separators: (".", ","),
     sizes: ENGLISH,
     rules: &ENGLISH_RULES,
     rows: &LAKHS_ROWS,
+    zero_magnitude: None,
+};
+
+/// Thousands, millions, and from ten thousand millions on thousands of millions.
+pub(super) const SHORT_SPANISH: Language = Language {
+    digits: &LATIN,
+    numsys: "latn",
+    separators: (",", "."),
+    sizes: ENGLISH,
+    rules: &ENGLISH_RULES,
+    rows: &SHORT_SPANISH_ROWS,
+    zero_magnitude: None,
 };
 
 pub(super) const LONG_JAPANESE: Language = Language {
     digits: &LATIN,
+    numsys: "latn",
     separators: (".", ","),
     sizes: ENGLISH,
     rules: &[],
     rows: &LONG_JAPANESE_ROWS,
+    zero_magnitude: Some(""),
 };
 
 pub(super) const LONG_FRENCH: Language = Language {
     digits: &LATIN,
+    numsys: "latn",
     separators: (",", "\u{202f}"),
     sizes: ENGLISH,
     rules: &FRENCH_RULES,
     rows: &LONG_FRENCH_ROWS,
+    zero_magnitude: None,
 };
 
 pub(super) const LONG_BANGLA: Language = Language {
     digits: &BENGALI,
+    numsys: "beng",
     separators: (".", ","),
     sizes: INDIC,
     rules: &[],
     rows: &LONG_BANGLA_ROWS,
+    zero_magnitude: None,
 };
 
 /// Something was refused.
@@ -172,13 +210,21 @@ fn elements(
     Ok(elements)
 }
 
-fn table(alloc: Global, rows: &[Row]) -> Result<CompactPatterns<SinglePlaceholder>, Refused> {
+fn table(
+    alloc: Global,
+    rows: &[Row],
+    zero_magnitude: Option<&str>,
+) -> Result<CompactPatterns<SinglePlaceholder>, Refused> {
     let mut map = BTreeMap::new(alloc);
     for row in rows {
         map.insert(row.0, (row.1, elements(alloc, *row)?))
             .map_err(|_| Refused)?;
     }
-    CompactPatterns::new(alloc, map, None).map_err(|_| Refused)
+    let zero = match zero_magnitude {
+        Some(text) => Some(PluralElements::new(after_number(alloc, text)?)),
+        None => None,
+    };
+    CompactPatterns::new(alloc, map, zero.as_ref()).map_err(|_| Refused)
 }
 
 fn symbols_of(alloc: Global, language: Language) -> Result<DecimalSymbols, Refused> {
@@ -189,7 +235,7 @@ fn symbols_of(alloc: Global, language: Language) -> Result<DecimalSymbols, Refus
         plus_sign_suffix: "",
         decimal_separator: language.separators.0,
         grouping_separator: language.separators.1,
-        numsys: "latn",
+        numsys: language.numsys,
     };
     let strings = builder.build(alloc).map_err(|_| Refused)?;
     Ok(DecimalSymbols {
@@ -209,18 +255,27 @@ fn formatter(
         options,
     );
     let rules = PluralRules::from_rules(alloc, language.rules).map_err(|_| Refused)?;
-    let patterns = table(alloc, language.rows)?;
+    let patterns = table(alloc, language.rows, language.zero_magnitude)?;
     Ok(CompactDecimalFormatter::from_parts(plain, rules, patterns))
 }
 
-/// The compact formatter of a language with a strategy, made once more where memory was refused.
+/// The compact formatter of a language with a strategy.
 pub(super) fn compact(
     rt: &impl Abort,
     alloc: Global,
     language: Language,
     strategy: GroupingStrategy,
 ) -> CompactDecimalFormatter {
-    let options = DecimalFormatterOptions::from(strategy);
+    compact_with(rt, alloc, language, DecimalFormatterOptions::from(strategy))
+}
+
+/// The compact formatter of a language with options, made once more where memory was refused.
+pub(super) fn compact_with(
+    rt: &impl Abort,
+    alloc: Global,
+    language: Language,
+    options: DecimalFormatterOptions,
+) -> CompactDecimalFormatter {
     let made = match formatter(alloc, language, options) {
         Ok(formatter) => Ok(formatter),
         Err(Refused) => formatter(alloc, language, options),

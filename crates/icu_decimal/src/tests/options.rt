@@ -2,6 +2,7 @@
 use super::displayed;
 use crate::error::CompactExponentError;
 use crate::options::{CompactDecimalFormatterOptions, DecimalFormatterOptions, GroupingStrategy};
+use std::hash::{DefaultHasher, Hash, Hasher};
 use std::test::Fail;
 
 const STRATEGIES: [GroupingStrategy; 4] = [
@@ -17,6 +18,30 @@ fn asks_for_two_digits_by_default_in_compact_form_alone(rt: HostRuntime) {
     assert_eq!(rt; compact.grouping_strategy, Some(GroupingStrategy::Min2));
     let plain = DecimalFormatterOptions::default();
     assert_eq!(rt; plain.grouping_strategy, None);
+    assert_eq!(rt; GroupingStrategy::default(), GroupingStrategy::Auto);
+}
+
+/// The hash of options with this strategy.
+fn hash_of(strategy: GroupingStrategy) -> u64 {
+    let mut hasher = DefaultHasher::new();
+    DecimalFormatterOptions::from(strategy).hash(&mut hasher);
+    hasher.finish()
+}
+
+/// Whether options of these strategies are equal, as plain ones and as compact ones.
+fn are_equal(one: GroupingStrategy, other: GroupingStrategy) -> bool {
+    DecimalFormatterOptions::from(one) == DecimalFormatterOptions::from(other)
+        && CompactDecimalFormatterOptions::from(one) == CompactDecimalFormatterOptions::from(other)
+}
+
+#[test]
+fn compares_and_hashes_options(rt: HostRuntime) {
+    for one in STRATEGIES {
+        for other in STRATEGIES {
+            assert_eq!(rt; are_equal(one, other), one == other);
+            assert_eq!(rt; hash_of(one) == hash_of(other), one == other);
+        }
+    }
 }
 
 #[test]

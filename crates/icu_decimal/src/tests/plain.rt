@@ -1,8 +1,10 @@
 //! Plain numbers: what the formatter writes of decimals, and where separators stand.
 
+ghost use Rattle.std.specs.Prelude.{◌≡◌, true};
+
 use super::{ENGLISH, LATIN, displayed, is_displayed, read};
+use crate::cow::Cow;
 use crate::grouper::check;
-use crate::lent::Cow;
 use crate::options::{DecimalFormatterOptions, GroupingStrategy};
 use crate::provider::{DecimalSymbolStrsBuilder, DecimalSymbols, GroupingSizes};
 use crate::{DecimalFormatter, parts};
@@ -20,6 +22,7 @@ fn symbols(
     minus: (&str, &str),
     separators: (&str, &str),
     grouping_sizes: GroupingSizes,
+    numsys: &str,
 ) -> DecimalSymbols {
     let builder = DecimalSymbolStrsBuilder {
         minus_sign_prefix: minus.0,
@@ -28,7 +31,7 @@ fn symbols(
         plus_sign_suffix: "",
         decimal_separator: separators.0,
         grouping_separator: separators.1,
-        numsys: "latn",
+        numsys,
     };
     let built = match builder.build(alloc) {
         Ok(strings) => Ok(strings),
@@ -43,6 +46,16 @@ fn symbols(
     }
 }
 
+/// The English formatter with these options.
+pub(super) fn english(
+    rt: &impl Abort,
+    alloc: Global,
+    options: DecimalFormatterOptions,
+) -> DecimalFormatter {
+    let symbols = symbols(rt, alloc, ("-", ""), (".", ","), ENGLISH, "latn");
+    DecimalFormatter::from_parts(symbols, LATIN, options)
+}
+
 /// A formatter with English symbols, these sizes and this strategy.
 fn formatter(
     rt: &impl Abort,
@@ -50,7 +63,7 @@ fn formatter(
     sizes: GroupingSizes,
     strategy: GroupingStrategy,
 ) -> DecimalFormatter {
-    let symbols = symbols(rt, alloc, ("-", ""), (".", ","), sizes);
+    let symbols = symbols(rt, alloc, ("-", ""), (".", ","), sizes, "latn");
     DecimalFormatter::from_parts(symbols, LATIN, DecimalFormatterOptions::from(strategy))
 }
 
@@ -122,6 +135,9 @@ fn test_grouper(rt: HostRuntime) {
     }
 }
 
+/// Stands for no separator.
+const NOWHERE: i16 = -1;
+
 #[test]
 fn checks_each_magnitude(rt: HostRuntime) {
     let indic = GroupingSizes {
@@ -129,11 +145,37 @@ fn checks_each_magnitude(rt: HostRuntime) {
         secondary: 2,
         min_grouping: 1,
     };
+    let one_size = GroupingSizes {
+        primary: 3,
+        secondary: 0,
+        min_grouping: 0,
+    };
+    let min3 = GroupingSizes {
+        primary: 3,
+        secondary: 3,
+        min_grouping: 3,
+    };
+    let ungrouped = GroupingSizes {
+        primary: 0,
+        secondary: 3,
+        min_grouping: 1,
+    };
     for (upper, sizes, strategy, separators) in [
         (6, ENGLISH, GroupingStrategy::Auto, [3, 6]),
         (6, indic, GroupingStrategy::Auto, [3, 5]),
         (3, ENGLISH, GroupingStrategy::Auto, [3, 3]),
+        (3, ENGLISH, GroupingStrategy::Min2, [NOWHERE, NOWHERE]),
         (4, ENGLISH, GroupingStrategy::Min2, [3, 3]),
+        (6, ENGLISH, GroupingStrategy::Never, [NOWHERE, NOWHERE]),
+        (6, one_size, GroupingStrategy::Auto, [3, 6]),
+        (3, one_size, GroupingStrategy::Auto, [3, 3]),
+        (3, one_size, GroupingStrategy::Min2, [NOWHERE, NOWHERE]),
+        (6, min3, GroupingStrategy::Auto, [3, 6]),
+        (5, min3, GroupingStrategy::Auto, [3, 3]),
+        (4, min3, GroupingStrategy::Auto, [NOWHERE, NOWHERE]),
+        (4, min3, GroupingStrategy::Min2, [NOWHERE, NOWHERE]),
+        (6, ungrouped, GroupingStrategy::Auto, [NOWHERE, NOWHERE]),
+        (6, ungrouped, GroupingStrategy::Min2, [NOWHERE, NOWHERE]),
     ] {
         for magnitude in 0..=upper {
             let want = magnitude == separators[0] || magnitude == separators[1];
@@ -195,18 +237,19 @@ fn writes_other_digits_and_separators(rt: HostRuntime) {
         min_grouping: 1,
     };
     let bangla = ['০', '১', '২', '৩', '৪', '৫', '৬', '৭', '৮', '৯'];
-    for (digits, separators, sizes, text, want) in [
-        (bangla, (".", ","), indic, "1000007", "১০,০০,০০৭"),
+    for (digits, numsys, separators, sizes, text, want) in [
+        (bangla, "beng", (".", ","), indic, "1000007", "১০,০০,০০৭"),
         (
             LATIN,
+            "latn",
             (",", "\u{202f}"),
             ENGLISH,
             "-1234567.8",
             "-1\u{202f}234\u{202f}567,8",
         ),
-        (LATIN, ("", ""), ENGLISH, "1234.5", "12345"),
+        (LATIN, "latn", ("", ""), ENGLISH, "1234.5", "12345"),
     ] {
-        let symbols = symbols(&rt, alloc, ("-", ""), separators, sizes);
+        let symbols = symbols(&rt, alloc, ("-", ""), separators, sizes, numsys);
         let options = DecimalFormatterOptions::default();
         let formatter = DecimalFormatter::from_parts(symbols, digits, options);
         assert!(rt; is_shown(&rt, alloc, &formatter, text, want), "{text}");
@@ -267,9 +310,22 @@ fn marks_the_parts_of_a_decimal(rt: HostRuntime) {
 }
 
 #[test]
+fn marks_the_four_parts_of_a_short_decimal(rt: HostRuntime) {
+    let alloc = rt.alloc();
+    let formatter = formatter(&rt, alloc, ENGLISH, GroupingStrategy::Auto);
+    let spans = [
+        (0, 1, parts::MINUS_SIGN),
+        (1, 2, parts::INTEGER),
+        (2, 3, parts::DECIMAL),
+        (3, 4, parts::FRACTION),
+    ];
+    assert!(rt; is_annotated(&rt, alloc, &formatter, "-1.5", ("-1.5", spans.as_slice())));
+}
+
+#[test]
 fn marks_both_affixes_of_a_sign(rt: HostRuntime) {
     let alloc = rt.alloc();
-    let symbols = symbols(&rt, alloc, ("(", ")"), (".", ","), ENGLISH);
+    let symbols = symbols(&rt, alloc, ("(", ")"), (".", ","), ENGLISH, "latn");
     let options = DecimalFormatterOptions::default();
     let formatter = DecimalFormatter::from_parts(symbols, LATIN, options);
     let spans = [
@@ -321,6 +377,27 @@ fn leaves_a_beginning_in_a_full_sink(rt: HostRuntime) {
             "{limit}"
         );
     }
+}
+
+/// Whether a sink of five events holds the beginning of `-1.5` with the one part that is closed there.
+fn marks_the_sign_alone(rt: &impl Abort, alloc: Global, formatter: &DecimalFormatter) -> bool {
+    let (sink, is_whole) = annotated(rt, alloc, formatter, "-1.5", 5);
+    if is_whole || sink.text() != "-1" {
+        return false;
+    }
+    match sink.spans(alloc) {
+        Ok(spans) => spans.as_slice() == [(0, 1, parts::MINUS_SIGN)].as_slice(),
+        Err(_) => false,
+    }
+}
+
+#[test]
+fn leaves_the_parts_that_are_closed_in_a_full_sink(rt: HostRuntime) {
+    let alloc = rt.alloc();
+    let formatter = formatter(&rt, alloc, ENGLISH, GroupingStrategy::Auto);
+    assert!(rt;
+        marks_the_sign_alone(&rt, alloc, &formatter) || marks_the_sign_alone(&rt, alloc, &formatter)
+    );
 }
 
 /// A decimal of so many nines, made once more where memory was refused.
@@ -375,6 +452,41 @@ fn compares(rt: &impl Abort, alloc: Global) -> bool {
 fn compares_and_copies(rt: HostRuntime) {
     assert!(rt; copies(&rt, rt.alloc()));
     assert!(rt; compares(&rt, rt.alloc()));
+}
+
+/// Whether a decimal is formatted as the same value twice: it always is.
+fn formats_alike(formatter: &DecimalFormatter, decimal: &Decimal) -> bool
+    ensures { result ≡ true }
+{
+    formatter.format(decimal) == formatter.format(decimal)
+}
+
+fn formats_twice(rt: &impl Abort, alloc: Global) -> bool {
+    let english = english(rt, alloc, DecimalFormatterOptions::default());
+    let decimal = read(rt, alloc, "-1234.5");
+    formats_alike(&english, &decimal)
+}
+
+#[test]
+fn equals_what_is_formatted_again(rt: HostRuntime) {
+    assert!(rt; formats_twice(&rt, rt.alloc()));
+}
+
+/// Whether values are equal where both are lent or both are kept, and the values are.
+fn compares_values() -> bool {
+    let five = 5;
+    let again = 5;
+    let six = 6;
+    Cow::Borrowed(&five) == Cow::Borrowed(&again)
+        && Cow::Owned(five) == Cow::Owned(again)
+        && Cow::Borrowed(&five) != Cow::Borrowed(&six)
+        && Cow::Owned(five) != Cow::Owned(six)
+        && Cow::Borrowed(&five) != Cow::Owned(five)
+}
+
+#[test]
+fn compares_lent_and_kept_values(rt: HostRuntime) {
+    assert!(rt; compares_values());
 }
 
 fn is_signed(alloc: Global, formatter: &DecimalFormatter, decimal: &Decimal) -> bool {

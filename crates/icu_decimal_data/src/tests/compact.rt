@@ -1,275 +1,418 @@
 //! Which types a compact table keeps, what refuses a map, and what its calls answer.
 
 use super::tables::{
-    Elements, LONG_BANGLA, LONG_ENGLISH, LONG_JAPANESE, Row, SHORT_ENGLISH, Table, copy_of,
-    french_rules, french_table, operands_of, other, pattern, table_of,
+    LONG_BANGLA, LONG_ENGLISH, LONG_JAPANESE, Row, SHORT_ENGLISH, Table, copy_of, french_rules,
+    french_table, operands_of, table_of, table_of_literal, table_without_place,
 };
 use crate::{CompactError, CompactPatterns};
-use icu_base::{NoPlaceholder, PluralElements};
-use std::alloc::Global;
-use std::collections::BTreeMap;
-use std::process::Abort;
-use std::test::Fail;
+use icu_base::{NoPlaceholder, PluralRules};
+use std::alloc::{AllocError, Global};
+use std::str;
 
-fn assert_types(rt: &impl Abort, table: &Table, types: &[u8]) {
-    assert_eq!(rt; table.len(), types.len());
-    assert_eq!(rt; table.is_empty(), types.is_empty());
+fn has_types(table: &Table, types: &[u8]) -> bool {
+    if table.len() != types.len() || table.is_empty() != types.is_empty() {
+        return false;
+    }
     for index in 0..table.len() {
-        if index < types.len() {
-            assert_eq!(rt; table.log10_type(index), types[index]);
+        if index >= types.len() || table.log10_type(index) != types[index] {
+            return false;
         }
     }
+    true
+}
+
+fn equals_its_copy(alloc: Global, table: &Table) -> bool {
+    match copy_of(alloc, table) {
+        Ok(copy) => copy == *table,
+        Err(_) => false,
+    }
+}
+
+/// Whether a table keeps just these types of the rows.
+fn keeps(alloc: Global, rows: &[Row], zero_magnitude: Option<&str>, types: &[u8]) -> bool {
+    match table_of(alloc, rows, zero_magnitude) {
+        Ok(table) => has_types(&table, types) && equals_its_copy(alloc, &table),
+        Err(_) => false,
+    }
+}
+
+const KEPT: [(&[Row], Option<&str>, &[u8]); 14] = [
+    (
+        &[(3, 3, None, "K"), (4, 3, Some("x"), "K"), (5, 3, None, "K")],
+        None,
+        &[3, 4],
+    ),
+    (
+        &[(3, 3, Some("mille"), " mille"), (4, 3, None, " mille")],
+        None,
+        &[3],
+    ),
+    (&[(3, 4, None, ""), (4, 4, None, "万")], Some(""), &[4]),
+    (&[(3, 0, None, ""), (4, 4, None, "万")], Some(""), &[4]),
+    (&[(3, 3, None, "K"), (4, 5, None, "K")], None, &[3]),
+    (&[(3, 3, None, "K"), (5, 4, None, "K")], None, &[3]),
+    (&[(3, 0, None, "")], Some(""), &[]),
+    (&[], Some(""), &[]),
+    (&[], None, &[]),
+    (&[(15, 0, None, "")], None, &[15]),
+    (&SHORT_ENGLISH, None, &[3, 6, 9, 12]),
+    (&LONG_ENGLISH, None, &[3, 6, 9, 12]),
+    (&LONG_BANGLA, None, &[3, 5, 7]),
+    (&LONG_JAPANESE, Some(""), &[4, 8]),
+];
+
+#[test]
+fn keeps_the_types_that_change(rt: HostRuntime) {
+    for (rows, zero_magnitude, types) in KEPT {
+        assert!(rt; keeps(rt.alloc(), rows, zero_magnitude, types));
+    }
+}
+
+/// Whether the long French table keeps these of its six types.
+fn keeps_french(alloc: Global, types: &[u8]) -> bool {
+    match french_table(alloc) {
+        Ok(table) => has_types(&table, types),
+        Err(_) => false,
+    }
 }
 
 #[test]
-fn keeps_the_types_that_change(rt: HostRuntime) -> Result<(), Fail> {
-    let rows: [(&[Row], Option<&str>, &[u8]); 14] = [
-        (
-            &[(3, 3, None, "K"), (4, 3, Some("x"), "K"), (5, 3, None, "K")],
-            None,
-            &[3, 4],
-        ),
-        (
-            &[(3, 3, Some("mille"), " mille"), (4, 3, None, " mille")],
-            None,
-            &[3],
-        ),
-        (&[(3, 4, None, ""), (4, 4, None, "万")], Some(""), &[4]),
-        (&[(3, 0, None, ""), (4, 4, None, "万")], Some(""), &[4]),
-        (&[(3, 3, None, "K"), (4, 5, None, "K")], None, &[3]),
-        (&[(3, 3, None, "K"), (5, 4, None, "K")], None, &[3]),
-        (&[(3, 0, None, "")], Some(""), &[]),
-        (&[], Some(""), &[]),
-        (&[], None, &[]),
-        (&[(15, 0, None, "")], None, &[15]),
-        (&SHORT_ENGLISH, None, &[3, 6, 9, 12]),
-        (&LONG_ENGLISH, None, &[3, 6, 9, 12]),
-        (&LONG_BANGLA, None, &[3, 5, 7]),
-        (&LONG_JAPANESE, Some(""), &[4, 8]),
-    ];
-    for (given, zero_magnitude, types) in rows {
-        let table = table_of(rt.alloc(), given, zero_magnitude)??;
-        assert_types(&rt, &table, types);
-        assert!(rt; copy_of(rt.alloc(), &table)? == table);
+fn keeps_two_of_the_french_types(rt: HostRuntime) {
+    assert!(rt; keeps_french(rt.alloc(), &[3, 6]));
+}
+
+/// The exponent of a magnitude in the table of these rows; none without an entry.
+fn exponent_at(alloc: Global, rows: &[Row], magnitude: i32) -> Option<u8> {
+    match table_of(alloc, rows, None) {
+        Ok(table) => table
+            .entry_index(magnitude)
+            .map(|index| table.exponent(index)),
+        Err(_) => None,
     }
-    Ok(())
+}
+
+/// Type 5 has the patterns of type 3, and so is shown with its exponent.
+#[test]
+fn shows_a_skipped_type_by_the_exponent_of_the_kept_one(rt: HostRuntime) {
+    let rows: [Row; 2] = [(3, 3, None, "K"), (5, 4, None, "K")];
+    assert!(rt; keeps(rt.alloc(), &rows, None, &[3]));
+    assert_eq!(rt; exponent_at(rt.alloc(), &rows, 5), Some(3));
+}
+
+const REFUSED: [(&[Row], Option<&str>, CompactError); 8] = [
+    (
+        &[(3, 3, None, "K"), (4, 2, None, "M")],
+        None,
+        CompactError::ExponentsFall,
+    ),
+    (
+        &[(3, 3, None, "K"), (4, 2, None, "K")],
+        None,
+        CompactError::ExponentsFall,
+    ),
+    (
+        &[(3, 1, None, ""), (4, 0, None, "万")],
+        Some(""),
+        CompactError::ExponentsFall,
+    ),
+    (
+        &[(3, 4, None, "K"), (4, 3, None, "M")],
+        None,
+        CompactError::ExponentsFall,
+    ),
+    (&[(3, 4, None, "K")], None, CompactError::ExponentAboveType),
+    (
+        &[(3, 4, None, "K"), (20, 4, None, "M")],
+        None,
+        CompactError::ExponentAboveType,
+    ),
+    (&[(16, 0, None, "K")], None, CompactError::TooManyZeros),
+    (
+        &[(16, 0, None, "K"), (17, 18, None, "M")],
+        None,
+        CompactError::TooManyZeros,
+    ),
+];
+
+fn is_refused(
+    alloc: Global,
+    rows: &[Row],
+    zero_magnitude: Option<&str>,
+    error: CompactError,
+) -> bool {
+    table_of(alloc, rows, zero_magnitude).err() == Some(error)
 }
 
 #[test]
-fn refuses_other_maps(rt: HostRuntime) -> Result<(), Fail> {
-    let rows: [(&[Row], Option<&str>, CompactError); 8] = [
-        (
-            &[(3, 3, None, "K"), (4, 2, None, "M")],
-            None,
-            CompactError::ExponentsFall,
-        ),
-        (
-            &[(3, 3, None, "K"), (4, 2, None, "K")],
-            None,
-            CompactError::ExponentsFall,
-        ),
-        (
-            &[(3, 1, None, ""), (4, 0, None, "万")],
-            Some(""),
-            CompactError::ExponentsFall,
-        ),
-        (
-            &[(3, 4, None, "K"), (4, 3, None, "M")],
-            None,
-            CompactError::ExponentsFall,
-        ),
-        (&[(3, 4, None, "K")], None, CompactError::ExponentAboveType),
-        (
-            &[(3, 4, None, "K"), (20, 4, None, "M")],
-            None,
-            CompactError::ExponentAboveType,
-        ),
-        (&[(16, 0, None, "K")], None, CompactError::TooManyZeros),
-        (
-            &[(16, 0, None, "K"), (17, 18, None, "M")],
-            None,
-            CompactError::TooManyZeros,
-        ),
-    ];
-    for (given, zero_magnitude, error) in rows {
-        let answer = table_of(rt.alloc(), given, zero_magnitude)?;
-        assert!(rt; answer.err() == Some(error));
+fn refuses_other_maps(rt: HostRuntime) {
+    for (rows, zero_magnitude, error) in REFUSED {
+        assert!(rt;
+            is_refused(rt.alloc(), rows, zero_magnitude, error),
+            "{error}"
+        );
     }
-    Ok(())
+}
+
+/// So many letters, asked for again where memory was wanting.
+fn letters(alloc: Global, count: usize) -> Result<Vec<u8>, AllocError> {
+    match Vec::from_elem(alloc, b'K', count) {
+        Ok(letters) => Ok(letters),
+        Err(_) => Vec::from_elem(alloc, b'K', count),
+    }
 }
 
 /// A table of one entry, whose literal has this many bytes.
-fn table_of_size(alloc: Global, size: usize) -> Result<Result<Table, CompactError>, Fail> {
-    let mut literal = String::new(alloc);
-    for _ in 0..size {
-        if literal.push('K').is_err() {
-            literal.push('K')?;
-        }
+fn table_of_size(alloc: Global, size: usize) -> Result<Table, CompactError> {
+    match letters(alloc, size) {
+        Ok(letters) => match str::from_utf8(&letters) {
+            Ok(literal) => table_of_literal(alloc, literal),
+            Err(_) => Err(CompactError::OutOfMemory),
+        },
+        Err(_) => Err(CompactError::OutOfMemory),
     }
-    let mut map = BTreeMap::new(alloc);
-    if map.insert(3, (3, other(alloc, &literal)?)).is_err() {
-        map.insert(3, (3, other(alloc, &literal)?))?;
+}
+
+fn keeps_bytes(alloc: Global, size: usize) -> bool {
+    match table_of_size(alloc, size) {
+        Ok(table) => has_types(&table, &[3]),
+        Err(_) => false,
     }
-    Ok(CompactPatterns::new(alloc, map, None))
+}
+
+fn refuses_bytes(alloc: Global, size: usize) -> bool {
+    table_of_size(alloc, size).err() == Some(CompactError::TooLarge)
 }
 
 #[test]
-fn keeps_no_more_than_65535_bytes(rt: HostRuntime) -> Result<(), Fail> {
-    let mut answer = table_of_size(rt.alloc(), 65535)?;
-    if let Err(CompactError::OutOfMemory) = answer {
-        answer = table_of_size(rt.alloc(), 65535)?;
-    }
-    assert_types(&rt, &answer?, &[3]);
-    let refused = table_of_size(rt.alloc(), 65536)?;
-    assert!(rt; refused.err() == Some(CompactError::TooLarge));
-    Ok(())
+fn keeps_no_more_than_65535_bytes(rt: HostRuntime) {
+    assert!(rt; keeps_bytes(rt.alloc(), 65535));
+    assert!(rt; refuses_bytes(rt.alloc(), 65536));
 }
 
-#[test]
-fn finds_the_entry_of_a_magnitude(rt: HostRuntime) -> Result<(), Fail> {
-    let table = table_of(rt.alloc(), &SHORT_ENGLISH, None)??;
-    for (magnitude, index, exponent) in [
-        (i32::MIN, None, 0),
-        (-1, None, 0),
-        (0, None, 0),
-        (2, None, 0),
-        (3, Some(0), 3),
-        (5, Some(0), 3),
-        (6, Some(1), 6),
-        (11, Some(2), 9),
-        (12, Some(3), 12),
-        (32767, Some(3), 12),
-        (i32::MAX, Some(3), 12),
-    ] {
-        let found = table.entry_index(magnitude);
-        assert_eq!(rt; found, index, "at magnitude {magnitude}");
-        if let Some(index) = found {
-            assert_eq!(rt; table.exponent(index), exponent, "at magnitude {magnitude}");
-        }
-    }
-    Ok(())
-}
-
-#[test]
-fn answers_the_pattern_in_each_slot(rt: HostRuntime) -> Result<(), Fail> {
-    let rows = [(3, 3, Some("mille"), " mille"), (6, 6, None, " millions")];
-    let table = table_of(rt.alloc(), &rows, None)??;
-    for (index, slot, place, literal) in [
-        (0, 1, None, Some("mille")),
-        (0, 7, Some(0), Some(" mille")),
-        (0, 0, None, None),
-        (1, 1, None, None),
-        (1, 7, Some(0), Some(" millions")),
-    ] {
-        if index < table.len() && slot < 8 {
-            let pattern = table.slot(index, slot);
-            assert_eq!(rt; pattern.map(|pattern| pattern.literal()), literal);
-            assert_eq!(rt; pattern.and_then(|pattern| pattern.place()), place);
-        }
-    }
-    Ok(())
-}
-
-#[test]
-fn answers_a_sole_pattern(rt: HostRuntime) -> Result<(), Fail> {
-    let rows = [(3, 3, Some("mille"), " mille"), (6, 6, None, " millions")];
-    let table = table_of(rt.alloc(), &rows, None)??;
-    for (index, literal) in [(0, None), (1, Some(" millions"))] {
-        if index < table.len() {
-            let pattern = table.sole_pattern(index);
-            assert_eq!(rt; pattern.map(|pattern| pattern.literal()), literal);
-        }
-    }
-    Ok(())
-}
-
-#[test]
-fn picks_by_the_number(rt: HostRuntime) -> Result<(), Fail> {
-    let rules = french_rules(rt.alloc())?;
-    let table = match french_table(rt.alloc())? {
-        Err(CompactError::OutOfMemory) => french_table(rt.alloc())??,
-        answered => answered?,
-    };
-    for (index, number, literal) in [
-        (0, "1", "mille"),
-        (0, "1.0", " mille"),
-        (0, "0", " mille"),
-        (0, "2", " mille"),
-        (1, "1", " million"),
-        (1, "1.2", " million"),
-        (1, "0", " million"),
-        (1, "35", " millions"),
-        (1, "1000000", " millions"),
-    ] {
-        if index < table.len() {
-            let operands = operands_of(rt.alloc(), number)?;
-            let picked = table.pick(index, &operands, &rules);
-            assert_eq!(rt; picked.literal(), literal, "{number} at entry {index}");
-        }
-    }
-    Ok(())
-}
-
-#[test]
-fn compares_types_exponents_and_patterns(rt: HostRuntime) -> Result<(), Fail> {
-    let table = table_of(rt.alloc(), &[(4, 3, Some("x"), "K")], None)??;
-    for (row, equal) in [
-        ((4, 3, Some("x"), "K"), true),
-        ((5, 3, Some("x"), "K"), false),
-        ((4, 4, Some("x"), "K"), false),
-        ((4, 3, None, "K"), false),
-        ((4, 3, Some("y"), "K"), false),
-        ((4, 3, Some("x"), "k"), false),
-    ] {
-        assert!(rt; (table == table_of(rt.alloc(), &[row], None)??) == equal);
-    }
-    Ok(())
-}
-
-#[test]
-fn holds_patterns_without_a_place(rt: HostRuntime) -> Result<(), Fail> {
-    let mut map: BTreeMap<u8, (u8, Elements<NoPlaceholder>)> = BTreeMap::new(rt.alloc());
-    if map
-        .insert(
-            3,
-            (3, PluralElements::new(pattern(rt.alloc(), None, "kilo")?)),
-        )
-        .is_err()
-    {
-        map.insert(
-            3,
-            (3, PluralElements::new(pattern(rt.alloc(), None, "kilo")?)),
-        )?;
-    }
-    match CompactPatterns::new(rt.alloc(), map, None) {
+/// Whether a magnitude has the entry of this index and exponent in short English.
+fn finds(alloc: Global, magnitude: i32, index: Option<usize>, exponent: u8) -> bool {
+    match table_of(alloc, &SHORT_ENGLISH, None) {
         Ok(table) => {
-            assert_eq!(rt; table.len(), 1);
-            if 0 < table.len() {
-                assert_eq!(rt;
-                    table.slot(0, 7).map(|pattern| pattern.literal()),
-                    Some("kilo")
-                );
+            let found = table.entry_index(magnitude);
+            let exponent_found = match found {
+                Some(index) => table.exponent(index),
+                None => 0,
+            };
+            found == index && exponent_found == exponent
+        }
+        Err(_) => false,
+    }
+}
+
+const FOUND: [(i32, Option<usize>, u8); 11] = [
+    (i32::MIN, None, 0),
+    (-1, None, 0),
+    (0, None, 0),
+    (2, None, 0),
+    (3, Some(0), 3),
+    (5, Some(0), 3),
+    (6, Some(1), 6),
+    (11, Some(2), 9),
+    (12, Some(3), 12),
+    (32767, Some(3), 12),
+    (i32::MAX, Some(3), 12),
+];
+
+#[test]
+fn finds_the_entry_of_a_magnitude(rt: HostRuntime) {
+    for (magnitude, index, exponent) in FOUND {
+        assert!(rt;
+            finds(rt.alloc(), magnitude, index, exponent),
+            "at magnitude {magnitude}"
+        );
+    }
+}
+
+const LONG_FRENCH: [Row; 2] = [(3, 3, Some("mille"), " mille"), (6, 6, None, " millions")];
+
+/// Whether a slot of an entry has this pattern, or none.
+fn has_slot(
+    alloc: Global,
+    (index, slot): (usize, u8),
+    want: Option<(Option<usize>, &str)>,
+) -> bool {
+    match table_of(alloc, &LONG_FRENCH, None) {
+        Ok(table) => {
+            if index >= table.len() || slot >= 8 {
+                return false;
+            }
+            match (table.slot(index, slot), want) {
+                (Some(pattern), Some((place, literal))) => {
+                    pattern.place() == place && pattern.literal() == literal
+                }
+                (None, None) => true,
+                _ => false,
             }
         }
-        Err(error) => assert!(rt; error == CompactError::OutOfMemory),
+        Err(_) => false,
     }
-    Ok(())
+}
+
+const SLOTS: [((usize, u8), Option<(Option<usize>, &str)>); 5] = [
+    ((0, 1), Some((None, "mille"))),
+    ((0, 7), Some((Some(0), " mille"))),
+    ((0, 0), None),
+    ((1, 1), None),
+    ((1, 7), Some((Some(0), " millions"))),
+];
+
+#[test]
+fn answers_the_pattern_in_each_slot(rt: HostRuntime) {
+    for (at, want) in SLOTS {
+        assert!(rt; has_slot(rt.alloc(), at, want));
+    }
+}
+
+/// Whether an entry has this sole pattern, or none.
+fn has_sole(alloc: Global, index: usize, want: Option<&str>) -> bool {
+    match table_of(alloc, &LONG_FRENCH, None) {
+        Ok(table) => {
+            if index >= table.len() {
+                return false;
+            }
+            match (table.sole_pattern(index), want) {
+                (Some(pattern), Some(literal)) => pattern.literal() == literal,
+                (None, None) => true,
+                _ => false,
+            }
+        }
+        Err(_) => false,
+    }
 }
 
 #[test]
-fn tells_its_errors(rt: HostRuntime) -> Result<(), Fail> {
-    for (error, text) in [
-        (
-            CompactError::ExponentsFall,
-            "Compact exponents should be nondecreasing",
-        ),
-        (CompactError::TooManyZeros, "Pattern has too many zeros"),
-    ] {
-        let shown = match format!(in rt.alloc(); "{error}") {
-            Ok(shown) => shown,
-            Err(_) => format!(in rt.alloc(); "{error}")?,
-        };
-        assert_eq!(rt; shown.as_str(), text);
+fn answers_a_sole_pattern(rt: HostRuntime) {
+    assert!(rt; has_sole(rt.alloc(), 0, None));
+    assert!(rt; has_sole(rt.alloc(), 1, Some(" millions")));
+}
+
+/// Whether a number picks this pattern of an entry.
+fn picks(
+    alloc: Global,
+    table: &Table,
+    rules: &PluralRules,
+    (index, number, literal): (usize, &str, &str),
+) -> bool {
+    match operands_of(alloc, number) {
+        Ok(operands) => {
+            index < table.len() && table.pick(index, &operands, rules).literal() == literal
+        }
+        Err(_) => false,
     }
-    Ok(())
+}
+
+fn picks_in_french(alloc: Global, row: (usize, &str, &str)) -> bool {
+    match french_rules(alloc) {
+        Ok(rules) => match french_table(alloc) {
+            Ok(table) => picks(alloc, &table, &rules, row),
+            Err(_) => false,
+        },
+        Err(_) => false,
+    }
+}
+
+const PICKED: [(usize, &str, &str); 9] = [
+    (0, "1", "mille"),
+    (0, "1.0", " mille"),
+    (0, "0", " mille"),
+    (0, "2", " mille"),
+    (1, "1", " million"),
+    (1, "1.2", " million"),
+    (1, "0", " million"),
+    (1, "35", " millions"),
+    (1, "1000000", " millions"),
+];
+
+#[test]
+fn picks_by_the_number(rt: HostRuntime) {
+    for row in PICKED {
+        assert!(rt;
+            picks_in_french(rt.alloc(), row),
+            "{} at entry {}",
+            row.1,
+            row.0
+        );
+    }
+}
+
+/// Whether the tables of two rows are equal.
+fn are_equal(alloc: Global, left: Row, right: Row) -> Option<bool> {
+    match table_of(alloc, &[left], None) {
+        Ok(left) => match table_of(alloc, &[right], None) {
+            Ok(right) => Some(left == right),
+            Err(_) => None,
+        },
+        Err(_) => None,
+    }
+}
+
+const COMPARED: [(Row, bool); 6] = [
+    ((4, 3, Some("x"), "K"), true),
+    ((5, 3, Some("x"), "K"), false),
+    ((4, 4, Some("x"), "K"), false),
+    ((4, 3, None, "K"), false),
+    ((4, 3, Some("y"), "K"), false),
+    ((4, 3, Some("x"), "k"), false),
+];
+
+#[test]
+fn compares_types_exponents_and_patterns(rt: HostRuntime) {
+    for (row, want) in COMPARED {
+        assert!(rt; are_equal(rt.alloc(), (4, 3, Some("x"), "K"), row) == Some(want));
+    }
+}
+
+/// Whether the last slot of the first of one entries has this literal.
+fn has_literal(table: &CompactPatterns<NoPlaceholder>, literal: &str) -> bool {
+    if table.len() != 1 {
+        return false;
+    }
+    match table.slot(0, 7) {
+        Some(pattern) => pattern.literal() == literal,
+        None => false,
+    }
+}
+
+fn holds_without_place(alloc: Global, literal: &str) -> bool {
+    match table_without_place(alloc, literal) {
+        Ok(table) => has_literal(&table, literal),
+        Err(_) => false,
+    }
+}
+
+#[test]
+fn holds_patterns_without_a_place(rt: HostRuntime) {
+    assert!(rt; holds_without_place(rt.alloc(), "kilo"));
+}
+
+/// Whether an error is told so, asked again where memory was wanting.
+fn is_told(alloc: Global, error: CompactError, want: &str) -> bool {
+    let told: Result<String, AllocError> = error.to_string(alloc);
+    match told {
+        Ok(told) => told.as_str() == want,
+        Err(_) => match error.to_string(alloc) {
+            Ok(told) => told.as_str() == want,
+            Err(_) => false,
+        },
+    }
+}
+
+const TOLD: [(CompactError, &str); 2] = [
+    (
+        CompactError::ExponentsFall,
+        "Compact exponents should be nondecreasing",
+    ),
+    (CompactError::TooManyZeros, "Pattern has too many zeros"),
+];
+
+#[test]
+fn tells_its_errors(rt: HostRuntime) {
+    for (error, want) in TOLD {
+        assert!(rt; is_told(rt.alloc(), error, want), "{want}");
+    }
 }

@@ -3,14 +3,15 @@
 use crate::{CompactError, CompactPatterns};
 use fixed_decimal::{Decimal, DecimalError};
 use icu_base::{
-    Pattern, PatternBackend, PatternError, PluralCategory, PluralElements, PluralOperands,
-    PluralRules, RulesError, SinglePlaceholder,
+    NoPlaceholder, Pattern, PatternBackend, PatternError, PluralCategory, PluralElements,
+    PluralOperands, PluralRules, RulesError, SinglePlaceholder,
 };
 use std::alloc::Global;
 use std::collections::BTreeMap;
-use std::test::Fail;
 
-pub(super) type Elements<P> = PluralElements<Pattern<P>>;
+type Elements<P> = PluralElements<Pattern<P>>;
+
+type Map<P> = BTreeMap<u8, (u8, Elements<P>)>;
 
 /// A type, its exponent, the text for exactly one, and for all other numbers the text before which a number stands.
 pub(super) type Row = (u8, u8, Option<&'static str>, &'static str);
@@ -48,7 +49,7 @@ pub(super) const LONG_BANGLA: [Row; 3] = [
 pub(super) const LONG_JAPANESE: [Row; 3] = [(3, 0, None, ""), (4, 4, None, "万"), (8, 8, None, "億")];
 
 /// A pattern, asked for again where memory was wanting.
-pub(super) fn pattern<P: PatternBackend>(
+fn pattern<P: PatternBackend>(
     alloc: Global,
     place: Option<usize>,
     literal: &str,
@@ -60,53 +61,83 @@ pub(super) fn pattern<P: PatternBackend>(
 }
 
 /// Patterns that begin with the number.
-pub(super) fn other(
+fn other(alloc: Global, literal: &str) -> Result<Elements<SinglePlaceholder>, PatternError> {
+    match pattern(alloc, Some(0), literal) {
+        Ok(pattern) => Ok(PluralElements::new(pattern)),
+        Err(error) => Err(error),
+    }
+}
+
+/// The same, with a text for exactly one.
+fn with_one(
     alloc: Global,
+    one: &str,
     literal: &str,
 ) -> Result<Elements<SinglePlaceholder>, PatternError> {
-    Ok(PluralElements::new(pattern(alloc, Some(0), literal)?))
-}
-
-pub(super) fn elements(
-    alloc: Global,
-    row: Row,
-) -> Result<Elements<SinglePlaceholder>, PatternError> {
-    let others = other(alloc, row.3)?;
-    match row.2 {
-        Some(text) => Ok(others.with_explicit_one_value(Some(pattern(alloc, None, text)?))),
-        None => Ok(others),
+    let one = pattern(alloc, None, one)?;
+    match other(alloc, literal) {
+        Ok(others) => Ok(others.with_explicit_one_value(Some(one))),
+        Err(error) => Err(error),
     }
 }
 
-/// The map of the rows, made again where memory was wanting.
-pub(super) fn map_of(
-    alloc: Global,
-    rows: &[Row],
-) -> Result<BTreeMap<u8, (u8, Elements<SinglePlaceholder>)>, Fail> {
+fn elements(alloc: Global, row: Row) -> Result<Elements<SinglePlaceholder>, PatternError> {
+    match row.2 {
+        Some(one) => with_one(alloc, one, row.3),
+        None => other(alloc, row.3),
+    }
+}
+
+/// The map of the rows; none where memory was wanting.
+fn map_of(alloc: Global, rows: &[Row]) -> Option<Map<SinglePlaceholder>> {
     let mut map = BTreeMap::new(alloc);
     for row in rows {
-        if map.insert(row.0, (row.1, elements(alloc, *row)?)).is_err() {
-            map.insert(row.0, (row.1, elements(alloc, *row)?))?;
+        let Ok(elements) = elements(alloc, *row) else {
+            return None;
+        };
+        if map.insert(row.0, (row.1, elements)).is_err() {
+            return None;
         }
     }
-    Ok(map)
+    Some(map)
 }
 
-/// The table, asked for again where memory was wanting.
+/// The table of a map, if there is one.
+fn made<P: PatternBackend>(
+    alloc: Global,
+    map: Option<Map<P>>,
+    zero_magnitude: Option<&Elements<P>>,
+) -> Result<CompactPatterns<P>, CompactError> {
+    match map {
+        Some(map) => CompactPatterns::new(alloc, map, zero_magnitude),
+        None => Err(CompactError::OutOfMemory),
+    }
+}
+
+/// The table of the rows, made again where memory was wanting.
+fn made_of(
+    alloc: Global,
+    rows: &[Row],
+    zero_magnitude: Option<&Elements<SinglePlaceholder>>,
+) -> Result<Table, CompactError> {
+    match made(alloc, map_of(alloc, rows), zero_magnitude) {
+        Err(CompactError::OutOfMemory) => made(alloc, map_of(alloc, rows), zero_magnitude),
+        answered => answered,
+    }
+}
+
+/// The table of the rows, after types whose pattern is the number with this literal.
 pub(super) fn table_of(
     alloc: Global,
     rows: &[Row],
     zero_magnitude: Option<&str>,
-) -> Result<Result<Table, CompactError>, Fail> {
-    let zero = match zero_magnitude {
-        Some(literal) => Some(other(alloc, literal)?),
-        None => None,
-    };
-    match CompactPatterns::new(alloc, map_of(alloc, rows)?, zero.as_ref()) {
-        Err(CompactError::OutOfMemory) => {
-            Ok(CompactPatterns::new(alloc, map_of(alloc, rows)?, zero.as_ref()))
-        }
-        answered => Ok(answered),
+) -> Result<Table, CompactError> {
+    match zero_magnitude {
+        Some(literal) => match other(alloc, literal) {
+            Ok(zero) => made_of(alloc, rows, Some(&zero)),
+            Err(_) => Err(CompactError::OutOfMemory),
+        },
+        None => made_of(alloc, rows, None),
     }
 }
 
@@ -117,17 +148,55 @@ pub(super) fn copy_of(alloc: Global, table: &Table) -> Result<Table, CompactErro
     }
 }
 
+/// The map of one type, 3, with this exponent.
+fn map_of_one<P: PatternBackend>(
+    alloc: Global,
+    place: Option<usize>,
+    literal: &str,
+) -> Option<Map<P>> {
+    match pattern(alloc, place, literal) {
+        Ok(pattern) => {
+            let mut map = BTreeMap::new(alloc);
+            match map.insert(3, (3, PluralElements::new(pattern))) {
+                Ok(_) => Some(map),
+                Err(_) => None,
+            }
+        }
+        Err(_) => None,
+    }
+}
+
+/// A table of one entry with a literal, made again where memory was wanting.
+pub(super) fn table_of_literal(alloc: Global, literal: &str) -> Result<Table, CompactError> {
+    match made(alloc, map_of_one(alloc, Some(0), literal), None) {
+        Err(CompactError::OutOfMemory) => made(alloc, map_of_one(alloc, Some(0), literal), None),
+        answered => answered,
+    }
+}
+
+/// A table of one entry without a place, made again where memory was wanting.
+pub(super) fn table_without_place(
+    alloc: Global,
+    literal: &str,
+) -> Result<CompactPatterns<NoPlaceholder>, CompactError> {
+    match made(alloc, map_of_one(alloc, None, literal), None) {
+        Err(CompactError::OutOfMemory) => made(alloc, map_of_one(alloc, None, literal), None),
+        answered => answered,
+    }
+}
+
+const FRENCH_RULES: [(PluralCategory, &str); 2] = [
+    (PluralCategory::One, "i = 0,1"),
+    (
+        PluralCategory::Many,
+        "e = 0 and i != 0 and i % 1000000 = 0 and v = 0 or e != 0..5",
+    ),
+];
+
 /// The French rules, asked for again where memory was wanting.
 pub(super) fn french_rules(alloc: Global) -> Result<PluralRules, RulesError> {
-    let texts = [
-        (PluralCategory::One, "i = 0,1"),
-        (
-            PluralCategory::Many,
-            "e = 0 and i != 0 and i % 1000000 = 0 and v = 0 or e != 0..5",
-        ),
-    ];
-    match PluralRules::from_rules(alloc, &texts) {
-        Err(RulesError::OutOfMemory) => PluralRules::from_rules(alloc, &texts),
+    match PluralRules::from_rules(alloc, &FRENCH_RULES) {
+        Err(RulesError::OutOfMemory) => PluralRules::from_rules(alloc, &FRENCH_RULES),
         answered => answered,
     }
 }
@@ -141,16 +210,49 @@ pub(super) fn operands_of(alloc: Global, text: &str) -> Result<PluralOperands, D
     Ok(PluralOperands::from_significand_and_exponent(&decimal.absolute, 0))
 }
 
-/// The long French table: thousands with a word for exactly one, and millions with a pattern for the category one.
-pub(super) fn french_table(alloc: Global) -> Result<Result<Table, CompactError>, Fail> {
-    let millions = other(alloc, " millions")?.with_one_value(Some(pattern(
-        alloc,
-        Some(0),
-        " million",
-    )?));
-    let mut map = map_of(alloc, &[(3, 3, Some("mille"), " mille")])?;
-    if map.insert(6, (6, millions)).is_err() {
-        return Ok(Err(CompactError::OutOfMemory));
+/// Millions with a pattern for the category one.
+fn millions(alloc: Global) -> Result<Elements<SinglePlaceholder>, PatternError> {
+    let one = pattern(alloc, Some(0), " million")?;
+    match other(alloc, " millions") {
+        Ok(others) => Ok(others.with_one_value(Some(one))),
+        Err(error) => Err(error),
     }
-    Ok(CompactPatterns::new(alloc, map, None))
+}
+
+const FRENCH_THOUSANDS: [Row; 3] = [
+    (3, 3, Some("mille"), " mille"),
+    (4, 3, None, " mille"),
+    (5, 3, None, " mille"),
+];
+
+/// The map with such millions as a type; none where memory was wanting.
+fn with_millions(
+    alloc: Global,
+    mut map: Map<SinglePlaceholder>,
+    log10_type: u8,
+) -> Option<Map<SinglePlaceholder>> {
+    match millions(alloc) {
+        Ok(millions) => match map.insert(log10_type, (6, millions)) {
+            Ok(_) => Some(map),
+            Err(_) => None,
+        },
+        Err(_) => None,
+    }
+}
+
+/// The six types of the long French table: thousands with a word for exactly one, and such millions; none where memory
+/// was wanting.
+fn french_map(alloc: Global) -> Option<Map<SinglePlaceholder>> {
+    let thousands = map_of(alloc, &FRENCH_THOUSANDS)?;
+    let with_six = with_millions(alloc, thousands, 6)?;
+    let with_seven = with_millions(alloc, with_six, 7)?;
+    with_millions(alloc, with_seven, 8)
+}
+
+/// The long French table, made again where memory was wanting.
+pub(super) fn french_table(alloc: Global) -> Result<Table, CompactError> {
+    match made(alloc, french_map(alloc), None) {
+        Err(CompactError::OutOfMemory) => made(alloc, french_map(alloc), None),
+        answered => answered,
+    }
 }

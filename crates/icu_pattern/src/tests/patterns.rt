@@ -8,21 +8,12 @@ use crate::{NoPlaceholder, Pattern, PatternBackend, PatternError, SinglePlacehol
 use std::alloc::{AllocError, Global};
 use std::fmt;
 use std::process::Abort;
-use std::test::Fail;
 use writeable::{EventWriter, OutOfMemory, Part, PartsText, WriteFault, Writeable};
 
 const INTEGER: Part = Part {
     category: "decimal",
     value: "integer",
 };
-
-/// The spans, asked for again where memory was wanting.
-fn spans_of(alloc: Global, sink: &PartsText) -> Result<Vec<(usize, usize, Part)>, OutOfMemory> {
-    match sink.spans(alloc) {
-        Ok(spans) => Ok(spans),
-        Err(OutOfMemory) => sink.spans(alloc),
-    }
-}
 
 /// The number 12, as a part.
 #[derive(Clone, Copy)]
@@ -42,8 +33,8 @@ impl Writeable for Twelve {
     }
 }
 
-/// The pattern, asked for again where memory was wanting.
-fn pattern_of<P: PatternBackend>(
+/// What is answered for a pattern, asked for again where memory was wanting.
+fn judged<P: PatternBackend>(
     alloc: Global,
     place: Option<usize>,
     literal: &str,
@@ -51,6 +42,19 @@ fn pattern_of<P: PatternBackend>(
     match Pattern::try_new(alloc, place, literal) {
         Err(PatternError::OutOfMemory) => Pattern::try_new(alloc, place, literal),
         answered => answered,
+    }
+}
+
+/// The pattern, which the backend accepts.
+fn pattern_of<P: PatternBackend>(
+    rt: &impl Abort,
+    alloc: Global,
+    place: Option<usize>,
+    literal: &str,
+) -> Pattern<P> {
+    match judged(alloc, place, literal) {
+        Ok(pattern) => pattern,
+        Err(_) => panic!(rt; "the pattern was refused"),
     }
 }
 
@@ -69,29 +73,101 @@ fn text_with<P: PatternBackend, W: Writeable + Drop>(
     }
 }
 
-/// The value in a sink with its parts, and in one without. Where memory was wanting it is written once more.
-fn sinks_with<T: Writeable>(
+fn is_text_with<P: PatternBackend>(
     alloc: Global,
-    value: &T,
-) -> Result<(PartsText, PartsText), WriteFault> {
-    let mut parts = PartsText::new(alloc);
-    if value.write_to_parts(&mut parts).is_err() {
-        parts = PartsText::new(alloc);
-        value.write_to_parts(&mut parts)?;
+    pattern: &Pattern<P>,
+    value: &str,
+    want: &str,
+) -> bool {
+    match text_with(alloc, pattern, value) {
+        Ok(text) => text.as_str() == want,
+        Err(WriteFault) => false,
     }
-    let mut plain = PartsText::new(alloc);
-    if value.write_to(&mut plain).is_err() {
-        plain = PartsText::new(alloc);
-        value.write_to(&mut plain)?;
-    }
-    Ok((parts, plain))
 }
 
-fn displayed<T: fmt::Display>(alloc: Global, value: &T) -> Result<String, AllocError> {
-    match format!(in alloc; "{value}") {
-        Ok(text) => Ok(text),
-        Err(_) => format!(in alloc; "{value}"),
+/// Whether a sink holds this text with these spans; asked once more where memory was wanting.
+fn is_annotated(
+    alloc: Global,
+    sink: &PartsText,
+    text: &str,
+    want: &[(usize, usize, Part)],
+) -> bool {
+    if sink.text() != text {
+        return false;
     }
+    match sink.spans(alloc) {
+        Ok(spans) => spans.as_slice() == want,
+        Err(OutOfMemory) => match sink.spans(alloc) {
+            Ok(spans) => spans.as_slice() == want,
+            Err(OutOfMemory) => false,
+        },
+    }
+}
+
+/// Whether a value leaves this text with these spans in a sink; asked once more where a growth was refused.
+fn writes_parts<T: Writeable>(
+    alloc: Global,
+    value: &T,
+    text: &str,
+    want: &[(usize, usize, Part)],
+) -> bool {
+    let mut sink = PartsText::new(alloc);
+    if value.write_to_parts(&mut sink).is_err() {
+        sink = PartsText::new(alloc);
+        if value.write_to_parts(&mut sink).is_err() {
+            return false;
+        }
+    }
+    is_annotated(alloc, &sink, text, want)
+}
+
+/// Whether a value leaves this text without spans in a sink; asked once more where a growth was refused.
+fn writes_characters<T: Writeable>(alloc: Global, value: &T, text: &str) -> bool {
+    let mut sink = PartsText::new(alloc);
+    if value.write_to(&mut sink).is_err() {
+        sink = PartsText::new(alloc);
+        if value.write_to(&mut sink).is_err() {
+            return false;
+        }
+    }
+    is_annotated(alloc, &sink, text, &[])
+}
+
+fn is_displayed<T: fmt::Display>(alloc: Global, value: &T, text: &str) -> bool {
+    match format!(in alloc; "{value}") {
+        Ok(string) => string.as_str() == text,
+        Err(_) => match format!(in alloc; "{value}") {
+            Ok(string) => string.as_str() == text,
+            Err(_) => false,
+        },
+    }
+}
+
+/// Whether a text was made, and is this.
+fn is_made(made: Result<String, AllocError>, want: &str) -> bool {
+    match made {
+        Ok(text) => text.as_str() == want,
+        Err(_) => false,
+    }
+}
+
+/// Whether a value is displayed with these characters, unpadded, under a width, a fill, a precision and the alternate form.
+fn is_styled<T: fmt::Display>(alloc: Global, value: &T, want: &str) -> bool {
+    is_made(format!(in alloc; "{value:>9}"), want)
+        && is_made(format!(in alloc; "{value:*^9}"), want)
+        && is_made(format!(in alloc; "{value:.0}"), want)
+        && is_made(format!(in alloc; "{value:#}"), want)
+}
+
+/// The same, asked once more where memory was wanting.
+fn is_displayed_unpadded<T: fmt::Display>(alloc: Global, value: &T, want: &str) -> bool {
+    is_styled(alloc, value, want) || is_styled(alloc, value, want)
+}
+
+/// Whether a pattern is lent as this place and this literal.
+fn is_lent<P: PatternBackend>(pattern: &Pattern<P>, place: Option<usize>, literal: &str) -> bool {
+    let lent = pattern.as_ref();
+    lent.place() == place && lent.literal() == literal
 }
 
 /// A literal, and the places where its characters begin and where it ends.
@@ -120,51 +196,58 @@ const LITERALS: [Literal; 4] = [
     },
 ];
 
-#[test]
-fn accepts_a_place_at_the_edge_of_a_character(rt: HostRuntime) -> Result<(), Fail> {
-    for literal in &LITERALS {
-        let pattern = pattern_of::<SinglePlaceholder>(rt.alloc(), None, literal.text)?;
-        assert_eq!(rt; pattern.as_ref().place(), None);
-        assert_eq!(rt; pattern.as_ref().literal(), literal.text);
-        for place in [0, 1, 2, 3, 4, 5, 6, 7, 8, 9, usize::MAX] {
-            let is_edge = literal.edges.contains(&place);
-            assert!(rt;
-                SinglePlaceholder::accepts(Some(place), literal.text) == is_edge,
-                "{place}"
-            );
-            match pattern_of::<SinglePlaceholder>(rt.alloc(), Some(place), literal.text) {
-                Ok(pattern) => {
-                    assert!(rt; is_edge, "{place}");
-                    assert_eq!(rt; pattern.as_ref().place(), Some(place));
-                    assert_eq!(rt; pattern.as_ref().literal(), literal.text);
-                }
-                Err(refusal) => {
-                    assert!(rt; !is_edge, "{place}");
-                    assert_eq!(rt; refusal, PatternError::BadPlace);
-                }
-            }
+/// Whether the backend accepts a place in a literal or refuses it, as its test says.
+fn judges<P: PatternBackend>(
+    alloc: Global,
+    place: Option<usize>,
+    literal: &str,
+    is_accepted: bool,
+) -> bool {
+    match judged::<P>(alloc, place, literal) {
+        Ok(pattern) => is_accepted && is_lent(&pattern, place, literal),
+        Err(refusal) => !is_accepted && refusal == PatternError::BadPlace,
+    }
+}
+
+const PLACES: [usize; 11] = [0, 1, 2, 3, 4, 5, 6, 7, 8, 9, usize::MAX];
+
+/// Whether just the edges of the characters are places.
+fn has_edges(alloc: Global, literal: &Literal) -> bool {
+    for place in PLACES {
+        let is_edge = literal.edges.contains(&place);
+        if SinglePlaceholder::accepts(Some(place), literal.text) != is_edge
+            || !judges::<SinglePlaceholder>(alloc, Some(place), literal.text, is_edge)
+        {
+            return false;
         }
     }
-    Ok(())
+    judges::<SinglePlaceholder>(alloc, None, literal.text, true)
 }
 
 #[test]
-fn accepts_no_place_where_there_is_none(rt: HostRuntime) -> Result<(), Fail> {
-    for literal in ["", "K", "é"] {
-        let pattern = pattern_of::<NoPlaceholder>(rt.alloc(), None, literal)?;
-        assert_eq!(rt; pattern.as_ref().place(), None);
-        assert_eq!(rt; pattern.as_ref().literal(), literal);
-        assert!(rt; NoPlaceholder::accepts(None, literal), "{literal}");
-        for place in [0, 1, 2] {
-            assert!(rt; !NoPlaceholder::accepts(Some(place), literal), "{literal}");
-            let refused = pattern_of::<NoPlaceholder>(rt.alloc(), Some(place), literal);
-            assert!(rt;
-                matches!(&refused, Err(PatternError::BadPlace)),
-                "{literal}"
-            );
+fn accepts_a_place_at_the_edge_of_a_character(rt: HostRuntime) {
+    for literal in &LITERALS {
+        assert!(rt; has_edges(rt.alloc(), literal), "{}", literal.text);
+    }
+}
+
+/// Whether no place in a literal is accepted, and no place is.
+fn has_no_place(alloc: Global, literal: &str) -> bool {
+    for place in [0, 1, 2] {
+        if NoPlaceholder::accepts(Some(place), literal)
+            || !judges::<NoPlaceholder>(alloc, Some(place), literal, false)
+        {
+            return false;
         }
     }
-    Ok(())
+    NoPlaceholder::accepts(None, literal) && judges::<NoPlaceholder>(alloc, None, literal, true)
+}
+
+#[test]
+fn accepts_no_place_where_there_is_none(rt: HostRuntime) {
+    for literal in ["", "K", "é"] {
+        assert!(rt; has_no_place(rt.alloc(), literal), "{literal}");
+    }
 }
 
 struct Case {
@@ -172,7 +255,7 @@ struct Case {
     literal: &'static str,
     text: &'static str,
     /// Where the number stands.
-    number: Option<(usize, usize)>,
+    number: &'static [(usize, usize, Part)],
 }
 
 /// The number is 12.
@@ -181,195 +264,218 @@ const CASES: [Case; 8] = [
         place: Some(0),
         literal: "K",
         text: "12K",
-        number: Some((0, 2)),
+        number: &[(0, 2, INTEGER)],
     },
     Case {
         place: Some(0),
         literal: " thousand",
         text: "12 thousand",
-        number: Some((0, 2)),
+        number: &[(0, 2, INTEGER)],
     },
     Case {
         place: Some(1),
         literal: "~K",
         text: "~12K",
-        number: Some((1, 3)),
+        number: &[(1, 3, INTEGER)],
     },
     Case {
         place: Some(2),
         literal: "é",
         text: "é12",
-        number: Some((2, 4)),
+        number: &[(2, 4, INTEGER)],
     },
     Case {
         place: Some(4),
         literal: "a\u{20ac}\u{1f600}",
         text: "a\u{20ac}12\u{1f600}",
-        number: Some((4, 6)),
+        number: &[(4, 6, INTEGER)],
     },
     Case {
         place: Some(0),
         literal: "",
         text: "12",
-        number: Some((0, 2)),
+        number: &[(0, 2, INTEGER)],
     },
     Case {
         place: None,
         literal: "mille",
         text: "mille",
-        number: None,
+        number: &[],
     },
     Case {
         place: None,
         literal: "",
         text: "",
-        number: None,
+        number: &[],
     },
 ];
 
+/// Whether 12 in a pattern is written in each way.
+fn is_filled(rt: &impl Abort, alloc: Global, case: &Case) -> bool {
+    let pattern = pattern_of::<SinglePlaceholder>(rt, alloc, case.place, case.literal);
+    let filled = pattern.interpolate(Twelve);
+    writes_parts(alloc, &filled, case.text, case.number)
+        && writes_characters(alloc, &filled, case.text)
+        && is_displayed(alloc, &filled, case.text)
+        && is_displayed_unpadded(alloc, &filled, case.text)
+}
+
+/// Whether the text 12 in a pattern, kept or lent, has this text.
+fn is_filled_text(rt: &impl Abort, alloc: Global, case: &Case) -> bool {
+    let pattern = pattern_of::<SinglePlaceholder>(rt, alloc, case.place, case.literal);
+    is_text_with(alloc, &pattern, "12", case.text)
+        && is_displayed(alloc, &pattern.as_ref().interpolate("12"), case.text)
+}
+
 #[test]
-fn writes_the_value_in_its_place(rt: HostRuntime) -> Result<(), Fail> {
+fn writes_the_value_in_its_place(rt: HostRuntime) {
     for case in &CASES {
-        let pattern = pattern_of::<SinglePlaceholder>(rt.alloc(), case.place, case.literal)?;
-        let filled = pattern.interpolate(Twelve);
-        let (parts, plain) = sinks_with(rt.alloc(), &filled)?;
-        assert_eq!(rt; parts.text(), case.text);
-        assert_eq!(rt; plain.text(), case.text);
-        let spans = spans_of(rt.alloc(), &parts)?;
-        match case.number {
-            Some((start, end)) => {
-                assert_eq!(rt; spans.as_slice(), [(start, end, INTEGER)].as_slice());
-            }
-            None => assert_eq!(rt; spans.len(), 0),
-        }
-        assert_eq!(rt; spans_of(rt.alloc(), &plain)?.len(), 0);
-        assert_eq!(rt;
-            text_with(rt.alloc(), &pattern, Twelve)?.as_str(),
-            case.text
-        );
-        assert_eq!(rt; displayed(rt.alloc(), &filled)?.as_str(), case.text);
-        let lent = pattern.as_ref();
-        assert_eq!(rt;
-            displayed(rt.alloc(), &lent.interpolate("12"))?.as_str(),
-            case.text
-        );
+        assert!(rt; is_filled(&rt, rt.alloc(), case), "{}", case.text);
+        assert!(rt; is_filled_text(&rt, rt.alloc(), case), "{}", case.text);
     }
-    Ok(())
 }
 
-#[test]
-fn leaves_the_value_out_without_a_place(rt: HostRuntime) -> Result<(), Fail> {
-    let pattern = pattern_of::<NoPlaceholder>(rt.alloc(), None, "mille")?;
+fn leaves_the_value_out(rt: &impl Abort, alloc: Global) -> bool {
+    let pattern = pattern_of::<NoPlaceholder>(rt, alloc, None, "mille");
     let filled = pattern.interpolate(Twelve);
-    let (parts, plain) = sinks_with(rt.alloc(), &filled)?;
-    assert_eq!(rt; parts.text(), "mille");
-    assert_eq!(rt; plain.text(), "mille");
-    assert_eq!(rt; spans_of(rt.alloc(), &parts)?.len(), 0);
-    assert_eq!(rt; displayed(rt.alloc(), &filled)?.as_str(), "mille");
-    Ok(())
+    writes_parts(alloc, &filled, "mille", &[])
+        && writes_characters(alloc, &filled, "mille")
+        && is_displayed(alloc, &filled, "mille")
 }
 
 #[test]
-fn passes_the_value_through(rt: HostRuntime) -> Result<(), Fail> {
-    let pattern = Pattern::pass_through(rt.alloc());
-    assert_eq!(rt; pattern.as_ref().place(), Some(0));
-    assert_eq!(rt; pattern.as_ref().literal(), "");
-    assert_eq!(rt; text_with(rt.alloc(), &pattern, "12")?.as_str(), "12");
-    let (parts, _) = sinks_with(rt.alloc(), &pattern.interpolate(Twelve))?;
-    let spans = spans_of(rt.alloc(), &parts)?;
-    assert_eq!(rt; spans.as_slice(), [(0, 2, INTEGER)].as_slice());
-    Ok(())
+fn leaves_the_value_out_without_a_place(rt: HostRuntime) {
+    assert!(rt; leaves_the_value_out(&rt, rt.alloc()));
+}
+
+fn passes_through(alloc: Global) -> bool {
+    let pattern = Pattern::pass_through(alloc);
+    is_lent(&pattern, Some(0), "")
+        && is_text_with(alloc, &pattern, "12", "12")
+        && writes_parts(
+            alloc,
+            &pattern.interpolate(Twelve),
+            "12",
+            &[(0, 2, INTEGER)],
+        )
 }
 
 #[test]
-fn stops_at_the_fault_of_the_sink(rt: HostRuntime) -> Result<(), Fail> {
-    let pattern = pattern_of::<SinglePlaceholder>(rt.alloc(), Some(1), "~K")?;
+fn passes_the_value_through(rt: HostRuntime) {
+    assert!(rt; passes_through(rt.alloc()));
+}
+
+/// Whether a sink with this limit holds this text, and failed where the limit is less than all six events: a character,
+/// open, two characters, close, a character.
+fn stops(rt: &impl Abort, alloc: Global, limit: usize, text: &str) -> bool {
+    let pattern = pattern_of::<SinglePlaceholder>(rt, alloc, Some(1), "~K");
     let filled = pattern.interpolate(Twelve);
-    // A character, open, two characters, close, a character: six events.
-    let beginnings = ["", "~", "~", "~1", "~12", "~12", "~12K"];
-    for (limit, text) in beginnings.iter().enumerate() {
-        let mut sink = PartsText::with_limit(rt.alloc(), limit);
-        let mut written = filled.write_to_parts(&mut sink);
-        if sink.growth_refused() {
-            sink = PartsText::with_limit(rt.alloc(), limit);
-            written = filled.write_to_parts(&mut sink);
-        }
-        assert_eq!(rt; written.is_ok(), limit == 6, "with limit {limit}");
-        assert_eq!(rt; sink.text(), *text, "with limit {limit}");
+    let mut sink = PartsText::with_limit(alloc, limit);
+    let mut written = filled.write_to_parts(&mut sink);
+    if sink.growth_refused() {
+        sink = PartsText::with_limit(alloc, limit);
+        written = filled.write_to_parts(&mut sink);
     }
-    Ok(())
+    written.is_ok() == (limit == 6) && sink.text() == text
 }
 
-/// An equal pattern, asked for again where memory was wanting.
-fn copy_of<P: PatternBackend>(
+const BEGINNINGS: [&str; 7] = ["", "~", "~", "~1", "~12", "~12", "~12K"];
+
+#[test]
+fn stops_at_the_fault_of_the_sink(rt: HostRuntime) {
+    for (limit, text) in BEGINNINGS.iter().enumerate() {
+        assert!(rt; stops(&rt, rt.alloc(), limit, text), "with limit {limit}");
+    }
+}
+
+/// Whether a pattern's copy is equal to it, asked for again where memory was wanting.
+fn is_copied<P: PatternBackend>(
     alloc: Global,
     pattern: &Pattern<P>,
-) -> Result<Pattern<P>, PatternError> {
+    place: Option<usize>,
+    literal: &str,
+) -> bool {
     match pattern.copy(alloc) {
-        Err(PatternError::OutOfMemory) => pattern.copy(alloc),
-        answered => answered,
+        Ok(copied) => *pattern == copied && is_lent(&copied, place, literal),
+        Err(_) => match pattern.copy(alloc) {
+            Ok(copied) => *pattern == copied && is_lent(&copied, place, literal),
+            Err(_) => false,
+        },
     }
 }
 
-/// The patterns of these places and literals are each equal to themselves and to their copies, and to no other.
+/// Whether a pattern equals its copy.
+fn has_a_copy<P: PatternBackend>(
+    rt: &impl Abort,
+    alloc: Global,
+    place: Option<usize>,
+    literal: &str,
+) -> bool {
+    let pattern = pattern_of::<P>(rt, alloc, place, literal);
+    is_copied(alloc, &pattern, place, literal)
+}
+
+/// Whether two patterns, kept and lent, are equal.
+fn are_equal<P: PatternBackend>(
+    rt: &impl Abort,
+    alloc: Global,
+    one: (Option<usize>, &str),
+    other: (Option<usize>, &str),
+) -> Option<bool> {
+    let one = pattern_of::<P>(rt, alloc, one.0, one.1);
+    let other = pattern_of::<P>(rt, alloc, other.0, other.1);
+    if (one == other) == (one.as_ref() == other.as_ref()) {
+        Some(one == other)
+    } else {
+        None
+    }
+}
+
+const PLACED: [(Option<usize>, &str); 7] = [
+    (None, ""),
+    (Some(0), ""),
+    (None, "K"),
+    (Some(0), "K"),
+    (Some(1), "K"),
+    (Some(0), "M"),
+    (Some(0), "K "),
+];
+
+const UNPLACED: [(Option<usize>, &str); 4] = [(None, ""), (None, "K"), (None, "M"), (None, "K ")];
+
+/// Whether the patterns of these places and literals are each equal to themselves and to their copies, and to no other.
 fn are_different<P: PatternBackend>(
     rt: &impl Abort,
     alloc: Global,
     given: &[(Option<usize>, &str)],
-) -> Result<(), PatternError> {
-    for (index, first) in given.iter().enumerate() {
-        let pattern = pattern_of::<P>(alloc, first.0, first.1)?;
-        let copied = copy_of(alloc, &pattern)?;
-        assert!(rt; pattern == copied, "{} is its copy", first.1);
-        assert_eq!(rt; copied.as_ref().place(), first.0);
-        assert_eq!(rt; copied.as_ref().literal(), first.1);
-        let lent = pattern.as_ref();
-        for (other_index, second) in given.iter().enumerate() {
-            let other = pattern_of::<P>(alloc, second.0, second.1)?;
-            let same = index == other_index;
-            assert!(rt; (pattern == other) == same, "{} and {}", first.1, second.1);
-            assert!(rt;
-                (lent == other.as_ref()) == same,
-                "{} and {}",
-                first.1,
-                second.1
-            );
+) -> bool {
+    for (index, one) in given.iter().enumerate() {
+        if !has_a_copy::<P>(rt, alloc, one.0, one.1) {
+            return false;
+        }
+        for (other_index, other) in given.iter().enumerate() {
+            if are_equal::<P>(rt, alloc, *one, *other) != Some(index == other_index) {
+                return false;
+            }
         }
     }
-    Ok(())
+    true
 }
 
 #[test]
-fn equal_by_place_and_by_literal(rt: HostRuntime) -> Result<(), Fail> {
-    are_different::<SinglePlaceholder>(
-        &rt,
-        rt.alloc(),
-        &[
-            (None, ""),
-            (Some(0), ""),
-            (None, "K"),
-            (Some(0), "K"),
-            (Some(1), "K"),
-            (Some(0), "M"),
-            (Some(0), "K "),
-        ],
-    )?;
-    are_different::<NoPlaceholder>(
-        &rt,
-        rt.alloc(),
-        &[(None, ""), (None, "K"), (None, "M"), (None, "K ")],
-    )?;
-    Ok(())
+fn equal_by_place_and_by_literal(rt: HostRuntime) {
+    assert!(rt; are_different::<SinglePlaceholder>(&rt, rt.alloc(), &PLACED));
+    assert!(rt; are_different::<NoPlaceholder>(&rt, rt.alloc(), &UNPLACED));
 }
 
 #[test]
-fn tells_why_a_pattern_is_refused(rt: HostRuntime) -> Result<(), Fail> {
-    let place = displayed(rt.alloc(), &PatternError::BadPlace)?;
-    assert_eq!(rt;
-        place.as_str(),
-        "the place does not fit the literal of the pattern"
+fn tells_why_a_pattern_is_refused(rt: HostRuntime) {
+    assert!(rt;
+        is_displayed(
+            rt.alloc(),
+            &PatternError::BadPlace,
+            "the place does not fit the literal of the pattern"
+        )
     );
-    let memory = displayed(rt.alloc(), &PatternError::OutOfMemory)?;
-    assert_eq!(rt; memory.as_str(), "out of memory");
-    Ok(())
+    assert!(rt; is_displayed(rt.alloc(), &PatternError::OutOfMemory, "out of memory"));
 }

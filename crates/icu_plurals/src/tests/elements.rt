@@ -2,7 +2,6 @@ use super::plural::{FRENCH, operands_of, rules_of};
 use crate::{PluralCategory, PluralElements};
 use std::alloc::Global;
 use std::process::Abort;
-use std::test::Fail;
 
 /// Elements whose values tell their slots: 1 to 8 in the order of the slots.
 fn all_slots() -> PluralElements<u8> {
@@ -157,82 +156,79 @@ fn compares_without_the_explicit_one(rt: HostRuntime) {
     assert!(rt; !PluralElements::new(8).equal_without_explicit_one(&PluralElements::new(9)));
 }
 
-#[test]
-fn explicit_values_are_for_just_these_numbers(rt: HostRuntime) -> Result<(), Fail> {
-    let rows = [
-        ("0", 0, 1),
-        ("1", 0, 2),
-        ("2", 0, 8),
-        ("0.0", 0, 8),
-        ("1.0", 0, 8),
-        ("0", 3, 8),
-        ("1", 3, 8),
-        ("0.001", 3, 8),
-        ("1000000000000000000", 0, 8),
-        ("1000000000000000001", 0, 8),
-    ];
-    let elements = all_slots();
-    for (number, exponent, expected) in rows {
-        let operands = operands_of(rt.alloc(), number, exponent)?;
-        assert_eq!(rt;
-            *elements.select(operands, PluralCategory::Other),
-            expected,
-            "{number}c{exponent}"
-        );
-    }
-    Ok(())
+const EXPLICIT: &[(&str, u8, u8)] = &[
+    ("0", 0, 1),
+    ("1", 0, 2),
+    ("2", 0, 8),
+    ("0.0", 0, 8),
+    ("1.0", 0, 8),
+    ("0", 3, 8),
+    ("1", 3, 8),
+    ("0.001", 3, 8),
+    ("1000000000000000000", 0, 8),
+    ("1000000000000000001", 0, 8),
+];
+
+/// What a number, which is a decimal in text and an exponent, selects of all slots with a category.
+fn selected(
+    rt: &impl Abort,
+    alloc: Global,
+    (number, exponent): (&str, u8),
+    category: PluralCategory,
+) -> u8 {
+    *all_slots().select(operands_of(rt, alloc, number, exponent), category)
 }
 
 #[test]
-fn each_category_selects_its_own_value(rt: HostRuntime) -> Result<(), Fail> {
-    let rows = [
-        (PluralCategory::Zero, 3),
-        (PluralCategory::One, 4),
-        (PluralCategory::Two, 5),
-        (PluralCategory::Few, 6),
-        (PluralCategory::Many, 7),
-        (PluralCategory::Other, 8),
-    ];
-    let elements = all_slots();
-    let plain = PluralElements::new(8);
-    let five = operands_of(rt.alloc(), "5", 0)?;
-    for (category, expected) in rows {
-        assert_eq!(rt; *elements.select(five, category), expected);
-        assert_eq!(rt; *plain.select(five, category), 8, "absent");
+fn explicit_values_are_for_just_these_numbers(rt: HostRuntime) {
+    for (number, exponent, expected) in EXPLICIT {
+        let value = selected(&rt, rt.alloc(), (*number, *exponent), PluralCategory::Other);
+        assert_eq!(rt; value, *expected, "{number}c{exponent}");
     }
-    Ok(())
+}
+
+const BY_CATEGORY: &[(PluralCategory, u8)] = &[
+    (PluralCategory::Zero, 3),
+    (PluralCategory::One, 4),
+    (PluralCategory::Two, 5),
+    (PluralCategory::Few, 6),
+    (PluralCategory::Many, 7),
+    (PluralCategory::Other, 8),
+];
+
+/// What the number five selects of elements with one value alone.
+fn selected_of_one(rt: &impl Abort, alloc: Global, category: PluralCategory) -> u8 {
+    *PluralElements::new(8).select(operands_of(rt, alloc, "5", 0), category)
 }
 
 #[test]
-fn an_absent_explicit_value_leaves_the_choice_to_the_category(rt: HostRuntime) -> Result<(), Fail> {
+fn each_category_selects_its_own_value(rt: HostRuntime) {
+    for (category, expected) in BY_CATEGORY {
+        assert_eq!(rt; selected(&rt, rt.alloc(), ("5", 0), *category), *expected);
+        assert_eq!(rt; selected_of_one(&rt, rt.alloc(), *category), 8, "absent");
+    }
+}
+
+/// What a number selects of elements for the categories zero and one.
+fn selected_of_two(rt: &impl Abort, alloc: Global, number: &str, category: PluralCategory) -> u8 {
     let elements = PluralElements::new(8)
         .with_zero_value(Some(3))
         .with_one_value(Some(4));
-    let no_number = operands_of(rt.alloc(), "0", 0)?;
-    let one = operands_of(rt.alloc(), "1", 0)?;
-    assert_eq!(rt; *elements.select(no_number, PluralCategory::Zero), 3);
-    assert_eq!(rt; *elements.select(one, PluralCategory::One), 4);
-    assert_eq!(rt; *elements.select(one, PluralCategory::Two), 8);
-    Ok(())
+    *elements.select(operands_of(rt, alloc, number, 0), category)
 }
 
-/// Asserts the value that each number, a decimal in text and an exponent, gets by the rules of French.
-fn assert_french(
-    rt: &impl Abort,
-    alloc: Global,
-    elements: &PluralElements<&str>,
-    rows: &[(&str, u8, &str)],
-) -> Result<(), Fail> {
-    let rules = rules_of(alloc, &FRENCH)?;
-    for (number, exponent, expected) in rows {
-        let operands = operands_of(alloc, *number, *exponent)?;
+#[test]
+fn an_absent_explicit_value_leaves_the_choice_to_the_category(rt: HostRuntime) {
+    for (number, category, expected) in [
+        ("0", PluralCategory::Zero, 3),
+        ("1", PluralCategory::One, 4),
+        ("1", PluralCategory::Two, 8),
+    ] {
         assert_eq!(rt;
-            *elements.get(operands, &rules),
-            *expected,
-            "{number}c{exponent}"
+            selected_of_two(&rt, rt.alloc(), number, category),
+            expected
         );
     }
-    Ok(())
 }
 
 /// The names of the dollar in French.
@@ -242,36 +238,66 @@ fn dollars() -> PluralElements<&'static str> {
         .with_many_value(Some("de dollars US"))
 }
 
-#[test]
-fn gets_the_value_of_the_category(rt: HostRuntime) -> Result<(), Fail> {
-    let rows = [
-        ("0", 0, "dollar US"),
-        ("1", 0, "dollar US"),
-        ("1.5", 0, "dollar US"),
-        ("2", 0, "dollars US"),
-        ("1", 3, "dollars US"),
-        ("999999", 0, "dollars US"),
-        ("1000000", 0, "de dollars US"),
-        ("1", 6, "de dollars US"),
-        ("1.0000001", 6, "de dollars US"),
-    ];
-    assert_french(&rt, rt.alloc(), &dollars(), &rows)
+/// The same, with names for exactly zero and exactly one.
+fn counted_dollars() -> PluralElements<&'static str> {
+    dollars()
+        .with_explicit_zero_value(Some("aucun dollar US"))
+        .with_explicit_one_value(Some("un dollar US"))
 }
 
+/// Whether a number, which is a decimal in text and an exponent, gets this value by the rules of French.
+fn gets(
+    rt: &impl Abort,
+    alloc: Global,
+    elements: &PluralElements<&str>,
+    (number, exponent): (&str, u8),
+    expected: &str,
+) -> bool {
+    let rules = rules_of(rt, alloc, &FRENCH);
+    *elements.get(operands_of(rt, alloc, number, exponent), &rules) == expected
+}
+
+const DOLLARS: &[(&str, u8, &str)] = &[
+    ("0", 0, "dollar US"),
+    ("1", 0, "dollar US"),
+    ("1.5", 0, "dollar US"),
+    ("2", 0, "dollars US"),
+    ("1", 3, "dollars US"),
+    ("999999", 0, "dollars US"),
+    ("1000000", 0, "de dollars US"),
+    ("1", 6, "de dollars US"),
+    ("1.0000001", 6, "de dollars US"),
+];
+
 #[test]
-fn gets_the_explicit_value_for_just_its_number(rt: HostRuntime) -> Result<(), Fail> {
-    let elements = dollars()
-        .with_explicit_zero_value(Some("aucun dollar US"))
-        .with_explicit_one_value(Some("un dollar US"));
-    let rows = [
-        ("0", 0, "aucun dollar US"),
-        ("1", 0, "un dollar US"),
-        ("0.0", 0, "dollar US"),
-        ("1.0", 0, "dollar US"),
-        ("0.5", 0, "dollar US"),
-        ("1", 3, "dollars US"),
-        ("2", 0, "dollars US"),
-        ("1", 6, "de dollars US"),
-    ];
-    assert_french(&rt, rt.alloc(), &elements, &rows)
+fn gets_the_value_of_the_category(rt: HostRuntime) {
+    for (number, exponent, expected) in DOLLARS {
+        let is_got = gets(&rt, rt.alloc(), &dollars(), (*number, *exponent), expected);
+        assert!(rt; is_got, "{number}c{exponent}");
+    }
+}
+
+const COUNTED_DOLLARS: &[(&str, u8, &str)] = &[
+    ("0", 0, "aucun dollar US"),
+    ("1", 0, "un dollar US"),
+    ("0.0", 0, "dollar US"),
+    ("1.0", 0, "dollar US"),
+    ("0.5", 0, "dollar US"),
+    ("1", 3, "dollars US"),
+    ("2", 0, "dollars US"),
+    ("1", 6, "de dollars US"),
+];
+
+#[test]
+fn gets_the_explicit_value_for_just_its_number(rt: HostRuntime) {
+    for (number, exponent, expected) in COUNTED_DOLLARS {
+        let is_got = gets(
+            &rt,
+            rt.alloc(),
+            &counted_dollars(),
+            (*number, *exponent),
+            expected,
+        );
+        assert!(rt; is_got, "{number}c{exponent}");
+    }
 }

@@ -1,7 +1,8 @@
-//! Operands and rules for the tests of plurals.
+//! Operands and rules for the tests.
 use crate::{PluralCategory, PluralOperands, PluralRules, RulesError};
 use fixed_decimal::{Decimal, DecimalError};
 use std::alloc::Global;
+use std::process::Abort;
 
 /// The cardinal rules of French, as UTS 35 publishes them.
 pub const FRENCH: [(PluralCategory, &str); 2] = [
@@ -16,30 +17,35 @@ pub const FRENCH: [(PluralCategory, &str); 2] = [
 ];
 
 /// The decimal, read again where memory was wanting.
-pub fn decimal_of(alloc: Global, text: &str) -> Result<Decimal, DecimalError> {
+pub fn decimal_of(rt: &impl Abort, alloc: Global, text: &str) -> Decimal {
     match Decimal::try_from_str(alloc, text) {
-        Err(DecimalError::OutOfMemory) => Decimal::try_from_str(alloc, text),
-        read => read,
+        Ok(decimal) => decimal,
+        Err(DecimalError::OutOfMemory) => match Decimal::try_from_str(alloc, text) {
+            Ok(decimal) => decimal,
+            Err(_) => panic!(rt; "memory was refused"),
+        },
+        Err(_) => panic!(rt; "the text is no decimal"),
     }
 }
 
 /// The operands of a decimal in text and an exponent.
-pub fn operands_of(
-    alloc: Global,
-    text: &str,
-    exponent: u8,
-) -> Result<PluralOperands, DecimalError> {
-    let decimal = decimal_of(alloc, text)?;
-    Ok(PluralOperands::from_significand_and_exponent(&decimal.absolute, exponent))
+pub fn operands_of(rt: &impl Abort, alloc: Global, text: &str, exponent: u8) -> PluralOperands {
+    let decimal = decimal_of(rt, alloc, text);
+    PluralOperands::from_significand_and_exponent(&decimal.absolute, exponent)
 }
 
 /// The rules, asked for again where memory was wanting.
-pub fn rules_of(
-    alloc: Global,
-    rules: &[(PluralCategory, &str)],
-) -> Result<PluralRules, RulesError> {
+pub fn judged(alloc: Global, rules: &[(PluralCategory, &str)]) -> Result<PluralRules, RulesError> {
     match PluralRules::from_rules(alloc, rules) {
         Err(RulesError::OutOfMemory) => PluralRules::from_rules(alloc, rules),
         judged => judged,
+    }
+}
+
+/// The rules, which are in the grammar.
+pub fn rules_of(rt: &impl Abort, alloc: Global, rules: &[(PluralCategory, &str)]) -> PluralRules {
+    match judged(alloc, rules) {
+        Ok(rules) => rules,
+        Err(_) => panic!(rt; "the rules were refused"),
     }
 }

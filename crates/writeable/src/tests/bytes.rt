@@ -5,11 +5,24 @@ ghost use Rattle.std.specs.Prelude.{◌<◌, All};
 use super::INTEGER;
 use crate::{EventWriter, WriteFault};
 use std::alloc::Global;
-use std::test::Fail;
 
 const LATIN: [char; 10] = ['0', '1', '2', '3', '4', '5', '6', '7', '8', '9'];
 
 const BENGALI: [char; 10] = ['০', '১', '২', '৩', '৪', '৫', '৬', '৭', '৮', '৯'];
+
+/// Digits of four bytes each.
+const ADLAM: [char; 10] = [
+    '\u{1e950}',
+    '\u{1e951}',
+    '\u{1e952}',
+    '\u{1e953}',
+    '\u{1e954}',
+    '\u{1e955}',
+    '\u{1e956}',
+    '\u{1e957}',
+    '\u{1e958}',
+    '\u{1e959}',
+];
 
 /// Latin but for the nine.
 const MIXED: [char; 10] = ['0', '1', '2', '3', '4', '5', '6', '7', '8', '৯'];
@@ -26,52 +39,58 @@ fn write_parts<K: EventWriter>(
     out.open(INTEGER)?;
     out.digits(digits, characters)?;
     out.close()?;
-    out.text(" ok")
+    out.part(INTEGER, " ok")
 }
 
-/// The bytes; where memory was wanting they are written once more.
-fn bytes_of(alloc: Global, digits: &[u8], characters: &[char; 10]) -> Result<Vec<u8>, WriteFault>
+/// Whether a buffer of bytes gets this text; asked once more where memory was wanting.
+fn is_in_bytes(alloc: Global, digits: &[u8], characters: &[char; 10], text: &str) -> bool
     requires { All (λ d. d < 10) digits.now }
 {
     let mut out = Vec::new(alloc);
     if write_parts(&mut out, digits, characters).is_err() {
         out = Vec::new(alloc);
-        write_parts(&mut out, digits, characters)?;
+        if write_parts(&mut out, digits, characters).is_err() {
+            return false;
+        }
     }
-    Ok(out)
+    out.as_slice() == text.as_bytes()
 }
 
-/// The text; where memory was wanting it is written once more.
-fn text_of(alloc: Global, digits: &[u8], characters: &[char; 10]) -> Result<String, WriteFault>
+/// Whether a text gets this text; asked once more where memory was wanting.
+fn is_in_a_text(alloc: Global, digits: &[u8], characters: &[char; 10], text: &str) -> bool
     requires { All (λ d. d < 10) digits.now }
 {
     let mut out = String::new(alloc);
     if write_parts(&mut out, digits, characters).is_err() {
         out = String::new(alloc);
-        write_parts(&mut out, digits, characters)?;
+        if write_parts(&mut out, digits, characters).is_err() {
+            return false;
+        }
     }
-    Ok(out)
+    out.as_str() == text
 }
 
 #[test]
-fn writes_digits_to_bytes_and_texts(rt: HostRuntime) -> Result<(), Fail> {
+fn writes_digits_to_bytes_and_texts(rt: HostRuntime) {
     let digits = [1, 9, 0, 9, 2];
     for (characters, text) in [
         (&LATIN, "€19092 ok"),
         (&BENGALI, "€১৯০৯২ ok"),
         (&MIXED, "€1৯0৯2 ok"),
+        (&ADLAM, "€\u{1e951}\u{1e959}\u{1e950}\u{1e959}\u{1e952} ok"),
     ] {
-        let bytes = bytes_of(rt.alloc(), &digits, characters)?;
-        assert_eq!(rt; bytes.as_slice(), text.as_bytes());
-        let string = text_of(rt.alloc(), &digits, characters)?;
-        assert_eq!(rt; string.as_str(), text);
+        assert!(rt;
+            is_in_bytes(rt.alloc(), &digits, characters, text),
+            "{text}"
+        );
+        assert!(rt;
+            is_in_a_text(rt.alloc(), &digits, characters, text),
+            "{text}"
+        );
     }
-    Ok(())
 }
 
 #[test]
-fn writes_no_digits_to_bytes(rt: HostRuntime) -> Result<(), Fail> {
-    let bytes = bytes_of(rt.alloc(), &[], &LATIN)?;
-    assert_eq!(rt; bytes.as_slice(), "€ ok".as_bytes());
-    Ok(())
+fn writes_no_digits_to_bytes(rt: HostRuntime) {
+    assert!(rt; is_in_bytes(rt.alloc(), &[], &LATIN, "€ ok"));
 }

@@ -1,9 +1,8 @@
 //! A value written to sinks, to a text and by a formatter.
-use super::{GROUP, spans_of};
-use crate::{EventWriter, OutOfMemory, PartsText, WriteFault, Writeable};
+use super::{GROUP, is_annotated};
+use crate::{EventWriter, OutOfMemory, Part, PartsText, WriteFault, Writeable};
 use std::alloc::{AllocError, Global};
 use std::fmt;
-use std::test::Fail;
 
 /// A value of one part around a text, to show how a crate above writes its own.
 #[derive(Clone, Copy, Drop)]
@@ -32,95 +31,138 @@ impl fmt::Display for Grouped<'_> {
 
     ghost output = { λ g. Some (text_of (Open (codes "decimal") (codes "group") ∷ (text_events g.text.now ++ Close ∷ []))) };
 
+    ghost styled_output = { λ g _. Some (text_of (Open (codes "decimal") (codes "group") ∷ (text_events g.text.now ++ Close ∷ []))) };
+
     fn fmt<W: fmt::Write>(&self, f: &mut fmt::Formatter<W>) -> fmt::Result {
         self.write_events(f).map_err(|_| fmt::Error)
     }
 }
 
-/// The value in a sink with its parts, and in one without. Where memory was wanting it is written once more.
-fn sinks_with<T: Writeable>(
+/// Whether a value leaves this text with these spans in a sink; asked once more where a growth was refused.
+fn writes_parts<T: Writeable>(
     alloc: Global,
     value: &T,
-) -> Result<(PartsText, PartsText), WriteFault> {
-    let mut parts = PartsText::new(alloc);
-    if value.write_to_parts(&mut parts).is_err() {
-        parts = PartsText::new(alloc);
-        value.write_to_parts(&mut parts)?;
-    }
-    let mut plain = PartsText::new(alloc);
-    if value.write_to(&mut plain).is_err() {
-        plain = PartsText::new(alloc);
-        value.write_to(&mut plain)?;
-    }
-    Ok((parts, plain))
-}
-
-fn string_of<T: Writeable>(alloc: Global, value: &T) -> Result<String, WriteFault> {
-    match value.write_to_string(alloc) {
-        Ok(text) => Ok(text),
-        Err(WriteFault) => value.write_to_string(alloc),
-    }
-}
-
-fn displayed<T: fmt::Display>(alloc: Global, value: &T) -> Result<String, AllocError> {
-    match format!(in alloc; "{value}") {
-        Ok(text) => Ok(text),
-        Err(_) => format!(in alloc; "{value}"),
-    }
-}
-
-#[test]
-fn writes_a_value_in_each_way(rt: HostRuntime) -> Result<(), Fail> {
-    for text in ["", "1", "a\u{f1}\u{20ac}\u{1f600}"] {
-        let value = Grouped { text };
-        let (parts, plain) = sinks_with(rt.alloc(), &value)?;
-        assert_eq!(rt; parts.text(), text);
-        assert_eq!(rt; plain.text(), text);
-        let spans = spans_of(rt.alloc(), &parts)?;
-        if text.is_empty() {
-            assert_eq!(rt; spans.len(), 0);
-        } else {
-            assert_eq!(rt; spans.as_slice(), [(0, text.len(), GROUP)].as_slice());
+    text: &str,
+    want: &[(usize, usize, Part)],
+) -> bool {
+    let mut sink = PartsText::new(alloc);
+    if value.write_to_parts(&mut sink).is_err() {
+        sink = PartsText::new(alloc);
+        if value.write_to_parts(&mut sink).is_err() {
+            return false;
         }
-        assert_eq!(rt; spans_of(rt.alloc(), &plain)?.len(), 0);
-        assert_eq!(rt; string_of(rt.alloc(), &value)?.as_str(), text);
-        assert_eq!(rt; displayed(rt.alloc(), &value)?.as_str(), text);
     }
-    Ok(())
+    is_annotated(alloc, &sink, text, want)
+}
+
+/// Whether a value leaves this text without spans in a sink; asked once more where a growth was refused.
+fn writes_characters<T: Writeable>(alloc: Global, value: &T, text: &str) -> bool {
+    let mut sink = PartsText::new(alloc);
+    if value.write_to(&mut sink).is_err() {
+        sink = PartsText::new(alloc);
+        if value.write_to(&mut sink).is_err() {
+            return false;
+        }
+    }
+    is_annotated(alloc, &sink, text, &[])
+}
+
+fn is_string<T: Writeable>(alloc: Global, value: &T, text: &str) -> bool {
+    match value.write_to_string(alloc) {
+        Ok(string) => string.as_str() == text,
+        Err(WriteFault) => match value.write_to_string(alloc) {
+            Ok(string) => string.as_str() == text,
+            Err(WriteFault) => false,
+        },
+    }
+}
+
+fn is_displayed<T: fmt::Display>(alloc: Global, value: &T, text: &str) -> bool {
+    match format!(in alloc; "{value}") {
+        Ok(string) => string.as_str() == text,
+        Err(_) => match format!(in alloc; "{value}") {
+            Ok(string) => string.as_str() == text,
+            Err(_) => false,
+        },
+    }
+}
+
+/// Whether a text was made, and is this.
+fn is_made(made: Result<String, AllocError>, want: &str) -> bool {
+    match made {
+        Ok(text) => text.as_str() == want,
+        Err(_) => false,
+    }
+}
+
+/// Whether a value is displayed with these characters, unpadded, under a width, a fill, a precision and the alternate form.
+fn is_styled<T: fmt::Display>(alloc: Global, value: &T, want: &str) -> bool {
+    is_made(format!(in alloc; "{value:>9}"), want)
+        && is_made(format!(in alloc; "{value:*^9}"), want)
+        && is_made(format!(in alloc; "{value:.0}"), want)
+        && is_made(format!(in alloc; "{value:#}"), want)
+}
+
+/// The same, asked once more where memory was wanting.
+fn is_displayed_unpadded<T: fmt::Display>(alloc: Global, value: &T, want: &str) -> bool {
+    is_styled(alloc, value, want) || is_styled(alloc, value, want)
+}
+
+const TEXTS: [&str; 3] = ["", "1", "a\u{f1}\u{20ac}\u{1f600}"];
+
+/// Whether a text in a part is written in each way.
+fn is_grouped(alloc: Global, text: &str) -> bool {
+    let value = Grouped { text };
+    let whole = [(0, text.len(), GROUP)];
+    let count = if text.is_empty() { 0 } else { 1 };
+    writes_parts(alloc, &value, text, whole.split_at(count).0)
+        && writes_characters(alloc, &value, text)
+        && is_string(alloc, &value, text)
+        && is_displayed(alloc, &value, text)
+        && is_displayed_unpadded(alloc, &value, text)
 }
 
 #[test]
-fn writes_a_text_in_each_way(rt: HostRuntime) -> Result<(), Fail> {
-    for text in ["", "1", "a\u{f1}\u{20ac}\u{1f600}"] {
-        let (parts, plain) = sinks_with(rt.alloc(), &text)?;
-        assert_eq!(rt; parts.text(), text);
-        assert_eq!(rt; plain.text(), text);
-        assert_eq!(rt; spans_of(rt.alloc(), &parts)?.len(), 0);
-        assert_eq!(rt; string_of(rt.alloc(), &text)?.as_str(), text);
+fn writes_a_value_in_each_way(rt: HostRuntime) {
+    for text in TEXTS {
+        assert!(rt; is_grouped(rt.alloc(), text), "{text}");
     }
-    Ok(())
+}
+
+fn is_itself(alloc: Global, text: &str) -> bool {
+    writes_parts(alloc, &text, text, &[])
+        && writes_characters(alloc, &text, text)
+        && is_string(alloc, &text, text)
+}
+
+#[test]
+fn writes_a_text_in_each_way(rt: HostRuntime) {
+    for text in TEXTS {
+        assert!(rt; is_itself(rt.alloc(), text), "{text}");
+    }
+}
+
+/// Whether a sink with this limit holds this text, and failed where the limit is less than all four events: open, two
+/// characters, close.
+fn stops(alloc: Global, limit: usize, text: &str) -> bool {
+    let mut sink = PartsText::with_limit(alloc, limit);
+    let mut written = Grouped { text: "12" }.write_to_parts(&mut sink);
+    if sink.growth_refused() {
+        sink = PartsText::with_limit(alloc, limit);
+        written = Grouped { text: "12" }.write_to_parts(&mut sink);
+    }
+    written.is_ok() == (limit == 4) && sink.text() == text
 }
 
 #[test]
 fn stops_at_the_fault_of_the_sink(rt: HostRuntime) {
-    // Open, two characters, close: four events.
-    for (limit, text) in [(0, ""), (1, ""), (2, "1"), (3, "12"), (4, "12")] {
-        let mut sink = PartsText::with_limit(rt.alloc(), limit);
-        let mut written = Grouped { text: "12" }.write_to_parts(&mut sink);
-        if sink.growth_refused() {
-            sink = PartsText::with_limit(rt.alloc(), limit);
-            written = Grouped { text: "12" }.write_to_parts(&mut sink);
-        }
-        assert_eq!(rt; written.is_ok(), limit == 4, "with limit {limit}");
-        assert_eq!(rt; sink.text(), text, "with limit {limit}");
+    for (limit, text) in ["", "", "1", "12", "12"].iter().enumerate() {
+        assert!(rt; stops(rt.alloc(), limit, text), "with limit {limit}");
     }
 }
 
 #[test]
-fn tells_its_errors(rt: HostRuntime) -> Result<(), Fail> {
-    let fault = displayed(rt.alloc(), &WriteFault)?;
-    assert_eq!(rt; fault.as_str(), "the sink could not take the text");
-    let memory = displayed(rt.alloc(), &OutOfMemory)?;
-    assert_eq!(rt; memory.as_str(), "out of memory");
-    Ok(())
+fn tells_its_errors(rt: HostRuntime) {
+    assert!(rt; is_displayed(rt.alloc(), &WriteFault, "the sink could not take the text"));
+    assert!(rt; is_displayed(rt.alloc(), &OutOfMemory, "out of memory"));
 }

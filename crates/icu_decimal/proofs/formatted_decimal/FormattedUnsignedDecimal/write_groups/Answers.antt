@@ -34,15 +34,15 @@ split_at-requires-in-groups g c =
     let cut_is = next_cut c.args.primary c.args.secondary rest n c.requires.primary c.requires.secondary some due c.next_group.ensures in
     cut_is.2
 
-pub returns-in_err-write_part : goal.returns-in_err-write_part
-returns-in_err-write_part g c =
+pub returns-in_err-part : goal.returns-in_err-part
+returns-in_err-part g c =
     let rest = c.groups.rest.now in
     let n = c.next_group.result in
     let some : 0 < length rest = grind (arith, nat_tests, c.groups-test.ensures) in
     let due = due_of c.args.primary c.args.secondary rest c.groups.invariant.due some in
     let cut_is = next_cut c.args.primary c.args.secondary rest n c.requires.primary c.requires.secondary some due c.next_group.ensures in
     let step = joined_after-next (separator_events c.args.self.now.format) c.args.self.now.format.digits c.args.primary c.args.secondary rest (take n rest) (drop n rest) cut_is.0 in
-    c.groups.invariant.rest_ends _ _ (rw (step, ← c.self.view_is, ← c.grouping_separator-separator.ensures) (g.met.K.EventWriter.stop _ _ _ _ _ _ c.from_residual-in_err-write_part.ensures.0 c.in_err-write_part.ensures))
+    c.groups.invariant.rest_ends _ _ (rw (step, ← c.self.view_is, ← c.grouping_separator-separator.ensures) (g.met.K.EventWriter.stop _ _ _ _ _ _ c.from_residual-in_err-part.ensures.0 c.in_err-part.ensures))
 
 pub returns-in_err-digits-2 : goal.returns-in_err-digits-2
 returns-in_err-digits-2 g c =
@@ -52,7 +52,7 @@ returns-in_err-digits-2 g c =
     let due = due_of c.args.primary c.args.secondary rest c.groups.invariant.due some in
     let cut_is = next_cut c.args.primary c.args.secondary rest n c.requires.primary c.requires.secondary some due c.next_group.ensures in
     let step = joined_after-next (separator_events c.args.self.now.format) c.args.self.now.format.digits c.args.primary c.args.secondary rest (take n rest) (drop n rest) cut_is.0 in
-    c.groups.invariant.rest_ends _ _ (rw (step, ← c.self.view_is, ← c.grouping_separator-separator.ensures, ← c.split_at-in-groups.ensures.front) (g.met.K.EventWriter.then _ _ _ _ _ _ c.in_ok-write_part.ensures (g.met.K.EventWriter.stop _ _ _ _ _ _ c.from_residual-in_err-digits-2.ensures.0 c.in_err-digits-2.ensures)))
+    c.groups.invariant.rest_ends _ _ (rw (step, ← c.self.view_is, ← c.grouping_separator-separator.ensures, ← c.split_at-in-groups.ensures.front) (g.met.K.EventWriter.then _ _ _ _ _ _ c.in_ok-part.ensures (g.met.K.EventWriter.stop _ _ _ _ _ _ c.from_residual-in_err-digits-2.ensures.0 c.in_err-digits-2.ensures)))
 
 pub groups-preserved : goal.groups-preserved
 groups-preserved g c =
@@ -62,7 +62,7 @@ groups-preserved g c =
     let due = due_of c.args.primary c.args.secondary rest c.groups.invariant.due some in
     let cut_is = next_cut c.args.primary c.args.secondary rest n c.requires.primary c.requires.secondary some due c.next_group.ensures in
     let step = joined_after-next (separator_events c.args.self.now.format) c.args.self.now.format.digits c.args.primary c.args.secondary rest (take n rest) (drop n rest) cut_is.0 in
-    let part = rw c.grouping_separator-separator.ensures at c.in_ok-write_part.ensures in
+    let part = rw c.grouping_separator-separator.ensures at c.in_ok-part.ensures in
     record {
       due = rw c.split_at-in-groups.ensures.back cut_is.1;
       below_ten = rw c.split_at-in-groups.ensures.back (All-drop (λ d. d < 10) n rest c.groups.invariant.below_ten);
