@@ -16,3 +16,6 @@ pub use writeable::{
     EventWriter, OutOfMemory, Part, PartsText, PartsWrite, WriteFault, Writeable, event_writer,
     parts_text, sink,
 };
+
+#[cfg(test)]
+mod tests;

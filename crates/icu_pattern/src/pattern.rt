@@ -2,8 +2,8 @@
 
 ghost use Rattle.std.specs.Prelude.{IsTrue};
 
-use crate::backend::{PatternBackend, SinglePlaceholder};
-use crate::error::PatternError;
+pub use crate::backend::{NoPlaceholder, PatternBackend, SinglePlaceholder};
+pub use crate::error::PatternError;
 use std::alloc::{AllocError, Global};
 use std::marker::{Model, PhantomData};
 

@@ -4,6 +4,7 @@ ghost use Rattle.writeable.specs.Events.{Event, text_events};
 ghost use Rattle.writeable.specs.Events.Event.{Char, Open, Close};
 ghost use Rattle.writeable.specs.Sink.{Writes, KeepsLimit};
 
+pub use crate::error::OutOfMemory;
 use thiserror::Error;
 
 /// The name of a part of a text, as `decimal` and `minusSign` (ICU4X, `writeable::Part`).
