@@ -1,9 +1,12 @@
 #!/usr/bin/env python3
 """Runs the gate and prints, after its own output, a table of what each crate cost: functions proved, tests, edits, and
-the processor minutes of each. Counts are read from the gate's output, minutes from the prover's processes.
+the processor minutes of each. Counts are read from the gate's output, minutes from the prover's processes. Below it stand
+the minutes from begin to end, the longest chain of tasks that wait for one another, what the same tasks take on four
+processors that do nothing else, and how much of this machine's processors its host gave to others meanwhile.
 
 usage: tests/gate_table.py [COMMAND ARGUMENT..], by default .ci/run
 """
+import heapq
 import os
 import re
 import subprocess
@@ -62,9 +65,66 @@ def counts_of(lines):
     return counts
 
 
+def waits_of(crates):
+    """The tasks that each task waits for: a proof and tests for the proofs of the crates below, edits for both."""
+    below = {}
+    with open("crates.txt") as file:
+        for line in file:
+            name, _, words = line.split("#")[0].partition(":")
+            below[name.split(" ")[0].strip()] = words.split()
+    waits = {}
+    for crate in crates:
+        proofs = [(it, "proof") for it in below.get(crate, []) if it in crates]
+        waits[crate, "proof"] = proofs
+        waits[crate, "tests"] = proofs
+        waits[crate, "edits"] = [(crate, "proof"), (crate, "tests")]
+    return waits
+
+
+def chain_of(waits, minutes):
+    """The longest chain of tasks that wait for one another, and its minutes."""
+    longest = {}
+
+    def chain(task):
+        if task not in longest:
+            before = max((chain(it) for it in waits[task]), default=(0, []))
+            longest[task] = (before[0] + minutes.get(task, 0), before[1] + [task])
+        return longest[task]
+
+    return max((chain(it) for it in waits), default=(0, []))
+
+
+def scheduled(waits, minutes, processors=4):
+    """The minutes that the tasks take with one task a processor, those with the longest chain behind them first."""
+    behind = {}
+
+    def weight(task):
+        if task not in behind:
+            after = (weight(it) for it, before in waits.items() if task in before)
+            behind[task] = minutes.get(task, 0) + max(after, default=0)
+        return behind[task]
+
+    left, running, done, now = sorted(waits, key=weight, reverse=True), [], set(), 0
+    while left or running:
+        ready = [it for it in left if done.issuperset(waits[it])]
+        for task in ready[: processors - len(running)]:
+            left.remove(task)
+            heapq.heappush(running, (now + minutes.get(task, 0), task))
+        now, ended = heapq.heappop(running)
+        done.add(ended)
+    return now
+
+
+def host():
+    """The minutes that this machine's processors have worked so far, and those that its host gave to others instead."""
+    with open("/proc/stat") as file:
+        ticks = [int(it) for it in file.readline().split()[1:9]]
+    return sum(ticks[:3] + ticks[5:7]) / TICKS / 60, ticks[7] / TICKS / 60
+
+
 def main():
     command = sys.argv[1:] or [".ci/run"]
-    began, spent, lines = time.time(), {}, []
+    began, spent, lines, before = time.time(), {}, [], host()
     gate = subprocess.Popen(command, stdout=subprocess.PIPE, stderr=subprocess.STDOUT, text=True, errors="replace")
 
     def watch():
@@ -82,13 +142,19 @@ def main():
         minutes[task] = minutes.get(task, 0) + seconds / 60
     print("\n| crate | functions | minutes | tests | minutes | edits | minutes |")
     print("|---|---|---|---|---|---|---|")
-    sums = [0] * 6
-    for crate, count in counts_of(lines).items():
+    sums, counts = [0] * 6, counts_of(lines)
+    for crate, count in counts.items():
         row = [cell for task in TASKS for cell in (count[task], minutes.get((crate, task), 0))]
         sums = [a + b for a, b in zip(sums, row)]
         print(f"| `{crate}` | " + " | ".join(f"{cell:.1f}" if at % 2 else str(cell) for at, cell in enumerate(row)) + " |")
     print("| together | " + " | ".join(f"{cell:.0f}" for cell in sums) + " |")
     print(f"\nprocessor minutes {sum(minutes.values()):.0f}, minutes from begin to end {(time.time() - began) / 60:.0f}")
+    waits = waits_of(counts)
+    length, chain = chain_of(waits, minutes)
+    print(f"longest chain {length:.0f} minutes: " + ", ".join(" ".join(it) for it in chain))
+    print(f"the same tasks on four free processors {scheduled(waits, minutes):.0f} minutes")
+    worked, lost = (b - a for a, b in zip(before, host()))
+    print(f"this machine worked {worked:.0f} processor minutes; its host gave {lost:.0f} more to others")
     return status
 
 

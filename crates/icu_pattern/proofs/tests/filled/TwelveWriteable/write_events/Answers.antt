@@ -1,5 +1,5 @@
 -- A call that succeeded, and the calls after it: `then`. The call that failed: `stop`.
-use Rattle.icu_pattern.proofs.tests.patterns.TwelveWriteable.write_events.Goals as goal
+use Rattle.icu_pattern.proofs.tests.filled.TwelveWriteable.write_events.Goals as goal
 
 pub returns-in_err-open : goal.returns-in_err-open
 returns-in_err-open g c = g.met.K.EventWriter.stop _ _ _ _ _ _ c.from_residual.ensures.0 c.in_err-open.ensures
