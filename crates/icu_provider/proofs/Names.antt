@@ -1,5 +1,5 @@
--- The names of numbering systems.
-use Rattle.std.proofs.Common.{◌≡◌, ℕ, ◌-◌, ◌<◌, ◌≤◌, List, ◌++◌, true, length, take, drop, replicate, refl, sym, ap, ◌∙◌, arith}
+-- Short texts in arrays of bytes.
+use Rattle.std.proofs.Common.{◌≡◌, ℕ, ◌-◌, ◌<◌, ◌≤◌, Bool, List, ◌++◌, true, length, take, drop, replicate, refl, sym, ap, ◌∙◌, arith}
 use Rattle.std.specs.Prelude.{IsUtf8}
 use Rattle.std.specs.List.{list_all}
 use Rattle.std.proofs.lemmas.Bool.Decides.{nat_tests}
@@ -8,41 +8,60 @@ use Rattle.std.proofs.lemmas.List.Sums.{AllPass-from_list_all}
 use Rattle.std.proofs.lemmas.List.Elements.{All-weaker}
 use Rattle.std.proofs.lemmas.Str.{IsUtf8-from_ascii}
 use Rattle.std.proofs.lemmas.Str.Ascii.{IsAscii-from_all}
-use Rattle.icu_provider.specs.NumberingSystem.{is_lower_alphanumeric, is_numbering_system, IsNumberingSystem, IsPaddedName}
+use Rattle.icu_provider.specs.Ascii.{is_lower_alphanumeric, is_alphanumeric_or_hyphen}
+use Rattle.icu_provider.specs.NumberingSystem.{is_numbering_system, IsNumberingSystem}
+use Rattle.icu_provider.specs.Locale.{is_locale, IsLocale}
+use Rattle.icu_provider.specs.Padded.{IsPadded}
 
--- a name has three to eight bytes
+-- a name of a numbering system has three to eight bytes
 pub length-of_name : (text : List ℕ) → IsNumberingSystem text → (3 ≤ length text) × (length text ≤ 8)
 unfolding is_numbering_system
 length-of_name text h = grind (arith, nat_tests)
+
+-- the text of a locale has one to sixty-three bytes
+pub length-of_locale : (text : List ℕ) → IsLocale text → (1 ≤ length text) × (length text ≤ 63)
+unfolding is_locale
+length-of_locale text h = grind (arith, nat_tests)
 
 letters : (text : List ℕ) → IsNumberingSystem text → list_all is_lower_alphanumeric text ≡ true
 unfolding is_numbering_system
 letters text h = grind (arith, nat_tests)
 
+letters-of_locale : (text : List ℕ) → IsLocale text → list_all is_alphanumeric_or_hyphen text ≡ true
+unfolding is_locale
+letters-of_locale text h = grind (arith, nat_tests)
+
+-- bytes of ASCII are text
+IsUtf8-passed : (test : ℕ → Bool) (text : List ℕ) → ((b : ℕ) → test b ≡ true → b < 128) → list_all test text ≡ true → IsUtf8 text
+IsUtf8-passed test text small h =
+    IsUtf8-from_ascii text (IsAscii-from_all text (All-weaker (λ b. test b ≡ true) (λ b. b < 128) small text (AllPass-from_list_all test text h)))
+
 -- a name is text, since it is ASCII
 pub IsUtf8-name : (text : List ℕ) → IsNumberingSystem text → IsUtf8 text
-IsUtf8-name text h =
-    let all = AllPass-from_list_all is_lower_alphanumeric text (letters text h) in
-    IsUtf8-from_ascii text (IsAscii-from_all text (All-weaker (λ b. is_lower_alphanumeric b ≡ true) (λ b. b < 128) (λ b e. grind (arith, nat_tests)) text all))
+IsUtf8-name text h = IsUtf8-passed is_lower_alphanumeric text (λ b e. grind (arith, nat_tests)) (letters text h)
 
-abbrev zeros : List ℕ
-zeros = replicate 8 0
+-- a locale is text, since it is ASCII
+pub IsUtf8-locale : (text : List ℕ) → IsLocale text → IsUtf8 text
+IsUtf8-locale text h = IsUtf8-passed is_alphanumeric_or_hyphen text (λ b e. grind (arith, nat_tests)) (letters-of_locale text h)
 
--- a name and zeros after it
-pub IsPaddedName-of : (text : List ℕ) → IsNumberingSystem text → IsPaddedName (text ++ drop (length text) (replicate 8 0)) (length text)
-IsPaddedName-of text h =
-    let size = length-of_name text h in
-    let more : ℕ = 8 - length text in
-    let rest : drop (length text) zeros ≡ replicate more 0 = drop-replicate (length text) 8 0 in
-    let name : take (length text) (text ++ drop (length text) zeros) ≡ text = take_at text (drop (length text) zeros) (length text) refl in
-    let size_of_rest : length (drop (length text) zeros) ≡ 8 - length text = ap length rest ∙ length-replicate more 0 in
+-- a text and zeros after it
+pub IsPadded-of : (IsText : List ℕ → Type 0) (size : ℕ) (text : List ℕ) → length text ≤ size → IsText text → IsPadded IsText size (text ++ drop (length text) (replicate size 0)) (length text)
+IsPadded-of IsText size text fits h =
+    let more : ℕ = size - length text in
+    let zeros : List ℕ = replicate size 0 in
+    let rest : drop (length text) zeros ≡ replicate more 0 = drop-replicate (length text) size 0 in
+    let same : take (length text) (text ++ drop (length text) zeros) ≡ text = take_at text (drop (length text) zeros) (length text) refl in
+    let size_of_rest : length (drop (length text) zeros) ≡ size - length text = ap length rest ∙ length-replicate more 0 in
     record {
-      long = omega (arith, size.1, size_of_rest, length-append text (drop (length text) zeros));
-      fits = size.1;
-      padded = ap (λ (t : List ℕ). text ++ t) rest ∙ ap (λ (t : List ℕ). t ++ replicate more 0) (sym name);
-      name = rw name h;
+      long = omega (arith, fits, size_of_rest, length-append text (drop (length text) zeros));
+      fits = fits;
+      padded = ap (λ (t : List ℕ). text ++ t) rest ∙ ap (λ (t : List ℕ). t ++ replicate more 0) (sym same);
+      text = rw same h;
     }
 
 -- so many zeros are there to be written over
-pub length-zeros : (text : List ℕ) → IsNumberingSystem text → length (take (length text) zeros) ≡ length text
-length-zeros text h = length-take-le (length text) zeros (length-of_name text h).1
+pub length-zeros : (size : ℕ) (text : List ℕ) → length text ≤ size → length {A = ℕ} (take (length text) (replicate size 0)) ≡ length text
+length-zeros size text fits =
+    let zeros : List ℕ = replicate size 0 in
+    let size_of_zeros : length zeros ≡ size = length-replicate size 0 in
+    length-take-le (length text) zeros (omega (arith, fits, size_of_zeros))

@@ -2,7 +2,8 @@
 
 ghost use Rattle.std.specs.Prelude.{◌≡◌, ◌↔◌, IsTrue, IsOk, IfOk, ⊤, nat_eq};
 ghost use Rattle.std.specs.List.{list_all};
-ghost use Rattle.icu_provider.specs.NumberingSystem.{is_lower_alphanumeric, is_numbering_system, IsNumberingSystem};
+ghost use Rattle.icu_provider.specs.Ascii.{is_lower_alphanumeric};
+ghost use Rattle.icu_provider.specs.NumberingSystem.{is_numbering_system, IsNumberingSystem};
 
 use std::alloc::AllocError;
 use std::marker::Model;
@@ -24,17 +25,18 @@ pub struct NumberingSystem {
 
 impl Model for NumberingSystem {
     ghost use Rattle.std.specs.Prelude.{ℕ, ◌-◌, List, ◌++◌, length, take, replicate};
-    ghost use Rattle.icu_provider.specs.NumberingSystem.{IsPaddedName, length-name, padded-name};
+    ghost use Rattle.icu_provider.specs.NumberingSystem.{IsNumberingSystem};
+    ghost use Rattle.icu_provider.specs.Padded.{IsPadded, length-text, padded-text};
 
     ghost Value = { List ℕ };
 
     ghost view = { λ s. take s.len s.bytes };
 
-    ghost invariant = { λ s. IsPaddedName s.bytes s.len };
+    ghost invariant = { λ s. IsPadded IsNumberingSystem 8 s.bytes s.len };
 
     ghost inverse = { λ text. record { bytes = text ++ replicate (8 - length text) 0; len = length text } };
 
-    ghost inverse_ok = { λ s h i. record { bytes = padded-name s.bytes s.len h i; len = length-name s.bytes s.len h i } };
+    ghost inverse_ok = { λ s h i. record { bytes = padded-text IsNumberingSystem 8 s.bytes s.len h i; len = length-text IsNumberingSystem 8 s.bytes s.len h i } };
 }
 
 fn is_lower_alphanumeric_byte(byte: u8) -> bool

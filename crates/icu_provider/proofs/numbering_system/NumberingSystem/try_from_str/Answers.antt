@@ -1,15 +1,16 @@
 use Rattle.std.proofs.Common.{rules, sym}
-use Rattle.icu_provider.proofs.Names.{length-of_name, length-zeros, IsPaddedName-of}
+use Rattle.icu_provider.specs.NumberingSystem.{IsNumberingSystem}
+use Rattle.icu_provider.proofs.Names.{length-of_name, length-zeros, IsPadded-of}
 use Rattle.icu_provider.proofs.numbering_system.NumberingSystem.try_from_str.Goals as goal
 
 pub slice_bounds-bytes-end : goal.slice_bounds-bytes-end
 slice_bounds-bytes-end c = (length-of_name c.as_bytes-name.result.now (search rules)).1
 
 pub slice_bounds-copy_from_slice-end : goal.slice_bounds-copy_from_slice-end
-slice_bounds-copy_from_slice-end c = sym (length-zeros c.as_bytes-name.result.now (search rules))
+slice_bounds-copy_from_slice-end c = sym (length-zeros 8 c.as_bytes-name.result.now (length-of_name c.as_bytes-name.result.now (search rules)).1)
 
 pub copy_from_slice-requires : goal.copy_from_slice-requires
-copy_from_slice-requires c = length-zeros c.as_bytes-name.result.now (search rules)
+copy_from_slice-requires c = length-zeros 8 c.as_bytes-name.result.now (length-of_name c.as_bytes-name.result.now (search rules)).1
 
 pub invariant_of-result : goal.invariant_of-result
-invariant_of-result c = rw c.copy_from_slice.ensures.after (IsPaddedName-of c.as_bytes-name.result.now (search rules))
+invariant_of-result c = rw c.copy_from_slice.ensures.after (IsPadded-of IsNumberingSystem 8 c.as_bytes-name.result.now (length-of_name c.as_bytes-name.result.now (search rules)).1 (search rules))

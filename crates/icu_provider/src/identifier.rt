@@ -1,0 +1,68 @@
+//! What data is asked by.
+
+ghost use Rattle.std.specs.Prelude.{◌≡◌, Some, None, codes, option_map};
+ghost use Rattle.icu_provider.specs.Identifier.{identifier_of};
+
+use crate::locale::DataLocale;
+
+/// What data is asked by: the name of a numbering system, or none, and a locale (ICU4X, `DataIdentifierBorrowed`, whose
+/// marker attributes are the numbering system here).
+#[derive(Clone, Copy, Debug, PartialEq, Eq)]
+pub struct DataIdentifierBorrowed<'a> {
+    system: Option<&'a str>,
+    locale: &'a str,
+}
+
+impl<'a> DataIdentifierBorrowed<'a> {
+    /// The locale, without a numbering system.
+    pub fn for_locale(locale: &'a DataLocale) -> Self
+        ensures { identifier_of result ≡ record { system = None; locale = locale.entry.now } }
+    {
+        DataIdentifierBorrowed {
+            system: None,
+            locale: locale.as_str(),
+        }
+    }
+
+    /// A numbering system by any text, in the undetermined locale, `und`.
+    pub fn for_marker_attributes(system: &'a str) -> Self
+        ensures { identifier_of result ≡ record { system = Some system.entry.now; locale = codes "und" } }
+    {
+        DataIdentifierBorrowed {
+            system: Some(system),
+            locale: "und",
+        }
+    }
+
+    /// A numbering system by any text, in a locale.
+    pub fn for_marker_attributes_and_locale(system: &'a str, locale: &'a DataLocale) -> Self
+        ensures { identifier_of result ≡ record { system = Some system.entry.now; locale = locale.entry.now } }
+    {
+        DataIdentifierBorrowed {
+            system: Some(system),
+            locale: locale.as_str(),
+        }
+    }
+
+    /// The name of the numbering system.
+    pub fn system(&self) -> Option<&'a str>
+        ensures { option_map (λ s. s.now) result ≡ (identifier_of self.now).system }
+    {
+        self.system
+    }
+
+    /// The text of the locale.
+    pub fn locale(&self) -> &'a str
+        ensures { result.now ≡ (identifier_of self.now).locale }
+    {
+        self.locale
+    }
+}
+
+/// A question to a provider of data (ICU4X, `DataRequest`).
+#[derive(Clone, Copy, Debug)]
+pub struct DataRequest<'a> {
+    pub id: DataIdentifierBorrowed<'a>,
+    /// Whether a provider need not report that it has no data, since another identifier is asked then.
+    pub silent: bool,
+}
