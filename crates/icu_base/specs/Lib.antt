@@ -10,7 +10,12 @@ pub use Rattle.icu_pattern.specs.Backends
 pub use Rattle.icu_pattern.specs.Filled
 pub use Rattle.icu_pattern.specs.Patterns
 pub use Rattle.icu_pattern.specs.Refs
+pub use Rattle.icu_provider.specs.Answer
+pub use Rattle.icu_provider.specs.Ascii
+pub use Rattle.icu_provider.specs.Identifier
+pub use Rattle.icu_provider.specs.Locale
 pub use Rattle.icu_provider.specs.NumberingSystem
+pub use Rattle.icu_provider.specs.Padded
 pub use Rattle.icu_plurals.specs.ConditionLaws
 pub use Rattle.icu_plurals.specs.Drafts
 pub use Rattle.icu_plurals.specs.Elements

@@ -1,5 +1,5 @@
 //! One door to the crates that all above share: text with parts (`writeable`), patterns (`icu_pattern`), plural rules
-//! (`icu_plurals`) and names of numbering systems (`icu_provider`).
+//! (`icu_plurals`), and locales, numbering systems and providers of data (`icu_provider`).
 #![tactic(auto)]
 
 pub mod laws;
@@ -9,8 +9,15 @@ pub use icu_pattern::{
     SinglePlaceholder, interpolated, pattern,
 };
 pub use icu_plurals as plurals;
-pub use icu_plurals::{PluralCategory, PluralElements, PluralOperands, PluralRules, RulesError};
-pub use icu_provider::{BadNumberingSystem, NumberingSystem, numbering_system};
+pub use icu_plurals::{
+    PluralCategory, PluralElements, PluralOperands, PluralRules, PluralRulesPreferences,
+    PluralsCardinalV1, RulesError,
+};
+pub use icu_provider as provider;
+pub use icu_provider::{
+    BadLocale, BadNumberingSystem, DataError, DataErrorKind, DataIdentifierBorrowed, DataLocale,
+    DataMarker, DataProvider, DataRequest, NumberingSystem, identifier, locale, numbering_system,
+};
 pub use writeable;
 pub use writeable::{
     EventWriter, OutOfMemory, Part, PartsText, PartsWrite, WriteFault, Writeable, event_writer,

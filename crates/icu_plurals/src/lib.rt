@@ -9,6 +9,7 @@ pub mod elements;
 pub mod error;
 pub mod laws;
 mod lexer;
+pub mod loading;
 pub mod operands;
 mod progress;
 mod reader;
@@ -18,6 +19,7 @@ mod whole_number;
 pub use category::PluralCategory;
 pub use elements::PluralElements;
 pub use error::RulesError;
+pub use loading::{PluralRulesPreferences, PluralsCardinalV1};
 pub use operands::PluralOperands;
 pub use rules::PluralRules;
 

@@ -1,0 +1,51 @@
+//! Plural rules from a provider of data.
+
+ghost use Rattle.std.specs.Prelude.{None};
+ghost use Rattle.icu_provider.specs.Answer.{Answers};
+
+use crate::rules::PluralRules;
+use icu_provider::{
+    DataError, DataIdentifierBorrowed, DataLocale, DataMarker, DataProvider, DataRequest,
+};
+use std::alloc::Global;
+
+/// The cardinal rules of a locale (ICU4X, `PluralsCardinalV1`).
+pub struct PluralsCardinalV1;
+
+impl DataMarker for PluralsCardinalV1 {
+    type DataStruct = PluralRules;
+}
+
+/// For whom plural rules are made (ICU4X, `PluralRulesPreferences`).
+#[derive(Clone, Copy, Debug, PartialEq, Eq)]
+pub struct PluralRulesPreferences {
+    pub locale_preferences: DataLocale,
+}
+
+impl Default for PluralRulesPreferences {
+    ghost use Rattle.std.specs.Prelude.{◌≡◌, codes};
+
+    ghost is_default = { λ prefs. prefs ≡ record { locale_preferences = codes "und" } };
+
+    /// The undetermined locale, `und`.
+    fn default() -> Self {
+        PluralRulesPreferences {
+            locale_preferences: DataLocale::default(),
+        }
+    }
+}
+
+impl PluralRules {
+    /// The cardinal rules that the provider answers with. It is asked once, by the locale without a numbering system, and
+    /// isn't asked to be silent.
+    pub fn try_new_cardinal_unstable<D: DataProvider<PluralsCardinalV1>>(
+        alloc: Global,
+        provider: &D,
+        prefs: PluralRulesPreferences,
+    ) -> Result<Self, DataError>
+        ensures { Answers result (D.answer provider.now (record { system = None; locale = prefs.locale_preferences })) }
+    {
+        let id = DataIdentifierBorrowed::for_locale(&prefs.locale_preferences);
+        provider.load(alloc, &DataRequest { id, silent: false })
+    }
+}
