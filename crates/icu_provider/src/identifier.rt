@@ -1,19 +1,23 @@
 //! What data is asked by.
 
-ghost use Rattle.std.specs.Prelude.{◌≡◌, Some, None, codes, option_map};
-ghost use Rattle.icu_provider.specs.Identifier.{identifier_of};
+ghost use Rattle.icu_provider.specs.Locale.{IsLocale};
 
 use crate::locale::DataLocale;
 
 /// What data is asked by: the name of a numbering system, or none, and a locale (ICU4X, `DataIdentifierBorrowed`, whose
 /// marker attributes are the numbering system here).
-#[derive(Clone, Copy, Debug, PartialEq, Eq)]
+#[derive(Clone, Copy, Debug)]
 pub struct DataIdentifierBorrowed<'a> {
     system: Option<&'a str>,
     locale: &'a str,
+    ghost valid: { IsLocale locale.now },
 }
 
 impl<'a> DataIdentifierBorrowed<'a> {
+    ghost use Rattle.std.specs.Prelude.{◌≡◌, Some, None, codes, option_map};
+    ghost use Rattle.icu_provider.specs.Identifier.{identifier_of};
+    ghost use Rattle.icu_provider.specs.Locale.{IsLocale};
+
     /// The locale, without a numbering system.
     pub fn for_locale(locale: &'a DataLocale) -> Self
         ensures { identifier_of result ≡ record { system = None; locale = locale.entry.now } }
@@ -25,6 +29,7 @@ impl<'a> DataIdentifierBorrowed<'a> {
     }
 
     /// A numbering system by any text, in the undetermined locale, `und`.
+    #[tactic(auto, unfolding(crate::specs::Locale::is_locale))]
     pub fn for_marker_attributes(system: &'a str) -> Self
         ensures { identifier_of result ≡ record { system = Some system.entry.now; locale = codes "und" } }
     {
@@ -53,10 +58,38 @@ impl<'a> DataIdentifierBorrowed<'a> {
 
     /// The text of the locale.
     pub fn locale(&self) -> &'a str
-        ensures { result.now ≡ (identifier_of self.now).locale }
+        ensures text { result.now ≡ (identifier_of self.now).locale }
+        ensures valid { IsLocale result.now }
     {
         self.locale
     }
+}
+
+impl PartialEq for DataIdentifierBorrowed<'_> {
+    ghost use Rattle.std.specs.Prelude.{◌≡◌, ◌↔◌, IsTrue};
+    ghost use Rattle.std.specs.Cmp.{partial_equiv_from_equiv};
+    ghost use Rattle.std.specs.Ordering.{on};
+    ghost use Rattle.std.proofs.lemmas.Cmp.{on_equiv};
+    ghost use Rattle.icu_provider.specs.Identifier.{identifier_of, same_identifier, same_identifier_equiv};
+
+    ghost eq = { on identifier_of same_identifier };
+
+    ghost laws = { partial_equiv_from_equiv (on_equiv identifier_of same_identifier_equiv) };
+
+    /// Whether both the numbering systems and the locales are equal.
+    fn eq(&self, other: &Self) -> bool
+        ensures computed { result ≡ same_identifier (identifier_of self.now) (identifier_of other.now) }
+        ensures same { IsTrue result ↔ (identifier_of self.now ≡ identifier_of other.now) }
+    {
+        (self.system, self.locale) == (other.system, other.locale)
+    }
+}
+
+impl Eq for DataIdentifierBorrowed<'_> {
+    ghost use Rattle.std.proofs.lemmas.Cmp.{on_equiv};
+    ghost use Rattle.icu_provider.specs.Identifier.{identifier_of, same_identifier_equiv};
+
+    ghost laws = { on_equiv identifier_of same_identifier_equiv };
 }
 
 /// A question to a provider of data (ICU4X, `DataRequest`).

@@ -1,2 +1,6 @@
-//! Names of numbering systems.
+//! Locales and numbering systems by their texts, identifiers made of them, refusals, and providers that are asked.
+mod errors;
+mod identifiers;
+mod locales;
+mod providers;
 mod systems;
