@@ -24,6 +24,26 @@ fn category_of_plurals(category: category::PluralCategory) -> crate::PluralCateg
     category
 }
 
+fn preferences_of_plurals(
+    preferences: crate::plurals::loading::PluralRulesPreferences,
+) -> crate::PluralRulesPreferences {
+    preferences
+}
+
+fn locale_of_providers(locale: crate::locale::DataLocale) -> crate::DataLocale {
+    locale
+}
+
+fn identifier_of_providers(
+    id: crate::identifier::DataIdentifierBorrowed<'_>,
+) -> crate::DataIdentifierBorrowed<'_> {
+    id
+}
+
+fn error_of_providers(error: crate::provider::error::DataError) -> crate::DataError {
+    error
+}
+
 fn kept_as_written(
     pattern: crate::pattern::Pattern<crate::pattern::SinglePlaceholder>,
 ) -> crate::Pattern<crate::SinglePlaceholder> {

@@ -18,14 +18,18 @@ impl<'a> DataIdentifierBorrowed<'a> {
     ghost use Rattle.icu_provider.specs.Identifier.{identifier_of};
     ghost use Rattle.icu_provider.specs.Locale.{IsLocale};
 
+    fn new(system: Option<&'a str>, locale: &'a str) -> Self
+        requires { IsLocale locale.now }
+        ensures { identifier_of result ≡ record { system = option_map (λ s. s.now) system.entry; locale = locale.entry.now } }
+    {
+        DataIdentifierBorrowed { system, locale }
+    }
+
     /// The locale, without a numbering system.
     pub fn for_locale(locale: &'a DataLocale) -> Self
         ensures { identifier_of result ≡ record { system = None; locale = locale.entry.now } }
     {
-        DataIdentifierBorrowed {
-            system: None,
-            locale: locale.as_str(),
-        }
+        Self::new(None, locale.as_str())
     }
 
     /// A numbering system by any text, in the undetermined locale, `und`.
@@ -33,20 +37,14 @@ impl<'a> DataIdentifierBorrowed<'a> {
     pub fn for_marker_attributes(system: &'a str) -> Self
         ensures { identifier_of result ≡ record { system = Some system.entry.now; locale = codes "und" } }
     {
-        DataIdentifierBorrowed {
-            system: Some(system),
-            locale: "und",
-        }
+        Self::new(Some(system), "und")
     }
 
     /// A numbering system by any text, in a locale.
     pub fn for_marker_attributes_and_locale(system: &'a str, locale: &'a DataLocale) -> Self
         ensures { identifier_of result ≡ record { system = Some system.entry.now; locale = locale.entry.now } }
     {
-        DataIdentifierBorrowed {
-            system: Some(system),
-            locale: locale.as_str(),
-        }
+        Self::new(Some(system), locale.as_str())
     }
 
     /// The name of the numbering system.

@@ -70,10 +70,17 @@ impl DataLocale {
         if !is_locale_text(locale) {
             return Err(BadLocale);
         }
+        Ok(Self::from_bytes(locale))
+    }
+
+    fn from_bytes(locale: &[u8]) -> Self
+        requires { IsLocale locale.now }
+        ensures { result ≡ locale.now }
+    {
         let len = locale.len();
         let mut bytes = [0; 63];
         bytes[..len].copy_from_slice(locale);
-        Ok(DataLocale { bytes, len })
+        DataLocale { bytes, len }
     }
 
     /// The text.
@@ -92,11 +99,9 @@ impl Default for DataLocale {
     ghost is_default = { λ locale. locale ≡ codes "und" };
 
     /// The undetermined locale, `und` (UTS 35, Unknown or Invalid Identifiers).
+    #[tactic(auto, unfolding(crate::specs::Locale::is_locale))]
     fn default() -> Self {
-        let und = b"und";
-        let mut bytes = [0; 63];
-        bytes[..3].copy_from_slice(und);
-        DataLocale { bytes, len: 3 }
+        Self::from_bytes(b"und")
     }
 }
 

@@ -68,10 +68,17 @@ impl NumberingSystem {
         if !is_name(name) {
             return Err(BadNumberingSystem);
         }
+        Ok(Self::from_bytes(name))
+    }
+
+    fn from_bytes(name: &[u8]) -> Self
+        requires { IsNumberingSystem name.now }
+        ensures { result ≡ name.now }
+    {
         let len = name.len();
         let mut bytes = [0; 8];
         bytes[..len].copy_from_slice(name);
-        Ok(NumberingSystem { bytes, len })
+        NumberingSystem { bytes, len }
     }
 
     /// The name.
