@@ -8,3 +8,4 @@ pub mod CompactFaults
 pub mod KeptSince
 pub mod SameTable
 pub mod Faithful
+pub mod Decided

@@ -1,19 +1,24 @@
-//! Number symbols and compact patterns of a locale, as ICU4X's data provider hands them to a decimal formatter.
+//! Number symbols and compact patterns of a locale, as ICU4X's data provider hands them to a decimal formatter; their
+//! markers, and the order in which a provider is asked for them.
 #![tactic(auto)]
 
 mod compact;
 mod compact_entry;
 mod decimal_symbols;
 mod error;
+mod fallback;
 mod grouping_sizes;
 mod kept;
 pub mod laws;
+mod markers;
 mod symbols;
 
 pub use compact::CompactPatterns;
 pub use decimal_symbols::DecimalSymbols;
 pub use error::{CompactError, SymbolsError};
+pub use fallback::load_with_fallback;
 pub use grouping_sizes::GroupingSizes;
+pub use markers::{DecimalCompactLongV1, DecimalCompactShortV1, DecimalDigitsV1, DecimalSymbolsV1};
 pub use symbols::{DecimalSymbolStrsBuilder, DecimalSymbolsStrs};
 
 #[cfg(test)]

@@ -9,6 +9,7 @@ use std::alloc::Global;
 use std::str;
 
 mod compact;
+mod fallback;
 mod tables;
 
 /// The seven texts in their order: both minus signs, both plus signs, both separators, the system.

@@ -1,0 +1,48 @@
+//! In which order a provider is asked.
+
+ghost use Rattle.std.specs.Prelude.{map};
+ghost use Rattle.icu_provider.specs.Answer.{Answers};
+ghost use Rattle.icu_provider.specs.Identifier.{identifier_of};
+ghost use Rattle.icu_decimal_data.specs.Decided.{decided};
+
+use icu_provider::{
+    DataError, DataErrorKind, DataIdentifierBorrowed, DataMarker, DataProvider, DataRequest,
+};
+use std::alloc::Global;
+
+/// What a provider answers by the first of the identifiers by which it has data.
+///
+/// The identifiers are asked in their order, all but the last silently. An answer other than `IdentifierNotFound` ends
+/// the search, so later identifiers aren't asked then; the last one's answer stands whatever it is. Without identifiers
+/// this is no request, and `InvalidRequest`.
+pub fn load_with_fallback<M: DataMarker, D: DataProvider<M>>(
+    alloc: Global,
+    provider: &D,
+    ids: &[DataIdentifierBorrowed<'_>],
+) -> Result<M::DataStruct, DataError>
+    ensures { Answers result (decided (map (λ id. D.answer provider.now (identifier_of id)) ids.now)) }
+{
+    let Some((last, others)) = ids.split_last() else {
+        return Err(DataError::from(DataErrorKind::InvalidRequest));
+    };
+    for id in others {
+        let request = DataRequest {
+            id: *id,
+            silent: true,
+        };
+        match provider.load(alloc, &request) {
+            Err(
+                DataError {
+                    kind: DataErrorKind::IdentifierNotFound,
+                    ..
+                },
+            ) => {}
+            decided => return decided,
+        }
+    }
+    let request = DataRequest {
+        id: *last,
+        silent: false,
+    };
+    provider.load(alloc, &request)
+}
