@@ -13,3 +13,5 @@ pub mod CompactLaws
 pub mod CompactFormat
 pub mod PatternGiven
 pub mod ExponentMismatch
+pub mod Loaded
+pub mod Preferences

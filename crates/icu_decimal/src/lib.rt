@@ -11,8 +11,10 @@ mod formatted_decimal;
 mod formatted_sign;
 pub mod grouper;
 pub mod laws;
+mod loading;
 pub mod options;
 pub mod parts;
+pub mod preferences;
 pub mod provider;
 #[cfg(test)]
 mod tests;
@@ -28,3 +30,4 @@ pub use decimal_formatter::DecimalFormatter;
 pub use formatted_compact::{FormattedUnsignedCompactDecimal, InterpolatedDecimal};
 pub use formatted_decimal::{FormattedDecimal, FormattedUnsignedDecimal};
 pub use formatted_sign::FormattedSign;
+pub use preferences::DecimalFormatterPreferences;

@@ -1,0 +1,166 @@
+//! Formatters that are made of what a provider answers.
+
+ghost use Rattle.std.specs.Prelude.{map, option_map};
+ghost use Rattle.icu_base.specs.Answer.{Answers};
+ghost use Rattle.icu_base.specs.Identifier.{identifier_of};
+ghost use Rattle.icu_decimal_data.specs.Decided.{decided};
+ghost use Rattle.icu_decimal.specs.Loaded.{loaded, loaded_compact};
+ghost use Rattle.icu_decimal.specs.Preferences.{asked};
+
+use crate::compact_formatter::CompactDecimalFormatter;
+use crate::decimal_formatter::DecimalFormatter;
+use crate::options::{CompactDecimalFormatterOptions, DecimalFormatterOptions};
+use crate::preferences::{CompactDecimalFormatterPreferences, DecimalFormatterPreferences};
+use icu_base::{
+    DataError, DataIdentifierBorrowed, DataMarker, DataProvider, PluralRules,
+    PluralRulesPreferences, PluralsCardinalV1, SinglePlaceholder,
+};
+use icu_decimal_data::{
+    CompactPatterns, DecimalCompactLongV1, DecimalCompactShortV1, DecimalDigitsV1, DecimalSymbolsV1,
+    load_with_fallback,
+};
+use std::alloc::Global;
+
+/// What the provider answers by the preferred identifier, if there is one and it has data by it, and else by the other.
+fn load_preferred<M: DataMarker, D: DataProvider<M>>(
+    alloc: Global,
+    provider: &D,
+    preferred: Option<DataIdentifierBorrowed<'_>>,
+    other: DataIdentifierBorrowed<'_>,
+) -> Result<M::DataStruct, DataError>
+    ensures { Answers result (decided (map (D.answer provider.now) (asked (option_map identifier_of preferred.entry) (identifier_of other.entry)))) }
+{
+    match preferred {
+        Some(preferred) => load_with_fallback::<M, D>(alloc, provider, &[preferred, other]),
+        None => load_with_fallback::<M, D>(alloc, provider, &[other]),
+    }
+}
+
+impl DecimalFormatter {
+    /// The formatter of what a provider answers.
+    ///
+    /// The symbols are asked for by the preferred numbering system in the locale, if one is preferred, and else by the
+    /// locale. Then the digits are asked for by the preferred system in the locale, and else by the system that the
+    /// symbols name, in the undetermined locale. So digits of a preferred system stand beside the symbols of the locale
+    /// where it has none of that system, and a system that nobody knows leaves the locale its own.
+    ///
+    /// The first refusal is answered, with its context; `OutOfMemory` also where memory is wanting.
+    pub fn try_new_unstable<
+        D: DataProvider<DecimalSymbolsV1> + DataProvider<DecimalDigitsV1>,
+    >(
+        alloc: Global,
+        provider: &D,
+        prefs: DecimalFormatterPreferences,
+        options: DecimalFormatterOptions,
+    ) -> Result<Self, DataError>
+        ensures { Answers result
+            (loaded (⟦<D as DataProvider<DecimalSymbolsV1>>⟧.answer provider.now)
+            (⟦<D as DataProvider<DecimalDigitsV1>>⟧.answer provider.now)
+            prefs options) }
+    {
+        let locale = &prefs.locale_preferences;
+        let preferred = prefs.nu_id(locale);
+        let symbols = load_preferred::<DecimalSymbolsV1, D>(
+            alloc,
+            provider,
+            preferred,
+            DataIdentifierBorrowed::for_locale(locale),
+        )?;
+        let digits = load_preferred::<DecimalDigitsV1, D>(
+            alloc,
+            provider,
+            preferred,
+            DataIdentifierBorrowed::for_marker_attributes(symbols.numsys()),
+        )?;
+        Ok(DecimalFormatter::from_parts(symbols, digits, options))
+    }
+}
+
+impl CompactDecimalFormatter {
+    /// The formatter of what a provider answers, with the short patterns, as `15K`.
+    ///
+    /// First the plain formatter is made, as `DecimalFormatter::try_new_unstable` makes it. Then plural rules are asked
+    /// for by the locale, and then patterns by the preferred numbering system in the locale, if one is preferred, and
+    /// else by the locale. The first refusal is answered, with its context; `OutOfMemory` also where memory is wanting.
+    pub fn try_new_short_unstable<
+        D: DataProvider<DecimalCompactShortV1>
+            + DataProvider<DecimalSymbolsV1>
+            + DataProvider<DecimalDigitsV1>
+            + DataProvider<PluralsCardinalV1>,
+    >(
+        alloc: Global,
+        provider: &D,
+        prefs: CompactDecimalFormatterPreferences,
+        options: CompactDecimalFormatterOptions,
+    ) -> Result<Self, DataError>
+        ensures { Answers result
+            (loaded_compact (⟦<D as DataProvider<DecimalSymbolsV1>>⟧.answer provider.now)
+            (⟦<D as DataProvider<DecimalDigitsV1>>⟧.answer provider.now)
+            (⟦<D as DataProvider<PluralsCardinalV1>>⟧.answer provider.now)
+            (⟦<D as DataProvider<DecimalCompactShortV1>>⟧.answer provider.now)
+            prefs options) }
+    {
+        load_compact::<DecimalCompactShortV1, D>(alloc, provider, &prefs, options)
+    }
+
+    /// The same with the long patterns, as `15 thousand`.
+    pub fn try_new_long_unstable<
+        D: DataProvider<DecimalCompactLongV1>
+            + DataProvider<DecimalSymbolsV1>
+            + DataProvider<DecimalDigitsV1>
+            + DataProvider<PluralsCardinalV1>,
+    >(
+        alloc: Global,
+        provider: &D,
+        prefs: CompactDecimalFormatterPreferences,
+        options: CompactDecimalFormatterOptions,
+    ) -> Result<Self, DataError>
+        ensures { Answers result
+            (loaded_compact (⟦<D as DataProvider<DecimalSymbolsV1>>⟧.answer provider.now)
+            (⟦<D as DataProvider<DecimalDigitsV1>>⟧.answer provider.now)
+            (⟦<D as DataProvider<PluralsCardinalV1>>⟧.answer provider.now)
+            (⟦<D as DataProvider<DecimalCompactLongV1>>⟧.answer provider.now)
+            prefs options) }
+    {
+        load_compact::<DecimalCompactLongV1, D>(alloc, provider, &prefs, options)
+    }
+}
+
+/// The compact formatter with the patterns of a marker.
+fn load_compact<
+    M: DataMarker<DataStruct = CompactPatterns<SinglePlaceholder>>,
+    D: DataProvider<M>
+        + DataProvider<DecimalSymbolsV1>
+        + DataProvider<DecimalDigitsV1>
+        + DataProvider<PluralsCardinalV1>,
+>(
+    alloc: Global,
+    provider: &D,
+    prefs: &CompactDecimalFormatterPreferences,
+    options: CompactDecimalFormatterOptions,
+) -> Result<CompactDecimalFormatter, DataError>
+    ensures { Answers result
+        (loaded_compact (⟦<D as DataProvider<DecimalSymbolsV1>>⟧.answer provider.now)
+        (⟦<D as DataProvider<DecimalDigitsV1>>⟧.answer provider.now)
+        (⟦<D as DataProvider<PluralsCardinalV1>>⟧.answer provider.now)
+        (⟦<D as DataProvider<M>>⟧.answer provider.now)
+        prefs.now options) }
+{
+    let plain = DecimalFormatterPreferences::from(prefs);
+    let formatter =
+        DecimalFormatter::try_new_unstable::<D>(alloc, provider, plain, options.into())?;
+    let rules = PluralRules::try_new_cardinal_unstable::<D>(
+        alloc,
+        provider,
+        PluralRulesPreferences::from(prefs),
+    )?;
+    let plain = DecimalFormatterPreferences::from(prefs);
+    let locale = &prefs.locale_preferences;
+    let patterns = load_preferred::<M, D>(
+        alloc,
+        provider,
+        plain.nu_id(locale),
+        DataIdentifierBorrowed::for_locale(locale),
+    )?;
+    Ok(CompactDecimalFormatter::from_parts(formatter, rules, patterns))
+}
