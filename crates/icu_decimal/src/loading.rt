@@ -16,8 +16,8 @@ use icu_base::{
     PluralRulesPreferences, PluralsCardinalV1, SinglePlaceholder,
 };
 use icu_decimal_data::{
-    CompactPatterns, DecimalCompactLongV1, DecimalCompactShortV1, DecimalDigitsV1, DecimalSymbolsV1,
-    load_with_fallback,
+    CompactPatterns, DecimalCompactLongV1, DecimalCompactShortV1, DecimalDigitsV1,
+    DecimalSymbolsV1, load_with_fallback,
 };
 use std::alloc::Global;
 
@@ -45,9 +45,7 @@ impl DecimalFormatter {
     /// where it has none of that system, and a system that nobody knows leaves the locale its own.
     ///
     /// The first refusal is answered, with its context; `OutOfMemory` also where memory is wanting.
-    pub fn try_new_unstable<
-        D: DataProvider<DecimalSymbolsV1> + DataProvider<DecimalDigitsV1>,
-    >(
+    pub fn try_new_unstable<D: DataProvider<DecimalSymbolsV1> + DataProvider<DecimalDigitsV1>>(
         alloc: Global,
         provider: &D,
         prefs: DecimalFormatterPreferences,
@@ -147,8 +145,12 @@ fn load_compact<
         prefs.now options) }
 {
     let plain = DecimalFormatterPreferences::from(prefs);
-    let formatter =
-        DecimalFormatter::try_new_unstable::<D>(alloc, provider, plain, options.into())?;
+    let formatter = DecimalFormatter::try_new_unstable::<D>(
+        alloc,
+        provider,
+        plain,
+        options.into(),
+    )?;
     let rules = PluralRules::try_new_cardinal_unstable::<D>(
         alloc,
         provider,

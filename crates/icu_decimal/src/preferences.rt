@@ -4,9 +4,8 @@ ghost use Rattle.std.specs.Prelude.{◌≡◌, None, codes, option_map};
 ghost use Rattle.icu_base.specs.Identifier.{identifier_of};
 ghost use Rattle.icu_decimal.specs.Preferences.{preferred_id, plain_preferences};
 
-use icu_base::{DataIdentifierBorrowed, DataLocale, PluralRulesPreferences};
-
 pub use icu_base::NumberingSystem;
+use icu_base::{DataIdentifierBorrowed, DataLocale, PluralRulesPreferences};
 
 /// For whom a decimal formatter is made (ICU4X `DecimalFormatterPreferences`).
 #[derive(Debug, Clone, Copy, PartialEq, Eq)]
@@ -35,9 +34,10 @@ impl DecimalFormatterPreferences {
         ensures { option_map identifier_of result ≡ preferred_id self.entry.now.numbering_system locale.entry.now }
     {
         match &self.numbering_system {
-            Some(system) => Some(
-                DataIdentifierBorrowed::for_marker_attributes_and_locale(system.as_str(), locale),
-            ),
+            Some(system) => Some(DataIdentifierBorrowed::for_marker_attributes_and_locale(
+                system.as_str(),
+                locale,
+            )),
             None => None,
         }
     }
@@ -57,9 +57,10 @@ impl Default for CompactDecimalFormatterPreferences {
     ghost is_default = { λ prefs. prefs ≡ record { locale_preferences = codes "und"; numbering_system = None } };
 
     fn default() -> Self {
+        let plain = DecimalFormatterPreferences::default();
         CompactDecimalFormatterPreferences {
-            locale_preferences: DataLocale::default(),
-            numbering_system: None,
+            locale_preferences: plain.locale_preferences,
+            numbering_system: plain.numbering_system,
         }
     }
 }
@@ -78,9 +79,9 @@ impl From<&CompactDecimalFormatterPreferences> for DecimalFormatterPreferences {
 impl From<&CompactDecimalFormatterPreferences> for PluralRulesPreferences {
     ghost from_gives = { λ compact plural. plural ≡ record { locale_preferences = compact.now.locale_preferences } };
 
-    fn from(compact: &CompactDecimalFormatterPreferences) -> Self {
+    fn from(prefs: &CompactDecimalFormatterPreferences) -> Self {
         PluralRulesPreferences {
-            locale_preferences: compact.locale_preferences,
+            locale_preferences: prefs.locale_preferences,
         }
     }
 }

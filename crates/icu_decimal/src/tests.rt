@@ -8,8 +8,11 @@ use std::test::Fail;
 mod carries;
 mod compact;
 mod languages;
+mod loading;
+mod one_locale;
 mod options;
 mod plain;
+mod shelf;
 mod styles;
 
 const LATIN: [char; 10] = ['0', '1', '2', '3', '4', '5', '6', '7', '8', '9'];

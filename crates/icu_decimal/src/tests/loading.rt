@@ -1,0 +1,337 @@
+//! Formatters that are made of what a provider answers: which data they take, and which refusal is answered.
+
+use super::shelf::{Refusals, Shelf};
+use crate::options::{CompactDecimalFormatterOptions, DecimalFormatterOptions, GroupingStrategy};
+use crate::preferences::{
+    CompactDecimalFormatterPreferences, DecimalFormatterPreferences, NumberingSystem,
+};
+use crate::{CompactDecimalFormatter, DecimalFormatter};
+use fixed_decimal::Decimal;
+use icu_base::{DataErrorKind, DataLocale, PluralRulesPreferences};
+use std::alloc::Global;
+
+/// Which formatter is made.
+#[derive(Clone, Copy, PartialEq, Eq)]
+enum Style {
+    Plain,
+    Short,
+    Long,
+}
+
+/// What is asked for: a style, a locale, a preferred system and a strategy.
+type Asked = (
+    Style,
+    &'static str,
+    Option<&'static str>,
+    Option<GroupingStrategy>,
+);
+
+const NO_REFUSALS: Refusals = [None; 4];
+
+fn preferences(locale: &str, system: Option<&str>) -> CompactDecimalFormatterPreferences {
+    let numbering_system = match system {
+        Some(system) => NumberingSystem::try_from_str(system).ok(),
+        None => None,
+    };
+    CompactDecimalFormatterPreferences {
+        locale_preferences: DataLocale::try_from_str(locale).unwrap_or_default(),
+        numbering_system,
+    }
+}
+
+fn plain(alloc: Global, shelf: &Shelf, asked: Asked) -> Result<DecimalFormatter, DataErrorKind> {
+    let (_, locale, system, strategy) = asked;
+    let prefs = DecimalFormatterPreferences::from(&preferences(locale, system));
+    let options = DecimalFormatterOptions {
+        grouping_strategy: strategy,
+    };
+    match DecimalFormatter::try_new_unstable(alloc, shelf, prefs, options) {
+        Ok(formatter) => Ok(formatter),
+        Err(error) => Err(error.kind),
+    }
+}
+
+fn compact(
+    alloc: Global,
+    shelf: &Shelf,
+    asked: Asked,
+) -> Result<CompactDecimalFormatter, DataErrorKind> {
+    let (style, locale, system, strategy) = asked;
+    let prefs = preferences(locale, system);
+    let options = match strategy {
+        Some(strategy) => CompactDecimalFormatterOptions::from(strategy),
+        None => CompactDecimalFormatterOptions::default(),
+    };
+    let made = match style {
+        Style::Long => {
+            CompactDecimalFormatter::try_new_long_unstable(alloc, shelf, prefs, options)
+        }
+        _ => CompactDecimalFormatter::try_new_short_unstable(alloc, shelf, prefs, options),
+    };
+    match made {
+        Ok(formatter) => Ok(formatter),
+        Err(error) => Err(error.kind),
+    }
+}
+
+/// The text of a decimal; want of memory is told as the provider's is.
+fn text_of(
+    alloc: Global,
+    shelf: &Shelf,
+    asked: Asked,
+    decimal: &Decimal,
+) -> Result<String, DataErrorKind> {
+    let written = match asked.0 {
+        Style::Plain => plain(alloc, shelf, asked)?.format_to_string(alloc, decimal),
+        _ => compact(alloc, shelf, asked)?.format_to_string(alloc, decimal),
+    };
+    match written {
+        Ok(text) => Ok(text),
+        Err(_) => Err(DataErrorKind::OutOfMemory),
+    }
+}
+
+/// Whether what is asked for writes a number so, or why it isn't made.
+fn writes_once(
+    alloc: Global,
+    refusals: Refusals,
+    asked: Asked,
+    number: &str,
+    want: &str,
+) -> Result<bool, DataErrorKind> {
+    match (
+        Shelf::made(alloc, refusals),
+        Decimal::try_from_str(alloc, number),
+    ) {
+        (Some(shelf), Ok(decimal)) => match text_of(alloc, &shelf, asked, &decimal) {
+            Ok(text) => Ok(text.as_str() == want),
+            Err(kind) => Err(kind),
+        },
+        _ => Err(DataErrorKind::OutOfMemory),
+    }
+}
+
+/// The same, asked once more where memory was wanting.
+fn writes(
+    alloc: Global,
+    refusals: Refusals,
+    asked: Asked,
+    number: &str,
+    want: &str,
+) -> Result<bool, DataErrorKind> {
+    match writes_once(alloc, refusals, asked, number, want) {
+        Err(DataErrorKind::OutOfMemory) => writes_once(alloc, refusals, asked, number, want),
+        answered => answered,
+    }
+}
+
+/// Whether a plain formatter of a locale and a preferred system writes a number so.
+fn writes_plain(
+    alloc: Global,
+    locale: &'static str,
+    system: Option<&'static str>,
+    number: &str,
+    want: &str,
+) -> bool {
+    let asked = (Style::Plain, locale, system, None);
+    writes(alloc, NO_REFUSALS, asked, number, want) == Ok(true)
+}
+
+/// A locale, a preferred system, a number, and how it is written.
+const RESOLVED: [(&str, Option<&str>, &str, &str); 9] = [
+    ("en", None, "1234", "1,234"),
+    ("en", Some("arab"), "1234", "١,٢٣٤"),
+    ("ar-EG", None, "1234", "١٬٢٣٤"),
+    ("ar-EG", Some("latn"), "1234", "1,234"),
+    ("ar-EG", Some("thai"), "1234", "๑٬๒๓๔"),
+    ("en", Some("wxyz"), "1234", "1,234"),
+    ("ar-EG", Some("wxyz"), "1234", "١٬٢٣٤"),
+    ("th", Some("thai"), "1000007", "๑,๐๐๐,๐๐๗"),
+    ("th", None, "1000007", "1,000,007"),
+];
+
+#[test]
+fn test_numbering_resolution_fallback(rt: HostRuntime) {
+    for (locale, system, number, want) in RESOLVED {
+        assert!(rt;
+            writes_plain(rt.alloc(), locale, system, number, want),
+            "{locale} {system:?}"
+        );
+    }
+}
+
+#[test]
+fn test_es_mx(rt: HostRuntime) {
+    assert!(rt; writes_plain(rt.alloc(), "es-MX", None, "12345.67", "12,345.67"));
+}
+
+/// What is asked for, a number, and how it is written.
+const WRITTEN: [(Asked, &str, &str); 12] = [
+    (
+        (Style::Plain, "en", None, Some(GroupingStrategy::Min2)),
+        "1234",
+        "1234",
+    ),
+    ((Style::Short, "en", None, None), "15000", "15K"),
+    ((Style::Short, "en", Some("arab"), None), "15000", "١٥k"),
+    ((Style::Short, "en", Some("wxyz"), None), "15000", "15K"),
+    ((Style::Short, "en", None, None), "1000000", "1000K"),
+    (
+        (Style::Short, "en", None, Some(GroupingStrategy::Always)),
+        "1000000",
+        "1,000K",
+    ),
+    (
+        (Style::Short, "en", None, Some(GroupingStrategy::Never)),
+        "10000000",
+        "10000K",
+    ),
+    ((Style::Long, "en", None, None), "1000", "1 thousand"),
+    ((Style::Long, "en", None, None), "15000", "15 thousands"),
+    (
+        (Style::Long, "en", Some("arab"), None),
+        "15000",
+        "١٥ thousands",
+    ),
+    ((Style::Long, "en", None, None), "1000000", "1000 thousands"),
+    (
+        (Style::Long, "en", None, Some(GroupingStrategy::Always)),
+        "1000000",
+        "1,000 thousands",
+    ),
+];
+
+#[test]
+fn writes_with_data_rules_patterns_and_options(rt: HostRuntime) {
+    for (asked, number, want) in WRITTEN {
+        assert!(rt;
+            writes(rt.alloc(), NO_REFUSALS, asked, number, want) == Ok(true),
+            "{want}"
+        );
+    }
+}
+
+/// What is asked for, and why it isn't made.
+const REFUSED: [(Style, &str, Option<&str>, DataErrorKind); 9] = [
+    (Style::Plain, "xx", None, DataErrorKind::IdentifierNotFound),
+    (
+        Style::Plain,
+        "xx",
+        Some("latn"),
+        DataErrorKind::IdentifierNotFound,
+    ),
+    (Style::Plain, "en", Some("nosymb"), DataErrorKind::Custom),
+    (Style::Plain, "en", Some("nodigits"), DataErrorKind::Custom),
+    (Style::Short, "en", Some("nodigits"), DataErrorKind::Custom),
+    (Style::Short, "en", Some("nopatt"), DataErrorKind::Custom),
+    (
+        Style::Short,
+        "ar-EG",
+        None,
+        DataErrorKind::IdentifierNotFound,
+    ),
+    (Style::Long, "en", Some("nosymb"), DataErrorKind::Custom),
+    (
+        Style::Long,
+        "th",
+        Some("thai"),
+        DataErrorKind::IdentifierNotFound,
+    ),
+];
+
+#[test]
+fn refuses_what_the_provider_refuses(rt: HostRuntime) {
+    for (style, locale, system, want) in REFUSED {
+        let asked = (style, locale, system, None);
+        assert!(rt;
+            writes(rt.alloc(), NO_REFUSALS, asked, "1", "") == Err(want),
+            "{locale} {system:?}"
+        );
+    }
+}
+
+const KINDS: [DataErrorKind; 5] = [
+    DataErrorKind::IdentifierNotFound,
+    DataErrorKind::MarkerNotFound,
+    DataErrorKind::InvalidRequest,
+    DataErrorKind::Custom,
+    DataErrorKind::OutOfMemory,
+];
+
+/// Whether a refusal of the symbols, the digits, the rules and the patterns each is answered, whatever is refused after
+/// it.
+fn is_answered(alloc: Global, style: Style, kind: DataErrorKind, other: DataErrorKind) -> bool {
+    let asked = (style, "en", None, None);
+    let first = Some(kind);
+    let later = Some(other);
+    writes(alloc, [first, later, later, later], asked, "1", "") == Err(kind)
+        && writes(alloc, [None, first, later, later], asked, "1", "") == Err(kind)
+        && writes(alloc, [None, None, first, later], asked, "1", "") == Err(kind)
+        && writes(alloc, [None, None, None, first], asked, "1", "") == Err(kind)
+}
+
+#[test]
+fn answers_the_first_refusal(rt: HostRuntime) {
+    for kind in KINDS {
+        assert!(rt;
+            is_answered(rt.alloc(), Style::Short, kind, DataErrorKind::Custom),
+            "{kind:?}"
+        );
+        assert!(rt;
+            is_answered(rt.alloc(), Style::Long, kind, DataErrorKind::MarkerNotFound),
+            "{kind:?}"
+        );
+    }
+}
+
+/// A preferred system in a locale of Egypt and the system and the locale of what is asked by first.
+const PREFERRED: [(Option<&str>, Option<(Option<&str>, &str)>); 2] = [
+    (None, None),
+    (Some("thai"), Some((Some("thai"), "ar-EG"))),
+];
+
+/// Whether the first identifier is so.
+fn is_asked_first(system: Option<&str>, want: Option<(Option<&str>, &str)>) -> bool {
+    let prefs = DecimalFormatterPreferences::from(&preferences("und", system));
+    let egypt = DataLocale::try_from_str("ar-EG").unwrap_or_default();
+    match (prefs.nu_id(&egypt), want) {
+        (Some(id), Some((system, locale))) => id.system() == system && id.locale() == locale,
+        (None, None) => true,
+        _ => false,
+    }
+}
+
+#[test]
+fn asks_first_by_the_preferred_system(rt: HostRuntime) {
+    for (system, want) in PREFERRED {
+        assert!(rt; is_asked_first(system, want), "{system:?}");
+    }
+}
+
+/// Whether compact preferences become plain ones, and those of plural rules, with what they hold.
+fn become_others(locale: &str, system: Option<&str>) -> bool {
+    let compact = preferences(locale, system);
+    let plain = DecimalFormatterPreferences::from(&compact);
+    let plural = PluralRulesPreferences::from(&compact);
+    plain.locale_preferences.as_str() == locale
+        && plain.numbering_system == compact.numbering_system
+        && plain.numbering_system.is_some() == system.is_some()
+        && plural.locale_preferences.as_str() == locale
+}
+
+#[test]
+fn preferences_become_others_as_they_are(rt: HostRuntime) {
+    for (locale, system) in [("ar-EG", Some("thai")), ("th", None), ("und", Some("latn"))] {
+        assert!(rt; become_others(locale, system), "{locale}");
+    }
+}
+
+#[test]
+fn preferences_are_undetermined_by_default(rt: HostRuntime) {
+    assert!(rt; CompactDecimalFormatterPreferences::default() == preferences("und", None));
+    assert!(rt;
+        DecimalFormatterPreferences::default()
+            == DecimalFormatterPreferences::from(&preferences("und", None))
+    );
+    assert!(rt; CompactDecimalFormatterPreferences::default() != preferences("und", Some("latn")));
+}

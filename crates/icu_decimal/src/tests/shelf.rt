@@ -1,0 +1,325 @@
+//! A provider that copies what it keeps, each thing by its identifier.
+
+ghost use Rattle.std.specs.Prelude.{◌≡◌, Ok, Err, find, option_map, unwrap_or};
+ghost use Rattle.std.specs.Option.{option_copied};
+ghost use Rattle.icu_base.specs.Answer.{Answers};
+ghost use Rattle.icu_base.specs.Identifier.{identifier_of, same_identifier};
+ghost use Rattle.icu_base.specs.declared.provider.error.DataErrorKind.TheVariants.{IdentifierNotFound};
+
+use super::{ENGLISH, LATIN};
+use crate::provider::{
+    CompactPatterns, DecimalCompactLongV1, DecimalCompactShortV1, DecimalDigitsV1,
+    DecimalSymbolStrsBuilder, DecimalSymbols, DecimalSymbolsV1, GroupingSizes,
+};
+use icu_base::{
+    DataError, DataErrorKind, DataIdentifierBorrowed, DataProvider, DataRequest, Pattern,
+    PluralCategory, PluralElements, PluralRules, PluralsCardinalV1, SinglePlaceholder,
+};
+use std::alloc::Global;
+use std::collections::BTreeMap;
+
+type Table = CompactPatterns<SinglePlaceholder>;
+
+/// What a provider may keep: it is made of a row of a table, and copied for each answer.
+trait Kept: Sized + Drop {
+    type Row: Copy;
+
+    /// None where memory is wanting.
+    fn made(alloc: Global, row: Self::Row) -> Option<Self>;
+
+    fn copied(&self, alloc: Global) -> Result<Self, DataError>
+        ensures { Answers result (Ok self.now) };
+}
+
+impl Kept for DecimalSymbols {
+    type Row = Texts;
+
+    fn made(
+        alloc: Global,
+        (decimal_separator, grouping_separator, numsys): Texts,
+    ) -> Option<DecimalSymbols> {
+        let builder = DecimalSymbolStrsBuilder {
+            minus_sign_prefix: "-",
+            minus_sign_suffix: "",
+            plus_sign_prefix: "+",
+            plus_sign_suffix: "",
+            decimal_separator,
+            grouping_separator,
+            numsys,
+        };
+        match builder.build(alloc) {
+            Ok(strings) => Some(DecimalSymbols {
+                strings,
+                grouping_sizes: ENGLISH,
+            }),
+            Err(_) => None,
+        }
+    }
+
+    fn copied(&self, alloc: Global) -> Result<Self, DataError> {
+        match self.copy(alloc) {
+            Ok(symbols) => Ok(symbols),
+            Err(_) => Err(DataErrorKind::OutOfMemory.into()),
+        }
+    }
+}
+
+impl Kept for [char; 10] {
+    type Row = [char; 10];
+
+    fn made(_alloc: Global, row: [char; 10]) -> Option<[char; 10]> {
+        Some(row)
+    }
+
+    fn copied(&self, _alloc: Global) -> Result<Self, DataError> {
+        Ok(*self)
+    }
+}
+
+impl Kept for PluralRules {
+    type Row = &'static [(PluralCategory, &'static str)];
+
+    fn made(alloc: Global, row: &'static [(PluralCategory, &'static str)]) -> Option<PluralRules> {
+        PluralRules::from_rules(alloc, row).ok()
+    }
+
+    fn copied(&self, alloc: Global) -> Result<Self, DataError> {
+        match self.copy(alloc) {
+            Ok(rules) => Ok(rules),
+            Err(_) => Err(DataErrorKind::OutOfMemory.into()),
+        }
+    }
+}
+
+impl Kept for Table {
+    type Row = Thousands;
+
+    fn made(alloc: Global, (one, other): Thousands) -> Option<Table> {
+        let (Ok(one), Ok(other)) = (
+            Pattern::try_new(alloc, Some(0), one),
+            Pattern::try_new(alloc, Some(0), other),
+        ) else {
+            return None;
+        };
+        let elements = PluralElements::new(other).with_one_value(Some(one));
+        let mut map = BTreeMap::new(alloc);
+        match map.insert(3, (3, elements)) {
+            Ok(_) => CompactPatterns::new(alloc, map, None).ok(),
+            Err(_) => None,
+        }
+    }
+
+    fn copied(&self, alloc: Global) -> Result<Self, DataError> {
+        match self.copy(alloc) {
+            Ok(table) => Ok(table),
+            Err(_) => Err(DataErrorKind::OutOfMemory.into()),
+        }
+    }
+}
+
+/// What is answered by a system, or none, and a locale.
+#[derive(Drop)]
+struct Entry<T> {
+    system: Option<&'static str>,
+    locale: &'static str,
+    answer: Result<T, DataErrorKind>,
+}
+
+impl<T> Entry<T> {
+    fn is_for(&self, id: &DataIdentifierBorrowed<'_>) -> bool
+        ensures { result ≡ same_identifier (record { system = option_map (λ s. s.now) self.now.system; locale = self.now.locale.now }) (identifier_of id.now) }
+    {
+        self.system == id.system() && self.locale == id.locale()
+    }
+}
+
+/// The first entry for the identifier.
+fn entry_for<'a, T>(
+    entries: &'a [Entry<T>],
+    id: &DataIdentifierBorrowed<'_>,
+) -> Option<&'a Entry<T>>
+    ensures { option_copied result ≡ find (λ e. same_identifier (record { system = option_map (λ s. s.now) e.system; locale = e.locale.now }) (identifier_of id.now)) entries.entry.now }
+{
+    entries.iter().find(|entry| entry.is_for(id))
+}
+
+/// The answer of the first entry for the identifier.
+fn look_up<T: Kept>(
+    alloc: Global,
+    entries: &[Entry<T>],
+    id: &DataIdentifierBorrowed<'_>,
+) -> Result<T, DataError>
+    ensures { Answers result (unwrap_or (option_map (λ e. e.answer) (find (λ e. same_identifier (record { system = option_map (λ s. s.now) e.system; locale = e.locale.now }) (identifier_of id.now)) entries.now)) (Err IdentifierNotFound)) }
+{
+    match entry_for(entries, id) {
+        Some(entry) => match &entry.answer {
+            Ok(kept) => kept.copied(alloc),
+            Err(kind) => Err(DataError::from(*kind)),
+        },
+        None => Err(DataErrorKind::IdentifierNotFound.into()),
+    }
+}
+
+/// What the tests' provider keeps.
+#[derive(Drop)]
+pub(super) struct Shelf {
+    symbols: Vec<Entry<DecimalSymbols>>,
+    digits: Vec<Entry<[char; 10]>>,
+    rules: Vec<Entry<PluralRules>>,
+    short: Vec<Entry<Table>>,
+    long: Vec<Entry<Table>>,
+}
+
+impl DataProvider<DecimalSymbolsV1> for Shelf {
+    ghost answer = { λ shelf id. unwrap_or (option_map (λ e. e.answer) (find (λ e. same_identifier (record { system = option_map (λ s. s.now) e.system; locale = e.locale.now }) id) shelf.symbols.items)) (Err IdentifierNotFound) };
+
+    fn load(&self, alloc: Global, request: &DataRequest<'_>) -> Result<DecimalSymbols, DataError> {
+        look_up(alloc, &self.symbols, &request.id)
+    }
+}
+
+impl DataProvider<DecimalDigitsV1> for Shelf {
+    ghost answer = { λ shelf id. unwrap_or (option_map (λ e. e.answer) (find (λ e. same_identifier (record { system = option_map (λ s. s.now) e.system; locale = e.locale.now }) id) shelf.digits.items)) (Err IdentifierNotFound) };
+
+    fn load(&self, alloc: Global, request: &DataRequest<'_>) -> Result<[char; 10], DataError> {
+        look_up(alloc, &self.digits, &request.id)
+    }
+}
+
+impl DataProvider<PluralsCardinalV1> for Shelf {
+    ghost answer = { λ shelf id. unwrap_or (option_map (λ e. e.answer) (find (λ e. same_identifier (record { system = option_map (λ s. s.now) e.system; locale = e.locale.now }) id) shelf.rules.items)) (Err IdentifierNotFound) };
+
+    fn load(&self, alloc: Global, request: &DataRequest<'_>) -> Result<PluralRules, DataError> {
+        look_up(alloc, &self.rules, &request.id)
+    }
+}
+
+impl DataProvider<DecimalCompactShortV1> for Shelf {
+    ghost answer = { λ shelf id. unwrap_or (option_map (λ e. e.answer) (find (λ e. same_identifier (record { system = option_map (λ s. s.now) e.system; locale = e.locale.now }) id) shelf.short.items)) (Err IdentifierNotFound) };
+
+    fn load(&self, alloc: Global, request: &DataRequest<'_>) -> Result<Table, DataError> {
+        look_up(alloc, &self.short, &request.id)
+    }
+}
+
+impl DataProvider<DecimalCompactLongV1> for Shelf {
+    ghost answer = { λ shelf id. unwrap_or (option_map (λ e. e.answer) (find (λ e. same_identifier (record { system = option_map (λ s. s.now) e.system; locale = e.locale.now }) id) shelf.long.items)) (Err IdentifierNotFound) };
+
+    fn load(&self, alloc: Global, request: &DataRequest<'_>) -> Result<Table, DataError> {
+        look_up(alloc, &self.long, &request.id)
+    }
+}
+
+/// What is answered by English and by the rest, kind by kind: the symbols, the digits, the rules and the patterns.
+pub(super) type Refusals = [Option<DataErrorKind>; 4];
+
+/// A decimal separator, a separator of groups, and the numbering system.
+type Texts = (&'static str, &'static str, &'static str);
+
+const ENGLISH_TEXTS: Texts = (".", ",", "latn");
+
+/// A row: a system, a locale, and what is answered by them.
+type Row<T> = (Option<&'static str>, &'static str, Result<T, DataErrorKind>);
+
+const SYMBOLS: [Row<Texts>; 6] = [
+    (None, "en", Ok(ENGLISH_TEXTS)),
+    (None, "es-MX", Ok(ENGLISH_TEXTS)),
+    (None, "th", Ok(ENGLISH_TEXTS)),
+    (None, "ar-EG", Ok(("٫", "٬", "arab"))),
+    (Some("latn"), "ar-EG", Ok(ENGLISH_TEXTS)),
+    (Some("nosymb"), "en", Err(DataErrorKind::Custom)),
+];
+
+const ARABIC: [char; 10] = ['٠', '١', '٢', '٣', '٤', '٥', '٦', '٧', '٨', '٩'];
+
+const THAI: [char; 10] = ['๐', '๑', '๒', '๓', '๔', '๕', '๖', '๗', '๘', '๙'];
+
+const DIGITS: [Row<[char; 10]>; 7] = [
+    (Some("latn"), "und", Ok(LATIN)),
+    (Some("latn"), "ar-EG", Ok(LATIN)),
+    (Some("arab"), "und", Ok(ARABIC)),
+    (Some("arab"), "en", Ok(ARABIC)),
+    (Some("thai"), "ar-EG", Ok(THAI)),
+    (Some("thai"), "th", Ok(THAI)),
+    (Some("nodigits"), "en", Err(DataErrorKind::Custom)),
+];
+
+/// What stands after one thousand, and after other numbers of thousands.
+type Thousands = (&'static str, &'static str);
+
+const SHORT: [Row<Thousands>; 3] = [
+    (None, "en", Ok(("K", "K"))),
+    (Some("arab"), "en", Ok(("k", "k"))),
+    (Some("nopatt"), "en", Err(DataErrorKind::Custom)),
+];
+
+const LONG: [Row<Thousands>; 1] = [(None, "en", Ok((" thousand", " thousands")))];
+
+const ENGLISH_RULES: &[(PluralCategory, &str)] = &[(PluralCategory::One, "i = 1 and v = 0")];
+
+const RULES: [Row<&[(PluralCategory, &str)]>; 2] = [
+    (None, "en", Ok(ENGLISH_RULES)),
+    (Some("arab"), "en", Err(DataErrorKind::Custom)),
+];
+
+/// The entries of rows, or refusals of all of them; none where memory is wanting.
+fn entries_of<T: Kept>(
+    alloc: Global,
+    rows: &[Row<T::Row>],
+    refusal: Option<DataErrorKind>,
+) -> Option<Vec<Entry<T>>> {
+    let mut entries = Vec::new(alloc);
+    for (system, locale, row) in rows {
+        let Some(answer) = answer_of(alloc, row, refusal) else {
+            return None;
+        };
+        let entry = Entry {
+            system: *system,
+            locale: *locale,
+            answer,
+        };
+        if entries.push(entry).is_err() {
+            return None;
+        }
+    }
+    Some(entries)
+}
+
+/// What is answered of a row; none where memory is wanting.
+fn answer_of<T: Kept>(
+    alloc: Global,
+    row: &Result<T::Row, DataErrorKind>,
+    refusal: Option<DataErrorKind>,
+) -> Option<Result<T, DataErrorKind>> {
+    match (refusal, row) {
+        (Some(kind), _) => Some(Err(kind)),
+        (None, Err(kind)) => Some(Err(*kind)),
+        (None, Ok(row)) => match T::made(alloc, *row) {
+            Some(kept) => Some(Ok(kept)),
+            None => None,
+        },
+    }
+}
+
+impl Shelf {
+    /// The shelf of all rows, with these refusals; none where memory is wanting.
+    pub(super) fn made(alloc: Global, refusals: Refusals) -> Option<Shelf> {
+        let [symbols, digits, rules, patterns] = refusals;
+        match (
+            entries_of(alloc, &SYMBOLS, symbols),
+            entries_of(alloc, &DIGITS, digits),
+            entries_of(alloc, &RULES, rules),
+            entries_of(alloc, &SHORT, patterns),
+            entries_of(alloc, &LONG, patterns),
+        ) {
+            (Some(symbols), Some(digits), Some(rules), Some(short), Some(long)) => Some(Shelf {
+                symbols,
+                digits,
+                rules,
+                short,
+                long,
+            }),
+            _ => None,
+        }
+    }
+}
