@@ -37,9 +37,14 @@ impl DataProvider<PluralsCardinalV1> for FrenchRules {
     }
 }
 
-fn french_rules(rt: &impl Abort, alloc: Global, refusal: DataErrorKind) -> FrenchRules {
+fn french_rules(
+    rt: &impl Abort,
+    alloc: Global,
+    rules: &[(PluralCategory, &str)],
+    refusal: DataErrorKind,
+) -> FrenchRules {
     FrenchRules {
-        rules: rules_of(rt, alloc, &FRENCH),
+        rules: rules_of(rt, alloc, rules),
         refusal,
         asked: Cell::new(0),
         aloud: Cell::new(0),
@@ -68,35 +73,42 @@ fn loaded(
     }
 }
 
-/// Whether a locale has rules that give a number this category.
+/// Whether the rules that are loaded of these give a number this category.
 fn gives(
     rt: &impl Abort,
     alloc: Global,
-    locale: &str,
+    rules: &[(PluralCategory, &str)],
     number: &str,
     category: PluralCategory,
 ) -> bool {
-    let provider = french_rules(rt, alloc, DataErrorKind::IdentifierNotFound);
-    match loaded(alloc, &provider, locale) {
+    let provider = french_rules(rt, alloc, rules, DataErrorKind::IdentifierNotFound);
+    match loaded(alloc, &provider, "fr") {
         Ok(rules) => rules.category_for(operands_of(rt, alloc, number, 0)) == category,
         Err(_) => false,
     }
 }
 
+/// A rule that takes few allocations, so that each one that copies it is refused in some run.
+const ALWAYS_TWO: &[(PluralCategory, &str)] = &[(PluralCategory::Two, "")];
+
+/// Rules, a number and its category.
+const ANSWERED: [(&[(PluralCategory, &str)], &str, PluralCategory); 4] = [
+    (ALWAYS_TWO, "1", PluralCategory::Two),
+    (&FRENCH, "1.5", PluralCategory::One),
+    (&FRENCH, "1000000", PluralCategory::Many),
+    (&FRENCH, "2", PluralCategory::Other),
+];
+
 #[test]
 fn answers_the_rules_of_the_provider(rt: HostRuntime) {
-    for (number, category) in [
-        ("1.5", PluralCategory::One),
-        ("1000000", PluralCategory::Many),
-        ("2", PluralCategory::Other),
-    ] {
-        assert!(rt; gives(&rt, rt.alloc(), "fr", number, category), "{number}");
+    for (rules, number, category) in ANSWERED {
+        assert!(rt; gives(&rt, rt.alloc(), rules, number, category), "{number}");
     }
 }
 
 /// Whether a locale is refused by the provider's own kind.
 fn is_refused(rt: &impl Abort, alloc: Global, locale: &str, kind: DataErrorKind) -> bool {
-    let provider = french_rules(rt, alloc, kind);
+    let provider = french_rules(rt, alloc, ALWAYS_TWO, kind);
     match loaded(alloc, &provider, locale) {
         Ok(_) => false,
         Err(refusal) => refusal == kind,
@@ -118,7 +130,7 @@ fn answers_the_refusal_of_the_provider(rt: HostRuntime) {
 
 /// Whether the provider is asked once for a locale, and aloud.
 fn is_asked_once(rt: &impl Abort, alloc: Global, locale: &str) -> bool {
-    let provider = french_rules(rt, alloc, DataErrorKind::IdentifierNotFound);
+    let provider = french_rules(rt, alloc, ALWAYS_TWO, DataErrorKind::IdentifierNotFound);
     let found = PluralRules::try_new_cardinal_unstable(
         alloc,
         &provider,
