@@ -10,6 +10,7 @@ use std::str;
 
 mod compact;
 mod fallback;
+mod lookups;
 mod tables;
 
 /// The seven texts in their order: both minus signs, both plus signs, both separators, the system.

@@ -4,17 +4,17 @@ ghost use Rattle.std.specs.Prelude.{Ok, Err, Some, None, codes, if◌then◌else
 ghost use Rattle.icu_base.specs.Identifier.{same_identifier};
 ghost use Rattle.icu_base.specs.declared.provider.error.DataErrorKind.TheVariants.{IdentifierNotFound};
 
-use super::LATIN;
-use crate::DecimalFormatter;
-use crate::options::{DecimalFormatterOptions, GroupingStrategy};
-use crate::preferences::DecimalFormatterPreferences;
-use crate::provider::{
-    DecimalDigitsV1, DecimalSymbolStrsBuilder, DecimalSymbols, DecimalSymbolsV1, GroupingSizes,
-    SymbolsError,
-};
+use crate::fixtures::LATIN;
 use fixed_decimal::Decimal;
 use icu_base::{
     DataError, DataErrorKind, DataIdentifierBorrowed, DataLocale, DataProvider, DataRequest,
+};
+use icu_decimal::DecimalFormatter;
+use icu_decimal::options::{DecimalFormatterOptions, GroupingStrategy};
+use icu_decimal::preferences::DecimalFormatterPreferences;
+use icu_decimal::provider::{
+    DecimalDigitsV1, DecimalSymbolStrsBuilder, DecimalSymbols, DecimalSymbolsV1, GroupingSizes,
+    SymbolsError,
 };
 use std::alloc::Global;
 

@@ -1,13 +1,15 @@
 //! Formatters that are made of what a provider answers: which data they take, and which refusal is answered.
 
-use super::shelf::{Refusals, Shelf};
-use crate::options::{CompactDecimalFormatterOptions, DecimalFormatterOptions, GroupingStrategy};
-use crate::preferences::{
-    CompactDecimalFormatterPreferences, DecimalFormatterPreferences, NumberingSystem,
-};
-use crate::{CompactDecimalFormatter, DecimalFormatter};
+use crate::shelf::{Refusals, Shelf};
 use fixed_decimal::Decimal;
 use icu_base::{DataErrorKind, DataLocale, PluralRulesPreferences};
+use icu_decimal::options::{
+    CompactDecimalFormatterOptions, DecimalFormatterOptions, GroupingStrategy,
+};
+use icu_decimal::preferences::{
+    CompactDecimalFormatterPreferences, DecimalFormatterPreferences, NumberingSystem,
+};
+use icu_decimal::{CompactDecimalFormatter, DecimalFormatter};
 use std::alloc::Global;
 
 /// Which formatter is made.

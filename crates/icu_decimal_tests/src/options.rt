@@ -1,9 +1,9 @@
-//! Options, their defaults and conversions, and the text of an exponent's refusal.
-use super::displayed;
-use crate::error::CompactExponentError;
-use crate::options::{CompactDecimalFormatterOptions, DecimalFormatterOptions, GroupingStrategy};
+//! Options, their defaults and conversions.
+
+use icu_decimal::options::{
+    CompactDecimalFormatterOptions, DecimalFormatterOptions, GroupingStrategy,
+};
 use std::hash::{DefaultHasher, Hash, Hasher};
-use std::test::Fail;
 
 const STRATEGIES: [GroupingStrategy; 4] = [
     GroupingStrategy::Auto,
@@ -70,27 +70,4 @@ fn converts_options_with_the_strategy_as_it_is(rt: HostRuntime) {
     for strategy in STRATEGIES {
         assert!(rt; converts(Some(strategy)), "{strategy:?}");
     }
-}
-
-#[test]
-fn tells_the_exponent_expected_and_given(rt: HostRuntime) -> Result<(), Fail> {
-    for (expected, magnitude, actual, text) in [
-        (6, 6, 5, "Expected compact exponent 6 for 10^6, got 5"),
-        (5, 6, 6, "Expected compact exponent 5 for 10^6, got 6"),
-        (
-            12,
-            33022,
-            255,
-            "Expected compact exponent 12 for 10^33022, got 255",
-        ),
-        (0, -3, 3, "Expected compact exponent 0 for 10^-3, got 3"),
-    ] {
-        let error = CompactExponentError {
-            actual,
-            expected,
-            magnitude,
-        };
-        assert_eq!(rt; displayed(rt.alloc(), &error)?.as_str(), text);
-    }
-    Ok(())
 }

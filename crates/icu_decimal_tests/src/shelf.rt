@@ -6,14 +6,14 @@ ghost use Rattle.icu_base.specs.Answer.{Answers};
 ghost use Rattle.icu_base.specs.Identifier.{identifier_of, same_identifier};
 ghost use Rattle.icu_base.specs.declared.provider.error.DataErrorKind.TheVariants.{IdentifierNotFound};
 
-use super::{ENGLISH, LATIN};
-use crate::provider::{
-    CompactPatterns, DecimalCompactLongV1, DecimalCompactShortV1, DecimalDigitsV1,
-    DecimalSymbolStrsBuilder, DecimalSymbols, DecimalSymbolsV1, GroupingSizes,
-};
+use crate::fixtures::{ENGLISH, LATIN};
 use icu_base::{
     DataError, DataErrorKind, DataIdentifierBorrowed, DataProvider, DataRequest, Pattern,
     PluralCategory, PluralElements, PluralRules, PluralsCardinalV1, SinglePlaceholder,
+};
+use icu_decimal::provider::{
+    CompactPatterns, DecimalCompactLongV1, DecimalCompactShortV1, DecimalDigitsV1,
+    DecimalSymbolStrsBuilder, DecimalSymbols, DecimalSymbolsV1, GroupingSizes,
 };
 use std::alloc::Global;
 use std::collections::BTreeMap;

@@ -1,0 +1,181 @@
+//! Compact numbers whose exponent is given: significands with it, and the exponent of each magnitude.
+
+use crate::fixtures::{is_annotated, is_displayed, read, scaled};
+use crate::languages::{Language, compact};
+use fixed_decimal::Decimal;
+use icu_base::{Part, PartsText, Writeable};
+use icu_decimal::options::GroupingStrategy;
+use icu_decimal::{CompactDecimalFormatter, FormattedSign, InterpolatedDecimal, parts};
+use std::alloc::Global;
+use std::process::Abort;
+
+/// Whether a significand with an exponent, or its refusal, is written so.
+fn is_given(
+    alloc: Global,
+    formatter: &CompactDecimalFormatter,
+    significand: &Decimal,
+    exponent: u8,
+    want: &str,
+) -> bool {
+    match formatter.format_with_exponent(significand, exponent) {
+        Ok(value) => is_displayed(alloc, &value, want),
+        Err(error) => is_displayed(alloc, &error, want),
+    }
+}
+
+/// Whether a significand with an exponent is accepted, and both are written so.
+pub(crate) fn is_accepted(
+    alloc: Global,
+    formatter: &CompactDecimalFormatter,
+    significand: &Decimal,
+    exponent: u8,
+    want: &str,
+) -> bool {
+    match formatter.format_with_exponent(significand, exponent) {
+        Ok(value) => is_displayed(alloc, &value, want),
+        Err(_) => false,
+    }
+}
+
+/// Whether a text with an exponent, or its refusal, is written so in a language.
+fn gives(
+    rt: &impl Abort,
+    alloc: Global,
+    language: Language,
+    given: (&str, u8),
+    want: &str,
+) -> bool {
+    let formatter = compact(rt, alloc, language, GroupingStrategy::Min2);
+    let significand = read(rt, alloc, given.0);
+    is_given(alloc, &formatter, &significand, given.1, want)
+}
+
+const GIVEN: [(Language, &str, u8, &str); 9] = [
+    (Language::ShortEnglish, "999", 3, "999K"),
+    (Language::ShortEnglish, "0", 3, "0K"),
+    (
+        Language::ShortEnglish,
+        "1000",
+        3,
+        "Expected compact exponent 6 for 10^6, got 3",
+    ),
+    (Language::LongFrench, "1.20", 6, "1,20 million"),
+    (Language::LongFrench, "+3", 6, "+3 millions"),
+    (Language::LongFrench, "1", 3, "mille"),
+    (
+        Language::LongFrench,
+        "10",
+        5,
+        "Expected compact exponent 6 for 10^6, got 5",
+    ),
+    (Language::LongBangla, "10", 5, "১০ লাখ"),
+    (
+        Language::LongBangla,
+        "1.20",
+        6,
+        "Expected compact exponent 5 for 10^6, got 6",
+    ),
+];
+
+#[test]
+fn writes_given_exponents(rt: HostRuntime) {
+    for (language, text, exponent, want) in GIVEN {
+        assert!(rt;
+            gives(&rt, rt.alloc(), language, (text, exponent), want),
+            "{want}"
+        );
+    }
+}
+
+/// Whether an exponent past the largest is refused with a number that is told whole.
+fn refuses_an_exponent(rt: &impl Abort, alloc: Global) -> bool {
+    let formatter = compact(rt, alloc, Language::ShortEnglish, GroupingStrategy::Min2);
+    let power = scaled(rt, alloc, "1", 32767);
+    let want = "Expected compact exponent 12 for 10^33022, got 255";
+    is_given(alloc, &formatter, &power, 255, want)
+}
+
+#[test]
+fn refuses_an_exponent_past_the_limits(rt: HostRuntime) {
+    assert!(rt; refuses_an_exponent(&rt, rt.alloc()));
+}
+
+/// Whether a given number is written to a sink as this text with these spans.
+fn is_in_a_sink(
+    alloc: Global,
+    value: &FormattedSign<'_, InterpolatedDecimal<'_>>,
+    text: &str,
+    want: &[(usize, usize, Part)],
+) -> bool {
+    let mut sink = PartsText::new(alloc);
+    value.write_to_parts(&mut sink).is_ok() && is_annotated(alloc, &sink, text, want)
+}
+
+/// The same, once more where memory was refused; and whether it is displayed so without its sign.
+fn is_written(
+    alloc: Global,
+    value: &FormattedSign<'_, InterpolatedDecimal<'_>>,
+    text: &str,
+    want: &[(usize, usize, Part)],
+) -> bool {
+    (is_in_a_sink(alloc, value, text, want) || is_in_a_sink(alloc, value, text, want))
+        && is_displayed(alloc, value.value(), text)
+}
+
+/// Whether a significand with the exponent three is written as this text with these spans.
+fn is_marked(
+    alloc: Global,
+    formatter: &CompactDecimalFormatter,
+    significand: &Decimal,
+    text: &str,
+    want: &[(usize, usize, Part)],
+) -> bool {
+    match formatter.format_with_exponent(significand, 3) {
+        Ok(value) => is_written(alloc, &value, text, want),
+        Err(_) => false,
+    }
+}
+
+fn marks(rt: &impl Abort, alloc: Global, want: &[(usize, usize, Part)]) -> bool {
+    let formatter = compact(rt, alloc, Language::ShortEnglish, GroupingStrategy::Min2);
+    let significand = read(rt, alloc, "2.5");
+    is_marked(alloc, &formatter, &significand, "2.5K", want)
+}
+
+#[test]
+fn marks_the_parts_of_a_given_number(rt: HostRuntime) {
+    let spans = [
+        (0, 1, parts::INTEGER),
+        (1, 2, parts::DECIMAL),
+        (2, 3, parts::FRACTION),
+    ];
+    assert!(rt; marks(&rt, rt.alloc(), &spans));
+}
+
+/// Whether a language has this exponent at a magnitude.
+fn tells(rt: &impl Abort, alloc: Global, language: Language, magnitude: i16, exponent: u8) -> bool {
+    let formatter = compact(rt, alloc, language, GroupingStrategy::Min2);
+    formatter.compact_exponent_for_magnitude(magnitude) == exponent
+}
+
+const EXPONENTS: [(Language, i16, u8); 9] = [
+    (Language::ShortEnglish, -1, 0),
+    (Language::ShortEnglish, 2, 0),
+    (Language::ShortEnglish, 3, 3),
+    (Language::ShortEnglish, 5, 3),
+    (Language::ShortEnglish, 6, 6),
+    (Language::ShortEnglish, 32767, 12),
+    (Language::LongFrench, 6, 6),
+    (Language::LongBangla, 6, 5),
+    (Language::LongJapanese, 6, 4),
+];
+
+#[test]
+fn tells_the_exponent_of_a_magnitude(rt: HostRuntime) {
+    for (language, magnitude, exponent) in EXPONENTS {
+        assert!(rt;
+            tells(&rt, rt.alloc(), language, magnitude, exponent),
+            "{magnitude}"
+        );
+    }
+}

@@ -1,0 +1,30 @@
+//! The tests of icu_decimal's public calls; the library itself offers nothing. They see the contracts of icu_decimal alone,
+//! so they are proved beside its edits, which wait for the tests that stand in icu_decimal.
+#![tactic(auto)]
+
+#[cfg(test)]
+mod carries;
+#[cfg(test)]
+mod compact;
+#[cfg(test)]
+mod fixtures;
+#[cfg(test)]
+mod given;
+#[cfg(test)]
+mod languages;
+#[cfg(test)]
+mod loading;
+#[cfg(test)]
+mod marks;
+#[cfg(test)]
+mod one_locale;
+#[cfg(test)]
+mod operands;
+#[cfg(test)]
+mod options;
+#[cfg(test)]
+mod plain;
+#[cfg(test)]
+mod shelf;
+#[cfg(test)]
+mod styles;

@@ -1,0 +1,361 @@
+//! Plain numbers: what the formatter writes of decimals, and where separators stand.
+
+ghost use Rattle.std.specs.Prelude.{◌≡◌, true};
+
+use crate::fixtures::{
+    BENGALI, ENGLISH, INDIC, LATIN, english, formatter, nines, read, scaled, symbols,
+};
+use fixed_decimal::Decimal;
+use icu_decimal::grouper::check;
+use icu_decimal::options::{DecimalFormatterOptions, GroupingStrategy};
+use icu_decimal::provider::GroupingSizes;
+use icu_decimal::{Cow, DecimalFormatter};
+use std::alloc::Global;
+use std::process::Abort;
+
+const ONE_SIZE: GroupingSizes = GroupingSizes {
+    primary: 3,
+    secondary: 0,
+    min_grouping: 0,
+};
+
+const MIN3: GroupingSizes = GroupingSizes {
+    primary: 3,
+    secondary: 3,
+    min_grouping: 3,
+};
+
+const UNGROUPED: GroupingSizes = GroupingSizes {
+    primary: 0,
+    secondary: 3,
+    min_grouping: 1,
+};
+
+/// Whether the formatter writes a decimal so; asked once more where memory was refused.
+fn is_written(alloc: Global, formatter: &DecimalFormatter, decimal: &Decimal, want: &str) -> bool {
+    match formatter.format_to_string(alloc, decimal) {
+        Ok(shown) => shown.as_str() == want,
+        Err(_) => match formatter.format_to_string(alloc, decimal) {
+            Ok(shown) => shown.as_str() == want,
+            Err(_) => false,
+        },
+    }
+}
+
+/// Whether the formatter writes the decimal of a text so.
+fn is_shown(
+    rt: &impl Abort,
+    alloc: Global,
+    formatter: &DecimalFormatter,
+    text: &str,
+    want: &str,
+) -> bool {
+    let decimal = read(rt, alloc, text);
+    is_written(alloc, formatter, &decimal, want)
+}
+
+/// Whether a thousand to a million are written so under sizes and a strategy.
+fn are_shown(
+    rt: &impl Abort,
+    alloc: Global,
+    sizes: GroupingSizes,
+    strategy: GroupingStrategy,
+    wanted: [&str; 4],
+) -> bool {
+    let formatter = formatter(rt, alloc, sizes, strategy);
+    is_shown(rt, alloc, &formatter, "1000", wanted[0])
+        && is_shown(rt, alloc, &formatter, "10000", wanted[1])
+        && is_shown(rt, alloc, &formatter, "100000", wanted[2])
+        && is_shown(rt, alloc, &formatter, "1000000", wanted[3])
+}
+
+const PLAIN: [&str; 4] = ["1000", "10000", "100000", "1000000"];
+
+const WESTERN: [&str; 4] = ["1,000", "10,000", "100,000", "1,000,000"];
+
+const WESTERN_MIN2: [&str; 4] = ["1000", "10,000", "100,000", "1,000,000"];
+
+const WESTERN_MIN3: [&str; 4] = ["1000", "10000", "100,000", "1,000,000"];
+
+const LAKHS: [&str; 4] = ["1,000", "10,000", "1,00,000", "10,00,000"];
+
+const LAKHS_MIN2: [&str; 4] = ["1000", "10,000", "1,00,000", "10,00,000"];
+
+/// Sizes, a strategy, and a thousand to a million as they are written with them.
+const GROUPED: [(GroupingSizes, GroupingStrategy, [&str; 4]); 12] = [
+    (INDIC, GroupingStrategy::Auto, LAKHS),
+    (INDIC, GroupingStrategy::Min2, LAKHS_MIN2),
+    (ENGLISH, GroupingStrategy::Auto, WESTERN),
+    (ENGLISH, GroupingStrategy::Always, WESTERN),
+    (ENGLISH, GroupingStrategy::Min2, WESTERN_MIN2),
+    (ENGLISH, GroupingStrategy::Never, PLAIN),
+    (ONE_SIZE, GroupingStrategy::Auto, WESTERN),
+    (ONE_SIZE, GroupingStrategy::Min2, WESTERN_MIN2),
+    (MIN3, GroupingStrategy::Auto, WESTERN_MIN3),
+    (MIN3, GroupingStrategy::Min2, WESTERN_MIN3),
+    (UNGROUPED, GroupingStrategy::Auto, PLAIN),
+    (UNGROUPED, GroupingStrategy::Min2, PLAIN),
+];
+
+#[test]
+fn groups_by_sizes_and_strategies(rt: HostRuntime) {
+    for (sizes, strategy, wanted) in GROUPED {
+        assert!(rt;
+            are_shown(&rt, rt.alloc(), sizes, strategy, wanted),
+            "{}",
+            wanted[3]
+        );
+    }
+}
+
+/// Stands for no separator.
+const NOWHERE: i16 = -1;
+
+/// The magnitude of a first digit, sizes, a strategy, and the magnitudes below it that a separator follows.
+const SEPARATED: [(i16, GroupingSizes, GroupingStrategy, [i16; 2]); 15] = [
+    (6, ENGLISH, GroupingStrategy::Auto, [3, 6]),
+    (6, INDIC, GroupingStrategy::Auto, [3, 5]),
+    (3, ENGLISH, GroupingStrategy::Auto, [3, 3]),
+    (3, ENGLISH, GroupingStrategy::Min2, [NOWHERE, NOWHERE]),
+    (4, ENGLISH, GroupingStrategy::Min2, [3, 3]),
+    (6, ENGLISH, GroupingStrategy::Never, [NOWHERE, NOWHERE]),
+    (6, ONE_SIZE, GroupingStrategy::Auto, [3, 6]),
+    (3, ONE_SIZE, GroupingStrategy::Auto, [3, 3]),
+    (3, ONE_SIZE, GroupingStrategy::Min2, [NOWHERE, NOWHERE]),
+    (6, MIN3, GroupingStrategy::Auto, [3, 6]),
+    (5, MIN3, GroupingStrategy::Auto, [3, 3]),
+    (4, MIN3, GroupingStrategy::Auto, [NOWHERE, NOWHERE]),
+    (4, MIN3, GroupingStrategy::Min2, [NOWHERE, NOWHERE]),
+    (6, UNGROUPED, GroupingStrategy::Auto, [NOWHERE, NOWHERE]),
+    (6, UNGROUPED, GroupingStrategy::Min2, [NOWHERE, NOWHERE]),
+];
+
+/// Whether separators follow just these of the magnitudes from 0 to the first digit's.
+fn are_separators(
+    upper: i16,
+    sizes: GroupingSizes,
+    strategy: GroupingStrategy,
+    separators: [i16; 2],
+) -> bool {
+    for magnitude in 0..=upper {
+        let want = magnitude == separators[0] || magnitude == separators[1];
+        if check(upper, magnitude, strategy, sizes) != want {
+            return false;
+        }
+    }
+    true
+}
+
+#[test]
+fn checks_each_magnitude(rt: HostRuntime) {
+    for (upper, sizes, strategy, separators) in SEPARATED {
+        assert!(rt;
+            are_separators(upper, sizes, strategy, separators),
+            "{upper} {strategy:?} {separators:?}"
+        );
+    }
+}
+
+/// The magnitude of a first digit, one that the number has no digit at, and whether a separator would follow there.
+const BEYOND: [(i16, i16, bool); 4] = [(3, 6, true), (2, 3, false), (6, -3, false), (-1, 3, false)];
+
+#[test]
+fn checks_magnitudes_beyond_the_number(rt: HostRuntime) {
+    for (upper, magnitude, want) in BEYOND {
+        assert!(rt;
+            check(upper, magnitude, GroupingStrategy::Auto, ENGLISH) == want,
+            "{upper} {magnitude}"
+        );
+    }
+}
+
+fn writes(
+    rt: &impl Abort,
+    alloc: Global,
+    strategy: GroupingStrategy,
+    (text, want): (&str, &str),
+) -> bool {
+    let formatter = formatter(rt, alloc, ENGLISH, strategy);
+    is_shown(rt, alloc, &formatter, text, want)
+}
+
+const SIGNED: [(&str, &str); 6] = [
+    ("-987654.321", "-987,654.321"),
+    ("0012", "0,012"),
+    ("-0", "-0"),
+    ("+5", "+5"),
+    ("1.20", "1.20"),
+    (".5", "0.5"),
+];
+
+#[test]
+fn writes_signs_padding_and_fractions(rt: HostRuntime) {
+    for row in SIGNED {
+        assert!(rt;
+            writes(&rt, rt.alloc(), GroupingStrategy::Auto, row),
+            "{}",
+            row.0
+        );
+    }
+}
+
+/// Whether a decimal that was scaled is displayed with its zeros.
+fn writes_scaled(rt: &impl Abort, alloc: Global) -> bool {
+    let english = english(rt, alloc);
+    let decimal = scaled(rt, alloc, "200050", -2);
+    is_written(alloc, &english, &decimal, "2,000.50")
+}
+
+#[test]
+fn writes_padding_and_scaled_decimals(rt: HostRuntime) {
+    assert!(rt; writes(&rt, rt.alloc(), GroupingStrategy::Min2, ("0012", "0012")));
+    assert!(rt; writes_scaled(&rt, rt.alloc()));
+}
+
+/// Digits with their numbering system, the separators, and the sizes.
+type Symbols = (
+    &'static [char; 10],
+    &'static str,
+    (&'static str, &'static str),
+    GroupingSizes,
+);
+
+/// Symbols, a decimal, and how it is written with them.
+const OTHERS: [(Symbols, &str, &str); 3] = [
+    (
+        (&BENGALI, "beng", (".", ","), INDIC),
+        "1000007",
+        "১০,০০,০০৭",
+    ),
+    (
+        (&LATIN, "latn", (",", "\u{202f}"), ENGLISH),
+        "-1234567.8",
+        "-1\u{202f}234\u{202f}567,8",
+    ),
+    ((&LATIN, "latn", ("", ""), ENGLISH), "1234.5", "12345"),
+];
+
+fn writes_with(
+    rt: &impl Abort,
+    alloc: Global,
+    (digits, numsys, separators, sizes): Symbols,
+    text: &str,
+    want: &str,
+) -> bool {
+    let symbols = symbols(rt, alloc, ("-", ""), separators, sizes, numsys);
+    let options = DecimalFormatterOptions::default();
+    let formatter = DecimalFormatter::from_parts(symbols, *digits, options);
+    is_shown(rt, alloc, &formatter, text, want)
+}
+
+#[test]
+fn writes_other_digits_and_separators(rt: HostRuntime) {
+    for (symbols, text, want) in OTHERS {
+        assert!(rt; writes_with(&rt, rt.alloc(), symbols, text, want), "{text}");
+    }
+}
+
+/// Whether a text has so many bytes, and so many of them are commas.
+fn has_commas(text: &str, length: usize, commas: usize) -> bool {
+    text.len() == length && text.bytes().filter(|byte| *byte == b',').count() == commas
+}
+
+/// Whether the formatter writes a decimal in so many bytes with so many commas; asked once more where memory was refused.
+fn is_long(
+    alloc: Global,
+    formatter: &DecimalFormatter,
+    decimal: &Decimal,
+    (length, commas): (usize, usize),
+) -> bool {
+    match formatter.format_to_string(alloc, decimal) {
+        Ok(text) => has_commas(text.as_str(), length, commas),
+        Err(_) => match formatter.format_to_string(alloc, decimal) {
+            Ok(text) => has_commas(text.as_str(), length, commas),
+            Err(_) => false,
+        },
+    }
+}
+
+fn writes_all_digits(rt: &impl Abort, alloc: Global) -> bool {
+    let english = english(rt, alloc);
+    let decimal = nines(rt, alloc, 32768);
+    is_long(alloc, &english, &decimal, (43690, 10922))
+}
+
+#[test]
+fn writes_as_many_digits_as_there_are(rt: HostRuntime) {
+    assert!(rt; writes_all_digits(&rt, rt.alloc()));
+}
+
+/// Whether two formatters write a decimal with the same symbols and options.
+fn are_same(
+    rt: &impl Abort,
+    alloc: Global,
+    one: &DecimalFormatter,
+    other: &DecimalFormatter,
+) -> bool {
+    let decimal = read(rt, alloc, "-1234.5");
+    one.format(&decimal) == other.format(&decimal)
+}
+
+/// Whether a formatter writes as its copy; asked for once more where memory was refused.
+fn is_copied(rt: &impl Abort, alloc: Global, formatter: &DecimalFormatter) -> bool {
+    match formatter.copy(alloc) {
+        Ok(copy) => are_same(rt, alloc, formatter, &copy),
+        Err(_) => match formatter.copy(alloc) {
+            Ok(copy) => are_same(rt, alloc, formatter, &copy),
+            Err(_) => false,
+        },
+    }
+}
+
+fn copies(rt: &impl Abort, alloc: Global) -> bool {
+    is_copied(rt, alloc, &english(rt, alloc))
+}
+
+fn compares(rt: &impl Abort, alloc: Global) -> bool {
+    let english = english(rt, alloc);
+    let other = formatter(rt, alloc, ENGLISH, GroupingStrategy::Never);
+    !are_same(rt, alloc, &english, &other)
+}
+
+#[test]
+fn compares_and_copies(rt: HostRuntime) {
+    assert!(rt; copies(&rt, rt.alloc()));
+    assert!(rt; compares(&rt, rt.alloc()));
+}
+
+/// Whether a decimal is formatted as the same value twice: it always is.
+fn formats_alike(formatter: &DecimalFormatter, decimal: &Decimal) -> bool
+    ensures { result ≡ true }
+{
+    formatter.format(decimal) == formatter.format(decimal)
+}
+
+fn formats_twice(rt: &impl Abort, alloc: Global) -> bool {
+    let english = english(rt, alloc);
+    let decimal = read(rt, alloc, "-1234.5");
+    formats_alike(&english, &decimal)
+}
+
+#[test]
+fn equals_what_is_formatted_again(rt: HostRuntime) {
+    assert!(rt; formats_twice(&rt, rt.alloc()));
+}
+
+/// Whether values are equal where both are lent or both are kept, and the values are.
+fn compares_values() -> bool {
+    let five = 5;
+    let again = 5;
+    let six = 6;
+    Cow::Borrowed(&five) == Cow::Borrowed(&again)
+        && Cow::Owned(five) == Cow::Owned(again)
+        && Cow::Borrowed(&five) != Cow::Borrowed(&six)
+        && Cow::Owned(five) != Cow::Owned(six)
+        && Cow::Borrowed(&five) != Cow::Owned(five)
+}
+
+#[test]
+fn compares_lent_and_kept_values(rt: HostRuntime) {
+    assert!(rt; compares_values());
+}
