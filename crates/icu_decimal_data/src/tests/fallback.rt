@@ -22,18 +22,22 @@ type Answer = Result<u8, DataErrorKind>;
 /// Systems whose names are as long as their places.
 const SYSTEMS: [&str; 3] = ["", "a", "ab"];
 
-/// Answers as it is told, one system after another.
+/// Answers as it is told, one system after another, and keeps what it hears: a digit for each request, 2 where it is
+/// silent, else 1.
 #[derive(Drop)]
 struct Told {
     answers: &'static [Answer],
+    heard: Cell<u16>,
 }
 
 impl DataProvider<NumberV1> for Told {
     ghost answer = { λ told id. slice_index_or told.answers.now (length (unwrap_or id.system [])) (Err IdentifierNotFound) };
 
     fn load(&self, _alloc: Global, request: &DataRequest<'_>) -> Result<u8, DataError> {
-        let place = request.id.system().unwrap_or("").len();
-        match self.answers.get(place) {
+        let digit = if request.silent { 2 } else { 1 };
+        self.heard
+            .set(self.heard.get().wrapping_mul(10).wrapping_add(digit));
+        match self.answers.get(request.id.system().unwrap_or("").len()) {
             Some(Ok(number)) => Ok(*number),
             Some(Err(kind)) => Err(DataError::from(*kind)),
             None => Err(DataError::from(DataErrorKind::IdentifierNotFound)),
@@ -41,48 +45,21 @@ impl DataProvider<NumberV1> for Told {
     }
 }
 
-/// Keeps who was asked silently: a digit for each request, 2 where it is silent, else 1.
-#[derive(Drop)]
-struct Listening {
-    heard: Cell<u16>,
-}
-
-impl DataProvider<NumberV1> for Listening {
-    ghost answer = { λ _ _. Err IdentifierNotFound };
-
-    fn load(&self, _alloc: Global, request: &DataRequest<'_>) -> Result<u8, DataError> {
-        let digit = if request.silent { 2 } else { 1 };
-        self.heard
-            .set(self.heard.get().wrapping_mul(10).wrapping_add(digit));
-        Err(DataError::from(DataErrorKind::IdentifierNotFound))
-    }
-}
-
-/// Asks by so many systems, three at the most.
-fn asked<D: DataProvider<NumberV1>>(alloc: Global, provider: &D, count: usize) -> Answer {
-    let ids = SYSTEMS.map(DataIdentifierBorrowed::for_marker_attributes);
-    let count = count.min(ids.len());
-    match load_with_fallback::<NumberV1, D>(alloc, provider, ids.split_at(count).0) {
-        Ok(number) => Ok(number),
-        Err(error) => Err(error.kind),
-    }
-}
-
-/// What is decided of these answers.
-fn decided(alloc: Global, answers: &'static [Answer]) -> Answer {
-    asked(alloc, &Told { answers }, answers.len())
-}
-
-/// What was heard of requests by so many systems.
-fn heard(alloc: Global, count: usize) -> (Answer, u16) {
-    let listening = Listening {
+/// What is decided of these answers, and what was heard of the requests.
+fn decided(alloc: Global, answers: &'static [Answer]) -> (Answer, u16) {
+    let told = Told {
+        answers,
         heard: Cell::new(0),
     };
-    let answer = asked(alloc, &listening, count);
-    (answer, listening.heard.get())
+    let ids = SYSTEMS.map(DataIdentifierBorrowed::for_marker_attributes);
+    let count = answers.len().min(ids.len());
+    let answer = match load_with_fallback::<NumberV1, Told>(alloc, &told, ids.split_at(count).0) {
+        Ok(number) => Ok(number),
+        Err(error) => Err(error.kind),
+    };
+    (answer, told.heard.get())
 }
 
-/// No data by the identifier.
 const MISSING: Answer = Err(DataErrorKind::IdentifierNotFound);
 
 const NO_MARKER: Answer = Err(DataErrorKind::MarkerNotFound);
@@ -93,44 +70,34 @@ const CUSTOM: Answer = Err(DataErrorKind::Custom);
 
 const NO_MEMORY: Answer = Err(DataErrorKind::OutOfMemory);
 
-/// Answers in turn, and what is decided of them.
-const DECIDED: [(&[Answer], Answer); 13] = [
-    (&[MISSING, Ok(7)], Ok(7)),
-    (&[MISSING, MISSING], MISSING),
-    (&[CUSTOM, Ok(7)], CUSTOM),
-    (&[NO_MARKER, Ok(7)], NO_MARKER),
-    (&[NO_MEMORY, Ok(7)], NO_MEMORY),
-    (&[NO_REQUEST, Ok(7)], NO_REQUEST),
-    (&[Ok(7), CUSTOM], Ok(7)),
-    (&[], NO_REQUEST),
-    (&[Ok(7)], Ok(7)),
-    (&[MISSING], MISSING),
-    (&[MISSING, MISSING, Ok(7)], Ok(7)),
-    (&[MISSING, Ok(7), Ok(8)], Ok(7)),
-    (&[MISSING, CUSTOM, Ok(8)], CUSTOM),
+/// Answers in turn, what is decided of them, and what is heard.
+const DECIDED: [(&[Answer], Answer, u16); 14] = [
+    (&[MISSING, Ok(7)], Ok(7), 21),
+    (&[MISSING, MISSING], MISSING, 21),
+    (&[CUSTOM, Ok(7)], CUSTOM, 2),
+    (&[NO_MARKER, Ok(7)], NO_MARKER, 2),
+    (&[NO_MEMORY, Ok(7)], NO_MEMORY, 2),
+    (&[NO_REQUEST, Ok(7)], NO_REQUEST, 2),
+    (&[Ok(7), CUSTOM], Ok(7), 2),
+    (&[], NO_REQUEST, 0),
+    (&[Ok(7)], Ok(7), 1),
+    (&[MISSING], MISSING, 1),
+    (&[CUSTOM], CUSTOM, 1),
+    (&[MISSING, MISSING, Ok(7)], Ok(7), 221),
+    (&[MISSING, Ok(7), Ok(8)], Ok(7), 22),
+    (&[MISSING, CUSTOM, Ok(8)], CUSTOM, 22),
 ];
 
 #[test]
 fn the_first_answer_that_is_found_or_fails_otherwise_counts(rt: HostRuntime) {
-    for (answers, want) in DECIDED {
-        assert!(rt; decided(rt.alloc(), answers) == want, "{answers:?}");
+    for (answers, want, _) in DECIDED {
+        assert!(rt; decided(rt.alloc(), answers).0 == want, "{answers:?}");
     }
 }
 
-/// How many are asked, and how each is.
-const HEARD: [(usize, u16, Answer); 4] = [
-    (0, 0, NO_REQUEST),
-    (1, 1, MISSING),
-    (2, 21, MISSING),
-    (3, 221, MISSING),
-];
-
 #[test]
-fn all_but_the_last_are_asked_silently(rt: HostRuntime) {
-    for (count, want, answer) in HEARD {
-        assert!(rt;
-            heard(rt.alloc(), count) == (answer, want),
-            "{count} identifiers"
-        );
+fn all_but_the_last_are_asked_silently_and_none_after_the_one_that_counts(rt: HostRuntime) {
+    for (answers, _, want) in DECIDED {
+        assert!(rt; decided(rt.alloc(), answers).1 == want, "{answers:?}");
     }
 }
