@@ -144,6 +144,35 @@ fn a_provider_of_the_readers_own(rt: HostRuntime) {
     }
 }
 
+/// Why no formatter of a locale is made of a provider of German in Switzerland; none where memory is wanting.
+fn refusal(alloc: Global, locale: &str) -> Option<DataErrorKind> {
+    let provider = provider(alloc, "de-CH", "’", (3, 3, 1))?;
+    let prefs = DecimalFormatterPreferences {
+        locale_preferences: DataLocale::try_from_str(locale).unwrap_or_default(),
+        numbering_system: None,
+    };
+    let options = DecimalFormatterOptions::default();
+    match DecimalFormatter::try_new_unstable(alloc, &provider, prefs, options) {
+        Ok(_) => None,
+        Err(error) => Some(error.kind),
+    }
+}
+
+/// The same, asked once more where memory was wanting.
+fn is_not_found(alloc: Global, locale: &str) -> bool {
+    match refusal(alloc, locale) {
+        Some(kind) => kind == DataErrorKind::IdentifierNotFound,
+        None => refusal(alloc, locale) == Some(DataErrorKind::IdentifierNotFound),
+    }
+}
+
+#[test]
+fn a_provider_of_the_readers_own_has_no_other_locale(rt: HostRuntime) {
+    for locale in ["en-US", "de", "und"] {
+        assert!(rt; is_not_found(rt.alloc(), locale), "{locale}");
+    }
+}
+
 /// Whether a thousand to a million are written so with these sizes.
 fn are_grouped(
     alloc: Global,
