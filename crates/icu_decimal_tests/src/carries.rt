@@ -29,7 +29,15 @@ fn gives(
 }
 
 /// A number that is rounded up, the size that is shown of it, its significand and exponent, and the text of all three.
-const ROWS: [(Language, &str, &str, (&str, u8), &str); 17] = [
+type Row = (
+    Language,
+    &'static str,
+    &'static str,
+    (&'static str, u8),
+    &'static str,
+);
+
+const ROWS: [Row; 17] = [
     (Language::Words, "9999.5", "10000", ("10000", 0), "10,000"),
     (Language::Words, "99999.5", "100000", ("10", 4), "10W"),
     (Language::Lakhs, "999500", "1000000", ("10", 5), "10L"),
@@ -79,24 +87,39 @@ const ROWS: [(Language, &str, &str, (&str, u8), &str); 17] = [
     (Language::LongFrench, "999.5", "1000", ("1", 3), "mille"),
 ];
 
+/// Whether the number is written so.
+fn writes_number(rt: &impl Abort, alloc: Global, row: &Row) -> bool {
+    writes(rt, alloc, row.0, row.1, row.4)
+}
+
+/// Whether the size that is shown is written so.
+fn writes_shown(rt: &impl Abort, alloc: Global, row: &Row) -> bool {
+    writes(rt, alloc, row.0, row.2, row.4)
+}
+
+/// Whether the significand is accepted with its exponent, and both are written so.
+fn gives_shown(rt: &impl Abort, alloc: Global, row: &Row) -> bool {
+    gives(rt, alloc, row.0, row.3, row.4)
+}
+
 #[test]
 fn a_carry_takes_what_stands_at_the_magnitude_reached(rt: HostRuntime) {
-    for (language, text, _, _, want) in ROWS {
-        assert!(rt; writes(&rt, rt.alloc(), language, text, want), "{text}");
+    for row in &ROWS {
+        assert!(rt; writes_number(&rt, rt.alloc(), row), "{}", row.1);
     }
 }
 
 #[test]
 fn what_is_shown_is_shown_again(rt: HostRuntime) {
-    for (language, _, shown, _, want) in ROWS {
-        assert!(rt; writes(&rt, rt.alloc(), language, shown, want), "{shown}");
+    for row in &ROWS {
+        assert!(rt; writes_shown(&rt, rt.alloc(), row), "{}", row.2);
     }
 }
 
 #[test]
 fn what_is_shown_is_given_alike(rt: HostRuntime) {
-    for (language, _, _, given, want) in ROWS {
-        assert!(rt; gives(&rt, rt.alloc(), language, given, want), "{want}");
+    for row in &ROWS {
+        assert!(rt; gives_shown(&rt, rt.alloc(), row), "{}", row.4);
     }
 }
 

@@ -111,7 +111,7 @@ const SHORT_SPANISH_ROWS: [Row; 3] = [
 
 const LAKHS_ROWS: [Row; 2] = [(3, 3, None, None, "K"), (6, 5, None, None, "L")];
 
-const SHORT_ENGLISH: Parts = Parts {
+static SHORT_ENGLISH: Parts = Parts {
     digits: &LATIN,
     numsys: "latn",
     separators: (".", ","),
@@ -121,7 +121,7 @@ const SHORT_ENGLISH: Parts = Parts {
     zero_magnitude: None,
 };
 
-const LONG_ENGLISH: Parts = Parts {
+static LONG_ENGLISH: Parts = Parts {
     digits: &LATIN,
     numsys: "latn",
     separators: (".", ","),
@@ -131,7 +131,7 @@ const LONG_ENGLISH: Parts = Parts {
     zero_magnitude: None,
 };
 
-const WORDS: Parts = Parts {
+static WORDS: Parts = Parts {
     digits: &LATIN,
     numsys: "latn",
     separators: (".", ","),
@@ -141,7 +141,7 @@ const WORDS: Parts = Parts {
     zero_magnitude: None,
 };
 
-const LAKHS: Parts = Parts {
+static LAKHS: Parts = Parts {
     digits: &LATIN,
     numsys: "latn",
     separators: (".", ","),
@@ -151,7 +151,7 @@ const LAKHS: Parts = Parts {
     zero_magnitude: None,
 };
 
-const SHORT_SPANISH: Parts = Parts {
+static SHORT_SPANISH: Parts = Parts {
     digits: &LATIN,
     numsys: "latn",
     separators: (",", "."),
@@ -161,7 +161,7 @@ const SHORT_SPANISH: Parts = Parts {
     zero_magnitude: None,
 };
 
-const LONG_JAPANESE: Parts = Parts {
+static LONG_JAPANESE: Parts = Parts {
     digits: &LATIN,
     numsys: "latn",
     separators: (".", ","),
@@ -171,7 +171,7 @@ const LONG_JAPANESE: Parts = Parts {
     zero_magnitude: Some(""),
 };
 
-const LONG_FRENCH: Parts = Parts {
+static LONG_FRENCH: Parts = Parts {
     digits: &LATIN,
     numsys: "latn",
     separators: (",", "\u{202f}"),
@@ -181,7 +181,7 @@ const LONG_FRENCH: Parts = Parts {
     zero_magnitude: None,
 };
 
-const LONG_BANGLA: Parts = Parts {
+static LONG_BANGLA: Parts = Parts {
     digits: &BENGALI,
     numsys: "beng",
     separators: (".", ","),
@@ -192,16 +192,16 @@ const LONG_BANGLA: Parts = Parts {
 };
 
 /// The parts of a language.
-fn parts_of(language: Language) -> Parts {
+fn parts_of(language: Language) -> &'static Parts {
     match language {
-        Language::ShortEnglish => SHORT_ENGLISH,
-        Language::LongEnglish => LONG_ENGLISH,
-        Language::LongFrench => LONG_FRENCH,
-        Language::LongBangla => LONG_BANGLA,
-        Language::LongJapanese => LONG_JAPANESE,
-        Language::ShortSpanish => SHORT_SPANISH,
-        Language::Words => WORDS,
-        Language::Lakhs => LAKHS,
+        Language::ShortEnglish => &SHORT_ENGLISH,
+        Language::LongEnglish => &LONG_ENGLISH,
+        Language::LongFrench => &LONG_FRENCH,
+        Language::LongBangla => &LONG_BANGLA,
+        Language::LongJapanese => &LONG_JAPANESE,
+        Language::ShortSpanish => &SHORT_SPANISH,
+        Language::Words => &WORDS,
+        Language::Lakhs => &LAKHS,
     }
 }
 
@@ -229,19 +229,32 @@ fn after_number(rt: &impl Abort, alloc: Global, literal: &str) -> Pattern<Single
     pattern(rt, alloc, Some(0), literal)
 }
 
+/// Patterns with one for exactly one, if there is a text for it.
+fn with_explicit_one(
+    rt: &impl Abort,
+    alloc: Global,
+    elements: Elements,
+    text: Option<&str>,
+) -> Elements {
+    match text {
+        Some(text) => elements.with_explicit_one_value(Some(pattern(rt, alloc, None, text))),
+        None => elements,
+    }
+}
+
+/// Patterns with one for the category one, if there is a text for it.
+fn with_one(rt: &impl Abort, alloc: Global, elements: Elements, text: Option<&str>) -> Elements {
+    match text {
+        Some(text) => elements.with_one_value(Some(after_number(rt, alloc, text))),
+        None => elements,
+    }
+}
+
 /// The patterns of a row.
 fn elements(rt: &impl Abort, alloc: Global, row: Row) -> Elements {
-    let explicit = match row.2 {
-        Some(text) => Some(pattern(rt, alloc, None, text)),
-        None => None,
-    };
-    let one = match row.3 {
-        Some(text) => Some(after_number(rt, alloc, text)),
-        None => None,
-    };
-    PluralElements::new(after_number(rt, alloc, row.4))
-        .with_explicit_one_value(explicit)
-        .with_one_value(one)
+    let elements = PluralElements::new(after_number(rt, alloc, row.4));
+    let elements = with_explicit_one(rt, alloc, elements, row.2);
+    with_one(rt, alloc, elements, row.3)
 }
 
 /// The patterns that follow a number of magnitude 0.
@@ -278,14 +291,14 @@ fn map_of(rt: &impl Abort, alloc: Global, rows: &[Row]) -> BTreeMap<u8, (u8, Ele
 fn table(
     rt: &impl Abort,
     alloc: Global,
-    parts: Parts,
+    parts: &Parts,
 ) -> Result<CompactPatterns<SinglePlaceholder>, CompactError> {
     let zero = zero_elements(rt, alloc, parts.zero_magnitude);
     CompactPatterns::new(alloc, map_of(rt, alloc, parts.rows), zero.as_ref())
 }
 
 /// The table of a language, made once more where memory was refused.
-fn patterns(rt: &impl Abort, alloc: Global, parts: Parts) -> CompactPatterns<SinglePlaceholder> {
+fn patterns(rt: &impl Abort, alloc: Global, parts: &Parts) -> CompactPatterns<SinglePlaceholder> {
     let made = match table(rt, alloc, parts) {
         Ok(table) => Ok(table),
         Err(_) => table(rt, alloc, parts),
@@ -300,7 +313,7 @@ fn patterns(rt: &impl Abort, alloc: Global, parts: Parts) -> CompactPatterns<Sin
 fn plain(
     rt: &impl Abort,
     alloc: Global,
-    parts: Parts,
+    parts: &Parts,
     options: DecimalFormatterOptions,
 ) -> DecimalFormatter {
     let symbols = symbols(
