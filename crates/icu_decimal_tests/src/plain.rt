@@ -359,3 +359,14 @@ fn compares_values() -> bool {
 fn compares_lent_and_kept_values(rt: HostRuntime) {
     assert!(rt; compares_values());
 }
+
+/// Whether a value is the same, lent or kept.
+fn gives_values() -> bool {
+    let five = 5;
+    *Cow::Borrowed(&five).get() == 5 && *Cow::Owned(five).get() == 5
+}
+
+#[test]
+fn gives_lent_and_kept_values(rt: HostRuntime) {
+    assert!(rt; gives_values());
+}
