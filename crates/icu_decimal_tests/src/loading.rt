@@ -1,6 +1,6 @@
 //! Formatters that are made of what a provider answers: which data they take, and which refusal is answered.
 
-use crate::shelf::{Refusals, Shelf};
+use crate::shelf::{Bare, Refusals, Shelf};
 use fixed_decimal::Decimal;
 use icu_base::{DataErrorKind, DataLocale, PluralRulesPreferences};
 use icu_decimal::options::{
@@ -336,4 +336,60 @@ fn preferences_are_undetermined_by_default(rt: HostRuntime) {
             == DecimalFormatterPreferences::from(&preferences("und", None))
     );
     assert!(rt; CompactDecimalFormatterPreferences::default() != preferences("und", Some("latn")));
+}
+
+/// Whether a formatter is made of hardly anything, or why it isn't.
+fn is_made_once(alloc: Global, style: Style) -> Result<bool, DataErrorKind> {
+    let Some(bare) = Bare::made(alloc) else {
+        return Err(DataErrorKind::OutOfMemory);
+    };
+    match style {
+        Style::Plain => {
+            let prefs = DecimalFormatterPreferences::default();
+            let options = DecimalFormatterOptions::default();
+            match DecimalFormatter::try_new_unstable(alloc, &bare, prefs, options) {
+                Ok(_) => Ok(true),
+                Err(error) => Err(error.kind),
+            }
+        }
+        _ => is_compact_made(alloc, &bare, style),
+    }
+}
+
+fn is_compact_made(alloc: Global, bare: &Bare, style: Style) -> Result<bool, DataErrorKind> {
+    let prefs = CompactDecimalFormatterPreferences::default();
+    let options = CompactDecimalFormatterOptions::default();
+    let made = match style {
+        Style::Long => CompactDecimalFormatter::try_new_long_unstable(alloc, bare, prefs, options),
+        _ => CompactDecimalFormatter::try_new_short_unstable(alloc, bare, prefs, options),
+    };
+    match made {
+        Ok(_) => Ok(true),
+        Err(error) => Err(error.kind),
+    }
+}
+
+/// The same, asked once more where memory was wanting.
+fn is_made(alloc: Global, style: Style) -> bool {
+    match is_made_once(alloc, style) {
+        Err(DataErrorKind::OutOfMemory) => is_made_once(alloc, style) == Ok(true),
+        answered => answered == Ok(true),
+    }
+}
+
+// A test each, so that the first allocations are those of its constructor.
+
+#[test]
+fn makes_a_plain_formatter(rt: HostRuntime) {
+    assert!(rt; is_made(rt.alloc(), Style::Plain));
+}
+
+#[test]
+fn makes_a_short_formatter(rt: HostRuntime) {
+    assert!(rt; is_made(rt.alloc(), Style::Short));
+}
+
+#[test]
+fn makes_a_long_formatter(rt: HostRuntime) {
+    assert!(rt; is_made(rt.alloc(), Style::Long));
 }

@@ -323,3 +323,71 @@ impl Shelf {
         }
     }
 }
+
+/// A provider of the same by every identifier, and of hardly anything, so that memory is wanted for copies before long.
+#[derive(Drop)]
+pub(super) struct Bare {
+    symbols: DecimalSymbols,
+    digits: [char; 10],
+    rules: PluralRules,
+    patterns: Table,
+}
+
+impl Bare {
+    /// None where memory is wanting.
+    pub(super) fn made(alloc: Global) -> Option<Bare> {
+        match (
+            DecimalSymbols::made(alloc, ("", "", "latn")),
+            PluralRules::made(alloc, &[]),
+            CompactPatterns::new(alloc, BTreeMap::new(alloc), None),
+        ) {
+            (Some(symbols), Some(rules), Ok(patterns)) => Some(Bare {
+                symbols,
+                digits: LATIN,
+                rules,
+                patterns,
+            }),
+            _ => None,
+        }
+    }
+}
+
+impl DataProvider<DecimalSymbolsV1> for Bare {
+    ghost answer = { λ bare _. Ok bare.symbols };
+
+    fn load(&self, alloc: Global, _request: &DataRequest<'_>) -> Result<DecimalSymbols, DataError> {
+        self.symbols.copied(alloc)
+    }
+}
+
+impl DataProvider<DecimalDigitsV1> for Bare {
+    ghost answer = { λ bare _. Ok bare.digits };
+
+    fn load(&self, _alloc: Global, _request: &DataRequest<'_>) -> Result<[char; 10], DataError> {
+        Ok(self.digits)
+    }
+}
+
+impl DataProvider<PluralsCardinalV1> for Bare {
+    ghost answer = { λ bare _. Ok bare.rules };
+
+    fn load(&self, alloc: Global, _request: &DataRequest<'_>) -> Result<PluralRules, DataError> {
+        self.rules.copied(alloc)
+    }
+}
+
+impl DataProvider<DecimalCompactShortV1> for Bare {
+    ghost answer = { λ bare _. Ok bare.patterns };
+
+    fn load(&self, alloc: Global, _request: &DataRequest<'_>) -> Result<Table, DataError> {
+        self.patterns.copied(alloc)
+    }
+}
+
+impl DataProvider<DecimalCompactLongV1> for Bare {
+    ghost answer = { λ bare _. Ok bare.patterns };
+
+    fn load(&self, alloc: Global, _request: &DataRequest<'_>) -> Result<Table, DataError> {
+        self.patterns.copied(alloc)
+    }
+}
