@@ -20,6 +20,3 @@ pub use fallback::load_with_fallback;
 pub use grouping_sizes::GroupingSizes;
 pub use markers::{DecimalCompactLongV1, DecimalCompactShortV1, DecimalDigitsV1, DecimalSymbolsV1};
 pub use symbols::{DecimalSymbolStrsBuilder, DecimalSymbolsStrs};
-
-#[cfg(test)]
-mod tests;

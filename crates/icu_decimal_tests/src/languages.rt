@@ -265,15 +265,20 @@ fn zero_elements(rt: &impl Abort, alloc: Global, text: Option<&str>) -> Option<E
     }
 }
 
+/// Puts a row into a map; whether there was memory for it.
+fn is_put(
+    rt: &impl Abort,
+    alloc: Global,
+    map: &mut BTreeMap<u8, (u8, Elements)>,
+    row: Row,
+) -> bool {
+    let elements = elements(rt, alloc, row);
+    map.insert(row.0, (row.1, elements)).is_ok()
+}
+
 /// Puts a row into a map, once more where memory was refused.
 fn insert(rt: &impl Abort, alloc: Global, map: &mut BTreeMap<u8, (u8, Elements)>, row: Row) {
-    if map
-        .insert(row.0, (row.1, elements(rt, alloc, row)))
-        .is_err()
-        && map
-            .insert(row.0, (row.1, elements(rt, alloc, row)))
-            .is_err()
-    {
+    if !is_put(rt, alloc, map, row) && !is_put(rt, alloc, map, row) {
         panic!(rt; "memory was refused");
     }
 }

@@ -1,12 +1,12 @@
 //! In which order a provider is asked, and which of its answers counts.
 
 ghost use Rattle.std.specs.Prelude.{Err, [], length, unwrap_or, slice_index_or};
-ghost use Rattle.icu_provider.specs.declared.error.DataErrorKind.TheVariants.{IdentifierNotFound};
+ghost use Rattle.icu_base.specs.declared.provider.error.DataErrorKind.TheVariants.{IdentifierNotFound};
 
-use crate::fallback::load_with_fallback;
-use icu_provider::{
+use icu_base::{
     DataError, DataErrorKind, DataIdentifierBorrowed, DataMarker, DataProvider, DataRequest,
 };
+use icu_decimal_data::load_with_fallback;
 use std::alloc::Global;
 use std::cell::Cell;
 

@@ -1,11 +1,11 @@
 //! The tables that the tests are made with, and what is asked for again where memory was wanting.
 
-use crate::{CompactError, CompactPatterns};
 use fixed_decimal::{Decimal, DecimalError};
 use icu_base::{
     NoPlaceholder, Pattern, PatternBackend, PatternError, PluralCategory, PluralElements,
     PluralOperands, PluralRules, RulesError, SinglePlaceholder,
 };
+use icu_decimal_data::{CompactError, CompactPatterns};
 use std::alloc::Global;
 use std::collections::BTreeMap;
 
@@ -14,11 +14,11 @@ type Elements<P> = PluralElements<Pattern<P>>;
 type Map<P> = BTreeMap<u8, (u8, Elements<P>)>;
 
 /// A type, its exponent, the text for exactly one, and for all other numbers the text before which a number stands.
-pub(super) type Row = (u8, u8, Option<&'static str>, &'static str);
+pub(crate) type Row = (u8, u8, Option<&'static str>, &'static str);
 
-pub(super) type Table = CompactPatterns<SinglePlaceholder>;
+pub(crate) type Table = CompactPatterns<SinglePlaceholder>;
 
-pub(super) const SHORT_ENGLISH: [Row; 12] = [
+pub(crate) const SHORT_ENGLISH: [Row; 12] = [
     (3, 3, None, "K"),
     (4, 3, None, "K"),
     (5, 3, None, "K"),
@@ -33,20 +33,20 @@ pub(super) const SHORT_ENGLISH: [Row; 12] = [
     (14, 12, None, "T"),
 ];
 
-pub(super) const LONG_ENGLISH: [Row; 4] = [
+pub(crate) const LONG_ENGLISH: [Row; 4] = [
     (3, 3, None, " thousand"),
     (6, 6, None, " million"),
     (9, 9, None, " billion"),
     (12, 12, None, " trillion"),
 ];
 
-pub(super) const LONG_BANGLA: [Row; 3] = [
+pub(crate) const LONG_BANGLA: [Row; 3] = [
     (3, 3, None, " হাজার"),
     (5, 5, None, " লাখ"),
     (7, 7, None, " কোটি"),
 ];
 
-pub(super) const LONG_JAPANESE: [Row; 3] = [(3, 0, None, ""), (4, 4, None, "万"), (8, 8, None, "億")];
+pub(crate) const LONG_JAPANESE: [Row; 3] = [(3, 0, None, ""), (4, 4, None, "万"), (8, 8, None, "億")];
 
 /// A pattern, asked for again where memory was wanting.
 fn pattern<P: PatternBackend>(
@@ -127,7 +127,7 @@ fn made_of(
 }
 
 /// The table of the rows, after types whose pattern is the number with this literal.
-pub(super) fn table_of(
+pub(crate) fn table_of(
     alloc: Global,
     rows: &[Row],
     zero_magnitude: Option<&str>,
@@ -141,7 +141,7 @@ pub(super) fn table_of(
     }
 }
 
-pub(super) fn copy_of(alloc: Global, table: &Table) -> Result<Table, CompactError> {
+pub(crate) fn copy_of(alloc: Global, table: &Table) -> Result<Table, CompactError> {
     match table.copy(alloc) {
         Err(CompactError::OutOfMemory) => table.copy(alloc),
         answered => answered,
@@ -167,7 +167,7 @@ fn map_of_one<P: PatternBackend>(
 }
 
 /// A table of one entry with a literal, made again where memory was wanting.
-pub(super) fn table_of_literal(alloc: Global, literal: &str) -> Result<Table, CompactError> {
+pub(crate) fn table_of_literal(alloc: Global, literal: &str) -> Result<Table, CompactError> {
     match made(alloc, map_of_one(alloc, Some(0), literal), None) {
         Err(CompactError::OutOfMemory) => made(alloc, map_of_one(alloc, Some(0), literal), None),
         answered => answered,
@@ -175,7 +175,7 @@ pub(super) fn table_of_literal(alloc: Global, literal: &str) -> Result<Table, Co
 }
 
 /// A table of one entry without a place, made again where memory was wanting.
-pub(super) fn table_without_place(
+pub(crate) fn table_without_place(
     alloc: Global,
     literal: &str,
 ) -> Result<CompactPatterns<NoPlaceholder>, CompactError> {
@@ -194,7 +194,7 @@ const FRENCH_RULES: [(PluralCategory, &str); 2] = [
 ];
 
 /// The French rules, asked for again where memory was wanting.
-pub(super) fn french_rules(alloc: Global) -> Result<PluralRules, RulesError> {
+pub(crate) fn french_rules(alloc: Global) -> Result<PluralRules, RulesError> {
     match PluralRules::from_rules(alloc, &FRENCH_RULES) {
         Err(RulesError::OutOfMemory) => PluralRules::from_rules(alloc, &FRENCH_RULES),
         answered => answered,
@@ -202,7 +202,7 @@ pub(super) fn french_rules(alloc: Global) -> Result<PluralRules, RulesError> {
 }
 
 /// The operands of a decimal, read again where memory was wanting.
-pub(super) fn operands_of(alloc: Global, text: &str) -> Result<PluralOperands, DecimalError> {
+pub(crate) fn operands_of(alloc: Global, text: &str) -> Result<PluralOperands, DecimalError> {
     let decimal = match Decimal::try_from_str(alloc, text) {
         Err(DecimalError::OutOfMemory) => Decimal::try_from_str(alloc, text)?,
         answered => answered?,
@@ -250,7 +250,7 @@ fn french_map(alloc: Global) -> Option<Map<SinglePlaceholder>> {
 }
 
 /// The long French table, made again where memory was wanting.
-pub(super) fn french_table(alloc: Global) -> Result<Table, CompactError> {
+pub(crate) fn french_table(alloc: Global) -> Result<Table, CompactError> {
     match made(alloc, french_map(alloc), None) {
         Err(CompactError::OutOfMemory) => made(alloc, french_map(alloc), None),
         answered => answered,

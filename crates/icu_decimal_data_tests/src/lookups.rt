@@ -1,6 +1,6 @@
 //! What a compact table answers: the entry of a magnitude, the pattern of a slot, and what a number picks.
 
-use super::tables::{Row, SHORT_ENGLISH, Table, french_rules, french_table, operands_of, table_of};
+use crate::tables::{Row, SHORT_ENGLISH, Table, french_rules, french_table, operands_of, table_of};
 use icu_base::PluralRules;
 use std::alloc::Global;
 

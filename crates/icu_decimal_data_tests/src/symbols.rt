@@ -1,17 +1,10 @@
-//! Rows are constant tables, and values live in functions that answer whether they hold. Each test holds whichever
-//! single allocation fails: a call gives its usual answer or is refused for want of memory, and the same call then gives
-//! its usual answer.
+//! Symbols: which texts are held and refused, and which symbols are equal.
 
-use crate::{
+use icu_decimal_data::{
     DecimalSymbolStrsBuilder, DecimalSymbols, DecimalSymbolsStrs, GroupingSizes, SymbolsError,
 };
 use std::alloc::Global;
 use std::str;
-
-mod compact;
-mod fallback;
-mod lookups;
-mod tables;
 
 /// The seven texts in their order: both minus signs, both plus signs, both separators, the system.
 type Texts = [&'static str; 7];

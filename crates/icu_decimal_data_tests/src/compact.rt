@@ -1,11 +1,11 @@
 //! Which types a compact table keeps, what refuses a map, and which tables are equal.
 
-use super::tables::{
+use crate::tables::{
     LONG_BANGLA, LONG_ENGLISH, LONG_JAPANESE, Row, SHORT_ENGLISH, Table, copy_of, french_table,
     table_of, table_of_literal, table_without_place,
 };
-use crate::{CompactError, CompactPatterns};
 use icu_base::NoPlaceholder;
+use icu_decimal_data::{CompactError, CompactPatterns};
 use std::alloc::{AllocError, Global};
 use std::str;
 
