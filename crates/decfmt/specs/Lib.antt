@@ -4,3 +4,4 @@ pub mod Lines
 pub mod Written
 pub mod Laws
 pub mod Endings
+pub mod Words

@@ -9,6 +9,7 @@ mod piece;
 mod running;
 #[cfg(test)]
 mod tests;
+mod words;
 
 use mode::Mode;
 use running::{RunError, run};
