@@ -1,0 +1,185 @@
+//! Why tables are refused.
+
+ghost use Rattle.std.specs.Prelude.{◌≡◌, Err};
+ghost use Rattle.icu_tables.specs.Keys.{name_of};
+ghost use Rattle.icu_tables.specs.declared.error.TableError.TheVariants.{Entry, OutOfMemory};
+
+use std::alloc::{AllocError, AllocFailed};
+use std::fmt;
+use thiserror::Error;
+
+/// A key of the document, or of an object in it.
+#[derive(Clone, Copy, Debug, PartialEq, Eq)]
+pub enum Key {
+    /// The document itself, whose name is empty.
+    Document,
+    Symbols,
+    Digits,
+    Rules,
+    Short,
+    Long,
+    Locale,
+    System,
+    Minus,
+    Plus,
+    Decimal,
+    Group,
+    Numsys,
+    Sizes,
+    Patterns,
+    ExplicitZero,
+    ExplicitOne,
+    /// Of an entry, the patterns of numbers that aren't shortened; of elements, the plural category zero.
+    Zero,
+    One,
+    Two,
+    Few,
+    Many,
+    Other,
+}
+
+impl Key {
+    /// The key as the document spells it.
+    pub fn name(self) -> &'static str
+        ensures { result.now ≡ name_of self }
+    {
+        match self {
+            Key::Document => "",
+            Key::Symbols => "symbols",
+            Key::Digits => "digits",
+            Key::Rules => "rules",
+            Key::Short => "short",
+            Key::Long => "long",
+            Key::Locale => "locale",
+            Key::System => "system",
+            Key::Minus => "minus",
+            Key::Plus => "plus",
+            Key::Decimal => "decimal",
+            Key::Group => "group",
+            Key::Numsys => "numsys",
+            Key::Sizes => "sizes",
+            Key::Patterns => "patterns",
+            Key::ExplicitZero => "explicit_zero",
+            Key::ExplicitOne => "explicit_one",
+            Key::Zero => "zero",
+            Key::One => "one",
+            Key::Two => "two",
+            Key::Few => "few",
+            Key::Many => "many",
+            Key::Other => "other",
+        }
+    }
+}
+
+impl fmt::Display for Key {
+    fn fmt<W: fmt::Write>(&self, f: &mut fmt::Formatter<W>) -> fmt::Result {
+        f.write_str(self.name())
+    }
+}
+
+/// What an entry was refused by, once all its fields have the right kinds.
+#[derive(Clone, Copy, Debug, PartialEq, Eq, Error)]
+pub enum EntryFault {
+    /// The locale isn't 1 to 63 ASCII letters, digits and hyphens.
+    #[error("bad locale")]
+    BadLocale,
+    /// The numbering system that the entry is for isn't 3 to 8 ASCII lower-case letters and digits.
+    #[error("bad numbering system")]
+    BadNumberingSystem,
+    /// A pattern has two places or more.
+    #[error("a pattern has more than one place")]
+    BadPlace,
+    /// The condition of a plural rule isn't in the grammar of UTS 35 Part 3 (Plural rules syntax).
+    #[error("rule {rule} isn't a condition, by its byte {byte}")]
+    BadRule {
+        /// The place of the rule in its list, from 0.
+        rule: usize,
+        /// The place of the first byte of the first token that can't stand there; the end of what is read, if the text ends
+        /// too early.
+        byte: usize,
+    },
+    /// The seven texts of symbols are more than 255 bytes together.
+    #[error("the symbols are more than 255 bytes together")]
+    SymbolsTooLarge,
+    /// The numbering system that the symbols name isn't 3 to 8 ASCII lower-case letters and digits.
+    #[error("the symbols name no numbering system")]
+    BadSymbolsNumberingSystem,
+    /// An exponent is below that of the type just before.
+    #[error("compact exponents fall")]
+    ExponentsFall,
+    /// A kept type has an exponent above it.
+    #[error("a compact exponent is above its type")]
+    ExponentAboveType,
+    /// A kept type is more than 15 above its exponent.
+    #[error("a compact type is more than 15 above its exponent")]
+    TooManyZeros,
+    /// The literals of the kept patterns are more than 65,535 bytes together.
+    #[error("the literals of the compact patterns are more than 65535 bytes together")]
+    PatternsTooLarge,
+}
+
+/// Why tables were not made (this project's own).
+#[derive(Clone, Copy, Debug, PartialEq, Eq, Error)]
+pub enum TableError {
+    /// The text isn't JSON.
+    #[error("not JSON")]
+    NotJson,
+    /// Somewhere in the value stands a number that isn't a whole one of 64 bits.
+    #[error("a number that is no 64-bit whole number")]
+    Float,
+    /// A required key is absent.
+    #[error("`{0}` is missing")]
+    Missing(Key),
+    /// A value under the key, or a member of a list under it, has another kind, count or range.
+    #[error("`{0}` has the wrong kind")]
+    WrongKind(Key),
+    /// An entry of a list of the document was refused.
+    #[error("entry {index} of `{key}`: {fault}")]
+    Entry {
+        /// The key of the list.
+        key: Key,
+        /// The place of the entry in its list, from 0.
+        index: usize,
+        /// What it was refused by.
+        fault: EntryFault,
+    },
+    /// Memory ran out.
+    #[error("out of memory")]
+    OutOfMemory,
+}
+
+impl From<AllocError> for TableError {
+    ghost from_gives = { λ _ e. e ≡ OutOfMemory };
+
+    fn from(_e: AllocError) -> TableError {
+        TableError::OutOfMemory
+    }
+}
+
+impl<T: Drop> From<AllocFailed<T>> for TableError {
+    ghost from_gives = { λ _ e. e ≡ OutOfMemory };
+
+    fn from(_e: AllocFailed<T>) -> TableError {
+        TableError::OutOfMemory
+    }
+}
+
+/// Where an entry stands: in the list of which key, and at which place of it.
+#[derive(Clone, Copy, Debug)]
+pub struct Place {
+    pub key: Key,
+    pub index: usize,
+}
+
+impl Place {
+    /// The refusal of the entry by a fault.
+    pub fn refusal(self, fault: EntryFault) -> TableError
+        ensures { result ≡ Entry self.key self.index fault }
+    {
+        TableError::Entry {
+            key: self.key,
+            index: self.index,
+            fault,
+        }
+    }
+}
