@@ -54,4 +54,3 @@ module _ {A : Type 0} (read : Place → Data → Result A TableError) (key : Key
 -- the values from an index on
 pub values_from : (vs : List Value) (i : ℕ) (x : Value) → x ≡ get_or vs i x → i < length vs → map view (drop i vs) ≡ view x ∷ map view (drop (i + 1) vs)
 values_from vs i x e lt = ap (map view) (drop-cons vs i x lt) ∙ rw (← e, add-one) refl
-

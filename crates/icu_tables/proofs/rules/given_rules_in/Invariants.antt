@@ -1,0 +1,11 @@
+use Rattle.std.proofs.Common.{◌≡◌, map, drop}
+use Rattle.serde_json.specs.View.{view}
+use Rattle.icu_plurals.specs.Rules.{given_rules}
+use Rattle.icu_tables.specs.Reading.{entries_at}
+use Rattle.icu_tables.specs.Rules.{given_rule_in}
+use Rattle.icu_tables.specs.declared.error.Key.TheVariants.{Rules}
+use Rattle.icu_tables.proofs.Lists.{with_front}
+use Rattle.icu_tables.proofs.rules.given_rules_in.Given as goal
+
+abbrev pub invariant-loop-index : goal.invariant-loop-index
+invariant-loop-index l = with_front (given_rules l.found.items) (entries_at (λ place. given_rule_in) Rules l.index (map view (drop l.index l.values))) ≡ entries_at (λ place. given_rule_in) Rules 0 (map view l.values)

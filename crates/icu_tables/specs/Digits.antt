@@ -1,0 +1,35 @@
+-- Entries of digits.
+use Rattle.std.specs.Prelude.{ℕ, List, [], ◌∷◌, length, ◌==◌, Option, Some, None, Result, Ok, Err, nat_eq, if◌then◌else◌}
+use Rattle.std.specs.Cmp.Lexicographic.{pointwise}
+use Rattle.std.specs.Str.{chars}
+use Rattle.serde_json.specs.Data.{Data}
+use Rattle.icu_tables.specs.Named.{system_of}
+use Rattle.icu_tables.specs.Reading.{◌>>=◌, text_in, pair_in}
+use Rattle.icu_tables.specs.declared.error.Key.{Key}
+use Rattle.icu_tables.specs.declared.error.Place.{Place}
+use Rattle.icu_tables.specs.declared.error.TableError.{TableError}
+use Rattle.icu_tables.specs.declared.error.TableError.TheVariants.{WrongKind}
+
+-- the digits of a numbering system, that of 0 first
+pub record SystemDigits : Type 0 where
+  pub system : List ℕ
+  pub digits : List ℕ
+
+-- the characters of a text that has exactly ten
+unfoldable pub ten_in : Key → List ℕ → Result (List ℕ) TableError
+ten_in key text = if length (chars text) == 10 then Ok (chars text) else Err (WrongKind key)
+
+-- an entry: a list of a name and a text of ten characters
+unfoldable pub digits_at : Place → Data → Result SystemDigits TableError
+digits_at place d = do
+  pair ← pair_in place.key d
+  system ← text_in place.key pair.0
+  text ← text_in place.key pair.1
+  digits ← ten_in place.key text
+  system ← system_of place system
+  Ok (record { system = system; digits = digits })
+
+-- the digits of the first entry of a numbering system
+unfoldable pub first_digits : List ℕ → List SystemDigits → Option (List ℕ)
+first_digits system [] = None
+first_digits system (e ∷ es) = if pointwise nat_eq system e.system then Some e.digits else first_digits system es

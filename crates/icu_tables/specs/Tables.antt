@@ -1,0 +1,54 @@
+-- What the tables of a document are.
+use Rattle.std.specs.Prelude.{ℕ, List, Option, Some, None, Result, Ok, Err, if◌then◌else◌}
+use Rattle.serde_json.specs.Data.{Data}
+use Rattle.serde_json.specs.Read.{read}
+use Rattle.serde_json.specs.Written.{has_float}
+use Rattle.icu_plurals.specs.Rules.{Rule}
+use Rattle.icu_decimal_data.specs.declared.decimal_symbols.DecimalSymbols.{DecimalSymbols}
+use Rattle.icu_tables.specs.Digits.{SystemDigits, digits_at}
+use Rattle.icu_tables.specs.Named.{Filed}
+use Rattle.icu_tables.specs.Reading.{◌>>=◌, ok_or, member_at, optional_at, object_in, list_in, entries_at}
+use Rattle.icu_tables.specs.Rules.{rules_at}
+use Rattle.icu_tables.specs.Symbols.{symbols_at}
+use Rattle.icu_tables.specs.declared.error.Key.{Key}
+use Rattle.icu_tables.specs.declared.error.Key.TheVariants.{Document, Symbols, Digits, Rules}
+use Rattle.icu_tables.specs.declared.error.Place.{Place}
+use Rattle.icu_tables.specs.declared.error.TableError.{TableError}
+use Rattle.icu_tables.specs.declared.error.TableError.TheVariants.{NotJson, Float}
+
+-- the entries under each key of a document; none where a key that may be absent is
+pub record TablesData : Type 0 where
+  pub symbols : List (Filed DecimalSymbols)
+  pub digits : List SystemDigits
+  pub rules : Option (List (Filed (List Rule)))
+
+-- the entries of a list
+unfoldable pub entries_in : {A : Type 0} → (Place → Data → Result A TableError) → Key → Data → Result (List A) TableError
+entries_in read key d = do
+  values ← list_in key d
+  entries_at read key 0 values
+
+-- the entries under a required key
+unfoldable pub entries_under : {A : Type 0} → (Place → Data → Result A TableError) → Key → Data → Result (List A) TableError
+entries_under read key d = do
+  x ← member_at key d
+  entries_in read key x
+
+-- the tables of an object, key by key
+unfoldable pub tables_at : Data → Result TablesData TableError
+tables_at d = do
+  d ← object_in Document d
+  symbols ← entries_under symbols_at Symbols d
+  digits ← entries_under digits_at Digits d
+  rules ← optional_at (entries_in rules_at Rules) Rules d
+  Ok (record { symbols = symbols; digits = digits; rules = rules })
+
+-- the whole value is looked through for numbers that aren't whole first
+unfoldable pub tables_in : Data → Result TablesData TableError
+tables_in d = if has_float d then Err Float else tables_at d
+
+-- the tables of a text
+unfoldable pub tables_of : List ℕ → Result TablesData TableError
+tables_of text = do
+  d ← ok_or (read text) NotJson
+  tables_in d

@@ -1,0 +1,77 @@
+//! Entries of digits.
+
+ghost use Rattle.std.specs.Prelude.{◌≡◌, IfOk};
+ghost use Rattle.std.specs.Str.{chars};
+ghost use Rattle.icu_tables.specs.Digits.{ten_in, first_digits};
+ghost use Rattle.icu_tables.specs.Reading.{Gives};
+
+use crate::entries::FromEntry;
+use crate::error::{Key, Place, TableError};
+use crate::fields::{pair_in, text_in};
+use crate::named::system_of;
+use icu_provider::NumberingSystem;
+use serde_json::Value;
+use std::alloc::{AllocError, Global};
+use std::marker::Model;
+
+/// The digits of a numbering system, that of 0 first.
+#[derive(Drop)]
+pub struct SystemDigits {
+    system: NumberingSystem,
+    digits: [char; 10],
+}
+
+impl Model for SystemDigits {
+    ghost use Rattle.icu_tables.specs.Digits.{SystemDigits as Digits};
+
+    ghost Value = { Digits };
+
+    ghost view = { λ s. record { system = s.system; digits = s.digits } };
+}
+
+fn characters(alloc: Global, text: &str) -> Result<Vec<char>, AllocError>
+    ensures { IfOk result (λ v. v.items ≡ chars text.now) }
+{
+    text.chars().collect(alloc)
+}
+
+/// The characters of a text that has exactly ten.
+#[tactic(auto, unfolding(crate::specs::Digits::ten_in))]
+fn ten_in(alloc: Global, text: &str, key: Key) -> Result<[char; 10], TableError>
+    ensures { Gives (λ x. x) result (ten_in key text.now) }
+{
+    let characters = characters(alloc, text)?;
+    match <[char; 10]>::try_from(characters.as_slice()) {
+        Ok(digits) => Ok(digits),
+        Err(_) => Err(TableError::WrongKind(key)),
+    }
+}
+
+impl FromEntry for SystemDigits {
+    ghost use Rattle.icu_tables.specs.Digits.{digits_at};
+
+    ghost read_at = { digits_at };
+
+    #[tactic(auto, unfolding(crate::specs::Digits::digits_at))]
+    fn from_entry(alloc: Global, place: Place, value: &Value) -> Result<Self, TableError> {
+        let (system, text) = pair_in(value, place.key)?;
+        let system = text_in(system, place.key)?;
+        let text = text_in(text, place.key)?;
+        let digits = ten_in(alloc, text, place.key)?;
+        let system = system_of(place, system)?;
+        Ok(SystemDigits { system, digits })
+    }
+}
+
+/// The digits of the first entry of a numbering system.
+#[tactic(auto, unfolding(crate::specs::Digits::first_digits))]
+pub fn first_digits(entries: &[SystemDigits], system: &str) -> Option<[char; 10]>
+    ensures { result ≡ first_digits system.now entries.now }
+{
+    for entry in entries {
+        if system == entry.system.as_str() {
+            return Some(entry.digits);
+        }
+    }
+    None
+}

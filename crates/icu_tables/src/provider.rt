@@ -1,0 +1,106 @@
+//! Tables as a provider.
+
+ghost use Rattle.std.specs.Prelude.{Ok, option_map};
+ghost use Rattle.icu_provider.specs.Answer.{Answers};
+ghost use Rattle.icu_provider.specs.Identifier.{identifier_of};
+ghost use Rattle.icu_tables.specs.Answering.{filed_answer, optional_answer, system_answer};
+
+use crate::digits::first_digits;
+use crate::named::{Filed, first_filed};
+use crate::tables::Tables;
+use icu_decimal_data::{DecimalDigitsV1, DecimalSymbols, DecimalSymbolsV1};
+use icu_plurals::{PluralRules, PluralsCardinalV1};
+use icu_provider::{DataError, DataErrorKind, DataIdentifierBorrowed, DataProvider, DataRequest};
+use std::alloc::Global;
+
+/// What is copied for each answer.
+trait Copied: Sized {
+    fn copied(&self, alloc: Global) -> Result<Self, DataError>
+        ensures { Answers result (Ok self.now) };
+}
+
+impl Copied for DecimalSymbols {
+    fn copied(&self, alloc: Global) -> Result<Self, DataError> {
+        match self.copy(alloc) {
+            Ok(symbols) => Ok(symbols),
+            Err(_) => Err(DataErrorKind::OutOfMemory.into()),
+        }
+    }
+}
+
+impl Copied for PluralRules {
+    fn copied(&self, alloc: Global) -> Result<Self, DataError> {
+        match self.copy(alloc) {
+            Ok(rules) => Ok(rules),
+            Err(_) => Err(DataErrorKind::OutOfMemory.into()),
+        }
+    }
+}
+
+/// A copy of the first entry with the identifier.
+fn load_filed<T: Copied>(
+    alloc: Global,
+    entries: &[Filed<T>],
+    id: &DataIdentifierBorrowed<'_>,
+) -> Result<T, DataError>
+    ensures { Answers result (filed_answer entries.now (identifier_of id.now)) }
+{
+    match first_filed(entries, id) {
+        Some(content) => content.copied(alloc),
+        None => Err(DataErrorKind::IdentifierNotFound.into()),
+    }
+}
+
+/// The same under a key that may be absent.
+fn load_optional<T: Copied>(
+    alloc: Global,
+    entries: &Option<Vec<Filed<T>>>,
+    id: &DataIdentifierBorrowed<'_>,
+) -> Result<T, DataError>
+    ensures { Answers result (optional_answer (option_map (λ v. v.items) entries.now) (identifier_of id.now)) }
+{
+    match entries {
+        Some(entries) => load_filed(alloc, entries, id),
+        None => Err(DataErrorKind::MarkerNotFound.into()),
+    }
+}
+
+impl DataProvider<DecimalSymbolsV1> for Tables {
+    ghost use Rattle.icu_tables.specs.Answering.{filed_answer};
+
+    ghost answer = { λ tables id. filed_answer tables.symbols id };
+
+    /// A copy of the first entry of `symbols` with the identifier's locale and numbering system, or none.
+    fn load(&self, alloc: Global, request: &DataRequest<'_>) -> Result<DecimalSymbols, DataError> {
+        load_filed(alloc, &self.symbols, &request.id)
+    }
+}
+
+impl DataProvider<DecimalDigitsV1> for Tables {
+    ghost use Rattle.icu_tables.specs.Answering.{system_answer};
+
+    ghost answer = { λ tables id. system_answer tables.digits id.system };
+
+    /// The digits of the first pair of the identifier's numbering system; its locale isn't looked at.
+    fn load(&self, _alloc: Global, request: &DataRequest<'_>) -> Result<[char; 10], DataError> {
+        let digits = match request.id.system() {
+            Some(system) => first_digits(&self.digits, system),
+            None => None,
+        };
+        match digits {
+            Some(digits) => Ok(digits),
+            None => Err(DataErrorKind::IdentifierNotFound.into()),
+        }
+    }
+}
+
+impl DataProvider<PluralsCardinalV1> for Tables {
+    ghost use Rattle.icu_tables.specs.Answering.{optional_answer};
+
+    ghost answer = { λ tables id. optional_answer tables.rules id };
+
+    /// A copy of the first entry of `rules` of the identifier's locale; none for an identifier with a numbering system.
+    fn load(&self, alloc: Global, request: &DataRequest<'_>) -> Result<PluralRules, DataError> {
+        load_optional(alloc, &self.rules, &request.id)
+    }
+}

@@ -1,0 +1,93 @@
+//! Entries of plural rules.
+
+ghost use Rattle.std.specs.Prelude.{◌≡◌, map};
+ghost use Rattle.serde_json.specs.View.{view};
+ghost use Rattle.icu_plurals.specs.Rules.{given_rule, given_rules};
+ghost use Rattle.icu_tables.specs.Reading.{Gives};
+ghost use Rattle.icu_tables.specs.Rules.{category_named, given_rule_in, given_rules_in, rules_from};
+
+use crate::entries::FromEntry;
+use crate::error::{EntryFault, Key, Place, TableError};
+use crate::fields::{list_at, object_in, pair_in, text_at, text_in};
+use crate::named::{Filed, name_of};
+use icu_plurals::{PluralCategory, PluralRules, RulesError};
+use serde_json::Value;
+use std::alloc::Global;
+
+/// The plural category of a name.
+#[tactic(auto, unfolding(crate::specs::Rules::category_named))]
+fn category_named(name: &str) -> Option<PluralCategory>
+    ensures { result ≡ category_named name.now }
+{
+    match name {
+        "zero" => Some(PluralCategory::Zero),
+        "one" => Some(PluralCategory::One),
+        "two" => Some(PluralCategory::Two),
+        "few" => Some(PluralCategory::Few),
+        "many" => Some(PluralCategory::Many),
+        "other" => Some(PluralCategory::Other),
+        _ => None,
+    }
+}
+
+/// A category and the text of a condition, which isn't judged yet.
+#[tactic(auto, unfolding(crate::specs::Rules::given_rule_in))]
+fn given_rule_in(value: &Value) -> Result<(PluralCategory, &str), TableError>
+    ensures { Gives given_rule result (given_rule_in (view value.now)) }
+{
+    let (name, text) = pair_in(value, Key::Rules)?;
+    let name = text_in(name, Key::Rules)?;
+    match category_named(name) {
+        Some(category) => Ok((category, text_in(text, Key::Rules)?)),
+        None => Err(TableError::WrongKind(Key::Rules)),
+    }
+}
+
+/// Each rule in turn.
+#[tactic(auto, unfolding(crate::specs::Rules::given_rules_in))]
+fn given_rules_in(
+    alloc: Global,
+    values: &[Value],
+) -> Result<Vec<(PluralCategory, &str)>, TableError>
+    ensures { Gives (λ v. given_rules v.items) result (given_rules_in (map view values.now)) }
+{
+    let mut found = Vec::new(alloc);
+    for index in 0..values.len() {
+        found.push(given_rule_in(&values[index])?)?;
+    }
+    Ok(found)
+}
+
+/// The rules that are given.
+fn rules_of(
+    alloc: Global,
+    place: Place,
+    given: &[(PluralCategory, &str)],
+) -> Result<PluralRules, TableError>
+    ensures { Gives (λ x. x) result (rules_from place 0 (given_rules given.now)) }
+{
+    match PluralRules::from_rules(alloc, given) {
+        Ok(rules) => Ok(rules),
+        Err(RulesError::BadRule { rule, byte }) => {
+            Err(place.refusal(EntryFault::BadRule { rule, byte }))
+        }
+        Err(RulesError::OutOfMemory) => Err(TableError::OutOfMemory),
+    }
+}
+
+impl FromEntry for Filed<PluralRules> {
+    ghost use Rattle.icu_tables.specs.Rules.{rules_at};
+
+    ghost read_at = { rules_at };
+
+    #[tactic(auto, unfolding(crate::specs::Rules::rules_at))]
+    fn from_entry(alloc: Global, place: Place, value: &Value) -> Result<Self, TableError> {
+        let value = object_in(value, place.key)?;
+        let locale = text_at(value, Key::Locale)?;
+        let rules = list_at(value, Key::Rules)?;
+        let given = given_rules_in(alloc, rules)?;
+        let name = name_of(place, locale, None)?;
+        let content = rules_of(alloc, place, &given)?;
+        Ok(Filed { name, content })
+    }
+}
