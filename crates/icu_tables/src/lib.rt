@@ -10,6 +10,8 @@ mod provider;
 mod rules;
 mod symbols;
 mod tables;
+#[cfg(test)]
+mod tests;
 mod whole_numbers;
 
 pub use error::{EntryFault, Key, TableError};

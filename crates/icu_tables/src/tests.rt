@@ -1,0 +1,236 @@
+//! Documents that are refused, and what tables answer.
+
+use crate::{EntryFault, Key, TableError, Tables};
+use icu_base::{
+    DataErrorKind, DataIdentifierBorrowed, DataLocale, DataProvider, DataRequest, PluralsCardinalV1,
+};
+use icu_decimal_data::{DecimalDigitsV1, DecimalSymbolsV1};
+use std::alloc::Global;
+
+/// Why a text is refused; none where it isn't.
+fn refusal_once(alloc: Global, text: &str) -> Option<TableError> {
+    match Tables::from_json(alloc, text) {
+        Ok(_) => None,
+        Err(error) => Some(error),
+    }
+}
+
+/// The same, asked once more where memory was wanting.
+fn refusal(alloc: Global, text: &str) -> Option<TableError> {
+    match refusal_once(alloc, text) {
+        Some(TableError::OutOfMemory) => refusal_once(alloc, text),
+        told => told,
+    }
+}
+
+const REFUSED: [(&str, TableError); 17] = [
+    ("{\"symbols\":[]", TableError::NotJson),
+    ("", TableError::NotJson),
+    ("{}", TableError::Missing(Key::Symbols)),
+    ("{\"symbols\":[]}", TableError::Missing(Key::Digits)),
+    ("[]", TableError::WrongKind(Key::Document)),
+    ("{\"x\":1.5}", TableError::Float),
+    (
+        "{\"symbols\":[],\"digits\":[[\"latn\",\"012345678\"]]}",
+        TableError::WrongKind(Key::Digits),
+    ),
+    (
+        "{\"symbols\":[],\"digits\":[[\"Latn\",\"0123456789\"]]}",
+        TableError::Entry {
+            key: Key::Digits,
+            index: 0,
+            fault: EntryFault::BadNumberingSystem,
+        },
+    ),
+    (
+        "{\"symbols\":[],\"digits\":[],\"rules\":[{\"rules\":[]}]}",
+        TableError::Missing(Key::Locale),
+    ),
+    (
+        "{\"symbols\":[],\"digits\":[],\"rules\":[{\"locale\":\"e_n\",\"rules\":[]}]}",
+        TableError::Entry {
+            key: Key::Rules,
+            index: 0,
+            fault: EntryFault::BadLocale,
+        },
+    ),
+    (
+        "{\"symbols\":[],\"digits\":[],\"rules\":[{\"locale\":\"en\",\"rules\":[[\"one\",\"x = 1\"]]}]}",
+        TableError::Entry {
+            key: Key::Rules,
+            index: 0,
+            fault: EntryFault::BadRule { rule: 0, byte: 0 },
+        },
+    ),
+    (
+        "{\"symbols\":[],\"digits\":[],\"rules\":[{\"locale\":\"en\",\"rules\":[[\"uno\",\"x = 1\"]]}]}",
+        TableError::WrongKind(Key::Rules),
+    ),
+    (
+        "{\"symbols\":[{\"locale\":\"\",\"system\":null,\"minus\":[\"-\",\"\"],\"plus\":[\"+\",\"\"],\"decimal\":\".\",\"group\":\",\",\"numsys\":\"latn\",\"sizes\":[3,3,1]}],\"digits\":[]}",
+        TableError::WrongKind(Key::System),
+    ),
+    (
+        "{\"symbols\":[{\"locale\":\"\",\"minus\":[\"-\",\"\"],\"plus\":[\"+\",\"\"],\"decimal\":\".\",\"group\":\",\",\"numsys\":\"latn\",\"sizes\":[3,3,256]}],\"digits\":[]}",
+        TableError::WrongKind(Key::Sizes),
+    ),
+    (
+        "{\"symbols\":[{\"locale\":\"\",\"system\":\"a\",\"minus\":[\"-\",\"\"],\"plus\":[\"+\",\"\"],\"decimal\":\".\",\"group\":\",\",\"numsys\":\"la\",\"sizes\":[3,3,255]}],\"digits\":[]}",
+        TableError::Entry {
+            key: Key::Symbols,
+            index: 0,
+            fault: EntryFault::BadLocale,
+        },
+    ),
+    (
+        "{\"symbols\":[{\"locale\":\"en\",\"system\":\"a\",\"minus\":[\"-\",\"\"],\"plus\":[\"+\",\"\"],\"decimal\":\".\",\"group\":\",\",\"numsys\":\"la\",\"sizes\":[3,3,255]}],\"digits\":[]}",
+        TableError::Entry {
+            key: Key::Symbols,
+            index: 0,
+            fault: EntryFault::BadNumberingSystem,
+        },
+    ),
+    (
+        "{\"symbols\":[{\"locale\":\"en\",\"minus\":[\"-\",\"\"],\"plus\":[\"+\",\"\"],\"decimal\":\".\",\"group\":\",\",\"numsys\":\"la\",\"sizes\":[3,3,255]}],\"digits\":[]}",
+        TableError::Entry {
+            key: Key::Symbols,
+            index: 0,
+            fault: EntryFault::BadSymbolsNumberingSystem,
+        },
+    ),
+];
+
+#[test]
+fn documents_are_refused_by_name(rt: HostRuntime) {
+    for (text, wanted) in REFUSED {
+        assert!(rt; refusal(rt.alloc(), text) == Some(wanted), "{text}");
+    }
+}
+
+/// A locale twice, plural rules of one locale, and two pairs of digits of one system.
+const TABLES: &str = "{\"symbols\":[\
+{\"locale\":\"en\",\"minus\":[\"-\",\"\"],\"plus\":[\"+\",\"\"],\"decimal\":\".\",\"group\":\",\",\"numsys\":\"latn\",\"sizes\":[3,2,1]},\
+{\"locale\":\"en\",\"minus\":[\"-\",\"\"],\"plus\":[\"+\",\"\"],\"decimal\":\"!\",\"group\":\",\",\"numsys\":\"latn\",\"sizes\":[3,3,1]},\
+{\"locale\":\"en\",\"system\":\"arab\",\"minus\":[\"-\",\"\"],\"plus\":[\"+\",\"\"],\"decimal\":\";\",\"group\":\",\",\"numsys\":\"arab\",\"sizes\":[3,3,1]}],\
+\"digits\":[[\"latn\",\"0123456789\"],[\"latn\",\"9876543210\"]],\
+\"rules\":[{\"locale\":\"en\",\"rules\":[[\"one\",\"i = 1 and v = 0\"]]}]}";
+
+const LATIN: [char; 10] = ['0', '1', '2', '3', '4', '5', '6', '7', '8', '9'];
+
+/// What is asked for.
+#[derive(Clone, Copy, Debug, PartialEq, Eq)]
+enum Asked {
+    Symbols,
+    Digits,
+    Rules,
+}
+
+/// What is told of an answer: the decimal separator of symbols, or that digits are Latin, or that there are rules.
+fn told(
+    alloc: Global,
+    tables: &Tables,
+    asked: Asked,
+    request: &DataRequest<'_>,
+) -> Result<char, DataErrorKind> {
+    match asked {
+        Asked::Symbols => {
+            match <Tables as DataProvider<DecimalSymbolsV1>>::load(tables, alloc, request) {
+                Ok(symbols) => Ok(symbols.decimal_separator().chars().next().unwrap_or(' ')),
+                Err(error) => Err(error.kind),
+            }
+        }
+        Asked::Digits => {
+            match <Tables as DataProvider<DecimalDigitsV1>>::load(tables, alloc, request) {
+                Ok(digits) if digits == LATIN => Ok('0'),
+                Ok(_) => Ok('9'),
+                Err(error) => Err(error.kind),
+            }
+        }
+        Asked::Rules => {
+            match <Tables as DataProvider<PluralsCardinalV1>>::load(tables, alloc, request) {
+                Ok(_) => Ok('r'),
+                Err(error) => Err(error.kind),
+            }
+        }
+    }
+}
+
+/// The same for a locale and a system or none, of these tables.
+fn answer_once(
+    alloc: Global,
+    text: &str,
+    asked: Asked,
+    (locale, system): (&str, &str),
+) -> Result<char, DataErrorKind> {
+    let Ok(tables) = Tables::from_json(alloc, text) else {
+        return Err(DataErrorKind::OutOfMemory);
+    };
+    let locale = DataLocale::try_from_str(locale).unwrap_or_default();
+    let id = if system.is_empty() {
+        DataIdentifierBorrowed::for_locale(&locale)
+    } else {
+        DataIdentifierBorrowed::for_marker_attributes_and_locale(system, &locale)
+    };
+    told(alloc, &tables, asked, &DataRequest { id, silent: false })
+}
+
+/// The same, asked once more where memory was wanting.
+fn answer(
+    alloc: Global,
+    text: &str,
+    asked: Asked,
+    id: (&str, &str),
+) -> Result<char, DataErrorKind> {
+    match answer_once(alloc, text, asked, id) {
+        Err(DataErrorKind::OutOfMemory) => answer_once(alloc, text, asked, id),
+        told => told,
+    }
+}
+
+const ANSWERED: [(Asked, (&str, &str), Result<char, DataErrorKind>); 9] = [
+    (Asked::Symbols, ("en", ""), Ok('.')),
+    (Asked::Symbols, ("en", "arab"), Ok(';')),
+    (
+        Asked::Symbols,
+        ("en", "latn"),
+        Err(DataErrorKind::IdentifierNotFound),
+    ),
+    (
+        Asked::Symbols,
+        ("und", ""),
+        Err(DataErrorKind::IdentifierNotFound),
+    ),
+    (Asked::Digits, ("fr", "latn"), Ok('0')),
+    (
+        Asked::Digits,
+        ("en", ""),
+        Err(DataErrorKind::IdentifierNotFound),
+    ),
+    (
+        Asked::Digits,
+        ("en", "arab"),
+        Err(DataErrorKind::IdentifierNotFound),
+    ),
+    (Asked::Rules, ("en", ""), Ok('r')),
+    (
+        Asked::Rules,
+        ("en", "latn"),
+        Err(DataErrorKind::IdentifierNotFound),
+    ),
+];
+
+#[test]
+fn the_first_matching_entry_answers(rt: HostRuntime) {
+    for (asked, id, wanted) in ANSWERED {
+        assert!(rt; answer(rt.alloc(), TABLES, asked, id) == wanted, "{id:?}");
+    }
+}
+
+/// Neither rules nor compact patterns.
+const WITHOUT_RULES: &str = "{\"symbols\":[],\"digits\":[]}";
+
+#[test]
+fn absent_keys_are_other_refusals(rt: HostRuntime) {
+    let rules = answer(rt.alloc(), WITHOUT_RULES, Asked::Rules, ("en", ""));
+    assert!(rt; rules == Err(DataErrorKind::MarkerNotFound));
+}
