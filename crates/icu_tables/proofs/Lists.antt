@@ -1,7 +1,6 @@
 -- Lists of values, and lists of entries.
-use Rattle.std.proofs.Common.{◌≡◌, ℕ, eqb, true, false, ◌+◌, ◌<◌, List, length, get_or, drop, drop-cons, add-one, [], ◌∷◌, ◌++◌, map, Result, Ok, Err, refl, sym, ap, ◌∙◌, append_assoc, arith}
+use Rattle.std.proofs.Common.{◌≡◌, ℕ, ◌+◌, ◌<◌, List, length, get_or, drop, drop-cons, add-one, [], ◌∷◌, ◌++◌, map, Result, Ok, Err, refl, sym, ap, ◌∙◌, append_assoc}
 use Rattle.std.proofs.lemmas.List.{append-nil}
-use Rattle.std.proofs.lemmas.Bool.Decides.{nat_tests}
 use Rattle.serde_json.specs.Data.{Data}
 use Rattle.serde_json.specs.View.{view, items_of}
 use Rattle.serde_json.specs.declared.value.Value.{Value}
@@ -21,11 +20,11 @@ pub ruleset list_rules = list_of-items_of
 abbrev pub with_front : {A : Type 0} → List A → Result (List A) TableError → Result (List A) TableError
 with_front front read = read >>= λ xs. Ok (front ++ xs)
 
-regroup : {A : Type 0} (front : List A) (x : A) (read : Result (List A) TableError) → with_front front (read >>= λ xs. Ok (x ∷ xs)) ≡ with_front (front ++ x ∷ []) read
+pub regroup : {A : Type 0} (front : List A) (x : A) (read : Result (List A) TableError) → with_front front (read >>= λ xs. Ok (x ∷ xs)) ≡ with_front (front ++ x ∷ []) read
 regroup front x (Ok xs) = ap Ok (sym (append_assoc front (x ∷ []) xs))
 regroup front x (Err e) = refl
 
-failed : {A B : Type 0} (e : TableError) (r : Result A TableError) (f : A → Result B TableError) → Fails e r → Fails e (r >>= f)
+pub failed : {A B : Type 0} (e : TableError) (r : Result A TableError) (f : A → Result B TableError) → Fails e r → Fails e (r >>= f)
 failed NotJson r f h = rw h refl
 failed Float r f h = rw h refl
 failed (Missing key) r f h = rw h refl

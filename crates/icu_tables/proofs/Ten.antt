@@ -1,5 +1,5 @@
 -- Ten characters, and any other number of them.
-use Rattle.std.proofs.Common.{◌≡◌, ℕ, eqb, true, false, List, length, Ok, Err, refl, ap, ◌∙◌, arith}
+use Rattle.std.proofs.Common.{◌≡◌, ℕ, eqb, true, false, List, length, Ok, Err, refl, arith}
 use Rattle.std.proofs.lemmas.Bool.Decides.{nat_tests}
 use Rattle.std.specs.Array.{IsWholeChunk}
 use Rattle.std.specs.Str.{chars}

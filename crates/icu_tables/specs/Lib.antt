@@ -4,5 +4,8 @@ pub mod Named
 pub mod Symbols
 pub mod Digits
 pub mod Rules
+pub mod Spelling
+pub mod PatternTexts
+pub mod Compact
 pub mod Tables
 pub mod Answering

@@ -10,7 +10,6 @@ use Rattle.icu_plurals.specs.Rules.{Rule, GivenRule}
 use Rattle.icu_tables.specs.Named.{Filed, refused, identifier_from}
 use Rattle.icu_tables.specs.Reading.{◌>>=◌, ok_or, object_in, text_in, text_at, list_at, pair_in, entries_at}
 use Rattle.icu_tables.specs.declared.error.EntryFault.TheVariants.{BadRule}
-use Rattle.icu_tables.specs.declared.error.Key.{Key}
 use Rattle.icu_tables.specs.declared.error.Key.TheVariants.{Locale, Rules}
 use Rattle.icu_tables.specs.declared.error.Place.{Place}
 use Rattle.icu_tables.specs.declared.error.TableError.{TableError}

@@ -1,5 +1,5 @@
 -- Entries of symbols.
-use Rattle.std.specs.Prelude.{ℕ, List, Option, Result, Ok, Err, nat_lt, if◌then◌else◌}
+use Rattle.std.specs.Prelude.{ℕ, List, Option, Result, Ok, nat_lt, if◌then◌else◌}
 use Rattle.serde_json.specs.Data.{Data}
 use Rattle.icu_provider.specs.NumberingSystem.{is_numbering_system}
 use Rattle.icu_decimal_data.specs.Symbols.{SymbolTexts, total_len}

@@ -1,17 +1,19 @@
 -- What the tables of a document are.
-use Rattle.std.specs.Prelude.{ℕ, List, Option, Some, None, Result, Ok, Err, if◌then◌else◌}
+use Rattle.std.specs.Prelude.{ℕ, List, Option, Result, Ok, Err, if◌then◌else◌}
 use Rattle.serde_json.specs.Data.{Data}
 use Rattle.serde_json.specs.Read.{read}
 use Rattle.serde_json.specs.Written.{has_float}
 use Rattle.icu_plurals.specs.Rules.{Rule}
 use Rattle.icu_decimal_data.specs.declared.decimal_symbols.DecimalSymbols.{DecimalSymbols}
+use Rattle.icu_decimal_data.specs.CompactTable.{TableEntry}
+use Rattle.icu_tables.specs.Compact.{compact_at}
 use Rattle.icu_tables.specs.Digits.{SystemDigits, digits_at}
 use Rattle.icu_tables.specs.Named.{Filed}
 use Rattle.icu_tables.specs.Reading.{◌>>=◌, ok_or, member_at, optional_at, object_in, list_in, entries_at}
 use Rattle.icu_tables.specs.Rules.{rules_at}
 use Rattle.icu_tables.specs.Symbols.{symbols_at}
 use Rattle.icu_tables.specs.declared.error.Key.{Key}
-use Rattle.icu_tables.specs.declared.error.Key.TheVariants.{Document, Symbols, Digits, Rules}
+use Rattle.icu_tables.specs.declared.error.Key.TheVariants.{Document, Symbols, Digits, Rules, Short, Long}
 use Rattle.icu_tables.specs.declared.error.Place.{Place}
 use Rattle.icu_tables.specs.declared.error.TableError.{TableError}
 use Rattle.icu_tables.specs.declared.error.TableError.TheVariants.{NotJson, Float}
@@ -21,6 +23,8 @@ pub record TablesData : Type 0 where
   pub symbols : List (Filed DecimalSymbols)
   pub digits : List SystemDigits
   pub rules : Option (List (Filed (List Rule)))
+  pub short : Option (List (Filed (List TableEntry)))
+  pub long : Option (List (Filed (List TableEntry)))
 
 -- the entries of a list
 unfoldable pub entries_in : {A : Type 0} → (Place → Data → Result A TableError) → Key → Data → Result (List A) TableError
@@ -41,7 +45,9 @@ tables_at d = do
   symbols ← entries_under symbols_at Symbols d
   digits ← entries_under digits_at Digits d
   rules ← optional_at (entries_in rules_at Rules) Rules d
-  Ok (record { symbols = symbols; digits = digits; rules = rules })
+  short ← optional_at (entries_in compact_at Short) Short d
+  long ← optional_at (entries_in compact_at Long) Long d
+  Ok (record { symbols = symbols; digits = digits; rules = rules; short = short; long = long })
 
 -- the whole value is looked through for numbers that aren't whole first
 unfoldable pub tables_in : Data → Result TablesData TableError

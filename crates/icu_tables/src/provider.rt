@@ -8,7 +8,11 @@ ghost use Rattle.icu_tables.specs.Answering.{filed_answer, optional_answer, syst
 use crate::digits::first_digits;
 use crate::named::{Filed, first_filed};
 use crate::tables::Tables;
-use icu_decimal_data::{DecimalDigitsV1, DecimalSymbols, DecimalSymbolsV1};
+use icu_decimal_data::{
+    CompactPatterns, DecimalCompactLongV1, DecimalCompactShortV1, DecimalDigitsV1, DecimalSymbols,
+    DecimalSymbolsV1,
+};
+use icu_pattern::SinglePlaceholder;
 use icu_plurals::{PluralRules, PluralsCardinalV1};
 use icu_provider::{DataError, DataErrorKind, DataIdentifierBorrowed, DataProvider, DataRequest};
 use std::alloc::Global;
@@ -32,6 +36,15 @@ impl Copied for PluralRules {
     fn copied(&self, alloc: Global) -> Result<Self, DataError> {
         match self.copy(alloc) {
             Ok(rules) => Ok(rules),
+            Err(_) => Err(DataErrorKind::OutOfMemory.into()),
+        }
+    }
+}
+
+impl Copied for CompactPatterns<SinglePlaceholder> {
+    fn copied(&self, alloc: Global) -> Result<Self, DataError> {
+        match self.copy(alloc) {
+            Ok(table) => Ok(table),
             Err(_) => Err(DataErrorKind::OutOfMemory.into()),
         }
     }
@@ -102,5 +115,35 @@ impl DataProvider<PluralsCardinalV1> for Tables {
     /// A copy of the first entry of `rules` of the identifier's locale; none for an identifier with a numbering system.
     fn load(&self, alloc: Global, request: &DataRequest<'_>) -> Result<PluralRules, DataError> {
         load_optional(alloc, &self.rules, &request.id)
+    }
+}
+
+impl DataProvider<DecimalCompactShortV1> for Tables {
+    ghost use Rattle.icu_tables.specs.Answering.{optional_answer};
+
+    ghost answer = { λ tables id. optional_answer tables.short id };
+
+    /// A copy of the first entry of `short` with the identifier's locale and numbering system, or none.
+    fn load(
+        &self,
+        alloc: Global,
+        request: &DataRequest<'_>,
+    ) -> Result<CompactPatterns<SinglePlaceholder>, DataError> {
+        load_optional(alloc, &self.short, &request.id)
+    }
+}
+
+impl DataProvider<DecimalCompactLongV1> for Tables {
+    ghost use Rattle.icu_tables.specs.Answering.{optional_answer};
+
+    ghost answer = { λ tables id. optional_answer tables.long id };
+
+    /// A copy of the first entry of `long` with the identifier's locale and numbering system, or none.
+    fn load(
+        &self,
+        alloc: Global,
+        request: &DataRequest<'_>,
+    ) -> Result<CompactPatterns<SinglePlaceholder>, DataError> {
+        load_optional(alloc, &self.long, &request.id)
     }
 }

@@ -11,7 +11,8 @@ use crate::error::{Key, TableError};
 use crate::fields::{list_in, member_at, object_in};
 use crate::named::Filed;
 use crate::whole_numbers::has_float;
-use icu_decimal_data::DecimalSymbols;
+use icu_decimal_data::{CompactPatterns, DecimalSymbols};
+use icu_pattern::SinglePlaceholder;
 use icu_plurals::PluralRules;
 use serde_json::Value;
 use std::alloc::Global;
@@ -24,6 +25,8 @@ pub struct Tables {
     pub(crate) symbols: Vec<Filed<DecimalSymbols>>,
     pub(crate) digits: Vec<SystemDigits>,
     pub(crate) rules: Option<Vec<Filed<PluralRules>>>,
+    pub(crate) short: Option<Vec<Filed<CompactPatterns<SinglePlaceholder>>>>,
+    pub(crate) long: Option<Vec<Filed<CompactPatterns<SinglePlaceholder>>>>,
 }
 
 impl Model for Tables {
@@ -32,7 +35,7 @@ impl Model for Tables {
 
     ghost Value = { TablesData };
 
-    ghost view = { λ t. record { symbols = t.symbols.items; digits = t.digits.items; rules = option_map (λ v. v.items) t.rules } };
+    ghost view = { λ t. record { symbols = t.symbols.items; digits = t.digits.items; rules = option_map (λ v. v.items) t.rules; short = option_map (λ v. v.items) t.short; long = option_map (λ v. v.items) t.long } };
 }
 
 /// The entries of a list.
@@ -84,6 +87,8 @@ fn tables_at(alloc: Global, value: &Value) -> Result<Tables, TableError>
         symbols: entries_under(alloc, value, Key::Symbols)?,
         digits: entries_under(alloc, value, Key::Digits)?,
         rules: optional_entries(alloc, value, Key::Rules)?,
+        short: optional_entries(alloc, value, Key::Short)?,
+        long: optional_entries(alloc, value, Key::Long)?,
     })
 }
 

@@ -1,7 +1,5 @@
-use Rattle.std.proofs.Common.{◌≡◌, ◌∙◌, ap, sym, refl}
+use Rattle.std.proofs.Common.{refl}
 use Rattle.icu_plurals.specs.Rules.{given_rules}
-use Rattle.icu_tables.specs.Reading.{Fails}
-use Rattle.icu_tables.specs.Rules.{rules_from}
 use Rattle.icu_tables.proofs.GivenRules.{all_read, first_bad}
 use Rattle.icu_tables.proofs.rules.rules_of.Goals as goal
 

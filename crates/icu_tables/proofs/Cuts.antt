@@ -1,0 +1,61 @@
+-- Where a text is cut at its first `{0}`.
+use Rattle.std.proofs.Common.{◌≡◌, ℕ, zero, suc, ◌+◌, ◌≤◌, ◌<◌, true, false, List, [], ◌∷◌, ◌++◌, length, take, drop, Option, Some, None, option_map, refl, sym, ap, ◌∙◌, arith, codes, eqb, Bor, inl, inr, get_or, length-append}
+use Rattle.std.specs.List.{starts_with}
+use Rattle.std.specs.Option.{MatchOption}
+use Rattle.std.specs.Str.{IsCharBoundary, IsUtf8}
+use Rattle.std.specs.Str.Pattern.{FindsText, LacksTextAt, SplitsAroundMatch}
+use Rattle.std.proofs.lemmas.Bool.{cases_Bool}
+use Rattle.std.proofs.lemmas.List.{get_or-append-add}
+use Rattle.std.proofs.lemmas.Bool.Decides.{Decides-eqb}
+use Rattle.std.proofs.lemmas.Slice.Eq.{starts_is}
+use Rattle.std.proofs.lemmas.Str.{IsCharBoundary-start}
+use Rattle.icu_pattern.specs.Patterns.{is_boundary}
+use Rattle.icu_pattern.proofs.Boundaries.{is_boundary_of}
+use Rattle.icu_tables.specs.Spelling.{cut}
+
+abbrev mark : List ℕ
+mark = codes "{0}"
+
+not_start : (s : List ℕ) → LacksTextAt mark s 0 → starts_with eqb s mark ≡ false
+not_start s h = elim (cases_Bool (starts_with eqb s mark)) [ inl t ↦ absurd (h (drop 3 s) ((starts_is Decides-eqb s mark _ refl).0 t)) | inr f ↦ f ]
+
+cut_none : (s : List ℕ) → ((i : ℕ) → i ≤ length s → LacksTextAt mark s i) → cut s ≡ None
+unfolding cut
+cut_none [] h = refl
+cut_none (b ∷ bs) h =
+    let first = not_start (b ∷ bs) (h 0 (omega arith)) in
+    let rest = cut_none bs (λ i le. h (suc i) (omega (arith, le))) in
+    rw (first, rest) refl
+
+cut_some : (s : List ℕ) (i j : ℕ) → ((k : ℕ) → k < i → LacksTextAt mark s k) → drop i s ≡ mark ++ drop j s → j ≡ i + 3 → cut s ≡ Some (take i s, drop j s)
+unfolding cut
+cut_some [] zero j before split ends = absurd cc
+cut_some [] (suc i) j before split ends = absurd cc
+cut_some (b ∷ bs) zero j before split ends =
+    let starts = (starts_is Decides-eqb (b ∷ bs) mark _ refl).1 (drop j (b ∷ bs)) split in
+    let three : j ≡ 3 = omega (arith, ends) in
+    rw (starts, three) refl
+cut_some (b ∷ bs) (suc i) zero before split ends = absurd (omega (arith, ends))
+cut_some (b ∷ bs) (suc i) (suc j) before split ends =
+    let first = not_start (b ∷ bs) (before 0 (omega arith)) in
+    let rest = cut_some bs i j (λ k lt. before (suc k) (omega (arith, lt))) split (omega (arith, ends)) in
+    rw (first, rest) refl
+
+-- what splits a text around the first `{0}` cuts it
+pub cut_where_split : (text : List ℕ) (r : Option (Bor (List ℕ) × Bor (List ℕ)))
+    → MatchOption r (FindsText (codes "{0}") text None) (λ x. SplitsAroundMatch (FindsText (codes "{0}")) text x.0.now x.1.now)
+    → option_map (λ p. (p.0.now, p.1.now)) r ≡ cut text
+cut_where_split text None h = sym (cut_none text h)
+cut_where_split text (Some x) h = rw (h.3, h.4) (sym (cut_some text h.0 h.1 h.2.0 h.2.1.split h.2.1.ends))
+
+-- two texts together may be cut between them
+pub boundary_between : (before after : List ℕ) → IsUtf8 after → is_boundary (before ++ after) (length before) ≡ true
+boundary_between before after valid = sym (is_boundary_of (before ++ after) (length before) true (λ _. between, λ _. refl))
+  where
+    between : IsCharBoundary (before ++ after) (length before)
+    between =
+        let long : length (before ++ after) ≡ length before + length after = length-append before after in
+        let here : length before ≡ length before + 0 = omega arith in
+        let same : get_or (before ++ after) (length before) 0 ≡ get_or after 0 0 = ap (λ k. get_or (before ++ after) k 0) here ∙ get_or-append-add before after 0 0 in
+        let start = IsCharBoundary-start after valid in
+        (omega (arith, long), λ within high. rw same (start.1 (omega (arith, long, within)) (rw same at high)))

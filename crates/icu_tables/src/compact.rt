@@ -1,0 +1,212 @@
+//! Compact tables.
+
+ghost use Rattle.std.specs.Prelude.{◌≡◌, IfOk, OnOk, IsOkUnless, map, None};
+ghost use Rattle.std.specs.Ordering.{nat_cmp};
+ghost use Rattle.std.specs.BTreeMap.{insert_entry};
+ghost use Rattle.serde_json.specs.View.{view};
+ghost use Rattle.icu_decimal_data.specs.Kept.{given};
+ghost use Rattle.icu_tables.specs.Compact.{rises, given_entry_in, given_entries_in, given_table_at, entries_of, table_of_entries, table_of, compact_in, IsAbove, Rise};
+ghost use Rattle.icu_tables.specs.Reading.{Gives};
+
+use crate::entries::FromEntry;
+use crate::error::{EntryFault, Key, Place, TableError};
+use crate::fields::{byte_in, list_at, object_in, optional_text_at, text_at, triple_in};
+use crate::named::{Filed, name_of};
+use crate::texts::{
+    Patterns, Texts, optional_patterns_of, optional_texts_at, patterns_of, texts_in,
+};
+use crate::whole_numbers::has_float;
+use icu_decimal_data::{CompactError, CompactPatterns};
+use icu_pattern::SinglePlaceholder;
+use serde_json::Value;
+use std::alloc::Global;
+use std::collections::BTreeMap;
+use std::marker::Model;
+
+/// A type, its exponent and the texts of its patterns.
+#[derive(Drop)]
+struct GivenEntry<'a> {
+    log10_type: u8,
+    exponent: u8,
+    texts: Texts<'a>,
+}
+
+/// A type that is above the one before it.
+#[tactic(auto)]
+fn rising(before: Option<u8>, log10_type: u8) -> Result<u8, TableError>
+    ensures read { Gives (λ x. x) result (rises before log10_type) }
+    ensures above { IfOk result (λ t. IsAbove before t) }
+{
+    match before {
+        Some(before) if before >= log10_type => Err(TableError::WrongKind(Key::Patterns)),
+        _ => Ok(log10_type),
+    }
+}
+
+/// The entry of a list of three values.
+#[tactic(auto, unfolding(crate::specs::Compact::given_entry_in))]
+fn given_entry_in(before: Option<u8>, value: &Value) -> Result<GivenEntry<'_>, TableError>
+    ensures read { Gives (λ x. x) result (given_entry_in before (view value.now)) }
+    ensures above { IfOk result (λ e. IsAbove before e.log10_type) }
+{
+    let (log10_type, (exponent, texts)) = triple_in(value, Key::Patterns)?;
+    Ok(GivenEntry {
+        log10_type: rising(before, byte_in(log10_type, Key::Patterns)?)?,
+        exponent: byte_in(exponent, Key::Patterns)?,
+        texts: texts_in(texts, Key::Patterns)?,
+    })
+}
+
+/// Each entry in turn.
+fn given_entries_in(alloc: Global, values: &[Value]) -> Result<Vec<GivenEntry<'_>>, TableError>
+    ensures entries { Gives (λ v. v.items) result (given_entries_in None (map view values.now)) }
+    ensures rise { IfOk result (λ v. Rise None v.items) }
+{
+    let mut found = Vec::new(alloc);
+    let mut before = None;
+    for index in 0..values.len() {
+        let entry = given_entry_in(before, &values[index])?;
+        before = Some(entry.log10_type);
+        found.push(entry)?;
+    }
+    Ok(found)
+}
+
+/// What an object says of a table, not yet judged.
+#[derive(Drop)]
+pub struct GivenTable<'a> {
+    entries: Vec<GivenEntry<'a>>,
+    zero: Option<Texts<'a>>,
+}
+
+impl<'a> Model for GivenTable<'a> {
+    ghost use Rattle.std.specs.Prelude.{None};
+    ghost use Rattle.icu_tables.specs.Compact.{GivenTable as TableData, Rise};
+
+    ghost Value = { TableData };
+
+    ghost view = { λ t. record { entries = t.entries.items; zero = t.zero } };
+
+    ghost invariant = { λ t. Rise None t.entries.items };
+}
+
+/// What an object says of a table.
+#[tactic(auto, unfolding(crate::specs::Compact::given_table_at))]
+pub fn given_table_at(alloc: Global, value: &Value) -> Result<GivenTable<'_>, TableError>
+    ensures { Gives (λ x. x) result (given_table_at (view value.now)) }
+{
+    Ok(GivenTable {
+        entries: given_entries_in(alloc, list_at(value, Key::Patterns)?)?,
+        zero: optional_texts_at(value, Key::Zero)?,
+    })
+}
+
+/// The map with one entry more.
+fn with_entry(
+    map: &mut BTreeMap<u8, (u8, Patterns)>,
+    log10_type: u8,
+    exponent: u8,
+    patterns: Patterns,
+) -> Result<(), TableError>
+    ensures added { OnOk result (map.new.entries ≡ insert_entry nat_cmp map.old.entries log10_type (exponent, patterns)) }
+    ensures memory { IsOkUnless result TableError.OutOfMemory }
+{
+    match map.insert(log10_type, (exponent, patterns)) {
+        Ok(_) => Ok(()),
+        Err(_) => Err(TableError::OutOfMemory),
+    }
+}
+
+/// The map of these entries.
+fn entries_of(
+    alloc: Global,
+    place: Place,
+    entries: &[GivenEntry<'_>],
+) -> Result<BTreeMap<u8, (u8, Patterns)>, TableError>
+    requires { Rise None entries.now }
+    ensures { Gives (λ m. given m.entries) result (entries_of place entries.now) }
+{
+    let mut map = BTreeMap::new(alloc);
+    for index in 0..entries.len() {
+        let entry = &entries[index];
+        let patterns = patterns_of(alloc, place, &entry.texts)?;
+        with_entry(&mut map, entry.log10_type, entry.exponent, patterns)?;
+    }
+    Ok(map)
+}
+
+/// The table of a map and of the patterns of numbers that aren't shortened.
+fn table_of_entries(
+    alloc: Global,
+    place: Place,
+    entries: BTreeMap<u8, (u8, Patterns)>,
+    zero: &Option<Patterns>,
+) -> Result<CompactPatterns<SinglePlaceholder>, TableError>
+    ensures { Gives (λ x. x) result (table_of_entries place zero.now (given entries.entries)) }
+{
+    match CompactPatterns::new(alloc, entries, zero.as_ref()) {
+        Ok(table) => Ok(table),
+        Err(CompactError::ExponentsFall) => Err(place.refusal(EntryFault::ExponentsFall)),
+        Err(CompactError::ExponentAboveType) => {
+            Err(place.refusal(EntryFault::ExponentAboveType))
+        }
+        Err(CompactError::TooManyZeros) => Err(place.refusal(EntryFault::TooManyZeros)),
+        Err(CompactError::TooLarge) => Err(place.refusal(EntryFault::PatternsTooLarge)),
+        Err(CompactError::OutOfMemory) => Err(TableError::OutOfMemory),
+    }
+}
+
+/// The table of what an object says.
+#[tactic(auto, unfolding(crate::specs::Compact::table_of))]
+fn table_of(
+    alloc: Global,
+    place: Place,
+    given: &GivenTable<'_>,
+) -> Result<CompactPatterns<SinglePlaceholder>, TableError>
+    ensures { Gives (λ x. x) result (table_of place given.now) }
+{
+    let entries = entries_of(alloc, place, &given.entries)?;
+    let zero = optional_patterns_of(alloc, place, &given.zero)?;
+    table_of_entries(alloc, place, entries, &zero)
+}
+
+impl FromEntry for Filed<CompactPatterns<SinglePlaceholder>> {
+    ghost use Rattle.icu_tables.specs.Compact.{compact_at};
+
+    ghost read_at = { compact_at };
+
+    #[tactic(auto, unfolding(crate::specs::Compact::compact_at))]
+    fn from_entry(alloc: Global, place: Place, value: &Value) -> Result<Self, TableError> {
+        let value = object_in(value, place.key)?;
+        let locale = text_at(value, Key::Locale)?;
+        let system = optional_text_at(value, Key::System)?;
+        let given = given_table_at(alloc, value)?;
+        let name = name_of(place, locale, system)?;
+        let content = table_of(alloc, place, &given)?;
+        Ok(Filed { name, content })
+    }
+}
+
+/// The compact table of a JSON object with `patterns` and an optional `zero` (this project's own format,
+/// `docs/FORMATS.md`), or the first fault that is met in it.
+///
+/// A value in which a number isn't a whole one of 64 bits, wherever it stands, is refused first, then one that is no
+/// object, both by the empty key of the document; then the kinds of all that stands in it are judged, then the patterns,
+/// then the table by [`CompactPatterns::new`]. The last two are told as the faults of entry 0 of the empty key.
+#[tactic(auto, unfolding(crate::specs::Compact::compact_in))]
+pub fn compact_from_value(
+    alloc: Global,
+    value: &Value,
+) -> Result<CompactPatterns<SinglePlaceholder>, TableError>
+    ensures { Gives (λ x. x) result (compact_in (view value.now)) }
+{
+    if has_float(value) {
+        return Err(TableError::Float);
+    }
+    let given = given_table_at(alloc, object_in(value, Key::Document)?)?;
+    let place = Place {
+        key: Key::Document,
+        index: 0,
+    };
+    table_of(alloc, place, &given)
+}

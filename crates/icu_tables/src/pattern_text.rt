@@ -1,0 +1,90 @@
+//! Patterns as they are spelled: `{0}` marks the place.
+
+ghost use Rattle.std.specs.Prelude.{◌≡◌, ◌++◌, IfOk, IsOkUnless, option_map, string_bytes, true, length, Some, None};
+ghost use Rattle.icu_pattern.specs.Patterns.{has_fitting_place};
+ghost use Rattle.icu_tables.specs.Reading.{Gives};
+ghost use Rattle.icu_tables.specs.Spelling.{cut, pattern_of, optional_pattern_of};
+
+use crate::error::{EntryFault, Place, TableError};
+use icu_pattern::{Pattern, PatternError, SinglePlaceholder};
+use std::alloc::{AllocError, Global};
+
+/// What stands before the first `{0}`, and what stands after it.
+fn cut(text: &str) -> Option<(&str, &str)>
+    ensures { option_map (λ p. (p.0.now, p.1.now)) result ≡ cut text.now }
+{
+    text.split_once("{0}")
+}
+
+/// One text after another.
+fn joined(alloc: Global, before: &str, after: &str) -> Result<String, AllocError>
+    ensures { IfOk result (λ s. string_bytes s ≡ before.now ++ after.now) }
+{
+    let mut text = String::from_str(alloc, before)?;
+    text.push_str(after)?;
+    Ok(text)
+}
+
+/// The pattern of a place that fits.
+fn fitting(
+    alloc: Global,
+    place: Option<usize>,
+    literal: &str,
+) -> Result<Pattern<SinglePlaceholder>, TableError>
+    requires { has_fitting_place (record { place = place; literal = literal.now }) ≡ true }
+    ensures given { IfOk result (λ p. p ≡ record { place = place; literal = literal.now }) }
+    ensures memory { IsOkUnless result TableError.OutOfMemory }
+{
+    match Pattern::try_new(alloc, place, literal) {
+        Ok(pattern) => Ok(pattern),
+        Err(PatternError::OutOfMemory) => Err(TableError::OutOfMemory),
+        Err(PatternError::BadPlace) => unreachable!(),
+    }
+}
+
+/// The pattern with a place between two texts.
+#[tactic(auto, using(crate::proofs::Cuts::boundary_between))]
+fn around(
+    alloc: Global,
+    before: &str,
+    after: &str,
+) -> Result<Pattern<SinglePlaceholder>, TableError>
+    ensures given { IfOk result (λ p. p ≡ record { place = Some (length before.now); literal = before.now ++ after.now }) }
+    ensures memory { IsOkUnless result TableError.OutOfMemory }
+{
+    let literal = joined(alloc, before, after)?;
+    fitting(alloc, Some(before.len()), literal.as_str())
+}
+
+/// The pattern of a text; refused where it has more than one place.
+#[tactic(auto, unfolding(crate::specs::Spelling::pattern_of))]
+pub fn pattern_of(
+    alloc: Global,
+    place: Place,
+    text: &str,
+) -> Result<Pattern<SinglePlaceholder>, TableError>
+    ensures { Gives (λ x. x) result (pattern_of place text.now) }
+{
+    let Some((before, after)) = cut(text) else {
+        return fitting(alloc, None, text);
+    };
+    if cut(after).is_some() {
+        return Err(place.refusal(EntryFault::BadPlace));
+    }
+    around(alloc, before, after)
+}
+
+/// The pattern of a text, if there is one.
+#[tactic(auto, unfolding(crate::specs::Spelling::optional_pattern_of))]
+pub fn optional_pattern_of(
+    alloc: Global,
+    place: Place,
+    text: Option<&str>,
+) -> Result<Option<Pattern<SinglePlaceholder>>, TableError>
+    ensures { Gives (λ x. x) result (optional_pattern_of place (option_map (λ t. t.now) text.entry)) }
+{
+    match text {
+        Some(text) => Ok(Some(pattern_of(alloc, place, text)?)),
+        None => Ok(None),
+    }
+}
