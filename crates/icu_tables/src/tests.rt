@@ -1,10 +1,14 @@
 //! Documents that are refused, and what tables answer.
 
-use crate::{EntryFault, Key, TableError, Tables};
+use crate::{EntryFault, Key, TableError, Tables, compact_from_value};
 use icu_base::{
     DataErrorKind, DataIdentifierBorrowed, DataLocale, DataProvider, DataRequest, PluralsCardinalV1,
 };
-use icu_decimal_data::{DecimalDigitsV1, DecimalSymbolsV1};
+use icu_decimal_data::{
+    CompactPatterns, DecimalCompactLongV1, DecimalCompactShortV1, DecimalDigitsV1, DecimalSymbolsV1,
+};
+use icu_pattern::SinglePlaceholder;
+use serde_json::Value;
 use std::alloc::Global;
 
 /// Why a text is refused; none where it isn't.
@@ -23,7 +27,7 @@ fn refusal(alloc: Global, text: &str) -> Option<TableError> {
     }
 }
 
-const REFUSED: [(&str, TableError); 17] = [
+const REFUSED: [(&str, TableError); 22] = [
     ("{\"symbols\":[]", TableError::NotJson),
     ("", TableError::NotJson),
     ("{}", TableError::Missing(Key::Symbols)),
@@ -98,6 +102,38 @@ const REFUSED: [(&str, TableError); 17] = [
             fault: EntryFault::BadSymbolsNumberingSystem,
         },
     ),
+    (
+        "{\"symbols\":[],\"digits\":[],\"short\":[{\"locale\":\"en\",\"patterns\":[[3,4,{\"other\":\"{0}K\"}]]}]}",
+        TableError::Entry {
+            key: Key::Short,
+            index: 0,
+            fault: EntryFault::ExponentAboveType,
+        },
+    ),
+    (
+        "{\"symbols\":[],\"digits\":[],\"short\":[{\"locale\":\"en\",\"patterns\":[[4,3,{\"other\":\"a\"}],[4,4,{\"other\":\"b\"}]]}]}",
+        TableError::WrongKind(Key::Patterns),
+    ),
+    (
+        "{\"symbols\":[],\"digits\":[],\"short\":[{\"locale\":\"en\",\"patterns\":[[3,3,{\"other\":\"{0}{0}\"}]]}]}",
+        TableError::Entry {
+            key: Key::Short,
+            index: 0,
+            fault: EntryFault::BadPlace,
+        },
+    ),
+    (
+        "{\"symbols\":[],\"digits\":[],\"long\":[{\"locale\":\"en\",\"patterns\":[[3,3,{\"other\":\"a\"}],[4,2,{\"other\":\"b\"}]]}]}",
+        TableError::Entry {
+            key: Key::Long,
+            index: 0,
+            fault: EntryFault::ExponentsFall,
+        },
+    ),
+    (
+        "{\"symbols\":[],\"digits\":[],\"long\":[{\"locale\":\"en\",\"patterns\":[[3,3,{\"other\":\"{0}{0}\"}]],\"zero\":{\"one\":\"\"}}]}",
+        TableError::Missing(Key::Other),
+    ),
 ];
 
 #[test]
@@ -113,7 +149,9 @@ const TABLES: &str = "{\"symbols\":[\
 {\"locale\":\"en\",\"minus\":[\"-\",\"\"],\"plus\":[\"+\",\"\"],\"decimal\":\"!\",\"group\":\",\",\"numsys\":\"latn\",\"sizes\":[3,3,1]},\
 {\"locale\":\"en\",\"system\":\"arab\",\"minus\":[\"-\",\"\"],\"plus\":[\"+\",\"\"],\"decimal\":\";\",\"group\":\",\",\"numsys\":\"arab\",\"sizes\":[3,3,1]}],\
 \"digits\":[[\"latn\",\"0123456789\"],[\"latn\",\"9876543210\"]],\
-\"rules\":[{\"locale\":\"en\",\"rules\":[[\"one\",\"i = 1 and v = 0\"]]}]}";
+\"rules\":[{\"locale\":\"en\",\"rules\":[[\"one\",\"i = 1 and v = 0\"]]}],\
+\"short\":[{\"locale\":\"en\",\"patterns\":[[3,3,{\"other\":\"{0}K\"}],[4,3,{\"other\":\"{0}K\"}],[6,6,{\"other\":\"{0}M\"}]]}],\
+\"long\":[{\"locale\":\"ja\",\"zero\":{\"other\":\"{0}\"},\"patterns\":[[3,0,{\"other\":\"{0}\"}],[4,4,{\"other\":\"{0}万\"}]]}]}";
 
 const LATIN: [char; 10] = ['0', '1', '2', '3', '4', '5', '6', '7', '8', '9'];
 
@@ -123,9 +161,23 @@ enum Asked {
     Symbols,
     Digits,
     Rules,
+    Short,
+    Long,
 }
 
-/// What is told of an answer: the decimal separator of symbols, or that digits are Latin, or that there are rules.
+/// The first character of the literal of the first entry's pattern for all other numbers.
+fn first_character(table: &CompactPatterns<SinglePlaceholder>) -> char {
+    if table.is_empty() {
+        return ' ';
+    }
+    match table.slot(0, 7) {
+        Some(pattern) => pattern.literal().chars().next().unwrap_or(' '),
+        None => ' ',
+    }
+}
+
+/// What is told of an answer: the decimal separator of symbols, that digits are Latin, that there are
+/// rules, or the first character of a table's first literal.
 fn told(
     alloc: Global,
     tables: &Tables,
@@ -149,6 +201,18 @@ fn told(
         Asked::Rules => {
             match <Tables as DataProvider<PluralsCardinalV1>>::load(tables, alloc, request) {
                 Ok(_) => Ok('r'),
+                Err(error) => Err(error.kind),
+            }
+        }
+        Asked::Short => {
+            match <Tables as DataProvider<DecimalCompactShortV1>>::load(tables, alloc, request) {
+                Ok(table) => Ok(first_character(&table)),
+                Err(error) => Err(error.kind),
+            }
+        }
+        Asked::Long => {
+            match <Tables as DataProvider<DecimalCompactLongV1>>::load(tables, alloc, request) {
+                Ok(table) => Ok(first_character(&table)),
                 Err(error) => Err(error.kind),
             }
         }
@@ -187,7 +251,14 @@ fn answer(
     }
 }
 
-const ANSWERED: [(Asked, (&str, &str), Result<char, DataErrorKind>); 9] = [
+const ANSWERED: [(Asked, (&str, &str), Result<char, DataErrorKind>); 12] = [
+    (Asked::Short, ("en", ""), Ok('K')),
+    (Asked::Long, ("ja", ""), Ok('万')),
+    (
+        Asked::Long,
+        ("en", ""),
+        Err(DataErrorKind::IdentifierNotFound),
+    ),
     (Asked::Symbols, ("en", ""), Ok('.')),
     (Asked::Symbols, ("en", "arab"), Ok(';')),
     (
@@ -233,4 +304,52 @@ const WITHOUT_RULES: &str = "{\"symbols\":[],\"digits\":[]}";
 fn absent_keys_are_other_refusals(rt: HostRuntime) {
     let rules = answer(rt.alloc(), WITHOUT_RULES, Asked::Rules, ("en", ""));
     assert!(rt; rules == Err(DataErrorKind::MarkerNotFound));
+}
+
+/// How many entries the table of a text keeps, or why there is none.
+fn entries_once(alloc: Global, text: &str) -> Result<usize, TableError> {
+    let Ok(value) = Value::from_str(alloc, text) else {
+        return Err(TableError::OutOfMemory);
+    };
+    match compact_from_value(alloc, &value) {
+        Ok(table) => Ok(table.len()),
+        Err(error) => Err(error),
+    }
+}
+
+/// The same, asked once more where memory was wanting.
+fn entries(alloc: Global, text: &str) -> Result<usize, TableError> {
+    match entries_once(alloc, text) {
+        Err(TableError::OutOfMemory) => entries_once(alloc, text),
+        told => told,
+    }
+}
+
+const TABLE_VALUES: [(&str, Result<usize, TableError>); 6] = [
+    (
+        "{\"patterns\":[[3,3,{\"other\":\"{0}K\"}],[4,3,{\"other\":\"{0}K\"}],[6,6,{\"other\":\"{0}M\"}]]}",
+        Ok(2),
+    ),
+    (
+        "{\"zero\":{\"other\":\"{0}\"},\"patterns\":[[3,0,{\"other\":\"{0}\"}],[4,4,{\"other\":\"{0}W\"}]]}",
+        Ok(1),
+    ),
+    ("{\"patterns\":1.5}", Err(TableError::Float)),
+    ("[]", Err(TableError::WrongKind(Key::Document))),
+    ("{}", Err(TableError::Missing(Key::Patterns))),
+    (
+        "{\"patterns\":[[3,3,{\"other\":\"a{0}b{0}\"}]]}",
+        Err(TableError::Entry {
+            key: Key::Document,
+            index: 0,
+            fault: EntryFault::BadPlace,
+        }),
+    ),
+];
+
+#[test]
+fn values_make_tables(rt: HostRuntime) {
+    for (text, wanted) in TABLE_VALUES {
+        assert!(rt; entries(rt.alloc(), text) == wanted, "{text}");
+    }
 }
