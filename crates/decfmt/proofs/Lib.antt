@@ -1,3 +1,5 @@
+pub mod Displaying
+pub mod Computing
 pub mod Answering
 pub mod Fed
 pub mod Known

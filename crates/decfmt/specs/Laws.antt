@@ -1,15 +1,17 @@
 -- What the computed definitions mean.
 use Rattle.std.specs.Prelude.{◌≡◌, ℕ, List}
-use Rattle.icu_decimal.specs.Decimal.{DecimalFormat}
-use Rattle.decfmt.specs.Answers.{IsAnswer, answer_to}
+use Rattle.decfmt.specs.declared.mode.Mode.{Mode}
+use Rattle.decfmt.specs.Answers.{HasTable, IsAnswer, answer_to}
 use Rattle.decfmt.specs.Lines.{IsLines, lines_of}
 
--- each text has one answer, and `answer_to` is it
+-- each text has an answer in a mode, and `answer_to` is it; the entries of a compact mode have to be a compact table, as
+-- those of every formatter are
 abbrev pub AnswerIsAnAnswer : Type 0
-AnswerIsAnAnswer = (format : DecimalFormat) (text : List ℕ) → IsAnswer format text (answer_to format text)
+AnswerIsAnAnswer = (mode : Mode) (text : List ℕ) → HasTable mode → IsAnswer mode text (answer_to mode text)
 
+-- and it has no other one, whatever the entries
 abbrev pub AnswerIsUnique : Type 0
-AnswerIsUnique = (format : DecimalFormat) (text answer : List ℕ) → IsAnswer format text answer → answer ≡ answer_to format text
+AnswerIsUnique = (mode : Mode) (text answer : List ℕ) → IsAnswer mode text answer → answer ≡ answer_to mode text
 
 -- each input has one list of lines, and `lines_of` is it
 abbrev pub InputHasLines : Type 0

@@ -1,4 +1,6 @@
 pub mod Plain
+pub mod Computed
+pub mod Compact
 pub mod Answers
 pub mod Lines
 pub mod Written

@@ -1,8 +1,7 @@
 use Rattle.std.proofs.Common.{◌≡◌, arith, refl, ap, sym, ◌∙◌}
 use Rattle.std.specs.Prelude.{codes}
 use Rattle.std.proofs.lemmas.Grind.{common_steps}
-use Rattle.decfmt.specs.Plain.{plain_text}
-use Rattle.decfmt.specs.Answers.{answer_to}
+use Rattle.decfmt.specs.Answers.{answer_to, shown_by}
 use Rattle.decfmt.proofs.Answering.{answer_to-nothing, answer_to-past, answer_to-decimal, appended}
 use Rattle.decfmt.proofs.line.push_answer.Goals as goal
 
@@ -13,7 +12,7 @@ returns-in-Ok-try_from_str c =
     let d = c.in-Ok-try_from_str.decimal in
     let told = c.in-Ok-try_from_str.ensures in
     let same : text ≡ c.args.text.now = grind (arith, c.in-Ok.ensures.cases) in
-    let e : answer_to mode c.args.text.now ≡ plain_text mode d.sign d.absolute = ap (answer_to mode) (sym same) ∙ answer_to-decimal mode text d.sign d.absolute told.reads (λ past. cc (told.limit.1 past)) in
+    let e : answer_to mode c.args.text.now ≡ shown_by mode d.sign d.absolute = ap (answer_to mode) (sym same) ∙ answer_to-decimal mode text d.sign d.absolute told.reads (λ past. cc (told.limit.1 past)) in
     rw e c.push_decimal.ensures
 
 pub returns-in-Err-Syntax : goal.returns-in-Err-Syntax
