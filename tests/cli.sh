@@ -5,6 +5,9 @@ program=${1:-$(dirname "$0")/../crates/decfmt/out/decfmt}
 usage='usage: decfmt TABLES LOCALE NU|- plain|short|long [auto|never|always|min2]'
 failed='error: input or output failed'
 memory='error: out of memory'
+refused='error: tables refused'
+no_data='error: no data'
+sample=$(dirname "$0")/../tables/sample.json
 folder=$(mktemp -d)
 trap 'rm -rf "$folder"' EXIT
 passed=0 missed=0
@@ -31,13 +34,35 @@ lines() {
     judge "$1" 0 "$3" ''
 }
 
+# ends NAME STATUS ERROR WORD..: nothing on standard output.
+ends() {
+    local name=$1 wanted=$2 error=$3
+    shift 3
+    echo 5 | timeout 20 "$program" "$@" >"$folder/out" 2>"$folder/err"
+    status=$?
+    judge "$name" "$wanted" '' "$error"
+}
+
 # words NAME WORD..: status 2 and the usage line.
 words() {
     local name=$1
     shift
-    echo 5 | timeout 20 "$program" "$@" >"$folder/out" 2>"$folder/err"
+    ends "$name" 2 "$usage" "$@"
+}
+
+# answers WORDS INPUT OUTPUT: with these words after the sample tables, status 0 and nothing on standard error.
+answers() {
+    local words
+    read -r -a words <<<"$1"
+    printf '%b' "$2" | timeout 20 "$program" "$sample" "${words[@]}" >"$folder/out" 2>"$folder/err"
     status=$?
-    judge "$name" 2 '' "$usage"
+    judge "$1: ${2:0:40}" 0 "$3" ''
+}
+
+# tables TEXT: a file of this text is refused.
+tables() {
+    printf '%b' "$1" >"$folder/tables.json"
+    ends "tables ${1:0:60}" 3 "$refused" "$folder/tables.json" en - plain
 }
 
 lines 'the first lines' '1000007\n-987654.321\n' '1,000,007\n-987,654.321\n'
@@ -60,7 +85,92 @@ lines 'too many digits and a letter' "${nines}x\n" 'error: not a decimal\n'
 words 'a word' plain
 words 'an empty word' ''
 words 'a word that is no text' $'\xff'
-words 'five words' tables.json en - plain never
+words 'the tables alone' "$sample"
+words 'three words' en - plain
+words 'six words' "$sample" en - plain never never
+words 'an unknown strategy' "$sample" en - short min3
+words 'an unknown style' "$sample" en - compact
+words 'a numbering system in capitals' "$sample" en Latn plain
+words 'a locale with an underscore' "$sample" en_US - plain
+words 'wrong words and no file' "$folder/none" en Latn plain
+words 'words that are no text and no file' "$folder/none" $'\xff' - plain
+words 'a path that is no text' $'\xff' en - plain
+
+# The tables' file.
+ends 'a missing file' 1 "$failed" "$folder/none" en - plain
+ends 'an empty path' 1 "$failed" '' en - plain
+ends 'a folder for tables' 1 "$failed" "$folder" en - plain
+if [ "$(id -u)" != 0 ]; then
+    cp "$sample" "$folder/closed.json"
+    chmod 000 "$folder/closed.json"
+    ends 'an unreadable file' 1 "$failed" "$folder/closed.json" en - plain
+fi
+
+tables ''
+tables '\xff'
+tables '{"symbols":[],"digits":[],"x":"\xff"}'
+tables '{"symbols":[]'
+tables "$(head -c 200 /dev/zero | tr '\0' '[')$(head -c 200 /dev/zero | tr '\0' ']')"
+tables '{}'
+tables '{"symbols":[]}'
+tables '[]'
+tables '{"x":1.5}'
+tables '{"symbols":[],"digits":[],"x":1e5}'
+tables '{"symbols":[],"digits":[["latn","012345678"]]}'
+tables '{"symbols":[],"digits":[["Latn","0123456789"]]}'
+tables '{"symbols":[],"digits":[],"rules":[{"rules":[]}]}'
+tables '{"symbols":[],"digits":[],"rules":[{"locale":"e_n","rules":[]}]}'
+tables '{"symbols":[],"digits":[],"rules":[{"locale":"en","rules":[["one","x = 1"]]}]}'
+tables '{"symbols":[],"digits":[],"short":[{"locale":"en","patterns":[[3,4,{"other":"{0}K"}]]}]}'
+tables '{"symbols":[],"digits":[],"short":[{"locale":"en","patterns":[[4,3,{"other":"a"}],[4,4,{"other":"b"}]]}]}'
+tables '{"symbols":[],"digits":[],"short":[{"locale":"en","patterns":[[3,3,{"other":"{0}{0}"}]]}]}'
+
+printf '{"symbols":[],"digits":[]}' >"$folder/tables.json"
+ends 'tables without an entry' 4 "$no_data" "$folder/tables.json" en - plain
+ends 'a locale without symbols' 4 "$no_data" "$sample" xx - plain
+ends 'a locale without short patterns' 4 "$no_data" "$sample" fr - short
+ends 'a locale without plural rules' 4 "$no_data" "$sample" es-MX - short
+ends 'a locale without long patterns or rules' 4 "$no_data" "$sample" th - long
+
+# Plain numbers by the sample tables.
+answers 'en - plain' '-987654.321\n0012\n-0\n1.20\n.5\n' '-987,654.321\n0,012\n-0\n1.20\n0.5\n'
+answers 'en - plain auto' '1000\n10000\n100000\n1000000\n' '1,000\n10,000\n100,000\n1,000,000\n'
+answers 'en - plain min2' '1000\n10000\n100000\n1000000\n0012\n' '1000\n10,000\n100,000\n1,000,000\n0012\n'
+answers 'en - plain never' '1000\n1000000\n' '1000\n1000000\n'
+answers 'bn latn plain' '1000\n10000\n100000\n1000000\n' '1,000\n10,000\n1,00,000\n10,00,000\n'
+answers 'bn latn plain min2' '1000\n10000\n100000\n1000000\n' '1000\n10,000\n1,00,000\n10,00,000\n'
+answers 'bn - plain' '1000007\n' '১০,০০,০০৭\n'
+answers 'en arab plain' '1234\n' '١,٢٣٤\n'
+answers 'ar-EG - plain' '1234\n' '١٬٢٣٤\n'
+answers 'ar-EG latn plain' '1234\n' '1,234\n'
+answers 'ar-EG thai plain' '1234\n' '๑٬๒๓๔\n'
+answers 'en wxyz plain' '1234\n' '1,234\n'
+answers 'ar-EG wxyz plain' '1234\n' '١٬٢٣٤\n'
+answers 'th thai plain' '1000007\n' '๑,๐๐๐,๐๐๗\n'
+answers 'es-MX - plain' '12345.67\n' '12,345.67\n'
+answers 'fr - plain' '999999\n' '999\xe2\x80\xaf999\n'
+
+# Short numbers.
+answers 'en - short' '999499.99\n999500.00\n2207\n15127\n3010349\n-13132\n' '999K\n1M\n2.2K\n15K\n3M\n-13K\n'
+answers 'en - short' '1650\n1750\n1950\n9950\n9949\n' '1.6K\n1.8K\n2K\n10K\n9.9K\n'
+answers 'en - short' '0\n2\n843\n0.2222\n999.5\n9.95\n-1172700\n' '0\n2\n843\n0.22\n1K\n10\n-1.2M\n'
+answers 'en - short' '-0.00\n0.996\n0.0995\n099950\n99950\n' '-0\n1\n0.1\n100K\n100K\n'
+answers 'en - short' '0999499\n0999500\n00999500\n' '0999K\n1M\n1M\n'
+answers 'en - short' '1000000000000000\n10000000000000000\n' '1000T\n10,000T\n'
+answers 'en - short always' '1000000000000000\n10000000000000000\n' '1,000T\n10,000T\n'
+answers 'en - short never' '1000000000000000\n10000000000000000\n' '1000T\n10000T\n'
+answers 'en - short' '12.\n1e3\n+\n\n5\n6\r\n7' "$(printf 'error: not a decimal\\n%.0s' 1 2 3 4)5\n6\n7\n"
+answers 'en - short' '' ''
+fitting=$(head -c 32768 /dev/zero | tr '\0' 9)
+answers 'en - short' "$fitting\n${fitting}9\n1650\n" 'error: overflow\nerror: too many digits\n1.6K\n'
+
+# Long numbers.
+answers 'en - long' '1000000000000000\n10000000000000000\n' '1000 trillion\n10,000 trillion\n'
+answers 'en - long always' '1000000000000000\n10000000000000000\n' '1,000 trillion\n10,000 trillion\n'
+answers 'en - long never' '1000000000000000\n10000000000000000\n' '1000 trillion\n10000 trillion\n'
+answers 'fr - long' '1000\n35357670\n1172700\n999999\n' 'mille\n35 millions\n1,2 million\n1 million\n'
+answers 'bn - long' '35357670\n' '৩.৫ কোটি\n'
+answers 'ja - long' '35357670\n' '3536万\n'
 
 # Many lines, more than a pipe or a block holds.
 yes 1234567 | head -n 200000 | timeout 20 "$program" >"$folder/out" 2>"$folder/err"
@@ -119,6 +229,42 @@ judge 'memory refused' 1 '' "$memory"
 yes 1234567 | head -n 2000000 | (ulimit -v 10000; exec timeout 20 "$program") 2>"$folder/err" | tail -n 1 >"$folder/out"
 status=${PIPESTATUS[2]}
 judge 'many lines in little memory' 0 '1,234,567\n' ''
+
+# The same failures in a compact mode.
+: >"$folder/out"
+yes 1650 | head -n 500000 | { timeout 60 "$program" "$sample" en - short 2>"$folder/err"; echo $? >"$folder/status"; } | head -n 1 >/dev/null
+status=$(cat "$folder/status")
+judge 'short: a closed reader' 1 '' "$failed"
+
+echo 5 | timeout 20 "$program" "$sample" en - short >&- 2>"$folder/err"
+status=$?
+: >"$folder/out"
+judge 'short: a closed standard output' 1 '' "$failed"
+
+timeout 20 "$program" "$sample" en - short <&- >"$folder/out" 2>"$folder/err"
+status=$?
+judge 'short: a closed standard input' 1 '' "$failed"
+
+if [ -c /dev/full ]; then
+    echo 5 | timeout 20 "$program" "$sample" en - short >/dev/full 2>"$folder/err"
+    status=$?
+    : >"$folder/out"
+    judge 'short: a full device' 1 '' "$failed"
+fi
+
+head -c 64000000 /dev/zero | tr '\0' 1 | (ulimit -v 40000; exec timeout 20 "$program" "$sample" en - short) >"$folder/out" 2>"$folder/err"
+status=$?
+judge 'short: memory refused' 1 '' "$memory"
+
+yes 1650 | head -n 500000 | (ulimit -v 40000; exec timeout 60 "$program" "$sample" en - short) 2>"$folder/err" | tail -n 1 >"$folder/out"
+status=${PIPESTATUS[2]}
+judge 'short: many lines in little memory' 0 '1.6K\n' ''
+
+# Tables of 64 MB, where 40 MB of memory are allowed.
+{ printf '{"symbols":"'; head -c 64000000 /dev/zero | tr '\0' 1; printf '"}'; } >"$folder/tables.json"
+(ulimit -v 40000; exec timeout 20 "$program" "$folder/tables.json" en - plain) </dev/null >"$folder/out" 2>"$folder/err"
+status=$?
+judge 'tables: memory refused' 1 '' "$memory"
 
 echo "$passed passed, $missed failed"
 [ "$missed" = 0 ]

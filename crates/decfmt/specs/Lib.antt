@@ -7,3 +7,4 @@ pub mod Written
 pub mod Laws
 pub mod Endings
 pub mod Words
+pub mod Making

@@ -1,9 +1,10 @@
-//! `decfmt`: reads lines, and writes each decimal with its digits in groups.
+//! `decfmt`: reads lines, and writes each decimal in the form of a locale.
 #![tactic(auto)]
 
 mod blocks;
 mod laws;
 mod line;
+mod making;
 mod mode;
 mod piece;
 mod running;
@@ -11,11 +12,13 @@ mod running;
 mod tests;
 mod words;
 
-use mode::Mode;
+use mode::{Mode, StartError};
 use running::{RunError, run};
-use std::env;
+use std::alloc::{AllocError, AllocFailed};
 use std::io::ErrorKind;
 use std::process::ExitCode;
+use std::{env, fs, io};
+use words::parse_words;
 
 const USAGE: &str = "usage: decfmt TABLES LOCALE NU|- plain|short|long [auto|never|always|min2]";
 
@@ -25,6 +28,8 @@ enum Failure {
     Streams,
     Memory,
     Words,
+    Tables,
+    NoData,
 }
 
 impl Failure {
@@ -38,6 +43,8 @@ impl Failure {
             Failure::Streams => "error: input or output failed",
             Failure::Memory => "error: out of memory",
             Failure::Words => USAGE,
+            Failure::Tables => "error: tables refused",
+            Failure::NoData => "error: no data",
         }
     }
 
@@ -47,6 +54,8 @@ impl Failure {
         match self {
             Failure::Streams | Failure::Memory => 1,
             Failure::Words => 2,
+            Failure::Tables => 3,
+            Failure::NoData => 4,
         }
     }
 }
@@ -66,15 +75,92 @@ impl From<RunError> for Failure {
     }
 }
 
-/// Formats standard input in English; takes no words yet.
-fn format_lines(rt: &HostRuntime) -> Result<(), Failure> {
-    match env::args(rt) {
-        Ok(words) if words.len() <= 1 => {}
-        Err(error) if error.kind() == ErrorKind::OutOfMemory => return Err(Failure::Memory),
-        _ => return Err(Failure::Words),
+impl From<StartError> for Failure {
+    ghost use Rattle.std.specs.Prelude.{◌≡◌};
+    ghost use Rattle.decfmt.specs.Endings.{failure_of};
+
+    ghost from_gives = { λ error failure. failure ≡ failure_of error };
+
+    fn from(error: StartError) -> Failure {
+        match error {
+            StartError::Tables => Failure::Tables,
+            StartError::NoData => Failure::NoData,
+            StartError::OutOfMemory => Failure::Memory,
+        }
     }
-    let Ok(mode) = Mode::english(rt.alloc()) else {
-        return Err(Failure::Memory);
+}
+
+impl From<AllocError> for Failure {
+    ghost use Rattle.std.specs.Prelude.{◌≡◌};
+    ghost use Rattle.decfmt.specs.declared.Failure.TheVariants.{Memory};
+
+    ghost from_gives = { λ _ failure. failure ≡ Memory };
+
+    fn from(_error: AllocError) -> Failure {
+        Failure::Memory
+    }
+}
+
+impl<T: Drop> From<AllocFailed<T>> for Failure {
+    ghost use Rattle.std.specs.Prelude.{◌≡◌};
+    ghost use Rattle.decfmt.specs.declared.Failure.TheVariants.{Memory};
+
+    ghost from_gives = { λ _ failure. failure ≡ Memory };
+
+    fn from(_error: AllocFailed<T>) -> Failure {
+        Failure::Memory
+    }
+}
+
+/// Want of memory, or another failure.
+fn unless_memory(error: &io::Error, failure: Failure) -> Failure {
+    match error.kind() {
+        ErrorKind::OutOfMemory => Failure::Memory,
+        _ => failure,
+    }
+}
+
+/// The words after the program's name.
+fn words_given(rt: &HostRuntime) -> Result<Vec<String>, Failure> {
+    let given = match env::args(rt) {
+        Ok(given) => given,
+        Err(error) => return Err(unless_memory(&error, Failure::Words)),
+    };
+    let mut words = Vec::new(rt.alloc());
+    for word in given.skip(1) {
+        words.push(word)?;
+    }
+    Ok(words)
+}
+
+/// The bytes of a file.
+fn file_at(rt: &HostRuntime, path: &str) -> Result<Vec<u8>, Failure> {
+    match fs::read(rt, path) {
+        Ok(bytes) => Ok(bytes),
+        Err(error) => Err(unless_memory(&error, Failure::Streams)),
+    }
+}
+
+/// The mode that the words ask for; they are judged before the file is read.
+fn mode_asked(rt: &HostRuntime, words: &[String]) -> Result<Mode, Failure> {
+    let mut texts = Vec::new(rt.alloc());
+    for word in words {
+        texts.push(word.as_str())?;
+    }
+    let Some(asked) = parse_words(&texts) else {
+        return Err(Failure::Words);
+    };
+    let file = file_at(rt, asked.path)?;
+    Ok(Mode::make(rt.alloc(), &asked, &file)?)
+}
+
+/// Formats standard input: in plain English without words, and else as they ask.
+fn format_lines(rt: &HostRuntime) -> Result<(), Failure> {
+    let words = words_given(rt)?;
+    let mode = if words.is_empty() {
+        Mode::english(rt.alloc())?
+    } else {
+        mode_asked(rt, &words)?
     };
     run(rt.alloc(), &mode, &mut rt.stdin(), &mut rt.stdout())?;
     Ok(())

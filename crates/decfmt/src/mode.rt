@@ -9,6 +9,12 @@ use thiserror::Error;
 /// Why there is no formatter.
 #[derive(Clone, Copy, Debug, PartialEq, Eq, Error)]
 pub enum StartError {
+    /// The file of tables isn't UTF-8, or its text is refused.
+    #[error("tables refused")]
+    Tables,
+    /// The tables don't say what the formatter needs.
+    #[error("no data")]
+    NoData,
     #[error("out of memory")]
     OutOfMemory,
 }
