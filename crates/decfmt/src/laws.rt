@@ -2,7 +2,7 @@
 
 ghost use Rattle.decfmt.specs.Laws.{AnswerIsAnAnswer, AnswerIsUnique, InputHasLines, LinesAreUnique};
 
-/// A text has one answer.
+/// A text has one answer in each mode whose entries are a compact table; with any entries it has no other one.
 pub fn texts_have_one_answer()
     ensures exists { AnswerIsAnAnswer }
     ensures unique { AnswerIsUnique }

@@ -1,6 +1,8 @@
 //! Rows of text against their output, and readers and writers that fail. Values live in functions that answer whether
 //! they hold.
 
+mod compact;
+
 use crate::laws::{inputs_have_one_list_of_lines, texts_have_one_answer};
 use crate::mode::Mode;
 use crate::running::{RunError, run};

@@ -1,0 +1,91 @@
+//! Lines in a compact mode, against what ICU4X and UTS 35 give for short English.
+
+use super::{Full, nines, runs_at_once, runs_slowly};
+use crate::mode::Mode;
+use icu_base::{Pattern, PluralElements, PluralRules, SinglePlaceholder};
+use icu_decimal::options::DecimalFormatterOptions;
+use icu_decimal::provider::{CompactPatterns, DecimalSymbols};
+use icu_decimal::{CompactDecimalFormatter, DecimalFormatter};
+use std::alloc::Global;
+use std::collections::BTreeMap;
+
+/// An exponent, which is its type too, and the text that follows a number.
+const ROWS: [(u8, &str); 4] = [(3, "K"), (6, "M"), (9, "B"), (12, "T")];
+
+/// The table of the rows.
+fn table(alloc: Global) -> Option<CompactPatterns<SinglePlaceholder>> {
+    let mut map = BTreeMap::new(alloc);
+    for (exponent, literal) in ROWS {
+        let pattern = Pattern::try_new(alloc, Some(0), literal).ok()?;
+        map.insert(exponent, (exponent, PluralElements::new(pattern)))
+            .ok()?;
+    }
+    CompactPatterns::new(alloc, map, None).ok()
+}
+
+/// Compact numbers in short English.
+fn short_english(alloc: Global) -> Option<Mode> {
+    let symbols = DecimalSymbols::new_en_for_testing(alloc).ok()?;
+    let digits = ['0', '1', '2', '3', '4', '5', '6', '7', '8', '9'];
+    let options = DecimalFormatterOptions::default();
+    let formatter = DecimalFormatter::from_parts(symbols, digits, options);
+    let rules = PluralRules::from_rules(alloc, &[]).ok()?;
+    let table = table(alloc)?;
+    Some(Mode::Compact(CompactDecimalFormatter::from_parts(formatter, rules, table)))
+}
+
+/// Whether the output of an input is this, also one byte a call.
+fn answers(alloc: Global, input: &[u8], want: &[u8]) -> bool {
+    match short_english(alloc) {
+        Some(mode) => {
+            runs_at_once(alloc, &mode, input, want)
+                && runs_slowly(
+                    alloc,
+                    &mode,
+                    (input, usize::MAX),
+                    (usize::MAX, Full::Fails),
+                    (Ok(()), want),
+                )
+        }
+        None => false,
+    }
+}
+
+/// Lines and their answers: halves go to the even number, a carry takes the next pattern, small numbers show two digits.
+const LINES: [(&str, &str); 7] = [
+    ("1650\n1750\n1950", "1.6K\n1.8K\n2K\n"),
+    ("999499.99\n999500.00\r\n", "999K\n1M\n"),
+    ("-13132\n+1172700\n", "-13K\n+1.2M\n"),
+    ("15000000000000\n15000000000000000\n", "15T\n15,000T\n"),
+    ("0999499\n0999500\n", "0,999K\n1M\n"),
+    ("843\n0.2222\n0.0995\n-0.00\n", "843\n0.22\n0.1\n-0\n"),
+    (
+        "12.\n9950\n1e3\n",
+        "error: not a decimal\n10K\nerror: not a decimal\n",
+    ),
+];
+
+#[test]
+fn answers_in_compact_form(rt: HostRuntime) {
+    for (input, want) in LINES {
+        assert!(rt;
+            answers(rt.alloc(), input.as_bytes(), want.as_bytes()),
+            "at {want}"
+        );
+    }
+}
+
+/// Whether so many nines, and behind them another byte, are answered so.
+fn answers_nines(alloc: Global, count: usize, last: u8, want: &[u8]) -> bool {
+    match nines(alloc, count, last) {
+        Ok(input) => answers(alloc, &input, want),
+        Err(_) => false,
+    }
+}
+
+#[test]
+fn refuses_numbers_past_the_limits(rt: HostRuntime) {
+    assert!(rt; answers_nines(rt.alloc(), 32767, b'9', b"error: overflow\n"));
+    assert!(rt; answers_nines(rt.alloc(), 32768, b'9', b"error: too many digits\n"));
+    assert!(rt; answers_nines(rt.alloc(), 32768, b'x', b"error: not a decimal\n"));
+}
