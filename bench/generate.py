@@ -1,6 +1,9 @@
 #!/usr/bin/env python3
-"""Writes one of the two inputs of the comparison, always the same: `generate.py mixed|long`."""
+"""Writes an input of the comparison, always the same: `generate.py mixed|long`; or tables of many locales, the sample's
+under other names: `generate.py tables [BYTES]`."""
 
+import json
+import os
 import sys
 
 COUNT = {"mixed": 1_000_000, "long": 1_800}
@@ -44,8 +47,30 @@ def long_line(numbers):
     return ("-" if numbers.below(3) == 0 else "") + numbers.digits(length)
 
 
+def tables(size):
+    """The sample tables, and their entries again and again under other locales, up to so many bytes."""
+    with open(os.path.join(os.path.dirname(__file__), "../tables/sample.json"), encoding="utf-8") as file:
+        sample = json.load(file)
+    kinds = ("symbols", "rules", "short", "long")
+    texts = {kind: [] for kind in kinds}
+    written = turn = 0
+    while written < size:
+        for kind in kinds:
+            for entry in sample[kind]:
+                renamed = {**entry, "locale": entry["locale"] + (f"-x{turn}" if turn else "")}
+                texts[kind].append(json.dumps(renamed, ensure_ascii=False))
+                written += len(texts[kind][-1].encode())
+        turn += 1
+    parts = [f'"digits":{json.dumps(sample["digits"], ensure_ascii=False)}']
+    parts += [f'"{kind}":[{",".join(texts[kind])}]' for kind in kinds]
+    return "{" + ",".join(parts) + "}"
+
+
 def main():
     shape = sys.argv[1]
+    if shape == "tables":
+        print(tables(int(sys.argv[2]) if len(sys.argv) > 2 else 10_000_000))
+        return
     numbers = Numbers({"mixed": 1, "long": 2}[shape])
     line = {"mixed": mixed_line, "long": long_line}[shape]
     out = sys.stdout

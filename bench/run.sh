@@ -84,40 +84,43 @@ for name in "${list[@]}"; do
     row "$name" "$(ratio "$name" mixed)" "${equal[$name,mixed]}" "$(ratio "$name" long)" "${equal[$name,long]:-–}" "$counted"
 done
 
-# Compact numbers: the library's public calls beside a straightforward Rust program. `rt` takes a crate below its own
-# repository alone, so one is made of copies; the program is proved safe as any other.
-compact_program() {
-    local made=build/compact crate
-    mkdir -p $made/crates/compactfmt/src
-    for crate in writeable icu_pattern icu_provider fixed_decimal icu_plurals icu_base icu_decimal_data icu_decimal; do
-        rm -rf "$made/crates/$crate" && cp -a "../crates/$crate" $made/crates/
-    done
-    cp compact/main.rt.in $made/crates/compactfmt/src/main.rt
-    cp ../HANDLES $made/
-    grep -v '^decfmt' ../crates.txt >$made/crates.txt
-    echo 'compactfmt: fixed_decimal icu_base icu_decimal icu_decimal_data' >>$made/crates.txt
-    (cd $made/crates/compactfmt && rt run </dev/null) >build/compact.log 2>&1
-}
-
-if command -v rt >/dev/null && compact_program; then
-    "${rust[@]}" peers/rust_compact.rs -o build/rust_compact || exit 1
-    command[rust_compact]=build/rust_compact
-    command['compact by the library']=build/compact/crates/compactfmt/out/compactfmt
-    best=()
-    for name in rust_compact 'compact by the library'; do
+# Compact numbers, and plain ones by tables, beside a straightforward Rust program and the program without words.
+"${rust[@]}" peers/rust_compact.rs -o build/rust_compact || exit 1
+command[rust_compact]=build/rust_compact
+command['decfmt short']="$program ../tables/sample.json en - short"
+command['decfmt plain by tables']="$program ../tables/sample.json en - plain"
+pairs=('rust_compact,decfmt short' 'decfmt,decfmt plain by tables')
+for pair in "${pairs[@]}"; do
+    IFS=, read -ra list <<<"$pair"
+    for input in mixed long; do
+        best=()
         for turn in $(seq 1 "$runs"); do
-            took=$(once "$name" mixed)
-            [ "$took" -lt "${best[$name]:-999999999}" ] && best[$name]=$took
+            for name in "${list[@]}"; do
+                took=$(once "$name" $input)
+                [ "$took" -lt "${best[$name]:-999999999}" ] && best[$name]=$took
+            done
         done
-        ${command[$name]} <build/mixed.txt >"build/$name.output"
+        for name in "${list[@]}"; do ${command[$name]} <"build/$input.txt" >"build/$name.output"; done
+        echo
+        row "$input" ratio 'same output' 'instructions a line' '' ''
+        row --- --- --- --- '' ''
+        for name in "${list[@]}"; do
+            same=$(cmp -s "build/$name.output" "build/${list[0]}.output" && echo yes || echo no)
+            counted=–
+            command -v valgrind >/dev/null && [ $input = mixed ] && counted=$(instructions "$name" 20000 mixed)
+            row "$name" "$(awk -v a="${best[$name]}" -v b="${best[${list[0]}]}" 'BEGIN {printf "%.2f (%.0f ms)", a / b, a / 1000}')" "$same" "$counted" '' ''
+        done
     done
-    echo
-    row 'compact short English' ratio 'same output' 'instructions a line' '' ''
-    row --- --- --- --- '' ''
-    for name in rust_compact 'compact by the library'; do
-        same=$(cmp -s "build/$name.output" build/rust_compact.output && echo yes || echo no)
-        counted=–
-        command -v valgrind >/dev/null && counted=$(instructions "$name" 20000 mixed)
-        row "$name" "$(awk -v a="${best[$name]}" -v b="${best[rust_compact]}" 'BEGIN {printf "%.2f (%.0f ms)", a / b, a / 1000}')" "$same" "$counted" '' ''
-    done
-fi
+done
+
+# Start-up: tables of many locales, the sample's under other names, and no lines.
+python3 generate.py tables >build/tables.json
+command[start]="$program build/tables.json en - short"
+: >build/start.txt
+unset 'best[start]'
+for turn in $(seq 1 "$runs"); do
+    took=$(once start start)
+    [ "$took" -lt "${best[start]:-999999999}" ] && best[start]=$took
+done
+echo
+echo "start-up with $(stat -c %s build/tables.json) bytes of tables: $((${best[start]} / 1000)) ms"
