@@ -3,8 +3,7 @@
 use super::{Full, nines, runs_at_once, runs_slowly};
 use crate::mode::Mode;
 use icu_base::{Pattern, PluralElements, PluralRules, SinglePlaceholder};
-use icu_decimal::options::DecimalFormatterOptions;
-use icu_decimal::provider::{CompactPatterns, DecimalSymbols};
+use icu_decimal::provider::CompactPatterns;
 use icu_decimal::{CompactDecimalFormatter, DecimalFormatter};
 use std::alloc::Global;
 use std::collections::BTreeMap;
@@ -12,26 +11,51 @@ use std::collections::BTreeMap;
 /// An exponent, which is its type too, and the text that follows a number.
 const ROWS: [(u8, &str); 4] = [(3, "K"), (6, "M"), (9, "B"), (12, "T")];
 
-/// The table of the rows.
-fn table(alloc: Global) -> Option<CompactPatterns<SinglePlaceholder>> {
-    let mut map = BTreeMap::new(alloc);
-    for (exponent, literal) in ROWS {
-        let pattern = Pattern::try_new(alloc, Some(0), literal).ok()?;
-        map.insert(exponent, (exponent, PluralElements::new(pattern)))
-            .ok()?;
+type Elements = PluralElements<Pattern<SinglePlaceholder>>;
+
+/// Puts a row into a map; whether there was memory for it.
+fn is_put(alloc: Global, map: &mut BTreeMap<u8, (u8, Elements)>, row: (u8, &str)) -> bool {
+    match Pattern::try_new(alloc, Some(0), row.1) {
+        Ok(pattern) => map
+            .insert(row.0, (row.0, PluralElements::new(pattern)))
+            .is_ok(),
+        Err(_) => false,
     }
-    CompactPatterns::new(alloc, map, None).ok()
+}
+
+/// The map of the rows; with want of memory some are left out.
+fn map(alloc: Global) -> BTreeMap<u8, (u8, Elements)> {
+    let mut map = BTreeMap::new(alloc);
+    for row in ROWS {
+        is_put(alloc, &mut map, row);
+    }
+    map
+}
+
+/// The mode of these parts and the table of the rows.
+fn with_rules(alloc: Global, formatter: DecimalFormatter, rules: PluralRules) -> Option<Mode> {
+    match CompactPatterns::new(alloc, map(alloc), None) {
+        Ok(table) => Some(Mode::Compact(CompactDecimalFormatter::from_parts(
+            formatter, rules, table,
+        ))),
+        Err(_) => None,
+    }
+}
+
+/// The mode of a plain formatter with the table of the rows.
+fn with_plain(alloc: Global, formatter: DecimalFormatter) -> Option<Mode> {
+    match PluralRules::from_rules(alloc, &[]) {
+        Ok(rules) => with_rules(alloc, formatter, rules),
+        Err(_) => None,
+    }
 }
 
 /// Compact numbers in short English.
 fn short_english(alloc: Global) -> Option<Mode> {
-    let symbols = DecimalSymbols::new_en_for_testing(alloc).ok()?;
-    let digits = ['0', '1', '2', '3', '4', '5', '6', '7', '8', '9'];
-    let options = DecimalFormatterOptions::default();
-    let formatter = DecimalFormatter::from_parts(symbols, digits, options);
-    let rules = PluralRules::from_rules(alloc, &[]).ok()?;
-    let table = table(alloc)?;
-    Some(Mode::Compact(CompactDecimalFormatter::from_parts(formatter, rules, table)))
+    match Mode::english(alloc) {
+        Ok(Mode::Plain(formatter)) => with_plain(alloc, formatter),
+        _ => None,
+    }
 }
 
 /// Whether the output of an input is this, also one byte a call.
