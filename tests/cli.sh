@@ -125,6 +125,15 @@ tables '{"symbols":[],"digits":[],"short":[{"locale":"en","patterns":[[3,4,{"oth
 tables '{"symbols":[],"digits":[],"short":[{"locale":"en","patterns":[[4,3,{"other":"a"}],[4,4,{"other":"b"}]]}]}'
 tables '{"symbols":[],"digits":[],"short":[{"locale":"en","patterns":[[3,3,{"other":"{0}{0}"}]]}]}'
 
+# 50 MB of tables whose last entry is a number; and where 200 MB of memory are allowed.
+entry='{"locale":"a","minus":["",""],"plus":["",""],"decimal":".","group":",","numsys":"latn","sizes":[3,3,1]},'
+{ printf '{"symbols":['; yes "$entry" | head -n 500000 | tr -d '\n'; printf '7],"digits":[]}'; } >"$folder/large.json"
+ends 'large tables' 3 "$refused" "$folder/large.json" en - plain
+echo 5 | (ulimit -v 200000; exec timeout 20 "$program" "$folder/large.json" en - plain) >"$folder/out" 2>"$folder/err"
+status=$?
+judge 'large tables in little memory' 1 '' "$memory"
+rm "$folder/large.json"
+
 printf '{"symbols":[],"digits":[]}' >"$folder/tables.json"
 ends 'tables without an entry' 4 "$no_data" "$folder/tables.json" en - plain
 ends 'a locale without symbols' 4 "$no_data" "$sample" xx - plain
