@@ -18,3 +18,8 @@ pub mod WorkedNearest
 pub mod ShownAgain
 pub mod WorkedAgain
 pub mod WorkedPadding
+pub mod Runs
+pub mod CharactersShown
+pub mod GroupRuns
+pub mod DigitsTold
+pub mod TextsTold

@@ -15,3 +15,5 @@ pub mod PatternGiven
 pub mod ExponentMismatch
 pub mod Loaded
 pub mod Preferences
+pub mod Readable
+pub mod ReadableLaws

@@ -7,6 +7,7 @@ ghost use Rattle.fixed_decimal.specs.Unsigned.{Unsigned};
 ghost use Rattle.icu_decimal.specs.CompactFormat.{CompactFormat};
 ghost use Rattle.icu_decimal.specs.CompactLaws.{OneCompactNumberIsNearest, NearestIsRounded, DisplayedIsOne, NearestKeepsOrder, MagnitudeIsShown, CompactNumberIsItsNearest, IsUnpadded, IsShownAgain, ShownIsGiven};
 ghost use Rattle.icu_decimal.specs.Laws.{AutoAndAlwaysWriteAlike, NoneActsAsAuto, SeparatorsTakenOut, DigitsHaveAGrouping, DigitsHaveOneGrouping};
+ghost use Rattle.icu_decimal.specs.ReadableLaws.{TextTellsTheDecimal};
 
 use crate::formatted_decimal::{FormattedDecimal, FormattedUnsignedDecimal};
 use crate::formatted_sign::FormattedSign;
@@ -31,6 +32,11 @@ pub fn separators_taken_out()
 pub fn grouping_is_unique()
     ensures some { DigitsHaveAGrouping }
     ensures one { DigitsHaveOneGrouping }
+{}
+
+/// Where a plain formatter is readable, equal texts mean equal decimals: in sign, range and every digit.
+pub fn text_tells_the_decimal()
+    ensures { TextTellsTheDecimal }
 {}
 
 /// Values with a sign that are equal write equal events, where equal values inside do.
