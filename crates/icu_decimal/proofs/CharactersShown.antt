@@ -75,7 +75,7 @@ characters-in_parts : (value prefix : List ℕ) (es : List Event) (suffix : List
 characters-in_parts value prefix es suffix =
     characters-around (in_decimal_part value (text_events prefix)) es (in_decimal_part value (text_events suffix)) (chars prefix) (chars suffix) (characters-text_part value prefix) (characters-text_part value suffix)
 
-pub characters-signed : (f : DecimalFormat) (sign : Sign) (es : List Event) → characters (signed_events f.symbols sign es) ≡ (affixes f sign).before ++ (characters es ++ (affixes f sign).after)
+pub characters-signed : (f : DecimalFormat) (sign : Sign) (es : List Event) → characters (signed_events f.symbols sign es) ≡ (affixes f.symbols.strings sign).before ++ (characters es ++ (affixes f.symbols.strings sign).after)
 characters-signed f NoSign es = sym (append-nil (characters es))
 characters-signed f Negative es = characters-in_parts (codes "minusSign") f.symbols.strings.minus_sign_prefix es f.symbols.strings.minus_sign_suffix
 characters-signed f Positive es = characters-in_parts (codes "plusSign") f.symbols.strings.plus_sign_prefix es f.symbols.strings.plus_sign_suffix

@@ -21,7 +21,7 @@ IsDigitOf f c = Contains f.digits c
 abbrev pub IsOther : DecimalFormat → ℕ → Type 0
 IsOther f c = ¬ (Contains f.digits c)
 
-module _ (f : DecimalFormat) (h : IsReadable f) where
+module _ (f : DecimalFormat) (h : IsReadable f.symbols.strings f.digits) where
   -- ten different characters tell their digits
   character_tells : (x y : ℕ) → x < 10 → y < 10 → slice_index f.digits x ≡ slice_index f.digits y → x ≡ y
   character_tells x y hx hy e =
@@ -77,7 +77,7 @@ unsigned_same c d hc hd i f =
     ap₂ of digits scale
 
 -- the groups' characters tell the digits at power 0 and above
-pub groups_tell : (f : DecimalFormat) → IsReadable f → (c d : Unsigned) → IsUnsigned c → IsUnsigned d
+pub groups_tell : (f : DecimalFormat) → IsReadable f.symbols.strings f.digits → (c d : Unsigned) → IsUnsigned c → IsUnsigned d
     → concatenated (map (λ g. digit_characters f g) (groups_of f c)) ≡ concatenated (map (λ g. digit_characters f g) (groups_of f d)) → integer c ≡ integer d
 groups_tell f h c d hc hd e = characters_tell f h (integer c) (integer d) (integer_below c hc) (integer_below d hd) (sym (spelled c) ∙ e ∙ spelled d)
   where
@@ -85,7 +85,7 @@ groups_tell f h c d hc hd e = characters_tell f h (integer c) (integer d) (integ
     spelled b = concatenated-map (slice_index f.digits) (groups_of f b) ∙ ap (digit_characters f) (concatenated-digit_groups (integer b) f.symbols.grouping_sizes (strategy_of f.options))
 
 -- a decimal's groups and fraction, as characters
-pub group_characters : (f : DecimalFormat) → IsReadable f → (c : Unsigned) → IsUnsigned c → Runs (IsDigitOf f) (map (λ g. digit_characters f g) (groups_of f c)) × (map (λ g. digit_characters f g) (groups_of f c) ≢ [])
+pub group_characters : (f : DecimalFormat) → IsReadable f.symbols.strings f.digits → (c : Unsigned) → IsUnsigned c → Runs (IsDigitOf f) (map (λ g. digit_characters f g) (groups_of f c)) × (map (λ g. digit_characters f g) (groups_of f c) ≢ [])
 group_characters f h c hc =
     let gs = groups_some c hc f in
     (runs_map IsDigit (IsDigitOf f) (slice_index f.digits) (character_is f h) (groups_of f c) gs.0, go (groups_of f c) gs.1)
@@ -94,5 +94,5 @@ group_characters f h c hc =
     go [] some e = some refl
     go (g ∷ gs) some e = cc
 
-pub fraction_characters : (f : DecimalFormat) → IsReadable f → (c : Unsigned) → IsUnsigned c → Every (IsDigitOf f) (digit_characters f (fraction c))
+pub fraction_characters : (f : DecimalFormat) → IsReadable f.symbols.strings f.digits → (c : Unsigned) → IsUnsigned c → Every (IsDigitOf f) (digit_characters f (fraction c))
 fraction_characters f h c hc = every_map IsDigit (IsDigitOf f) (slice_index f.digits) (character_is f h) (fraction c) (fraction_below c hc)

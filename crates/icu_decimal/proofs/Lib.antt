@@ -23,3 +23,4 @@ pub mod CharactersShown
 pub mod GroupRuns
 pub mod DigitsTold
 pub mod TextsTold
+pub mod ReadableParts

@@ -1,9 +1,9 @@
 -- Formatters whose texts tell their numbers.
-use Rattle.std.specs.Prelude.{◌≡◌, ◌≢◌, ℕ, List, [], ◌++◌, length, take, drop, All, AllPairs, Contains, IsSome, Option, Some, None}
+use Rattle.std.specs.Prelude.{◌≡◌, ◌≢◌, ℕ, List, [], length, All, AllPairs, Contains}
 use Rattle.std.specs.Str.{chars}
 use Rattle.fixed_decimal.specs.declared.signs.Sign.{Sign}
 use Rattle.fixed_decimal.specs.declared.signs.Sign.TheVariants.{Negative, Positive, None as NoSign}
-use Rattle.icu_decimal.specs.Decimal.{DecimalFormat}
+use Rattle.icu_decimal_data.specs.Symbols.{SymbolTexts}
 
 -- the characters before a number and after it
 pub record Surroundings : Type 0 where
@@ -11,28 +11,47 @@ pub record Surroundings : Type 0 where
   pub after : List ℕ
 
 -- the characters of a sign's two affixes
-abbrev pub affixes : DecimalFormat → Sign → Surroundings
-affixes f NoSign = record { before = []; after = [] }
-affixes f Negative = record { before = chars f.symbols.strings.minus_sign_prefix; after = chars f.symbols.strings.minus_sign_suffix }
-affixes f Positive = record { before = chars f.symbols.strings.plus_sign_prefix; after = chars f.symbols.strings.plus_sign_suffix }
+abbrev pub affixes : SymbolTexts → Sign → Surroundings
+affixes s NoSign = record { before = []; after = [] }
+affixes s Negative = record { before = chars s.minus_sign_prefix; after = chars s.minus_sign_suffix }
+affixes s Positive = record { before = chars s.plus_sign_prefix; after = chars s.plus_sign_suffix }
 
--- none of the characters is one of the formatter's digits
-abbrev pub HasNoDigit : DecimalFormat → List ℕ → Type 0
-HasNoDigit f cs = All (λ c. ¬ (Contains f.digits c)) cs
+-- none of the characters is one of the digits
+abbrev pub HasNoDigit : List ℕ → List ℕ → Type 0
+HasNoDigit digits cs = All (λ c. ¬ (Contains digits c)) cs
 
 -- nor is one before the number or after it
-pub record IsFreeOfDigits (f : DecimalFormat) (a : Surroundings) : Type 0 where
-  pub before_free : HasNoDigit f a.before
-  pub after_free : HasNoDigit f a.after
+pub record IsFreeOfDigits (digits : List ℕ) (a : Surroundings) : Type 0 where
+  pub before_free : HasNoDigit digits a.before
+  pub after_free : HasNoDigit digits a.after
 
--- A plain formatter is readable: ten different digits, none of them in an affix or separator; a decimal separator that
--- isn't empty and isn't the grouping separator; and affixes that tell the sign.
-pub record IsReadable (f : DecimalFormat) : Type 0 where
-  pub ten : length f.digits ≡ 10
-  pub different : AllPairs (λ c d. c ≢ d) f.digits
-  pub affixes_free : (s : Sign) → IsFreeOfDigits f (affixes f s)
-  pub decimal_free : HasNoDigit f (chars f.symbols.strings.decimal_separator)
-  pub grouping_free : HasNoDigit f (chars f.symbols.strings.grouping_separator)
-  pub decimal_some : chars f.symbols.strings.decimal_separator ≢ []
-  pub separators_differ : chars f.symbols.strings.decimal_separator ≢ chars f.symbols.strings.grouping_separator
-  pub sign_told : (s t : Sign) → affixes f s ≡ affixes f t → s ≡ t
+-- no two signs have the same affixes
+abbrev pub SignsDiffer : SymbolTexts → Type 0
+SignsDiffer texts = (s t : Sign) → affixes texts s ≡ affixes texts t → s ≡ t
+
+-- Numbers with these symbols and digits are readable: ten different digits, none of them in an affix or separator; a
+-- decimal separator that isn't empty and isn't the grouping separator; and affixes that tell the sign.
+pub record IsReadable (texts : SymbolTexts) (digits : List ℕ) : Type 0 where
+  pub ten : length digits ≡ 10
+  pub different : AllPairs (λ c d. c ≢ d) digits
+  pub affixes_free : (s : Sign) → IsFreeOfDigits digits (affixes texts s)
+  pub decimal_free : HasNoDigit digits (chars texts.decimal_separator)
+  pub grouping_free : HasNoDigit digits (chars texts.grouping_separator)
+  pub decimal_some : chars texts.decimal_separator ≢ []
+  pub separators_differ : chars texts.decimal_separator ≢ chars texts.grouping_separator
+  pub sign_told : SignsDiffer texts
+
+-- Parts of this, each with a test of its own.
+-- no affix and no separator has a digit
+pub record IsFreeThroughout (texts : SymbolTexts) (digits : List ℕ) : Type 0 where
+  pub minus_prefix_free : HasNoDigit digits (chars texts.minus_sign_prefix)
+  pub minus_suffix_free : HasNoDigit digits (chars texts.minus_sign_suffix)
+  pub plus_prefix_free : HasNoDigit digits (chars texts.plus_sign_prefix)
+  pub plus_suffix_free : HasNoDigit digits (chars texts.plus_sign_suffix)
+  pub decimal_free : HasNoDigit digits (chars texts.decimal_separator)
+  pub grouping_free : HasNoDigit digits (chars texts.grouping_separator)
+
+-- the decimal separator shows, and differs from the grouping separator
+pub record SeparatorsTold (texts : SymbolTexts) : Type 0 where
+  pub decimal_some : chars texts.decimal_separator ≢ []
+  pub separators_differ : chars texts.decimal_separator ≢ chars texts.grouping_separator

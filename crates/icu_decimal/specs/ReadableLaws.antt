@@ -8,5 +8,5 @@ use Rattle.icu_decimal.specs.Readable.{IsReadable}
 
 -- Two decimals that a readable formatter writes in the same characters are one: in sign, range and every digit.
 abbrev pub TextTellsTheDecimal : Type 0
-TextTellsTheDecimal = (f : DecimalFormat) (s t : Sign) (c d : Unsigned) → IsReadable f → IsUnsigned c → IsUnsigned d
+TextTellsTheDecimal = (f : DecimalFormat) (s t : Sign) (c d : Unsigned) → IsReadable f.symbols.strings f.digits → IsUnsigned c → IsUnsigned d
     → characters (decimal_events f s c) ≡ characters (decimal_events f t d) → (s ≡ t) × (c ≡ d)

@@ -1,9 +1,10 @@
 //! The plain formatter.
 
-ghost use Rattle.std.specs.Prelude.{◌≡◌, List, IfOk, IsOkUnless, codes};
+ghost use Rattle.std.specs.Prelude.{◌≡◌, ◌↔◌, IsTrue, List, IfOk, IsOkUnless, codes};
 ghost use Rattle.std.specs.String.{string_bytes};
 ghost use Rattle.icu_base.specs.Events.{Event, text_of};
 ghost use Rattle.icu_decimal.specs.Decimal.{decimal_events, signed_events, unsigned_events};
+ghost use Rattle.icu_decimal.specs.Readable.{IsReadable};
 
 use crate::cow::Cow;
 use crate::error::FormatError;
@@ -11,6 +12,7 @@ use crate::formatted_decimal::{FormattedDecimal, FormattedUnsignedDecimal};
 use crate::formatted_sign::FormattedSign;
 use crate::options::DecimalFormatterOptions;
 use crate::parts;
+use crate::readable::is_readable;
 use fixed_decimal::{Decimal, Sign, UnsignedDecimal};
 use icu_base::Writeable;
 use icu_decimal_data::DecimalSymbols;
@@ -77,6 +79,17 @@ impl DecimalFormatter {
         FormattedDecimal {
             signed: self.format_sign(value.sign, number),
         }
+    }
+
+    /// Whether each of its texts tells its decimal: the sign, the range and every digit (this project's own).
+    ///
+    /// It does where the ten digits differ and none of them stands in an affix or a separator, the decimal separator isn't
+    /// empty and isn't the grouping separator, and the pairs of affixes of minus, plus and no sign differ. Characters are
+    /// compared, not bytes.
+    pub fn is_readable(&self) -> bool
+        ensures { IsTrue result ↔ IsReadable self.now.symbols.strings self.now.digits }
+    {
+        is_readable(&self.symbols.strings, &self.digits)
     }
 
     /// The text of the decimal.
