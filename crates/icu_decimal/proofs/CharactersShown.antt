@@ -18,7 +18,7 @@ characters-append (Char c ∷ xs) ys = ap (λ l. c ∷ l) (characters-append xs 
 characters-append (Open category value ∷ xs) ys = characters-append xs ys
 characters-append (Close ∷ xs) ys = characters-append xs ys
 
-characters-characters : (cs : List ℕ) → characters (map Char cs) ≡ cs
+pub characters-characters : (cs : List ℕ) → characters (map Char cs) ≡ cs
 characters-characters [] = refl
 characters-characters (c ∷ cs) = ap (λ l. c ∷ l) (characters-characters cs)
 
@@ -67,7 +67,7 @@ pub characters-unsigned : (f : DecimalFormat) (d : Unsigned)
 characters-unsigned f d = characters-append (integer_events f (integer d)) (fraction_events f (fraction d)) ∙ ap₂ ◌++◌ (characters-integer f d) (characters-fraction f (fraction d))
 
 -- what stands around, of whatever kind
-characters-around : (before es after : List Event) (a b : List ℕ) → characters before ≡ a → characters after ≡ b → characters (before ++ (es ++ after)) ≡ a ++ (characters es ++ b)
+pub characters-around : (before es after : List Event) (a b : List ℕ) → characters before ≡ a → characters after ≡ b → characters (before ++ (es ++ after)) ≡ a ++ (characters es ++ b)
 characters-around before es after a b p q =
     characters-append before (es ++ after) ∙ ap₂ ◌++◌ p (characters-append es after ∙ ap (λ l. characters es ++ l) q)
 

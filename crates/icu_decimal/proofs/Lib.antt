@@ -24,3 +24,4 @@ pub mod GroupRuns
 pub mod DigitsTold
 pub mod TextsTold
 pub mod ReadableParts
+pub mod CompactTold

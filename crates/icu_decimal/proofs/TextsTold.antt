@@ -15,11 +15,11 @@ pub record AreOthers (f : DecimalFormat) (a : Surroundings) : Type 0 where
   pub before : Every (IsOther f) a.before
   pub after : Every (IsOther f) a.after
 
-are_others : (f : DecimalFormat) (a : Surroundings) → IsFreeOfDigits f.digits a → AreOthers f a
+pub are_others : (f : DecimalFormat) (a : Surroundings) → IsFreeOfDigits f.digits a → AreOthers f a
 are_others f a h = record { before = every_of_all (IsOther f) a.before h.before_free; after = every_of_all (IsOther f) a.after h.after_free }
 
 -- a number between surroundings tells itself and them
-unsigned_tells : (f : DecimalFormat) (a b : Surroundings) (c d : Unsigned) → IsReadable f.symbols.strings f.digits → AreOthers f a → AreOthers f b → IsUnsigned c → IsUnsigned d
+pub unsigned_tells : (f : DecimalFormat) (a b : Surroundings) (c d : Unsigned) → IsReadable f.symbols.strings f.digits → AreOthers f a → AreOthers f b → IsUnsigned c → IsUnsigned d
     → a.before ++ (characters (unsigned_events f c) ++ a.after) ≡ b.before ++ (characters (unsigned_events f d) ++ b.after) → (a ≡ b) × (c ≡ d)
 unsigned_tells f a b c d h ha hb hc hd e =
     let gc = group_characters f h c hc in

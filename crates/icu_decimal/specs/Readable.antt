@@ -1,9 +1,12 @@
 -- Formatters whose texts tell their numbers.
-use Rattle.std.specs.Prelude.{◌≡◌, ◌≢◌, ℕ, List, [], length, All, AllPairs, Contains}
+use Rattle.std.specs.Prelude.{◌≡◌, ◌≢◌, ◌⊎◌, ℕ, List, [], ◌++◌, length, take, drop, All, AllPairs, Contains, IsSome, Option, Some, None}
 use Rattle.std.specs.Str.{chars}
 use Rattle.fixed_decimal.specs.declared.signs.Sign.{Sign}
 use Rattle.fixed_decimal.specs.declared.signs.Sign.TheVariants.{Negative, Positive, None as NoSign}
+use Rattle.icu_base.specs.Patterns.{PatternText, place_alone}
+use Rattle.icu_decimal_data.specs.CompactTable.{PatternElements, TableEntry, exponent_of}
 use Rattle.icu_decimal_data.specs.Symbols.{SymbolTexts}
+use Rattle.icu_decimal.specs.CompactFormat.{CompactFormat}
 
 -- the characters before a number and after it
 pub record Surroundings : Type 0 where
@@ -55,3 +58,43 @@ pub record IsFreeThroughout (texts : SymbolTexts) (digits : List ℕ) : Type 0 w
 pub record SeparatorsTold (texts : SymbolTexts) : Type 0 where
   pub decimal_some : chars texts.decimal_separator ≢ []
   pub separators_differ : chars texts.decimal_separator ≢ chars texts.grouping_separator
+
+-- what a pattern has before its place and after it; without a place all of it stands before
+abbrev pub sides_at : Option ℕ → List ℕ → Surroundings
+sides_at None literal = record { before = chars literal; after = [] }
+sides_at (Some n) literal = record { before = chars (take n literal); after = chars (drop n literal) }
+
+abbrev pub sides : PatternText → Surroundings
+sides p = sides_at p.place p.literal
+
+-- a sign's affixes around a pattern's sides
+abbrev pub surroundings : SymbolTexts → Sign → PatternText → Surroundings
+surroundings texts sign p = record {
+  before = (affixes texts sign).before ++ (sides p).before;
+  after = (sides p).after ++ (affixes texts sign).after;
+}
+
+-- the pattern stands in one of the slots
+abbrev pub HasPattern : PatternElements → PatternText → Type 0
+HasPattern e p =
+    (e.explicit_zero ≡ Some p) ⊎ (e.explicit_one ≡ Some p) ⊎ (e.zero ≡ Some p) ⊎ (e.one ≡ Some p)
+    ⊎ (e.two ≡ Some p) ⊎ (e.few ≡ Some p) ⊎ (e.many ≡ Some p) ⊎ (e.other ≡ p)
+
+-- an entry of the table, or none
+abbrev pub IsEntryOf : List TableEntry → Option TableEntry → Type 0
+IsEntryOf table None = Unit {0}
+IsEntryOf table (Some e) = Contains table e
+
+-- a number may stand in the pattern by this entry of the table; by none it is written alone
+abbrev pub IsPatternBy : List TableEntry → Option TableEntry → PatternText → Type 0
+IsPatternBy table None p = p ≡ place_alone
+IsPatternBy table (Some e) p = Contains table e × HasPattern e.elements p
+
+-- A compact formatter is readable: its plain numbers are; each pattern has a place and no digit; and what stands around
+-- a number, affixes and sides taken together, tells the sign and the exponent.
+pub record IsReadableCompact (f : CompactFormat) : Type 0 where
+  pub plain_readable : IsReadable f.decimal.symbols.strings f.decimal.digits
+  pub placed : (by : Option TableEntry) (p : PatternText) → IsPatternBy f.table by p → IsSome p.place
+  pub sides_free : (by : Option TableEntry) (p : PatternText) → IsPatternBy f.table by p → IsFreeOfDigits f.decimal.digits (sides p)
+  pub told : (s t : Sign) (by to : Option TableEntry) (p q : PatternText) → IsPatternBy f.table by p → IsPatternBy f.table to q
+      → surroundings f.decimal.symbols.strings s p ≡ surroundings f.decimal.symbols.strings t q → (s ≡ t) × (exponent_of by ≡ exponent_of to)

@@ -1,12 +1,28 @@
 -- What a readable text tells; each is the contract of a function of `laws`.
-use Rattle.std.specs.Prelude.{◌≡◌}
+use Rattle.std.specs.Prelude.{◌≡◌, ◌⊎◌, List, Option}
 use Rattle.fixed_decimal.specs.declared.signs.Sign.{Sign}
 use Rattle.fixed_decimal.specs.Unsigned.{Unsigned, IsUnsigned}
-use Rattle.icu_base.specs.Events.{characters}
-use Rattle.icu_decimal.specs.Decimal.{DecimalFormat, decimal_events}
-use Rattle.icu_decimal.specs.Readable.{IsReadable}
+use Rattle.icu_base.specs.Events.{Event, characters, without_parts}
+use Rattle.icu_decimal_data.specs.CompactTable.{TableEntry, exponent_of}
+use Rattle.icu_decimal.specs.CompactFormat.{CompactFormat, filled_events}
+use Rattle.icu_decimal.specs.Decimal.{DecimalFormat, decimal_events, signed_events}
+use Rattle.icu_decimal.specs.Readable.{IsEntryOf, IsReadable, IsReadableCompact}
 
 -- Two decimals that a readable formatter writes in the same characters are one: in sign, range and every digit.
 abbrev pub TextTellsTheDecimal : Type 0
 TextTellsTheDecimal = (f : DecimalFormat) (s t : Sign) (c d : Unsigned) → IsReadable f.symbols.strings f.digits → IsUnsigned c → IsUnsigned d
     → characters (decimal_events f s c) ≡ characters (decimal_events f t d) → (s ≡ t) × (c ≡ d)
+
+-- A significand is written by an entry of the table, or by none, as `format` writes it, characters alone, or as
+-- `format_with_exponent` does, with the parts of the number.
+abbrev pub IsWrittenBy : CompactFormat → Sign → Option TableEntry → Unsigned → List Event → Type 0
+IsWrittenBy f sign by significand es =
+    (es ≡ signed_events f.decimal.symbols sign (without_parts (filled_events f by significand)))
+    ⊎ (es ≡ signed_events f.decimal.symbols sign (filled_events f by significand))
+
+-- Where a compact formatter is readable, equal characters, written in either way, mean equal signs, significands, in
+-- range and every digit, and exponents.
+abbrev pub CompactTextTells : Type 0
+CompactTextTells = (f : CompactFormat) (s t : Sign) (by to : Option TableEntry) (c d : Unsigned) (es fs : List Event) → IsReadableCompact f
+    → IsEntryOf f.table by → IsEntryOf f.table to → IsUnsigned c → IsUnsigned d → IsWrittenBy f s by c es → IsWrittenBy f t to d fs
+    → characters es ≡ characters fs → (s ≡ t) × (c ≡ d) × (exponent_of by ≡ exponent_of to)

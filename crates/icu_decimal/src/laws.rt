@@ -7,7 +7,7 @@ ghost use Rattle.fixed_decimal.specs.Unsigned.{Unsigned};
 ghost use Rattle.icu_decimal.specs.CompactFormat.{CompactFormat};
 ghost use Rattle.icu_decimal.specs.CompactLaws.{OneCompactNumberIsNearest, NearestIsRounded, DisplayedIsOne, NearestKeepsOrder, MagnitudeIsShown, CompactNumberIsItsNearest, IsUnpadded, IsShownAgain, ShownIsGiven};
 ghost use Rattle.icu_decimal.specs.Laws.{AutoAndAlwaysWriteAlike, NoneActsAsAuto, SeparatorsTakenOut, DigitsHaveAGrouping, DigitsHaveOneGrouping};
-ghost use Rattle.icu_decimal.specs.ReadableLaws.{TextTellsTheDecimal};
+ghost use Rattle.icu_decimal.specs.ReadableLaws.{CompactTextTells, TextTellsTheDecimal};
 
 use crate::formatted_decimal::{FormattedDecimal, FormattedUnsignedDecimal};
 use crate::formatted_sign::FormattedSign;
@@ -37,6 +37,12 @@ pub fn grouping_is_unique()
 /// Where a plain formatter is readable, equal texts mean equal decimals: in sign, range and every digit.
 pub fn text_tells_the_decimal()
     ensures { TextTellsTheDecimal }
+{}
+
+/// Where a compact formatter is readable, equal texts mean equal signs, significands and exponents, whichever of `format`
+/// and `format_with_exponent` wrote them.
+pub fn compact_text_tells()
+    ensures { CompactTextTells }
 {}
 
 /// Values with a sign that are equal write equal events, where equal values inside do.

@@ -25,6 +25,8 @@ mod options;
 #[cfg(test)]
 mod plain;
 #[cfg(test)]
+mod readable;
+#[cfg(test)]
 mod shelf;
 #[cfg(test)]
 mod styles;
