@@ -92,7 +92,7 @@ trimmed_told s t us ut ts tt' same top = elim (cases_order s.scale t.scale) [
 ]
 
 -- equal sizes by equal exponents come of equal significands
-same_scaled : (entry other : Option TableEntry) (a b y z : ℕ) → entry ≡ other → y ≡ z → a * 10 ^ exponent_of entry ≡ y → b * 10 ^ exponent_of other ≡ z → a ≡ b
+pub same_scaled : (entry other : Option TableEntry) (a b y z : ℕ) → entry ≡ other → y ≡ z → a * 10 ^ exponent_of entry ≡ y → b * 10 ^ exponent_of other ≡ z → a ≡ b
 same_scaled entry other a b y z entries sizes p q =
     cancelled a b (10 ^ exponent_of other) (ten_pos (exponent_of other)) (ap (λ e. a * 10 ^ exponent_of e) (sym entries) ∙ p ∙ sizes ∙ sym q)
 

@@ -25,3 +25,4 @@ pub mod DigitsTold
 pub mod TextsTold
 pub mod ReadableParts
 pub mod CompactTold
+pub mod ShownTold

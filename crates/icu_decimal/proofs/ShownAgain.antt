@@ -26,7 +26,7 @@ use Rattle.icu_decimal.proofs.NearestLaws.{nearest_to_itself, itself_nearest, ne
 use Rattle.icu_decimal.proofs.PowerPlaces.{place_is}
 
 -- a nearest compact number has no lower magnitude
-magnitude_shown : (table : List TableEntry) (x y : ℕ) → IsNearestCompact table x y → magnitude x ≤ magnitude y
+pub magnitude_shown : (table : List TableEntry) (x y : ℕ) → IsNearestCompact table x y → magnitude x ≤ magnitude y
 magnitude_shown table zero y n =
     let none : y ≡ 0 = itself_nearest (IsCompactNumber table) (10 ^ rounding_place_for table (magnitude 0)) 0 y (zero_is_compact table) n in
     rw none (omega arith)
@@ -39,7 +39,7 @@ nearest_again : (table : List TableEntry) (x y z : ℕ) → IsNearestCompact tab
 nearest_again table x y z n same = rw same (nearest_to_itself (IsCompactNumber table) (10 ^ rounding_place_for table (magnitude y)) y n.allowed)
 
 -- what is displayed of an unpadded decimal has no padding, by whichever entry
-high_unpadded : (table : List TableEntry) (d : Unsigned) (y : ℕ) → IsUnpadded d → magnitude (size d) ≤ magnitude y → displayed_high table d y ≡ int_max (pos 0) (magnitude_power y -ℤ pos (exponent_of (displayed_entry table y)))
+pub high_unpadded : (table : List TableEntry) (d : Unsigned) (y : ℕ) → IsUnpadded d → magnitude (size d) ≤ magnitude y → displayed_high table d y ≡ int_max (pos 0) (magnitude_power y -ℤ pos (exponent_of (displayed_entry table y)))
 high_unpadded table d y unpadded rises =
     ⊎_elim (λ same. rw same (widest (exponent_of (displayed_entry table y)))) (λ other. rw other refl)
     (cases_Bool (are_same_entry (displayed_entry table y) (entry_for table (magnitude (size d)))))

@@ -1,10 +1,11 @@
 -- What a readable text tells; each is the contract of a function of `laws`.
-use Rattle.std.specs.Prelude.{◌≡◌, ◌⊎◌, List, Option}
+use Rattle.std.specs.Prelude.{◌≡◌, ◌⊎◌, ◌↔◌, ℕ, List, Option}
 use Rattle.fixed_decimal.specs.declared.signs.Sign.{Sign}
 use Rattle.fixed_decimal.specs.Unsigned.{Unsigned, IsUnsigned}
 use Rattle.icu_base.specs.Events.{Event, characters, without_parts}
 use Rattle.icu_decimal_data.specs.CompactTable.{TableEntry, exponent_of}
-use Rattle.icu_decimal.specs.CompactFormat.{CompactFormat, filled_events}
+use Rattle.icu_decimal.specs.CompactFormat.{CompactFormat, IsCompactFormat, filled_events}
+use Rattle.icu_decimal.specs.CompactLaws.{IsUnpadded}
 use Rattle.icu_decimal.specs.Decimal.{DecimalFormat, decimal_events, signed_events}
 use Rattle.icu_decimal.specs.Readable.{IsEntryOf, IsReadable, IsReadableCompact}
 
@@ -26,3 +27,10 @@ abbrev pub CompactTextTells : Type 0
 CompactTextTells = (f : CompactFormat) (s t : Sign) (by to : Option TableEntry) (c d : Unsigned) (es fs : List Event) → IsReadableCompact f
     → IsEntryOf f.table by → IsEntryOf f.table to → IsUnsigned c → IsUnsigned d → IsWrittenBy f s by c es → IsWrittenBy f t to d fs
     → characters es ≡ characters fs → (s ≡ t) × (c ≡ d) × (exponent_of by ≡ exponent_of to)
+
+-- Where a compact formatter is readable, two decimals without leading padding that it shows are written in the same
+-- characters exactly where their signs are the same and their shown sizes are.
+abbrev pub ShownTextTells : Type 0
+ShownTextTells = (f : CompactFormat) (s t : Sign) (c d x y : Unsigned) (m n : ℕ) (es fs : List Event) → IsReadableCompact f → IsUnpadded c → IsUnpadded d
+    → (first : IsCompactFormat f s c x m es) (second : IsCompactFormat f t d y n fs)
+    → (characters es ≡ characters fs) ↔ ((s ≡ t) × (first.shown ≡ second.shown))

@@ -7,7 +7,7 @@ ghost use Rattle.fixed_decimal.specs.Unsigned.{Unsigned};
 ghost use Rattle.icu_decimal.specs.CompactFormat.{CompactFormat};
 ghost use Rattle.icu_decimal.specs.CompactLaws.{OneCompactNumberIsNearest, NearestIsRounded, DisplayedIsOne, NearestKeepsOrder, MagnitudeIsShown, CompactNumberIsItsNearest, IsUnpadded, IsShownAgain, ShownIsGiven};
 ghost use Rattle.icu_decimal.specs.Laws.{AutoAndAlwaysWriteAlike, NoneActsAsAuto, SeparatorsTakenOut, DigitsHaveAGrouping, DigitsHaveOneGrouping};
-ghost use Rattle.icu_decimal.specs.ReadableLaws.{CompactTextTells, TextTellsTheDecimal};
+ghost use Rattle.icu_decimal.specs.ReadableLaws.{CompactTextTells, ShownTextTells, TextTellsTheDecimal};
 
 use crate::formatted_decimal::{FormattedDecimal, FormattedUnsignedDecimal};
 use crate::formatted_sign::FormattedSign;
@@ -90,7 +90,11 @@ pub fn smaller_never_shows_larger()
 /// `format` writes of it is what it writes of every decimal without leading padding that has the shown size and the same
 /// sign, the entry, the significand and the characters. And `format_with_exponent` accepts the significand that was shown
 /// with the exponent that was shown, whatever the padding, and writes the same characters.
+///
+/// Where the formatter is readable, two decimals without leading padding are written in the same characters exactly where
+/// their signs and the numbers that are shown are the same.
 pub fn shown_again()
     ensures again { (format : CompactFormat) (sign : Sign) (d again : Unsigned) → IsUnpadded d → IsUnpadded again → IsShownAgain format sign d again }
     ensures given { ShownIsGiven }
+    ensures readable { ShownTextTells }
 {}

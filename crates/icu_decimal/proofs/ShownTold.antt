@@ -1,0 +1,64 @@
+-- What a readable compact text tells of an unpadded decimal.
+use Rattle.std.proofs.Common.{◌≡◌, ℕ, suc, ◌*◌, ◌^◌, ◌-ℤ◌, pos, true, false, nat_le, refl, arith, sym, ap, ap₂, ◌∙◌, List, [], ◌∷◌, Option, Some, None, if◌then◌else◌, inl}
+use Rattle.std.specs.Int.{int_max}
+use Rattle.std.specs.Option.{option_or}
+use Rattle.fixed_decimal.specs.declared.signs.Sign.{Sign}
+use Rattle.fixed_decimal.specs.Size.{magnitude, magnitude_power, size}
+use Rattle.fixed_decimal.specs.Unsigned.{Unsigned, high}
+use Rattle.icu_base.specs.Events.{Event, characters, without_parts}
+use Rattle.icu_decimal_data.specs.CompactTable.{TableEntry, entry_for, exponent_of, type_place}
+use Rattle.icu_decimal.specs.CompactFormat.{CompactFormat, IsCompactFormat, filled_events}
+use Rattle.icu_decimal.specs.CompactLaws.{IsUnpadded}
+use Rattle.icu_decimal.specs.Decimal.{signed_events}
+use Rattle.icu_decimal.specs.Displayed.{displayed_entry}
+use Rattle.icu_decimal.specs.Readable.{IsEntryOf, IsReadableCompact}
+use Rattle.icu_decimal.specs.ReadableLaws.{ShownTextTells}
+use Rattle.icu_decimal.proofs.CompactTold.{compact_tells}
+use Rattle.icu_decimal.proofs.DisplayedOnce.{same_scaled, trimmed_told}
+use Rattle.icu_decimal.proofs.ShownAgain.{high_unpadded, magnitude_shown}
+
+-- the entry of a magnitude stands in the table
+entry_in : (table : List TableEntry) (m : ℕ) → IsEntryOf table (entry_for table m)
+unfolding entry_for
+entry_in [] m = tt
+entry_in (e ∷ es) m = go (entry_for es m) (entry_in es m)
+  where
+    last : IsEntryOf (e ∷ es) (if nat_le (type_place e) m then Some e else None)
+    last = elim (nat_le (type_place e) m) as (λ b. IsEntryOf (e ∷ es) (if b then Some e else None)) [ true ↦ (0, omega arith, refl) | false ↦ tt ]
+
+    go : (x : Option TableEntry) → IsEntryOf es x → IsEntryOf (e ∷ es) (option_or x (if nat_le (type_place e) m then Some e else None))
+    go None h = last
+    go (Some y) (k, l, is) = (suc k, omega (arith, l), is)
+
+-- so does the entry that is displayed
+shown_in : (f : CompactFormat) (s : Sign) (c x : Unsigned) (m : ℕ) (es : List Event) (h : IsCompactFormat f s c x m es) → IsEntryOf f.table h.entry
+shown_in f s c x m es h = rw h.displayed.entry_is (entry_in f.table (magnitude h.shown))
+
+-- how far the significand of an unpadded decimal is written
+high_of : (f : CompactFormat) (s : Sign) (c x : Unsigned) (m : ℕ) (es : List Event) (h : IsCompactFormat f s c x m es) → IsUnpadded c
+    → high x ≡ int_max (pos 0) (magnitude_power h.shown -ℤ pos (exponent_of (displayed_entry f.table h.shown)))
+high_of f s c x m es h unpadded = h.displayed.high_is ∙ high_unpadded f.table c h.shown unpadded (magnitude_shown f.table (size c) h.shown h.displayed.nearest)
+
+pub shown_tells : ShownTextTells
+shown_tells f s t c d x y m n es fs readable unpadded_c unpadded_d first second = (
+  λ same.
+      let told = compact_tells f s t first.entry second.entry x y es fs readable
+      (shown_in f s c x m es first) (shown_in f t d y n fs second) first.displayed.is_decimal second.displayed.is_decimal
+      (inl first.events_are) (inl second.events_are) same in
+      (told.0, sym first.displayed.scaled ∙ ap₂ (λ u e. size u * 10 ^ e) told.1 told.2 ∙ second.displayed.scaled),
+  λ same.
+      let entries : first.entry ≡ second.entry = first.displayed.entry_is ∙ ap (displayed_entry f.table) same.1 ∙ sym second.displayed.entry_is in
+      let highs : high x ≡ high y =
+          high_of f s c x m es first unpadded_c
+          ∙ ap (λ z. int_max (pos 0) (magnitude_power z -ℤ pos (exponent_of (displayed_entry f.table z)))) same.1
+          ∙ sym (high_of f t d y n fs second unpadded_d) in
+      let significands : x ≡ y =
+          trimmed_told x y first.displayed.is_decimal second.displayed.is_decimal first.displayed.trimmed second.displayed.trimmed
+          (same_scaled first.entry second.entry (size x) (size y) first.shown second.shown entries same.1 first.displayed.scaled second.displayed.scaled)
+          highs in
+      ap characters first.events_are ∙ written same.0 entries significands ∙ sym (ap characters second.events_are),
+)
+  where
+    written : {a b : Sign} {e e' : Option TableEntry} {u v : Unsigned} → a ≡ b → e ≡ e' → u ≡ v
+        → characters (signed_events f.decimal.symbols a (without_parts (filled_events f e u))) ≡ characters (signed_events f.decimal.symbols b (without_parts (filled_events f e' v)))
+    written p q r = λ i. characters (signed_events f.decimal.symbols (p i) (without_parts (filled_events f (q i) (r i))))
