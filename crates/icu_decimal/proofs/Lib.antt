@@ -26,3 +26,4 @@ pub mod TextsTold
 pub mod ReadableParts
 pub mod CompactTold
 pub mod ShownTold
+pub mod WorkedReadable
