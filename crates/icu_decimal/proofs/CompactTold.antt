@@ -1,14 +1,14 @@
 -- What a readable compact text tells.
-use Rattle.std.proofs.Common.{◌≡◌, ◌⊎◌, ℕ, refl, sym, ap, ap₂, ◌∙◌, List, [], ◌∷◌, ◌++◌, take, drop, append_assoc, Option, Some, None, IsSome, unwrap_or, true, false, inl, inr}
+use Rattle.std.proofs.Common.{◌≡◌, ◌⊎◌, ℕ, refl, sym, ap, ◌∙◌, List, [], ◌∷◌, ◌++◌, take, drop, append_assoc, Option, Some, None, IsSome, unwrap_or, inl, inr}
 use Rattle.std.specs.Str.{chars}
 use Rattle.std.proofs.lemmas.Bool.{cases_Bool}
 use Rattle.fixed_decimal.specs.declared.signs.Sign.{Sign}
-use Rattle.fixed_decimal.specs.Unsigned.{Unsigned, IsUnsigned}
+use Rattle.fixed_decimal.specs.Unsigned.{Unsigned}
 use Rattle.icu_base.specs.Elements.{explicit_value, category_value, is_exactly, selected}
 use Rattle.icu_base.specs.Events.{Event, characters, text_events, without_parts}
 use Rattle.icu_base.specs.Events.Event.{Char, Open, Close}
 use Rattle.icu_base.specs.Operands.{Operands, operands_of}
-use Rattle.icu_base.specs.Patterns.{PatternText, around, interpolated}
+use Rattle.icu_base.specs.Patterns.{PatternText, around}
 use Rattle.icu_base.specs.Rules.{category_of}
 use Rattle.icu_base.specs.declared.plurals.category.PluralCategory.{PluralCategory}
 use Rattle.icu_base.specs.declared.plurals.category.PluralCategory.TheVariants.{Zero, One, Two, Few, Many, Other}
@@ -48,9 +48,9 @@ module _ (e : PatternElements) where
       explicit p h = elim (cases_Bool (is_exactly 0 o)) [
         | inl zero_is ↦ let same : explicit_value e o ≡ e.explicit_zero = rw zero_is refl in inl (sym same ∙ h)
         | inr not_zero ↦ elim (cases_Bool (is_exactly 1 o)) [
-            | inl one_is ↦ let same : explicit_value e o ≡ e.explicit_one = rw (not_zero, one_is) refl in inr (inl (sym same ∙ h))
-            | inr not_one ↦ let none : explicit_value e o ≡ None = rw (not_zero, not_one) refl in absurd cc
-          ]
+          | inl one_is ↦ let same : explicit_value e o ≡ e.explicit_one = rw (not_zero, one_is) refl in inr (inl (sym same ∙ h))
+          | inr not_one ↦ let none : explicit_value e o ≡ None = rw (not_zero, not_one) refl in absurd cc
+        ]
       ]
 
 -- the pattern of an entry is one of its patterns

@@ -11,7 +11,7 @@ use Rattle.icu_decimal.specs.CompactFormat.{CompactFormat, IsCompactFormat, fill
 use Rattle.icu_decimal.specs.CompactLaws.{IsUnpadded}
 use Rattle.icu_decimal.specs.Decimal.{signed_events}
 use Rattle.icu_decimal.specs.Displayed.{displayed_entry}
-use Rattle.icu_decimal.specs.Readable.{IsEntryOf, IsReadableCompact}
+use Rattle.icu_decimal.specs.Readable.{IsEntryOf}
 use Rattle.icu_decimal.specs.ReadableLaws.{ShownTextTells}
 use Rattle.icu_decimal.proofs.CompactTold.{compact_tells}
 use Rattle.icu_decimal.proofs.DisplayedOnce.{same_scaled, trimmed_told}
@@ -49,13 +49,13 @@ shown_tells f s t c d x y m n es fs readable unpadded_c unpadded_d first second 
   λ same.
       let entries : first.entry ≡ second.entry = first.displayed.entry_is ∙ ap (displayed_entry f.table) same.1 ∙ sym second.displayed.entry_is in
       let highs : high x ≡ high y =
-          high_of f s c x m es first unpadded_c
-          ∙ ap (λ z. int_max (pos 0) (magnitude_power z -ℤ pos (exponent_of (displayed_entry f.table z)))) same.1
-          ∙ sym (high_of f t d y n fs second unpadded_d) in
+      high_of f s c x m es first unpadded_c
+      ∙ ap (λ z. int_max (pos 0) (magnitude_power z -ℤ pos (exponent_of (displayed_entry f.table z)))) same.1
+      ∙ sym (high_of f t d y n fs second unpadded_d) in
       let significands : x ≡ y =
-          trimmed_told x y first.displayed.is_decimal second.displayed.is_decimal first.displayed.trimmed second.displayed.trimmed
-          (same_scaled first.entry second.entry (size x) (size y) first.shown second.shown entries same.1 first.displayed.scaled second.displayed.scaled)
-          highs in
+      trimmed_told x y first.displayed.is_decimal second.displayed.is_decimal first.displayed.trimmed second.displayed.trimmed
+      (same_scaled first.entry second.entry (size x) (size y) first.shown second.shown entries same.1 first.displayed.scaled second.displayed.scaled)
+      highs in
       ap characters first.events_are ∙ written same.0 entries significands ∙ sym (ap characters second.events_are),
 )
   where

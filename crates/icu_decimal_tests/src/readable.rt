@@ -8,7 +8,12 @@ use icu_decimal::provider::{DecimalSymbolStrsBuilder, DecimalSymbols};
 use std::alloc::Global;
 
 /// English but for the affixes of minus, both separators, and the digits.
-type Numbers = ((&'static str, &'static str), &'static str, &'static str, [char; 10]);
+type Numbers = (
+    (&'static str, &'static str),
+    &'static str,
+    &'static str,
+    [char; 10],
+);
 
 /// Two digits have one character.
 const REPEATED: [char; 10] = ['0', '1', '1', '3', '4', '5', '6', '7', '8', '9'];
@@ -65,7 +70,10 @@ const READABLE: [Numbers; 4] = [
 #[test]
 fn readable_numbers(rt: HostRuntime) {
     for numbers in READABLE {
-        assert!(rt; is_readable(rt.alloc(), numbers) == Some(true), "{numbers:?}");
+        assert!(rt;
+            is_readable(rt.alloc(), numbers) == Some(true),
+            "{numbers:?}"
+        );
     }
 }
 
@@ -82,13 +90,19 @@ const HIDDEN: [Numbers; 6] = [
 #[test]
 fn hidden_numbers(rt: HostRuntime) {
     for numbers in HIDDEN {
-        assert!(rt; is_readable(rt.alloc(), numbers) == Some(false), "{numbers:?}");
+        assert!(rt;
+            is_readable(rt.alloc(), numbers) == Some(false),
+            "{numbers:?}"
+        );
     }
 }
 
 /// The text of a number; none where memory is wanting.
 fn text_once(alloc: Global, numbers: Numbers, number: &str) -> Option<String> {
-    match (formatter(alloc, numbers), Decimal::try_from_str(alloc, number)) {
+    match (
+        formatter(alloc, numbers),
+        Decimal::try_from_str(alloc, number),
+    ) {
         (Some(formatter), Ok(decimal)) => formatter.format_to_string(alloc, &decimal).ok(),
         _ => None,
     }
@@ -96,7 +110,10 @@ fn text_once(alloc: Global, numbers: Numbers, number: &str) -> Option<String> {
 
 /// Whether two numbers share a text; none where memory is wanting.
 fn share_once(alloc: Global, numbers: Numbers, first: &str, second: &str) -> Option<bool> {
-    match (text_once(alloc, numbers, first), text_once(alloc, numbers, second)) {
+    match (
+        text_once(alloc, numbers, first),
+        text_once(alloc, numbers, second),
+    ) {
         (Some(first), Some(second)) => Some(first == second),
         _ => None,
     }
@@ -122,6 +139,9 @@ const SHARED: [(Numbers, &str, &str); 5] = [
 #[test]
 fn hidden_numbers_share_a_text(rt: HostRuntime) {
     for (numbers, first, second) in SHARED {
-        assert!(rt; share(rt.alloc(), numbers, first, second), "{first} {second}");
+        assert!(rt;
+            share(rt.alloc(), numbers, first, second),
+            "{first} {second}"
+        );
     }
 }
