@@ -72,6 +72,11 @@ impl Key {
 }
 
 impl fmt::Display for Key {
+    ghost use Rattle.std.specs.Prelude.{Some};
+    ghost use Rattle.icu_tables.specs.Keys.{name_of};
+
+    ghost output = { λ key. Some (name_of key) };
+
     fn fmt<W: fmt::Write>(&self, f: &mut fmt::Formatter<W>) -> fmt::Result {
         f.write_str(self.name())
     }
