@@ -56,7 +56,7 @@ fn push_compact(
             Err(_) => Err(AllocError),
         },
         Err(FormatError::Overflow) => out.extend_from_slice(b"error: overflow"),
-        Err(FormatError::OutOfMemory) => Err(AllocError),
+        Err(FormatError::OutOfMemory | FormatError::Sink) => Err(AllocError),
     }
 }
 

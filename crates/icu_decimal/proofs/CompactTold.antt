@@ -1,12 +1,11 @@
 -- What a readable compact text tells.
-use Rattle.std.proofs.Common.{◌≡◌, ◌⊎◌, ℕ, refl, sym, ap, ◌∙◌, List, [], ◌∷◌, ◌++◌, take, drop, append_assoc, Option, Some, None, IsSome, unwrap_or, inl, inr}
+use Rattle.std.proofs.Common.{◌≡◌, ◌⊎◌, ℕ, refl, sym, ap, ◌∙◌, List, ◌++◌, take, drop, append_assoc, Option, Some, None, IsSome, unwrap_or, inl, inr}
 use Rattle.std.specs.Str.{chars}
 use Rattle.std.proofs.lemmas.Bool.{cases_Bool}
 use Rattle.fixed_decimal.specs.declared.signs.Sign.{Sign}
 use Rattle.fixed_decimal.specs.Unsigned.{Unsigned}
 use Rattle.icu_base.specs.Elements.{explicit_value, category_value, is_exactly, selected}
 use Rattle.icu_base.specs.Events.{Event, characters, text_events, without_parts}
-use Rattle.icu_base.specs.Events.Event.{Char, Open, Close}
 use Rattle.icu_base.specs.Operands.{Operands, operands_of}
 use Rattle.icu_base.specs.Patterns.{PatternText, around}
 use Rattle.icu_base.specs.Rules.{category_of}
@@ -20,6 +19,7 @@ use Rattle.icu_decimal.specs.ReadableLaws.{IsWrittenBy, CompactTextTells}
 use Rattle.icu_decimal.proofs.CharactersShown.{characters-signed, characters-around, characters-characters}
 use Rattle.icu_decimal.proofs.DigitsTold.{IsOther}
 use Rattle.icu_decimal.proofs.Runs.{every-append}
+use Rattle.icu_decimal.proofs.ShownAgain.{characters-without_parts}
 use Rattle.icu_decimal.proofs.TextsTold.{AreOthers, are_others, unsigned_tells}
 
 -- an optional value, or another
@@ -57,12 +57,6 @@ module _ (e : PatternElements) where
 pattern_is : (f : CompactFormat) (by : Option TableEntry) (significand : Unsigned) → IsEntryOf f.table by → IsPatternBy f.table by (pattern_of f by significand)
 pattern_is f None significand h = refl
 pattern_is f (Some e) significand h = (h, selected_is e.elements (operands_of significand 0) (category_of f.rules (operands_of significand 0)))
-
-characters-without_parts : (es : List Event) → characters (without_parts es) ≡ characters es
-characters-without_parts [] = refl
-characters-without_parts (Char c ∷ es) = ap (λ l. c ∷ l) (characters-without_parts es)
-characters-without_parts (Open category value ∷ es) = characters-without_parts es
-characters-without_parts (Close ∷ es) = characters-without_parts es
 
 characters-placed : (place : Option ℕ) (literal : List ℕ) (es : List Event) → IsSome place → characters (around literal place es) ≡ (sides_at place literal).before ++ (characters es ++ (sides_at place literal).after)
 characters-placed None literal es some = cc

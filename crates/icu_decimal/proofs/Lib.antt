@@ -27,3 +27,4 @@ pub mod ReadableParts
 pub mod CompactTold
 pub mod ShownTold
 pub mod WorkedReadable
+pub mod CompactShown

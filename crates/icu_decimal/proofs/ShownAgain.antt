@@ -130,7 +130,7 @@ without_parts-twice (Open category value ∷ es) = without_parts-twice es
 without_parts-twice (Close ∷ es) = without_parts-twice es
 
 -- and the characters stay
-characters-without_parts : (es : List Event) → characters (without_parts es) ≡ characters es
+pub characters-without_parts : (es : List Event) → characters (without_parts es) ≡ characters es
 characters-without_parts [] = refl
 characters-without_parts (Char c ∷ es) = ap (λ l. c ∷ l) (characters-without_parts es)
 characters-without_parts (Open category value ∷ es) = characters-without_parts es

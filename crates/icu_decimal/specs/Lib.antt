@@ -17,3 +17,5 @@ pub mod Loaded
 pub mod Preferences
 pub mod Readable
 pub mod ReadableLaws
+pub mod Shown
+pub mod WritesSuch

@@ -1,8 +1,9 @@
 //! The compact formatter.
 
-ghost use Rattle.std.specs.Prelude.{◌≡◌, ◌↔◌, ◌<◌, ℕ, List, length, slice_get, IfSome, IfOk, IfErr, IsOk, IsErrOf};
+ghost use Rattle.std.specs.Prelude.{◌≡◌, ◌≢◌, ◌↔◌, ◌<◌, ℕ, List, length, slice_get, IfSome, IfOk, IfErr, IsOk, IsErrOf};
 ghost use Rattle.std.specs.String.{string_bytes};
 ghost use Rattle.fixed_decimal.specs.Size.{place, size};
+ghost use Rattle.fixed_decimal.specs.declared.signs.Sign.TheVariants.{None as NoSign};
 ghost use Rattle.icu_base.specs.Elements.{selected};
 ghost use Rattle.icu_base.specs.Events.{Event, text_of};
 ghost use Rattle.icu_base.specs.Operands.{operands_of};
@@ -10,7 +11,7 @@ ghost use Rattle.icu_base.specs.Refs.{text_of_ref};
 ghost use Rattle.icu_base.specs.Rules.{category_of};
 ghost use Rattle.icu_decimal_data.specs.CompactTable.{IsIndex, entry_at, exponent_for};
 ghost use Rattle.icu_decimal.specs.CompactNumber.{ShowsPastLimits};
-ghost use Rattle.icu_decimal.specs.CompactFormat.{IsCompactFormat, pattern_of, exponent_needed, magnitude_with, given_events, given_shown, significand_of, signed_compact_shown};
+ghost use Rattle.icu_decimal.specs.CompactFormat.{IsCompactFormat, pattern_of, exponent_needed, magnitude_with, given_events, given_shown, significand_of, compact_shown, signed_compact_shown};
 ghost use Rattle.icu_decimal.specs.PatternGiven.{pattern_or_alone};
 
 use crate::compact_rounding::{exponent_or_zero, nearest_compact};
@@ -28,7 +29,7 @@ use std::marker::Model;
 /// Writes decimals in compact form, as `15K` (ICU4X `CompactDecimalFormatter`; UTS 35 Part 3, Compact Number Formats).
 #[derive(Drop)]
 pub struct CompactDecimalFormatter {
-    decimal_formatter: DecimalFormatter,
+    pub(crate) decimal_formatter: DecimalFormatter,
     plural_rules: PluralRules,
     patterns: CompactPatterns<SinglePlaceholder>,
 }
@@ -65,7 +66,9 @@ impl CompactDecimalFormatter {
     /// pattern: significand times ten to the exponent is the compact number nearest to the input among those of all
     /// magnitudes, of two equally near the even one.
     ///
-    /// `Overflow` exactly where that number is ten to the power 32768 or more; memory is asked for after that.
+    /// `Overflow` exactly where that number is ten to the power 32768 or more; memory is asked for after that. `Sink` is
+    /// never answered.
+    #[tactic(auto, using(crate::proofs::CompactShown::signed_compact))]
     pub fn format<'l>(
         &'l self,
         alloc: Global,
@@ -73,23 +76,38 @@ impl CompactDecimalFormatter {
     ) -> Result<FormattedSign<'l, FormattedUnsignedCompactDecimal<'l>>, FormatError>
         ensures nearest { IfOk result (λ r. IsCompactFormat self.now value.now.sign value.now.absolute (significand_of r.value) r.value.exponent (signed_compact_shown r)) }
         ensures overflow { IsErrOf result FormatError.Overflow ↔ ShowsPastLimits self.now.table (size value.now.absolute) }
+        ensures no_sink { IfErr result (λ e. e ≢ FormatError.Sink) }
     {
-        let compacted = nearest_compact(alloc, &self.patterns, &value.absolute)?;
+        let compact = self.format_unsigned(alloc, &value.absolute)?;
+        Ok(self.decimal_formatter.format_sign(value.sign, compact))
+    }
+
+    /// The number without its sign, as the nearest compact number.
+    pub(crate) fn format_unsigned<'l>(
+        &'l self,
+        alloc: Global,
+        value: &UnsignedDecimal,
+    ) -> Result<FormattedUnsignedCompactDecimal<'l>, FormatError>
+        ensures nearest { IfOk result (λ r. IsCompactFormat self.now NoSign value.now (significand_of r) r.exponent (compact_shown r)) }
+        ensures overflow { IsErrOf result FormatError.Overflow ↔ ShowsPastLimits self.now.table (size value.now) }
+        ensures no_sink { IfErr result (λ e. e ≢ FormatError.Sink) }
+    {
+        let compacted = nearest_compact(alloc, &self.patterns, value)?;
         let pattern = self.pattern_of(compacted.index, &compacted.significand);
         let number = self
             .decimal_formatter
             .format_unsigned(Cow::Owned(compacted.significand));
-        let compact = FormattedUnsignedCompactDecimal {
+        Ok(FormattedUnsignedCompactDecimal {
             filled: InterpolatedDecimal { number, pattern },
             exponent: compacted.exponent,
-        };
-        Ok(self.decimal_formatter.format_sign(value.sign, compact))
+        })
     }
 
-    /// The text of the nearest compact number.
+    /// The text of the nearest compact number. `Sink` is never answered.
     pub fn format_to_string(&self, alloc: Global, value: &Decimal) -> Result<String, FormatError>
         ensures nearest { IfOk result (λ t. (significand : _) × (exponent : ℕ) × (events : List Event) × IsCompactFormat self.now value.now.sign value.now.absolute significand exponent events × (string_bytes t ≡ text_of events)) }
         ensures overflow { IsErrOf result FormatError.Overflow ↔ ShowsPastLimits self.now.table (size value.now.absolute) }
+        ensures no_sink { IfErr result (λ e. e ≢ FormatError.Sink) }
     {
         let formatted = self.format(alloc, value)?;
         match formatted.write_to_string(alloc) {

@@ -1,6 +1,6 @@
 //! The nearest compact number of a decimal: the entry by which it is displayed, and its significand.
 
-ghost use Rattle.std.specs.Prelude.{◌≡◌, ℕ, ◌*◌, ◌^◌, ◌⊎◌, IfOk, IsErrOf, IsOkUnless, ◌↔◌, ℤ, pos, ◌-ℤ◌, ◌≤ℤ◌, ◌<ℤ◌};
+ghost use Rattle.std.specs.Prelude.{◌≡◌, ◌≢◌, ℕ, ◌*◌, ◌^◌, ◌⊎◌, IfOk, IfErr, IsErrOf, IsOkUnless, ◌↔◌, ℤ, pos, ◌-ℤ◌, ◌≤ℤ◌, ◌<ℤ◌};
 ghost use Rattle.std.specs.Int.{int_max};
 ghost use Rattle.fixed_decimal.specs.Size.{place, ten_to, magnitude, magnitude_power, size};
 ghost use Rattle.fixed_decimal.specs.Trimming.{IsTrimmed};
@@ -34,6 +34,7 @@ pub(crate) fn nearest_compact<P: PatternBackend>(
     ensures exponent { IfOk result (λ r. r.exponent ≡ exponent_of (entry_at table.now r.index)) }
     ensures index { IfOk result (λ r. IsIndex table.now r.index) }
     ensures overflow { IsErrOf result FormatError.Overflow ↔ ShowsPastLimits table.now (size value.now) }
+    ensures no_sink { IfErr result (λ e. e ≢ FormatError.Sink) }
 {
     let power = value.nonzero_magnitude_start();
     let index = table.entry_index(power as i32);
@@ -149,6 +150,7 @@ fn significand_at(
     ensures trimmed { IfOk result (λ s. IsTrimmed s) }
     ensures valid { IfOk result (λ s. IsUnsigned s) }
     ensures overflow { IsErrOf result FormatError.Overflow ↔ RoundsPast (rounding_place exponent (magnitude (size value.now))) (size value.now) }
+    ensures no_sink { IfErr result (λ e. e ≢ FormatError.Sink) }
 {
     let at = round_power(exponent, power);
     if at < -32768 {

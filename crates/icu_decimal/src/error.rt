@@ -13,6 +13,9 @@ pub enum FormatError {
     /// An allocation was refused.
     #[error("out of memory")]
     OutOfMemory,
+    /// The sink could not take the text.
+    #[error("the sink could not take the text")]
+    Sink,
 }
 
 /// How many bytes the text of a `CompactExponentError` has at most.

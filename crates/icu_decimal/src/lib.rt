@@ -1,6 +1,7 @@
 //! Decimals in the digits, signs, separators and groups of a locale: a port of ICU4X's `icu_decimal`.
 #![tactic(auto)]
 
+mod abstract_formatter;
 mod compact_formatter;
 mod compact_rounding;
 mod cow;
@@ -25,6 +26,7 @@ pub mod input {
     pub use fixed_decimal::{Decimal, SignDisplay};
 }
 
+pub use abstract_formatter::AbstractFormatter;
 pub use compact_formatter::CompactDecimalFormatter;
 pub use cow::Cow;
 pub use decimal_formatter::DecimalFormatter;

@@ -32,7 +32,6 @@ struct GivenEntry<'a> {
 }
 
 /// A type that is above the one before it.
-#[tactic(auto)]
 fn rising(before: Option<u8>, log10_type: u8) -> Result<u8, TableError>
     ensures read { Gives (λ x. x) result (rises before log10_type) }
     ensures above { IfOk result (λ t. IsAbove before t) }
@@ -190,9 +189,9 @@ impl FromEntry for Filed<CompactPatterns<SinglePlaceholder>> {
 /// The compact table of a JSON object with `patterns` and an optional `zero` (this project's own format,
 /// `docs/FORMATS.md`), or the first fault that is met in it.
 ///
-/// A value in which a number isn't a whole one of 64 bits, wherever it stands, is refused first, then one that is no
-/// object, both by the empty key of the document; then the kinds of all that stands in it are judged, then the patterns,
-/// then the table by [`CompactPatterns::new`]. The last two are told as the faults of entry 0 of the empty key.
+/// `Float` is told first, where a number isn't a whole one of 64 bits, wherever it stands in the value; then that the value
+/// is no object, as `WrongKind` of the document itself; then the kinds of all that stands in it are judged, then the
+/// patterns, then the table by [`CompactPatterns::new`]. The last two are told as faults of entry 0 of the document.
 #[tactic(auto, unfolding(crate::specs::Compact::compact_in))]
 pub fn compact_from_value(
     alloc: Global,

@@ -1,0 +1,171 @@
+//! One interface over both formatters (ICU4X `AbstractFormatter`).
+
+ghost use Rattle.std.specs.Prelude.{◌≡◌, ◌≢◌, ◌↔◌, IfOk, IfErr, IsErrOf};
+ghost use Rattle.fixed_decimal.specs.Unsigned.{Unsigned};
+ghost use Rattle.icu_decimal_data.specs.declared.decimal_symbols.DecimalSymbols.{DecimalSymbols};
+ghost use Rattle.icu_decimal.specs.Shown.{Shown};
+ghost use Rattle.icu_decimal.specs.Signed.{affixes_for};
+ghost use Rattle.icu_decimal.specs.WritesSuch.{KeepsLimitSuch, WritesSuch};
+
+use crate::compact_formatter::CompactDecimalFormatter;
+use crate::cow::Cow;
+use crate::decimal_formatter::DecimalFormatter;
+use crate::error::FormatError;
+use crate::formatted_sign::FormattedSign;
+use fixed_decimal::{Sign, UnsignedDecimal};
+use icu_base::{PartsWrite, PluralOperands, Writeable};
+use std::alloc::Global;
+
+/// Keeps other crates from implementing `AbstractFormatter`.
+pub trait Sealed {}
+
+/// A formatter of numbers, plain or compact, on which formatters of units, currencies or ranges stand (ICU4X
+/// `AbstractFormatter`).
+///
+/// It shows one thing of a number: events, and plural operands that go with them. `write_unsigned` writes these events,
+/// `plural_operands` answers these operands, and `format_sign` puts a sign around whatever is written of them. What is
+/// promised here holds of every formatter, so a caller that is generic in it needs to know no more.
+pub trait AbstractFormatter: Sealed {
+    /// What is shown of a number: `shows f u n` where the formatter `f` shows `n` of the number `u`.
+    ghost shows: { Self → Unsigned → Shown → Type 0 };
+
+    /// What the formatter would show of a number is too large.
+    ghost overflows: { Self → Unsigned → Type 0 };
+
+    /// The symbols that hold the affixes of a sign.
+    ghost symbols: { Self → DecimalSymbols };
+
+    /// Writes what is shown of a number, without a sign.
+    ///
+    /// `Overflow` exactly where that is too large, and `Sink` only where the sink failed in this call: it then holds a
+    /// beginning of the events besides. After the other refusals the sink is as it was.
+    fn write_unsigned<S: PartsWrite>(
+        &self,
+        alloc: Global,
+        value: &UnsignedDecimal,
+        sink: &mut S,
+    ) -> Result<(), FormatError>
+        ensures written { WritesSuch S.events S.failures sink.old result (shows self.now value.now) (λ n. n.events) sink.new }
+        ensures limited { KeepsLimitSuch S.events S.limit S.refusals sink.old result (shows self.now value.now) (λ n. n.events) sink.new }
+        ensures overflow { IsErrOf result FormatError.Overflow ↔ overflows self.now value.now };
+
+    /// A value with the affixes of a sign around it; this takes no memory.
+    fn format_sign<'a, W: Writeable>(&'a self, value: W, sign: Sign) -> FormattedSign<'a, W>
+        ensures { result ≡ record { affixes = affixes_for (symbols self.now) sign; value = value } };
+
+    /// The plural operands of what is shown of a number.
+    ///
+    /// `Overflow` exactly where that is too large; `Sink` is never answered.
+    fn plural_operands(
+        &self,
+        alloc: Global,
+        value: &UnsignedDecimal,
+    ) -> Result<PluralOperands, FormatError>
+        ensures shown { IfOk result (λ o. (n : Shown) × shows self.now value.now n × (n.operands ≡ o)) }
+        ensures overflow { IsErrOf result FormatError.Overflow ↔ overflows self.now value.now }
+        ensures no_sink { IfErr result (λ e. e ≢ FormatError.Sink) };
+
+    /// One thing is shown of a number.
+    ghost one_shown: { (f : Self) (u : Unsigned) (n m : Shown) → shows f u n → shows f u m → n ≡ m };
+}
+
+impl Sealed for DecimalFormatter {}
+
+impl AbstractFormatter for DecimalFormatter {
+    ghost use Rattle.std.specs.Prelude.{◌≡◌, ◌≢◌, ◌↔◌, Ok, IfOk, IfErr, IsErrOf};
+    ghost use Rattle.std.proofs.Common.{◌∙◌, sym};
+    ghost use Rattle.icu_base.specs.Operands.{operands_of};
+    ghost use Rattle.icu_decimal.specs.Shown.{Shown, plain_shown};
+    ghost use Rattle.icu_decimal.specs.WritesSuch.{KeepsLimitSuch, WritesSuch};
+
+    ghost shows = { λ f u n. n ≡ plain_shown f u };
+
+    ghost overflows = { λ f u. ⊥ };
+
+    ghost symbols = { λ f. f.symbols };
+
+    ghost one_shown = { λ f u n m h k. h ∙ sym k };
+
+    /// It takes no memory but the sink's, and fails only as the sink does.
+    fn write_unsigned<S: PartsWrite>(
+        &self,
+        alloc: Global,
+        value: &UnsignedDecimal,
+        sink: &mut S,
+    ) -> Result<(), FormatError>
+        ensures written { WritesSuch S.events S.failures sink.old result (λ n. n ≡ plain_shown self.now value.now) (λ n. n.events) sink.new }
+        ensures limited { KeepsLimitSuch S.events S.limit S.refusals sink.old result (λ n. n ≡ plain_shown self.now value.now) (λ n. n.events) sink.new }
+        ensures overflow { IsErrOf result FormatError.Overflow ↔ ⊥ }
+        ensures only_sink { IfErr result (λ e. e ≡ FormatError.Sink) }
+    {
+        let _ = alloc;
+        match self
+            .format_unsigned(Cow::Borrowed(value))
+            .write_to_parts(sink)
+        {
+            Ok(()) => Ok(()),
+            Err(_) => Err(FormatError::Sink),
+        }
+    }
+
+    fn format_sign<'a, W: Writeable>(&'a self, value: W, sign: Sign) -> FormattedSign<'a, W> {
+        self.format_sign(sign, value)
+    }
+
+    /// The operands of the number as it is given; this takes no memory.
+    fn plural_operands(
+        &self,
+        alloc: Global,
+        value: &UnsignedDecimal,
+    ) -> Result<PluralOperands, FormatError>
+        ensures shown { IfOk result (λ o. (n : Shown) × (n ≡ plain_shown self.now value.now) × (n.operands ≡ o)) }
+        ensures overflow { IsErrOf result FormatError.Overflow ↔ ⊥ }
+        ensures no_sink { IfErr result (λ e. e ≢ FormatError.Sink) }
+        ensures operands { result ≡ Ok (operands_of value.now 0) }
+    {
+        let _ = alloc;
+        Ok(PluralOperands::from_significand_and_exponent(value, 0))
+    }
+}
+
+impl Sealed for CompactDecimalFormatter {}
+
+impl AbstractFormatter for CompactDecimalFormatter {
+    ghost use Rattle.fixed_decimal.specs.Size.{size};
+    ghost use Rattle.icu_decimal.specs.CompactNumber.{ShowsPastLimits};
+    ghost use Rattle.icu_decimal.specs.Shown.{ShowsCompact};
+
+    ghost shows = { ShowsCompact };
+
+    ghost overflows = { λ f u. ShowsPastLimits f.table (size u) };
+
+    ghost symbols = { λ f. f.decimal.symbols };
+
+    ghost one_shown = { λ f u n m h k. k.alone n h.is_shown };
+
+    fn write_unsigned<S: PartsWrite>(
+        &self,
+        alloc: Global,
+        value: &UnsignedDecimal,
+        sink: &mut S,
+    ) -> Result<(), FormatError> {
+        let number = self.format_unsigned(alloc, value)?;
+        match number.write_to_parts(sink) {
+            Ok(()) => Ok(()),
+            Err(_) => Err(FormatError::Sink),
+        }
+    }
+
+    fn format_sign<'a, W: Writeable>(&'a self, value: W, sign: Sign) -> FormattedSign<'a, W> {
+        self.decimal_formatter.format_sign(sign, value)
+    }
+
+    fn plural_operands(
+        &self,
+        alloc: Global,
+        value: &UnsignedDecimal,
+    ) -> Result<PluralOperands, FormatError> {
+        let number = self.format_unsigned(alloc, value)?;
+        Ok(number.plural_operands())
+    }
+}
