@@ -165,7 +165,7 @@ impl AbstractFormatter for CompactDecimalFormatter {
         alloc: Global,
         value: &UnsignedDecimal,
     ) -> Result<PluralOperands, FormatError> {
-        let number = self.format_unsigned(alloc, value)?;
-        Ok(number.plural_operands())
+        let shown = self.format_unsigned(alloc, value)?;
+        Ok(shown.plural_operands())
     }
 }

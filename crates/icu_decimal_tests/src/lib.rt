@@ -11,6 +11,8 @@ mod fixtures;
 #[cfg(test)]
 mod given;
 #[cfg(test)]
+mod interface;
+#[cfg(test)]
 mod languages;
 #[cfg(test)]
 mod loading;

@@ -8,14 +8,14 @@ use Rattle.std.proofs.lemmas.Str.{IsUtf8-append, IsUtf8-nil}
 use Rattle.std.proofs.lemmas.List.{take-append-le, drop-append-le, take-append-drop, take_all, drop_all, length-drop, length-append, length_push}
 use Rattle.writeable.specs.declared.parts_text.Mark.{Mark}
 use Rattle.writeable.specs.declared.parts_text.Mark.TheVariants.{Open, Close}
-use Rattle.writeable.specs.Events.{Event, text_events, text_of}
+use Rattle.writeable.specs.Events.{Event, text_events, text_of, without_parts}
 use Rattle.writeable.specs.Events.Event.{Char}
 use Rattle.writeable.specs.declared.parts_text.PartsText.TheInside.{Inside}
 use Rattle.writeable.specs.Annotated.{Annotated, IsWithinLimit}
 use Rattle.writeable.specs.Sink.{WritesAll, KeepsLimit}
 use Rattle.writeable.specs.Marks.{mark_at, mark_event, marked_events, AreMarks, kept_events, annotated}
-use Rattle.writeable.specs.Writes.{text_of-append}
-use Rattle.writeable.proofs.EventLemmas.{text_events-append, text_events-nil, text_events-encode, text_of-text_events}
+use Rattle.writeable.specs.Writes.{text_of-append, without_parts-append}
+use Rattle.writeable.proofs.EventLemmas.{text_events-append, text_events-nil, text_events-encode, text_of-text_events, without_parts-text_events}
 
 -- more text at the end: its events are added
 pub marked_events-text : (from : ℕ) (text more : List ℕ) (ms : List Mark) → AreMarks from text ms → marked_events from (text ++ more) ms ≡ marked_events from text ms ++ text_events more
@@ -81,6 +81,23 @@ text_of-marked_events from text (m ∷ ms) h =
     ∙ ap (λ l. take k text ++ l) (text_of-mark m (marked_events (mark_at m) (drop k text) ms) ∙ rest)
     ∙ take-append-drop k text
 
+-- a mark is no character
+without_parts-mark : (m : Mark) (es : List Event) → without_parts (mark_event m ∷ es) ≡ without_parts es
+without_parts-mark (Open at part) es = refl
+without_parts-mark (Close at) es = refl
+
+-- without its marks a text with marks is the text
+pub without_parts-marked_events : (from : ℕ) (text : List ℕ) (ms : List Mark) → AreMarks from text ms → without_parts (marked_events from text ms) ≡ text_events text
+without_parts-marked_events from text [] h = without_parts-text_events text
+without_parts-marked_events from text (m ∷ ms) h =
+    let k : ℕ = mark_at m - from in
+    let rest = without_parts-marked_events (mark_at m) (drop k text) ms h.3 in
+    without_parts-append (text_events (take k text)) (mark_event m ∷ marked_events (mark_at m) (drop k text) ms)
+    ∙ ap (λ l. l ++ without_parts (mark_event m ∷ marked_events (mark_at m) (drop k text) ms)) (without_parts-text_events (take k text))
+    ∙ ap (λ l. text_events (take k text) ++ l) (without_parts-mark m (marked_events (mark_at m) (drop k text) ms) ∙ rest)
+    ∙ sym (text_events-append (take k text) (drop k text) h.2)
+    ∙ ap text_events (take-append-drop k text)
+
 -- the limit of what is kept: the events that are held, and the room that is left
 abbrev limit_of : ℕ → Option ℕ → Option ℕ
 limit_of n room = option_map (λ left. n + left) room
@@ -111,4 +128,4 @@ KeepsLimit-one a b old e view kept less same =
       fault = tt;
     }
 
-pub ruleset mark_steps = (text_events-nil, text_of-marked_events, marked_events-text, marked_events-mark)
+pub ruleset mark_steps = (text_events-nil, text_of-marked_events, without_parts-marked_events, marked_events-text, marked_events-mark)

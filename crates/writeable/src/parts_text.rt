@@ -1,7 +1,7 @@
 //! A sink that keeps a text and its parts.
 ghost use Rattle.std.specs.Prelude.{◌≡◌, ◌↔◌, ℕ, ◌<◌, ◌+◌, ◌≢◌, IsTrue, [], Option, Some, None, IfSome, IfOk, IsOk, IsErr, OnOk, length, map, ◌∷◌, ◌++◌};
 ghost use Rattle.std.specs.Option.{option_map};
-ghost use Rattle.writeable.specs.Events.{text_of, text_events};
+ghost use Rattle.writeable.specs.Events.{text_of, text_events, without_parts};
 ghost use Rattle.writeable.specs.Events.Event.{Char, Open, Close};
 ghost use Rattle.writeable.specs.Sink.{Writes, KeepsLimit, one_more_failure};
 ghost use Rattle.writeable.specs.Spans.{spans, span_of};
@@ -78,6 +78,7 @@ impl PartsText {
     #[tactic(auto, using(crate::proofs::MarkLemmas::mark_steps))]
     pub fn text(&self) -> &str
         ensures text { result.now ≡ text_of self.now.events }
+        ensures characters { text_events result.now ≡ without_parts self.now.events }
         ensures within { IsWithinLimit self.now }
     {
         self.text.as_str()

@@ -1,0 +1,15 @@
+//! The tests of icu_unit's public calls, with tables read from JSON; the library itself offers nothing.
+#![tactic(auto)]
+
+#[cfg(test)]
+mod currencies;
+#[cfg(test)]
+mod instances;
+#[cfg(test)]
+mod making;
+#[cfg(test)]
+mod sinks;
+#[cfg(test)]
+mod units;
+#[cfg(test)]
+mod writing;
