@@ -6,3 +6,4 @@ pub mod KeptSteps
 pub mod EntryPlaces
 pub mod KeptMeaning
 pub mod Worked
+pub mod ReadableParts

@@ -9,3 +9,4 @@ pub mod KeptSince
 pub mod SameTable
 pub mod Faithful
 pub mod Decided
+pub mod Readable

@@ -11,6 +11,7 @@ mod grouping_sizes;
 mod kept;
 pub mod laws;
 mod markers;
+mod readable;
 mod symbols;
 
 pub use compact::CompactPatterns;

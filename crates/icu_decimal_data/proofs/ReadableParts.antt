@@ -4,7 +4,7 @@ use Rattle.std.proofs.lemmas.Str.{chars-nil}
 use Rattle.fixed_decimal.specs.declared.signs.Sign.{Sign}
 use Rattle.fixed_decimal.specs.declared.signs.Sign.TheVariants.{Negative, Positive, None as NoSign}
 use Rattle.icu_decimal_data.specs.Symbols.{SymbolTexts}
-use Rattle.icu_decimal.specs.Readable.{Surroundings, affixes, IsFreeOfDigits, IsFreeThroughout, SeparatorsTold, SignsDiffer, IsReadable}
+use Rattle.icu_decimal_data.specs.Readable.{Surroundings, affixes, IsFreeOfDigits, IsFreeThroughout, SeparatorsTold, SignsDiffer, IsReadable}
 
 -- the characters of both texts
 abbrev pub pair : List ℕ → List ℕ → Surroundings

@@ -2,9 +2,10 @@
 
 ghost use Rattle.std.specs.Prelude.{◌≡◌, ◌≢◌, ◌↔◌, ◌<◌, ℕ, IsTrue, AllPairs, chars, length, slice_index_or};
 ghost use Rattle.icu_decimal_data.specs.Given.{texts_given};
-ghost use Rattle.icu_decimal.specs.Readable.{HasNoDigit, IsFreeThroughout, IsReadable, SeparatorsTold, SignsDiffer};
+ghost use Rattle.icu_decimal_data.specs.Readable.{HasNoDigit, IsFreeThroughout, IsReadable, SeparatorsTold, SignsDiffer};
 
-use icu_decimal_data::{DecimalSymbolStrsBuilder, DecimalSymbolsStrs};
+use crate::decimal_symbols::DecimalSymbols;
+use crate::symbols::DecimalSymbolStrsBuilder;
 
 /// Whether no character of the text is one of the digits.
 fn has_no_digit(digits: &[char], text: &str) -> bool
@@ -123,9 +124,15 @@ fn are_readable(texts: &DecimalSymbolStrsBuilder<'_>, digits: &[char; 10]) -> bo
     signs_differ(texts)
 }
 
-/// Whether numbers with these symbols and digits are readable.
-pub fn is_readable(symbols: &DecimalSymbolsStrs, digits: &[char; 10]) -> bool
-    ensures { IsTrue result ↔ IsReadable symbols.now digits.now }
-{
-    are_readable(&DecimalSymbolStrsBuilder::from(symbols), digits)
+impl DecimalSymbols {
+    /// Whether the texts of numbers with these symbols and digits tell their numbers: the sign, the range and every digit.
+    ///
+    /// They do where the ten digits differ and none of them stands in an affix or a separator, the decimal separator isn't
+    /// empty and isn't the grouping separator, and the pairs of affixes of minus, plus and no sign differ. Characters are
+    /// compared, not bytes.
+    pub fn is_readable_with(&self, digits: &[char; 10]) -> bool
+        ensures { IsTrue result ↔ IsReadable self.now.strings digits.now }
+    {
+        are_readable(&DecimalSymbolStrsBuilder::from(&self.strings), digits)
+    }
 }

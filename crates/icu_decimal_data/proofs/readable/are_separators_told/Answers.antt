@@ -1,7 +1,7 @@
 use Rattle.std.proofs.Common.{sym, ◌∙◌}
 use Rattle.std.proofs.lemmas.Str.{chars-nil}
-use Rattle.icu_decimal.proofs.ReadableParts.{untrue, not_both, false_not_true}
-use Rattle.icu_decimal.proofs.readable.are_separators_told.Goals as goal
+use Rattle.icu_decimal_data.proofs.ReadableParts.{untrue, not_both, false_not_true}
+use Rattle.icu_decimal_data.proofs.readable.are_separators_told.Goals as goal
 
 pub returns-then-has_same_characters : goal.returns-then-has_same_characters
 returns-then-has_same_characters c = (λ e. cc, λ h. absurd (h.decimal_some (c.has_same_characters.ensures.0 c.if-has_same_characters.true ∙ chars-nil)))

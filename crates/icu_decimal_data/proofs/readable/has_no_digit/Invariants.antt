@@ -1,7 +1,7 @@
 use Rattle.std.proofs.Common.{ℕ, All, Contains, chars, List}
 use Rattle.std.specs.Str.{IsUtf8}
 use Rattle.std.specs.Str.Iter.{chars_rest}
-use Rattle.icu_decimal.proofs.readable.has_no_digit.Given as goal
+use Rattle.icu_decimal_data.proofs.readable.has_no_digit.Given as goal
 
 -- the rest of the text is text, and it has a digit where the whole has one
 pub record Goes (digits bytes rest : List ℕ) : Type 0 where

@@ -1,6 +1,6 @@
 use Rattle.std.proofs.Common.{rules, ◌≡◌, sym, ap, ◌∙◌, chars, encode_utf8_all}
 use Rattle.std.proofs.lemmas.Str.{encodes-chars}
-use Rattle.icu_decimal.proofs.readable.has_same_characters.Goals as goal
+use Rattle.icu_decimal_data.proofs.readable.has_same_characters.Goals as goal
 
 pub returns : goal.returns
 returns c = (

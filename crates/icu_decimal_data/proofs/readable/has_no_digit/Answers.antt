@@ -5,8 +5,8 @@ use Rattle.std.specs.Char.{encode_utf8}
 use Rattle.std.proofs.lemmas.Bool.{eq-eqb, eqb-true}
 use Rattle.std.proofs.lemmas.List.{nil_from_length}
 use Rattle.std.proofs.lemmas.Str.{chars_past_char, chars-nil, IsUtf8-past_char}
-use Rattle.icu_decimal.proofs.readable.has_no_digit.Invariants.{Goes}
-use Rattle.icu_decimal.proofs.readable.has_no_digit.Goals as goal
+use Rattle.icu_decimal_data.proofs.readable.has_no_digit.Invariants.{Goes}
+use Rattle.icu_decimal_data.proofs.readable.has_no_digit.Goals as goal
 
 all_more : (P : ℕ → Type 0) (x : ℕ) (xs : List ℕ) → P x → All P xs → All P (x ∷ xs)
 all_more P x xs h hs zero d l = h

@@ -1,4 +1,4 @@
-use Rattle.icu_decimal.proofs.readable.is_free_of_digits.Goals as goal
+use Rattle.icu_decimal_data.proofs.readable.is_free_of_digits.Goals as goal
 
 pub returns : goal.returns
 returns c = (

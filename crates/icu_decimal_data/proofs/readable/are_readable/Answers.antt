@@ -1,6 +1,6 @@
 use Rattle.icu_decimal_data.specs.Given.{texts_given}
-use Rattle.icu_decimal.proofs.ReadableParts.{readable_of, free_of, false_not_true}
-use Rattle.icu_decimal.proofs.readable.are_readable.Goals as goal
+use Rattle.icu_decimal_data.proofs.ReadableParts.{readable_of, free_of, false_not_true}
+use Rattle.icu_decimal_data.proofs.readable.are_readable.Goals as goal
 
 pub returns-then-not-is_free_of_digits : goal.returns-then-not-is_free_of_digits
 returns-then-not-is_free_of_digits c = (

@@ -1,6 +1,6 @@
-use Rattle.icu_decimal.proofs.ReadableParts.{minus_shown, plus_shown, both_differ, signs_told, untrue, not_both, false_not_true}
+use Rattle.icu_decimal_data.proofs.ReadableParts.{minus_shown, plus_shown, both_differ, signs_told, untrue, not_both, false_not_true}
 use Rattle.icu_decimal_data.specs.Given.{texts_given}
-use Rattle.icu_decimal.proofs.readable.signs_differ.Goals as goal
+use Rattle.icu_decimal_data.proofs.readable.signs_differ.Goals as goal
 
 pub returns-then-are_same_pair : goal.returns-then-are_same_pair
 returns-then-are_same_pair c = (λ e. cc, λ h. absurd (minus_shown (texts_given c.args.texts.now) h (c.are_same_pair.ensures.0 c.if-are_same_pair.true)))
