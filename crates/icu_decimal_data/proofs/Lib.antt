@@ -7,3 +7,5 @@ pub mod EntryPlaces
 pub mod KeptMeaning
 pub mod Worked
 pub mod ReadableParts
+pub mod Joined
+pub mod ReadableTables

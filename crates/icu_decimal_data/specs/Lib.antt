@@ -10,3 +10,4 @@ pub mod SameTable
 pub mod Faithful
 pub mod Decided
 pub mod Readable
+pub mod ReadableTable

@@ -12,6 +12,7 @@ mod kept;
 pub mod laws;
 mod markers;
 mod readable;
+mod readable_table;
 mod symbols;
 
 pub use compact::CompactPatterns;

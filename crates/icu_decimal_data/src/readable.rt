@@ -8,7 +8,7 @@ use crate::decimal_symbols::DecimalSymbols;
 use crate::symbols::DecimalSymbolStrsBuilder;
 
 /// Whether no character of the text is one of the digits.
-fn has_no_digit(digits: &[char], text: &str) -> bool
+pub(crate) fn has_no_digit(digits: &[char], text: &str) -> bool
     ensures { IsTrue result ↔ HasNoDigit digits.now (chars text.now) }
 {
     for c in text.chars() {
