@@ -14,7 +14,8 @@ use Rattle.icu_base.specs.declared.plurals.category.PluralCategory.TheVariants.{
 use Rattle.icu_decimal_data.specs.CompactTable.{PatternElements, TableEntry}
 use Rattle.icu_decimal.specs.CompactFormat.{CompactFormat, pattern_of, filled_events}
 use Rattle.icu_decimal.specs.Decimal.{unsigned_events, signed_events}
-use Rattle.icu_decimal.specs.Readable.{Surroundings, affixes, sides_at, sides, surroundings, HasPattern, IsEntryOf, IsPatternBy, IsReadableCompact}
+use Rattle.icu_decimal_data.specs.Readable.{Surroundings, affixes, sides_at, sides, surroundings, HasPattern, IsEntryOf, IsPatternBy}
+use Rattle.icu_decimal.specs.Readable.{IsReadableCompact}
 use Rattle.icu_decimal.specs.ReadableLaws.{IsWrittenBy, CompactTextTells}
 use Rattle.icu_decimal.proofs.CharactersShown.{characters-signed, characters-around, characters-characters}
 use Rattle.icu_decimal.proofs.DigitsTold.{IsOther}
@@ -92,7 +93,7 @@ module _ (f : CompactFormat) (sign : Sign) (by : Option TableEntry) (significand
   pub around_others : IsReadableCompact f → IsEntryOf f.table by → AreOthers f.decimal around_it
   around_others h k =
       let outer = are_others f.decimal (affixes f.decimal.symbols.strings sign) (h.plain_readable.affixes_free sign) in
-      let inner = are_others f.decimal (sides (pattern_of f by significand)) (h.sides_free by (pattern_of f by significand) (pattern_is f by significand k)) in
+      let inner = are_others f.decimal (sides (pattern_of f by significand)) (h.table_readable.sides_free by (pattern_of f by significand) (pattern_is f by significand k)) in
       record {
         before = every-append (IsOther f.decimal) (affixes f.decimal.symbols.strings sign).before (sides (pattern_of f by significand)).before outer.before inner.before;
         after = every-append (IsOther f.decimal) (sides (pattern_of f by significand)).after (affixes f.decimal.symbols.strings sign).after inner.after outer.after;
@@ -104,6 +105,6 @@ compact_tells f s t by to c d es fs h hby hto hc hd wx wy e =
     let ky = pattern_is f to d hto in
     let told = unsigned_tells f.decimal (around_it f s by c) (around_it f t to d) c d h.plain_readable
     (around_others f s by c h hby) (around_others f t to d h hto) hc hd
-    (sym (characters-written f s by c es (h.placed by (pattern_of f by c) kx) wx) ∙ e ∙ characters-written f t to d fs (h.placed to (pattern_of f to d) ky) wy) in
-    let both = h.told s t by to (pattern_of f by c) (pattern_of f to d) kx ky told.0 in
+    (sym (characters-written f s by c es (h.table_readable.placed by (pattern_of f by c) kx) wx) ∙ e ∙ characters-written f t to d fs (h.table_readable.placed to (pattern_of f to d) ky) wy) in
+    let both = h.table_readable.told s t by to (pattern_of f by c) (pattern_of f to d) kx ky told.0 in
     (both.0, told.1, both.1)

@@ -23,7 +23,6 @@ pub mod CharactersShown
 pub mod GroupRuns
 pub mod DigitsTold
 pub mod TextsTold
-pub mod ReadableParts
 pub mod CompactTold
 pub mod ShownTold
 pub mod WorkedReadable

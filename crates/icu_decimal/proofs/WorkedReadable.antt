@@ -10,7 +10,8 @@ use Rattle.icu_decimal_data.specs.CompactTable.{PatternElements, TableEntry, exp
 use Rattle.icu_decimal_data.specs.DecimalSymbols.{english_symbols}
 use Rattle.icu_decimal_data.specs.Symbols.{SymbolTexts}
 use Rattle.icu_decimal.specs.CompactFormat.{CompactFormat}
-use Rattle.icu_decimal.specs.Readable.{Surroundings, affixes, sides, surroundings, HasPattern, IsFreeOfDigits, IsPatternBy, IsReadable, IsReadableCompact}
+use Rattle.icu_decimal_data.specs.Readable.{Surroundings, affixes, sides, surroundings, HasPattern, IsFreeOfDigits, IsPatternBy, IsReadable, IsReadableTable}
+use Rattle.icu_decimal.specs.Readable.{IsReadableCompact}
 use Rattle.icu_decimal.proofs.WorkedNearest.{kilo}
 
 abbrev pub texts : SymbolTexts
@@ -176,9 +177,8 @@ placed : (k : Pick) → IsSome (pattern_picked k).place
 placed plainly = refl
 placed shortly = refl
 
-pub english_short_readable : IsReadableCompact english_short
-english_short_readable = record {
-  plain_readable = english_readable;
+table_readable : IsReadableTable texts digits english_short.table
+table_readable = record {
   placed = λ by p h. let k = picked by p h in subst (λ (q : PatternText). IsSome q.place) (sym k.2) (placed k.0);
   sides_free = λ by p h. let k = picked by p h in subst (λ (q : PatternText). IsFreeOfDigits digits (sides q)) (sym k.2) (sides_free k.0);
   told = λ s t by to p q h i e.
@@ -187,3 +187,6 @@ english_short_readable = record {
       let both = told_by s t k.0 l.0 (sym (ap (surroundings texts s) k.2) ∙ e ∙ ap (surroundings texts t) l.2) in
       (both.0, k.1 ∙ ap exponent_by both.1 ∙ sym l.1);
 }
+
+pub english_short_readable : IsReadableCompact english_short
+english_short_readable = record { plain_readable = english_readable; table_readable = table_readable }

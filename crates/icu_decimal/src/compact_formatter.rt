@@ -1,6 +1,6 @@
 //! The compact formatter.
 
-ghost use Rattle.std.specs.Prelude.{◌≡◌, ◌≢◌, ◌↔◌, ◌<◌, ℕ, List, length, slice_get, IfSome, IfOk, IfErr, IsOk, IsErrOf};
+ghost use Rattle.std.specs.Prelude.{◌≡◌, ◌≢◌, ◌↔◌, ◌<◌, ℕ, List, length, slice_get, IfSome, IfOk, IfErr, IsOk, IsErrOf, IsTrue};
 ghost use Rattle.std.specs.String.{string_bytes};
 ghost use Rattle.fixed_decimal.specs.Size.{place, size};
 ghost use Rattle.fixed_decimal.specs.declared.signs.Sign.TheVariants.{None as NoSign};
@@ -13,6 +13,7 @@ ghost use Rattle.icu_decimal_data.specs.CompactTable.{IsIndex, entry_at, exponen
 ghost use Rattle.icu_decimal.specs.CompactNumber.{ShowsPastLimits};
 ghost use Rattle.icu_decimal.specs.CompactFormat.{IsCompactFormat, pattern_of, exponent_needed, magnitude_with, given_events, given_shown, significand_of, compact_shown, signed_compact_shown};
 ghost use Rattle.icu_decimal.specs.PatternGiven.{pattern_or_alone};
+ghost use Rattle.icu_decimal.specs.Readable.{IsReadableCompact};
 
 use crate::compact_rounding::{exponent_or_zero, nearest_compact};
 use crate::cow::Cow;
@@ -146,6 +147,21 @@ impl CompactDecimalFormatter {
             .format_unsigned(Cow::Borrowed(absolute));
         let filled = InterpolatedDecimal { number, pattern };
         Ok(self.decimal_formatter.format_sign(significand.sign, filled))
+    }
+
+    /// Whether each of its texts tells its sign, its significand, in range and every digit, and its exponent, whichever of
+    /// `format` and `format_with_exponent` wrote it (this project's own).
+    ///
+    /// It does where plain texts tell their decimals (`DecimalFormatter::is_readable`), each pattern has a place and no
+    /// digit, and what stands around a number, affixes and pattern taken together, tells sign and exponent. Each pattern of
+    /// the table counts, also one that the plural rules never pick, and so do numbers that stand alone. It takes no memory.
+    pub fn is_readable(&self) -> bool
+        ensures { IsTrue result ↔ IsReadableCompact self.now }
+    {
+        if !self.decimal_formatter.is_readable() {
+            return false;
+        }
+        self.decimal_formatter.is_readable_by(&self.patterns)
     }
 
     /// The exponent that numbers of a magnitude are written with; 0 where no pattern names one.

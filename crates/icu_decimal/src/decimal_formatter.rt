@@ -4,7 +4,7 @@ ghost use Rattle.std.specs.Prelude.{◌≡◌, ◌↔◌, IsTrue, List, IfOk, Is
 ghost use Rattle.std.specs.String.{string_bytes};
 ghost use Rattle.icu_base.specs.Events.{Event, text_of};
 ghost use Rattle.icu_decimal.specs.Decimal.{decimal_events, signed_events, unsigned_events};
-ghost use Rattle.icu_decimal.specs.Readable.{IsReadable};
+ghost use Rattle.icu_decimal_data.specs.Readable.{IsReadable, IsReadableTable};
 
 use crate::cow::Cow;
 use crate::error::FormatError;
@@ -12,10 +12,9 @@ use crate::formatted_decimal::{FormattedDecimal, FormattedUnsignedDecimal};
 use crate::formatted_sign::FormattedSign;
 use crate::options::DecimalFormatterOptions;
 use crate::parts;
-use crate::readable::is_readable;
 use fixed_decimal::{Decimal, Sign, UnsignedDecimal};
-use icu_base::Writeable;
-use icu_decimal_data::DecimalSymbols;
+use icu_base::{SinglePlaceholder, Writeable};
+use icu_decimal_data::{CompactPatterns, DecimalSymbols};
 use std::alloc::Global;
 use std::marker::Model;
 
@@ -89,7 +88,7 @@ impl DecimalFormatter {
     pub fn is_readable(&self) -> bool
         ensures { IsTrue result ↔ IsReadable self.now.symbols.strings self.now.digits }
     {
-        is_readable(&self.symbols.strings, &self.digits)
+        self.symbols.is_readable_with(&self.digits)
     }
 
     /// The text of the decimal.
@@ -101,6 +100,13 @@ impl DecimalFormatter {
             Ok(text) => Ok(text),
             Err(_) => Err(FormatError::OutOfMemory),
         }
+    }
+
+    /// Whether compact texts by this table tell their numbers, where the formatter's own texts do.
+    pub(crate) fn is_readable_by(&self, patterns: &CompactPatterns<SinglePlaceholder>) -> bool
+        ensures { IsTrue result ↔ IsReadableTable self.now.symbols.strings self.now.digits patterns.now }
+    {
+        patterns.is_readable_with(&self.symbols, &self.digits)
     }
 
     /// The number without its sign.

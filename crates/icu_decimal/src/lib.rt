@@ -17,7 +17,6 @@ pub mod options;
 pub mod parts;
 pub mod preferences;
 pub mod provider;
-mod readable;
 #[cfg(test)]
 mod tests;
 

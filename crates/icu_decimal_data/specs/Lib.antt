@@ -9,3 +9,5 @@ pub mod KeptSince
 pub mod SameTable
 pub mod Faithful
 pub mod Decided
+pub mod Readable
+pub mod ReadableTable

@@ -11,6 +11,8 @@ mod grouping_sizes;
 mod kept;
 pub mod laws;
 mod markers;
+mod readable;
+mod readable_table;
 mod symbols;
 
 pub use compact::CompactPatterns;
