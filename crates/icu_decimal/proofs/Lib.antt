@@ -26,4 +26,5 @@ pub mod TextsTold
 pub mod CompactTold
 pub mod ShownTold
 pub mod WorkedReadable
+pub mod WorkedEnglish
 pub mod CompactShown
