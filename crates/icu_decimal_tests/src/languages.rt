@@ -33,6 +33,14 @@ pub(crate) enum Language {
     Words,
     /// Thousands, and from a million on words of a hundred thousand.
     Lakhs,
+    /// Thousands that nothing follows.
+    Bare,
+    /// Thousands that a Latin zero follows.
+    Zeros,
+    /// Thousands that a Bengali digit follows.
+    ForeignDigits,
+    /// Thousands and thousands of millions that one letter follows.
+    OneLetter,
 }
 
 /// What a compact formatter is made of.
@@ -110,6 +118,18 @@ const SHORT_SPANISH_ROWS: [Row; 3] = [
 ];
 
 const LAKHS_ROWS: [Row; 2] = [(3, 3, None, None, "K"), (6, 5, None, None, "L")];
+
+const BARE_ROWS: [Row; 1] = [(3, 3, None, None, "")];
+
+const ZEROS_ROWS: [Row; 1] = [(3, 3, None, None, "0")];
+
+const FOREIGN_DIGITS_ROWS: [Row; 1] = [(3, 3, None, None, "১")];
+
+const ONE_LETTER_ROWS: [Row; 3] = [
+    (3, 3, None, None, "K"),
+    (6, 6, None, None, "M"),
+    (9, 9, None, None, "K"),
+];
 
 static SHORT_ENGLISH: Parts = Parts {
     digits: &LATIN,
@@ -191,6 +211,46 @@ static LONG_BANGLA: Parts = Parts {
     zero_magnitude: None,
 };
 
+static BARE: Parts = Parts {
+    digits: &LATIN,
+    numsys: "latn",
+    separators: (".", ","),
+    sizes: ENGLISH,
+    rules: &[],
+    rows: &BARE_ROWS,
+    zero_magnitude: None,
+};
+
+static ZEROS: Parts = Parts {
+    digits: &LATIN,
+    numsys: "latn",
+    separators: (".", ","),
+    sizes: ENGLISH,
+    rules: &[],
+    rows: &ZEROS_ROWS,
+    zero_magnitude: None,
+};
+
+static FOREIGN_DIGITS: Parts = Parts {
+    digits: &LATIN,
+    numsys: "latn",
+    separators: (".", ","),
+    sizes: ENGLISH,
+    rules: &[],
+    rows: &FOREIGN_DIGITS_ROWS,
+    zero_magnitude: None,
+};
+
+static ONE_LETTER: Parts = Parts {
+    digits: &LATIN,
+    numsys: "latn",
+    separators: (".", ","),
+    sizes: ENGLISH,
+    rules: &[],
+    rows: &ONE_LETTER_ROWS,
+    zero_magnitude: None,
+};
+
 /// The parts of a language.
 fn parts_of(language: Language) -> &'static Parts {
     match language {
@@ -202,6 +262,10 @@ fn parts_of(language: Language) -> &'static Parts {
         Language::ShortSpanish => &SHORT_SPANISH,
         Language::Words => &WORDS,
         Language::Lakhs => &LAKHS,
+        Language::Bare => &BARE,
+        Language::Zeros => &ZEROS,
+        Language::ForeignDigits => &FOREIGN_DIGITS,
+        Language::OneLetter => &ONE_LETTER,
     }
 }
 
@@ -314,17 +378,18 @@ fn patterns(rt: &impl Abort, alloc: Global, parts: &Parts) -> CompactPatterns<Si
     }
 }
 
-/// The plain formatter of a language with options.
+/// The plain formatter of a language with these affixes of a minus and options.
 fn plain(
     rt: &impl Abort,
     alloc: Global,
     parts: &Parts,
+    minus: (&str, &str),
     options: DecimalFormatterOptions,
 ) -> DecimalFormatter {
     let symbols = symbols(
         rt,
         alloc,
-        ("-", ""),
+        minus,
         parts.separators,
         parts.sizes,
         parts.numsys,
@@ -357,7 +422,7 @@ pub(crate) fn compact_with(
     options: DecimalFormatterOptions,
 ) -> CompactDecimalFormatter {
     let parts = parts_of(language);
-    let plain = plain(rt, alloc, parts, options);
+    let plain = plain(rt, alloc, parts, ("-", ""), options);
     let rules = rules_of(rt, alloc, parts.rules);
     CompactDecimalFormatter::from_parts(plain, rules, patterns(rt, alloc, parts))
 }
@@ -370,4 +435,18 @@ pub(crate) fn compact(
     strategy: GroupingStrategy,
 ) -> CompactDecimalFormatter {
     compact_with(rt, alloc, language, DecimalFormatterOptions::from(strategy))
+}
+
+/// The compact formatter of a language but for the affixes of a minus.
+pub(crate) fn compact_with_minus(
+    rt: &impl Abort,
+    alloc: Global,
+    language: Language,
+    minus: (&str, &str),
+) -> CompactDecimalFormatter {
+    let parts = parts_of(language);
+    let options = DecimalFormatterOptions::from(GroupingStrategy::Min2);
+    let plain = plain(rt, alloc, parts, minus, options);
+    let rules = rules_of(rt, alloc, parts.rules);
+    CompactDecimalFormatter::from_parts(plain, rules, patterns(rt, alloc, parts))
 }

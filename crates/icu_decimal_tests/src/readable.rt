@@ -1,11 +1,14 @@
 //! Which formatters tell their numbers, and which numbers share a text where one doesn't.
 
-use crate::fixtures::{ENGLISH, LATIN};
+use crate::compact::is_value;
+use crate::fixtures::{ENGLISH, LATIN, read};
+use crate::languages::{Language, compact_with_minus};
 use fixed_decimal::Decimal;
 use icu_decimal::DecimalFormatter;
 use icu_decimal::options::DecimalFormatterOptions;
 use icu_decimal::provider::{DecimalSymbolStrsBuilder, DecimalSymbols};
 use std::alloc::Global;
+use std::process::Abort;
 
 /// English but for the affixes of minus, both separators, and the digits.
 type Numbers = (
@@ -142,6 +145,79 @@ fn hidden_numbers_share_a_text(rt: HostRuntime) {
         assert!(rt;
             share(rt.alloc(), numbers, first, second),
             "{first} {second}"
+        );
+    }
+}
+
+/// Whether the compact formatter of a language is readable.
+fn is_compact_readable(rt: &impl Abort, alloc: Global, language: Language) -> bool {
+    compact_with_minus(rt, alloc, language, ("-", "")).is_readable()
+}
+
+const READABLE_LANGUAGES: [(Language, &str); 5] = [
+    (Language::ShortEnglish, "short English"),
+    (Language::LongEnglish, "long English"),
+    (Language::LongJapanese, "long Japanese"),
+    (Language::LongBangla, "long Bangla"),
+    (Language::ForeignDigits, "a digit of another system"),
+];
+
+#[test]
+fn readable_compact_numbers(rt: HostRuntime) {
+    for (language, name) in READABLE_LANGUAGES {
+        assert!(rt; is_compact_readable(&rt, rt.alloc(), language), "{name}");
+    }
+}
+
+/// Whether the compact formatter of a language but for the affixes of a minus isn't readable, and writes two numbers as
+/// this text.
+fn is_compact_hidden(
+    rt: &impl Abort,
+    alloc: Global,
+    (language, minus): (Language, (&str, &str)),
+    (first, second): (&str, &str),
+    text: &str,
+) -> bool {
+    let formatter = compact_with_minus(rt, alloc, language, minus);
+    let first = read(rt, alloc, first);
+    let second = read(rt, alloc, second);
+    !formatter.is_readable()
+        && is_value(alloc, &formatter, &first, text)
+        && is_value(alloc, &formatter, &second, text)
+}
+
+/// A language but for the affixes of a minus, and two numbers that have one text.
+type Hidden = (
+    (Language, (&'static str, &'static str)),
+    (&'static str, &'static str),
+    &'static str,
+);
+
+/// A pattern without a place; numbers that stand alone and those in a pattern; affixes that look like a pattern; plain
+/// numbers that aren't readable; a digit in a pattern; and one pattern of two exponents.
+const HIDDEN_COMPACT: [Hidden; 6] = [
+    (
+        (Language::LongFrench, ("-", "")),
+        ("1000", "01000"),
+        "mille",
+    ),
+    ((Language::Bare, ("-", "")), ("5", "5000"), "5"),
+    ((Language::ShortEnglish, ("", "K")), ("-5", "5000"), "5K"),
+    ((Language::ShortEnglish, ("", "")), ("-5", "5"), "5"),
+    ((Language::Zeros, ("-", "")), ("50", "5000"), "50"),
+    (
+        (Language::OneLetter, ("-", "")),
+        ("5000", "5000000000"),
+        "5K",
+    ),
+];
+
+#[test]
+fn hidden_compact_numbers_share_a_text(rt: HostRuntime) {
+    for (formatter, numbers, text) in HIDDEN_COMPACT {
+        assert!(rt;
+            is_compact_hidden(&rt, rt.alloc(), formatter, numbers, text),
+            "{text}"
         );
     }
 }
