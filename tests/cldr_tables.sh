@@ -79,11 +79,11 @@ draft='qaa_BB: symbols[latn]/group: a draft, unconfirmed: what is inherited stan
 # All modern locales: each locale's own, its parents', aliases, quotes and zeros.
 makes modern "$release"
 tells "${digits_lines[@]}" "$draft"
-counts symbols 11
+counts symbols 13
 counts digits 3
-counts rules 5
-counts short 6
-counts long 5
+counts rules 6
+counts short 7
+counts long 6
 judge 'the version' grep -qF '"cldr":"0.1"' "$folder/modern.json"
 has digits '["arab","٠١٢٣٤٥٦٧٨٩"]' '["beng","০১২৩৪৫৬৭৮৯"]' '["latn","0123456789"]'
 # own symbols, two sizes of groups, plus from root; another numbering system by an alias to latn
@@ -94,8 +94,10 @@ has symbols \
 has symbols '{"locale":"qaa-001","minus":["−",""],"plus":["+",""],"decimal":",","group":"’","numsys":"latn","sizes":[3,2,1]}'
 # the parent that is named, not that of another component; a draft that counts and one that doesn't; no groups
 has symbols '{"locale":"qaa-BB","minus":["−",""],"plus":["＋",""],"decimal":"·","group":"’","numsys":"latn","sizes":[0,0,1]}'
-# nothing of its own
-has symbols '{"locale":"qaa-CC","minus":["−",""],"plus":["+",""],"decimal":",","group":"’","numsys":"latn","sizes":[3,2,1]}'
+# nothing of its own; the likely script
+has symbols \
+    '{"locale":"qaa-CC","minus":["−",""],"plus":["+",""],"decimal":",","group":"’","numsys":"latn","sizes":[3,2,1]}' \
+    '{"locale":"qaa-Latn","minus":["−",""],"plus":["+",""],"decimal":",","group":".","numsys":"latn","sizes":[3,2,2]}'
 # a default system by aliases that begin anew at the locale; a negative subpattern around plain numbers
 has symbols \
     $'{"locale":"qab","minus":["(","-)"],"plus":["(","+)"],"decimal":".","group":"\u00a0","numsys":"beng","sizes":[3,3,1]}' \
@@ -130,15 +132,16 @@ answers 'qaa-BB - plain' '1234567.5\n' '1234567·5\n'
 answers 'qab - plain' '-1234\n+5\n' '(১\u00a0২৩৪-)\n(৫+)\n'
 answers 'qab arab short' '1000\n2000\n5000\n' '١ x\n٢ y\n٥ z\n'
 
-# Named locales, basic ones too: a parent that is named as root; a POSIX locale; root.
-makes named "$release" root qaa_Arab qaf-ZZ-posix
+# Named locales, basic ones too: root as a parent, by name or for a script that isn't likely; a POSIX locale; root.
+makes named "$release" root qaa_Arab qaa-deva-cc qaf-ZZ-posix
 tells "${digits_lines[@]}" \
     'qaf_ZZ_POSIX: symbols[latn]: the number #,##@0.### has more than #, 0, a group and a point'
-counts symbols 3
-counts short 3
+counts symbols 4
+counts short 4
 has symbols \
     $'{"locale":"qaa-Arab","minus":["\u061c-",""],"plus":["\u061c+",""],"decimal":"٫","group":"٬","numsys":"arab","sizes":[3,3,1]}' \
     '{"locale":"qaa-Arab","system":"latn","minus":["-",""],"plus":["+",""],"decimal":".","group":",","numsys":"latn","sizes":[3,3,1]}' \
+    '{"locale":"qaa-Deva-CC","minus":["-",""],"plus":["+",""],"decimal":".","group":",","numsys":"latn","sizes":[3,3,1]}' \
     '{"locale":"und","minus":["-",""],"plus":["+",""],"decimal":".","group":",","numsys":"latn","sizes":[3,3,1]}'
 has rules '{"locale":"qaf-ZZ-u-va-posix","rules":[]}' '{"locale":"und","rules":[]}'
 has long '{"locale":"und","patterns":[[3,3,{"other":"{0}K"}],[6,6,{"other":"{0}M"}]]}'

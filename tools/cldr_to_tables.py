@@ -206,7 +206,7 @@ class LdmlRelease(Release):
     def __init__(self, folder, reports):
         super().__init__(folder, reports)
         self.locales = sorted(file.name[:-4] for file in (folder / "main").iterdir() if file.name.endswith(".xml"))
-        self.parents = self.read_parents()
+        self.parents = {**self.parents_by_script(), **self.read_parents()}
         self.cardinals = self.read_cardinals()
 
     def parse(self, *names):
@@ -226,14 +226,31 @@ class LdmlRelease(Release):
                 collect(element, (), tree, uncertain)
         return tree
 
-    def read_parents(self):
-        """The parents that aren't found by taking off a subtag (UTS 35 Part 1, Parent Locales)."""
-        parents = {}
+    def parent_entries(self):
+        """The entries of the parents that hold for all data but that of some components."""
         for group in self.parse("supplemental", "supplementalData.xml").findall("parentLocales"):
             if group.get("component") is None:
-                for entry in group.findall("parentLocale"):
-                    parents.update(dict.fromkeys(entry.get("locales").split(), entry.get("parent")))
+                yield from group.findall("parentLocale")
+
+    def read_parents(self):
+        """The parents that are named, as they aren't found by taking off a subtag (UTS 35 Part 1, Parent Locales)."""
+        parents = {}
+        for entry in self.parent_entries():
+            parents.update(dict.fromkeys(entry.get("locales").split(), entry.get("parent")))
         return parents
+
+    def parents_by_script(self):
+        """The parent of a language with a script that isn't its likely one, by the rule `nonlikelyScript` (UTS 35
+        Part 1, Parent Locales)."""
+        rules = {entry.get("localeRules"): entry.get("parent") for entry in self.parent_entries()}
+        parent = rules.get("nonlikelyScript")
+        if parent is None:
+            return {}
+        likely = {}
+        for entry in self.parse("supplemental", "likelySubtags.xml").iter("likelySubtag"):
+            likely[entry.get("from")] = entry.get("to").split("_")[1]
+        scripted = [locale.split("_") for locale in self.locales if re.fullmatch("[a-z]+_[A-Z][a-z]{3}", locale)]
+        return {"_".join(words): parent for words in scripted if likely.get(words[0], words[1]) != words[1]}
 
     def read_cardinals(self):
         """The cardinal rules of each locale that is named with some."""
