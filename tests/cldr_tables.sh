@@ -1,0 +1,241 @@
+#!/bin/bash
+# Makes tables of a small release, written for the purpose, and compares their entries, what is told on standard error,
+# statuses, and what decfmt writes with them.
+# usage: tests/cldr_tables.sh [PROGRAM]
+program=${1:-$(dirname "$0")/../crates/decfmt/out/decfmt}
+tool=$(dirname "$0")/../tools/cldr_to_tables.py
+release=$(dirname "$0")/cldr
+folder=$(mktemp -d)
+trap 'rm -rf "$folder"' EXIT
+passed=0 missed=0
+
+# judge NAME TEST..: the test holds.
+judge() {
+    local name=$1
+    shift
+    if "$@"; then
+        passed=$((passed + 1))
+    else
+        missed=$((missed + 1))
+        echo "cldr_tables: $name"
+    fi
+}
+
+# makes NAME WORD..: the tables of these words end with status 0, in the files NAME.json and NAME.err.
+makes() {
+    made=$1
+    shift
+    python3 "$tool" "$@" >"$folder/$made.json" 2>"$folder/$made.err"
+    judge "$made: status $?" [ $? = 0 ]
+    awk -v folder="$folder/$made" '/^"[a-z]*":\[$/ {split($0, words, "\""); key = words[2]; next}
+        key {sub(/,$/, ""); print >(folder "." key)}' "$folder/$made.json"
+}
+
+# has KEY ENTRY..: under this key of the tables made last stand all these entries.
+has() {
+    local key=$1 entry
+    shift
+    for entry in "$@"; do
+        judge "$made: no $key $entry" grep -qxF -e "$entry" "$folder/$made.$key"
+    done
+}
+
+# counts KEY NUMBER: so many entries stand under this key.
+counts() {
+    judge "$made: $1 has not $2 entries" [ "$(grep -c '^[{[]' "$folder/$made.$1")" = "$2" ]
+}
+
+# tells LINE..: these lines are told, and no others.
+tells() {
+    printf '%s\n' "$@" >"$folder/wanted"
+    [ $# -gt 0 ] || : >"$folder/wanted"
+    judge "$made: standard error" diff "$folder/wanted" "$folder/$made.err"
+}
+
+# ends STATUS WORD..: the tool ends with this status.
+ends() {
+    local wanted=$1 status
+    shift
+    python3 "$tool" "$@" >"$folder/out" 2>"$folder/err"
+    status=$?
+    judge "$*: status $status, wanted $wanted" [ $status = "$wanted" ]
+}
+
+# answers WORDS INPUT OUTPUT: what decfmt writes with the tables made last.
+answers() {
+    local words
+    read -r -a words <<<"$1"
+    printf '%b' "$2" | timeout 20 "$program" "$folder/$made.json" "${words[@]}" >"$folder/out" 2>&1
+    printf '%b' "$3" >"$folder/wanted"
+    judge "decfmt $1" diff "$folder/wanted" "$folder/out"
+}
+
+digits_lines=(
+    'root: numbering system greater-ten: no name or digits of tables'
+    'root: numbering system six: no name or digits of tables'
+)
+draft='qaa_BB: symbols[latn]/group: a draft, unconfirmed: what is inherited stands'
+
+# All modern locales: each locale's own, its parents', aliases, quotes and zeros.
+makes modern "$release"
+tells "${digits_lines[@]}" "$draft"
+counts symbols 13
+counts digits 3
+counts rules 6
+counts short 7
+counts long 6
+judge 'the version' grep -qF '"cldr":"0.1"' "$folder/modern.json"
+has digits '["arab","٠١٢٣٤٥٦٧٨٩"]' '["beng","০১২৩৪৫৬৭৮৯"]' '["latn","0123456789"]'
+# own symbols, two sizes of groups, plus from root; another numbering system by an alias to latn
+has symbols \
+    '{"locale":"qaa","minus":["−",""],"plus":["+",""],"decimal":",","group":".","numsys":"latn","sizes":[3,2,2]}' \
+    '{"locale":"qaa","system":"beng","minus":["−",""],"plus":["+",""],"decimal":",","group":".","numsys":"beng","sizes":[3,2,2]}'
+# the parent where a subtag is taken off; what is marked as inherited is
+has symbols '{"locale":"qaa-001","minus":["−",""],"plus":["+",""],"decimal":",","group":"’","numsys":"latn","sizes":[3,2,1]}'
+# the parent that is named, not that of another component; a draft that counts and one that doesn't; no groups
+has symbols '{"locale":"qaa-BB","minus":["−",""],"plus":["＋",""],"decimal":"·","group":"’","numsys":"latn","sizes":[0,0,1]}'
+# nothing of its own; the likely script
+has symbols \
+    '{"locale":"qaa-CC","minus":["−",""],"plus":["+",""],"decimal":",","group":"’","numsys":"latn","sizes":[3,2,1]}' \
+    '{"locale":"qaa-Latn","minus":["−",""],"plus":["+",""],"decimal":",","group":".","numsys":"latn","sizes":[3,2,2]}'
+# a default system by aliases that begin anew at the locale; a negative subpattern around plain numbers
+has symbols \
+    $'{"locale":"qab","minus":["(","-)"],"plus":["(","+)"],"decimal":".","group":"\u00a0","numsys":"beng","sizes":[3,3,1]}' \
+    $'{"locale":"qab","system":"arab","minus":["(","\u061c-)"],"plus":["(","\u061c+)"],"decimal":"٫","group":"٬","numsys":"arab","sizes":[3,3,1]}' \
+    $'{"locale":"qab","system":"latn","minus":["(","-)"],"plus":["(","+)"],"decimal":".","group":"\u00a0","numsys":"latn","sizes":[3,3,1]}'
+# plural rules: the locale's own, or those of what is left without subtags, and cardinal ones alone
+has rules \
+    '{"locale":"qaa","rules":[["one","i = 1 and v = 0"]]}' \
+    '{"locale":"qaa-001","rules":[["one","i = 1 and v = 0"]]}' \
+    '{"locale":"qaa-CC","rules":[["two","n = 2"]]}' \
+    '{"locale":"qab","rules":[["one","i = 0,1"],["few","n % 10 = 2..4 and n % 100 != 12..14 or f % 10 = 2..4"]]}'
+# `0` alone shortens nothing; quoted points and signs, quotes in quotes; repeated types
+has short "{\"locale\":\"qaa\",\"patterns\":[[4,4,{\"other\":\"{0}W.\"}],[6,6,{\"other\":\"{0}-m'm'\"}]]}"
+# exactly one, a literal alone, a doubled quote; past the last long type the short one, by root's alias
+has long "{\"locale\":\"qaa\",\"patterns\":[[3,3,{\"explicit_one\":\"a thousand\",\"one\":\"{0} thousand\",\"other\":\"{0} thousands\"}],[4,3,{\"other\":\"{0} thousands\"}],[5,3,{\"one\":\"{0} thousand\",\"other\":\"{0} thousands\"}],[6,6,{\"one\":\"million\",\"other\":\"x{0} o'clock\"}],[7,6,{\"other\":\"{0}-m'm'\"}]]}"
+# the child's pattern for other numbers comes before its parent's for one and for exactly one
+has long "{\"locale\":\"qaa-001\",\"patterns\":[[3,3,{\"other\":\"{0} grand\"}],[4,3,{\"other\":\"{0} thousands\"}],[5,3,{\"one\":\"{0} thousand\",\"other\":\"{0} thousands\"}],[6,6,{\"one\":\"million\",\"other\":\"x{0} o'clock\"}],[7,6,{\"other\":\"{0}-m'm'\"}]]}"
+# categories that the locale's rules haven't
+has long "{\"locale\":\"qaa-CC\",\"patterns\":[[3,3,{\"other\":\"{0} grand\"}],[4,3,{\"other\":\"{0} thousands\"}],[6,6,{\"other\":\"x{0} o'clock\"}],[7,6,{\"other\":\"{0}-m'm'\"}]]}"
+# exactly zero; no long patterns, so the short ones; another numbering system's
+has short \
+    '{"locale":"qab","patterns":[[3,3,{"explicit_zero":"none","one":"t{0}","few":"t{0}","other":"{0}t"}],[4,3,{"other":"{0} t"}],[5,3,{"other":"{0}K"}],[6,6,{"other":"{0}M"}]]}' \
+    '{"locale":"qab","system":"arab","patterns":[[3,3,{"one":"{0} x","few":"{0} y","other":"{0} z"}],[4,3,{"other":"{0} t"}],[5,3,{"other":"{0}K"}],[6,6,{"other":"{0}M"}]]}'
+has long '{"locale":"qab","patterns":[[3,3,{"explicit_zero":"none","one":"t{0}","few":"t{0}","other":"{0}t"}],[4,3,{"other":"{0} t"}],[5,3,{"other":"{0}K"}],[6,6,{"other":"{0}M"}]]}'
+
+answers 'qaa - plain' '1234\n-1234567.5\n+5\n' '1234\n−12.34.567,5\n+5\n'
+answers 'qaa beng plain' '12345\n' '১২.৩৪৫\n'
+answers 'qaa arab plain' '12345\n' '١٢.٣٤٥\n'
+answers 'qaa - short' '9999\n99999\n-1500000\n1234000000\n' "9999\n10W.\n−1,5-m'm'\n1234-m'm'\n"
+answers 'qaa - long' '1000\n1100\n999500\n2000000\n' "a thousand\n1,1 thousands\nmillion\nx2 o'clock\n"
+answers 'qaa-BB - plain' '1234567.5\n' '1234567·5\n'
+answers 'qab - plain' '-1234\n+5\n' '(১\u00a0২৩৪-)\n(৫+)\n'
+answers 'qab arab short' '1000\n2000\n5000\n' '١ x\n٢ y\n٥ z\n'
+
+# Named locales, basic ones too: root as a parent, by name or for a script that isn't likely; a POSIX locale; root.
+makes named "$release" root qaa_Arab qaa-deva-cc qaf-ZZ-posix
+tells "${digits_lines[@]}" \
+    'qaf_ZZ_POSIX: symbols[latn]: the number #,##@0.### has more than #, 0, a group and a point'
+counts symbols 4
+counts short 4
+has symbols \
+    $'{"locale":"qaa-Arab","minus":["\u061c-",""],"plus":["\u061c+",""],"decimal":"٫","group":"٬","numsys":"arab","sizes":[3,3,1]}' \
+    '{"locale":"qaa-Arab","system":"latn","minus":["-",""],"plus":["+",""],"decimal":".","group":",","numsys":"latn","sizes":[3,3,1]}' \
+    '{"locale":"qaa-Deva-CC","minus":["-",""],"plus":["+",""],"decimal":".","group":",","numsys":"latn","sizes":[3,3,1]}' \
+    '{"locale":"und","minus":["-",""],"plus":["+",""],"decimal":".","group":",","numsys":"latn","sizes":[3,3,1]}'
+has rules '{"locale":"qaf-ZZ-u-va-posix","rules":[]}' '{"locale":"und","rules":[]}'
+has long '{"locale":"und","patterns":[[3,3,{"other":"{0}K"}],[6,6,{"other":"{0}M"}]]}'
+
+# What can't be expressed.
+makes refused "$release" qac
+tells "${digits_lines[@]}" \
+    "qac: plural rule one: the condition 'n is 1' isn't in the grammar" \
+    "qac: plural rule two: the condition 'n % 0 = 2' isn't in the grammar" \
+    'qac: plural rule several: no such category' \
+    'qac: native numbering system roman: it has no ten digits' \
+    "qac: decimalFormats[latn]/decimalFormatLength/decimalFormat/pattern: 'about #,##0.###': text around a plain number is left out" \
+    'qac: decimalFormats/pattern[2000]: its type is no power of ten' \
+    "qac: decimalFormats[latn]/short/10000-many: '{0}W' counts by another power of ten than the type's first pattern" \
+    'qac: decimalFormats[latn]/short/100000: its exponent is below that of the type before it' \
+    'qac: decimalFormats[latn]/short/1000000: the patterns of the type before it, with another exponent' \
+    'qac: decimalFormats[latn]/short/10000000000000000000000: more than 16 zeros' \
+    "qac: decimalFormats[latn]/long/100-other: \"0'{0}'\": {0} in a literal" \
+    "qac: decimalFormats[latn]/long/1000-other: 'elfu 0;elfu -0': a negative subpattern; the sign stands before the positive one" \
+    "qac: decimalFormats[latn]/long/1000-many: '0 minus-': the sign - within a pattern" \
+    "qac: decimalFormats[latn]/long/10000-other: '#0 wan': the number #0 isn't zeros alone" \
+    "qac: decimalFormats[latn]/long/100000-other: '0 or 0': a pattern has two numbers" \
+    "qac: decimalFormats[latn]/long/1000000-other: '0% million': the special character % within a pattern" \
+    "qac: decimalFormats[latn]/long/10000000-other: \"0 'open\": a quote in \"0 'open\" isn't closed" \
+    "qac: decimalFormats[latn]/long/100000000-other: '0;0;0': '0;0;0' has three subpatterns" \
+    'qac: decimalFormats[latn]/long/1000000000: no pattern has a zero' \
+    "qac: decimalFormats[latn]/long/10000000000-other: '000000000000 wide': 12 zeros are more than the digits of the type" \
+    "qac: decimalFormats[latn]/long/100000000000-other: '0E0': a pattern has two numbers" \
+    'qac: decimalFormats[latn]/long/10000000000000000000000: more than 16 zeros'
+has rules '{"locale":"qac","rules":[["many","n = 10..19"]]}'
+has short '{"locale":"qac","patterns":[[3,3,{"other":"{0}K"}],[7,6,{"other":"{0}M"}],[21,6,{"other":"{0} far"}]]}'
+has long '{"locale":"qac","patterns":[[3,3,{"other":"elfu {0}"}],[21,6,{"other":"{0} far"}]]}'
+answers 'qac - plain' '1234\n' '1,234\n'
+answers 'qac - long' '5000\n-5000\n' 'elfu 5\n-elfu 5\n'
+
+# Symbols that are too long, a negative subpattern with a currency, aliases in a circle and to another locale.
+makes circle "$release" qad
+tells "${digits_lines[@]}" \
+    'qad: default numbering system roman: it has no ten digits' \
+    "qad: decimalFormats[beng]/decimalFormatLength/decimalFormat/pattern: '#,##0.###;¤#,##0.###': the special character ¤ within a pattern; the sign stands before numbers" \
+    'qad: symbols[beng]: its symbols are more than 255 bytes' \
+    "qad: decimalFormats[latn]/decimalFormatLength/decimalFormat/pattern: '#,##0.###;¤#,##0.###': the special character ¤ within a pattern; the sign stands before numbers" \
+    'qad: decimalFormats[latn]/short: its aliases lead back to it' \
+    'qad: decimalFormats[beng]/long: its aliases lead back to it' \
+    'qad: decimalFormats[latn]/long: its aliases lead back to it'
+counts symbols 1
+counts short 1
+has symbols '{"locale":"qad","system":"latn","minus":["-",""],"plus":["+",""],"decimal":".","group":",","numsys":"latn","sizes":[3,3,1]}'
+has short "{\"locale\":\"qad\",\"patterns\":[[4,4,{\"other\":\"{0}W.\"}],[6,6,{\"other\":\"{0}-m'm'\"}]]}"
+
+# The other forms of a release: the folder common itself, an archive, JSON packages.
+python3 -m zipfile -c "$folder/core.zip" "$release/common"
+for form in "$release/common" "$folder/core.zip"; do
+    python3 "$tool" -o "$folder/other.json" "$form" 2>"$folder/err"
+    judge "$form: status $?" [ $? = 0 ]
+    judge "$form: other tables" cmp "$folder/other.json" "$folder/modern.json"
+    judge "$form: other lines" cmp "$folder/err" "$folder/modern.err"
+done
+makes json "$release/json"
+tells
+counts symbols 4
+judge 'the version of the packages' grep -qF '"cldr":"0.1.0"' "$folder/json.json"
+has symbols \
+    '{"locale":"qaa","minus":["−",""],"plus":["+",""],"decimal":",","group":".","numsys":"latn","sizes":[3,2,2]}' \
+    '{"locale":"qaa","system":"arab","minus":["-",""],"plus":["+",""],"decimal":"٫","group":"٬","numsys":"arab","sizes":[3,3,2]}' \
+    '{"locale":"qaa-BB","minus":["−",""],"plus":["+",""],"decimal":"·","group":".","numsys":"latn","sizes":[3,2,2]}'
+has digits '["arab","٠١٢٣٤٥٦٧٨٩"]' '["latn","0123456789"]'
+has rules '{"locale":"qaa","rules":[["one","i = 1 and v = 0"]]}' '{"locale":"qaa-BB","rules":[["one","i = 1 and v = 0"]]}'
+counts short 2
+has short '{"locale":"qaa","patterns":[[3,3,{"other":"{0}W."}]]}'
+has long \
+    '{"locale":"qaa","patterns":[[3,3,{"explicit_one":"a thousand","one":"{0} thousand","other":"{0} thousands"}],[4,3,{"other":"{0} thousands"}]]}' \
+    '{"locale":"qaa","system":"arab","patterns":[[3,3,{"other":"{0} x"}]]}'
+answers 'qaa arab long' '1000\n' '١ x\n'
+
+# Statuses.
+ends 0 --help
+judge 'help' grep -q 'usage: cldr_to_tables.py' "$folder/out"
+ends 2
+ends 2 --none "$release"
+mkdir "$folder/empty"
+ends 3 "$folder/empty"
+ends 3 "$folder/none"
+cp -r "$release/common" "$folder/broken"
+printf '<ldml><numbers>' >"$folder/broken/main/qaa.xml"
+ends 3 "$folder/broken"
+rm "$folder/broken/supplemental/plurals.xml"
+ends 3 "$folder/broken" root
+printf 'PK\003\004' >"$folder/broken.zip"
+ends 3 "$folder/broken.zip"
+ends 4 "$release" qaa qaz
+judge 'an unknown locale' grep -qx 'error: qaz: the release has no such locale' "$folder/err"
+ends 1 "$release" -o "$folder/none/tables.json"
+ends 1 "$release" -o /dev/full
+
+echo "$passed passed, $missed failed"
+[ "$missed" = 0 ]

@@ -1,0 +1,288 @@
+#!/usr/bin/env python3
+"""Compares decfmt with ICU over all modern locales of a CLDR release, in all styles, and prints the tables of
+docs/TESTING.md. Differences of a known kind are counted by its name; any other one is printed, and fails.
+
+A kind isn't told by its looks. Each has a reason, which changes the tables, the rules or the number in a known way;
+decfmt then has to write just what ICU wrote.
+
+usage: tests/icu_compare.py PEER RELEASE PROGRAM, where PEER runs tests/icu_peer.cpp
+"""
+import collections
+import copy
+import decimal
+import io
+import json
+import math
+import pathlib
+import shlex
+import subprocess
+import sys
+import tempfile
+import unicodedata
+from concurrent.futures import ThreadPoolExecutor
+
+sys.path.insert(0, str(pathlib.Path(__file__).resolve().parent.parent / "tools"))
+import cldr_to_tables as cldr  # noqa: E402
+
+STYLES = ("plain", "short", "long")
+SINGLE = (
+    "0 -0 0.0 0.00 -0.0 +0 +5 +1234.5 1.0 1.00 -1.0 2.0 0.1 -0.1 0.5 0.05 0.000123 0.00999 0.0095 0.995 0.9949 0.25 0.35 "
+    "1250 1350 1450000 1650 1750 9949 9950 99949 99950 999499 999499.99 999500 999500.00 -999999 +1000 +2000000"
+)
+SCALED = "1 -1 1.1 1.5 2 -2.5 3 4.5 5 7 8.8 9.95 9.949 11 12 13 15 19 21 22.2 25 101 -111 999.5"
+POWERS = range(16)
+HUGE = (18, 20, 21, 25, 30, 40)
+# the digits of a whole number that a double always holds
+DOUBLE_DIGITS = 15
+
+Job = collections.namedtuple("Job", "locale system style")
+Difference = collections.namedtuple("Difference", "job number ours theirs")
+
+
+def numbers():
+    """The numbers that each formatter gets: halves, carries, digits that plural rules look at, in all magnitudes."""
+    found = SINGLE.split()
+    for power in POWERS:
+        found += [format(decimal.Decimal(digits).scaleb(power), "f") for digits in SCALED.split()]
+    for power in HUGE:
+        found += ["1" + "0" * power, "-" + "9" * power]
+    found.append("123456789" * 5 + "." + "123456789" * 3)
+    return list(dict.fromkeys(found))
+
+
+class Formatters:
+    """decfmt with some tables, and ICU."""
+
+    def __init__(self, peer, program, folder):
+        self.peer = shlex.split(peer)
+        self.program = program
+        self.folder = pathlib.Path(folder)
+
+    def write(self, name, tables):
+        """Puts tables into a file."""
+        path = self.folder / name
+        path.write_text(json.dumps(tables, ensure_ascii=False), encoding="utf-8")
+        return path
+
+    def decfmt(self, path, job, lines):
+        """What decfmt writes for each line, or nothing where its tables have no such entry."""
+        run = subprocess.run(
+            [self.program, path, *job], input="\n".join(lines) + "\n", capture_output=True, encoding="utf-8"
+        )
+        return run.stdout.split("\n")[:-1] if run.returncode == 0 else [None] * len(lines)
+
+    def decfmt_all(self, path, jobs, lines):
+        """The same for each job."""
+        with ThreadPoolExecutor() as runs:
+            return list(runs.map(lambda job: self.decfmt(path, job, lines), jobs))
+
+    def icu_all(self, jobs, lines):
+        """What ICU writes for each job and line."""
+        asked = "".join("= " + " ".join(job) + "\n" + "\n".join(lines) + "\n" for job in jobs)
+        run = subprocess.run(self.peer, input=asked, stdout=subprocess.PIPE, encoding="utf-8", check=True)
+        answers = run.stdout.split("\n")[:-1]
+        return [answers[start : start + len(lines)] for start in range(0, len(answers), len(lines))]
+
+
+def of_locale(tables, locale):
+    """The tables' entries of one locale."""
+    kept = {
+        key: [entry for entry in value if entry["locale"] == locale]
+        for key, value in tables.items()
+        if key in ("symbols", "rules", "short", "long")
+    }
+    return copy.deepcopy({"digits": tables["digits"], **kept})
+
+
+def entry_of(entries, system):
+    """The entry that answers for a numbering system."""
+    named = [entry for entry in entries if entry.get("system") == system]
+    return (named or [entry for entry in entries if "system" not in entry])[0]
+
+
+class WithSigns(cldr.CompactReader):
+    """Reads compact patterns with their sign within, as they are for numbers that have this sign."""
+
+    sign = ""
+
+    def read(self, power, count, pattern):
+        """The negative subpattern, or what stands for one that isn't there, with the sign in the place of minus."""
+        positive, negative = cldr.subpatterns(pattern)
+        read = super().read(power, count, pattern)
+        pieces = negative or [("special", "-")] + positive
+        before, number, after = cldr.around_number(pieces)
+        place = cldr.PLACE if number else ""
+        return read and (read[0], cldr.literal(before, {"-": self.sign}) + place + cldr.literal(after, {"-": self.sign}))
+
+
+class Kinds:
+    """The known kinds of difference. Each method answers what ICU would write by its reason, or None where the reason
+    doesn't apply."""
+
+    def __init__(self, formatters, release, tables):
+        self.formatters = formatters
+        self.release = release
+        self.tables = tables
+        self.names = {cldr.named(locale): locale for locale in release.locales}
+        self.without_alias = self.release_without_alias()
+        self.known = {
+            "exactly one: ICU compares the number with its sign, so that -1000 isn't exactly one thousand": self.explicit_one,
+            "a negative subpattern of a compact pattern, which tables can't express": self.negative_subpattern,
+            "long patterns of some types alone: ICU doesn't take the other types from the short style": self.long_types,
+            "plural categories of significands of more than 15 digits: ICU takes n as a double, and i by 18 digits": self.operands,
+        }
+
+    def kind_of(self, difference):
+        """The name of the difference's kind, or None."""
+        for name, reason in self.known.items():
+            if difference.theirs in reason(difference):
+                return name
+        return None
+
+    def release_without_alias(self):
+        """The release, in which the long style isn't an alias of the short one."""
+        release = cldr.open_release(self.release.folder, cldr.Reports(io.StringIO()))
+        for path in list(release.tree("root").aliases):
+            if path[-1] == cldr.step("decimalFormatLength", {"type": "long"}):
+                del release.tree("root").aliases[path]
+        return release
+
+    def again(self, job, tables, number):
+        """What decfmt writes with other tables."""
+        return self.formatters.decfmt(self.formatters.write("changed.json", tables), job, [number])
+
+    def with_patterns(self, job, reader_type, release, **values):
+        """The locale's tables with the patterns that a reader finds."""
+        tables = of_locale(self.tables, job.locale)
+        system = entry_of(tables["symbols"], job.system)["numsys"]
+        locale = self.names[job.locale]
+        rules = [tuple(rule) for rule in tables["rules"][0]["rules"]]
+        reader = reader_type(release, locale, system, job.style, rules)
+        vars(reader).update(values)
+        tables[job.style] = [{"locale": job.locale, "patterns": reader.table()}]
+        return tables
+
+    def explicit_one(self, difference):
+        """A negative number with the patterns for exactly one taken away."""
+        job, number, *_ = difference
+        tables = of_locale(self.tables, job.locale)
+        if job.style == "plain" or not number.startswith("-"):
+            return []
+        for entry in tables[job.style]:
+            for _, _, elements in entry["patterns"]:
+                elements.pop("explicit_one", None)
+        return self.again(job, tables, number)
+
+    def negative_subpattern(self, difference):
+        """The number without its sign in a pattern that has the sign within, if CLDR has a negative subpattern."""
+        job, number, *_ = difference
+        if job.style == "plain" or number[0] not in "+-":
+            return []
+        signs = entry_of(of_locale(self.tables, job.locale)["symbols"], job.system)
+        sign = signs["minus" if number[0] == "-" else "plus"][0]
+        return self.again(job, self.with_patterns(job, WithSigns, self.release, sign=sign), number[1:])
+
+    def long_types(self, difference):
+        """The long style with the types alone that aren't found in the short one."""
+        job, number, *_ = difference
+        if job.style != "long":
+            return []
+        return self.again(job, self.with_patterns(job, cldr.CompactReader, self.without_alias), number)
+
+    def operands(self, difference):
+        """The category by operands that are doubles, for a significand that a double may not hold."""
+        job, number, ours, _ = difference
+        digits = "".join(letter for letter in ours if unicodedata.decimal(letter, None) is not None)
+        if job.style == "plain" or len(digits) <= DOUBLE_DIGITS:
+            return []
+        tables = of_locale(self.tables, job.locale)
+        category = category_by_doubles(tables["rules"][0]["rules"], int(digits))
+        tables["rules"] = [{"locale": job.locale, "rules": [[category, ""]]}]
+        return self.again(job, tables, number)
+
+
+def category_by_doubles(rules, number):
+    """The category of a whole number, if n is a double and i its lowest eighteen digits as a double."""
+    operands = {"n": float(number), "i": float(number % 10**18)}
+    for category, condition in rules:
+        if any(all(holds_of(operands, relation) for relation in relations) for relations in cldr.alternatives(condition)):
+            return category
+    return "other"
+
+
+def holds_of(operands, relation):
+    """Tells whether a relation holds of operands; those that aren't given are zero."""
+    operand, modulus, sign, items = relation.groups()
+    value = operands.get(operand, 0.0)
+    value = math.fmod(value, int(modulus)) if modulus else value
+    ranges = [[int(end) for end in item.split("..")] for item in items.split(",")]
+    return any(ends[0] <= value <= ends[-1] for ends in ranges) == (sign == "=")
+
+
+def differences_of(jobs, lines, ours, theirs):
+    """All lines that differ."""
+    for job, mine, other in zip(jobs, ours, theirs):
+        for number, left, right in zip(lines, mine, other):
+            if left != right:
+                yield Difference(job, number, left, right)
+
+
+def shown(difference):
+    """A difference as one text."""
+    job, number, ours, theirs = difference
+    return f"{job.locale} {job.system} {job.style} {number}: `{ours}`, ICU `{theirs}`"
+
+
+def same_version(left, right):
+    """Tells whether two versions are the same: 46 and 46.0 are."""
+    return (left.split(".") + ["0"])[:2] == (right.split(".") + ["0"])[:2]
+
+
+def print_table(versions, jobs, lines, kinds):
+    """Prints what was compared, and the kinds of difference."""
+    compared = len(jobs) * len(lines)
+    equal = compared - sum(len(found) for found in kinds.values())
+    print("\n| ICU | its CLDR data | locales | numbering systems in them | styles | numbers | compared | equal |")
+    print("|---" * 8 + "|")
+    locales = len({job.locale for job in jobs})
+    print(f"| {versions[0]} | {versions[1]} | {locales} | {len(jobs) // 3} | 3 | {len(lines)} | {compared:,} | {equal:,} |")
+    print("\n| difference | lines | locales | example |\n|---|---|---|---|")
+    for name, found in kinds.items():
+        example = min(map(shown, found), key=lambda text: (sum(letter > "~" for letter in text), len(text)), default="")
+        print(f"| {name} | {len(found)} | {len({it.job.locale for it in found})} | {example} |")
+    print()
+
+
+def compare(formatters, release, versions):
+    """Compares all, and answers how many formatters had a difference of no known kind, of how many."""
+    tables = json.loads(cldr.written(cldr.make_tables(release, [])))
+    jobs = [Job(it["locale"], it.get("system", "-"), style) for it in tables["symbols"] for style in STYLES]
+    lines = numbers()
+    ours = formatters.decfmt_all(formatters.write("tables.json", tables), jobs, lines)
+    theirs = formatters.icu_all(jobs, lines)
+    kinds = Kinds(formatters, release, tables)
+    counted = {name: [] for name in kinds.known}
+    unknown = counted.setdefault("any other", [])
+    for difference in differences_of(jobs, lines, ours, theirs):
+        counted[kinds.kind_of(difference) or "any other"].append(difference)
+    for difference in unknown[:50]:
+        print(f"icu: {shown(difference)}")
+    print_table(versions, jobs, lines, counted)
+    return len({difference.job for difference in unknown}), len(jobs)
+
+
+def main(peer, name, program):
+    """Compares, if release and ICU have the same data, and answers the exit status."""
+    release = cldr.open_release(name, cldr.Reports(io.StringIO()))
+    versions = subprocess.run([*shlex.split(peer), "--version"], stdout=subprocess.PIPE, encoding="utf-8").stdout.split()
+    if not same_version(versions[1], release.version()):
+        print(f"icu: skipped: ICU {versions[0]} has the data of CLDR {versions[1]}, the release is {release.version()}")
+        return 0
+    with tempfile.TemporaryDirectory() as folder:
+        failed, count = compare(Formatters(peer, program, folder), release, versions)
+    print(f"{count - failed} passed, {failed} failed")
+    return 1 if failed else 0
+
+
+if __name__ == "__main__":
+    sys.exit(main(*sys.argv[1:4]))

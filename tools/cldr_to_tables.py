@@ -1,0 +1,885 @@
+#!/usr/bin/env python3
+"""Makes decfmt's tables, in the format of docs/FORMATS.md, out of a CLDR release.
+
+The release is read as the LDML XML of core.zip (the archive, its folder or its folder common/), or as a folder with
+the JSON packages cldr-core and cldr-numbers-full. What the format of tables can't express is left out, with one line
+on standard error each: locale, key and reason.
+
+Exit status: 0 done, 1 the output couldn't be written, 2 wrong words, 3 not a CLDR release, 4 a locale that the
+release doesn't have.
+"""
+import argparse
+import collections
+import functools
+import json
+import operator
+import pathlib
+import re
+import sys
+import zipfile
+from xml.etree import ElementTree
+
+CATEGORIES = ("zero", "one", "two", "few", "many", "other")
+EXPLICIT = {"0": "explicit_zero", "1": "explicit_one"}
+STYLES = ("short", "long")
+USED = {"defaultNumberingSystem", "otherNumberingSystems", "minimumGroupingDigits", "symbols", "decimalFormats"}
+USED_SYMBOLS = {"decimal", "group", "minusSign", "plusSign"}
+DISTINGUISHING = ("alt", "count", "numberSystem", "type")
+UNCERTAIN = ("unconfirmed", "provisional")
+INHERIT = "↑↑↑"
+PLACE = "{0}"
+SYMBOLS_BYTES = 255
+PATTERNS_BYTES = 65535
+MOST_ZEROS = 16
+
+
+class NotARelease(Exception):
+    """The folder or archive has no CLDR release in a form that is known here."""
+
+
+class UnknownLocale(Exception):
+    """The release has no such locale."""
+
+
+class Inexpressible(Exception):
+    """The format of tables has nothing for this; the text says why."""
+
+
+UNREADABLE = (NotARelease, Inexpressible, OSError, ElementTree.ParseError, zipfile.BadZipFile, ValueError, KeyError)
+
+
+class Reports:
+    """What goes to standard error: lines on what was left out, each once, and progress if it is a terminal."""
+
+    def __init__(self, stream):
+        self.stream = stream
+        self.said = set()
+
+    def left_out(self, locale, key, reason):
+        """Tells that a key of a locale isn't in the tables as CLDR has it."""
+        line = f"{locale}: {key}: {reason}"
+        if line not in self.said:
+            self.said.add(line)
+            self.clear()
+            print(line, file=self.stream)
+
+    def progress(self, done, count, locale):
+        """Shows on a terminal alone how far the work is."""
+        if self.stream.isatty():
+            print(f"\r\033[K{done}/{count} {locale}", end="", file=self.stream, flush=True)
+
+    def clear(self):
+        """Takes the progress away."""
+        if self.stream.isatty():
+            print("\r\033[K", end="", file=self.stream)
+
+
+# Paths of a locale's file, and what stands at them (UTS 35 Part 1, Inheritance).
+
+
+def step(tag, attributes):
+    """One step of a path: a tag with the attributes that tell elements apart (UTS 35 Part 1, Attribute Definitions)."""
+    return (tag,) + tuple((name, attributes[name]) for name in DISTINGUISHING if name in attributes)
+
+
+def shown(path):
+    """A path as people read it: symbols[latn]/decimal."""
+    return "/".join(tag + "".join(f"[{value}]" for _, value in attributes) for tag, *attributes in path)
+
+
+def follow(path, relative):
+    """The path that an alias in the element at `path` names (UTS 35 Part 1, Alias Elements)."""
+    for word in relative.split("/"):
+        if word == "..":
+            path = path[:-1]
+        elif word != ".":
+            attributes = dict(re.findall(r"\[@(\w+)=['\"]([^'\"]*)['\"]\]", word))
+            path += (step(word.split("[")[0], attributes),)
+    return path
+
+
+Tree = collections.namedtuple("Tree", "values aliases")
+Tree.__doc__ = "What one file says of numbers: texts by path, and aliases as source and path by path."
+
+
+def collect(element, above, tree, uncertain):
+    """Puts an element and those in it into the tree; calls `uncertain` for what is a draft."""
+    path = above + (step(element.tag, element.attrib),)
+    alias = element.find("alias")
+    if above and above[0][0] == "symbols" and element.tag not in USED_SYMBOLS:
+        return
+    if alias is not None:
+        tree.aliases[path] = (alias.get("source", "locale"), alias.get("path", "."))
+    elif len(element):
+        for child in element:
+            collect(child, path, tree, uncertain)
+    elif element.get("draft") in UNCERTAIN:
+        uncertain(path, element.get("draft"))
+    elif element.text != INHERIT:
+        tree.values[path] = element.text or ""
+
+
+def same(path):
+    """The path itself is all that is looked for."""
+    return (path,)
+
+
+class Release:
+    """A CLDR release: what every locale says, with inheritance and aliases resolved."""
+
+    def __init__(self, folder, reports):
+        self.folder = folder
+        self.reports = reports
+        self.trees = {}
+
+    def tree(self, locale):
+        """What this locale's own file says of numbers."""
+        if locale not in self.trees:
+            self.trees[locale] = self.read_tree(locale)
+        return self.trees[locale]
+
+    def find(self, locale, path, options=same, seen=()):
+        """The first of the paths that `options` gives for `path`, with its text, in the locale or else its parents.
+
+        All of a locale's options come before its parent (UTS 35 Part 1, Lateral Inheritance). An alias with the
+        source `locale` begins anew at the locale that was asked for (UTS 35 Part 1, Alias Elements).
+        """
+        if (locale, path) in seen:
+            raise Inexpressible("its aliases lead back to it")
+        for ancestor in self.chain(locale):
+            tree = self.tree(ancestor)
+            for option in options(path):
+                if option in tree.values:
+                    return option, tree.values[option]
+            for length in range(len(path), 0, -1):
+                if path[:length] in tree.aliases:
+                    source, relative = tree.aliases[path[:length]]
+                    target = follow(path[:length], relative) + path[length:]
+                    begin = locale if source == "locale" else source
+                    return self.find(begin, target, options, seen + ((locale, path),))
+        return None, None
+
+    def text(self, locale, path):
+        """The text at a path, or None."""
+        return self.find(locale, path)[1]
+
+    def powers(self, locale):
+        """The powers of ten for which the locale or a parent of it has a compact pattern."""
+        types = set()
+        for ancestor in self.chain(locale):
+            for path in self.tree(ancestor).values:
+                if path[0][0] == "decimalFormats" and path[-1][0] == "pattern":
+                    types.add(dict(path[-1][1:]).get("type", "1"))
+        for name in sorted(types):
+            if not re.fullmatch("10*", name):
+                self.reports.left_out(locale, f"decimalFormats/pattern[{name}]", "its type is no power of ten")
+        return sorted(len(name) - 1 for name in types if re.fullmatch("10+", name))
+
+    def rules_of(self, locale):
+        """The cardinal rules of the locale or of what is left when subtags are taken off its end, as pairs of a
+        category and a text with samples (UTS 35 Part 3, Language Plural Rules)."""
+        while locale not in self.cardinals:
+            if not locale or locale == "root":
+                return []
+            locale = truncated(locale)
+        return self.cardinals[locale]
+
+
+def below(folder, *names):
+    """The file or folder of these names in turn, in a folder or an archive."""
+    return functools.reduce(operator.truediv, names, folder)
+
+
+def truncated(locale):
+    """The locale without its last subtag; `root` after the first one."""
+    return locale.rpartition("_")[0] or "root"
+
+
+class LdmlRelease(Release):
+    """The form of core.zip: LDML XML in the folders main, supplemental and properties."""
+
+    @staticmethod
+    def is_at(folder):
+        """Tells whether such a release is in this folder."""
+        return (folder / "main" / "root.xml").exists()
+
+    def __init__(self, folder, reports):
+        super().__init__(folder, reports)
+        self.locales = sorted(file.name[:-4] for file in (folder / "main").iterdir() if file.name.endswith(".xml"))
+        self.parents = {**self.parents_by_script(), **self.read_parents()}
+        self.cardinals = self.read_cardinals()
+
+    def parse(self, *names):
+        """The root element of a file of the release."""
+        with below(self.folder, *names).open("rb") as file:
+            return ElementTree.parse(file).getroot()
+
+    def read_tree(self, locale):
+        """Reads a locale's file; drafts below `contributed` aren't taken (UTS 35 Part 1, Attribute draft)."""
+        tree = Tree({}, {})
+
+        def uncertain(path, draft):
+            self.reports.left_out(locale, shown(path), f"a draft, {draft}: what is inherited stands")
+
+        for element in self.parse("main", f"{locale}.xml").find("numbers") or ():
+            if element.tag in USED:
+                collect(element, (), tree, uncertain)
+        return tree
+
+    def parent_entries(self):
+        """The entries of the parents that hold for all data but that of some components."""
+        for group in self.parse("supplemental", "supplementalData.xml").findall("parentLocales"):
+            if group.get("component") is None:
+                yield from group.findall("parentLocale")
+
+    def read_parents(self):
+        """The parents that are named, as they aren't found by taking off a subtag (UTS 35 Part 1, Parent Locales)."""
+        parents = {}
+        for entry in self.parent_entries():
+            parents.update(dict.fromkeys(entry.get("locales").split(), entry.get("parent")))
+        return parents
+
+    def parents_by_script(self):
+        """The parent of a language with a script that isn't its likely one, by the rule `nonlikelyScript` (UTS 35
+        Part 1, Parent Locales)."""
+        rules = {entry.get("localeRules"): entry.get("parent") for entry in self.parent_entries()}
+        parent = rules.get("nonlikelyScript")
+        if parent is None:
+            return {}
+        likely = {}
+        for entry in self.parse("supplemental", "likelySubtags.xml").iter("likelySubtag"):
+            likely[entry.get("from")] = entry.get("to").split("_")[1]
+        scripted = [locale.split("_") for locale in self.locales if re.fullmatch("[a-z]+_[A-Z][a-z]{3}", locale)]
+        return {"_".join(words): parent for words in scripted if likely.get(words[0], words[1]) != words[1]}
+
+    def read_cardinals(self):
+        """The cardinal rules of each locale that is named with some."""
+        cardinals = {}
+        for plurals in self.parse("supplemental", "plurals.xml").findall("plurals"):
+            if plurals.get("type", "cardinal") == "cardinal":
+                for rules in plurals.findall("pluralRules"):
+                    pairs = [(rule.get("count"), rule.text or "") for rule in rules.findall("pluralRule")]
+                    cardinals.update(dict.fromkeys(rules.get("locales").split(), pairs))
+        return cardinals
+
+    @functools.lru_cache(maxsize=None)
+    def chain(self, locale):
+        """The locale, its parent, and so on to root; those of them that the release has."""
+        if locale == "root":
+            return ("root",)
+        above = self.chain(self.parents.get(locale, truncated(locale)))
+        return (locale,) + above if locale in self.locales else above
+
+    def digits(self):
+        """The ten digits of each numeric numbering system (UTS 35 Part 3, Numbering Systems)."""
+        systems = self.parse("supplemental", "numberingSystems.xml").iter("numberingSystem")
+        return {system.get("id"): system.get("digits") for system in systems if system.get("type") == "numeric"}
+
+    def modern(self):
+        """The locales whose coverage is modern; one without a level has that of the locale without the last subtag."""
+        levels = {}
+        with below(self.folder, "properties", "coverageLevels.txt").open("rb") as file:
+            for line in file.read().decode().splitlines():
+                fields = [field.strip() for field in line.split("#")[0].split(";")]
+                if len(fields) > 1:
+                    levels[fields[0]] = fields[1]
+        return [locale for locale in self.locales if self.level(locale, levels) == "modern"]
+
+    def level(self, locale, levels):
+        """The coverage level of a locale; a parent that is named as root isn't looked past."""
+        while locale not in levels and locale != "root":
+            locale = "root" if self.parents.get(locale) == "root" else truncated(locale)
+        return levels.get(locale)
+
+    def version(self):
+        """The release's version, if its DTD tells it."""
+        file = self.folder / "dtd" / "ldml.dtd"
+        if not file.exists():
+            return None
+        with file.open("rb") as opened:
+            found = re.search(rb'cldrVersion CDATA #FIXED "([0-9.]+)"', opened.read())
+        return found and found[1].decode()
+
+
+class JsonRelease(Release):
+    """The JSON packages cldr-core and cldr-numbers-full, side by side in a folder. In them all is inherited already."""
+
+    @staticmethod
+    def is_at(folder):
+        """Tells whether such a release is in this folder."""
+        return (folder / "cldr-core" / "availableLocales.json").exists()
+
+    def __init__(self, folder, reports):
+        super().__init__(folder, reports)
+        self.main = folder / "cldr-numbers-full" / "main"
+        self.locales = sorted(self.internal(file.name) for file in self.main.iterdir())
+        plurals = self.load("cldr-core", "supplemental", "plurals.json")["supplemental"]["plurals-type-cardinal"]
+        self.cardinals = {
+            self.internal(name): [(key.rpartition("-")[2], text) for key, text in rules.items()]
+            for name, rules in plurals.items()
+        }
+
+    @staticmethod
+    def internal(name):
+        """A locale as LDML files are named."""
+        return "root" if name == "und" else name.replace("-", "_")
+
+    def load(self, *names):
+        """A file of the release."""
+        with below(self.folder, *names).open("rb") as file:
+            return json.loads(file.read())
+
+    def read_tree(self, locale):
+        """Reads a locale's file into the paths that LDML has."""
+        name = "und" if locale == "root" else locale.replace("_", "-")
+        numbers = self.load("cldr-numbers-full", "main", name, "numbers.json")["main"][name]["numbers"]
+        tree = Tree({}, {})
+        for key, value in numbers.items():
+            tag, _, system = key.partition("-numberSystem-")
+            if tag == "symbols":
+                tree.values.update({(*symbols_path(system), step(name, {})): text for name, text in value.items()})
+            elif tag == "decimalFormats":
+                self.add_patterns(tree, system, value)
+            elif key == "otherNumberingSystems":
+                tree.values.update({(step(key, {}), step(name, {})): text for name, text in value.items()})
+            elif key in USED:
+                tree.values[(step(key, {}),)] = value
+        return tree
+
+    @staticmethod
+    def add_patterns(tree, system, formats):
+        """Adds the plain and the compact patterns of a numbering system."""
+        tree.values[plain_path(system)] = formats["standard"]
+        for style in STYLES:
+            for key, text in formats.get(style, {}).get("decimalFormat", {}).items():
+                power, _, count = key.partition("-count-")
+                if "-alt-" not in key:
+                    tree.values[compact_path(system, style, power, count)] = text
+
+    def chain(self, locale):
+        """The locale alone."""
+        return (locale,)
+
+    def digits(self):
+        """The ten digits of each numeric numbering system."""
+        systems = self.load("cldr-core", "supplemental", "numberingSystems.json")["supplemental"]["numberingSystems"]
+        return {name: system["_digits"] for name, system in systems.items() if system["_type"] == "numeric"}
+
+    def modern(self):
+        """The locales that the packages list as modern."""
+        listed = self.load("cldr-core", "availableLocales.json")["availableLocales"]["modern"]
+        return sorted({self.internal(name) for name in listed}.intersection(self.locales) - {"root"})
+
+    def version(self):
+        """The version of the package."""
+        return self.load("cldr-core", "package.json").get("version")
+
+
+def open_release(name, reports):
+    """The release in a folder or an archive."""
+    folder = zipfile.Path(name) if zipfile.is_zipfile(name) else pathlib.Path(name)
+    for place in (folder, folder / "common"):
+        for form in (LdmlRelease, JsonRelease):
+            if form.is_at(place):
+                return form(place, reports)
+    raise NotARelease(f"{name}: neither main/root.xml nor cldr-core/availableLocales.json is there")
+
+
+# Where things stand in a locale's file.
+
+
+def symbols_path(system):
+    """The element of a numbering system's symbols."""
+    return (step("symbols", {"numberSystem": system}),)
+
+
+def plain_path(system):
+    """The pattern of plain decimals."""
+    return (
+        step("decimalFormats", {"numberSystem": system}),
+        step("decimalFormatLength", {}),
+        step("decimalFormat", {}),
+        step("pattern", {}),
+    )
+
+
+def compact_path(system, style, power, count):
+    """The compact pattern of a type and a count."""
+    return (
+        step("decimalFormats", {"numberSystem": system}),
+        step("decimalFormatLength", {"type": style}),
+        step("decimalFormat", {}),
+        step("pattern", {"type": power, "count": count}),
+    )
+
+
+def counted(*counts):
+    """The paths with these counts in turn, and last without a count (UTS 35 Part 1, Lateral Inheritance)."""
+
+    def options(path):
+        *above, (tag, *attributes) = path
+        attributes = dict(attributes)
+        attributes.pop("count", None)
+        with_counts = [step(tag, {**attributes, "count": count}) for count in counts]
+        return [(*above, last) for last in (*with_counts, step(tag, attributes))]
+
+    return options
+
+
+# Number patterns (UTS 35 Part 3, Number Format Patterns).
+
+PIECE = re.compile(
+    r"(?P<quote>'')|'(?P<quoted>(?:[^']|'')*)'|(?P<number>[#0-9@,.]+E?)|(?P<special>[-+%‰¤*;'])|(?P<plain>.)",
+    re.DOTALL,
+)
+
+
+def pieces_of(pattern):
+    """A pattern as a list of kinds and texts, quotes resolved: `literal`, `number` and `special`."""
+    pieces = []
+    for match in PIECE.finditer(pattern):
+        kind, text = match.lastgroup, match[match.lastgroup]
+        if kind in ("quote", "quoted", "plain"):
+            text = "'" if kind == "quote" else text.replace("''", "'")
+            if pieces and pieces[-1][0] == "literal":
+                text = pieces.pop()[1] + text
+            kind = "literal"
+        elif text == "'":
+            raise Inexpressible(f"a quote in {pattern!r} isn't closed")
+        pieces.append((kind, text))
+    return pieces
+
+
+def subpatterns(pattern):
+    """The pieces of the positive and the negative subpattern; None where there is no negative one, or only that which
+    a pattern without one has (UTS 35 Part 3, Number Patterns)."""
+    positive, negative = [], None
+    for piece in pieces_of(pattern):
+        if piece != ("special", ";"):
+            (positive if negative is None else negative).append(piece)
+        elif negative is None:
+            negative = []
+        else:
+            raise Inexpressible(f"{pattern!r} has three subpatterns")
+    return positive, None if negative == [("special", "-")] + positive else negative
+
+
+def around_number(pieces):
+    """The pieces before the number, the number or None, and the pieces after it."""
+    numbers = [index for index, (kind, _) in enumerate(pieces) if kind == "number"]
+    if len(numbers) > 1:
+        raise Inexpressible("a pattern has two numbers")
+    if not numbers:
+        return pieces, None, []
+    return pieces[: numbers[0]], pieces[numbers[0]][1], pieces[numbers[0] + 1 :]
+
+
+def literal(pieces, signs=None):
+    """The text of pieces; `signs` says what stands for special characters."""
+    text = ""
+    for kind, part in pieces:
+        if kind == "special" and part in (signs or {}):
+            part = signs[part]
+        elif kind == "special":
+            raise Inexpressible(f"{'the sign' if part in '-+' else 'the special character'} {part} within a pattern")
+        text += part
+    return text
+
+
+def compact_text(pieces):
+    """A compact subpattern as its number of zeros and the text in tables (UTS 35 Part 3, Compact Number Formats)."""
+    before, number, after = around_number(pieces)
+    prefix, suffix = literal(before), literal(after)
+    if number is not None and set(number) != {"0"}:
+        raise Inexpressible(f"the number {number} isn't zeros alone")
+    text = prefix if number is None else prefix + PLACE + suffix
+    places = [match.start() for match in re.finditer(r"(?=\{0\})", text)]
+    if places != ([] if number is None else [len(prefix)]):
+        raise Inexpressible(f"{PLACE} in a literal")
+    return len(number or ""), text
+
+
+def grouping(number):
+    """The sizes of the first group and of the further ones (UTS 35 Part 3, Number Patterns)."""
+    if not re.fullmatch(r"[#,]*[0,]*(\.0*#*)?", number) or not re.match("[#0]", number):
+        raise Inexpressible(f"the number {number} has more than #, 0, a group and a point")
+    groups = number.partition(".")[0].split(",")
+    if len(groups) == 1:
+        return [0, 0]
+    return [len(groups[-1]), len(groups[-2] if len(groups) > 2 else groups[-1])]
+
+
+# Plural rules (UTS 35 Part 3, Language Plural Rules).
+
+VALUE = r"[0-9]{1,18}"
+ITEM = rf"{VALUE}(?:\s*\.\.\s*{VALUE})?"
+RELATION = re.compile(rf"\s*([nivwftce])\s*(?:%\s*({VALUE})\s*)?(!?=)\s*({ITEM}(?:\s*,\s*{ITEM})*)\s*")
+
+
+def alternatives(condition):
+    """A condition as lists of relations, of which all of one list have to hold."""
+    if not condition.strip():
+        return [[]]
+    words = [re.split(r"\band\b", alternative) for alternative in re.split(r"\bor\b", condition)]
+    found = [[RELATION.fullmatch(word) for word in relations] for relations in words]
+    if not all(relation and relation[2] != "0" for relations in found for relation in relations):
+        raise Inexpressible(f"the condition {condition!r} isn't in the grammar")
+    return found
+
+
+def holds(relation, number):
+    """Tells whether a relation holds of a whole number that is written without fraction or exponent."""
+    operand, modulus, sign, items = relation.groups()
+    value = number if operand in "ni" else 0
+    value = value % int(modulus) if modulus else value
+    ranges = [[int(end) for end in item.split("..")] for item in items.split(",")]
+    return any(ends[0] <= value <= ends[-1] for ends in ranges) == (sign == "=")
+
+
+def category_of(rules, number):
+    """The category of a small whole number."""
+    for category, condition in rules:
+        if any(all(holds(relation, number) for relation in relations) for relations in alternatives(condition)):
+            return category
+    return "other"
+
+
+def conditions(release, locale):
+    """The rules that can be expressed, without samples and without that of `other`."""
+    rules = []
+    for category, text in release.rules_of(locale):
+        condition = text.partition("@")[0].strip()
+        try:
+            alternatives(condition)
+            if category not in CATEGORIES:
+                raise Inexpressible("no such category")
+        except Inexpressible as refused:
+            release.reports.left_out(locale, f"plural rule {category}", refused)
+            continue
+        if category != "other":
+            rules.append((category, condition))
+    return rules
+
+
+# Entries of the tables.
+
+
+def named(locale):
+    """A locale as a BCP 47 tag: subtags with hyphens, variants in small letters."""
+    if locale == "root":
+        return "und"
+    tag = re.sub("(?<!-va)[-_]POSIX$", "-u-va-posix", locale, flags=re.I)
+    return "-".join(word.lower() if len(word) > 4 else word for word in tag.replace("_", "-").split("-"))
+
+
+def systems_of(release, locale, digits):
+    """The default numbering system, the native one and latn: those of them that are numeric."""
+    default = release.text(locale, (step("defaultNumberingSystem", {}),))
+    native = release.text(locale, (step("otherNumberingSystems", {}), step("native", {})))
+    systems = []
+    for kind, system in (("default", default), ("native", native), ("", "latn")):
+        if system in digits and system not in systems:
+            systems.append(system)
+        elif system is not None and system not in digits:
+            release.reports.left_out(locale, f"{kind} numbering system {system}", "it has no ten digits")
+    return systems
+
+
+def symbol(release, locale, system, name):
+    """A symbol of a numbering system; that of latn where the system has none (UTS 35 Part 3, Number Symbols)."""
+    text = release.text(locale, symbols_path(system) + (step(name, {}),))
+    if text is None:
+        text = release.text(locale, symbols_path("latn") + (step(name, {}),))
+    if text is None:
+        raise Inexpressible(f"no {name}")
+    return text
+
+
+def affixes(negative, minus, plus):
+    """What stands before and after a number with minus and with plus, by the negative subpattern (UTS 35 Part 3,
+    Explicit Plus Signs)."""
+    if negative is None:
+        return [minus, ""], [plus, ""]
+    before, _, after = around_number(negative)
+    with_minus = [literal(part, {"-": minus}) for part in (before, after)]
+    if ("special", "-") not in before + after:
+        return with_minus, [plus, ""]
+    return with_minus, [literal(part, {"-": plus}) for part in (before, after)]
+
+
+def signs_of(release, locale, system, pattern):
+    """The sizes of groups and the affixes of minus and plus, by the plain pattern."""
+    minus, plus = (symbol(release, locale, system, name) for name in ("minusSign", "plusSign"))
+    positive, negative = subpatterns(pattern)
+    before, number, after = around_number(positive)
+    if before or after:
+        text = "text around a plain number is left out"
+        release.reports.left_out(locale, shown(plain_path(system)), f"{pattern!r}: {text}")
+        negative = None
+    try:
+        return grouping(number or ""), *affixes(negative, minus, plus)
+    except Inexpressible as refused:
+        if negative is None:
+            raise
+        reason = f"{pattern!r}: {refused}; the sign stands before numbers"
+        release.reports.left_out(locale, shown(plain_path(system)), reason)
+        return grouping(number or ""), *affixes(None, minus, plus)
+
+
+def symbols_entry(release, locale, system):
+    """The symbols of a numbering system, without `locale` and `system`."""
+    pattern = release.text(locale, plain_path(system)) or release.text(locale, plain_path("latn"))
+    if pattern is None:
+        raise Inexpressible("no plain pattern")
+    sizes, minus, plus = signs_of(release, locale, system, pattern)
+    least = release.text(locale, (step("minimumGroupingDigits", {}),)) or "1"
+    decimal, group = (symbol(release, locale, system, name) for name in ("decimal", "group"))
+    if not re.fullmatch("[a-z0-9]{3,8}", system):
+        raise Inexpressible("its name isn't 3 to 8 small letters and digits")
+    if sum(len(text.encode()) for text in (*minus, *plus, decimal, group, system)) > SYMBOLS_BYTES:
+        raise Inexpressible(f"its symbols are more than {SYMBOLS_BYTES} bytes")
+    if max(*sizes, int(least)) > 255:
+        raise Inexpressible("a group of more than 255 digits")
+    texts = {"minus": minus, "plus": plus, "decimal": decimal, "group": group, "numsys": system}
+    return {**texts, "sizes": [*sizes, int(least)]}
+
+
+class CompactReader:
+    """Reads the compact patterns of a locale in one numbering system and style."""
+
+    def __init__(self, release, locale, system, style, rules):
+        self.release = release
+        self.locale = locale
+        self.system = system
+        self.style = style
+        self.rules = rules
+
+    def left_out(self, power, count, reason):
+        """Tells what isn't in the tables."""
+        key = f"decimalFormats[{self.system}]/{self.style}/1{'0' * power}" + (f"-{count}" if count else "")
+        self.release.reports.left_out(self.locale, key, reason)
+
+    def pattern(self, power, *counts):
+        """The pattern that is found with one of the counts, and the count that it was found with."""
+        path = compact_path(self.system, self.style, "1" + "0" * power, counts[0])
+        found, pattern = self.release.find(self.locale, path, counted(*counts))
+        return (dict(found[-1][1:]).get("count") if found else None), pattern
+
+    def patterns(self, power):
+        """The patterns of a type by their names in tables, `other` first; those that aren't found by another name."""
+        found = {"other": self.pattern(power, "other")[1]}
+        for category, _ in self.rules:
+            count, pattern = self.pattern(power, category, "other")
+            if count == category:
+                found[category] = pattern
+        for number, name in EXPLICIT.items():
+            count, pattern = self.pattern(power, number, category_of(self.rules, int(number)), "other")
+            if count == number:
+                found[name] = pattern
+        return {name: pattern for name, pattern in found.items() if pattern is not None}
+
+    def read(self, power, count, pattern):
+        """A pattern as its exponent, None where it has no zeros, and its text; None where it can't be expressed."""
+        try:
+            positive, negative = subpatterns(pattern)
+            zeros, text = compact_text(positive)
+            if zeros > power + 1:
+                raise Inexpressible(f"{zeros} zeros are more than the digits of the type")
+        except Inexpressible as refused:
+            self.left_out(power, count, f"{pattern!r}: {refused}")
+            return None
+        if negative is not None:
+            self.left_out(power, count, f"{pattern!r}: a negative subpattern; the sign stands before the positive one")
+        # `0` alone: such numbers aren't shortened
+        return (0 if text == PLACE else power + 1 - zeros) if zeros else None, text
+
+    def elements(self, power):
+        """The exponent and the elements of a type, or None."""
+        read = {name: self.read(power, name, pattern) for name, pattern in self.patterns(power).items()}
+        if read.get("other") is None:
+            return None
+        exponents = [pair[0] for pair in read.values() if pair and pair[0] is not None]
+        if not exponents:
+            self.left_out(power, "", "no pattern has a zero")
+            return None
+        elements = {}
+        for name, pair in read.items():
+            if pair and pair[0] not in (None, exponents[0]):
+                self.left_out(power, name, f"{pair[1]!r} counts by another power of ten than the type's first pattern")
+            elif pair:
+                elements[name] = pair[1]
+        return (exponents[0], without_repeats(elements, self.rules)) if "other" in elements else None
+
+    def table(self):
+        """The list of types that say something new, each with its exponent and elements."""
+        kept = []
+        for power in self.release.powers(self.locale):
+            exponent, elements = self.elements(power) or (None, None)
+            if elements is None or not kept and (exponent, elements) == (0, {"other": PLACE}):
+                continue
+            before = kept[-1] if kept else [0, 0, None]
+            reason = unfit(power, exponent, before, elements)
+            if reason:
+                self.left_out(power, "", reason)
+            elif [exponent, elements] != [before[1], without_explicit_one(before[2])]:
+                kept.append([power, exponent, elements])
+        if sum(len(text.encode()) for _, _, elements in kept for text in elements.values()) > PATTERNS_BYTES:
+            raise Inexpressible(f"its patterns are more than {PATTERNS_BYTES} bytes")
+        return kept
+
+
+def without_repeats(elements, rules):
+    """Elements without those that mean what stands below them: a category's like `other`, an explicit one's like that
+    of its category."""
+    other = elements["other"]
+    kept = {name: text for name, text in elements.items() if name not in CATEGORIES or text != other}
+    kept["other"] = other
+    for number, name in EXPLICIT.items():
+        if kept.get(name) == kept.get(category_of(rules, int(number)), other):
+            kept.pop(name, None)
+    order = (*EXPLICIT.values(), *CATEGORIES)
+    return {name: kept[name] for name in order if name in kept}
+
+
+def without_explicit_one(elements):
+    """Elements without the pattern for exactly one."""
+    return {name: text for name, text in (elements or {}).items() if name != "explicit_one"}
+
+
+def unfit(power, exponent, before, elements):
+    """Why a type can't stand in a compact table after the one before it, or None."""
+    if exponent < before[1]:
+        return "its exponent is below that of the type before it"
+    if power - exponent >= MOST_ZEROS:
+        return f"more than {MOST_ZEROS} zeros"
+    if exponent != before[1] and elements == without_explicit_one(before[2]):
+        return "the patterns of the type before it, with another exponent"
+    return None
+
+
+class TablesMaker:
+    """Gathers the entries of the tables, locale by locale."""
+
+    def __init__(self, release):
+        self.release = release
+        self.digits = release.digits()
+        self.tables = {"symbols": [], "digits": self.digits_list(), "rules": [], "short": [], "long": []}
+
+    def digits_list(self):
+        """The numeric systems whose names and digits the format takes."""
+        pairs = []
+        for system, digits in sorted(self.digits.items()):
+            if re.fullmatch("[a-z0-9]{3,8}", system) and len(digits) == 10:
+                pairs.append([system, digits])
+            else:
+                self.release.reports.left_out("root", f"numbering system {system}", "no name or digits of tables")
+        return pairs
+
+    def add(self, locale):
+        """Adds all entries of a locale."""
+        rules = conditions(self.release, locale)
+        systems = systems_of(self.release, locale, self.digits)
+        self.add_symbols(locale, systems)
+        self.tables["rules"].append({"locale": named(locale), "rules": rules})
+        for style in STYLES:
+            self.add_compact(locale, systems, style, rules)
+
+    def try_entry(self, locale, key, make):
+        """What `make` answers, or None with a line where it can't be expressed."""
+        try:
+            return make()
+        except Inexpressible as refused:
+            self.release.reports.left_out(locale, key, refused)
+            return None
+
+    def add_symbols(self, locale, systems):
+        """Adds the symbols of the default system, and those of the others under their names."""
+        for system in systems:
+            entry = self.try_entry(locale, f"symbols[{system}]", lambda: symbols_entry(self.release, locale, system))
+            if entry:
+                which = {} if system == systems[0] else {"system": system}
+                self.tables["symbols"].append({"locale": named(locale), **which, **entry})
+
+    def add_compact(self, locale, systems, style, rules):
+        """Adds the compact patterns of the default system, and of the others where they differ from these."""
+        default = None
+        for system in systems:
+            reader = CompactReader(self.release, locale, system, style, rules)
+            patterns = self.try_entry(locale, f"decimalFormats[{system}]/{style}", reader.table)
+            if patterns is not None and patterns != default:
+                which = {} if system == systems[0] else {"system": system}
+                self.tables[style].append({"locale": named(locale), **which, "patterns": patterns})
+            if system == systems[0]:
+                default = patterns
+
+
+# The program.
+
+
+def chosen(release, names):
+    """The locales to make tables of: those that are named, or all modern ones."""
+    if not names:
+        return release.modern()
+    known = {named(locale).lower(): locale for locale in release.locales}
+    wanted = {name: known.get(named(name).lower()) for name in names}
+    for name, locale in wanted.items():
+        if locale is None:
+            raise UnknownLocale(f"{name}: the release has no such locale")
+    return sorted(set(wanted.values()))
+
+
+def make_tables(release, names):
+    """The tables of the named locales, or of all modern ones."""
+    locales = chosen(release, names)
+    maker = TablesMaker(release)
+    for index, locale in enumerate(locales):
+        release.reports.progress(index, len(locales), locale)
+        maker.add(locale)
+    release.reports.clear()
+    return {"cldr": release.version() or "unknown", **maker.tables}
+
+
+def written(tables):
+    """The tables as JSON, one entry a line."""
+    parts = []
+    for key, value in tables.items():
+        if isinstance(value, list):
+            entries = ",\n".join(json.dumps(entry, ensure_ascii=False, separators=(",", ":")) for entry in value)
+            parts.append(f"{json.dumps(key)}:[\n{entries}\n]")
+        else:
+            parts.append(f"{json.dumps(key)}:{json.dumps(value)}")
+    return "{" + ",\n".join(parts) + "}\n"
+
+
+def read_words(words):
+    """The words of the command."""
+    parser = argparse.ArgumentParser(description=__doc__, formatter_class=argparse.RawDescriptionHelpFormatter)
+    parser.add_argument("release", metavar="RELEASE", help="core.zip, or the folder of a release")
+    parser.add_argument("locales", metavar="LOCALE", nargs="*", help="as de or pt-AO; none: all modern locales")
+    parser.add_argument("-o", "--output", metavar="FILE", help="where the tables go; standard output if left out")
+    return parser.parse_args(words)
+
+
+def main(words):
+    """Makes tables, and answers the exit status."""
+    options = read_words(words)
+    reports = Reports(sys.stderr)
+    try:
+        text = written(make_tables(open_release(options.release, reports), options.locales))
+    except UnknownLocale as refused:
+        print(f"error: {refused}", file=sys.stderr)
+        return 4
+    except UNREADABLE as refused:
+        print(f"error: not a CLDR release: {refused}", file=sys.stderr)
+        return 3
+    try:
+        with open(options.output, "wb") if options.output else open(1, "wb", closefd=False) as file:
+            file.write(text.encode())
+    except OSError as refused:
+        print(f"error: no output: {refused}", file=sys.stderr)
+        return 1
+    return 0
+
+
+if __name__ == "__main__":
+    sys.exit(main(sys.argv[1:]))
