@@ -9,7 +9,7 @@ use Rattle.icu_decimal_data.specs.CompactTable.{TableEntry, exponent_of}
 use Rattle.icu_decimal.specs.CompactFormat.{CompactFormat, FormattedCompact, IsCompactFormat, filled_events, significand_of, compact_shown, signed_compact_shown}
 use Rattle.icu_decimal.specs.Decimal.{signed_events}
 use Rattle.icu_decimal.specs.Shown.{IsCompactShown, Shown, ShowsCompact}
-use Rattle.icu_decimal.specs.Signed.{Signed, affixed_events}
+use Rattle.icu_decimal.specs.Signed.{Signed, affixes_for}
 use Rattle.icu_decimal.proofs.DisplayedOnce.{displayed_is_one}
 
 -- what an entry and a significand show
@@ -39,14 +39,13 @@ shows_compact format u r h =
 -- with a sign around it, it is what `format` writes
 pub signed_compact : (format : CompactFormat) (sign : Sign) (u : Unsigned) (r : Signed FormattedCompact) (v : FormattedCompact)
     → IsCompactFormat format None u (significand_of v) v.exponent (compact_shown v)
-    → r.value ≡ v
-    → ((es : List Event) → affixed_events r.affixes es ≡ signed_events format.decimal.symbols sign es)
+    → r ≡ record { affixes = affixes_for format.decimal.symbols sign; value = v }
     → IsCompactFormat format sign u (significand_of r.value) r.value.exponent (signed_compact_shown r)
-signed_compact format sign u r v h same affixes =
-    subst (λ (w : FormattedCompact). IsCompactFormat format sign u (significand_of w) w.exponent (affixed_events r.affixes (compact_shown w))) (sym same) (record {
+signed_compact format sign u r v h is =
+    subst (λ (w : Signed FormattedCompact). IsCompactFormat format sign u (significand_of w.value) w.value.exponent (signed_compact_shown w)) (sym is) (record {
       shown = h.shown;
       entry = h.entry;
       displayed = h.displayed;
       exponent_is = h.exponent_is;
-      events_are = affixes _ ∙ ap (signed_events format.decimal.symbols sign) h.events_are;
+      events_are = ap (signed_events format.decimal.symbols sign) h.events_are;
     })

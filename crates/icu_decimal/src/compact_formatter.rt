@@ -69,7 +69,6 @@ impl CompactDecimalFormatter {
     ///
     /// `Overflow` exactly where that number is ten to the power 32768 or more; memory is asked for after that. `Sink` is
     /// never answered.
-    #[tactic(auto, using(crate::proofs::CompactShown::signed_compact))]
     pub fn format<'l>(
         &'l self,
         alloc: Global,
