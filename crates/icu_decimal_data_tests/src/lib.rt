@@ -12,6 +12,8 @@ mod fallback;
 #[cfg(test)]
 mod lookups;
 #[cfg(test)]
+mod readable;
+#[cfg(test)]
 mod symbols;
 #[cfg(test)]
 mod tables;

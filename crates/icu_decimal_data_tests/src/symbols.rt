@@ -70,7 +70,7 @@ fn built(
 }
 
 /// The same of English symbols.
-fn english(alloc: Global) -> Result<DecimalSymbols, SymbolsError> {
+pub(crate) fn english(alloc: Global) -> Result<DecimalSymbols, SymbolsError> {
     match DecimalSymbols::new_en_for_testing(alloc) {
         Err(SymbolsError::OutOfMemory) => DecimalSymbols::new_en_for_testing(alloc),
         answer => answer,
