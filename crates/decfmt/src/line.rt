@@ -80,10 +80,7 @@ fn push_decimal(
 fn push_answer(alloc: Global, mode: &Mode, text: &[u8], out: &mut Vec<u8>) -> Result<(), AllocError>
     ensures { OnOk result (out.new.items ≡ out.old.items ++ answer_to mode.now text.now) }
 {
-    let Ok(text) = std::str::from_utf8(text) else {
-        return out.extend_from_slice(b"error: not a decimal");
-    };
-    match Decimal::try_from_str(alloc, text) {
+    match Decimal::try_from_utf8(alloc, text) {
         Ok(decimal) => push_decimal(alloc, mode, &decimal, out),
         Err(DecimalError::Syntax) => out.extend_from_slice(b"error: not a decimal"),
         Err(DecimalError::Limit) => out.extend_from_slice(b"error: too many digits"),

@@ -24,7 +24,18 @@ impl Decimal {
         ensures syntax { IsErrOf result DecimalError.Syntax ↔ ReadsNothing text.now }
         ensures limit { IsErrOf result DecimalError.Limit ↔ ReadsPastLimits text.now }
     {
-        let (sign, numeral) = split_sign(text.as_bytes());
+        Decimal::try_from_utf8(alloc, text.as_bytes())
+    }
+
+    /// Reads the text form out of bytes, as `try_from_str` does (ICU4X `Decimal::try_from_utf8`). Bytes that are no UTF-8
+    /// spell no decimal: `Syntax`.
+    pub fn try_from_utf8(alloc: Global, text: &[u8]) -> Result<Decimal, DecimalError>
+        ensures reads { IfOk result (λ d. Reads text.now d.sign d.absolute) }
+        ensures valid { IfOk result (λ d. IsUnsigned d.absolute) }
+        ensures syntax { IsErrOf result DecimalError.Syntax ↔ ReadsNothing text.now }
+        ensures limit { IsErrOf result DecimalError.Limit ↔ ReadsPastLimits text.now }
+    {
+        let (sign, numeral) = split_sign(text);
         let Some((before, after)) = split_numeral(numeral) else {
             return Err(DecimalError::Syntax);
         };

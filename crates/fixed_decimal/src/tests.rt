@@ -82,6 +82,35 @@ fn reads_each_written_digit(rt: HostRuntime) {
     }
 }
 
+/// Reads bytes, once more where memory was refused.
+fn read_bytes(alloc: Global, text: &[u8]) -> Result<Decimal, DecimalError> {
+    match Decimal::try_from_utf8(alloc, text) {
+        Err(DecimalError::OutOfMemory) => Decimal::try_from_utf8(alloc, text),
+        answer => answer,
+    }
+}
+
+#[test]
+fn reads_bytes_as_their_text(rt: HostRuntime) {
+    for (text, sign, digits) in TEXTS {
+        assert!(rt;
+            is_signed(&read_bytes(rt.alloc(), text.as_bytes()), sign, digits),
+            "{text}"
+        );
+    }
+}
+
+/// Bytes that are no UTF-8: alone, after a digit, and in a cut character.
+const NO_TEXTS: [&[u8]; 3] = [b"\xff", b"1\x80", b"1\xef\xbc"];
+
+#[test]
+fn refuses_bytes_that_are_no_text(rt: HostRuntime) {
+    for text in NO_TEXTS {
+        let refusal = read_bytes(rt.alloc(), text).err();
+        assert!(rt; refusal == Some(DecimalError::Syntax), "{text:?}");
+    }
+}
+
 /// Why a text is refused, if it is.
 fn refusal(alloc: Global, text: &str) -> Option<DecimalError> {
     read(alloc, text).err()
