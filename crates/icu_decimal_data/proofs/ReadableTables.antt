@@ -7,7 +7,8 @@ use Rattle.icu_base.specs.Elements.{slots}
 use Rattle.icu_base.specs.Patterns.{PatternText, place_alone}
 use Rattle.icu_decimal_data.specs.CompactTable.{PatternElements, TableEntry}
 use Rattle.icu_decimal_data.specs.Readable.{Surroundings, sides, HasNoDigit, HasPattern, IsFreeOfDigits, IsReadableTable}
-use Rattle.icu_decimal_data.specs.ReadableTable.{HasPlaceAndNoDigit, HoldsOfEntry, HoldsThroughout, IsToldFrom, IsToldThroughout, TellsNumbers}
+use Rattle.icu_decimal_data.specs.declared.readable_table.Number.{Number}
+use Rattle.icu_decimal_data.specs.ReadableTable.{surroundings_of, AreTold, HasPlaceAndNoDigit, HoldsOfEntry, HoldsThroughout, IsToldFrom, IsToldThroughout, TellsNumbers}
 use Rattle.icu_decimal_data.specs.Symbols.{SymbolTexts}
 
 -- a pattern with a place and no digit
@@ -124,3 +125,16 @@ told_from_of texts s m a n q b r is h = let T : Surroundings → Type 0 = λ x. 
 
 pub told_with : (texts given : SymbolTexts) (table : List TableEntry) → given ≡ texts → HoldsThroughout (TellsNumbers given table) table → HoldsThroughout (TellsNumbers texts table) table
 told_with texts given table is h = let T : SymbolTexts → Type 0 = λ x. HoldsThroughout (TellsNumbers x table) table in subst T is h
+
+-- by a number that was made with another sign
+pub told_as : (texts : SymbolTexts) (first made meant : Number) (r : Bool) → made ≡ meant
+    → (IsTrue r ↔ AreTold texts first.sign first.exponent (surroundings_of first.sides) made.sign made.exponent (surroundings_of made.sides))
+    → IsTrue r ↔ AreTold texts first.sign first.exponent (surroundings_of first.sides) meant.sign meant.exponent (surroundings_of meant.sides)
+told_as texts first made meant r is h =
+    let T : Number → Type 0 = λ x. IsTrue r ↔ AreTold texts first.sign first.exponent (surroundings_of first.sides) x.sign x.exponent (surroundings_of x.sides) in subst T is h
+
+pub told_throughout_as : (texts : SymbolTexts) (table : List TableEntry) (made meant : Number) (r : Bool) → made ≡ meant
+    → (IsTrue r ↔ IsToldThroughout texts table made.sign made.exponent (surroundings_of made.sides))
+    → IsTrue r ↔ IsToldThroughout texts table meant.sign meant.exponent (surroundings_of meant.sides)
+told_throughout_as texts table made meant r is h =
+    let T : Number → Type 0 = λ x. IsTrue r ↔ IsToldThroughout texts table x.sign x.exponent (surroundings_of x.sides) in subst T is h

@@ -89,6 +89,15 @@ struct Number<'a> {
     sides: Sides<'a>,
 }
 
+impl Number<'_> {
+    /// The same with another sign.
+    fn with_sign(self, sign: Sign) -> Self
+        ensures { result ≡ record self.entry { sign = sign } }
+    {
+        Number { sign, ..self }
+    }
+}
+
 /// Whether two numbers have the same characters around them, affixes and sides taken together.
 fn have_same_surroundings(
     texts: &DecimalSymbolStrsBuilder<'_>,
@@ -198,49 +207,17 @@ fn are_told(texts: &DecimalSymbolStrsBuilder<'_>, first: Number<'_>, second: Num
     !have_same_surroundings(texts, first, second)
 }
 
-/// Whether a number is told from those of each sign with this exponent between these sides.
-fn is_told_from(
-    texts: &DecimalSymbolStrsBuilder<'_>,
-    number: Number<'_>,
-    exponent: u8,
-    sides: Sides<'_>,
-) -> bool
-    ensures { IsTrue result ↔ IsToldFrom (texts_given texts.now) number.entry.sign number.entry.exponent (surroundings_of number.entry.sides) exponent (surroundings_of sides.entry) }
+/// Whether a number is told from those of each sign that have the second number's exponent and sides.
+fn is_told_from(texts: &DecimalSymbolStrsBuilder<'_>, first: Number<'_>, second: Number<'_>) -> bool
+    ensures { IsTrue result ↔ IsToldFrom (texts_given texts.now) first.entry.sign first.entry.exponent (surroundings_of first.entry.sides) second.entry.exponent (surroundings_of second.entry.sides) }
 {
-    let sign = Sign::None;
-    if !are_told(
-        texts,
-        number,
-        Number {
-            sign,
-            exponent,
-            sides,
-        },
-    ) {
+    if !are_told(texts, first, second.with_sign(Sign::None)) {
         return false;
     }
-    let sign = Sign::Negative;
-    if !are_told(
-        texts,
-        number,
-        Number {
-            sign,
-            exponent,
-            sides,
-        },
-    ) {
+    if !are_told(texts, first, second.with_sign(Sign::Negative)) {
         return false;
     }
-    let sign = Sign::Positive;
-    are_told(
-        texts,
-        number,
-        Number {
-            sign,
-            exponent,
-            sides,
-        },
-    )
+    are_told(texts, first, second.with_sign(Sign::Positive))
 }
 
 /// Tests that a number is told from all that may stand in a pattern.
@@ -258,7 +235,12 @@ impl PatternTest for ToldFrom<'_> {
     ghost holds = { λ t n q. IsToldFrom (texts_given t.texts.now) t.number.sign t.number.exponent (surroundings_of t.number.sides) n (sides q) };
 
     fn passes(&self, exponent: u8, place: Option<usize>, literal: &str) -> bool {
-        is_told_from(self.texts, self.number, exponent, sides_of(place, literal))
+        let second = Number {
+            sign: Sign::None,
+            exponent,
+            sides: sides_of(place, literal),
+        };
+        is_told_from(self.texts, self.number, second)
     }
 }
 
@@ -287,41 +269,18 @@ impl PatternTest for Told<'_> {
     ghost holds = { λ t m p. TellsNumbers (texts_given t.texts.now) t.patterns.now m p };
 
     fn passes(&self, exponent: u8, place: Option<usize>, literal: &str) -> bool {
-        let sides = sides_of(place, literal);
-        let sign = Sign::None;
-        if !is_told(
-            self.texts,
-            self.patterns,
-            Number {
-                sign,
-                exponent,
-                sides,
-            },
-        ) {
+        let number = Number {
+            sign: Sign::None,
+            exponent,
+            sides: sides_of(place, literal),
+        };
+        if !is_told(self.texts, self.patterns, number) {
             return false;
         }
-        let sign = Sign::Negative;
-        if !is_told(
-            self.texts,
-            self.patterns,
-            Number {
-                sign,
-                exponent,
-                sides,
-            },
-        ) {
+        if !is_told(self.texts, self.patterns, number.with_sign(Sign::Negative)) {
             return false;
         }
-        let sign = Sign::Positive;
-        is_told(
-            self.texts,
-            self.patterns,
-            Number {
-                sign,
-                exponent,
-                sides,
-            },
-        )
+        is_told(self.texts, self.patterns, number.with_sign(Sign::Positive))
     }
 }
 
@@ -331,7 +290,8 @@ impl CompactPatterns<SinglePlaceholder> {
     /// its exponent.
     ///
     /// Numbers without an entry count too, which stand alone; and so does each pattern of an entry, also one that the
-    /// plural rules of no language pick.
+    /// plural rules of no language pick. Each pattern is compared with each, so the time grows with the square of the
+    /// table's size; no memory is taken.
     pub fn is_readable_with(&self, symbols: &DecimalSymbols, digits: &[char; 10]) -> bool
         ensures { IsTrue result ↔ IsReadableTable symbols.now.strings digits.now self.now }
     {
