@@ -71,8 +71,8 @@ answers() {
 }
 
 digits_lines=(
-    'root: numbering system greater-ten: no name or digits of tables'
-    'root: numbering system six: no name or digits of tables'
+    "root: numbering system greater-ten: its name isn't 3 to 8 small letters and digits, or its digits aren't ten"
+    "root: numbering system six: its name isn't 3 to 8 small letters and digits, or its digits aren't ten"
 )
 draft='qaa_BB: symbols[latn]/group: a draft, unconfirmed: what is inherited stands'
 
@@ -152,10 +152,10 @@ tells "${digits_lines[@]}" \
     "qac: plural rule one: the condition 'n is 1' isn't in the grammar" \
     "qac: plural rule two: the condition 'n % 0 = 2' isn't in the grammar" \
     'qac: plural rule several: no such category' \
-    'qac: native numbering system roman: it has no ten digits' \
+    "qac: native numbering system roman: its digits aren't in tables" \
     "qac: decimalFormats[latn]/decimalFormatLength/decimalFormat/pattern: 'about #,##0.###': text around a plain number is left out" \
     'qac: decimalFormats/pattern[2000]: its type is no power of ten' \
-    "qac: decimalFormats[latn]/short/10000-many: '{0}W' counts by another power of ten than the type's first pattern" \
+    "qac: decimalFormats[latn]/short/10000-many: '0W': it counts by another power of ten than the type's first pattern" \
     'qac: decimalFormats[latn]/short/100000: its exponent is below that of the type before it' \
     'qac: decimalFormats[latn]/short/1000000: the patterns of the type before it, with another exponent' \
     'qac: decimalFormats[latn]/short/10000000000000000000000: more than 16 zeros' \
@@ -180,7 +180,7 @@ answers 'qac - long' '5000\n-5000\n' 'elfu 5\n-elfu 5\n'
 # Symbols that are too long, a negative subpattern with a currency, aliases in a circle and to another locale.
 makes circle "$release" qad
 tells "${digits_lines[@]}" \
-    'qad: default numbering system roman: it has no ten digits' \
+    "qad: default numbering system roman: its digits aren't in tables" \
     "qad: decimalFormats[beng]/decimalFormatLength/decimalFormat/pattern: '#,##0.###;¤#,##0.###': the special character ¤ within a pattern; the sign stands before numbers" \
     'qad: symbols[beng]: its symbols are more than 255 bytes' \
     "qad: decimalFormats[latn]/decimalFormatLength/decimalFormat/pattern: '#,##0.###;¤#,##0.###': the special character ¤ within a pattern; the sign stands before numbers" \
@@ -191,6 +191,33 @@ counts symbols 1
 counts short 1
 has symbols '{"locale":"qad","system":"latn","minus":["-",""],"plus":["+",""],"decimal":".","group":",","numsys":"latn","sizes":[3,3,1]}'
 has short "{\"locale\":\"qad\",\"patterns\":[[4,4,{\"other\":\"{0}W.\"}],[6,6,{\"other\":\"{0}-m'm'\"}]]}"
+
+# Sizes and texts past what tables hold; symbols and patterns that aren't there at all.
+cp -r "$release/common" "$folder/large"
+literal=$(head -c 70000 /dev/zero | tr '\0' x)
+cat >"$folder/large/main/qag.xml" <<END
+<ldml><numbers>
+    <defaultNumberingSystem>six</defaultNumberingSystem>
+    <minimumGroupingDigits>300</minimumGroupingDigits>
+    <decimalFormats numberSystem="latn"><decimalFormatLength type="short"><decimalFormat>
+        <pattern type="1000" count="other">0$literal</pattern>
+    </decimalFormat></decimalFormatLength></decimalFormats>
+</numbers></ldml>
+END
+makes large "$folder/large" qag
+tells "${digits_lines[@]}" \
+    "qag: default numbering system six: its digits aren't in tables" \
+    'qag: symbols[latn]: a group of more than 255 digits' \
+    'qag: decimalFormats[latn]/short: its patterns are more than 65535 bytes' \
+    'qag: decimalFormats[latn]/long: its patterns are more than 65535 bytes'
+counts symbols 0
+counts rules 1
+counts short 0
+counts long 0
+makes missing "$release/json" qad qae
+tells 'qad: symbols[latn]: no minusSign' 'qae: symbols[latn]: no plain pattern'
+counts symbols 0
+counts long 2
 
 # The other forms of a release: the folder common itself, an archive, JSON packages.
 python3 -m zipfile -c "$folder/core.zip" "$release/common"

@@ -349,7 +349,8 @@ class JsonRelease(Release):
     @staticmethod
     def add_patterns(tree, system, formats):
         """Adds the plain and the compact patterns of a numbering system."""
-        tree.values[plain_path(system)] = formats["standard"]
+        if "standard" in formats:
+            tree.values[plain_path(system)] = formats["standard"]
         for style in STYLES:
             for key, text in formats.get(style, {}).get("decimalFormat", {}).items():
                 power, _, count = key.partition("-count-")
@@ -573,7 +574,7 @@ def named(locale):
 
 
 def systems_of(release, locale, digits):
-    """The default numbering system, the native one and latn: those of them that are numeric."""
+    """The default numbering system, the native one and latn: those of them whose digits are in tables."""
     default = release.text(locale, (step("defaultNumberingSystem", {}),))
     native = release.text(locale, (step("otherNumberingSystems", {}), step("native", {})))
     systems = []
@@ -581,7 +582,7 @@ def systems_of(release, locale, digits):
         if system in digits and system not in systems:
             systems.append(system)
         elif system is not None and system not in digits:
-            release.reports.left_out(locale, f"{kind} numbering system {system}", "it has no ten digits")
+            release.reports.left_out(locale, f"{kind} numbering system {system}", "its digits aren't in tables")
     return systems
 
 
@@ -634,8 +635,6 @@ def symbols_entry(release, locale, system):
     sizes, minus, plus = signs_of(release, locale, system, pattern)
     least = release.text(locale, (step("minimumGroupingDigits", {}),)) or "1"
     decimal, group = (symbol(release, locale, system, name) for name in ("decimal", "group"))
-    if not re.fullmatch("[a-z0-9]{3,8}", system):
-        raise Inexpressible("its name isn't 3 to 8 small letters and digits")
     if sum(len(text.encode()) for text in (*minus, *plus, decimal, group, system)) > SYMBOLS_BYTES:
         raise Inexpressible(f"its symbols are more than {SYMBOLS_BYTES} bytes")
     if max(*sizes, int(least)) > 255:
@@ -695,7 +694,8 @@ class CompactReader:
 
     def elements(self, power):
         """The exponent and the elements of a type, or None."""
-        read = {name: self.read(power, name, pattern) for name, pattern in self.patterns(power).items()}
+        patterns = self.patterns(power)
+        read = {name: self.read(power, name, pattern) for name, pattern in patterns.items()}
         if read.get("other") is None:
             return None
         exponents = [pair[0] for pair in read.values() if pair and pair[0] is not None]
@@ -705,7 +705,8 @@ class CompactReader:
         elements = {}
         for name, pair in read.items():
             if pair and pair[0] not in (None, exponents[0]):
-                self.left_out(power, name, f"{pair[1]!r} counts by another power of ten than the type's first pattern")
+                reason = "it counts by another power of ten than the type's first pattern"
+                self.left_out(power, name, f"{patterns[name]!r}: {reason}")
             elif pair:
                 elements[name] = pair[1]
         return (exponents[0], without_repeats(elements, self.rules)) if "other" in elements else None
@@ -762,18 +763,20 @@ class TablesMaker:
 
     def __init__(self, release):
         self.release = release
-        self.digits = release.digits()
-        self.tables = {"symbols": [], "digits": self.digits_list(), "rules": [], "short": [], "long": []}
+        self.digits = self.usable_digits()
+        digits = [[system, digits] for system, digits in sorted(self.digits.items())]
+        self.tables = {"symbols": [], "digits": digits, "rules": [], "short": [], "long": []}
 
-    def digits_list(self):
-        """The numeric systems whose names and digits the format takes."""
-        pairs = []
-        for system, digits in sorted(self.digits.items()):
+    def usable_digits(self):
+        """The digits of the numeric systems whose names and digits the format takes."""
+        usable = {}
+        for system, digits in sorted(self.release.digits().items()):
             if re.fullmatch("[a-z0-9]{3,8}", system) and len(digits) == 10:
-                pairs.append([system, digits])
+                usable[system] = digits
             else:
-                self.release.reports.left_out("root", f"numbering system {system}", "no name or digits of tables")
-        return pairs
+                reason = "its name isn't 3 to 8 small letters and digits, or its digits aren't ten"
+                self.release.reports.left_out("root", f"numbering system {system}", reason)
+        return usable
 
     def add(self, locale):
         """Adds all entries of a locale."""
