@@ -79,11 +79,11 @@ draft='qaa_BB: symbols[latn]/group: a draft, unconfirmed: what is inherited stan
 # All modern locales: each locale's own, its parents', aliases, quotes and zeros.
 makes modern "$release"
 tells "${digits_lines[@]}" "$draft"
-counts symbols 13
+counts symbols 15
 counts digits 3
-counts rules 6
-counts short 7
-counts long 6
+counts rules 7
+counts short 8
+counts long 7
 judge 'the version' grep -qF '"cldr":"0.1"' "$folder/modern.json"
 has digits '["arab","٠١٢٣٤٥٦٧٨٩"]' '["beng","০১২৩৪৫৬৭৮৯"]' '["latn","0123456789"]'
 # own symbols, two sizes of groups, plus from root; another numbering system by an alias to latn
@@ -91,23 +91,25 @@ has symbols \
     '{"locale":"qaa","minus":["−",""],"plus":["+",""],"decimal":",","group":".","numsys":"latn","sizes":[3,2,2]}' \
     '{"locale":"qaa","system":"beng","minus":["−",""],"plus":["+",""],"decimal":",","group":".","numsys":"beng","sizes":[3,2,2]}'
 # the parent where a subtag is taken off; what is marked as inherited is
-has symbols '{"locale":"qaa-001","minus":["−",""],"plus":["+",""],"decimal":",","group":"’","numsys":"latn","sizes":[3,2,1]}'
+has symbols '{"locale":"qaa-001","minus":["−",""],"plus":["+",""],"decimal":",","group":"˙","numsys":"latn","sizes":[3,2,1]}'
 # the parent that is named, not that of another component; a draft that counts and one that doesn't; no groups
-has symbols '{"locale":"qaa-BB","minus":["−",""],"plus":["＋",""],"decimal":"·","group":"’","numsys":"latn","sizes":[0,0,1]}'
+has symbols '{"locale":"qaa-BB","minus":["−",""],"plus":["＋",""],"decimal":"·","group":"˙","numsys":"latn","sizes":[0,0,1]}'
 # nothing of its own; the likely script
 has symbols \
-    '{"locale":"qaa-CC","minus":["−",""],"plus":["+",""],"decimal":",","group":"’","numsys":"latn","sizes":[3,2,1]}' \
+    '{"locale":"qaa-CC","minus":["−",""],"plus":["+",""],"decimal":",","group":"˙","numsys":"latn","sizes":[3,2,1]}' \
     '{"locale":"qaa-Latn","minus":["−",""],"plus":["+",""],"decimal":",","group":".","numsys":"latn","sizes":[3,2,2]}'
 # a default system by aliases that begin anew at the locale; a negative subpattern around plain numbers
 has symbols \
     $'{"locale":"qab","minus":["(","-)"],"plus":["(","+)"],"decimal":".","group":"\u00a0","numsys":"beng","sizes":[3,3,1]}' \
     $'{"locale":"qab","system":"arab","minus":["(","\u061c-)"],"plus":["(","\u061c+)"],"decimal":"٫","group":"٬","numsys":"arab","sizes":[3,3,1]}' \
     $'{"locale":"qab","system":"latn","minus":["(","-)"],"plus":["(","+)"],"decimal":".","group":"\u00a0","numsys":"latn","sizes":[3,3,1]}'
-# plural rules: the locale's own, or those of what is left without subtags, and cardinal ones alone
+# plural rules: the locale's own, those of a parent that is named for them, else those of what is left without subtags;
+# cardinal ones alone
 has rules \
     '{"locale":"qaa","rules":[["one","i = 1 and v = 0"]]}' \
     '{"locale":"qaa-001","rules":[["one","i = 1 and v = 0"]]}' \
     '{"locale":"qaa-CC","rules":[["two","n = 2"]]}' \
+    '{"locale":"qaa-DD","rules":[["one","i = 0,1"],["few","n % 10 = 2..4 and n % 100 != 12..14 or f % 10 = 2..4"]]}' \
     '{"locale":"qab","rules":[["one","i = 0,1"],["few","n % 10 = 2..4 and n % 100 != 12..14 or f % 10 = 2..4"]]}'
 # `0` alone shortens nothing; quoted points and signs, quotes in quotes; repeated types
 has short "{\"locale\":\"qaa\",\"patterns\":[[4,4,{\"other\":\"{0}W.\"}],[6,6,{\"other\":\"{0}-m'm'\"}]]}"
