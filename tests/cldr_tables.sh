@@ -71,19 +71,19 @@ answers() {
 }
 
 digits_lines=(
-    'root: numbering system greater-ten: no name or digits of tables'
-    'root: numbering system six: no name or digits of tables'
+    "root: numbering system greater-ten: its name isn't 3 to 8 small letters and digits, or its digits aren't ten"
+    "root: numbering system six: its name isn't 3 to 8 small letters and digits, or its digits aren't ten"
 )
 draft='qaa_BB: symbols[latn]/group: a draft, unconfirmed: what is inherited stands'
 
 # All modern locales: each locale's own, its parents', aliases, quotes and zeros.
 makes modern "$release"
 tells "${digits_lines[@]}" "$draft"
-counts symbols 13
+counts symbols 15
 counts digits 3
-counts rules 6
-counts short 7
-counts long 6
+counts rules 7
+counts short 8
+counts long 7
 judge 'the version' grep -qF '"cldr":"0.1"' "$folder/modern.json"
 has digits '["arab","٠١٢٣٤٥٦٧٨٩"]' '["beng","০১২৩৪৫৬৭৮৯"]' '["latn","0123456789"]'
 # own symbols, two sizes of groups, plus from root; another numbering system by an alias to latn
@@ -91,23 +91,25 @@ has symbols \
     '{"locale":"qaa","minus":["−",""],"plus":["+",""],"decimal":",","group":".","numsys":"latn","sizes":[3,2,2]}' \
     '{"locale":"qaa","system":"beng","minus":["−",""],"plus":["+",""],"decimal":",","group":".","numsys":"beng","sizes":[3,2,2]}'
 # the parent where a subtag is taken off; what is marked as inherited is
-has symbols '{"locale":"qaa-001","minus":["−",""],"plus":["+",""],"decimal":",","group":"’","numsys":"latn","sizes":[3,2,1]}'
+has symbols '{"locale":"qaa-001","minus":["−",""],"plus":["+",""],"decimal":",","group":"˙","numsys":"latn","sizes":[3,2,1]}'
 # the parent that is named, not that of another component; a draft that counts and one that doesn't; no groups
-has symbols '{"locale":"qaa-BB","minus":["−",""],"plus":["＋",""],"decimal":"·","group":"’","numsys":"latn","sizes":[0,0,1]}'
+has symbols '{"locale":"qaa-BB","minus":["−",""],"plus":["＋",""],"decimal":"·","group":"˙","numsys":"latn","sizes":[0,0,1]}'
 # nothing of its own; the likely script
 has symbols \
-    '{"locale":"qaa-CC","minus":["−",""],"plus":["+",""],"decimal":",","group":"’","numsys":"latn","sizes":[3,2,1]}' \
+    '{"locale":"qaa-CC","minus":["−",""],"plus":["+",""],"decimal":",","group":"˙","numsys":"latn","sizes":[3,2,1]}' \
     '{"locale":"qaa-Latn","minus":["−",""],"plus":["+",""],"decimal":",","group":".","numsys":"latn","sizes":[3,2,2]}'
 # a default system by aliases that begin anew at the locale; a negative subpattern around plain numbers
 has symbols \
     $'{"locale":"qab","minus":["(","-)"],"plus":["(","+)"],"decimal":".","group":"\u00a0","numsys":"beng","sizes":[3,3,1]}' \
     $'{"locale":"qab","system":"arab","minus":["(","\u061c-)"],"plus":["(","\u061c+)"],"decimal":"٫","group":"٬","numsys":"arab","sizes":[3,3,1]}' \
     $'{"locale":"qab","system":"latn","minus":["(","-)"],"plus":["(","+)"],"decimal":".","group":"\u00a0","numsys":"latn","sizes":[3,3,1]}'
-# plural rules: the locale's own, or those of what is left without subtags, and cardinal ones alone
+# plural rules: the locale's own, those of a parent that is named for them, else those of what is left without subtags;
+# cardinal ones alone
 has rules \
     '{"locale":"qaa","rules":[["one","i = 1 and v = 0"]]}' \
     '{"locale":"qaa-001","rules":[["one","i = 1 and v = 0"]]}' \
     '{"locale":"qaa-CC","rules":[["two","n = 2"]]}' \
+    '{"locale":"qaa-DD","rules":[["one","i = 0,1"],["few","n % 10 = 2..4 and n % 100 != 12..14 or f % 10 = 2..4"]]}' \
     '{"locale":"qab","rules":[["one","i = 0,1"],["few","n % 10 = 2..4 and n % 100 != 12..14 or f % 10 = 2..4"]]}'
 # `0` alone shortens nothing; quoted points and signs, quotes in quotes; repeated types
 has short "{\"locale\":\"qaa\",\"patterns\":[[4,4,{\"other\":\"{0}W.\"}],[6,6,{\"other\":\"{0}-m'm'\"}]]}"
@@ -152,10 +154,10 @@ tells "${digits_lines[@]}" \
     "qac: plural rule one: the condition 'n is 1' isn't in the grammar" \
     "qac: plural rule two: the condition 'n % 0 = 2' isn't in the grammar" \
     'qac: plural rule several: no such category' \
-    'qac: native numbering system roman: it has no ten digits' \
+    "qac: native numbering system roman: its digits aren't in tables" \
     "qac: decimalFormats[latn]/decimalFormatLength/decimalFormat/pattern: 'about #,##0.###': text around a plain number is left out" \
     'qac: decimalFormats/pattern[2000]: its type is no power of ten' \
-    "qac: decimalFormats[latn]/short/10000-many: '{0}W' counts by another power of ten than the type's first pattern" \
+    "qac: decimalFormats[latn]/short/10000-many: '0W': it counts by another power of ten than the type's first pattern" \
     'qac: decimalFormats[latn]/short/100000: its exponent is below that of the type before it' \
     'qac: decimalFormats[latn]/short/1000000: the patterns of the type before it, with another exponent' \
     'qac: decimalFormats[latn]/short/10000000000000000000000: more than 16 zeros' \
@@ -180,7 +182,7 @@ answers 'qac - long' '5000\n-5000\n' 'elfu 5\n-elfu 5\n'
 # Symbols that are too long, a negative subpattern with a currency, aliases in a circle and to another locale.
 makes circle "$release" qad
 tells "${digits_lines[@]}" \
-    'qad: default numbering system roman: it has no ten digits' \
+    "qad: default numbering system roman: its digits aren't in tables" \
     "qad: decimalFormats[beng]/decimalFormatLength/decimalFormat/pattern: '#,##0.###;¤#,##0.###': the special character ¤ within a pattern; the sign stands before numbers" \
     'qad: symbols[beng]: its symbols are more than 255 bytes' \
     "qad: decimalFormats[latn]/decimalFormatLength/decimalFormat/pattern: '#,##0.###;¤#,##0.###': the special character ¤ within a pattern; the sign stands before numbers" \
@@ -191,6 +193,33 @@ counts symbols 1
 counts short 1
 has symbols '{"locale":"qad","system":"latn","minus":["-",""],"plus":["+",""],"decimal":".","group":",","numsys":"latn","sizes":[3,3,1]}'
 has short "{\"locale\":\"qad\",\"patterns\":[[4,4,{\"other\":\"{0}W.\"}],[6,6,{\"other\":\"{0}-m'm'\"}]]}"
+
+# Sizes and texts past what tables hold; symbols and patterns that aren't there at all.
+cp -r "$release/common" "$folder/large"
+literal=$(head -c 70000 /dev/zero | tr '\0' x)
+cat >"$folder/large/main/qag.xml" <<END
+<ldml><numbers>
+    <defaultNumberingSystem>six</defaultNumberingSystem>
+    <minimumGroupingDigits>300</minimumGroupingDigits>
+    <decimalFormats numberSystem="latn"><decimalFormatLength type="short"><decimalFormat>
+        <pattern type="1000" count="other">0$literal</pattern>
+    </decimalFormat></decimalFormatLength></decimalFormats>
+</numbers></ldml>
+END
+makes large "$folder/large" qag
+tells "${digits_lines[@]}" \
+    "qag: default numbering system six: its digits aren't in tables" \
+    'qag: symbols[latn]: a group of more than 255 digits' \
+    'qag: decimalFormats[latn]/short: its patterns are more than 65535 bytes' \
+    'qag: decimalFormats[latn]/long: its patterns are more than 65535 bytes'
+counts symbols 0
+counts rules 1
+counts short 0
+counts long 0
+makes missing "$release/json" qad qae
+tells 'qad: symbols[latn]: no minusSign' 'qae: symbols[latn]: no plain pattern'
+counts symbols 0
+counts long 2
 
 # The other forms of a release: the folder common itself, an archive, JSON packages.
 python3 -m zipfile -c "$folder/core.zip" "$release/common"

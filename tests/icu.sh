@@ -1,8 +1,9 @@
 #!/bin/bash
 # Compares the built program with ICU over all modern locales of the CLDR release of ICU's own version, where both are
 # installed; else it says so, and counts as skipped. It isn't part of the gate.
-# usage: tests/icu.sh [RELEASE [PROGRAM]], by default the release that Debian's unicode-cldr-core installs. PEER, if set, is
-# a command that runs tests/icu_peer.cpp, compiled; else it is compiled here, by ICU's headers (Debian's libicu-dev).
+# usage: tests/icu.sh [RELEASE [PROGRAM [LOCALE..]]], by default the release that Debian's unicode-cldr-core installs,
+# and all modern locales. PEER, if set, is a command that runs tests/icu_peer.cpp, compiled; else it is compiled here,
+# by ICU's headers (Debian's libicu-dev).
 release=${1:-/usr/share/unicode/cldr}
 here=$(dirname "$0")
 program=${2:-$here/../crates/decfmt/out/decfmt}
@@ -22,4 +23,4 @@ if [ -z "$PEER" ]; then
     "${CXX:-g++}" -O2 "$here/icu_peer.cpp" -o "$PEER" $(pkg-config --cflags --libs icu-i18n icu-uc) ||
         skip "$here/icu_peer.cpp doesn't compile"
 fi
-python3 "$here/icu_compare.py" "$PEER" "$release" "$program"
+python3 "$here/icu_compare.py" "$PEER" "$release" "$program" "${@:3}"

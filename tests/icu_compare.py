@@ -5,7 +5,8 @@ docs/TESTING.md. Differences of a known kind are counted by its name; any other 
 A kind isn't told by its looks. Each has a reason, which changes the tables, the rules or the number in a known way;
 decfmt then has to write just what ICU wrote.
 
-usage: tests/icu_compare.py PEER RELEASE PROGRAM, where PEER runs tests/icu_peer.cpp
+usage: tests/icu_compare.py PEER RELEASE PROGRAM [LOCALE..], where PEER runs tests/icu_peer.cpp; locales instead of all
+modern ones
 """
 import collections
 import copy
@@ -26,14 +27,21 @@ import cldr_to_tables as cldr  # noqa: E402
 
 STYLES = ("plain", "short", "long")
 SINGLE = (
-    "0 -0 0.0 0.00 -0.0 +0 +5 +1234.5 1.0 1.00 -1.0 2.0 0.1 -0.1 0.5 0.05 0.000123 0.00999 0.0095 0.995 0.9949 0.25 0.35 "
-    "1250 1350 1450000 1650 1750 9949 9950 99949 99950 999499 999499.99 999500 999500.00 -999999 +1000 +2000000"
+    "0 -0 0.0 0.00 -0.0 +0 +5 +1234.5 1.0 1.00 -1.0 2.0 0.1 -0.1 0.5 0.05 0.000123 0.00999 0.0095 0.995 0.9949 0.25 "
+    "0.35 1250 1350 1450000 1650 1750 9949 9950 99949 99950 999499 999499.99 999500 999500.00 -999999 +1000 +2000000"
 )
 SCALED = "1 -1 1.1 1.5 2 -2.5 3 4.5 5 7 8.8 9.95 9.949 11 12 13 15 19 21 22.2 25 101 -111 999.5"
 POWERS = range(16)
 HUGE = (18, 20, 21, 25, 30, 40)
 # the digits of a whole number that a double always holds
 DOUBLE_DIGITS = 15
+
+EXPLICIT_ONE = "exactly one: ICU compares the number with its sign, so that -1000 isn't exactly one thousand"
+SIGN_WITHIN = "a negative subpattern or a sign in a compact pattern, which tables can't express"
+LONG_TYPES = "long patterns of some types alone: ICU doesn't take the other types from the short style"
+PARENTS_FIRST = "a child's pattern for other numbers: ICU takes its parent's for the category first"
+OPERANDS = "plural categories of significands of more than 15 digits: ICU takes n as a double, and i by 18 digits"
+OTHER = "any other"
 
 Job = collections.namedtuple("Job", "locale system style")
 Difference = collections.namedtuple("Difference", "job number ours theirs")
@@ -100,19 +108,34 @@ def entry_of(entries, system):
     return (named or [entry for entry in entries if "system" not in entry])[0]
 
 
-class WithSigns(cldr.CompactReader):
-    """Reads compact patterns with their sign within, as they are for numbers that have this sign."""
+class WithSign(cldr.CompactReader):
+    """Reads compact patterns as they are for numbers with a certain sign, or with none, each sign in its place."""
 
     sign = ""
+    is_signed = False
 
     def read(self, power, count, pattern):
-        """The negative subpattern, or what stands for one that isn't there, with the sign in the place of minus."""
+        """The subpattern for the sign; where there is no negative one, minus stands before the positive one."""
         positive, negative = cldr.subpatterns(pattern)
-        read = super().read(power, count, pattern)
-        pieces = negative or [("special", "-")] + positive
-        before, number, after = cldr.around_number(pieces)
-        place = cldr.PLACE if number else ""
-        return read and (read[0], cldr.literal(before, {"-": self.sign}) + place + cldr.literal(after, {"-": self.sign}))
+        number = cldr.around_number(positive)[1]
+        pieces = (negative or [("special", "-")] + positive) if self.is_signed else positive
+        before, _, after = cldr.around_number(pieces)
+        before, after = (cldr.literal(part, {"-": self.sign}) for part in (before, after))
+        text = before + cldr.PLACE * bool(number) + after
+        exponent = 0 if pattern == "0" else power + 1 - len(number or "")
+        return (exponent if number else None), text
+
+
+class ParentsFirst(cldr.CompactReader):
+    """Reads compact patterns with a category's own pattern in a parent before the one for other numbers in a child."""
+
+    def pattern(self, power, *counts):
+        """The first count that the locale or a parent has."""
+        for count in counts:
+            found, pattern = super().pattern(power, count)
+            if found == count:
+                return found, pattern
+        return None, None
 
 
 class Kinds:
@@ -126,10 +149,11 @@ class Kinds:
         self.names = {cldr.named(locale): locale for locale in release.locales}
         self.without_alias = self.release_without_alias()
         self.known = {
-            "exactly one: ICU compares the number with its sign, so that -1000 isn't exactly one thousand": self.explicit_one,
-            "a negative subpattern of a compact pattern, which tables can't express": self.negative_subpattern,
-            "long patterns of some types alone: ICU doesn't take the other types from the short style": self.long_types,
-            "plural categories of significands of more than 15 digits: ICU takes n as a double, and i by 18 digits": self.operands,
+            EXPLICIT_ONE: self.explicit_one,
+            SIGN_WITHIN: self.sign_within,
+            LONG_TYPES: self.long_types,
+            PARENTS_FIRST: self.parents_first,
+            OPERANDS: self.operands,
         }
 
     def kind_of(self, difference):
@@ -173,14 +197,22 @@ class Kinds:
                 elements.pop("explicit_one", None)
         return self.again(job, tables, number)
 
-    def negative_subpattern(self, difference):
-        """The number without its sign in a pattern that has the sign within, if CLDR has a negative subpattern."""
+    def sign_within(self, difference):
+        """The number without its sign, in the pattern for numbers of this sign."""
         job, number, *_ = difference
-        if job.style == "plain" or number[0] not in "+-":
+        if job.style == "plain":
             return []
         signs = entry_of(of_locale(self.tables, job.locale)["symbols"], job.system)
-        sign = signs["minus" if number[0] == "-" else "plus"][0]
-        return self.again(job, self.with_patterns(job, WithSigns, self.release, sign=sign), number[1:])
+        sign = signs["plus" if number[0] == "+" else "minus"][0]
+        tables = self.with_patterns(job, WithSign, self.release, sign=sign, is_signed=number[0] in "+-")
+        return self.again(job, tables, number.lstrip("+-"))
+
+    def parents_first(self, difference):
+        """The number in the patterns that are looked for in all parents, category by category."""
+        job, number, *_ = difference
+        if job.style == "plain":
+            return []
+        return self.again(job, self.with_patterns(job, ParentsFirst, self.release), number)
 
     def long_types(self, difference):
         """The long style with the types alone that aren't found in the short one."""
@@ -205,8 +237,9 @@ def category_by_doubles(rules, number):
     """The category of a whole number, if n is a double and i its lowest eighteen digits as a double."""
     operands = {"n": float(number), "i": float(number % 10**18)}
     for category, condition in rules:
-        if any(all(holds_of(operands, relation) for relation in relations) for relations in cldr.alternatives(condition)):
-            return category
+        for relations in cldr.alternatives(condition):
+            if all(holds_of(operands, relation) for relation in relations):
+                return category
     return "other"
 
 
@@ -245,7 +278,9 @@ def print_table(versions, jobs, lines, kinds):
     print("\n| ICU | its CLDR data | locales | numbering systems in them | styles | numbers | compared | equal |")
     print("|---" * 8 + "|")
     locales = len({job.locale for job in jobs})
-    print(f"| {versions[0]} | {versions[1]} | {locales} | {len(jobs) // 3} | 3 | {len(lines)} | {compared:,} | {equal:,} |")
+    systems = len(jobs) // len(STYLES)
+    counts = f"{locales} | {systems} | {len(STYLES)} | {len(lines)} | {compared:,} | {equal:,}"
+    print(f"| {versions[0]} | {versions[1]} | {counts} |")
     print("\n| difference | lines | locales | example |\n|---|---|---|---|")
     for name, found in kinds.items():
         example = min(map(shown, found), key=lambda text: (sum(letter > "~" for letter in text), len(text)), default="")
@@ -253,36 +288,37 @@ def print_table(versions, jobs, lines, kinds):
     print()
 
 
-def compare(formatters, release, versions):
+def compare(formatters, release, names, versions):
     """Compares all, and answers how many formatters had a difference of no known kind, of how many."""
-    tables = json.loads(cldr.written(cldr.make_tables(release, [])))
+    tables = json.loads(cldr.written(cldr.make_tables(release, names)))
     jobs = [Job(it["locale"], it.get("system", "-"), style) for it in tables["symbols"] for style in STYLES]
     lines = numbers()
     ours = formatters.decfmt_all(formatters.write("tables.json", tables), jobs, lines)
     theirs = formatters.icu_all(jobs, lines)
     kinds = Kinds(formatters, release, tables)
     counted = {name: [] for name in kinds.known}
-    unknown = counted.setdefault("any other", [])
+    unknown = counted.setdefault(OTHER, [])
     for difference in differences_of(jobs, lines, ours, theirs):
-        counted[kinds.kind_of(difference) or "any other"].append(difference)
+        counted[kinds.kind_of(difference) or OTHER].append(difference)
     for difference in unknown[:50]:
         print(f"icu: {shown(difference)}")
     print_table(versions, jobs, lines, counted)
     return len({difference.job for difference in unknown}), len(jobs)
 
 
-def main(peer, name, program):
+def main(peer, name, program, *names):
     """Compares, if release and ICU have the same data, and answers the exit status."""
     release = cldr.open_release(name, cldr.Reports(io.StringIO()))
-    versions = subprocess.run([*shlex.split(peer), "--version"], stdout=subprocess.PIPE, encoding="utf-8").stdout.split()
+    asked = [*shlex.split(peer), "--version"]
+    versions = subprocess.run(asked, stdout=subprocess.PIPE, encoding="utf-8", check=True).stdout.split()
     if not same_version(versions[1], release.version()):
         print(f"icu: skipped: ICU {versions[0]} has the data of CLDR {versions[1]}, the release is {release.version()}")
         return 0
     with tempfile.TemporaryDirectory() as folder:
-        failed, count = compare(Formatters(peer, program, folder), release, versions)
+        failed, count = compare(Formatters(peer, program, folder), release, names, versions)
     print(f"{count - failed} passed, {failed} failed")
     return 1 if failed else 0
 
 
 if __name__ == "__main__":
-    sys.exit(main(*sys.argv[1:4]))
+    sys.exit(main(*sys.argv[1:]))

@@ -46,7 +46,7 @@ def rule_sets(release):
 def questions(release, sets):
     """The program's lines, each with the locale and the category that is wanted: rules are those that tables have."""
     for rules, locales in sets.items():
-        conditions = "\t".join(f"{category}:{condition}" for category, condition in cldr.conditions(release, locales[0]))
+        conditions = "\t".join(map(":".join, cldr.conditions(release, locales[0])))
         for category, text in rules:
             for significand, exponent in samples(text):
                 yield f"{significand}\t{exponent}\t{conditions}", locales[0], category

@@ -24,7 +24,7 @@ EXPLICIT = {"0": "explicit_zero", "1": "explicit_one"}
 STYLES = ("short", "long")
 USED = {"defaultNumberingSystem", "otherNumberingSystems", "minimumGroupingDigits", "symbols", "decimalFormats"}
 USED_SYMBOLS = {"decimal", "group", "minusSign", "plusSign"}
-DISTINGUISHING = ("alt", "count", "numberSystem", "type")
+DISTINGUISHING = ("numberSystem", "type", "count", "alt")
 UNCERTAIN = ("unconfirmed", "provisional")
 INHERIT = "↑↑↑"
 PLACE = "{0}"
@@ -131,6 +131,7 @@ class Release:
         self.folder = folder
         self.reports = reports
         self.trees = {}
+        self.plural_parents = {}
 
     def tree(self, locale):
         """What this locale's own file says of numbers."""
@@ -176,13 +177,11 @@ class Release:
         return sorted(len(name) - 1 for name in types if re.fullmatch("10+", name))
 
     def rules_of(self, locale):
-        """The cardinal rules of the locale or of what is left when subtags are taken off its end, as pairs of a
-        category and a text with samples (UTS 35 Part 3, Language Plural Rules)."""
-        while locale not in self.cardinals:
-            if not locale or locale == "root":
-                return []
-            locale = truncated(locale)
-        return self.cardinals[locale]
+        """The cardinal rules of the locale, or of what is left when subtags are taken off its end, unless a parent is
+        named for plural rules: pairs of a category and a text with samples (UTS 35 Part 3, Language Plural Rules)."""
+        while locale not in self.cardinals and locale != "root":
+            locale = self.plural_parents.get(locale, truncated(locale))
+        return self.cardinals.get(locale, [])
 
 
 def below(folder, *names):
@@ -206,13 +205,13 @@ class LdmlRelease(Release):
     def __init__(self, folder, reports):
         super().__init__(folder, reports)
         self.locales = sorted(file.name[:-4] for file in (folder / "main").iterdir() if file.name.endswith(".xml"))
-        self.parents = {**self.parents_by_script(), **self.read_parents()}
+        self.parents = {**self.parents_by_script(), **self.read_parents("")}
+        self.plural_parents = self.read_parents("plurals")
         self.cardinals = self.read_cardinals()
 
     def parse(self, *names):
         """The root element of a file of the release."""
-        with below(self.folder, *names).open("rb") as file:
-            return ElementTree.parse(file).getroot()
+        return ElementTree.fromstring(below(self.folder, *names).read_bytes())
 
     def read_tree(self, locale):
         """Reads a locale's file; drafts below `contributed` aren't taken (UTS 35 Part 1, Attribute draft)."""
@@ -221,28 +220,28 @@ class LdmlRelease(Release):
         def uncertain(path, draft):
             self.reports.left_out(locale, shown(path), f"a draft, {draft}: what is inherited stands")
 
-        for element in self.parse("main", f"{locale}.xml").find("numbers") or ():
+        for element in self.parse("main", f"{locale}.xml").iterfind("numbers/*"):
             if element.tag in USED:
                 collect(element, (), tree, uncertain)
         return tree
 
-    def parent_entries(self):
-        """The entries of the parents that hold for all data but that of some components."""
+    def parent_entries(self, component):
+        """The entries of the parents for a component's data, or with an empty name for all other data."""
         for group in self.parse("supplemental", "supplementalData.xml").findall("parentLocales"):
-            if group.get("component") is None:
+            if component in group.get("component", "").split(" "):
                 yield from group.findall("parentLocale")
 
-    def read_parents(self):
+    def read_parents(self, component):
         """The parents that are named, as they aren't found by taking off a subtag (UTS 35 Part 1, Parent Locales)."""
         parents = {}
-        for entry in self.parent_entries():
+        for entry in self.parent_entries(component):
             parents.update(dict.fromkeys(entry.get("locales").split(), entry.get("parent")))
         return parents
 
     def parents_by_script(self):
         """The parent of a language with a script that isn't its likely one, by the rule `nonlikelyScript` (UTS 35
         Part 1, Parent Locales)."""
-        rules = {entry.get("localeRules"): entry.get("parent") for entry in self.parent_entries()}
+        rules = {entry.get("localeRules"): entry.get("parent") for entry in self.parent_entries("")}
         parent = rules.get("nonlikelyScript")
         if parent is None:
             return {}
@@ -278,11 +277,10 @@ class LdmlRelease(Release):
     def modern(self):
         """The locales whose coverage is modern; one without a level has that of the locale without the last subtag."""
         levels = {}
-        with below(self.folder, "properties", "coverageLevels.txt").open("rb") as file:
-            for line in file.read().decode().splitlines():
-                fields = [field.strip() for field in line.split("#")[0].split(";")]
-                if len(fields) > 1:
-                    levels[fields[0]] = fields[1]
+        for line in below(self.folder, "properties", "coverageLevels.txt").read_bytes().decode().splitlines():
+            fields = [field.strip() for field in line.split("#")[0].split(";")]
+            if len(fields) > 1:
+                levels[fields[0]] = fields[1]
         return [locale for locale in self.locales if self.level(locale, levels) == "modern"]
 
     def level(self, locale, levels):
@@ -293,12 +291,9 @@ class LdmlRelease(Release):
 
     def version(self):
         """The release's version, if its DTD tells it."""
-        file = self.folder / "dtd" / "ldml.dtd"
-        if not file.exists():
-            return None
-        with file.open("rb") as opened:
-            found = re.search(rb'cldrVersion CDATA #FIXED "([0-9.]+)"', opened.read())
-        return found and found[1].decode()
+        file = below(self.folder, "dtd", "ldml.dtd")
+        found = file.exists() and re.search(rb'cldrVersion CDATA #FIXED "([0-9.]+)"', file.read_bytes())
+        return found[1].decode() if found else None
 
 
 class JsonRelease(Release):
@@ -326,8 +321,7 @@ class JsonRelease(Release):
 
     def load(self, *names):
         """A file of the release."""
-        with below(self.folder, *names).open("rb") as file:
-            return json.loads(file.read())
+        return json.loads(below(self.folder, *names).read_bytes())
 
     def read_tree(self, locale):
         """Reads a locale's file into the paths that LDML has."""
@@ -349,7 +343,8 @@ class JsonRelease(Release):
     @staticmethod
     def add_patterns(tree, system, formats):
         """Adds the plain and the compact patterns of a numbering system."""
-        tree.values[plain_path(system)] = formats["standard"]
+        if "standard" in formats:
+            tree.values[plain_path(system)] = formats["standard"]
         for style in STYLES:
             for key, text in formats.get(style, {}).get("decimalFormat", {}).items():
                 power, _, count = key.partition("-count-")
@@ -522,7 +517,7 @@ def alternatives(condition):
         return [[]]
     words = [re.split(r"\band\b", alternative) for alternative in re.split(r"\bor\b", condition)]
     found = [[RELATION.fullmatch(word) for word in relations] for relations in words]
-    if not all(relation and relation[2] != "0" for relations in found for relation in relations):
+    if not all(relation and int(relation[2] or 1) for relations in found for relation in relations):
         raise Inexpressible(f"the condition {condition!r} isn't in the grammar")
     return found
 
@@ -573,7 +568,7 @@ def named(locale):
 
 
 def systems_of(release, locale, digits):
-    """The default numbering system, the native one and latn: those of them that are numeric."""
+    """The default numbering system, the native one and latn: those of them whose digits are in tables."""
     default = release.text(locale, (step("defaultNumberingSystem", {}),))
     native = release.text(locale, (step("otherNumberingSystems", {}), step("native", {})))
     systems = []
@@ -581,7 +576,7 @@ def systems_of(release, locale, digits):
         if system in digits and system not in systems:
             systems.append(system)
         elif system is not None and system not in digits:
-            release.reports.left_out(locale, f"{kind} numbering system {system}", "it has no ten digits")
+            release.reports.left_out(locale, f"{kind} numbering system {system}", "its digits aren't in tables")
     return systems
 
 
@@ -634,8 +629,6 @@ def symbols_entry(release, locale, system):
     sizes, minus, plus = signs_of(release, locale, system, pattern)
     least = release.text(locale, (step("minimumGroupingDigits", {}),)) or "1"
     decimal, group = (symbol(release, locale, system, name) for name in ("decimal", "group"))
-    if not re.fullmatch("[a-z0-9]{3,8}", system):
-        raise Inexpressible("its name isn't 3 to 8 small letters and digits")
     if sum(len(text.encode()) for text in (*minus, *plus, decimal, group, system)) > SYMBOLS_BYTES:
         raise Inexpressible(f"its symbols are more than {SYMBOLS_BYTES} bytes")
     if max(*sizes, int(least)) > 255:
@@ -691,11 +684,13 @@ class CompactReader:
         if negative is not None:
             self.left_out(power, count, f"{pattern!r}: a negative subpattern; the sign stands before the positive one")
         # `0` alone: such numbers aren't shortened
-        return (0 if text == PLACE else power + 1 - zeros) if zeros else None, text
+        exponent = 0 if (zeros, text) == (1, PLACE) else power + 1 - zeros
+        return (exponent if zeros else None), text
 
     def elements(self, power):
         """The exponent and the elements of a type, or None."""
-        read = {name: self.read(power, name, pattern) for name, pattern in self.patterns(power).items()}
+        patterns = self.patterns(power)
+        read = {name: self.read(power, name, pattern) for name, pattern in patterns.items()}
         if read.get("other") is None:
             return None
         exponents = [pair[0] for pair in read.values() if pair and pair[0] is not None]
@@ -705,7 +700,8 @@ class CompactReader:
         elements = {}
         for name, pair in read.items():
             if pair and pair[0] not in (None, exponents[0]):
-                self.left_out(power, name, f"{pair[1]!r} counts by another power of ten than the type's first pattern")
+                reason = "it counts by another power of ten than the type's first pattern"
+                self.left_out(power, name, f"{patterns[name]!r}: {reason}")
             elif pair:
                 elements[name] = pair[1]
         return (exponents[0], without_repeats(elements, self.rules)) if "other" in elements else None
@@ -762,18 +758,20 @@ class TablesMaker:
 
     def __init__(self, release):
         self.release = release
-        self.digits = release.digits()
-        self.tables = {"symbols": [], "digits": self.digits_list(), "rules": [], "short": [], "long": []}
+        self.digits = self.usable_digits()
+        digits = [[system, digits] for system, digits in sorted(self.digits.items())]
+        self.tables = {"symbols": [], "digits": digits, "rules": [], "short": [], "long": []}
 
-    def digits_list(self):
-        """The numeric systems whose names and digits the format takes."""
-        pairs = []
-        for system, digits in sorted(self.digits.items()):
+    def usable_digits(self):
+        """The digits of the numeric systems whose names and digits the format takes."""
+        usable = {}
+        for system, digits in sorted(self.release.digits().items()):
             if re.fullmatch("[a-z0-9]{3,8}", system) and len(digits) == 10:
-                pairs.append([system, digits])
+                usable[system] = digits
             else:
-                self.release.reports.left_out("root", f"numbering system {system}", "no name or digits of tables")
-        return pairs
+                reason = "its name isn't 3 to 8 small letters and digits, or its digits aren't ten"
+                self.release.reports.left_out("root", f"numbering system {system}", reason)
+        return usable
 
     def add(self, locale):
         """Adds all entries of a locale."""
