@@ -12,6 +12,8 @@ mod fallback;
 #[cfg(test)]
 mod lookups;
 #[cfg(test)]
+mod symbol_bytes;
+#[cfg(test)]
 mod symbols;
 #[cfg(test)]
 mod tables;
