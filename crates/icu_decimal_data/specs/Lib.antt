@@ -1,5 +1,6 @@
-pub mod Held
 pub mod Symbols
+pub mod SymbolBytes
+pub mod SymbolsShown
 pub mod Given
 pub mod DecimalSymbols
 pub mod CompactTable

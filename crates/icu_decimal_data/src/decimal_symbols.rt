@@ -52,9 +52,8 @@ impl DecimalSymbols {
         ensures copied { IfOk result (λ symbols. symbols ≡ self.now) }
         ensures memory { IsOkUnless result OutOfMemory }
     {
-        let builder = DecimalSymbolStrsBuilder::from(&self.strings);
         Ok(DecimalSymbols {
-            strings: builder.build(alloc)?,
+            strings: self.strings.copy(alloc)?,
             grouping_sizes: self.grouping_sizes,
         })
     }

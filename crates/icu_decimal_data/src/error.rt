@@ -1,4 +1,4 @@
-//! Why symbols and compact tables are refused.
+//! Why symbols and compact tables are refused, and bytes of symbols.
 
 use std::alloc::{AllocError, AllocFailed};
 use thiserror::Error;
@@ -79,4 +79,13 @@ impl<T: Drop> From<AllocFailed<T>> for CompactError {
     fn from(_e: AllocFailed<T>) -> CompactError {
         CompactError::OutOfMemory
     }
+}
+
+/// Bytes aren't those of symbols.
+#[derive(Clone, Copy, Debug, PartialEq, Eq, Error)]
+#[error("the bytes are damaged at byte {byte}")]
+pub struct Damaged {
+    /// The byte at which that shows: where a length or a text stands that can't be, or where bytes end too early or too
+    /// late.
+    pub byte: usize,
 }

@@ -1,7 +1,9 @@
-//! What holds of all compact tables. The functions do nothing: each is its contract.
+//! What holds of all symbols and compact tables. The functions do nothing: each is its contract.
 
 ghost use Rattle.std.specs.Prelude.{◌≡◌, ◌↔◌, IsTrue};
 ghost use Rattle.icu_decimal_data.specs.Faithful.{KeptMeansFull};
+ghost use Rattle.icu_decimal_data.specs.Symbols.{SymbolTexts, IsSymbolTexts};
+ghost use Rattle.icu_decimal_data.specs.SymbolBytes.{IsReadAgain};
 
 use crate::compact::CompactPatterns;
 use fixed_decimal::laws::magnitude_is_the_greatest_power;
@@ -23,4 +25,11 @@ pub fn kept_means_full()
 /// Two tables are equal exactly where their entries are the same.
 pub fn equal_tables_are_the_same<P: PatternBackend>()
     ensures { (a b : _) → IsTrue (⟦<CompactPatterns<P> as PartialEq>⟧.eq a b) ↔ (a ≡ b) }
+{}
+
+/// The byte string of symbols, which `DecimalSymbolsStrs::as_bytes` gives, is read by `SymbolsView::parse`, and the view
+/// has their seven texts.
+#[tactic(auto, using(crate::proofs::SymbolDamage::is_read_again))]
+pub fn symbols_are_read_again()
+    ensures { (s : SymbolTexts) → IsSymbolTexts s → IsReadAgain s }
 {}

@@ -13,12 +13,16 @@ pub mod laws;
 mod markers;
 mod readable;
 mod readable_table;
+mod symbol_bytes;
+mod symbol_damage;
 mod symbols;
+mod symbols_view;
 
 pub use compact::CompactPatterns;
 pub use decimal_symbols::DecimalSymbols;
-pub use error::{CompactError, SymbolsError};
+pub use error::{CompactError, Damaged, SymbolsError};
 pub use fallback::load_with_fallback;
 pub use grouping_sizes::GroupingSizes;
 pub use markers::{DecimalCompactLongV1, DecimalCompactShortV1, DecimalDigitsV1, DecimalSymbolsV1};
 pub use symbols::{DecimalSymbolStrsBuilder, DecimalSymbolsStrs};
+pub use symbols_view::SymbolsView;

@@ -1,17 +1,18 @@
-//! The seven texts of symbols, and the builder that makes them.
+//! The seven texts of symbols in one byte string, and the builder that makes them.
 
-ghost use Rattle.std.specs.Prelude.{◌≡◌, ℕ, ◌<◌, ◌≤◌, ◌↔◌, length, sum_by, IsTrue, IfOk, IsOk, IsErrOf};
+#![tactic(auto, using(crate::proofs::SymbolReading::reading))]
+
+ghost use Rattle.std.specs.Prelude.{◌≡◌, ℕ, ◌<◌, ◌≤◌, ◌↔◌, IfOk, IsOk, IsErrOf};
 ghost use Rattle.icu_provider.specs.NumberingSystem.{IsNumberingSystem};
 ghost use Rattle.icu_decimal_data.specs.Symbols.{IsSymbolTexts, total_len};
+ghost use Rattle.icu_decimal_data.specs.SymbolBytes.{symbol_bytes};
 ghost use Rattle.icu_decimal_data.specs.declared.error.SymbolsError.TheVariants.{TooLarge, BadNumberingSystem};
 
 use crate::error::SymbolsError;
+use crate::symbol_bytes::{pack, short_len, text};
 use icu_provider::NumberingSystem;
-use std::alloc::Global;
+use std::alloc::{AllocError, Global};
 use std::marker::Model;
-
-/// The longest that the seven texts may be together, in bytes.
-const MAX_LEN: usize = 255;
 
 /// The seven texts of which symbols are made.
 #[derive(Clone, Debug, PartialEq, Drop)]
@@ -30,21 +31,6 @@ pub struct DecimalSymbolStrsBuilder<'data> {
     pub grouping_separator: &'data str,
     /// The numbering system whose digits are used unless another is asked for, as `latn`.
     pub numsys: &'data str,
-}
-
-/// Whether the texts are at most 255 bytes together. The lengths are never added up, since a sum could pass
-/// the largest `usize`.
-fn are_short(texts: &[&str]) -> bool
-    ensures { IsTrue result ↔ (sum_by (λ t. length t.now) texts.now ≤ MAX_LEN) }
-{
-    let mut room = MAX_LEN;
-    for text in texts {
-        if text.len() > room {
-            return false;
-        }
-        room -= text.len();
-    }
-    true
 }
 
 impl<'data> DecimalSymbolStrsBuilder<'data> {
@@ -68,89 +54,94 @@ impl<'data> DecimalSymbolStrsBuilder<'data> {
             self.grouping_separator,
             self.numsys,
         ];
-        if !are_short(&texts) {
+        let Some(len) = short_len(&texts) else {
             return Err(SymbolsError::TooLarge);
-        }
+        };
         if NumberingSystem::try_from_str(self.numsys).is_err() {
             return Err(SymbolsError::BadNumberingSystem);
         }
-        Ok(DecimalSymbolsStrs {
-            minus_sign_prefix: String::from_str(alloc, self.minus_sign_prefix)?,
-            minus_sign_suffix: String::from_str(alloc, self.minus_sign_suffix)?,
-            plus_sign_prefix: String::from_str(alloc, self.plus_sign_prefix)?,
-            plus_sign_suffix: String::from_str(alloc, self.plus_sign_suffix)?,
-            decimal_separator: String::from_str(alloc, self.decimal_separator)?,
-            grouping_separator: String::from_str(alloc, self.grouping_separator)?,
-            numsys: String::from_str(alloc, self.numsys)?,
-        })
+        let bytes = pack(alloc, &texts, len)?;
+        Ok(DecimalSymbolsStrs { bytes })
     }
 }
 
-/// The seven texts of symbols: at most 255 bytes together, the last the name of a numbering system.
+/// The seven texts of symbols: at most 255 bytes together, the last the name of a numbering system. They are held in one
+/// byte string.
 #[derive(Drop)]
 pub struct DecimalSymbolsStrs {
-    minus_sign_prefix: String,
-    minus_sign_suffix: String,
-    plus_sign_prefix: String,
-    plus_sign_suffix: String,
-    decimal_separator: String,
-    grouping_separator: String,
-    numsys: String,
+    bytes: Vec<u8>,
 }
 
 impl Model for DecimalSymbolsStrs {
-    ghost use Rattle.icu_decimal_data.specs.Symbols.{SymbolTexts, IsSymbolTexts};
+    ghost use Rattle.icu_decimal_data.specs.Symbols.{SymbolTexts};
+    ghost use Rattle.icu_decimal_data.specs.SymbolBytes.{texts_in, IsSymbolBytes};
 
     ghost Value = { SymbolTexts };
 
-    ghost use Rattle.icu_decimal_data.specs.Held.{texts_held};
+    ghost view = { λ s. texts_in s.bytes.items };
 
-    ghost view = { texts_held };
-
-    ghost invariant = { λ s. IsSymbolTexts (texts_held s) };
+    ghost invariant = { λ s. IsSymbolBytes s.bytes.items };
 }
 
 impl DecimalSymbolsStrs {
+    /// The byte string that holds the seven texts: seven lengths, a byte each, then the texts. `SymbolsView::parse`
+    /// reads it. It takes no memory.
+    #[tactic(auto, using(crate::proofs::SymbolDamage::held_bytes))]
+    pub fn as_bytes(&self) -> &[u8]
+        ensures packed { result.now ≡ symbol_bytes self.now }
+        ensures valid { IsSymbolTexts self.now }
+    {
+        self.bytes.as_slice()
+    }
+
+    /// Equal symbols with a byte string of their own, in one allocation.
+    pub(crate) fn copy(&self, alloc: Global) -> Result<Self, AllocError>
+        ensures { IfOk result (λ symbols. symbols ≡ self.now) }
+    {
+        let bytes = Vec::from_slice(alloc, &self.bytes)?;
+        Ok(DecimalSymbolsStrs { bytes })
+    }
+
     /// What stands before a negative number.
     pub fn minus_sign_prefix(&self) -> &str
         ensures { result.now ≡ self.now.minus_sign_prefix }
     {
-        self.minus_sign_prefix.as_str()
+        text(&self.bytes, 0)
     }
 
     /// What stands after a negative number.
     pub fn minus_sign_suffix(&self) -> &str
         ensures { result.now ≡ self.now.minus_sign_suffix }
     {
-        self.minus_sign_suffix.as_str()
+        text(&self.bytes, 1)
     }
 
     /// What stands before a number that is marked as positive.
     pub fn plus_sign_prefix(&self) -> &str
         ensures { result.now ≡ self.now.plus_sign_prefix }
     {
-        self.plus_sign_prefix.as_str()
+        text(&self.bytes, 2)
     }
 
     /// What stands after a number that is marked as positive.
     pub fn plus_sign_suffix(&self) -> &str
         ensures { result.now ≡ self.now.plus_sign_suffix }
     {
-        self.plus_sign_suffix.as_str()
+        text(&self.bytes, 3)
     }
 
     /// What stands between integer and fraction.
     pub fn decimal_separator(&self) -> &str
         ensures { result.now ≡ self.now.decimal_separator }
     {
-        self.decimal_separator.as_str()
+        text(&self.bytes, 4)
     }
 
     /// What stands between groups of integer digits.
     pub fn grouping_separator(&self) -> &str
         ensures { result.now ≡ self.now.grouping_separator }
     {
-        self.grouping_separator.as_str()
+        text(&self.bytes, 5)
     }
 
     /// The numbering system whose digits are used unless another is asked for.
@@ -158,7 +149,7 @@ impl DecimalSymbolsStrs {
         ensures text { result.now ≡ self.now.numsys }
         ensures valid { IsNumberingSystem result.now }
     {
-        self.numsys.as_str()
+        text(&self.bytes, 6)
     }
 }
 
@@ -171,14 +162,15 @@ impl<'data> From<&'data DecimalSymbolsStrs> for DecimalSymbolStrsBuilder<'data> 
     ghost from_gives = { λ s b. (texts_given b ≡ s.now) × IsSymbolTexts s.now };
 
     fn from(symbols: &'data DecimalSymbolsStrs) -> DecimalSymbolStrsBuilder<'data> {
+        let bytes = symbols.bytes.as_slice();
         DecimalSymbolStrsBuilder {
-            minus_sign_prefix: symbols.minus_sign_prefix.as_str(),
-            minus_sign_suffix: symbols.minus_sign_suffix.as_str(),
-            plus_sign_prefix: symbols.plus_sign_prefix.as_str(),
-            plus_sign_suffix: symbols.plus_sign_suffix.as_str(),
-            decimal_separator: symbols.decimal_separator.as_str(),
-            grouping_separator: symbols.grouping_separator.as_str(),
-            numsys: symbols.numsys.as_str(),
+            minus_sign_prefix: text(bytes, 0),
+            minus_sign_suffix: text(bytes, 1),
+            plus_sign_prefix: text(bytes, 2),
+            plus_sign_suffix: text(bytes, 3),
+            decimal_separator: text(bytes, 4),
+            grouping_separator: text(bytes, 5),
+            numsys: text(bytes, 6),
         }
     }
 }
@@ -196,12 +188,6 @@ impl PartialEq for DecimalSymbolsStrs {
         ensures computed { result ≡ same_texts self.now other.now }
         ensures same { IsTrue result ↔ (self.now ≡ other.now) }
     {
-        self.minus_sign_prefix == other.minus_sign_prefix
-            && self.minus_sign_suffix == other.minus_sign_suffix
-            && self.plus_sign_prefix == other.plus_sign_prefix
-            && self.plus_sign_suffix == other.plus_sign_suffix
-            && self.decimal_separator == other.decimal_separator
-            && self.grouping_separator == other.grouping_separator
-            && self.numsys == other.numsys
+        self.bytes == other.bytes
     }
 }

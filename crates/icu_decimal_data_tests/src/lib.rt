@@ -14,6 +14,8 @@ mod lookups;
 #[cfg(test)]
 mod readable;
 #[cfg(test)]
+mod symbol_bytes;
+#[cfg(test)]
 mod symbols;
 #[cfg(test)]
 mod tables;

@@ -7,7 +7,7 @@ use std::alloc::Global;
 use std::str;
 
 /// The seven texts in their order: both minus signs, both plus signs, both separators, the system.
-type Texts = [&'static str; 7];
+pub(crate) type Texts = [&'static str; 7];
 
 /// Texts of several bytes a character, no two alike.
 const ARABIC: Texts = ["\u{61c}-", "₋", "\u{61c}+", "₊", "٫", "٬", "arab"];
@@ -33,7 +33,7 @@ const LONG: &str = "\
     xxxxxxxxxxxxxxxxxxxxxxxxxxxxxxxxxxxxxxxxxxxxxxxxxxxxxxxxxxxxxxxx\
     xxxxxxxxxxxxxxxxxxxxxxxxxxxxxxxxxxxxxxxxxxxxxxxxxxxxxxxxxxxxxxxx";
 
-fn builder(texts: Texts) -> DecimalSymbolStrsBuilder<'static> {
+pub(crate) fn builder(texts: Texts) -> DecimalSymbolStrsBuilder<'static> {
     DecimalSymbolStrsBuilder {
         minus_sign_prefix: texts[0],
         minus_sign_suffix: texts[1],
@@ -59,7 +59,7 @@ fn nearly_empty<'a>(decimal_separator: &'a str, numsys: &'a str) -> DecimalSymbo
 }
 
 /// The answer, or the second answer where memory was refused once.
-fn built(
+pub(crate) fn built(
     alloc: Global,
     builder: &DecimalSymbolStrsBuilder<'_>,
 ) -> Result<DecimalSymbolsStrs, SymbolsError> {

@@ -1,0 +1,5 @@
+use Rattle.std.proofs.Common.{◌≡◌, take, map, length}
+use Rattle.icu_decimal_data.proofs.symbol_bytes.lengths.Given as goal
+
+abbrev pub invariant-loop-text : goal.invariant-loop-text
+invariant-loop-text l = l.bytes.items ≡ map length (map (λ t. t.now) (take l.text-index l.texts))
