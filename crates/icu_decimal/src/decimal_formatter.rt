@@ -102,7 +102,7 @@ impl DecimalFormatter {
         }
     }
 
-    /// Whether compact texts by this table tell their numbers, where the formatter's own texts do.
+    /// Whether compact numbers by this table are readable, where the formatter's own numbers are.
     pub(crate) fn is_readable_by(&self, patterns: &CompactPatterns<SinglePlaceholder>) -> bool
         ensures { IsTrue result ↔ IsReadableTable self.now.symbols.strings self.now.digits patterns.now }
     {

@@ -125,9 +125,9 @@ fn are_readable(texts: &DecimalSymbolStrsBuilder<'_>, digits: &[char; 10]) -> bo
 }
 
 impl DecimalSymbols {
-    /// Whether the texts of numbers with these symbols and digits tell their numbers: the sign, the range and every digit.
+    /// Whether numbers with these symbols and digits are readable: then their texts tell the sign, the range and every digit.
     ///
-    /// They do where the ten digits differ and none of them stands in an affix or a separator, the decimal separator isn't
+    /// They are where the ten digits differ and none of them stands in an affix or a separator, the decimal separator isn't
     /// empty and isn't the grouping separator, and the pairs of affixes of minus, plus and no sign differ. Characters are
     /// compared, not bytes.
     pub fn is_readable_with(&self, digits: &[char; 10]) -> bool

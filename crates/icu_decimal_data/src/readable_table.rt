@@ -285,13 +285,13 @@ impl PatternTest for Told<'_> {
 }
 
 impl CompactPatterns<SinglePlaceholder> {
-    /// Whether compact texts by this table tell their numbers, where plain texts with these symbols and digits do: each
+    /// Whether compact numbers by this table are readable, where plain numbers with these symbols and digits are: each
     /// pattern has a place and no digit, and what stands around a number, affixes and pattern together, tells its sign and
     /// its exponent.
     ///
     /// Numbers without an entry count too, which stand alone; and so does each pattern of an entry, also one that the
-    /// plural rules of no language pick. Each pattern is compared with each, so the time grows with the square of the
-    /// table's size; no memory is taken.
+    /// plural rules never pick. Each pattern is compared with each, so the time grows with the square of the table's size;
+    /// no memory is taken.
     pub fn is_readable_with(&self, symbols: &DecimalSymbols, digits: &[char; 10]) -> bool
         ensures { IsTrue result ↔ IsReadableTable symbols.now.strings digits.now self.now }
     {
