@@ -9,7 +9,7 @@ use Rattle.icu_base.specs.Events.Event.{Char, Open, Close}
 use Rattle.icu_decimal.specs.Decimal.{DecimalFormat, strategy_of, integer_events, fraction_events, unsigned_events, signed_events}
 use Rattle.icu_decimal.specs.Grouping.{digit_groups, joined, joined_after}
 use Rattle.icu_decimal.specs.Part.{in_decimal_part}
-use Rattle.icu_decimal_data.specs.Readable.{affixes}
+use Rattle.icu_decimal_readable.specs.Readable.{affixes}
 use Rattle.icu_decimal.proofs.Runs.{fraction_text}
 
 characters-append : (xs ys : List Event) → characters (xs ++ ys) ≡ characters xs ++ characters ys

@@ -14,7 +14,7 @@ use Rattle.icu_base.specs.declared.plurals.category.PluralCategory.TheVariants.{
 use Rattle.icu_decimal_data.specs.CompactTable.{PatternElements, TableEntry}
 use Rattle.icu_decimal.specs.CompactFormat.{CompactFormat, pattern_of, filled_events}
 use Rattle.icu_decimal.specs.Decimal.{unsigned_events, signed_events}
-use Rattle.icu_decimal_data.specs.Readable.{Surroundings, affixes, sides_at, sides, surroundings, HasPattern, IsEntryOf, IsPatternBy}
+use Rattle.icu_decimal_readable.specs.Readable.{Surroundings, affixes, sides_at, sides, surroundings, HasPattern, IsEntryOf, IsPatternBy}
 use Rattle.icu_decimal.specs.Readable.{IsReadableCompact}
 use Rattle.icu_decimal.specs.ReadableLaws.{IsWrittenBy, CompactTextTells}
 use Rattle.icu_decimal.proofs.CharactersShown.{characters-signed, characters-around, characters-characters}

@@ -5,7 +5,7 @@ use Rattle.std.proofs.lemmas.Bool.{cases_order}
 use Rattle.fixed_decimal.specs.Unsigned.{Unsigned, IsUnsigned, integer_count, integer, fraction}
 use Rattle.icu_decimal.specs.Decimal.{DecimalFormat, strategy_of}
 use Rattle.icu_decimal.specs.Grouping.{concatenated, digit_groups}
-use Rattle.icu_decimal_data.specs.Readable.{IsReadable}
+use Rattle.icu_decimal_readable.specs.Readable.{IsReadable}
 use Rattle.icu_decimal.proofs.CharactersShown.{digit_characters, groups_of}
 use Rattle.icu_decimal.proofs.GroupRuns.{runs-groups, some_groups}
 use Rattle.icu_decimal.proofs.GroupingLaws.{concatenated-digit_groups}

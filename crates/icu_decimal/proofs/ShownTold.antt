@@ -11,7 +11,7 @@ use Rattle.icu_decimal.specs.CompactFormat.{CompactFormat, IsCompactFormat, fill
 use Rattle.icu_decimal.specs.CompactLaws.{IsUnpadded}
 use Rattle.icu_decimal.specs.Decimal.{signed_events}
 use Rattle.icu_decimal.specs.Displayed.{displayed_entry}
-use Rattle.icu_decimal_data.specs.Readable.{IsEntryOf}
+use Rattle.icu_decimal_readable.specs.Readable.{IsEntryOf}
 use Rattle.icu_decimal.specs.ReadableLaws.{ShownTextTells}
 use Rattle.icu_decimal.proofs.CompactTold.{compact_tells}
 use Rattle.icu_decimal.proofs.DisplayedOnce.{same_scaled, trimmed_told}

@@ -4,7 +4,7 @@ use Rattle.std.specs.Str.{chars}
 use Rattle.fixed_decimal.specs.Unsigned.{Unsigned, IsUnsigned, fraction}
 use Rattle.icu_base.specs.Events.{characters}
 use Rattle.icu_decimal.specs.Decimal.{DecimalFormat, unsigned_events}
-use Rattle.icu_decimal_data.specs.Readable.{Surroundings, affixes, IsFreeOfDigits, IsReadable}
+use Rattle.icu_decimal_readable.specs.Readable.{Surroundings, affixes, IsFreeOfDigits, IsReadable}
 use Rattle.icu_decimal.specs.ReadableLaws.{TextTellsTheDecimal}
 use Rattle.icu_decimal.proofs.CharactersShown.{digit_characters, groups_of, characters-unsigned, characters-signed}
 use Rattle.icu_decimal.proofs.DigitsTold.{IsDigitOf, IsOther, characters_tell, fraction_below, unsigned_same, groups_tell, group_characters, fraction_characters}

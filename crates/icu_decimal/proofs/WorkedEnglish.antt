@@ -8,7 +8,7 @@ use Rattle.icu_base.specs.Elements.{only_other}
 use Rattle.icu_base.specs.Patterns.{PatternText}
 use Rattle.icu_decimal_data.specs.CompactTable.{TableEntry, exponent_of}
 use Rattle.icu_decimal_data.specs.DecimalSymbols.{english_symbols}
-use Rattle.icu_decimal_data.specs.Readable.{Surroundings, affixes, sides, sides_at, surroundings, HasPattern, IsFreeOfDigits, IsPatternBy, IsReadableTable}
+use Rattle.icu_decimal_readable.specs.Readable.{Surroundings, affixes, sides, sides_at, surroundings, HasPattern, IsFreeOfDigits, IsPatternBy, IsReadableTable}
 use Rattle.icu_decimal.specs.CompactFormat.{CompactFormat}
 use Rattle.icu_decimal.specs.Readable.{IsReadableCompact}
 use Rattle.icu_decimal.proofs.WorkedReadable.{texts, digits, has_none_of, none_of, sign_told, english_readable}

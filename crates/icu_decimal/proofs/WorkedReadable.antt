@@ -7,7 +7,7 @@ use Rattle.fixed_decimal.specs.declared.signs.Sign.{Sign}
 use Rattle.fixed_decimal.specs.declared.signs.Sign.TheVariants.{Negative, Positive, None as NoSign}
 use Rattle.icu_decimal_data.specs.DecimalSymbols.{english_symbols}
 use Rattle.icu_decimal_data.specs.Symbols.{SymbolTexts}
-use Rattle.icu_decimal_data.specs.Readable.{Surroundings, affixes, IsFreeOfDigits, IsReadable}
+use Rattle.icu_decimal_readable.specs.Readable.{Surroundings, affixes, IsFreeOfDigits, IsReadable}
 
 abbrev pub texts : SymbolTexts
 texts = english_symbols.strings

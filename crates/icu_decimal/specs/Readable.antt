@@ -1,5 +1,5 @@
 -- Compact formatters whose texts tell their numbers.
-use Rattle.icu_decimal_data.specs.Readable.{IsReadable, IsReadableTable}
+use Rattle.icu_decimal_readable.specs.Readable.{IsReadable, IsReadableTable}
 use Rattle.icu_decimal.specs.CompactFormat.{CompactFormat}
 
 -- A compact formatter is readable: its plain numbers are; each pattern has a place and no digit; and what stands around

@@ -7,7 +7,7 @@ use Rattle.icu_decimal_data.specs.CompactTable.{TableEntry, exponent_of}
 use Rattle.icu_decimal.specs.CompactFormat.{CompactFormat, IsCompactFormat, filled_events}
 use Rattle.icu_decimal.specs.CompactLaws.{IsUnpadded}
 use Rattle.icu_decimal.specs.Decimal.{DecimalFormat, decimal_events, signed_events}
-use Rattle.icu_decimal_data.specs.Readable.{IsEntryOf, IsReadable}
+use Rattle.icu_decimal_readable.specs.Readable.{IsEntryOf, IsReadable}
 use Rattle.icu_decimal.specs.Readable.{IsReadableCompact}
 
 -- Two decimals that a readable formatter writes in the same characters are one: in sign, range and every digit.

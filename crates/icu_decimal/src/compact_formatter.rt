@@ -148,12 +148,13 @@ impl CompactDecimalFormatter {
         Ok(self.decimal_formatter.format_sign(significand.sign, filled))
     }
 
-    /// Whether each of its texts tells its sign, its significand, in range and every digit, and its exponent, whichever of
-    /// `format` and `format_with_exponent` wrote it (this project's own).
+    /// Whether it is readable: then each of its texts tells its sign, its significand, in range and every digit, and its
+    /// exponent, whichever of `format` and `format_with_exponent` wrote it (this project's own).
     ///
-    /// It does where plain texts tell their decimals (`DecimalFormatter::is_readable`), each pattern has a place and no
-    /// digit, and what stands around a number, affixes and pattern taken together, tells sign and exponent. Each pattern of
-    /// the table counts, also one that the plural rules never pick, and so do numbers that stand alone. It takes no memory.
+    /// It is where plain numbers are (`DecimalFormatter::is_readable`), each pattern has a place and no digit, and what
+    /// stands around a number, affixes and pattern taken together, tells sign and exponent. Numbers that stand alone count
+    /// too, and so does each pattern of the table, also one that the plural rules never pick: so a formatter that isn't
+    /// readable may tell its numbers all the same. It takes no memory.
     pub fn is_readable(&self) -> bool
         ensures { IsTrue result ↔ IsReadableCompact self.now }
     {

@@ -4,7 +4,7 @@ ghost use Rattle.std.specs.Prelude.{◌≡◌, ◌↔◌, IsTrue, List, IfOk, Is
 ghost use Rattle.std.specs.String.{string_bytes};
 ghost use Rattle.icu_base.specs.Events.{Event, text_of};
 ghost use Rattle.icu_decimal.specs.Decimal.{decimal_events, signed_events, unsigned_events};
-ghost use Rattle.icu_decimal_data.specs.Readable.{IsReadable, IsReadableTable};
+ghost use Rattle.icu_decimal_readable.specs.Readable.{IsReadable, IsReadableTable};
 
 use crate::cow::Cow;
 use crate::error::FormatError;
@@ -15,6 +15,7 @@ use crate::parts;
 use fixed_decimal::{Decimal, Sign, UnsignedDecimal};
 use icu_base::{SinglePlaceholder, Writeable};
 use icu_decimal_data::{CompactPatterns, DecimalSymbols};
+use icu_decimal_readable::{are_numbers_readable, is_table_readable};
 use std::alloc::Global;
 use std::marker::Model;
 
@@ -88,7 +89,7 @@ impl DecimalFormatter {
     pub fn is_readable(&self) -> bool
         ensures { IsTrue result ↔ IsReadable self.now.symbols.strings self.now.digits }
     {
-        self.symbols.is_readable_with(&self.digits)
+        are_numbers_readable(&self.symbols, &self.digits)
     }
 
     /// The text of the decimal.
@@ -102,11 +103,11 @@ impl DecimalFormatter {
         }
     }
 
-    /// Whether compact texts by this table tell their numbers, where the formatter's own texts do.
+    /// Whether compact numbers by this table are readable, where the formatter's own numbers are.
     pub(crate) fn is_readable_by(&self, patterns: &CompactPatterns<SinglePlaceholder>) -> bool
         ensures { IsTrue result ↔ IsReadableTable self.now.symbols.strings self.now.digits patterns.now }
     {
-        patterns.is_readable_with(&self.symbols, &self.digits)
+        is_table_readable(patterns, &self.symbols, &self.digits)
     }
 
     /// The number without its sign.

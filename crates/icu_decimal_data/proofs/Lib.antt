@@ -11,6 +11,3 @@ pub mod KeptSteps
 pub mod EntryPlaces
 pub mod KeptMeaning
 pub mod Worked
-pub mod ReadableParts
-pub mod Joined
-pub mod ReadableTables

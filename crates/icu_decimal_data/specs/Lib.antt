@@ -10,5 +10,3 @@ pub mod KeptSince
 pub mod SameTable
 pub mod Faithful
 pub mod Decided
-pub mod Readable
-pub mod ReadableTable

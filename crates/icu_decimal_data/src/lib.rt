@@ -11,8 +11,6 @@ mod grouping_sizes;
 mod kept;
 pub mod laws;
 mod markers;
-mod readable;
-mod readable_table;
 mod symbol_bytes;
 mod symbol_damage;
 mod symbols;

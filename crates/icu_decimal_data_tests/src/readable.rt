@@ -2,6 +2,7 @@
 
 use crate::symbols::english;
 use crate::tables::{LONG_ENGLISH, Row, table_of};
+use icu_decimal_readable::{are_numbers_readable, is_table_readable};
 use std::alloc::Global;
 
 const LATIN: [char; 10] = ['0', '1', '2', '3', '4', '5', '6', '7', '8', '9'];
@@ -12,7 +13,7 @@ const REPEATED: [char; 10] = ['0', '1', '1', '3', '4', '5', '6', '7', '8', '9'];
 /// Whether English symbols with these digits tell their numbers.
 fn are_told(alloc: Global, digits: [char; 10]) -> Option<bool> {
     match english(alloc) {
-        Ok(symbols) => Some(symbols.is_readable_with(&digits)),
+        Ok(symbols) => Some(are_numbers_readable(&symbols, &digits)),
         Err(_) => None,
     }
 }
@@ -29,7 +30,7 @@ fn symbols_tell_their_numbers(rt: HostRuntime) {
 /// Whether a table of these rows with English symbols tells its numbers.
 fn are_compact_told(alloc: Global, rows: &[Row]) -> Option<bool> {
     match (english(alloc), table_of(alloc, rows, None)) {
-        (Ok(symbols), Ok(table)) => Some(table.is_readable_with(&symbols, &LATIN)),
+        (Ok(symbols), Ok(table)) => Some(is_table_readable(&table, &symbols, &LATIN)),
         _ => None,
     }
 }

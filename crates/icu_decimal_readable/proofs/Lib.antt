@@ -1,0 +1,3 @@
+pub mod ReadableParts
+pub mod Joined
+pub mod ReadableTables

@@ -1,0 +1,44 @@
+use Rattle.fixed_decimal.specs.declared.signs.Sign.TheVariants.{Negative, Positive, None as NoSign}
+use Rattle.icu_base.specs.Patterns.{PatternText}
+use Rattle.icu_decimal_data.specs.Given.{texts_given}
+use Rattle.icu_decimal_readable.specs.Readable.{sides}
+use Rattle.icu_decimal_readable.specs.ReadableTable.{surroundings_of, IsToldThroughout}
+use Rattle.icu_decimal_readable.specs.declared.readable_table.Number.{Number}
+use Rattle.icu_decimal_readable.proofs.ReadableParts.{false_not_true}
+use Rattle.icu_decimal_readable.proofs.ReadableTables.{each_sign, told_of, told_by_sides, told_throughout_as}
+use Rattle.icu_decimal_readable.proofs.readable_table.ToldPatternTest.passes.Goals as goal
+
+pub returns-then-not-is_told : goal.returns-then-not-is_told
+returns-then-not-is_told c =
+    let p : PatternText = record { place = c.args.place; literal = c.args.literal.now } in
+    let told = told_by_sides (texts_given c.args.self.now.texts.now) c.args.self.now.patterns.now NoSign c.args.exponent p (surroundings_of c.sides_of.result) c.sides_of.ensures in
+    (λ e. cc, λ h. absurd (false_not_true c.is_told.result c.if-not-is_told.true (c.is_told.ensures.1 (told h))))
+
+pub returns-then-not-is_told-2 : goal.returns-then-not-is_told-2
+returns-then-not-is_told-2 c =
+    let p : PatternText = record { place = c.args.place; literal = c.args.literal.now } in
+    let texts = texts_given c.args.self.now.texts.now in
+    let table = c.args.self.now.patterns.now in
+    let meant : Number = record { sign = Negative; exponent = c.args.exponent; sides = c.sides_of.result } in
+    let minus = told_throughout_as texts table c.with_sign.result meant c.is_told-2.result c.with_sign.ensures c.is_told-2.ensures in
+    let told = told_by_sides texts table Negative c.args.exponent p (surroundings_of c.sides_of.result) c.sides_of.ensures in
+    (λ e. cc, λ h. absurd (false_not_true c.is_told-2.result c.if-not-is_told-2.true (minus.1 (told h))))
+
+pub returns : goal.returns
+returns c =
+    let p : PatternText = record { place = c.args.place; literal = c.args.literal.now } in
+    let texts = texts_given c.args.self.now.texts.now in
+    let table = c.args.self.now.patterns.now in
+    let a = surroundings_of c.sides_of.result in
+    let m = c.args.exponent in
+    let is = c.sides_of.ensures in
+    let negative : Number = record { sign = Negative; exponent = m; sides = c.sides_of.result } in
+    let positive : Number = record { sign = Positive; exponent = m; sides = c.sides_of.result } in
+    let minus = told_throughout_as texts table c.with_sign.result negative c.is_told-2.result c.with_sign.ensures c.is_told-2.ensures in
+    let plus = told_throughout_as texts table c.with_sign-2.result positive c.is_told-3.result c.with_sign-2.ensures c.is_told-3.ensures in (
+      λ e. each_sign (λ s. IsToldThroughout texts table s m (sides p))
+          (told_of texts table NoSign m p a is (c.is_told.ensures.0 c.if-not-is_told.false))
+          (told_of texts table Negative m p a is (minus.0 c.if-not-is_told-2.false))
+          (told_of texts table Positive m p a is (plus.0 e)),
+      λ h. plus.1 (told_by_sides texts table Positive m p a is h),
+    )

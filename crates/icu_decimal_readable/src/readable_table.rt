@@ -1,0 +1,305 @@
+//! Whether compact texts tell their numbers.
+
+ghost use Rattle.std.specs.Prelude.{◌≡◌, ◌↔◌, ◌++◌, ◌<◌, ℕ, IsTrue, IfSome, None, chars, length, slice_get, slice_index_or};
+ghost use Rattle.icu_base.specs.Elements.{slots};
+ghost use Rattle.icu_base.specs.Patterns.{PatternText, PlaceFits};
+ghost use Rattle.icu_decimal_data.specs.Given.{texts_given};
+ghost use Rattle.icu_decimal_readable.specs.Readable.{affixes, sides_at, sides, IsReadableTable};
+ghost use Rattle.icu_decimal_readable.specs.ReadableTable.{surroundings_of, around, AreTold, HasPlaceAndNoDigit, HoldsOfEntry, HoldsThroughout, IsToldFrom, IsToldThroughout, TellsNumbers};
+
+use crate::readable::has_no_digit;
+use fixed_decimal::Sign;
+use icu_base::SinglePlaceholder;
+use icu_decimal_data::{CompactPatterns, DecimalSymbolStrsBuilder, DecimalSymbols};
+
+/// What stands before a number and after it.
+#[derive(Clone, Copy)]
+struct Sides<'a> {
+    before: &'a str,
+    after: &'a str,
+}
+
+/// What a pattern has before its place and after it; without a place all of it stands before.
+fn sides_of<'a>(place: Option<usize>, literal: &'a str) -> Sides<'a>
+    requires { PlaceFits (record { place = place; literal = literal.now }) }
+    ensures { surroundings_of result ≡ sides_at place literal.now }
+{
+    match place {
+        Some(place) => Sides {
+            before: &literal[..place],
+            after: &literal[place..],
+        },
+        None => Sides {
+            before: literal,
+            after: "",
+        },
+    }
+}
+
+/// The affixes of a sign.
+fn affixes<'a>(texts: &DecimalSymbolStrsBuilder<'a>, sign: Sign) -> Sides<'a>
+    ensures { surroundings_of result ≡ affixes (texts_given texts.now) sign }
+{
+    match sign {
+        Sign::None => Sides {
+            before: "",
+            after: "",
+        },
+        Sign::Negative => Sides {
+            before: texts.minus_sign_prefix,
+            after: texts.minus_sign_suffix,
+        },
+        Sign::Positive => Sides {
+            before: texts.plus_sign_prefix,
+            after: texts.plus_sign_suffix,
+        },
+    }
+}
+
+/// Whether a text is two others, one after the other.
+fn is_joined(text: &str, front: &str, back: &str) -> bool
+    ensures { IsTrue result ↔ (text.now ≡ front.now ++ back.now) }
+{
+    match text.strip_prefix(front) {
+        Some(rest) => rest == back,
+        None => false,
+    }
+}
+
+/// Whether two texts, one after the other, have the same characters as two others.
+fn are_joined_alike(a: &str, b: &str, c: &str, d: &str) -> bool
+    ensures { IsTrue result ↔ (chars a.now ++ chars b.now ≡ chars c.now ++ chars d.now) }
+{
+    if let Some(middle) = c.strip_prefix(a) {
+        return is_joined(b, middle, d);
+    }
+    if let Some(middle) = a.strip_prefix(c) {
+        return is_joined(d, middle, b);
+    }
+    false
+}
+
+/// A number, by all of it that isn't digits: its sign, its exponent, and what its pattern has on both sides.
+#[derive(Clone, Copy)]
+struct Number<'a> {
+    sign: Sign,
+    exponent: u8,
+    sides: Sides<'a>,
+}
+
+impl Number<'_> {
+    /// The same with another sign.
+    fn with_sign(self, sign: Sign) -> Self
+        ensures { result ≡ record self.entry { sign = sign } }
+    {
+        Number { sign, ..self }
+    }
+}
+
+/// Whether two numbers have the same characters around them, affixes and sides taken together.
+fn have_same_surroundings(
+    texts: &DecimalSymbolStrsBuilder<'_>,
+    first: Number<'_>,
+    second: Number<'_>,
+) -> bool
+    ensures { IsTrue result ↔ (around (texts_given texts.now) first.entry.sign (surroundings_of first.entry.sides) ≡ around (texts_given texts.now) second.entry.sign (surroundings_of second.entry.sides)) }
+{
+    let (a, b) = (affixes(texts, first.sign), first.sides);
+    let (c, d) = (affixes(texts, second.sign), second.sides);
+    if !are_joined_alike(a.before, b.before, c.before, d.before) {
+        return false;
+    }
+    are_joined_alike(b.after, a.after, d.after, c.after)
+}
+
+/// What is tested of each pattern of a table.
+trait PatternTest {
+    /// What is to hold of a pattern with an exponent.
+    ghost holds: { Self → ℕ → PatternText → Type 0 };
+
+    /// Whether it holds of the pattern with this place and this literal.
+    fn passes(&self, exponent: u8, place: Option<usize>, literal: &str) -> bool
+        requires { PlaceFits (record { place = place; literal = literal.now }) }
+        ensures { IsTrue result ↔ holds self.now exponent (record { place = place; literal = literal.now }) };
+}
+
+/// Whether the pattern in a slot of an entry passes a test, if there is one.
+fn slot_passes<T: PatternTest>(
+    patterns: &CompactPatterns<SinglePlaceholder>,
+    index: usize,
+    slot: u8,
+    test: &T,
+) -> bool
+    requires index { index < length patterns.now }
+    requires slot { slot < 8 }
+    ensures { IfSome (slice_get patterns.now index) (λ e. IsTrue result ↔ IfSome (slice_index_or (slots e.elements) slot None) (T.holds test.now e.exponent)) }
+{
+    match patterns.slot(index, slot) {
+        Some(pattern) => test.passes(patterns.exponent(index), pattern.place(), pattern.literal()),
+        None => true,
+    }
+}
+
+/// Whether all patterns of an entry pass a test.
+fn entry_passes<T: PatternTest>(
+    patterns: &CompactPatterns<SinglePlaceholder>,
+    index: usize,
+    test: &T,
+) -> bool
+    requires { index < length patterns.now }
+    ensures { IfSome (slice_get patterns.now index) (λ e. IsTrue result ↔ HoldsOfEntry (T.holds test.now) e) }
+{
+    for slot in 0..8 {
+        if !slot_passes(patterns, index, slot, test) {
+            return false;
+        }
+    }
+    true
+}
+
+/// Whether all patterns pass a test, also that of numbers without an entry.
+fn all_pass<T: PatternTest>(patterns: &CompactPatterns<SinglePlaceholder>, test: &T) -> bool
+    ensures { IsTrue result ↔ HoldsThroughout (T.holds test.now) patterns.now }
+{
+    if !test.passes(0, Some(0), "") {
+        return false;
+    }
+    for index in 0..patterns.len() {
+        if !entry_passes(patterns, index, test) {
+            return false;
+        }
+    }
+    true
+}
+
+/// Tests that a pattern has a place and no digit.
+#[derive(Clone, Copy)]
+struct Placed<'a> {
+    digits: &'a [char],
+}
+
+impl PatternTest for Placed<'_> {
+    ghost use Rattle.icu_decimal_readable.specs.ReadableTable.{HasPlaceAndNoDigit};
+
+    ghost holds = { λ t m p. HasPlaceAndNoDigit t.digits.now p };
+
+    fn passes(&self, _exponent: u8, place: Option<usize>, literal: &str) -> bool {
+        let sides = sides_of(place, literal);
+        if place.is_none() {
+            return false;
+        }
+        if !has_no_digit(self.digits, sides.before) {
+            return false;
+        }
+        has_no_digit(self.digits, sides.after)
+    }
+}
+
+/// Whether two numbers with the same around them have the same sign and exponent.
+fn are_told(texts: &DecimalSymbolStrsBuilder<'_>, first: Number<'_>, second: Number<'_>) -> bool
+    ensures { IsTrue result ↔ AreTold (texts_given texts.now) first.entry.sign first.entry.exponent (surroundings_of first.entry.sides) second.entry.sign second.entry.exponent (surroundings_of second.entry.sides) }
+{
+    if first.sign == second.sign && first.exponent == second.exponent {
+        return true;
+    }
+    !have_same_surroundings(texts, first, second)
+}
+
+/// Whether a number is told from those of each sign that have the second number's exponent and sides.
+fn is_told_from(texts: &DecimalSymbolStrsBuilder<'_>, first: Number<'_>, second: Number<'_>) -> bool
+    ensures { IsTrue result ↔ IsToldFrom (texts_given texts.now) first.entry.sign first.entry.exponent (surroundings_of first.entry.sides) second.entry.exponent (surroundings_of second.entry.sides) }
+{
+    if !are_told(texts, first, second.with_sign(Sign::None)) {
+        return false;
+    }
+    if !are_told(texts, first, second.with_sign(Sign::Negative)) {
+        return false;
+    }
+    are_told(texts, first, second.with_sign(Sign::Positive))
+}
+
+/// Tests that a number is told from all that may stand in a pattern.
+#[derive(Clone, Copy)]
+struct ToldFrom<'a> {
+    texts: &'a DecimalSymbolStrsBuilder<'a>,
+    number: Number<'a>,
+}
+
+impl PatternTest for ToldFrom<'_> {
+    ghost use Rattle.icu_decimal_data.specs.Given.{texts_given};
+    ghost use Rattle.icu_decimal_readable.specs.Readable.{sides};
+    ghost use Rattle.icu_decimal_readable.specs.ReadableTable.{surroundings_of, IsToldFrom};
+
+    ghost holds = { λ t n q. IsToldFrom (texts_given t.texts.now) t.number.sign t.number.exponent (surroundings_of t.number.sides) n (sides q) };
+
+    fn passes(&self, exponent: u8, place: Option<usize>, literal: &str) -> bool {
+        let second = Number {
+            sign: Sign::None,
+            exponent,
+            sides: sides_of(place, literal),
+        };
+        is_told_from(self.texts, self.number, second)
+    }
+}
+
+/// Whether a number is told from all that may stand in a pattern of the table.
+fn is_told(
+    texts: &DecimalSymbolStrsBuilder<'_>,
+    patterns: &CompactPatterns<SinglePlaceholder>,
+    number: Number<'_>,
+) -> bool
+    ensures { IsTrue result ↔ IsToldThroughout (texts_given texts.now) patterns.now number.entry.sign number.entry.exponent (surroundings_of number.entry.sides) }
+{
+    all_pass(patterns, &ToldFrom { texts, number })
+}
+
+/// Tests that all numbers in a pattern are told.
+#[derive(Clone, Copy)]
+struct Told<'a> {
+    texts: &'a DecimalSymbolStrsBuilder<'a>,
+    patterns: &'a CompactPatterns<SinglePlaceholder>,
+}
+
+impl PatternTest for Told<'_> {
+    ghost use Rattle.icu_decimal_data.specs.Given.{texts_given};
+    ghost use Rattle.icu_decimal_readable.specs.ReadableTable.{TellsNumbers};
+
+    ghost holds = { λ t m p. TellsNumbers (texts_given t.texts.now) t.patterns.now m p };
+
+    fn passes(&self, exponent: u8, place: Option<usize>, literal: &str) -> bool {
+        let number = Number {
+            sign: Sign::None,
+            exponent,
+            sides: sides_of(place, literal),
+        };
+        if !is_told(self.texts, self.patterns, number) {
+            return false;
+        }
+        if !is_told(self.texts, self.patterns, number.with_sign(Sign::Negative)) {
+            return false;
+        }
+        is_told(self.texts, self.patterns, number.with_sign(Sign::Positive))
+    }
+}
+
+/// Whether compact numbers by this table are readable, where numbers with these symbols and digits are: each pattern has a
+/// place and no digit, and what stands around a number, affixes and pattern together, tells its sign and its exponent (this
+/// project's own).
+///
+/// Numbers without an entry count too, which stand alone; and so does each pattern of an entry, also one that the plural
+/// rules of no language pick. Each pattern is compared with each, so the time grows with the square of the table's size;
+/// no memory is taken.
+pub fn is_table_readable(
+    table: &CompactPatterns<SinglePlaceholder>,
+    symbols: &DecimalSymbols,
+    digits: &[char; 10],
+) -> bool
+    ensures { IsTrue result ↔ IsReadableTable symbols.now.strings digits.now table.now }
+{
+    if !all_pass(table, &Placed { digits }) {
+        return false;
+    }
+    let texts = &DecimalSymbolStrsBuilder::from(&symbols.strings);
+    let patterns = table;
+    all_pass(table, &Told { texts, patterns })
+}
