@@ -80,12 +80,12 @@ draft='qaa_BB: symbols[latn]/group: a draft, unconfirmed: what is inherited stan
 makes modern "$release"
 tells "${digits_lines[@]}" "$draft"
 counts symbols 15
-counts digits 3
+counts digits 4
 counts rules 7
 counts short 8
 counts long 7
 judge 'the version' grep -qF '"cldr":"0.1"' "$folder/modern.json"
-has digits '["arab","٠١٢٣٤٥٦٧٨٩"]' '["beng","০১২৩৪৫৬৭৮৯"]' '["latn","0123456789"]'
+has digits '["arab","٠١٢٣٤٥٦٧٨٩"]' '["beng","০১২৩৪৫৬৭৮৯"]' '["deva","०१२३४५६७८९"]' '["latn","0123456789"]'
 # own symbols, two sizes of groups, plus from root; another numbering system by an alias to latn
 has symbols \
     '{"locale":"qaa","minus":["−",""],"plus":["+",""],"decimal":",","group":".","numsys":"latn","sizes":[3,2,2]}' \
@@ -147,6 +147,27 @@ has symbols \
     '{"locale":"und","minus":["-",""],"plus":["+",""],"decimal":".","group":",","numsys":"latn","sizes":[3,3,1]}'
 has rules '{"locale":"qaf-ZZ-u-va-posix","rules":[]}' '{"locale":"und","rules":[]}'
 has long '{"locale":"und","patterns":[[3,3,{"other":"{0}K"}],[6,6,{"other":"{0}M"}]]}'
+
+python3 "$tool" "$release" qaf-ZZ-posix qaa_Arab qaa-Deva-CC qaa-arab root >"$folder/again.json" 2>"$folder/err"
+judge 'the order of names' cmp "$folder/again.json" "$folder/named.json"
+
+# A system without symbols and patterns; text around plain numbers; repeats of other numbers, of a category for exactly
+# zero and of a type but for exactly one; zeros alone; a pattern without a count; a variant.
+makes bare "$release" qae qae-tarask
+tells "${digits_lines[@]}" \
+    "qae: decimalFormats[deva]/decimalFormatLength/decimalFormat/pattern: '~#,##0;(~#,##0)': text around a plain number is left out" \
+    "qae: decimalFormats[latn]/decimalFormatLength/decimalFormat/pattern: '~#,##0;(~#,##0)': text around a plain number is left out" \
+    "qae_TARASK: decimalFormats[deva]/decimalFormatLength/decimalFormat/pattern: '~#,##0;(~#,##0)': text around a plain number is left out" \
+    "qae_TARASK: decimalFormats[latn]/decimalFormatLength/decimalFormat/pattern: '~#,##0;(~#,##0)': text around a plain number is left out"
+has symbols \
+    '{"locale":"qae","minus":["-",""],"plus":["+",""],"decimal":".","group":",","numsys":"deva","sizes":[3,3,1]}' \
+    '{"locale":"qae-tarask","system":"latn","minus":["-",""],"plus":["+",""],"decimal":".","group":",","numsys":"latn","sizes":[3,3,1]}'
+has rules '{"locale":"qae-tarask","rules":[["two","n != 1 and n != 5"]]}'
+counts short 2
+counts long 2
+has short '{"locale":"qae","patterns":[[3,3,{"explicit_one":"K","other":"{0}K"}],[5,3,{"other":"{0}"}],[6,6,{"other":"{0}M"}]]}'
+has long '{"locale":"qae","patterns":[[3,3,{"two":"{0} b","other":"{0} a"}],[4,3,{"other":"{0} a"}],[5,3,{"other":"{0} n"}],[6,6,{"other":"{0}M"}]]}'
+answers 'qae - short' '1000\n2000\n' 'K\n२K\n'
 
 # What can't be expressed.
 makes refused "$release" qac

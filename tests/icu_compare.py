@@ -178,8 +178,8 @@ class Kinds:
     def with_patterns(self, job, reader_type, release, **values):
         """The locale's tables with the patterns that a reader finds."""
         tables = of_locale(self.tables, job.locale)
-        system = entry_of(tables["symbols"], job.system)["numsys"]
         locale = self.names[job.locale]
+        system = cldr.formats_of(release, locale, entry_of(tables["symbols"], job.system)["numsys"])
         rules = [tuple(rule) for rule in tables["rules"][0]["rules"]]
         reader = reader_type(release, locale, system, job.style, rules)
         vars(reader).update(values)

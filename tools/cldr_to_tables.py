@@ -348,8 +348,7 @@ class JsonRelease(Release):
         for style in STYLES:
             for key, text in formats.get(style, {}).get("decimalFormat", {}).items():
                 power, _, count = key.partition("-count-")
-                if "-alt-" not in key:
-                    tree.values[compact_path(system, style, power, count)] = text
+                tree.values[compact_path(system, style, power, count)] = text
 
     def chain(self, locale):
         """The locale alone."""
@@ -590,6 +589,11 @@ def symbol(release, locale, system, name):
     return text
 
 
+def formats_of(release, locale, system):
+    """The numbering system whose patterns are those of a system: latn where it has none."""
+    return system if release.text(locale, plain_path(system)) is not None else "latn"
+
+
 def affixes(negative, minus, plus):
     """What stands before and after a number with minus and with plus, by the negative subpattern (UTS 35 Part 3,
     Explicit Plus Signs)."""
@@ -623,7 +627,7 @@ def signs_of(release, locale, system, pattern):
 
 def symbols_entry(release, locale, system):
     """The symbols of a numbering system, without `locale` and `system`."""
-    pattern = release.text(locale, plain_path(system)) or release.text(locale, plain_path("latn"))
+    pattern = release.text(locale, plain_path(formats_of(release, locale, system)))
     if pattern is None:
         raise Inexpressible("no plain pattern")
     sizes, minus, plus = signs_of(release, locale, system, pattern)
@@ -802,7 +806,8 @@ class TablesMaker:
         """Adds the compact patterns of the default system, and of the others where they differ from these."""
         default = None
         for system in systems:
-            reader = CompactReader(self.release, locale, system, style, rules)
+            formats = formats_of(self.release, locale, system)
+            reader = CompactReader(self.release, locale, formats, style, rules)
             patterns = self.try_entry(locale, f"decimalFormats[{system}]/{style}", reader.table)
             if patterns is not None and patterns != default:
                 which = {} if system == systems[0] else {"system": system}
