@@ -1,6 +1,6 @@
 -- Lemmas on what the backends of patterns accept, and on the equality of patterns. They stand here and not in proofs/
 -- because the impls of `PatternBackend` and of the comparisons cite them.
-use Rattle.std.specs.Prelude.{◌≡◌, true, ℕ, ◌≤◌, ◌<◌, List, Option, Some, None, IfSome, IsTrue, is_none, length, slice_index}
+use Rattle.std.specs.Prelude.{◌≡◌, true, ℕ, ◌≤◌, ◌<◌, List, Option, Some, None, IfSome, IsSome, IsTrue, refl, is_none, length, slice_index}
 use Rattle.std.specs.Cmp.{IsEquivalence}
 use Rattle.std.specs.Cmp.Lexicographic.{options_equiv}
 use Rattle.std.specs.Option.{option_map_or}
@@ -8,7 +8,7 @@ use Rattle.std.specs.Str.{IsCharBoundary}
 use Rattle.std.proofs.Common.{arith, inl, inr}
 use Rattle.std.proofs.lemmas.Bool.{leb-true, ltb-true, and_parts, or_cases}
 use Rattle.std.proofs.lemmas.Cmp.{and_equiv, on_equiv, nat_eq_equiv, nat_list_eq_equiv}
-use Rattle.icu_pattern.specs.Patterns.{PatternText, PlaceFits, is_boundary, has_fitting_place, has_no_place, same_pattern}
+use Rattle.icu_pattern.specs.Patterns.{PatternText, PlaceFits, is_boundary, has_fitting_place, has_no_place, place_alone, same_pattern}
 
 -- what passes the test is a place where a text may be cut
 pub IsCharBoundary-tested : (text : List ℕ) (k : ℕ) → is_boundary text k ≡ true → IsCharBoundary text k
@@ -36,6 +36,18 @@ PlaceFits-without p h = go p.literal p.place h
     go : (literal : List ℕ) (place : Option ℕ) → IsTrue (is_none place) → IfSome place (λ k. IsCharBoundary literal k)
     go literal None h = tt
     go literal (Some k) h = absurd (cc)
+
+-- the place alone fits
+pub place_alone-fits : (p : PatternText) → IsTrue (has_fitting_place p) → IsSome p.place → IsTrue (has_fitting_place place_alone)
+place_alone-fits p h s = refl
+
+-- no pattern without a place has one
+pub place_alone-without : (p : PatternText) → IsTrue (has_no_place p) → IsSome p.place → IsTrue (has_no_place place_alone)
+place_alone-without p h s = absurd (go p.place h s)
+  where
+    go : (place : Option ℕ) → IsTrue (is_none place) → IsSome place → ⊥
+    go None h s = absurd (cc)
+    go (Some k) h s = absurd (cc)
 
 -- the equality of patterns is an equivalence
 pub same_pattern_equiv : IsEquivalence same_pattern

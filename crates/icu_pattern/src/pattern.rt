@@ -142,8 +142,25 @@ impl<P: PatternBackend> Clone for PatternRef<'_, P> {
 impl<P: PatternBackend> Copy for PatternRef<'_, P> {}
 
 impl<'a, P: PatternBackend> PatternRef<'a, P> {
-    ghost use Rattle.std.specs.Prelude.{◌≡◌, IsTrue};
+    ghost use Rattle.std.specs.Prelude.{◌≡◌, ◌↔◌, false, IfOk, IsErrOf, IsOkUnless, IsTrue};
     ghost use Rattle.icu_pattern.specs.Refs.{text_of_ref};
+
+    /// The pattern with this place in a literal that is borrowed. It takes no memory.
+    pub fn try_new(place: Option<usize>, literal: &'a str) -> Result<Self, PatternError>
+        ensures given { IfOk result (λ p. text_of_ref p ≡ record { place = place; literal = literal.now }) }
+        ensures bad_place { IsErrOf result PatternError.BadPlace ↔ (P.accepted (record { place = place; literal = literal.now }) ≡ false) }
+        ensures no_memory { IsOkUnless result PatternError.BadPlace }
+    {
+        if P::accepts(place, literal) {
+            Ok(PatternRef {
+                place,
+                literal,
+                backend: PhantomData,
+            })
+        } else {
+            Err(PatternError::BadPlace)
+        }
+    }
 
     /// How many bytes of the literal stand before the value; none where the pattern has no place.
     pub fn place(&self) -> Option<usize>

@@ -13,3 +13,4 @@ pub mod Holding
 pub mod Drafting
 pub mod Judged
 pub mod BadRules
+pub mod SelectedSlots

@@ -1,5 +1,5 @@
 -- The values of plural elements, and which of them a number selects.
-use Rattle.std.specs.Prelude.{ℕ, Bool, not, ◌&&◌, ◌==◌, is_none, if◌then◌else◌, List, [], ◌∷◌, take, Option, Some, None, unwrap_or}
+use Rattle.std.specs.Prelude.{◌≡◌, ℕ, Bool, false, not, ◌&&◌, ◌==◌, is_some, is_none, if◌then◌else◌, List, [], ◌∷◌, map, take, slice_index_or, Option, Some, None, unwrap_or}
 use Rattle.std.specs.List.{list_all}
 use Rattle.std.specs.Option.{option_eq}
 use Rattle.icu_plurals.specs.Operands.{Operands}
@@ -59,3 +59,32 @@ category_value e Other = None
 -- category's own, else that for all other numbers
 abbrev pub selected : {T : Type 0} → Elements T → Operands → PluralCategory → T
 selected e o category = unwrap_or (explicit_value e o) (unwrap_or (category_value e category) e.other)
+
+-- which slots have a value
+abbrev pub presence : {T : Type 0} → Elements T → List Bool
+presence e = map is_some (slots e)
+
+-- the number of a slot, where it is present
+abbrev pub number_at : List Bool → ℕ → Option ℕ
+number_at present slot = if slice_index_or present slot false then Some slot else None
+
+-- Elements with a value in just these of the first seven slots, and in the last: each is the number of its slot.
+abbrev pub numbered : List Bool → Elements ℕ
+numbered present = record {
+  explicit_zero = number_at present 0;
+  explicit_one = number_at present 1;
+  zero = number_at present 2;
+  one = number_at present 3;
+  two = number_at present 4;
+  few = number_at present 5;
+  many = number_at present 6;
+  other = 7;
+}
+
+-- the slot from which a number of these operands and this category gets its value, where just these are present
+abbrev pub selected_slot : List Bool → Operands → PluralCategory → ℕ
+selected_slot present o category = selected (numbered present) o category
+
+-- whatever the values are, the one that is selected stands in the slot that is
+abbrev pub SelectedSlotHoldsTheSelected : Type 0
+SelectedSlotHoldsTheSelected = (e : Elements (List ℕ)) (o : Operands) (category : PluralCategory) → slice_index_or (slots e) (selected_slot (presence e) o category) None ≡ Some (selected e o category)

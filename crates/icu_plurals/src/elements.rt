@@ -1,5 +1,8 @@
 //! One value for each plural category.
 
+ghost use Rattle.std.specs.Prelude.{◌≡◌, ◌<◌};
+ghost use Rattle.icu_plurals.specs.Elements.{number_at};
+
 use crate::category::PluralCategory;
 use crate::operands::PluralOperands;
 use crate::rules::PluralRules;
@@ -231,6 +234,39 @@ impl<T> PluralElements<T> {
         let small = self.explicit_zero == other.explicit_zero && self.zero == other.zero;
         let middle = self.one == other.one && self.two == other.two && self.few == other.few;
         small && middle && self.many == other.many && self.other == other.other
+    }
+}
+
+impl PluralElements<u8> {
+    ghost use Rattle.std.specs.Prelude.{◌≡◌};
+    ghost use Rattle.icu_plurals.specs.Elements.{numbered};
+
+    /// Elements whose values are the numbers of their slots, in just these slots.
+    pub(crate) fn numbered(present: &[bool; 8]) -> Self
+        ensures { result ≡ numbered present.now }
+    {
+        PluralElements {
+            explicit_zero: number_at(present, 0),
+            explicit_one: number_at(present, 1),
+            zero: number_at(present, 2),
+            one: number_at(present, 3),
+            two: number_at(present, 4),
+            few: number_at(present, 5),
+            many: number_at(present, 6),
+            other: 7,
+        }
+    }
+}
+
+/// The number of a slot that is present.
+fn number_at(present: &[bool; 8], slot: u8) -> Option<u8>
+    requires { slot < 8 }
+    ensures { result ≡ number_at present.now slot }
+{
+    if present[slot as usize] {
+        Some(slot)
+    } else {
+        None
     }
 }
 

@@ -1,5 +1,6 @@
 //! What holds of all operands and of all texts of conditions. The functions do nothing: each is its contract.
 ghost use Rattle.icu_plurals.specs.Laws.{MovingThePointMultiplies, ExactlyIsTheNumber};
+ghost use Rattle.icu_plurals.specs.Elements.{SelectedSlotHoldsTheSelected};
 ghost use Rattle.icu_plurals.specs.ConditionLaws.{EachTextIsJudged, NoTextIsJudgedTwice, FirstFaultsAreUnique, ConditionsAreUnique, TurnedRangesAreEmpty};
 
 /// Each text spells a condition or has a first fault, and none has both.
@@ -33,4 +34,10 @@ pub fn moving_the_point_multiplies()
 #[tactic(auto, using(crate::proofs::MovedPoint::exactly_is_the_number))]
 pub fn exactly_is_the_number()
     ensures { ExactlyIsTheNumber }
+{}
+
+/// The value that a number selects stands in the slot that it selects by what is present alone, here for texts.
+#[tactic(auto, using(crate::proofs::SelectedSlots::selected_slot_holds))]
+pub fn the_selected_slot_holds_the_selected_value()
+    ensures { SelectedSlotHoldsTheSelected }
 {}

@@ -1,10 +1,12 @@
 //! Plural rules, and the category of a number by them.
-ghost use Rattle.std.specs.Prelude.{◌≡◌, ◌↔◌, ℕ, None, IfOk, IsOkUnless, IsErrOf, map};
+ghost use Rattle.std.specs.Prelude.{◌≡◌, ◌↔◌, ◌<◌, ℕ, true, None, IfOk, IsOkUnless, IsErrOf, map, slice_index_or, false};
 ghost use Rattle.std.specs.List.{AllZip};
+ghost use Rattle.icu_plurals.specs.Elements.{selected_slot};
 ghost use Rattle.icu_plurals.specs.Rules.{given_rules, IsReadFrom, IsFirstBadRule, category_of, rule_of, bad_rule_from};
 
 use crate::category::PluralCategory;
 use crate::condition::Condition;
+use crate::elements::PluralElements;
 use crate::error::RulesError;
 use crate::operands::PluralOperands;
 use crate::reader::{first_fault, read_condition};
@@ -111,6 +113,17 @@ impl PluralRules {
         ensures category { result ≡ category_of self.now operands }
     {
         first_category(&self.rules, operands)
+    }
+
+    /// The slot, counted from 0 in the order of `PluralElements::slot`, from which a number of these operands gets its
+    /// value where just these slots are present. It takes no memory.
+    #[tactic(auto, using(crate::proofs::SelectedSlots::selected_slot_small))]
+    pub fn slot_for(&self, operands: &PluralOperands, present: &[bool; 8]) -> u8
+        requires { slice_index_or present.now 7 false ≡ true }
+        ensures slot { result ≡ selected_slot present.now operands.now (category_of self.now operands.now) }
+        ensures in_range { result < 8 }
+    {
+        *PluralElements::numbered(present).get(*operands, self)
     }
 
     /// Equal rules, with memory of their own.

@@ -5,3 +5,4 @@ mod loading;
 mod operands;
 mod plural;
 mod rules;
+mod slots;

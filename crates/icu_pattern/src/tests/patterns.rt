@@ -1,7 +1,7 @@
 //! Patterns: which are accepted, and when they are equal.
 
 use super::{is_displayed, is_lent, judged, pattern_of};
-use crate::{NoPlaceholder, Pattern, PatternBackend, PatternError, SinglePlaceholder};
+use crate::{NoPlaceholder, Pattern, PatternBackend, PatternError, PatternRef, SinglePlaceholder};
 use std::alloc::Global;
 use std::process::Abort;
 
@@ -44,6 +44,14 @@ fn judges<P: PatternBackend>(
     }
 }
 
+/// Whether the backend accepts a place in a literal that is borrowed or refuses it, as its test says.
+fn judges_lent<P: PatternBackend>(place: Option<usize>, literal: &str, is_accepted: bool) -> bool {
+    match PatternRef::<P>::try_new(place, literal) {
+        Ok(lent) => is_accepted && lent.place() == place && lent.literal() == literal,
+        Err(refusal) => !is_accepted && refusal == PatternError::BadPlace,
+    }
+}
+
 const PLACES: [usize; 11] = [0, 1, 2, 3, 4, 5, 6, 7, 8, 9, usize::MAX];
 
 /// Whether just the edges of the characters are places.
@@ -52,11 +60,13 @@ fn has_edges(alloc: Global, literal: &Literal) -> bool {
         let is_edge = literal.edges.contains(&place);
         if SinglePlaceholder::accepts(Some(place), literal.text) != is_edge
             || !judges::<SinglePlaceholder>(alloc, Some(place), literal.text, is_edge)
+            || !judges_lent::<SinglePlaceholder>(Some(place), literal.text, is_edge)
         {
             return false;
         }
     }
     judges::<SinglePlaceholder>(alloc, None, literal.text, true)
+        && judges_lent::<SinglePlaceholder>(None, literal.text, true)
 }
 
 #[test]
@@ -71,11 +81,14 @@ fn has_no_place(alloc: Global, literal: &str) -> bool {
     for place in [0, 1, 2] {
         if NoPlaceholder::accepts(Some(place), literal)
             || !judges::<NoPlaceholder>(alloc, Some(place), literal, false)
+            || !judges_lent::<NoPlaceholder>(Some(place), literal, false)
         {
             return false;
         }
     }
-    NoPlaceholder::accepts(None, literal) && judges::<NoPlaceholder>(alloc, None, literal, true)
+    NoPlaceholder::accepts(None, literal)
+        && judges::<NoPlaceholder>(alloc, None, literal, true)
+        && judges_lent::<NoPlaceholder>(None, literal, true)
 }
 
 #[test]
