@@ -93,15 +93,13 @@ fn range_of(bytes: &[u8], index: usize) -> (usize, usize)
     (start, start + bytes[index] as usize)
 }
 
-/// The text of symbols at an index, cut out of their bytes.
+/// The text of symbols at an index, cut out of their bytes. It isn't checked again to be UTF-8, which every number that is
+/// written would pay for: that it is follows from `symbols`, and the prover asks for it.
 pub(crate) fn text(bytes: &[u8], index: usize) -> &str
     requires symbols { IsSymbolBytes bytes.now }
     requires inside { index < COUNT }
     ensures { result.now ≡ text_at bytes.now index }
 {
     let (start, end) = range_of(bytes, index);
-    match str::from_utf8(&bytes[start..end]) {
-        Ok(text) => text,
-        Err(_) => unreachable!(),
-    }
+    unsafe { str::from_utf8_unchecked(&bytes[start..end]) }
 }
