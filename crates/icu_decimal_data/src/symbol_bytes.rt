@@ -2,7 +2,7 @@
 
 #![tactic(auto, using(crate::proofs::SymbolReading::reading))]
 
-ghost use Rattle.std.specs.Prelude.{◌≡◌, ℕ, ◌+◌, ◌<◌, ◌≤◌, ◌++◌, length, map, sum_by, slice_range, All, IsTrue, IfOk, IfSome, IsNone};
+ghost use Rattle.std.specs.Prelude.{◌≡◌, ℕ, ◌+◌, ◌<◌, ◌≤◌, ◌++◌, length, map, sum_by, slice_range, All, IsTrue, IfOk, IfSome, IsNone, vec_capacity};
 ghost use Rattle.std.specs.List.{concat};
 ghost use Rattle.std.specs.Str.{is_utf8};
 ghost use Rattle.icu_decimal_data.specs.SymbolBytes.{packed, text_start, text_at, IsSymbolBytes};
@@ -35,7 +35,8 @@ pub(crate) fn short_len(texts: &[&str]) -> Option<usize>
 /// The lengths of texts, in a list with room for this many bytes.
 fn lengths(alloc: Global, texts: &[&str], capacity: usize) -> Result<Vec<u8>, AllocError>
     requires { sum_by (λ t. length t.now) texts.now ≤ MAX_LEN }
-    ensures { IfOk result (λ v. v.items ≡ map length (map (λ t. t.now) texts.now)) }
+    ensures items { IfOk result (λ v. v.items ≡ map length (map (λ t. t.now) texts.now)) }
+    ensures room { IfOk result (λ v. capacity ≤ vec_capacity v) }
 {
     let mut bytes = Vec::with_capacity(alloc, capacity)?;
     for text in texts {
