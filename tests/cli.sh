@@ -239,6 +239,45 @@ yes 1234567 | head -n 2000000 | (ulimit -v 10000; exec timeout 20 "$program") 2>
 status=${PIPESTATUS[2]}
 judge 'many lines in little memory' 0 '1,234,567\n' ''
 
+# A reader that goes away before the first line, and one that goes late.
+: >"$folder/out"
+{ sleep 0.3; yes 1234567 | head -n 50000; } | { timeout 20 "$program" 2>"$folder/err"; echo $? >"$folder/status"; } | :
+status=$(cat "$folder/status")
+judge 'a reader closed before the first line' 1 '' "$failed"
+
+yes 1234567 | head -n 300000 | { timeout 20 "$program" 2>"$folder/err"; echo $? >"$folder/status"; } | head -n 150000 | md5sum >"$folder/sum"
+status=$(cat "$folder/status")
+yes 1,234,567 | head -n 150000 | md5sum | cmp -s - "$folder/sum" || echo 'another beginning' >"$folder/out"
+judge 'a reader closed late' 1 '' "$failed"
+
+# A terminal as standard input, where a line feed and a sign for the end of file are typed.
+python3 - "$program" >"$folder/out" 2>"$folder/err" <<'END'
+import os, pty, subprocess, sys
+typed, terminal = pty.openpty()
+program = subprocess.Popen(sys.argv[1:], stdin=terminal)
+os.write(typed, b"1234567\n-5\n\x04")
+sys.exit(program.wait(timeout=20))
+END
+status=$?
+judge 'a terminal as standard input' 0 '1,234,567\n-5\n' ''
+
+# Files that end in the middle of a character.
+lines 'an end in the middle of a character' '5\n\xe2\x80' '5\nerror: not a decimal\n'
+answers 'fr - long' '1000\n1\xe2\x80' 'mille\nerror: not a decimal\n'
+printf '1000007\n1\xe0\xa7' >"$folder/lines"
+timeout 20 "$program" "$sample" bn - plain <"$folder/lines" >"$folder/out" 2>"$folder/err"
+status=$?
+judge 'a file that ends in the middle of a character' 0 '১০,০০,০০৭\nerror: not a decimal\n' ''
+cut=$(LC_ALL=C grep -abo $'[\xc0-\xff]' "$sample" | head -n 1 | cut -d : -f 1)
+head -c $((cut + 1)) "$sample" >"$folder/tables.json"
+ends 'tables that end in the middle of a character' 3 "$refused" "$folder/tables.json" en - plain
+
+# A gigabyte of lines, where 10 MB of address space are allowed.
+long=1234567.$(seq -s '' 1 50)
+yes "$long" | head -c 1000000000 | (ulimit -v 10000; exec timeout 120 "$program") 2>"$folder/err" | tail -n 1 | cut -c 1-20 >"$folder/out"
+status=${PIPESTATUS[2]}
+judge 'a gigabyte in little memory' 0 '1,234,567.1234567891\n' ''
+
 # The same failures in a compact mode.
 : >"$folder/out"
 yes 1650 | head -n 500000 | { timeout 60 "$program" "$sample" en - short 2>"$folder/err"; echo $? >"$folder/status"; } | head -n 1 >/dev/null

@@ -1,0 +1,30 @@
+/* Loaded before the C library: the REFUSED-th call of malloc or realloc finds no memory, and leaves the file MARK. */
+#define _GNU_SOURCE
+#include <dlfcn.h>
+#include <errno.h>
+#include <fcntl.h>
+#include <stdlib.h>
+#include <unistd.h>
+
+static void *(*usual_malloc)(size_t);
+static void *(*usual_realloc)(void *, size_t);
+static long calls, refused;
+
+static void find_usual(void) {
+    const char *number = getenv("REFUSED");
+    refused = number ? atol(number) : 0;
+    *(void **)&usual_realloc = dlsym(RTLD_NEXT, "realloc");
+    *(void **)&usual_malloc = dlsym(RTLD_NEXT, "malloc");
+}
+
+static int is_refused(void) {
+    if (!usual_malloc) find_usual();
+    if (++calls != refused) return 0;
+    const char *mark = getenv("MARK");
+    if (mark) close(open(mark, O_CREAT | O_WRONLY, 0600));
+    errno = ENOMEM;
+    return 1;
+}
+
+void *malloc(size_t size) { return is_refused() ? 0 : usual_malloc(size); }
+void *realloc(void *old, size_t size) { return is_refused() ? 0 : usual_realloc(old, size); }
