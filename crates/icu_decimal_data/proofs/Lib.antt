@@ -14,3 +14,11 @@ pub mod Worked
 pub mod ReadableParts
 pub mod Joined
 pub mod ReadableTables
+pub mod TableBasics
+pub mod SlotLaws
+pub mod SlotsLaws
+pub mod RecordLaws
+pub mod RecordRepeats
+pub mod TableLoops
+pub mod TableSteps
+pub mod PackedTables

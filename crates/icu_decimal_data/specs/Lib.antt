@@ -12,3 +12,8 @@ pub mod Faithful
 pub mod Decided
 pub mod Readable
 pub mod ReadableTable
+pub mod PackedTable
+pub mod TableBytes
+pub mod TableReading
+pub mod TableAnswers
+pub mod TableShown
