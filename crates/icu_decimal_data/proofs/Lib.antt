@@ -11,3 +11,11 @@ pub mod KeptSteps
 pub mod EntryPlaces
 pub mod KeptMeaning
 pub mod Worked
+pub mod TableBasics
+pub mod SlotLaws
+pub mod SlotsLaws
+pub mod RecordLaws
+pub mod RecordRepeats
+pub mod TableLoops
+pub mod TableSteps
+pub mod PackedTables

@@ -10,3 +10,8 @@ pub mod KeptSince
 pub mod SameTable
 pub mod Faithful
 pub mod Decided
+pub mod PackedTable
+pub mod TableBytes
+pub mod TableReading
+pub mod TableAnswers
+pub mod TableShown

@@ -1,4 +1,4 @@
-//! Why symbols and compact tables are refused, and bytes of symbols.
+//! Why symbols and compact tables are refused, and bytes of both.
 
 use std::alloc::{AllocError, AllocFailed};
 use thiserror::Error;
@@ -81,7 +81,7 @@ impl<T: Drop> From<AllocFailed<T>> for CompactError {
     }
 }
 
-/// Bytes aren't those of symbols.
+/// Bytes aren't those of symbols, or of a compact table.
 #[derive(Clone, Copy, Debug, PartialEq, Eq, Error)]
 #[error("the bytes are damaged at byte {byte}")]
 pub struct Damaged {

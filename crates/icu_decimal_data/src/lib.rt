@@ -4,6 +4,7 @@
 
 mod compact;
 mod compact_entry;
+mod compact_view;
 mod decimal_symbols;
 mod error;
 mod fallback;
@@ -15,8 +16,11 @@ mod symbol_bytes;
 mod symbol_damage;
 mod symbols;
 mod symbols_view;
+mod table_bytes;
+mod table_damage;
 
 pub use compact::CompactPatterns;
+pub use compact_view::CompactView;
 pub use decimal_symbols::DecimalSymbols;
 pub use error::{CompactError, Damaged, SymbolsError};
 pub use fallback::load_with_fallback;

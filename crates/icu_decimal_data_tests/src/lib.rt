@@ -18,4 +18,6 @@ mod symbol_bytes;
 #[cfg(test)]
 mod symbols;
 #[cfg(test)]
+mod table_bytes;
+#[cfg(test)]
 mod tables;

@@ -1,0 +1,65 @@
+-- Small facts.
+use Rattle.std.proofs.Common.{◌≡◌, ℕ, ◌+◌, ◌-◌, ◌*◌, ◌/◌, ◌%◌, ◌<◌, ◌≤◌, Bool, true, false, not, ◌&&◌, ◌||◌, List, ◌++◌, length, get_or, take, drop, slice_range, Result, Ok, Err, refl, ap, ◌∙◌, arith, inl, inr}
+use Rattle.std.proofs.lemmas.Bool.{cases_lt}
+use Rattle.std.proofs.lemmas.List.{get_or-drop, get_or-take, get_or_past, length-take, length-drop, drop-drop}
+use Rattle.std.proofs.Math.Seq.{take-add}
+use Rattle.icu_decimal_data.specs.TableReading.{unless, ◌>>=◌}
+
+abbrev pub IsBytes : List ℕ → Type 0
+IsBytes bytes = (i : ℕ) → get_or bytes i 0 < 256
+
+pub IsBytes-drop : (n : ℕ) (bytes : List ℕ) → IsBytes bytes → IsBytes (drop n bytes)
+IsBytes-drop n bytes h i = rw get_or-drop (h (n + i))
+
+pub IsBytes-take : (n : ℕ) (bytes : List ℕ) → IsBytes bytes → IsBytes (take n bytes)
+IsBytes-take n bytes h i =
+    elim (cases_lt i n) [
+      | inl lt ↦ rw (get_or-take n bytes i 0 lt) (h i)
+      | inr le ↦ rw (get_or_past (take n bytes) i 0 (omega (arith, length-take n bytes))) (omega arith)
+    ]
+
+pub bind_ok : {A B : Type 0} (r : Result A ℕ) (f : A → Result B ℕ) (y : B) → (r >>= f) ≡ Ok y → (x : A) × (r ≡ Ok x) × (f x ≡ Ok y)
+bind_ok (Ok x) f y e = (x, refl, e)
+bind_ok (Err d) f y e = absurd cc
+
+pub unless_ok : (b : Bool) (byte : ℕ) (rest : Result ℕ ℕ) (next : ℕ) → unless b byte rest ≡ Ok next → (b ≡ false) × (rest ≡ Ok next)
+unless_ok true byte rest next e = absurd cc
+unless_ok false byte rest next e = (refl, e)
+
+abbrev given : ℕ → Result ℕ ℕ
+given x = Ok x
+
+pub ok_is : (x y : ℕ) → given x ≡ given y → x ≡ y
+ok_is x y e = cc
+
+pub not_false : (b : Bool) → not b ≡ false → b ≡ true
+not_false true e = refl
+not_false false e = absurd cc
+
+pub or_false : (a b : Bool) → (a || b) ≡ false → (a ≡ false) × (b ≡ false)
+or_false true b e = absurd cc
+or_false false b e = (refl, e)
+
+pub and_true : (a b : Bool) → (a && b) ≡ true → (a ≡ true) × (b ≡ true)
+and_true true b e = (refl, e)
+and_true false b e = absurd cc
+
+-- low and high bytes
+pub low_is : (a b : ℕ) → a < 256 → (a + 256 * b) % 256 ≡ a
+low_is a b h = omega arith
+
+pub high_is : (a b : ℕ) → a < 256 → (a + 256 * b) / 256 ≡ b
+high_is a b h = omega arith
+
+pub joined_is : (n : ℕ) → n % 256 + 256 * (n / 256) ≡ n
+joined_is n = omega arith
+
+-- two ranges side by side
+pub range_split : (xs : List ℕ) (a b c : ℕ) → a ≤ b → b ≤ c → slice_range xs a c ≡ slice_range xs a b ++ slice_range xs b c
+range_split xs a b c ab bc =
+    let split : c - a ≡ (b - a) + (c - b) = omega arith in
+    let skip : drop (b - a) (drop a xs) ≡ drop b xs = drop-drop (b - a) a xs ∙ ap (λ (j : ℕ). drop j xs) (omega arith) in
+    ap (λ (j : ℕ). take j (drop a xs)) split ∙ take-add (b - a) (c - b) (drop a xs) ∙ ap (λ (r : List ℕ). slice_range xs a b ++ take (c - b) r) skip
+
+pub length-range : (xs : List ℕ) (a b : ℕ) → a ≤ b → b ≤ length xs → length (slice_range xs a b) ≡ b - a
+length-range xs a b ab h = length-take (b - a) (drop a xs) ∙ omega (arith, length-drop a xs)

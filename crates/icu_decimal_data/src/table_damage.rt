@@ -1,0 +1,293 @@
+//! Whether bytes are those of a compact table, and where not: they are read from left to right, up to the first damage.
+
+#![tactic(auto, using(crate::proofs::TableSteps::steps), unfolding(crate::specs::TableReading::slot_step, crate::specs::TableReading::record_step, crate::specs::TableReading::table_step))]
+
+ghost use Rattle.std.specs.Prelude.{◌≡◌, Bool, ℕ, ◌+◌, ◌*◌, ◌<◌, ◌≤◌, ◌^◌, List, Option, drop, take, length, slice_index, slice_range, IsTrue, ◌↔◌, Some, None, Ok, Err, ◌==◌, ◌&&◌, nat_eq, IfSome, IfOk};
+ghost use Rattle.std.specs.List.{list_all};
+ghost use Rattle.std.specs.Option.{option_map, option_eq};
+ghost use Rattle.icu_base.specs.Patterns.{same_pattern};
+ghost use Rattle.icu_decimal_data.specs.PackedTable.{is_pattern};
+ghost use Rattle.std.specs.Cmp.Lexicographic.{pointwise};
+ghost use Rattle.icu_decimal_data.specs.TableAnswers.{Gives, Passes};
+ghost use Rattle.icu_decimal_data.specs.TableReading.{number, slot_step, slots_step, record_step, records_step, table_step, is_wrong_kind, is_wrong_place, is_wrong_type, is_wrong_exponent, is_repeated, same_at, same_from, place_in, pattern_in, slot_in, slot_at, count_in, pool_start, pool_in, whole_len};
+
+use crate::error::Damaged;
+use crate::table_bytes::{literal_of, number_at, place_of};
+use icu_base::PatternBackend;
+use std::str;
+
+fn is_kind_wrong<P: PatternBackend>(last: bool, kind: u8) -> bool
+    ensures { result ≡ is_wrong_kind P.accepted last kind }
+{
+    kind > 2 || (last && kind == 0) || (kind == 2 && !P::accepts(Some(0), ""))
+}
+
+fn is_place_wrong(slot: &[u8]) -> bool
+    requires { length slot.now ≡ 7 }
+    ensures { result ≡ is_wrong_place slot.now }
+{
+    number_at(slot, 3) < number_at(slot, 5) || (slot[0] == 1 && number_at(slot, 5) != 0)
+}
+
+fn are_zero(bytes: &[u8]) -> bool
+    ensures { result ≡ list_all (λ b. b == 0) bytes.now }
+{
+    bytes.iter().all(|b| *b == 0)
+}
+
+fn is_good_pattern<P: PatternBackend>(place: Option<usize>, literal: &[u8]) -> bool
+    ensures { result ≡ is_pattern P.accepted (record { place = place; literal = literal.now }) }
+{
+    match str::from_utf8(literal) {
+        Ok(literal) => P::accepts(place, literal),
+        Err(_) => false,
+    }
+}
+
+fn is_slot_good<P: PatternBackend>(pool: &[u8], slot: &[u8]) -> bool
+    requires { length slot.now ≡ 7 }
+    ensures { result ≡ is_pattern P.accepted (pattern_in pool.now slot.now) }
+{
+    is_good_pattern::<P>(place_of(slot), literal_of(pool, slot))
+}
+
+/// One slot: how many bytes the literals have after it.
+fn check_slot<P: PatternBackend>(
+    pool: &[u8],
+    pool_start: usize,
+    last: bool,
+    at: usize,
+    sum: usize,
+    slot: &[u8],
+) -> Result<usize, Damaged>
+    requires seven { length slot.now ≡ 7 }
+    requires room { at + 7 < 2 ^ 64 }
+    requires pool_room { pool_start + 2 ^ 16 < 2 ^ 64 }
+    requires sum_room { sum ≤ length pool.now }
+    ensures inside { IfOk result (λ n. n ≤ length pool.now) }
+    ensures gives { Gives result (slot_step P.accepted pool.now pool_start last at sum slot.now) }
+{
+    if is_kind_wrong::<P>(last, slot[0]) {
+        return Err(Damaged { byte: at });
+    }
+    if slot[0] == 0 {
+        if !are_zero(&slot[1..]) {
+            return Err(Damaged { byte: at + 1 });
+        }
+        return Ok(sum);
+    }
+    let start = number_at(slot, 1);
+    let len = number_at(slot, 3);
+    if start != sum {
+        return Err(Damaged { byte: at + 1 });
+    }
+    if start + len > pool.len() {
+        return Err(Damaged { byte: at + 3 });
+    }
+    if is_place_wrong(slot) {
+        return Err(Damaged { byte: at + 5 });
+    }
+    if !is_slot_good::<P>(pool, slot) {
+        return Err(Damaged {
+            byte: pool_start + start,
+        });
+    }
+    Ok(sum + len)
+}
+
+/// The slots of a record.
+#[tactic(auto, using(crate::proofs::TableLoops::slots_loop))]
+fn check_slots<P: PatternBackend>(
+    pool: &[u8],
+    pool_start: usize,
+    at: usize,
+    sum: usize,
+    bytes: &[u8],
+) -> Result<usize, Damaged>
+    requires slots { length bytes.now ≡ 56 }
+    requires room { at + 56 < 2 ^ 64 }
+    requires pool_room { pool_start + 2 ^ 16 < 2 ^ 64 }
+    requires sum_room { sum ≤ length pool.now }
+    ensures inside { IfOk result (λ n. n ≤ length pool.now) }
+    ensures gives { Gives result (slots_step P.accepted pool.now pool_start 8 at sum bytes.now) }
+{
+    let mut total = sum;
+    for j in 0..8 {
+        let slot = &bytes[7 * j..7 * j + 7];
+        total = check_slot::<P>(pool, pool_start, j == 7, at + 7 * j, total, slot)?;
+    }
+    Ok(total)
+}
+
+/// A slot of a record.
+fn slot(bytes: &[u8], index: usize) -> &[u8]
+    requires len { length bytes.now ≡ 58 }
+    requires inside { index < 8 }
+    ensures slot { result.now ≡ slot_at (drop 2 bytes.now) index }
+    ensures seven { length result.now ≡ 7 }
+{
+    &bytes[2 + 7 * index..9 + 7 * index]
+}
+
+fn is_same_place(a: &[u8], b: &[u8]) -> bool
+    requires a { length a.now ≡ 7 }
+    requires b { length b.now ≡ 7 }
+    ensures { result ≡ option_eq nat_eq (place_in a.now) (place_in b.now) }
+{
+    place_of(a) == place_of(b)
+}
+
+fn is_same_literal(pool: &[u8], a: &[u8], b: &[u8]) -> bool
+    requires a { length a.now ≡ 7 }
+    requires b { length b.now ≡ 7 }
+    ensures { result ≡ pointwise nat_eq (pattern_in pool.now a.now).literal (pattern_in pool.now b.now).literal }
+{
+    literal_of(pool, a) == literal_of(pool, b)
+}
+
+fn is_same_pattern(pool: &[u8], a: &[u8], b: &[u8]) -> bool
+    requires a { length a.now ≡ 7 }
+    requires b { length b.now ≡ 7 }
+    ensures { result ≡ same_pattern (pattern_in pool.now a.now) (pattern_in pool.now b.now) }
+{
+    is_same_place(a, b) && is_same_literal(pool, a, b)
+}
+
+fn is_same_slot(pool: &[u8], a: &[u8], b: &[u8]) -> bool
+    requires a { length a.now ≡ 7 }
+    requires b { length b.now ≡ 7 }
+    ensures { result ≡ option_eq same_pattern (slot_in pool.now a.now) (slot_in pool.now b.now) }
+{
+    if a[0] == 0 || b[0] == 0 {
+        a[0] == 0 && b[0] == 0
+    } else {
+        is_same_pattern(pool, a, b)
+    }
+}
+
+/// Whether the slots from the third on are the same.
+#[tactic(auto, using(crate::proofs::RecordRepeats::repeats))]
+fn are_later_same(pool: &[u8], before: &[u8], bytes: &[u8]) -> bool
+    requires before { length before.now ≡ 58 }
+    requires len { length bytes.now ≡ 58 }
+    ensures { result ≡ same_from pool.now before.now bytes.now 2 6 }
+{
+    for j in 2..8 {
+        if !is_same_slot(pool, slot(before, j), slot(bytes, j)) {
+            return false;
+        }
+    }
+    true
+}
+
+fn are_slots_repeated(pool: &[u8], before: &[u8], bytes: &[u8]) -> bool
+    requires before { length before.now ≡ 58 }
+    requires len { length bytes.now ≡ 58 }
+    ensures { result
+        ≡ (same_at pool.now before.now bytes.now 0 && ((slice_index (slot_at (drop 2 bytes.now) 1) 0 == 0) && same_from pool.now before.now bytes.now 2 6)) }
+{
+    is_same_slot(pool, slot(before, 0), slot(bytes, 0))
+        && slot(bytes, 1)[0] == 0
+        && are_later_same(pool, before, bytes)
+}
+
+/// Whether a record has the elements of the one before it, with that one's explicit one taken away.
+fn is_repeating(pool: &[u8], before: &[u8], bytes: &[u8]) -> bool
+    requires before { length before.now ≡ 58 }
+    requires len { length bytes.now ≡ 58 }
+    ensures { result ≡ is_repeated pool.now (Some before.now) bytes.now }
+{
+    are_slots_repeated(pool, before, bytes)
+}
+
+/// One record.
+fn check_record<P: PatternBackend>(
+    pool: &[u8],
+    pool_start: usize,
+    before: Option<&[u8]>,
+    at: usize,
+    sum: usize,
+    bytes: &[u8],
+) -> Result<usize, Damaged>
+    requires len { length bytes.now ≡ 58 }
+    requires before { IfSome before (λ b. length b.now ≡ 58) }
+    requires room { at + 58 < 2 ^ 64 }
+    requires pool_room { pool_start + 2 ^ 16 < 2 ^ 64 }
+    requires sum_room { sum ≤ length pool.now }
+    ensures inside { IfOk result (λ n. n ≤ length pool.now) }
+    ensures gives { Gives result (record_step P.accepted pool.now pool_start (option_map (λ b. b.now) before.entry) at sum bytes.now) }
+{
+    let log10_type = bytes[0];
+    let exponent = bytes[1];
+    if let Some(before) = before {
+        if log10_type <= before[0] {
+            return Err(Damaged { byte: at });
+        }
+    }
+    if exponent > log10_type || log10_type - exponent > 15 {
+        return Err(Damaged { byte: at + 1 });
+    }
+    if let Some(before) = before {
+        if exponent < before[1] {
+            return Err(Damaged { byte: at + 1 });
+        }
+    }
+    let total = check_slots::<P>(pool, pool_start, at + 2, sum, &bytes[2..])?;
+    if let Some(before) = before {
+        if is_repeating(pool, before, bytes) {
+            return Err(Damaged { byte: at });
+        }
+    }
+    Ok(total)
+}
+
+/// The records.
+#[tactic(auto, using(crate::proofs::TableLoops::records_loop))]
+fn check_records<P: PatternBackend>(
+    pool: &[u8],
+    pool_start: usize,
+    count: usize,
+    records: &[u8],
+) -> Result<usize, Damaged>
+    requires len { 58 * count ≤ length records.now }
+    requires few { count ≤ 256 }
+    requires pool_room { pool_start + 2 ^ 16 < 2 ^ 64 }
+    ensures inside { IfOk result (λ n. n ≤ length pool.now) }
+    ensures gives { Gives result (records_step P.accepted pool.now pool_start count None 4 0 records.now) }
+{
+    let mut total = 0;
+    let mut before = None;
+    for i in 0..count {
+        let record = &records[58 * i..58 * i + 58];
+        total = check_record::<P>(pool, pool_start, before, 4 + 58 * i, total, record)?;
+        before = Some(record);
+    }
+    Ok(total)
+}
+
+/// That bytes are those of a table; or the first damaged byte.
+pub(crate) fn check<P: PatternBackend>(bytes: &[u8]) -> Result<(), Damaged>
+    ensures { Passes result (table_step P.accepted bytes.now) }
+{
+    if bytes.len() < 4 {
+        return Err(Damaged { byte: bytes.len() });
+    }
+    let count = number_at(bytes, 0);
+    if count > 256 {
+        return Err(Damaged { byte: 0 });
+    }
+    let pool_len = number_at(bytes, 2);
+    let pool_start = 4 + 58 * count;
+    if bytes.len() != pool_start + pool_len {
+        return Err(Damaged {
+            byte: bytes.len().min(pool_start + pool_len),
+        });
+    }
+    let total = check_records::<P>(&bytes[pool_start..], pool_start, count, &bytes[4..])?;
+    if total != pool_len {
+        return Err(Damaged {
+            byte: pool_start + total,
+        });
+    }
+    Ok(())
+}

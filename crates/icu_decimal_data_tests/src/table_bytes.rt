@@ -1,0 +1,133 @@
+//! Compact tables in one byte string: what is read, and which byte of a damaged string is told.
+
+use icu_base::{NoPlaceholder, PatternBackend, SinglePlaceholder};
+use icu_decimal_data::CompactView;
+
+/// Types 4 and 8 of long Japanese.
+const JAPANESE: [u8; 126] = *b"\x02\x00\x06\x00\
+\x04\x04\0\0\0\0\0\0\0\0\0\0\0\0\0\0\0\0\0\0\0\0\0\0\0\0\0\0\0\0\0\0\0\0\0\0\0\0\0\0\0\0\0\0\0\0\0\0\0\0\0\x02\x00\x00\x03\x00\x00\x00\
+\x08\x08\0\0\0\0\0\0\0\0\0\0\0\0\0\0\0\0\0\0\0\0\0\0\0\0\0\0\0\0\0\0\0\0\0\0\0\0\0\0\0\0\0\0\0\0\0\0\0\0\0\x02\x03\x00\x03\x00\x00\x00\
+\xe4\xb8\x87\xe5\x84\x84";
+
+/// Type 5 with exponent 4, whose pattern is the number and `W`.
+const ONE_ENTRY: [u8; 63] = *b"\x01\x00\x01\x00\
+\x05\x04\0\0\0\0\0\0\0\0\0\0\0\0\0\0\0\0\0\0\0\0\0\0\0\0\0\0\0\0\0\0\0\0\0\0\0\0\0\0\0\0\0\0\0\0\0\0\0\0\0\x02\x00\x00\x01\x00\x00\x00\
+W";
+
+/// Which byte is told, if any.
+fn damage<P: PatternBackend>(bytes: &[u8]) -> Option<usize> {
+    CompactView::<P>::parse(bytes)
+        .err()
+        .map(|damaged| damaged.byte)
+}
+
+#[test]
+fn whole_tables_are_read(rt: HostRuntime) {
+    assert!(rt; damage::<SinglePlaceholder>(&JAPANESE) == None);
+    assert!(rt; damage::<SinglePlaceholder>(&ONE_ENTRY) == None);
+    assert!(rt; damage::<SinglePlaceholder>(&[0, 0, 0, 0]) == None);
+    assert!(rt; damage::<NoPlaceholder>(&[0, 0, 0, 0]) == None);
+}
+
+#[test]
+fn a_place_needs_a_backend_that_has_one(rt: HostRuntime) {
+    assert!(rt; damage::<NoPlaceholder>(&ONE_ENTRY) == Some(55));
+}
+
+#[test]
+fn a_beginning_is_damaged_where_it_ends(rt: HostRuntime) {
+    for len in 0..JAPANESE.len() {
+        assert!(rt;
+            damage::<SinglePlaceholder>(&JAPANESE[..len]) == Some(len),
+            "{len}"
+        );
+    }
+}
+
+/// A byte of long Japanese, another value of it, and the byte that is told.
+const CHANGED: [(usize, u8, usize); 8] = [
+    (62, 4, 62),
+    (63, 3, 63),
+    (114, 2, 114),
+    (116, 4, 116),
+    (116, 2, 123),
+    (118, 1, 123),
+    (2, 7, 126),
+    (0, 3, 126),
+];
+
+#[test]
+fn each_fault_tells_its_byte(rt: HostRuntime) {
+    for (index, value, byte) in CHANGED {
+        let mut bytes = JAPANESE;
+        if index < bytes.len() {
+            bytes[index] = value;
+        }
+        assert!(rt;
+            damage::<SinglePlaceholder>(&bytes) == Some(byte),
+            "{index} to {value}"
+        );
+    }
+}
+
+/// A byte of the table of one entry, another value of it, and the byte that is told.
+const CHANGED_ENTRY: [(usize, u8, usize); 5] = [
+    (5, 6, 5),
+    (55, 0, 55),
+    (62, 0xff, 62),
+    (1, 2, 0),
+    (4, 20, 5),
+];
+
+#[test]
+fn each_fault_of_one_entry_tells_its_byte(rt: HostRuntime) {
+    for (index, value, byte) in CHANGED_ENTRY {
+        let mut bytes = ONE_ENTRY;
+        if index < bytes.len() {
+            bytes[index] = value;
+        }
+        assert!(rt;
+            damage::<SinglePlaceholder>(&bytes) == Some(byte),
+            "{index} to {value}"
+        );
+    }
+}
+
+#[test]
+fn a_repeated_pattern_is_told_at_the_type(rt: HostRuntime) {
+    let mut bytes = JAPANESE;
+    bytes[123] = 0xe4;
+    bytes[124] = 0xb8;
+    bytes[125] = 0x87;
+    assert!(rt; damage::<SinglePlaceholder>(&bytes) == Some(62));
+}
+
+/// Whether bytes are read, or refused by a byte that isn't above their number.
+fn is_told_inside(bytes: &[u8]) -> bool {
+    match damage::<SinglePlaceholder>(bytes) {
+        Some(byte) => byte <= bytes.len(),
+        None => true,
+    }
+}
+
+/// The first value with which a byte of long Japanese is told past the end.
+fn untold(index: usize) -> Option<u8> {
+    if index >= JAPANESE.len() {
+        return None;
+    }
+    for value in 0..=255 {
+        let mut bytes = JAPANESE;
+        bytes[index] = value;
+        if !is_told_inside(&bytes) {
+            return Some(value);
+        }
+    }
+    None
+}
+
+#[test]
+fn each_byte_set_to_each_value_is_told_inside(rt: HostRuntime) {
+    for index in 0..JAPANESE.len() {
+        assert!(rt; untold(index) == None, "byte {index}");
+    }
+}
