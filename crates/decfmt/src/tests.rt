@@ -10,25 +10,29 @@ use std::alloc::{AllocError, Global};
 use std::io;
 use std::io::{ErrorKind, Read, Write};
 
-/// Gives one byte a call, and after `good` bytes an error, if there are more.
+/// Gives so many bytes a call at most, and after `good` bytes an error, if there are more.
 #[derive(Drop)]
 struct SlowReader<'a> {
     bytes: &'a [u8],
     good: usize,
+    at_once: usize,
 }
 
 impl Read for SlowReader<'_> {
     fn read(&mut self, buf: &mut [u8]) -> io::Result<usize> {
-        let Some((first, rest)) = self.bytes.split_first() else {
+        if self.bytes.is_empty() {
             return Ok(0);
-        };
-        if self.good == 0 || buf.is_empty() {
+        }
+        let most = self.at_once.min(self.good);
+        let count = most.min(self.bytes.len()).min(buf.len());
+        if count == 0 {
             return Err(io::Error::from(ErrorKind::Other));
         }
-        buf[0] = *first;
+        let (given, rest) = self.bytes.split_at(count);
+        buf[..count].copy_from_slice(given);
         self.bytes = rest;
-        self.good -= 1;
-        Ok(1)
+        self.good -= count;
+        Ok(count)
     }
 }
 
@@ -73,7 +77,11 @@ fn runs_slowly(
     (room, full): (usize, Full),
     (outcome, want): (Result<(), RunError>, &[u8]),
 ) -> bool {
-    let mut reader = SlowReader { bytes, good };
+    let mut reader = SlowReader {
+        bytes,
+        good,
+        at_once: 1,
+    };
     let mut writer = SlowWriter {
         held: Vec::new(alloc),
         room,
@@ -256,6 +264,41 @@ fn cuts_lines_across_blocks(rt: HostRuntime) {
     assert!(rt; answers_many(rt.alloc(), b"-1234567.8\r\n", b"-1,234,567.8\n", 20000));
 }
 
+/// Whether the English run over these bytes, so many a call at most, leaves this.
+fn answers_by(alloc: Global, bytes: &[u8], at_once: usize, want: &[u8]) -> bool {
+    let mut reader = SlowReader {
+        bytes,
+        good: usize::MAX,
+        at_once,
+    };
+    let mut written = Vec::new(alloc);
+    match Mode::english(alloc) {
+        Ok(mode) => match run(alloc, &mode, &mut reader, &mut written) {
+            Ok(()) => written.as_slice() == want,
+            Err(_) => false,
+        },
+        Err(_) => false,
+    }
+}
+
+/// Whether the answers' lines are answered so, however many bytes are read at once.
+fn answers_lines_by(alloc: Global, at_once: usize) -> bool {
+    match column(alloc, false) {
+        Ok(input) => match column(alloc, true) {
+            Ok(want) => answers_by(alloc, &input, at_once, &want),
+            Err(_) => false,
+        },
+        Err(_) => false,
+    }
+}
+
+#[test]
+fn answers_whatever_is_read_at_once(rt: HostRuntime) {
+    for at_once in [1, 2, 3, 7] {
+        assert!(rt; answers_lines_by(rt.alloc(), at_once), "by {at_once}");
+    }
+}
+
 const LINES: &[u8] = b"5\n6\r\n7";
 
 /// How much room there is, and what is held where it ends.
@@ -268,31 +311,38 @@ const ROOMS: [(usize, &str); 6] = [
     (5, "5\n6\n7"),
 ];
 
+/// Whether a writer with this room is left with this, both where it fails then and where it takes no more.
+fn keeps(alloc: Global, room: usize, want: &[u8]) -> bool {
+    let fault = Err(RunError::Write);
+    ends(
+        alloc,
+        (LINES, usize::MAX),
+        (room, Full::Fails),
+        (fault, want),
+    ) && ends(
+        alloc,
+        (LINES, usize::MAX),
+        (room, Full::TakesNothing),
+        (fault, want),
+    )
+}
+
 #[test]
 fn keeps_a_beginning_where_writing_fails(rt: HostRuntime) {
     for (room, want) in ROOMS {
-        assert!(rt;
-            ends(
-                rt.alloc(),
-                (LINES, usize::MAX),
-                (room, Full::Fails),
-                (Err(RunError::Write), want.as_bytes())
-            ),
-            "after {room}"
-        );
+        assert!(rt; keeps(rt.alloc(), room, want.as_bytes()), "after {room}");
     }
-    assert!(rt;
-        ends(
-            rt.alloc(),
-            (b"5\n", usize::MAX),
-            (0, Full::TakesNothing),
-            (Err(RunError::Write), b"")
-        )
-    );
 }
 
 /// How many bytes can be read, and what is written of them.
-const GOOD: [(usize, &str); 4] = [(0, ""), (1, ""), (3, "5\n"), (5, "5\n6\n")];
+const GOOD: [(usize, &str); 6] = [
+    (0, ""),
+    (1, ""),
+    (2, "5\n"),
+    (3, "5\n"),
+    (4, "5\n"),
+    (5, "5\n6\n"),
+];
 
 #[test]
 fn keeps_whole_lines_where_reading_fails(rt: HostRuntime) {

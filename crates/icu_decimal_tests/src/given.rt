@@ -158,7 +158,8 @@ fn tells(rt: &impl Abort, alloc: Global, language: Language, magnitude: i16, exp
     formatter.compact_exponent_for_magnitude(magnitude) == exponent
 }
 
-const EXPONENTS: [(Language, i16, u8); 9] = [
+const EXPONENTS: [(Language, i16, u8); 10] = [
+    (Language::ShortEnglish, -32768, 0),
     (Language::ShortEnglish, -1, 0),
     (Language::ShortEnglish, 2, 0),
     (Language::ShortEnglish, 3, 3),

@@ -7,7 +7,11 @@ mod carries;
 #[cfg(test)]
 mod compact;
 #[cfg(test)]
+mod ends;
+#[cfg(test)]
 mod fixtures;
+#[cfg(test)]
+mod full;
 #[cfg(test)]
 mod given;
 #[cfg(test)]

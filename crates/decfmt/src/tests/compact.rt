@@ -2,6 +2,7 @@
 
 use super::{Full, nines, runs_at_once, runs_slowly};
 use crate::mode::Mode;
+use crate::running::RunError;
 use icu_base::{Pattern, PluralElements, PluralRules, SinglePlaceholder};
 use icu_decimal::provider::CompactPatterns;
 use icu_decimal::{CompactDecimalFormatter, DecimalFormatter};
@@ -112,4 +113,60 @@ fn refuses_numbers_past_the_limits(rt: HostRuntime) {
     assert!(rt; answers_nines(rt.alloc(), 32767, b'9', b"error: overflow\n"));
     assert!(rt; answers_nines(rt.alloc(), 32768, b'9', b"error: too many digits\n"));
     assert!(rt; answers_nines(rt.alloc(), 32768, b'x', b"error: not a decimal\n"));
+}
+
+/// Whether a run over three numbers, of which so many bytes can be read, into a writer with this room ends so and leaves
+/// this.
+fn ends(
+    alloc: Global,
+    good: usize,
+    output: (usize, Full),
+    want: (Result<(), RunError>, &[u8]),
+) -> bool {
+    match short_english(alloc) {
+        Some(mode) => runs_slowly(alloc, &mode, (b"1650\n1750\n1950", good), output, want),
+        None => false,
+    }
+}
+
+/// What is written of the three numbers.
+const WRITTEN: &[u8] = b"1.6K\n1.8K\n2K\n";
+
+/// Whether a writer with this room is left with a beginning, both where it fails then and where it takes no more.
+fn keeps(alloc: Global, room: usize) -> bool {
+    let Some(want) = WRITTEN.get(..room) else {
+        return false;
+    };
+    let fault = Err(RunError::Write);
+    ends(alloc, usize::MAX, (room, Full::Fails), (fault, want))
+        && ends(alloc, usize::MAX, (room, Full::TakesNothing), (fault, want))
+}
+
+#[test]
+fn keeps_a_beginning_where_writing_fails(rt: HostRuntime) {
+    for room in 0..WRITTEN.len() {
+        assert!(rt; keeps(rt.alloc(), room), "after {room}");
+    }
+}
+
+/// How many bytes can be read, and what is written of them.
+const GOOD: [(usize, &str); 7] = [
+    (0, ""),
+    (1, ""),
+    (4, ""),
+    (5, "1.6K\n"),
+    (9, "1.6K\n"),
+    (10, "1.6K\n1.8K\n"),
+    (13, "1.6K\n1.8K\n"),
+];
+
+#[test]
+fn keeps_whole_lines_where_reading_fails(rt: HostRuntime) {
+    for (good, want) in GOOD {
+        let wanted = (Err(RunError::Read), want.as_bytes());
+        assert!(rt;
+            ends(rt.alloc(), good, (usize::MAX, Full::Fails), wanted),
+            "after {good}"
+        );
+    }
 }
