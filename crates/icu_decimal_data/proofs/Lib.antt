@@ -22,3 +22,4 @@ pub mod RecordRepeats
 pub mod TableLoops
 pub mod TableSteps
 pub mod PackedTables
+pub mod TableSearch
