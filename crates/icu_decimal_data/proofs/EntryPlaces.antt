@@ -40,7 +40,7 @@ kept e [] j h = absurd (omega arith)
 kept e (f ∷ fs) zero h = refl
 kept e (f ∷ fs) (suc j) h = kept e fs j (omega arith)
 
-front : (e : TableEntry) (es : List TableEntry) (k : ℕ) (o : Option TableEntry) → k ≤ length es → o ≡ before es k → option_or o (Some e) ≡ slice_get (e ∷ es) k
+pub front : (e : TableEntry) (es : List TableEntry) (k : ℕ) (o : Option TableEntry) → k ≤ length es → o ≡ before es k → option_or o (Some e) ≡ slice_get (e ∷ es) k
 front e es zero o h is = rw is
 front e es (suc j) o h is = rw is (kept e es j h)
 

@@ -19,3 +19,4 @@ pub mod RecordRepeats
 pub mod TableLoops
 pub mod TableSteps
 pub mod PackedTables
+pub mod TableSearch

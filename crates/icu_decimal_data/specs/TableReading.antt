@@ -1,8 +1,9 @@
 -- Reading a table in its bytes, and the first damage from the left.
-use Rattle.std.specs.Prelude.{ℕ, zero, suc, ◌+◌, ◌-◌, ◌*◌, min, Bool, false, true, not, ◌&&◌, ◌||◌, nat_lt, nat_le, ◌==◌, if◌then◌else◌, List, [], ◌∷◌, length, take, drop, slice_index, slice_range, Option, Some, None, Result, Ok, Err}
+use Rattle.std.specs.Prelude.{◌≡◌, ℕ, zero, suc, ◌+◌, ◌-◌, ◌*◌, min, Bool, false, true, not, ◌&&◌, ◌||◌, nat_lt, nat_le, ◌==◌, if◌then◌else◌, List, [], ◌∷◌, length, take, drop, slice_index, slice_range, Option, Some, None, Result, Ok, Err, IsOk, ◌≤◌, ◌<◌}
 use Rattle.std.specs.List.{list_all}
 use Rattle.std.specs.Option.{option_eq}
 use Rattle.std.specs.Cmp.Lexicographic.{pointwise}
+use Rattle.fixed_decimal.specs.Size.{finest}
 use Rattle.icu_base.specs.Patterns.{PatternText, place_alone, same_pattern}
 use Rattle.icu_decimal_data.specs.PackedTable.{is_pattern}
 use Rattle.icu_decimal_data.specs.CompactTable.{TableEntry, PatternElements}
@@ -172,3 +173,31 @@ table_step accepts bytes =
     (unless (not (length bytes == whole_len bytes)) (min (length bytes) (whole_len bytes))
     (records_step accepts (pool_in bytes) (pool_start bytes) (count_in bytes) None 4 0 (drop 4 bytes) >>= λ sum.
     unless (not (sum == number bytes 2)) (pool_start bytes + sum) (Ok sum))))
+
+-- ---- what stands in the bytes of a table
+
+-- bytes in which a table is read
+pub record IsTableBytes (accepts : PatternText → Bool) (bytes : List ℕ) : Type 0 where
+  pub read : IsOk (table_step accepts bytes)
+  pub are_bytes : (i : ℕ) → slice_index bytes i < 256
+
+-- the type of an entry
+abbrev pub type_in : List ℕ → ℕ → ℕ
+type_in bytes index = slice_index bytes (4 + 58 * index)
+
+-- an entry
+abbrev pub entry_of : List ℕ → ℕ → TableEntry
+entry_of bytes index = entry_in (pool_in bytes) (take 58 (drop (58 * index) (drop 4 bytes)))
+
+-- bytes whose records can be searched: they are there, and their types rise
+pub record IsSearchable (bytes : List ℕ) : Type 0 where
+  pub four : 4 ≤ length bytes
+  pub few : count_in bytes ≤ 256
+  pub room : 4 + 58 * count_in bytes ≤ length bytes
+  pub types_rise : (i j : ℕ) → i < j → j < count_in bytes → type_in bytes i < type_in bytes j
+
+-- just the entries before the count have a type that isn't above the magnitude
+pub record IsReached (bytes : List ℕ) (magnitude count : ℕ) : Type 0 where
+  pub within : count ≤ count_in bytes
+  pub below : (i : ℕ) → i < count → nat_le (type_in bytes i + finest) magnitude ≡ true
+  pub above : (i : ℕ) → count ≤ i → i < count_in bytes → nat_le (type_in bytes i + finest) magnitude ≡ false

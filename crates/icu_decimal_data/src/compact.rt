@@ -190,7 +190,7 @@ impl<P: PatternBackend> CompactPatterns<P> {
 }
 
 /// Whether a type is not above a magnitude.
-fn is_reached(log10_type: u8, magnitude: i32) -> bool
+pub(crate) fn is_reached(log10_type: u8, magnitude: i32) -> bool
     ensures { result ≡ nat_le (log10_type + finest) (place magnitude) }
 {
     log10_type as i32 <= magnitude

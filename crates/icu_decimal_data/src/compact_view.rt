@@ -1,13 +1,16 @@
 //! Compact tables in bytes that are lent.
 
-ghost use Rattle.std.specs.Prelude.{◌≡◌, List, IfOk, IsOk, IsOkAnd, MatchResult, Err, ⊤};
-ghost use Rattle.icu_decimal_data.specs.CompactTable.{TableEntry};
+ghost use Rattle.std.specs.Prelude.{◌≡◌, ◌<◌, List, IfOk, IsOk, IsOkAnd, MatchResult, Err, ⊤};
+ghost use Rattle.std.specs.Option.{option_map};
+ghost use Rattle.icu_decimal_data.specs.CompactTable.{TableEntry, entry_for, exponent_for};
 ghost use Rattle.icu_decimal_data.specs.PackedTable.{IsPackable};
 ghost use Rattle.icu_decimal_data.specs.TableBytes.{table_bytes};
-ghost use Rattle.icu_decimal_data.specs.TableReading.{table_step};
+ghost use Rattle.icu_decimal_data.specs.TableReading.{IsTableBytes, table_step, count_in};
+ghost use Rattle.fixed_decimal.specs.Size.{place};
 
 use crate::error::Damaged;
 use crate::table_damage::check;
+use crate::table_search::{exponent_at, reached, type_at};
 use icu_base::PatternBackend;
 use std::alloc::AllocError;
 use std::marker::PhantomData;
@@ -16,7 +19,7 @@ use std::marker::PhantomData;
 pub struct CompactView<'a, P: PatternBackend> {
     bytes: &'a [u8],
     backend: PhantomData<P>,
-    ghost packed: { IsOk (table_step P.accepted bytes.now) },
+    ghost packed: { IsTableBytes P.accepted bytes.now },
 }
 
 impl<P: PatternBackend> Clone for CompactView<'_, P> {
@@ -32,7 +35,7 @@ impl<P: PatternBackend> Clone for CompactView<'_, P> {
 impl<P: PatternBackend> Copy for CompactView<'_, P> {}
 
 impl<'a, P: PatternBackend> CompactView<'a, P> {
-    ghost use Rattle.icu_decimal_data.specs.TableShown.{table_shown};
+    ghost use Rattle.icu_decimal_data.specs.TableShown.{table_shown, entry_shown};
 
     /// The table that has these bytes.
     ///
@@ -50,5 +53,71 @@ impl<'a, P: PatternBackend> CompactView<'a, P> {
             bytes,
             backend: PhantomData,
         })
+    }
+
+    /// The entry of a magnitude, found by binary search: the last one whose type is not above the magnitude.
+    #[tactic(auto, using(crate::proofs::TableSearch::searching))]
+    pub fn entry_for_magnitude(&self, magnitude: i16) -> Option<EntryView<'a, P>>
+        ensures { option_map entry_shown result ≡ entry_for (table_shown self.now) (place magnitude) }
+    {
+        match reached(self.bytes, magnitude as i32) {
+            0 => None,
+            count => Some(EntryView {
+                bytes: self.bytes,
+                index: count - 1,
+                backend: PhantomData,
+            }),
+        }
+    }
+
+    /// The exponent of a magnitude: that of its entry, and 0 where it has none.
+    pub fn exponent_for_magnitude(&self, magnitude: i16) -> u8
+        ensures { result ≡ exponent_for (table_shown self.now) (place magnitude) }
+    {
+        match self.entry_for_magnitude(magnitude) {
+            Some(entry) => entry.exponent(),
+            None => 0,
+        }
+    }
+}
+
+/// An entry of a compact table in its byte string. Its patterns are lent for as long as the bytes are. No call takes memory.
+pub struct EntryView<'a, P: PatternBackend> {
+    bytes: &'a [u8],
+    index: usize,
+    backend: PhantomData<P>,
+    ghost packed: { IsTableBytes P.accepted bytes.now },
+    ghost inside: { index < count_in bytes.now },
+}
+
+impl<P: PatternBackend> Clone for EntryView<'_, P> {
+    ghost is_clone = { λ s r. r ≡ s };
+
+    ghost is_infallible = { λ _. ⊤ };
+
+    fn clone(&self) -> Result<Self, AllocError> {
+        Ok(*self)
+    }
+}
+
+impl<P: PatternBackend> Copy for EntryView<'_, P> {}
+
+impl<'a, P: PatternBackend> EntryView<'a, P> {
+    ghost use Rattle.icu_decimal_data.specs.TableShown.{entry_shown};
+
+    /// The type: the power of ten at which the entry begins.
+    #[tactic(auto, using(crate::proofs::TableSearch::searching))]
+    pub fn log10_type(&self) -> u8
+        ensures { result ≡ (entry_shown self.now).log10_type }
+    {
+        type_at(self.bytes, self.index)
+    }
+
+    /// The exponent: the power of ten that the patterns name.
+    #[tactic(auto, using(crate::proofs::TableSearch::searching))]
+    pub fn exponent(&self) -> u8
+        ensures { result ≡ (entry_shown self.now).exponent }
+    {
+        exponent_at(self.bytes, self.index)
     }
 }

@@ -18,9 +18,10 @@ mod symbols;
 mod symbols_view;
 mod table_bytes;
 mod table_damage;
+mod table_search;
 
 pub use compact::CompactPatterns;
-pub use compact_view::CompactView;
+pub use compact_view::{CompactView, EntryView};
 pub use decimal_symbols::DecimalSymbols;
 pub use error::{CompactError, Damaged, SymbolsError};
 pub use fallback::load_with_fallback;

@@ -131,3 +131,44 @@ fn each_byte_set_to_each_value_is_told_inside(rt: HostRuntime) {
         assert!(rt; untold(index) == None, "byte {index}");
     }
 }
+
+/// A magnitude, and the type and the exponent of its entry in long Japanese, if it has one.
+const LOOKED_UP: [(i16, Option<(u8, u8)>); 9] = [
+    (i16::MIN, None),
+    (-1, None),
+    (0, None),
+    (3, None),
+    (4, Some((4, 4))),
+    (7, Some((4, 4))),
+    (8, Some((8, 8))),
+    (9, Some((8, 8))),
+    (i16::MAX, Some((8, 8))),
+];
+
+/// The type and the exponent of a magnitude's entry, if the exponent of the magnitude is this one.
+fn looked_up(view: CompactView<'_, SinglePlaceholder>, magnitude: i16) -> Option<(u8, u8)> {
+    let entry = view.entry_for_magnitude(magnitude)?;
+    if view.exponent_for_magnitude(magnitude) == entry.exponent() {
+        Some((entry.log10_type(), entry.exponent()))
+    } else {
+        None
+    }
+}
+
+/// Whether a magnitude has this entry, and without one the exponent 0.
+fn has_entry(magnitude: i16, expected: Option<(u8, u8)>) -> bool {
+    match CompactView::parse(&JAPANESE) {
+        Ok(view) => {
+            looked_up(view, magnitude) == expected
+                && (expected.is_some() || view.exponent_for_magnitude(magnitude) == 0)
+        }
+        Err(_) => false,
+    }
+}
+
+#[test]
+fn a_magnitude_has_the_last_entry_not_above_it(rt: HostRuntime) {
+    for (magnitude, expected) in LOOKED_UP {
+        assert!(rt; has_entry(magnitude, expected), "{magnitude}");
+    }
+}

@@ -1,0 +1,46 @@
+//! The records of a compact table in its bytes, and the search among them.
+
+#![tactic(auto, using(crate::proofs::TableSearch::searching))]
+
+ghost use Rattle.std.specs.Prelude.{◌≡◌, ◌+◌, ◌*◌, ◌<◌, slice_index};
+ghost use Rattle.fixed_decimal.specs.Size.{place};
+ghost use Rattle.icu_decimal_data.specs.TableReading.{IsSearchable, IsReached, count_in, type_in};
+
+use crate::compact::is_reached;
+use crate::table_bytes::number_at;
+
+/// The type of an entry.
+pub(crate) fn type_at(bytes: &[u8], index: usize) -> u8
+    requires searchable { IsSearchable bytes.now }
+    requires inside { index < count_in bytes.now }
+    ensures { result ≡ type_in bytes.now index }
+{
+    bytes[4 + 58 * index]
+}
+
+/// The exponent of an entry.
+pub(crate) fn exponent_at(bytes: &[u8], index: usize) -> u8
+    requires searchable { IsSearchable bytes.now }
+    requires inside { index < count_in bytes.now }
+    ensures { result ≡ slice_index bytes.now (5 + 58 * index) }
+{
+    bytes[5 + 58 * index]
+}
+
+/// How many entries have a type that is not above a magnitude.
+pub(crate) fn reached(bytes: &[u8], magnitude: i32) -> usize
+    requires { IsSearchable bytes.now }
+    ensures { IsReached bytes.now (place magnitude) result }
+{
+    let mut low = 0;
+    let mut high = number_at(bytes, 0);
+    while low < high {
+        let middle = low + (high - low) / 2;
+        if is_reached(type_at(bytes, middle), magnitude) {
+            low = middle + 1;
+        } else {
+            high = middle;
+        }
+    }
+    low
+}
