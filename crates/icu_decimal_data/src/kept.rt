@@ -15,7 +15,7 @@ use std::collections::BTreeMap;
 const MAX_LITERAL_BYTES: usize = 65535;
 
 /// The most that a type may be above its exponent.
-const MAX_ZEROS: u8 = 15;
+pub(crate) const MAX_ZEROS: u8 = 15;
 
 pub(crate) type Elements<P> = PluralElements<Pattern<P>>;
 

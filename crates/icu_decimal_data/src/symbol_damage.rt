@@ -12,6 +12,7 @@ use crate::symbol_bytes::{COUNT, MAX_LEN, start_of};
 use icu_provider::NumberingSystem;
 use std::str;
 
+/// Whether bytes are a text.
 fn is_text(bytes: &[u8]) -> bool
     ensures { result ≡ is_utf8 bytes.now }
 {

@@ -3,6 +3,24 @@
 ghost use Rattle.std.specs.Prelude.{◌≡◌, ◌+◌, ◌<◌, ◌^◌, length};
 ghost use Rattle.icu_decimal_data.specs.TableReading.{number, place_in, pattern_in};
 
+/// How long the two numbers in front are: how many entries there are, and how long the pool is.
+pub(crate) const HEAD_LEN: usize = 4;
+
+/// How long the record of an entry is: its type, its exponent and eight slots.
+pub(crate) const RECORD_LEN: usize = 58;
+
+/// How long a slot is: its kind, and three numbers, where its literal begins in the pool, how long that is, and its place.
+pub(crate) const SLOT_LEN: usize = 7;
+
+/// The kind of a slot without a pattern.
+pub(crate) const ABSENT: u8 = 0;
+
+/// The kind of a slot whose pattern has no place.
+pub(crate) const WITHOUT_PLACE: u8 = 1;
+
+/// The kind of a slot whose pattern has a place.
+pub(crate) const WITH_PLACE: u8 = 2;
+
 /// The number in two bytes, the low one first.
 pub(crate) fn number_at(bytes: &[u8], at: usize) -> usize
     requires { at + 1 < length bytes.now }
@@ -17,7 +35,7 @@ pub(crate) fn place_of(slot: &[u8]) -> Option<usize>
     requires { length slot.now ≡ 7 }
     ensures { result ≡ place_in slot.now }
 {
-    if slot[0] == 2 {
+    if slot[0] == WITH_PLACE {
         Some(number_at(slot, 5))
     } else {
         None

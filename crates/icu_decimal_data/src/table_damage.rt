@@ -12,29 +12,42 @@ ghost use Rattle.icu_decimal_data.specs.TableAnswers.{Gives, Passes};
 ghost use Rattle.icu_decimal_data.specs.TableReading.{number, slot_step, slots_step, record_step, records_step, table_step, is_wrong_kind, is_wrong_place, is_wrong_type, is_wrong_exponent, is_repeated, same_at, same_from, place_in, pattern_in, slot_in, slot_at, count_in, pool_start, pool_in, whole_len};
 
 use crate::error::Damaged;
-use crate::table_bytes::{literal_of, number_at, place_of};
+use crate::kept::MAX_ZEROS;
+use crate::table_bytes::{
+    ABSENT, HEAD_LEN, RECORD_LEN, SLOT_LEN, WITH_PLACE, WITHOUT_PLACE, literal_of, number_at,
+    place_of,
+};
 use icu_base::PatternBackend;
 use std::str;
 
-fn is_kind_wrong<P: PatternBackend>(last: bool, kind: u8) -> bool
-    ensures { result ≡ is_wrong_kind P.accepted last kind }
+/// The most entries that a table has: one for each type.
+const MAX_ENTRIES: usize = 256;
+
+/// Whether a slot may not be of this kind: it is none, the last slot is absent, or the backend knows no place.
+fn is_kind_wrong<P: PatternBackend>(is_last: bool, kind: u8) -> bool
+    ensures { result ≡ is_wrong_kind P.accepted is_last kind }
 {
-    kind > 2 || (last && kind == 0) || (kind == 2 && !P::accepts(Some(0), ""))
+    kind > WITH_PLACE
+        || (is_last && kind == ABSENT)
+        || (kind == WITH_PLACE && !P::accepts(Some(0), ""))
 }
 
+/// Whether a slot's place is past its literal, or named where the pattern has none.
 fn is_place_wrong(slot: &[u8]) -> bool
     requires { length slot.now ≡ 7 }
     ensures { result ≡ is_wrong_place slot.now }
 {
-    number_at(slot, 3) < number_at(slot, 5) || (slot[0] == 1 && number_at(slot, 5) != 0)
+    number_at(slot, 3) < number_at(slot, 5) || (slot[0] == WITHOUT_PLACE && number_at(slot, 5) != 0)
 }
 
+/// Whether all bytes are zero.
 fn are_zero(bytes: &[u8]) -> bool
     ensures { result ≡ list_all (λ b. b == 0) bytes.now }
 {
     bytes.iter().all(|b| *b == 0)
 }
 
+/// Whether a literal is a text, and the backend takes it with this place.
 fn is_good_pattern<P: PatternBackend>(place: Option<usize>, literal: &[u8]) -> bool
     ensures { result ≡ is_pattern P.accepted (record { place = place; literal = literal.now }) }
 {
@@ -44,6 +57,7 @@ fn is_good_pattern<P: PatternBackend>(place: Option<usize>, literal: &[u8]) -> b
     }
 }
 
+/// Whether the pattern of a slot is one of the backend.
 fn is_slot_good<P: PatternBackend>(pool: &[u8], slot: &[u8]) -> bool
     requires { length slot.now ≡ 7 }
     ensures { result ≡ is_pattern P.accepted (pattern_in pool.now slot.now) }
@@ -55,7 +69,7 @@ fn is_slot_good<P: PatternBackend>(pool: &[u8], slot: &[u8]) -> bool
 fn check_slot<P: PatternBackend>(
     pool: &[u8],
     pool_start: usize,
-    last: bool,
+    is_last: bool,
     at: usize,
     sum: usize,
     slot: &[u8],
@@ -65,12 +79,12 @@ fn check_slot<P: PatternBackend>(
     requires pool_room { pool_start + 2 ^ 16 < 2 ^ 64 }
     requires sum_room { sum ≤ length pool.now }
     ensures inside { IfOk result (λ n. n ≤ length pool.now) }
-    ensures gives { Gives result (slot_step P.accepted pool.now pool_start last at sum slot.now) }
+    ensures gives { Gives result (slot_step P.accepted pool.now pool_start is_last at sum slot.now) }
 {
-    if is_kind_wrong::<P>(last, slot[0]) {
+    if is_kind_wrong::<P>(is_last, slot[0]) {
         return Err(Damaged { byte: at });
     }
-    if slot[0] == 0 {
+    if slot[0] == ABSENT {
         if !are_zero(&slot[1..]) {
             return Err(Damaged { byte: at + 1 });
         }
@@ -113,8 +127,8 @@ fn check_slots<P: PatternBackend>(
 {
     let mut total = sum;
     for j in 0..8 {
-        let slot = &bytes[7 * j..7 * j + 7];
-        total = check_slot::<P>(pool, pool_start, j == 7, at + 7 * j, total, slot)?;
+        let slot = &bytes[SLOT_LEN * j..SLOT_LEN * j + SLOT_LEN];
+        total = check_slot::<P>(pool, pool_start, j == 7, at + SLOT_LEN * j, total, slot)?;
     }
     Ok(total)
 }
@@ -126,9 +140,10 @@ fn slot(bytes: &[u8], index: usize) -> &[u8]
     ensures slot { result.now ≡ slot_at (drop 2 bytes.now) index }
     ensures seven { length result.now ≡ 7 }
 {
-    &bytes[2 + 7 * index..9 + 7 * index]
+    &bytes[2 + SLOT_LEN * index..2 + SLOT_LEN * index + SLOT_LEN]
 }
 
+/// Whether the places in two slots are the same.
 fn is_same_place(a: &[u8], b: &[u8]) -> bool
     requires a { length a.now ≡ 7 }
     requires b { length b.now ≡ 7 }
@@ -137,6 +152,7 @@ fn is_same_place(a: &[u8], b: &[u8]) -> bool
     place_of(a) == place_of(b)
 }
 
+/// Whether the literals of two slots are the same.
 fn is_same_literal(pool: &[u8], a: &[u8], b: &[u8]) -> bool
     requires a { length a.now ≡ 7 }
     requires b { length b.now ≡ 7 }
@@ -145,6 +161,7 @@ fn is_same_literal(pool: &[u8], a: &[u8], b: &[u8]) -> bool
     literal_of(pool, a) == literal_of(pool, b)
 }
 
+/// Whether the patterns of two slots are the same.
 fn is_same_pattern(pool: &[u8], a: &[u8], b: &[u8]) -> bool
     requires a { length a.now ≡ 7 }
     requires b { length b.now ≡ 7 }
@@ -153,13 +170,14 @@ fn is_same_pattern(pool: &[u8], a: &[u8], b: &[u8]) -> bool
     is_same_place(a, b) && is_same_literal(pool, a, b)
 }
 
+/// Whether two slots are the same: both absent, or of the same pattern.
 fn is_same_slot(pool: &[u8], a: &[u8], b: &[u8]) -> bool
     requires a { length a.now ≡ 7 }
     requires b { length b.now ≡ 7 }
     ensures { result ≡ option_eq same_pattern (slot_in pool.now a.now) (slot_in pool.now b.now) }
 {
-    if a[0] == 0 || b[0] == 0 {
-        a[0] == 0 && b[0] == 0
+    if a[0] == ABSENT || b[0] == ABSENT {
+        a[0] == ABSENT && b[0] == ABSENT
     } else {
         is_same_pattern(pool, a, b)
     }
@@ -180,6 +198,7 @@ fn are_later_same(pool: &[u8], before: &[u8], bytes: &[u8]) -> bool
     true
 }
 
+/// Whether the first slots are the same, there is no second one, and the later ones are the same.
 fn are_slots_repeated(pool: &[u8], before: &[u8], bytes: &[u8]) -> bool
     requires before { length before.now ≡ 58 }
     requires len { length bytes.now ≡ 58 }
@@ -187,7 +206,7 @@ fn are_slots_repeated(pool: &[u8], before: &[u8], bytes: &[u8]) -> bool
         ≡ (same_at pool.now before.now bytes.now 0 && ((slice_index (slot_at (drop 2 bytes.now) 1) 0 == 0) && same_from pool.now before.now bytes.now 2 6)) }
 {
     is_same_slot(pool, slot(before, 0), slot(bytes, 0))
-        && slot(bytes, 1)[0] == 0
+        && slot(bytes, 1)[0] == ABSENT
         && are_later_same(pool, before, bytes)
 }
 
@@ -224,7 +243,7 @@ fn check_record<P: PatternBackend>(
             return Err(Damaged { byte: at });
         }
     }
-    if exponent > log10_type || log10_type - exponent > 15 {
+    if exponent > log10_type || log10_type - exponent > MAX_ZEROS {
         return Err(Damaged { byte: at + 1 });
     }
     if let Some(before) = before {
@@ -258,8 +277,15 @@ fn check_records<P: PatternBackend>(
     let mut total = 0;
     let mut before = None;
     for i in 0..count {
-        let record = &records[58 * i..58 * i + 58];
-        total = check_record::<P>(pool, pool_start, before, 4 + 58 * i, total, record)?;
+        let record = &records[RECORD_LEN * i..RECORD_LEN * i + RECORD_LEN];
+        total = check_record::<P>(
+            pool,
+            pool_start,
+            before,
+            HEAD_LEN + RECORD_LEN * i,
+            total,
+            record,
+        )?;
         before = Some(record);
     }
     Ok(total)
@@ -269,21 +295,21 @@ fn check_records<P: PatternBackend>(
 pub(crate) fn check<P: PatternBackend>(bytes: &[u8]) -> Result<(), Damaged>
     ensures { Passes result (table_step P.accepted bytes.now) }
 {
-    if bytes.len() < 4 {
+    if bytes.len() < HEAD_LEN {
         return Err(Damaged { byte: bytes.len() });
     }
     let count = number_at(bytes, 0);
-    if count > 256 {
+    if count > MAX_ENTRIES {
         return Err(Damaged { byte: 0 });
     }
     let pool_len = number_at(bytes, 2);
-    let pool_start = 4 + 58 * count;
+    let pool_start = HEAD_LEN + RECORD_LEN * count;
     if bytes.len() != pool_start + pool_len {
         return Err(Damaged {
             byte: bytes.len().min(pool_start + pool_len),
         });
     }
-    let total = check_records::<P>(&bytes[pool_start..], pool_start, count, &bytes[4..])?;
+    let total = check_records::<P>(&bytes[pool_start..], pool_start, count, &bytes[HEAD_LEN..])?;
     if total != pool_len {
         return Err(Damaged {
             byte: pool_start + total,

@@ -7,7 +7,7 @@ ghost use Rattle.fixed_decimal.specs.Size.{place};
 ghost use Rattle.icu_decimal_data.specs.TableReading.{IsSearchable, IsReached, count_in, type_in};
 
 use crate::compact::is_reached;
-use crate::table_bytes::number_at;
+use crate::table_bytes::{HEAD_LEN, RECORD_LEN, number_at};
 
 /// The type of an entry.
 pub(crate) fn type_at(bytes: &[u8], index: usize) -> u8
@@ -15,7 +15,7 @@ pub(crate) fn type_at(bytes: &[u8], index: usize) -> u8
     requires inside { index < count_in bytes.now }
     ensures { result ≡ type_in bytes.now index }
 {
-    bytes[4 + 58 * index]
+    bytes[HEAD_LEN + RECORD_LEN * index]
 }
 
 /// The exponent of an entry.
@@ -24,7 +24,7 @@ pub(crate) fn exponent_at(bytes: &[u8], index: usize) -> u8
     requires inside { index < count_in bytes.now }
     ensures { result ≡ slice_index bytes.now (5 + 58 * index) }
 {
-    bytes[5 + 58 * index]
+    bytes[HEAD_LEN + RECORD_LEN * index + 1]
 }
 
 /// How many entries have a type that is not above a magnitude.

@@ -3,7 +3,8 @@
 use crate::compact::is_value;
 use crate::fixtures::read;
 use crate::given::is_accepted;
-use crate::languages::{Language, compact};
+use crate::languages::Language;
+use crate::making::compact;
 use icu_decimal::options::GroupingStrategy;
 use std::alloc::Global;
 use std::process::Abort;

@@ -1,7 +1,8 @@
 //! Compact numbers: what the formatter writes of decimals.
 
 use crate::fixtures::{is_annotated, is_displayed, nines, read};
-use crate::languages::{Language, compact, compact_with};
+use crate::languages::Language;
+use crate::making::{compact, compact_with};
 use fixed_decimal::{Decimal, SignDisplay};
 use icu_base::{Part, PartsText, Writeable};
 use icu_decimal::error::FormatError;

@@ -3,7 +3,8 @@
 
 use crate::compact::formatted;
 use crate::fixtures::{english, is_displayed};
-use crate::languages::{Language, compact};
+use crate::languages::Language;
+use crate::making::compact;
 use fixed_decimal::{Decimal, DecimalError};
 use icu_base::{PluralRules, SinglePlaceholder};
 use icu_decimal::CompactDecimalFormatter;

@@ -2,7 +2,8 @@
 
 use crate::compact::formatted;
 use crate::fixtures::read;
-use crate::languages::{Language, compact};
+use crate::languages::Language;
+use crate::making::compact;
 use fixed_decimal::Decimal;
 use icu_base::{PartsText, Writeable};
 use icu_decimal::options::GroupingStrategy;

@@ -1,7 +1,8 @@
 //! Compact numbers whose exponent is given: significands with it, and the exponent of each magnitude.
 
 use crate::fixtures::{is_annotated, is_displayed, read, scaled};
-use crate::languages::{Language, compact};
+use crate::languages::Language;
+use crate::making::compact;
 use fixed_decimal::Decimal;
 use icu_base::{Part, PartsText, Writeable};
 use icu_decimal::options::GroupingStrategy;

@@ -1,7 +1,8 @@
 //! Both formatters through their one interface, by callers that know no more of a formatter.
 
 use crate::fixtures::{english, is_annotated, is_displayed, nines, read};
-use crate::languages::{Language, compact, rules};
+use crate::languages::Language;
+use crate::making::{compact, rules};
 use fixed_decimal::{Sign, UnsignedDecimal};
 use icu_base::{Part, PartsText, PluralCategory, PluralElements, PluralOperands, PluralRules};
 use icu_decimal::error::FormatError;

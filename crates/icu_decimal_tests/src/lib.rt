@@ -21,6 +21,8 @@ mod languages;
 #[cfg(test)]
 mod loading;
 #[cfg(test)]
+mod making;
+#[cfg(test)]
 mod marks;
 #[cfg(test)]
 mod one_locale;

@@ -2,7 +2,8 @@
 
 use crate::compact::formatted;
 use crate::fixtures::read;
-use crate::languages::{Language, compact, rules};
+use crate::languages::Language;
+use crate::making::{compact, rules};
 use fixed_decimal::Decimal;
 use icu_base::{PluralCategory, PluralElements, PluralOperands, PluralRules};
 use icu_decimal::CompactDecimalFormatter;

@@ -2,7 +2,8 @@
 
 use crate::compact::is_value;
 use crate::fixtures::{ENGLISH, LATIN, read};
-use crate::languages::{Language, compact_with_minus};
+use crate::languages::Language;
+use crate::making::compact_with_minus;
 use fixed_decimal::Decimal;
 use icu_decimal::DecimalFormatter;
 use icu_decimal::options::DecimalFormatterOptions;

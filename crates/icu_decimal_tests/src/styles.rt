@@ -1,7 +1,8 @@
 //! Formatted values under a width, a fill, a precision and other options: the same characters, unpadded.
 
 use crate::fixtures::{english, read};
-use crate::languages::{Language, compact};
+use crate::languages::Language;
+use crate::making::compact;
 use fixed_decimal::Decimal;
 use icu_decimal::CompactDecimalFormatter;
 use icu_decimal::options::GroupingStrategy;
