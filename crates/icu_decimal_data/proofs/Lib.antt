@@ -20,3 +20,4 @@ pub mod TableLoops
 pub mod TableSteps
 pub mod PackedTables
 pub mod TableSearch
+pub mod TableSlots

@@ -1,5 +1,5 @@
 -- Tables: what is read is written so, and what is written is read.
-use Rattle.std.proofs.Common.{◌≡◌, ℕ, zero, suc, ◌+◌, ◌-◌, ◌*◌, ◌/◌, ◌%◌, ◌<◌, ◌≤◌, ◌^◌, Bool, true, false, not, min, IsTrue, IsOk, List, [], ◌∷◌, ◌++◌, length, take, drop, slice_index, Option, Some, None, Result, Ok, Err, eqb, ltb, refl, sym, ap, ◌∙◌, arith}
+use Rattle.std.proofs.Common.{◌≡◌, ℕ, zero, suc, ◌+◌, ◌-◌, ◌*◌, ◌/◌, ◌%◌, ◌<◌, ◌≤◌, ◌^◌, Bool, true, false, not, min, IsTrue, IsOk, List, [], ◌∷◌, ◌++◌, length, take, drop, slice_index, Option, Some, None, Result, Ok, Err, eqb, ltb, refl, sym, ap, ◌∙◌, arith, subst}
 use Rattle.std.proofs.lemmas.Bool.{eqb-true, ltb-false, le-ltb, eq-eqb}
 use Rattle.std.proofs.lemmas.List.{length-append, length-drop, drop_at, drop-drop, take_all, take-append-drop, append-nil}
 use Rattle.std.specs.Prelude.{IfSome, IsSome}
@@ -35,9 +35,16 @@ front_four (a ∷ b ∷ c ∷ d ∷ bytes) n l h fits en el =
 number_below : (a b : ℕ) → a < 256 → b < 256 → a + 256 * b < 2 ^ 16
 number_below a b h k = omega arith
 
-pub table_taken : (accepts : PatternText → Bool) (bytes : List ℕ) (last : ℕ) → IsBytes bytes → table_step accepts bytes ≡ Ok last → IsPackable accepts (table_in bytes) × (table_bytes (table_in bytes) ≡ bytes)
-unfolding table_step table_in table_bytes
-table_taken accepts bytes last fits e =
+-- what is known of the bytes of a table that was read
+pub record TakenTable (accepts : PatternText → Bool) (bytes : List ℕ) : Type 0 where
+  pub long : 4 ≤ length bytes
+  pub few : count_in bytes ≤ 256
+  pub whole : length bytes ≡ whole_len bytes
+  pub records : TakenRecords accepts (pool_in bytes) (pool_start bytes) None (count_in bytes) 0 (drop 4 bytes) (number bytes 2)
+
+pub table_read : (accepts : PatternText → Bool) (bytes : List ℕ) (last : ℕ) → IsBytes bytes → table_step accepts bytes ≡ Ok last → TakenTable accepts bytes
+unfolding table_step
+table_read accepts bytes last fits e =
     let n = count_in bytes in
     let len = number bytes 2 in
     let pool = pool_in bytes in
@@ -51,17 +58,29 @@ table_taken accepts bytes last fits e =
     let few : n ≤ 256 = ltb-false _ _ b.0 in
     let whole : length bytes ≡ whole_len bytes = eqb-true _ _ (not_false _ c.0) in
     let all : sum ≡ len = eqb-true _ _ (not_false _ f.0) in
-    let es = entries_in pool n (drop 4 bytes) in
     let t : TakenRecords accepts pool (pool_start bytes) None n 0 (drop 4 bytes) sum = records_taken accepts pool (pool_start bytes) n None None 4 0 (drop 4 bytes) sum (omega (arith, length-drop 4 bytes)) (IsBytes-drop 4 bytes fits) tt (omega arith) d.1 in
+    record { long = long; few = few; whole = whole; records = subst (λ (s : ℕ). TakenRecords accepts pool (pool_start bytes) None n 0 (drop 4 bytes) s) all t }
+
+pub table_taken : (accepts : PatternText → Bool) (bytes : List ℕ) (last : ℕ) → IsBytes bytes → table_step accepts bytes ≡ Ok last → IsPackable accepts (table_in bytes) × (table_bytes (table_in bytes) ≡ bytes)
+unfolding table_in table_bytes
+table_taken accepts bytes last fits e =
+    let r = table_read accepts bytes last fits e in
+    let n = count_in bytes in
+    let len = number bytes 2 in
+    let pool = pool_in bytes in
+    let whole = r.whole in
+    let few = r.few in
+    let t = r.records in
+    let es = entries_in pool n (drop 4 bytes) in
     let count : length es ≡ n = length-entries pool n (drop 4 bytes) in
     let pool_len : length pool ≡ len = length-drop (pool_start bytes) bytes ∙ omega arith in
-    let lits : literals es ≡ pool = sym t.in_pool ∙ take_all (sum - 0) pool (omega arith) in
+    let lits : literals es ≡ pool = sym t.in_pool ∙ take_all (len - 0) pool (omega arith) in
     let lits_len : length (literals es) ≡ len = ap length lits ∙ pool_len in
     let rest : drop (58 * n) (drop 4 bytes) ≡ pool = drop-drop (58 * n) 4 bytes in
     let tail : records_bytes 0 es ++ literals es ≡ drop 4 bytes = ap (λ (r : List ℕ). r ++ literals es) t.written ∙ ap (λ (r : List ℕ). take (58 * n) (drop 4 bytes) ++ r) (lits ∙ sym rest) ∙ take-append-drop (58 * n) (drop 4 bytes) in
     let short : len < 2 ^ 16 = number_below (slice_index bytes 2) (slice_index bytes 3) (fits 2) (fits 3) in (
       record { counted = omega arith; short = omega arith; entries = t.entries },
-      ap (λ (r : List ℕ). number_bytes (length es) ++ (number_bytes (length (literals es)) ++ r)) tail ∙ front_four bytes (length es) (length (literals es)) long fits count lits_len,
+      ap (λ (r : List ℕ). number_bytes (length es) ++ (number_bytes (length (literals es)) ++ r)) tail ∙ front_four bytes (length es) (length (literals es)) r.long fits count lits_len,
     )
 
 -- ---- what is written is read

@@ -153,6 +153,15 @@ module _ (accepts : PatternText → Bool) (pool : List ℕ) (pool_at : ℕ) wher
     pub next_is : next ≡ sum + length (literals (entries_in pool n bytes))
     pub in_pool : slice_range pool sum next ≡ literals (entries_in pool n bytes)
     pub inside : next ≤ length pool
+    pub shown : (i : ℕ) → i < n → IsRecord pool (take 58 (drop (58 * i) bytes)) (entry_in pool (take 58 (drop (58 * i) bytes)))
+
+  -- the first record, and those behind it
+  shown_more : (n : ℕ) (bytes : List ℕ) → IsRecord pool (take 58 bytes) (entry_in pool (take 58 bytes)) → ((i : ℕ) → i < n → IsRecord pool (take 58 (drop (58 * i) (drop 58 bytes))) (entry_in pool (take 58 (drop (58 * i) (drop 58 bytes)))))
+      → (i : ℕ) → i < suc n → IsRecord pool (take 58 (drop (58 * i) bytes)) (entry_in pool (take 58 (drop (58 * i) bytes)))
+  shown_more n bytes one rest zero h = one
+  shown_more n bytes one rest (suc i) h =
+      let more : 58 + 58 * i ≡ 58 * suc i = omega arith in
+      subst (λ (x : List ℕ). IsRecord pool (take 58 x) (entry_in pool (take 58 x))) (drop-drop (58 * i) 58 bytes ∙ ap (λ (k : ℕ). drop k bytes) more) (rest i (omega arith))
 
   pub records_taken : (n : ℕ) (before : Option (List ℕ)) (b : Option TableEntry) (at sum : ℕ) (bytes : List ℕ) (next : ℕ) → 58 * n ≤ length bytes → IsBytes bytes → IsBefore pool before b → sum ≤ length pool → records_step accepts pool pool_at n before at sum bytes ≡ Ok next → TakenRecords b n sum bytes next
   unfolding records_step
@@ -160,7 +169,7 @@ module _ (accepts : PatternText → Bool) (pool : List ℕ) (pool_at : ℕ) wher
       let same : sum ≡ next = ok_is sum next e in
       let none : sum - sum ≡ 0 = omega arith in
       let nothing : slice_range pool sum sum ≡ [] = rw none refl in
-      record { written = refl; entries = tt; next_is = omega arith; in_pool = rw (← same) nothing; inside = omega arith }
+      record { written = refl; entries = tt; next_is = omega arith; in_pool = rw (← same) nothing; inside = omega arith; shown = λ i h. absurd (omega arith) }
   records_taken (suc n) before b at sum bytes next long fits is_before le e =
       let a = bind_ok (record_step accepts pool pool_at before at sum (take 58 bytes)) (λ mid. records_step accepts pool pool_at n (Some (take 58 bytes)) (at + 58) mid (drop 58 bytes)) next e in
       let mid = a.0 in
@@ -179,6 +188,7 @@ module _ (accepts : PatternText → Bool) (pool : List ℕ) (pool_at : ℕ) wher
         next_is = omega (arith, one.next_is, rest.next_is, length-append lits (literals es));
         in_pool = range_split pool sum mid next low high ∙ ap (λ (r : List ℕ). r ++ slice_range pool mid next) one.in_pool ∙ ap (λ (r : List ℕ). lits ++ r) rest.in_pool;
         inside = rest.inside;
+        shown = shown_more n bytes one.is_record rest.shown;
       }
 
   pub records_again : (es : List TableEntry) (before : Option (List ℕ)) (b : Option TableEntry) (at sum : ℕ) (rest after : List ℕ) → IsBackend accepts → IsBefore pool before b → AreEntries accepts b es → length pool < 2 ^ 16 → sum ≤ length pool → drop sum pool ≡ literals es ++ after

@@ -7,8 +7,7 @@ use Rattle.icu_base.specs.Patterns.{PatternText}
 use Rattle.icu_decimal_data.specs.CompactTable.{TableEntry, type_place, entry_for}
 use Rattle.icu_decimal_data.specs.PackedTable.{AreEntries, IsPackable}
 use Rattle.icu_decimal_data.specs.TableReading.{number, entry_in, entries_in, entry_of, count_in, pool_start, pool_in, table_in, type_in, whole_len, records_step, table_step, unless, ◌>>=◌, IsTableBytes, IsSearchable, IsReached}
-use Rattle.icu_decimal_data.proofs.TableBasics.{unless_ok, not_false}
-use Rattle.icu_decimal_data.proofs.PackedTables.{ok_value, is_found}
+use Rattle.icu_decimal_data.proofs.PackedTables.{ok_value, is_found, table_read}
 use Rattle.icu_decimal_data.proofs.EntryPlaces.{before, front}
 
 -- ---- entries by their index
@@ -59,16 +58,12 @@ module _ (accepts : PatternText → Bool) where
   rising b (x ∷ es) h (suc i) (suc j) e f lt p q = rising (Some x) es h.2 i j e f (omega arith) p q
 
   pub searchable : (bytes : List ℕ) → IsTableBytes accepts bytes → IsSearchable bytes
-  unfolding table_step
   searchable bytes h =
       let v = ok_value (table_step accepts bytes) h.read in
-      let n = count_in bytes in
-      let a = unless_ok (ltb (length bytes) 4) (length bytes) _ v.0 v.1 in
-      let b = unless_ok (ltb 256 n) 0 _ v.0 a.1 in
-      let c = unless_ok (not (eqb (length bytes) (whole_len bytes))) (min (length bytes) (whole_len bytes)) _ v.0 b.1 in
-      let long : 4 ≤ length bytes = ltb-false _ _ a.0 in
-      let few : n ≤ 256 = ltb-false _ _ b.0 in
-      let whole : length bytes ≡ whole_len bytes = eqb-true _ _ (not_false _ c.0) in
+      let r = table_read accepts bytes v.0 h.are_bytes v.1 in
+      let long = r.long in
+      let few = r.few in
+      let whole = r.whole in
       let table = is_found accepts bytes h.are_bytes h.read in
       record {
         four = long;

@@ -189,6 +189,10 @@ type_in bytes index = slice_index bytes (4 + 58 * index)
 abbrev pub entry_of : List ℕ → ℕ → TableEntry
 entry_of bytes index = entry_in (pool_in bytes) (take 58 (drop (58 * index) (drop 4 bytes)))
 
+-- the seven bytes of an entry's slot
+abbrev pub slot_of : List ℕ → ℕ → ℕ → List ℕ
+slot_of bytes index slot = slice_range bytes (6 + 58 * index + 7 * slot) (6 + 58 * index + 7 * slot + 7)
+
 -- bytes whose records can be searched: they are there, and their types rise
 pub record IsSearchable (bytes : List ℕ) : Type 0 where
   pub four : 4 ≤ length bytes
