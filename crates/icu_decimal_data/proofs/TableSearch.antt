@@ -1,12 +1,12 @@
 -- The records of a table that is read, and the search among them.
-use Rattle.std.proofs.Common.{◌≡◌, ℕ, zero, suc, ◌+◌, ◌-◌, ◌*◌, ◌<◌, ◌≤◌, ◌≢◌, Bool, true, false, not, min, IsOk, List, [], ◌∷◌, length, get_or, take, drop, slice_index, slice_get, Option, Some, None, Result, Ok, Err, eqb, ltb, leb, nat_le, refl, sym, ap, ◌∙◌, arith, inl, inr, leb-true, leb-false, le-leb}
-use Rattle.std.proofs.lemmas.Bool.{eqb-true, ltb-false, lt-leb, cases_lt}
+use Rattle.std.proofs.Common.{◌≡◌, ℕ, zero, suc, ◌+◌, ◌-◌, ◌*◌, ◌<◌, ◌≤◌, Bool, true, false, List, [], ◌∷◌, length, get_or, take, drop, slice_index, slice_get, Option, Some, None, nat_le, refl, sym, ap, ◌∙◌, arith, inl, inr, leb-true, leb-false, le-leb}
+use Rattle.std.proofs.lemmas.Bool.{lt-leb, cases_lt}
 use Rattle.std.proofs.lemmas.List.{get_or-drop, get_or-take, drop-drop}
 use Rattle.fixed_decimal.specs.Size.{finest}
 use Rattle.icu_base.specs.Patterns.{PatternText}
 use Rattle.icu_decimal_data.specs.CompactTable.{TableEntry, type_place, entry_for}
-use Rattle.icu_decimal_data.specs.PackedTable.{AreEntries, IsPackable}
-use Rattle.icu_decimal_data.specs.TableReading.{number, entry_in, entries_in, entry_of, count_in, pool_start, pool_in, table_in, type_in, whole_len, records_step, table_step, unless, ◌>>=◌, IsTableBytes, IsSearchable, IsReached}
+use Rattle.icu_decimal_data.specs.PackedTable.{AreEntries}
+use Rattle.icu_decimal_data.specs.TableReading.{entry_in, entries_in, entry_of, count_in, pool_in, table_in, type_in, table_step, IsTableBytes, IsSearchable, IsReached}
 use Rattle.icu_decimal_data.proofs.PackedTables.{ok_value, is_found, table_read}
 use Rattle.icu_decimal_data.proofs.EntryPlaces.{before, front}
 

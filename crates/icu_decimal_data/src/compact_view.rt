@@ -1,7 +1,10 @@
 //! Compact tables in bytes that are lent.
 
-ghost use Rattle.std.specs.Prelude.{◌≡◌, ◌<◌, List, IfOk, IsOk, IsOkAnd, MatchResult, Err, ⊤};
+ghost use Rattle.std.specs.Prelude.{◌≡◌, ◌<◌, List, None, IfOk, IsOk, IsOkAnd, MatchResult, Err, slice_index_or, ⊤};
 ghost use Rattle.std.specs.Option.{option_map};
+ghost use Rattle.icu_base.specs.Elements.{slots, selected};
+ghost use Rattle.icu_base.specs.Refs.{text_of_ref};
+ghost use Rattle.icu_base.specs.Rules.{category_of};
 ghost use Rattle.icu_decimal_data.specs.CompactTable.{TableEntry, entry_for, exponent_for};
 ghost use Rattle.icu_decimal_data.specs.PackedTable.{IsPackable};
 ghost use Rattle.icu_decimal_data.specs.TableBytes.{table_bytes};
@@ -11,7 +14,8 @@ ghost use Rattle.fixed_decimal.specs.Size.{place};
 use crate::error::Damaged;
 use crate::table_damage::check;
 use crate::table_search::{exponent_at, reached, type_at};
-use icu_base::PatternBackend;
+use crate::table_slots::{pattern_at, presence};
+use icu_base::{PatternBackend, PatternRef, PluralOperands, PluralRules};
 use std::alloc::AllocError;
 use std::marker::PhantomData;
 
@@ -119,5 +123,27 @@ impl<'a, P: PatternBackend> EntryView<'a, P> {
         ensures { result ≡ (entry_shown self.now).exponent }
     {
         exponent_at(self.bytes, self.index)
+    }
+
+    /// The pattern in a slot, counted from 0: those for exactly zero and exactly one, for the categories zero, one, two,
+    /// few and many, and for all other numbers.
+    pub fn slot(&self, slot: u8) -> Option<PatternRef<'a, P>>
+        requires { slot < 8 }
+        ensures { option_map text_of_ref result ≡ slice_index_or (slots (entry_shown self.now).elements) slot None }
+    {
+        pattern_at(self.bytes, self.index, slot as usize)
+    }
+
+    /// The pattern for a number of these operands: that for exactly zero or exactly one, where it is present and the number
+    /// is just this one; else that of the number's plural category, where it is present; else the one for all other
+    /// numbers.
+    pub fn pick(&self, operands: &PluralOperands, rules: &PluralRules) -> PatternRef<'a, P>
+        ensures { text_of_ref result ≡ selected (entry_shown self.now).elements operands.now (category_of rules.now operands.now) }
+    {
+        let slot = rules.slot_for(operands, &presence::<P>(self.bytes, self.index));
+        match self.slot(slot) {
+            Some(pattern) => pattern,
+            None => unreachable!(),
+        }
     }
 }

@@ -19,6 +19,7 @@ mod symbols_view;
 mod table_bytes;
 mod table_damage;
 mod table_search;
+mod table_slots;
 
 pub use compact::CompactPatterns;
 pub use compact_view::{CompactView, EntryView};

@@ -9,6 +9,9 @@ pub(crate) const HEAD_LEN: usize = 4;
 /// How long the record of an entry is: its type, its exponent and eight slots.
 pub(crate) const RECORD_LEN: usize = 58;
 
+/// Where the first slot of the first record begins.
+pub(crate) const SLOTS_START: usize = 6;
+
 /// How long a slot is: its kind, and three numbers, where its literal begins in the pool, how long that is, and its place.
 pub(crate) const SLOT_LEN: usize = 7;
 

@@ -1,4 +1,4 @@
-use Rattle.std.proofs.Common.{rules, ◌≡◌, ◌∙◌}
+use Rattle.std.proofs.Common.{rules, ◌∙◌}
 use Rattle.icu_decimal_data.specs.TableReading.{IsTableBytes}
 use Rattle.icu_decimal_data.proofs.TableSearch.{searchable, type_is}
 use Rattle.icu_decimal_data.proofs.compact_view.EntryView.log10_type.Goals as goal
