@@ -21,3 +21,4 @@ pub mod TableSteps
 pub mod PackedTables
 pub mod TableSearch
 pub mod TableSlots
+pub mod TableWriting

@@ -20,6 +20,7 @@ mod table_bytes;
 mod table_damage;
 mod table_search;
 mod table_slots;
+mod table_writing;
 
 pub use compact::CompactPatterns;
 pub use compact_view::{CompactView, EntryView};

@@ -1,0 +1,35 @@
+use Rattle.std.proofs.Common.{◌≡◌, ◌∙◌, true, sym, ◌∷◌}
+use Rattle.icu_decimal_data.specs.CompactTable.{TableEntry}
+use Rattle.icu_decimal_data.specs.Kept.{given, kept, at}
+use Rattle.icu_decimal_data.specs.KeptSince.{kept_since, stays}
+use Rattle.icu_decimal_data.proofs.KeptSteps.{kept_since_start}
+use Rattle.icu_decimal_data.proofs.TableWriting.{IsWritten, none_written, kept_room, kept_written}
+use Rattle.icu_decimal_data.proofs.table_writing.parts.Goals as goal
+
+pub loop-log10_type-init : goal.loop-log10_type-init
+loop-log10_type-init g c =
+    rw (c.new-records.ensures.items, c.new-pool.ensures.items, c.into_iter-log10_type-iterator.ensures.into_iter_gives.0, kept_since_start (at c.args.zero_magnitude) (given c.args.map.now.entries)) (none_written g.P.PatternBackend.accepted (kept (at c.args.zero_magnitude) (given c.args.map.now.entries)))
+
+pub push_slots-requires : goal.push_slots-requires
+push_slots-requires g c =
+    let e : TableEntry = record { log10_type = c.in-Some.log10_type.now; exponent = c.in-Some.value.now.0; elements = c.in-Some.value.now.1 } in
+    let plain = at c.args.zero_magnitude in
+    let last = at c.loop-log10_type.last in
+    let es = given c.next.new.self in
+    let whole = kept plain (given c.args.map.now.entries) in
+    let left : IsWritten g.P.PatternBackend.accepted (kept_since plain last (e ∷ es)) whole c.loop-log10_type.records.items c.loop-log10_type.pool.items = rw c.in-Some.ensures.steps at c.loop-log10_type.invariant in
+    let here : stays plain last e.elements ≡ true = sym c.stays.ensures ∙ c.if-stays.true in
+    kept_room g.P.PatternBackend.accepted plain last e es whole c.loop-log10_type.records.items c.loop-log10_type.pool.items here left c.requires
+
+pub loop-log10_type-preserved-then-stays : goal.loop-log10_type-preserved-then-stays
+loop-log10_type-preserved-then-stays g c =
+    let e : TableEntry = record { log10_type = c.in-Some.log10_type.now; exponent = c.in-Some.value.now.0; elements = c.in-Some.value.now.1 } in
+    let plain = at c.args.zero_magnitude in
+    let last = at c.loop-log10_type.last in
+    let es = given c.next.new.self in
+    let whole = kept plain (given c.args.map.now.entries) in
+    let left : IsWritten g.P.PatternBackend.accepted (kept_since plain last (e ∷ es)) whole c.loop-log10_type.records.items c.loop-log10_type.pool.items = rw c.in-Some.ensures.steps at c.loop-log10_type.invariant in
+    let here : stays plain last e.elements ≡ true = sym c.stays.ensures ∙ c.if-stays.true in
+    let done = c.in_ok-push_slots.ensures in
+    let two = rw c.in_ok-push.ensures.items at c.in_ok-push-2.ensures.items in
+    kept_written g.P.PatternBackend.accepted plain last e es whole c.loop-log10_type.records.items c.loop-log10_type.pool.items here left c.push_slots.new.records.items c.push_slots.new.pool.items (rw two at done.records) done.pool done.patterns
