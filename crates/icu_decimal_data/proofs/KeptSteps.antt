@@ -1,5 +1,5 @@
 -- What a walk through a map finds.
-use Rattle.std.proofs.Common.{◌≡◌, ℕ, suc, ◌+◌, ◌-◌, ◌<◌, ⊎_elim, min, true, false, refl, arith, sym, ap, ◌∙◌, List, [], ◌∷◌, ◌++◌, length, Option, Some, None, slice_index_or, slice_get, append_assoc, length-append, drop, drop-cons, add-one, sum_by}
+use Rattle.std.proofs.Common.{◌≡◌, ℕ, suc, ◌+◌, ◌<◌, ⊎_elim, min, true, false, refl, arith, sym, ap, ◌∙◌, List, [], ◌∷◌, length, Option, Some, None, slice_index_or, drop, drop-cons, add-one, sum_by}
 use Rattle.std.proofs.lemmas.Bool.{cases_Bool}
 use Rattle.std.proofs.lemmas.List.Sums.{sum_by-cons}
 use Rattle.icu_base.specs.Patterns.{PatternText}
@@ -7,7 +7,7 @@ use Rattle.icu_decimal_data.specs.CompactFaults.{slot_size}
 use Rattle.icu_base.specs.Elements.{without_explicit_one}
 use Rattle.icu_decimal_data.specs.CompactTable.{PatternElements, TableEntry}
 use Rattle.icu_decimal_data.specs.Kept.{kept, changes, repeats, is_zero_magnitude, same_patterns}
-use Rattle.icu_decimal_data.specs.KeptSince.{kept_since, last_elements, stays}
+use Rattle.icu_decimal_data.specs.KeptSince.{kept_since}
 use Rattle.icu_decimal_data.proofs.SameEntries.{the_same}
 
 pub size_step : (slots : List (Option PatternText)) (k size most : ℕ) → k < length slots
@@ -39,16 +39,3 @@ kept_since_start plain (e ∷ es) =
     (λ (z : is_zero_magnitude plain e.elements ≡ true). rw z (kept_since_start plain es))
     (λ (z : is_zero_magnitude plain e.elements ≡ false). rw z (ap (λ (fs : List TableEntry). e ∷ fs) (after plain e e es refl)))
     (cases_Bool (is_zero_magnitude plain e.elements))
-
-at_end : (items : List TableEntry) (e : TableEntry) → slice_get (items ++ e ∷ []) (length items) ≡ Some e
-at_end [] e = refl
-at_end (x ∷ xs) e = at_end xs e
-
-last_pushed : (items : List TableEntry) (e : TableEntry) → last_elements (items ++ e ∷ []) ≡ Some e.elements
-last_pushed items e =
-    let end : length (items ++ e ∷ []) - 1 ≡ length items = omega (arith, length-append items (e ∷ [])) in
-    rw (end, at_end items e) refl
-
-pub push_turn : (plain : Option PatternElements) (items : List TableEntry) (e : TableEntry) (es : List TableEntry) → stays plain (last_elements items) e.elements ≡ true
-    → (items ++ e ∷ []) ++ kept_since plain (last_elements (items ++ e ∷ [])) es ≡ items ++ kept_since plain (last_elements items) (e ∷ es)
-push_turn plain items e es h = rw (append_assoc, last_pushed items e, h) refl

@@ -15,23 +15,23 @@ use Rattle.icu_decimal_data.specs.Kept.{given, kept, changes, repeats, is_zero_m
 use Rattle.icu_decimal_data.specs.CompactFaults.{fault_of, falls_after, entry_fault, first_entry_fault}
 use Rattle.icu_decimal_data.proofs.EntryFaults.{none_or, sound_entry, no_entry_fault}
 
-abbrev Each : (TableEntry → Type 0) → List TableEntry → Type 0
+abbrev pub Each : (TableEntry → Type 0) → List TableEntry → Type 0
 Each P [] = Unit {0}
 Each P (e ∷ es) = P e × Each P es
 
-abbrev Pairs : (TableEntry → TableEntry → Type 0) → List TableEntry → Type 0
+abbrev pub Pairs : (TableEntry → TableEntry → Type 0) → List TableEntry → Type 0
 Pairs R [] = Unit {0}
 Pairs R (e ∷ es) = Each (R e) es × Pairs R es
 
-all_each : (P : TableEntry → Type 0) (es : List TableEntry) → Each P es → All P es
+pub all_each : (P : TableEntry → Type 0) (es : List TableEntry) → Each P es → All P es
 all_each P [] h = All-nil P
 all_each P (e ∷ es) h = All-cons P e es h.0 (all_each P es h.1)
 
-all_pairs : (R : TableEntry → TableEntry → Type 0) (es : List TableEntry) → Pairs R es → AllPairs R es
+pub all_pairs : (R : TableEntry → TableEntry → Type 0) (es : List TableEntry) → Pairs R es → AllPairs R es
 all_pairs R [] h = λ i j d l g. absurd (omega arith)
 all_pairs R (e ∷ es) h = AllPairs-cons R e es (all_each (R e) es h.0) (all_pairs R es h.1)
 
-each_weaker : (P Q : TableEntry → Type 0) → ((e : TableEntry) → P e → Q e) → (es : List TableEntry) → Each P es → Each Q es
+pub each_weaker : (P Q : TableEntry → Type 0) → ((e : TableEntry) → P e → Q e) → (es : List TableEntry) → Each P es → Each Q es
 each_weaker P Q w [] h = tt
 each_weaker P Q w (e ∷ es) h = (w e h.0, each_weaker P Q w es h.1)
 
@@ -52,7 +52,7 @@ pairs_changes R before (e ∷ es) h =
     (cases_Bool (repeats before e))
 
 -- what holds of all pairs of a map holds of those that are kept
-pairs_kept : (R : TableEntry → TableEntry → Type 0) (plain : Option PatternElements) (es : List TableEntry) → Pairs R es → Pairs R (kept plain es)
+pub pairs_kept : (R : TableEntry → TableEntry → Type 0) (plain : Option PatternElements) (es : List TableEntry) → Pairs R es → Pairs R (kept plain es)
 pairs_kept R plain [] h = tt
 pairs_kept R plain (e ∷ es) h =
     ⊎_elim
@@ -67,7 +67,7 @@ types_above k (e ∷ es) h = (less k e.0 h.0, types_above k es h.1)
     less : (x y : ℕ) → nat_cmp x y ≡ Less → x < y
     less x y h = rw h at (ranked x y (nat_cmp x y) refl)
 
-types_rise : (es : List (ℕ × (ℕ × PatternElements))) → IsStrictlySortedBy nat_cmp (keys_of es) → Pairs (λ e f. e.log10_type < f.log10_type) (given es)
+pub types_rise : (es : List (ℕ × (ℕ × PatternElements))) → IsStrictlySortedBy nat_cmp (keys_of es) → Pairs (λ e f. e.log10_type < f.log10_type) (given es)
 types_rise [] h = tt
 types_rise (e ∷ es) h = (types_above e.0 es (sorted_head nat_cmp e.0 (keys_of es) h), types_rise es (sorted_tail nat_cmp e.0 (keys_of es) h))
 
@@ -75,7 +75,7 @@ neither : (a b : Bool) → (a || b) ≡ false → (a ≡ false) × (b ≡ false)
 neither true b h = absurd (cc)
 neither false b h = (refl, h)
 
-exponents_rise : (low : ℕ) (es : List TableEntry) → falls_after low es ≡ false → Each (λ e. low ≤ e.exponent) es × Pairs (λ e f. e.exponent ≤ f.exponent) es
+pub exponents_rise : (low : ℕ) (es : List TableEntry) → falls_after low es ≡ false → Each (λ e. low ≤ e.exponent) es × Pairs (λ e f. e.exponent ≤ f.exponent) es
 exponents_rise low [] h = (tt, tt)
 exponents_rise low (e ∷ es) h =
     let parts = neither (nat_lt e.exponent low) (falls_after e.exponent es) h in
@@ -83,7 +83,7 @@ exponents_rise low (e ∷ es) h =
     let on : low ≤ e.exponent = ltb-false e.exponent low parts.0 in
     ((on, each_weaker (λ f. e.exponent ≤ f.exponent) (λ f. low ≤ f.exponent) (λ f g. omega arith) es rest.0), rest)
 
-sound : (es : List TableEntry) → first_entry_fault es ≡ None → Each (λ e. (e.exponent ≤ e.log10_type) × (e.log10_type ≤ e.exponent + 15)) es
+pub sound : (es : List TableEntry) → first_entry_fault es ≡ None → Each (λ e. (e.exponent ≤ e.log10_type) × (e.log10_type ≤ e.exponent + 15)) es
 sound [] h = tt
 sound (e ∷ es) h =
     let both = none_or (entry_fault e) (first_entry_fault es) h in

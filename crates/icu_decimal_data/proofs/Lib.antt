@@ -22,3 +22,5 @@ pub mod PackedTables
 pub mod TableSearch
 pub mod TableSlots
 pub mod TableWriting
+pub mod TableOfMap
+pub mod TableCalls

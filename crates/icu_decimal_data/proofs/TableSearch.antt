@@ -27,7 +27,7 @@ pub entry_at : (bytes : List ℕ) (i : ℕ) → i < count_in bytes → slice_get
 unfolding table_in
 entry_at bytes i h = entries_at (pool_in bytes) (count_in bytes) (drop 4 bytes) i h
 
-length-table : (bytes : List ℕ) → length (table_in bytes) ≡ count_in bytes
+pub length-table : (bytes : List ℕ) → length (table_in bytes) ≡ count_in bytes
 unfolding table_in
 length-table bytes = length-entries (pool_in bytes) (count_in bytes) (drop 4 bytes)
 
@@ -108,24 +108,25 @@ entry_at_count (e ∷ es) m (suc k) le on off =
     let here : nat_le (type_place e) m ≡ true = on 0 e refl (omega arith) in
     rw here (front e es k (entry_for es m) (omega arith) rest)
 
+in_list : (t : List TableEntry) (i : ℕ) (e : TableEntry) → slice_get t i ≡ Some e → i < length t
+in_list [] i e p = absurd (cc)
+in_list (x ∷ t) zero e p = omega arith
+in_list (x ∷ t) (suc i) e p = let r = in_list t i e p in omega arith
+
+pub entry_index_in : (bytes : List ℕ) (i : ℕ) (e : TableEntry) → slice_get (table_in bytes) i ≡ Some e → i < count_in bytes
+entry_index_in bytes i e p = omega (arith, in_list (table_in bytes) i e p, length-table bytes)
+
+-- the type of an entry, against a magnitude
+pub place_here : (bytes : List ℕ) (m i : ℕ) (e : TableEntry) → slice_get (table_in bytes) i ≡ Some e → nat_le (type_place e) m ≡ nat_le (type_in bytes i + finest) m
+place_here bytes m i e p =
+    let q : Some (entry_of bytes i) ≡ Some e = sym (entry_at bytes i (entry_index_in bytes i e p)) ∙ p in
+    let same : entry_of bytes i ≡ e = cc in
+    ap (λ (t : ℕ). nat_le (t + finest) m) (sym (type_is bytes i ∙ ap (λ (x : TableEntry). x.log10_type) same))
+
 found_at : (bytes : List ℕ) (m k : ℕ) → IsReached bytes m k → entry_for (table_in bytes) m ≡ before (table_in bytes) k
 found_at bytes m k r =
     let len = length-table bytes in
-    entry_at_count (table_in bytes) m k (omega (arith, r.within)) (λ i e p lt. here i e p ∙ r.below i lt) (λ i e p le. here i e p ∙ r.above i le (index i e p))
-  where
-    in_list : (t : List TableEntry) (i : ℕ) (e : TableEntry) → slice_get t i ≡ Some e → i < length t
-    in_list [] i e p = absurd (cc)
-    in_list (x ∷ t) zero e p = omega arith
-    in_list (x ∷ t) (suc i) e p = let r = in_list t i e p in omega arith
-
-    index : (i : ℕ) (e : TableEntry) → slice_get (table_in bytes) i ≡ Some e → i < count_in bytes
-    index i e p = omega (arith, in_list (table_in bytes) i e p, length-table bytes)
-
-    here : (i : ℕ) (e : TableEntry) → slice_get (table_in bytes) i ≡ Some e → nat_le (type_place e) m ≡ nat_le (type_in bytes i + finest) m
-    here i e p =
-        let q : Some (entry_of bytes i) ≡ Some e = sym (entry_at bytes i (index i e p)) ∙ p in
-        let same : entry_of bytes i ≡ e = cc in
-        ap (λ (t : ℕ). nat_le (t + finest) m) (sym (type_is bytes i ∙ ap (λ (x : TableEntry). x.log10_type) same))
+    entry_at_count (table_in bytes) m k (omega (arith, r.within)) (λ i e p lt. place_here bytes m i e p ∙ r.below i lt) (λ i e p le. place_here bytes m i e p ∙ r.above i le (entry_index_in bytes i e p))
 
 pub none_found : (bytes : List ℕ) (m k : ℕ) → IsReached bytes m k → k ≡ 0 → None ≡ entry_for (table_in bytes) m
 none_found bytes m k r e = sym (found_at bytes m k r ∙ ap (before (table_in bytes)) e)

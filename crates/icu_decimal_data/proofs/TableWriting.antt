@@ -1,5 +1,5 @@
 -- The byte string of a table, as it is written.
-use Rattle.std.proofs.Common.{◌≡◌, ℕ, zero, suc, ◌+◌, ◌-◌, ◌*◌, ◌/◌, ◌%◌, ◌<◌, ◌≤◌, ◌^◌, Bool, true, List, [], ◌∷◌, ◌++◌, length, take, drop, drop-cons, add-one, slice_index_or, Option, Some, None, Result, Ok, Err, IsTrue, refl, sym, ap, ◌∙◌, arith, subst, append_assoc, append-nil, length-append}
+use Rattle.std.proofs.Common.{◌≡◌, ℕ, ◌+◌, ◌*◌, ◌/◌, ◌<◌, ◌≤◌, ◌^◌, Bool, true, List, [], ◌∷◌, ◌++◌, length, drop, drop-cons, add-one, slice_index_or, Option, Some, None, Result, Ok, Err, IsTrue, refl, sym, ap, ◌∙◌, arith, subst, append_assoc, append-nil, length-append}
 use Rattle.icu_base.specs.Patterns.{PatternText, PlaceFits}
 use Rattle.icu_base.specs.Elements.{slots}
 use Rattle.std.specs.Prelude.{IfSome, OnOk}
@@ -7,7 +7,7 @@ use Rattle.std.specs.Str.{IsCharBoundary, IsUtf8, is_utf8}
 use Rattle.std.proofs.lemmas.Str.{is_utf8-from_IsUtf8}
 use Rattle.icu_decimal_data.specs.CompactTable.{TableEntry, PatternElements}
 use Rattle.icu_decimal_data.specs.KeptSince.{kept_since, stays}
-use Rattle.icu_decimal_data.specs.PackedTable.{ArePatterns, HavePatterns, literal_of, slot_literals, literals}
+use Rattle.icu_decimal_data.specs.PackedTable.{ArePatterns, AreWritable, literal_of, slot_literals, literals}
 use Rattle.icu_decimal_data.specs.TableBytes.{number_bytes, slot_bytes, slots_bytes, record_bytes, records_bytes, table_bytes}
 use Rattle.icu_decimal_data.proofs.SlotsLaws.{length-slots}
 
@@ -70,18 +70,18 @@ module _ (ss : List (Option PatternText)) (k : ℕ) (s : Option PatternText) (in
 pub record IsWritten (accepts : PatternText → Bool) (left whole : List TableEntry) (records pool : List ℕ) : Type 0 where
   pub records_left : records ++ records_bytes (length pool) left ≡ records_bytes 0 whole
   pub pool_left : pool ++ literals left ≡ literals whole
-  pub patterns_left : HavePatterns accepts left → HavePatterns accepts whole
+  pub writable_left : AreWritable accepts left → AreWritable accepts whole
 
 pub none_written : (accepts : PatternText → Bool) (whole : List TableEntry) → IsWritten accepts whole whole [] []
-none_written accepts whole = record { records_left = refl; pool_left = refl; patterns_left = λ h. h }
+none_written accepts whole = record { records_left = refl; pool_left = refl; writable_left = λ h. h }
 
 module _ (accepts : PatternText → Bool) (e : TableEntry) (left whole : List TableEntry) (records pool : List ℕ) (h : IsWritten accepts (e ∷ left) whole records pool) where
   pub entry_room : length (literals whole) < 2 ^ 16 → length pool + length (slot_literals (slots e.elements)) < 2 ^ 16
   entry_room small =
       omega (arith, ap length h.pool_left, length-append pool (slot_literals (slots e.elements) ++ literals left), length-append (slot_literals (slots e.elements)) (literals left))
 
-  pub entry_written : (later next : List ℕ) → later ≡ ((records ++ e.log10_type ∷ []) ++ e.exponent ∷ []) ++ slots_bytes (length pool) (slots e.elements) → next ≡ pool ++ slot_literals (slots e.elements) → ArePatterns accepts (slots e.elements) → IsWritten accepts left whole later next
-  entry_written later next r n patterns =
+  pub entry_written : (later next : List ℕ) → later ≡ ((records ++ e.log10_type ∷ []) ++ e.exponent ∷ []) ++ slots_bytes (length pool) (slots e.elements) → next ≡ pool ++ slot_literals (slots e.elements) → e.log10_type < 256 → ArePatterns accepts (slots e.elements) → IsWritten accepts left whole later next
+  entry_written later next r n small patterns =
       let lits = slot_literals (slots e.elements) in
       let bytes = slots_bytes (length pool) (slots e.elements) in
       let len : length next ≡ length pool + length lits = ap length n ∙ length-append pool lits in
@@ -93,7 +93,7 @@ module _ (accepts : PatternText → Bool) (e : TableEntry) (left whole : List Ta
             ∙ append_assoc records (record_bytes (length pool) e) (records_bytes (length pool + length lits) left)
             ∙ h.records_left;
         pool_left = ap (λ (x : List ℕ). x ++ literals left) n ∙ append_assoc pool lits (literals left) ∙ h.pool_left;
-        patterns_left = λ rest. h.patterns_left (patterns, rest);
+        writable_left = λ rest. h.writable_left (small, patterns, rest);
       }
 
 -- an entry that is kept of those that are left
@@ -104,7 +104,7 @@ module _ (accepts : PatternText → Bool) (plain last : Option PatternElements) 
   pub kept_room : length (literals whole) < 2 ^ 16 → length pool + length (slot_literals (slots e.elements)) < 2 ^ 16
   kept_room = entry_room accepts e (kept_since plain (Some e.elements) es) whole records pool now_left
 
-  pub kept_written : (later next : List ℕ) → later ≡ ((records ++ e.log10_type ∷ []) ++ e.exponent ∷ []) ++ slots_bytes (length pool) (slots e.elements) → next ≡ pool ++ slot_literals (slots e.elements) → ArePatterns accepts (slots e.elements)
+  pub kept_written : (later next : List ℕ) → later ≡ ((records ++ e.log10_type ∷ []) ++ e.exponent ∷ []) ++ slots_bytes (length pool) (slots e.elements) → next ≡ pool ++ slot_literals (slots e.elements) → e.log10_type < 256 → ArePatterns accepts (slots e.elements)
       → IsWritten accepts (kept_since plain (Some e.elements) es) whole later next
   kept_written = entry_written accepts e (kept_since plain (Some e.elements) es) whole records pool now_left
 
@@ -114,8 +114,8 @@ all_records accepts whole records pool h = sym (append-nil records) ∙ h.record
 pub all_pool : (accepts : PatternText → Bool) (whole : List TableEntry) (records pool : List ℕ) → IsWritten accepts [] whole records pool → pool ≡ literals whole
 all_pool accepts whole records pool h = sym (append-nil pool) ∙ h.pool_left
 
-pub all_patterns : (accepts : PatternText → Bool) (whole : List TableEntry) (records pool : List ℕ) → IsWritten accepts [] whole records pool → HavePatterns accepts whole
-all_patterns accepts whole records pool h = h.patterns_left tt
+pub all_writable : (accepts : PatternText → Bool) (whole : List TableEntry) (records pool : List ℕ) → IsWritten accepts [] whole records pool → AreWritable accepts whole
+all_writable accepts whole records pool h = h.writable_left tt
 
 -- ---- the whole
 
@@ -132,4 +132,4 @@ pub whole_is : (table : List TableEntry) (records pool : List ℕ) (count len : 
 unfolding table_bytes
 whole_is table records pool count len r p c l = rw (c, l, r, p) refl
 
-pub ruleset writing = (place_inside, none_written, entry_room, all_records, all_pool, all_patterns)
+pub ruleset writing = (place_inside, none_written, entry_room, all_records, all_pool, all_writable)

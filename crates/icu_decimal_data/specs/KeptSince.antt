@@ -1,6 +1,5 @@
 -- The kept entries as a walk through the map finds them, with the last kept elements in hand.
-use Rattle.std.specs.Prelude.{Bool, not, List, [], ◌∷◌, Option, Some, None, if◌then◌else◌, ◌-◌, length, slice_get}
-use Rattle.std.specs.Option.{option_map}
+use Rattle.std.specs.Prelude.{Bool, not, List, [], ◌∷◌, Option, Some, None, if◌then◌else◌}
 use Rattle.icu_base.specs.Elements.{without_explicit_one}
 use Rattle.icu_decimal_data.specs.CompactTable.{PatternElements, TableEntry}
 use Rattle.icu_decimal_data.specs.Kept.{same_patterns, is_zero_magnitude}
@@ -14,7 +13,3 @@ stays plain (Some last) x = not (same_patterns (without_explicit_one last) x)
 abbrev pub kept_since : Option PatternElements → Option PatternElements → List TableEntry → List TableEntry
 kept_since plain last [] = []
 kept_since plain last (e ∷ es) = if stays plain last e.elements then e ∷ kept_since plain (Some e.elements) es else kept_since plain last es
-
--- the elements of the last entry
-abbrev pub last_elements : List TableEntry → Option PatternElements
-last_elements es = option_map (λ (e : TableEntry). e.elements) (slice_get es (length es - 1))

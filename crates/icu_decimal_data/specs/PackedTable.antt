@@ -22,10 +22,10 @@ ArePatterns accepts [] = ⊤
 ArePatterns accepts (None ∷ ss) = ArePatterns accepts ss
 ArePatterns accepts (Some p ∷ ss) = IsTrue (is_pattern accepts p) × ArePatterns accepts ss
 
--- the same of the slots of all entries
-abbrev pub HavePatterns : (PatternText → Bool) → List TableEntry → Type 0
-HavePatterns accepts [] = ⊤
-HavePatterns accepts (e ∷ es) = ArePatterns accepts (slots e.elements) × HavePatterns accepts es
+-- each type is a byte, and each slot absent or a pattern of the backend
+abbrev pub AreWritable : (PatternText → Bool) → List TableEntry → Type 0
+AreWritable accepts [] = ⊤
+AreWritable accepts (e ∷ es) = (e.log10_type < 256) × ArePatterns accepts (slots e.elements) × AreWritable accepts es
 
 -- what an entry may be after another: its type is above, its exponent isn't below, and it doesn't repeat its patterns,
 -- that one's pattern for exactly one taken away

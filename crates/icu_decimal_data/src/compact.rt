@@ -1,5 +1,7 @@
 //! Tables of compact patterns.
 
+#![tactic(auto, using(crate::proofs::TableCalls::calls))]
+
 ghost use Rattle.std.specs.Prelude.{◌≡◌, ◌↔◌, ◌+◌, ◌<◌, nat_le, IfOk, IfSome, IsErrOf, IsTrue, MatchOption, IsOkUnless, None, [], length, option_map, slice_get, slice_index_or};
 ghost use Rattle.fixed_decimal.specs.Size.{finest, place};
 ghost use Rattle.icu_base.specs.Elements.{slots, selected, sole_value};
@@ -7,38 +9,44 @@ ghost use Rattle.icu_base.specs.Operands.{Operands};
 ghost use Rattle.icu_base.specs.declared.plurals.category.PluralCategory.{PluralCategory};
 ghost use Rattle.icu_base.specs.Refs.{text_of_ref};
 ghost use Rattle.icu_base.specs.Rules.{category_of};
-ghost use Rattle.icu_decimal_data.specs.CompactTable.{IsCompactTable, IsIndex, entry_at, entry_for, next_entry, index_after, log10_type_of, exponent_of, reached};
+ghost use Rattle.icu_decimal_data.specs.CompactTable.{IsCompactTable, IsIndex, entry_at, entry_for, next_entry, index_after, log10_type_of, exponent_of};
+ghost use Rattle.icu_decimal_data.specs.TableBytes.{table_bytes};
 ghost use Rattle.icu_decimal_data.specs.CompactFaults.{fault_of};
 ghost use Rattle.icu_decimal_data.specs.Kept.{given, kept, at};
 ghost use Rattle.icu_decimal_data.specs.declared.error.CompactError.TheVariants.{OutOfMemory};
 
-use crate::compact_entry::Entry;
 use crate::error::CompactError;
-use crate::kept::{first_fault, last_elements, stays};
+use crate::kept::first_fault;
+use crate::table_bytes::number_at;
+use crate::table_search::{exponent_at, reached, type_at};
+use crate::table_slots::{pattern_at, pick, sole_pattern};
+use crate::table_writing::table_of;
 use icu_base::{Pattern, PatternBackend, PatternRef, PluralElements, PluralOperands, PluralRules};
 use std::alloc::Global;
 use std::collections::BTreeMap;
-use std::marker::Model;
+use std::marker::{Model, PhantomData};
 
 /// The compact patterns of a locale (ICU4X, `CompactPatterns`; UTS 35 Part 3, Compact Number Formats): entries by rising
 /// type, each with its exponent and its patterns.
 ///
 /// A type is the power of ten at which an entry begins, its exponent the power of ten that its patterns name: with type 4
-/// and exponent 3, numbers from ten thousand on are written in thousands.
+/// and exponent 3, numbers from ten thousand on are written in thousands. They are held in one byte string.
 #[derive(Drop)]
 pub struct CompactPatterns<P: PatternBackend> {
-    entries: Vec<Entry<P>>,
+    bytes: Vec<u8>,
+    backend: PhantomData<P>,
 }
 
 impl<P: PatternBackend> Model for CompactPatterns<P> {
     ghost use Rattle.std.specs.Prelude.{List};
-    ghost use Rattle.icu_decimal_data.specs.CompactTable.{TableEntry, IsCompactTable};
+    ghost use Rattle.icu_decimal_data.specs.CompactTable.{TableEntry};
+    ghost use Rattle.icu_decimal_data.specs.TableReading.{table_in, IsTableBytes};
 
     ghost Value = { List TableEntry };
 
-    ghost view = { λ t. t.entries.items };
+    ghost view = { λ t. table_in t.bytes.items };
 
-    ghost invariant = { λ t. IsCompactTable t.entries.items };
+    ghost invariant = { λ t. IsTableBytes P.accepted t.bytes.items };
 }
 
 impl<P: PatternBackend> PartialEq for CompactPatterns<P> {
@@ -51,7 +59,7 @@ impl<P: PatternBackend> PartialEq for CompactPatterns<P> {
 
     /// Whether all entries are equal.
     fn eq(&self, other: &Self) -> bool {
-        self.entries == other.entries
+        self.bytes == other.bytes
     }
 }
 
@@ -67,7 +75,6 @@ impl<P: PatternBackend> CompactPatterns<P> {
     /// The leading types with the patterns of `zero_magnitude`, where given, are skipped. Of the others the first is
     /// kept, and each later one whose patterns differ from those of the type just before it in the map, that one's
     /// pattern for exactly one taken away. Exponents aren't compared. The map is dropped, also where it is refused.
-    #[tactic(auto, using(crate::proofs::KeptSteps::push_turn))]
     pub fn new(
         alloc: Global,
         patterns: BTreeMap<u8, (u8, PluralElements<Pattern<P>>)>,
@@ -79,31 +86,25 @@ impl<P: PatternBackend> CompactPatterns<P> {
         if let Some(fault) = first_fault(&patterns, zero_magnitude) {
             return Err(fault);
         }
-        let mut entries: Vec<Entry<P>> = Vec::new(alloc);
-        for (log10_type, (exponent, elements)) in patterns {
-            if stays(zero_magnitude, last_elements(&entries), &elements) {
-                entries.push(Entry {
-                    log10_type,
-                    exponent,
-                    elements,
-                })?;
-            }
-        }
-        Ok(CompactPatterns { entries })
+        let bytes = table_of(alloc, &patterns, zero_magnitude)?;
+        Ok(CompactPatterns {
+            bytes,
+            backend: PhantomData,
+        })
     }
 
     /// How many entries there are.
     pub fn len(&self) -> usize
         ensures { result ≡ length self.now }
     {
-        self.entries.len()
+        number_at(&self.bytes, 0)
     }
 
     /// Whether there is no entry.
     pub fn is_empty(&self) -> bool
         ensures { IsTrue result ↔ (self.now ≡ []) }
     {
-        self.entries.is_empty()
+        self.len() == 0
     }
 
     /// The index of a magnitude's entry: the last one whose type is not above the magnitude.
@@ -113,7 +114,7 @@ impl<P: PatternBackend> CompactPatterns<P> {
         ensures index { IsIndex self.now result }
         ensures table { IsCompactTable self.now }
     {
-        match reached(&self.entries, magnitude) {
+        match reached(&self.bytes, magnitude) {
             0 => None,
             count => Some(count - 1),
         }
@@ -124,7 +125,7 @@ impl<P: PatternBackend> CompactPatterns<P> {
         requires { index < length self.now }
         ensures { result ≡ log10_type_of (slice_get self.now index) }
     {
-        self.entries[index].log10_type
+        type_at(&self.bytes, index)
     }
 
     /// The exponent of an entry.
@@ -132,7 +133,7 @@ impl<P: PatternBackend> CompactPatterns<P> {
         requires { index < length self.now }
         ensures { result ≡ exponent_of (slice_get self.now index) }
     {
-        self.entries[index].exponent
+        exponent_at(&self.bytes, index)
     }
 
     /// The pattern of an entry in a slot, counted from 0: those for exactly zero and exactly one, for the categories
@@ -142,11 +143,7 @@ impl<P: PatternBackend> CompactPatterns<P> {
         requires slot { slot < 8 }
         ensures { IfSome (slice_get self.now index) (λ e. option_map text_of_ref result ≡ slice_index_or (slots e.elements) slot None) }
     {
-        let entry = &self.entries[index];
-        match entry.elements.slot(slot) {
-            Some(pattern) => Some(pattern.as_ref()),
-            None => None,
-        }
+        pattern_at(&self.bytes, index, slot as usize)
     }
 
     /// The pattern of an entry that has one for all numbers and no other: what `pick` answers for every number.
@@ -155,10 +152,7 @@ impl<P: PatternBackend> CompactPatterns<P> {
         ensures pattern { IfSome (slice_get self.now index) (λ e. option_map text_of_ref result ≡ sole_value e.elements) }
         ensures picked { IfSome (slice_get self.now index) (λ e. IfSome result (λ p. (operands : Operands) (category : PluralCategory) → selected e.elements operands category ≡ text_of_ref p)) }
     {
-        match self.entries[index].elements.sole() {
-            Some(pattern) => Some(pattern.as_ref()),
-            None => None,
-        }
+        sole_pattern(&self.bytes, index)
     }
 
     /// The pattern of an entry for a number of these operands: that for exactly zero or exactly one, where it is present
@@ -173,7 +167,7 @@ impl<P: PatternBackend> CompactPatterns<P> {
         requires { index < length self.now }
         ensures { IfSome (slice_get self.now index) (λ e. text_of_ref result ≡ selected e.elements operands.now (category_of rules.now operands.now)) }
     {
-        self.entries[index].elements.get(*operands, rules).as_ref()
+        pick(&self.bytes, index, operands, rules)
     }
 
     /// An equal table, with memory of its own.
@@ -181,11 +175,25 @@ impl<P: PatternBackend> CompactPatterns<P> {
         ensures equal { IfOk result (λ table. table ≡ self.now) }
         ensures memory { IsOkUnless result OutOfMemory }
     {
-        let mut entries = Vec::new(alloc);
-        for entry in &self.entries {
-            entries.push(entry.copy(alloc)?)?;
-        }
-        Ok(CompactPatterns { entries })
+        Ok(CompactPatterns {
+            bytes: Vec::from_slice(alloc, &self.bytes)?,
+            backend: PhantomData,
+        })
+    }
+
+    /// The one byte string of the table (docs/FORMATS.md). `CompactView::parse` reads it.
+    pub fn as_bytes(&self) -> &[u8]
+        ensures { result.now ≡ table_bytes self.now }
+    {
+        &self.bytes
+    }
+
+    /// A copy of the table's one byte string.
+    pub fn pack(&self, alloc: Global) -> Result<Vec<u8>, CompactError>
+        ensures bytes { IfOk result (λ v. v.items ≡ table_bytes self.now) }
+        ensures memory { IsOkUnless result OutOfMemory }
+    {
+        Ok(Vec::from_slice(alloc, self.as_bytes())?)
     }
 }
 
@@ -194,14 +202,4 @@ pub(crate) fn is_reached(log10_type: u8, magnitude: i32) -> bool
     ensures { result ≡ nat_le (log10_type + finest) (place magnitude) }
 {
     log10_type as i32 <= magnitude
-}
-
-/// How many entries have a type that is not above a magnitude.
-fn reached<P: PatternBackend>(entries: &[Entry<P>], magnitude: i32) -> usize
-    ensures { result ≡ reached entries.now (place magnitude) }
-{
-    entries
-        .iter()
-        .filter(|entry| is_reached(entry.log10_type, magnitude))
-        .count()
 }

@@ -14,7 +14,7 @@ ghost use Rattle.fixed_decimal.specs.Size.{place};
 use crate::error::Damaged;
 use crate::table_damage::check;
 use crate::table_search::{exponent_at, reached, type_at};
-use crate::table_slots::{pattern_at, presence};
+use crate::table_slots::{pattern_at, pick};
 use icu_base::{PatternBackend, PatternRef, PluralOperands, PluralRules};
 use std::alloc::AllocError;
 use std::marker::PhantomData;
@@ -140,10 +140,6 @@ impl<'a, P: PatternBackend> EntryView<'a, P> {
     pub fn pick(&self, operands: &PluralOperands, rules: &PluralRules) -> PatternRef<'a, P>
         ensures { text_of_ref result ≡ selected (entry_shown self.now).elements operands.now (category_of rules.now operands.now) }
     {
-        let slot = rules.slot_for(operands, &presence::<P>(self.bytes, self.index));
-        match self.slot(slot) {
-            Some(pattern) => pattern,
-            None => unreachable!(),
-        }
+        pick(self.bytes, self.index, operands, rules)
     }
 }

@@ -4,9 +4,8 @@ ghost use Rattle.std.specs.Prelude.{◌≡◌, ◌+◌, min};
 ghost use Rattle.std.specs.Option.{option_map};
 ghost use Rattle.icu_decimal_data.specs.Kept.{given, at};
 ghost use Rattle.icu_decimal_data.specs.CompactFaults.{has_falling_exponents, fault_at, fault_of, slot_size, elements_size};
-ghost use Rattle.icu_decimal_data.specs.KeptSince.{last_elements, stays};
+ghost use Rattle.icu_decimal_data.specs.KeptSince.{stays};
 
-use crate::compact_entry::Entry;
 use crate::error::CompactError;
 use icu_base::{Pattern, PatternBackend, PluralElements};
 use std::collections::BTreeMap;
@@ -59,13 +58,6 @@ pub(crate) fn stays<P: PatternBackend>(
         (None, Some(zero)) => elements != zero,
         (None, None) => true,
     }
-}
-
-/// The elements of the last entry.
-pub(crate) fn last_elements<P: PatternBackend>(entries: &[Entry<P>]) -> Option<&Elements<P>>
-    ensures { at result ≡ last_elements entries.now }
-{
-    entries.last().map(|entry| &entry.elements)
 }
 
 /// The bytes of a pattern's literal.

@@ -3,7 +3,6 @@
 #![tactic(auto)]
 
 mod compact;
-mod compact_entry;
 mod compact_view;
 mod decimal_symbols;
 mod error;

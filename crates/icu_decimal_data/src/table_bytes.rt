@@ -1,6 +1,6 @@
 //! What stands in the bytes of a compact table.
 
-ghost use Rattle.std.specs.Prelude.{◌≡◌, ◌+◌, ◌<◌, ◌^◌, length};
+ghost use Rattle.std.specs.Prelude.{◌≡◌, ℕ, ◌+◌, ◌<◌, ◌^◌, length, slice_index};
 ghost use Rattle.icu_decimal_data.specs.TableReading.{number, place_in, pattern_in};
 
 /// How long the two numbers in front are: how many entries there are, and how long the pool is.
@@ -23,6 +23,13 @@ pub(crate) const WITHOUT_PLACE: u8 = 1;
 
 /// The kind of a slot whose pattern has a place.
 pub(crate) const WITH_PLACE: u8 = 2;
+
+/// Bytes are below 256. The function does nothing: it says what the type of a slice does.
+pub(crate) fn are_below_256(bytes: &[u8])
+    ensures { (i : ℕ) → slice_index bytes.now i < 256 }
+{
+    let _ = bytes;
+}
 
 /// The number in two bytes, the low one first.
 pub(crate) fn number_at(bytes: &[u8], at: usize) -> usize

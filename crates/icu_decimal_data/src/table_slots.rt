@@ -4,14 +4,15 @@
 
 ghost use Rattle.std.specs.Prelude.{◌≡◌, ◌<◌, None, length, take, is_some, is_none, slice_index_or, option_map};
 ghost use Rattle.std.specs.List.{list_all};
-ghost use Rattle.icu_base.specs.Elements.{slots, presence, sole_value};
+ghost use Rattle.icu_base.specs.Elements.{slots, presence, selected, sole_value};
+ghost use Rattle.icu_base.specs.Rules.{category_of};
 ghost use Rattle.icu_base.specs.Refs.{text_of_ref};
 ghost use Rattle.icu_decimal_data.specs.TableReading.{IsTableBytes, IsSearchable, count_in, entry_of, pool_in, slot_of};
 
 use crate::table_bytes::{
     ABSENT, HEAD_LEN, RECORD_LEN, SLOT_LEN, SLOTS_START, literal_of, number_at, place_of,
 };
-use icu_base::{PatternBackend, PatternRef};
+use icu_base::{PatternBackend, PatternRef, PluralOperands, PluralRules};
 use std::str;
 
 /// The pool: the bytes behind the records.
@@ -113,5 +114,23 @@ pub(crate) fn sole_pattern<P: PatternBackend>(
         pattern_at(bytes, index, 7)
     } else {
         None
+    }
+}
+
+/// The pattern of an entry for a number of these operands.
+pub(crate) fn pick<'a, P: PatternBackend>(
+    bytes: &'a [u8],
+    index: usize,
+    operands: &PluralOperands,
+    rules: &PluralRules,
+) -> PatternRef<'a, P>
+    requires table { IsTableBytes P.accepted bytes.now }
+    requires inside { index < count_in bytes.now }
+    ensures { text_of_ref result ≡ selected (entry_of bytes.now index).elements operands.now (category_of rules.now operands.now) }
+{
+    let slot = rules.slot_for(operands, &presence::<P>(bytes, index));
+    match pattern_at(bytes, index, slot as usize) {
+        Some(pattern) => pattern,
+        None => unreachable!(),
     }
 }

@@ -2,14 +2,17 @@
 
 #![tactic(auto, using(crate::proofs::TableWriting::writing))]
 
-ghost use Rattle.std.specs.Prelude.{◌≡◌, ◌+◌, ◌≤◌, ◌<◌, ◌^◌, ◌++◌, [], ◌∷◌, length, IfOk, OnOk, option_map};
+ghost use Rattle.std.specs.Prelude.{◌≡◌, ℕ, ◌+◌, ◌<◌, ◌^◌, ◌++◌, [], ◌∷◌, length, slice_index, IfOk, OnOk, option_map};
+ghost use Rattle.std.specs.List.Sorted.{IsStrictlySortedBy};
+ghost use Rattle.std.specs.Map.{keys_of};
+ghost use Rattle.std.specs.Ordering.{nat_cmp};
 ghost use Rattle.icu_base.specs.Elements.{slots};
 ghost use Rattle.icu_decimal_data.specs.Kept.{given, kept, at};
-ghost use Rattle.icu_decimal_data.specs.PackedTable.{ArePatterns, HavePatterns, literal_of, slot_literals, literals};
+ghost use Rattle.icu_decimal_data.specs.PackedTable.{ArePatterns, AreWritable, literal_of, slot_literals, literals};
 ghost use Rattle.icu_decimal_data.specs.TableBytes.{number_bytes, slot_bytes, slots_bytes, records_bytes, table_bytes};
 
 use crate::kept::{Elements, stays};
-use crate::table_bytes::{ABSENT, HEAD_LEN, RECORD_LEN, SLOT_LEN, WITH_PLACE, WITHOUT_PLACE};
+use crate::table_bytes::{ABSENT, HEAD_LEN, RECORD_LEN, SLOT_LEN, WITH_PLACE, WITHOUT_PLACE, are_below_256};
 use icu_base::{Pattern, PatternBackend};
 use std::alloc::{AllocError, Global};
 use std::collections::BTreeMap;
@@ -77,7 +80,8 @@ fn parts<P: PatternBackend>(
     requires { length (literals (kept (at zero_magnitude) (given map.now.entries))) < 2 ^ 16 }
     ensures records { IfOk result (λ p. p.0.items ≡ records_bytes 0 (kept (at zero_magnitude.entry) (given map.now.entries))) }
     ensures pool { IfOk result (λ p. p.1.items ≡ literals (kept (at zero_magnitude.entry) (given map.now.entries))) }
-    ensures patterns { IfOk result (λ _. HavePatterns P.accepted (kept (at zero_magnitude.entry) (given map.now.entries))) }
+    ensures writable { IfOk result (λ _. AreWritable P.accepted (kept (at zero_magnitude.entry) (given map.now.entries))) }
+    ensures sorted { IsStrictlySortedBy nat_cmp (keys_of map.now.entries) }
 {
     let mut records = Vec::new(alloc);
     let mut pool = Vec::new(alloc);
@@ -94,16 +98,17 @@ fn parts<P: PatternBackend>(
     Ok((records, pool))
 }
 
-/// The byte string of the entries that are kept of a map, which are at most 256 with less than 65,536 bytes of literals.
+/// The byte string of the entries that are kept of a map, whose literals are less than 65,536 bytes.
 pub(crate) fn table_of<P: PatternBackend>(
     alloc: Global,
     map: &BTreeMap<u8, (u8, Elements<P>)>,
     zero_magnitude: Option<&Elements<P>>,
 ) -> Result<Vec<u8>, AllocError>
-    requires few { length (kept (at zero_magnitude) (given map.now.entries)) ≤ 256 }
-    requires short { length (literals (kept (at zero_magnitude) (given map.now.entries))) < 2 ^ 16 }
+    requires { length (literals (kept (at zero_magnitude) (given map.now.entries))) < 2 ^ 16 }
     ensures bytes { IfOk result (λ b. b.items ≡ table_bytes (kept (at zero_magnitude.entry) (given map.now.entries))) }
-    ensures patterns { IfOk result (λ _. HavePatterns P.accepted (kept (at zero_magnitude.entry) (given map.now.entries))) }
+    ensures writable { IfOk result (λ _. AreWritable P.accepted (kept (at zero_magnitude.entry) (given map.now.entries))) }
+    ensures are_bytes { IfOk result (λ b. (i : ℕ) → slice_index b.items i < 256) }
+    ensures sorted { IsStrictlySortedBy nat_cmp (keys_of map.now.entries) }
 {
     let (records, pool) = parts(alloc, map, zero_magnitude)?;
     let mut bytes = Vec::with_capacity(alloc, HEAD_LEN + records.len() + pool.len())?;
@@ -111,5 +116,6 @@ pub(crate) fn table_of<P: PatternBackend>(
     push_number(&mut bytes, pool.len())?;
     bytes.extend_from_slice(&records)?;
     bytes.extend_from_slice(&pool)?;
+    are_below_256(&bytes);
     Ok(bytes)
 }

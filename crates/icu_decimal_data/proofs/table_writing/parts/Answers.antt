@@ -1,4 +1,4 @@
-use Rattle.std.proofs.Common.{◌≡◌, ◌∙◌, true, sym, ◌∷◌}
+use Rattle.std.proofs.Common.{◌≡◌, ◌∙◌, true, sym, ◌∷◌, arith}
 use Rattle.icu_decimal_data.specs.CompactTable.{TableEntry}
 use Rattle.icu_decimal_data.specs.Kept.{given, kept, at}
 use Rattle.icu_decimal_data.specs.KeptSince.{kept_since, stays}
@@ -32,4 +32,4 @@ loop-log10_type-preserved-then-stays g c =
     let here : stays plain last e.elements ≡ true = sym c.stays.ensures ∙ c.if-stays.true in
     let done = c.in_ok-push_slots.ensures in
     let two = rw c.in_ok-push.ensures.items at c.in_ok-push-2.ensures.items in
-    kept_written g.P.PatternBackend.accepted plain last e es whole c.loop-log10_type.records.items c.loop-log10_type.pool.items here left c.push_slots.new.records.items c.push_slots.new.pool.items (rw two at done.records) done.pool done.patterns
+    kept_written g.P.PatternBackend.accepted plain last e es whole c.loop-log10_type.records.items c.loop-log10_type.pool.items here left c.push_slots.new.records.items c.push_slots.new.pool.items (rw two at done.records) done.pool (omega arith) done.patterns

@@ -2,6 +2,7 @@ use Rattle.std.proofs.Common.{◌≡◌, ◌++◌, ◌/◌, ◌∙◌, ap, sym, 
 use Rattle.std.proofs.lemmas.Slice.{pushed}
 use Rattle.icu_decimal_data.specs.Kept.{given, kept, at}
 use Rattle.icu_decimal_data.specs.TableBytes.{number_bytes}
+use Rattle.icu_decimal_data.proofs.TableOfMap.{few_kept}
 use Rattle.icu_decimal_data.proofs.TableWriting.{count_is, whole_is}
 use Rattle.icu_decimal_data.proofs.table_writing.table_of.Goals as goal
 
@@ -9,7 +10,8 @@ pub push_number-requires : goal.push_number-requires
 push_number-requires g c =
     let table = kept (at c.args.zero_magnitude) (given c.args.map.now.entries) in
     let count : c.len-3.result / 58 ≡ length table = ap (λ (n : ℕ). n / 58) (c.len-3.ensures ∙ c.in_ok-records.records.ok.0) ∙ count_is c.in_ok-records.records.items table c.in_ok-records.ensures.records in
-    omega (arith, count, c.requires.few)
+    let few = few_kept (at c.args.zero_magnitude) c.args.map.now.entries g.P.PatternBackend.accepted c.parts.ensures.sorted c.in_ok-records.ensures.writable in
+    omega arith
 
 pub returns-clause-bytes : goal.returns-clause-bytes
 returns-clause-bytes g c =

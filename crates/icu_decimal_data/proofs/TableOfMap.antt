@@ -1,0 +1,131 @@
+-- What is kept of a map without a fault can be packed.
+use Rattle.std.proofs.Common.{◌≡◌, ℕ, ◌+◌, ◌<◌, ◌≤◌, ◌^◌, ⊎_elim, Bool, true, false, refl, arith, List, [], ◌∷◌, length, Option, Some, None, nat_lt, ltb-false, subst, length-append, sum_by}
+use Rattle.std.specs.Prelude.{⊤, if◌then◌else◌}
+use Rattle.std.specs.List.Sorted.{IsStrictlySortedBy}
+use Rattle.std.specs.Map.{keys_of}
+use Rattle.std.specs.Ordering.{nat_cmp}
+use Rattle.std.proofs.lemmas.Bool.{cases_Bool}
+use Rattle.std.proofs.lemmas.List.Sums.{sum_by-cons}
+use Rattle.icu_base.specs.Elements.{slots}
+use Rattle.icu_base.specs.Patterns.{PatternText}
+use Rattle.icu_decimal_data.specs.CompactTable.{PatternElements, TableEntry}
+use Rattle.icu_decimal_data.specs.Kept.{given, kept, repeats, is_zero_magnitude}
+use Rattle.icu_decimal_data.specs.KeptSince.{kept_since}
+use Rattle.icu_decimal_data.specs.CompactFaults.{fault_of, slot_size, elements_size, literals_size, first_entry_fault}
+use Rattle.icu_decimal_data.specs.declared.error.CompactError.TheVariants.{TooLarge}
+use Rattle.icu_decimal_data.specs.PackedTable.{IsPackable, AreEntries, AreWritable, literal_of, slot_literals, literals}
+use Rattle.icu_decimal_data.proofs.EntryFaults.{none_or, no_entry_fault}
+use Rattle.icu_decimal_data.proofs.KeptSteps.{kept_since_start}
+use Rattle.icu_decimal_data.proofs.KeptTables.{Each, Pairs, each_weaker, pairs_kept, types_rise, sound, exponents_rise}
+
+-- ---- no kept entry repeats the one before
+
+abbrev Differ : TableEntry → List TableEntry → Type 0
+Differ before [] = ⊤
+Differ before (e ∷ es) = (repeats before e ≡ false) × Differ e es
+
+since_differ : (plain : Option PatternElements) (last : TableEntry) (es : List TableEntry) → Differ last (kept_since plain (Some last.elements) es)
+since_differ plain last [] = tt
+since_differ plain last (e ∷ es) =
+    ⊎_elim
+    (λ (r : repeats last e ≡ true). rw r (since_differ plain last es))
+    (λ (r : repeats last e ≡ false). rw r (r, since_differ plain e es))
+    (cases_Bool (repeats last e))
+
+abbrev FirstDiffer : List TableEntry → Type 0
+FirstDiffer [] = ⊤
+FirstDiffer (e ∷ es) = Differ e es
+
+kept_differ : (plain : Option PatternElements) (es : List TableEntry) → FirstDiffer (kept_since plain None es)
+kept_differ plain [] = tt
+kept_differ plain (e ∷ es) =
+    ⊎_elim
+    (λ (z : is_zero_magnitude plain e.elements ≡ true). rw z (kept_differ plain es))
+    (λ (z : is_zero_magnitude plain e.elements ≡ false). rw z (since_differ plain e es))
+    (cases_Bool (is_zero_magnitude plain e.elements))
+
+-- ---- at most 256
+
+bounded : (low : ℕ) (es : List TableEntry) → low ≤ 256 → Each (λ e. low ≤ e.log10_type) es → Each (λ e. e.log10_type < 256) es → Pairs (λ e f. e.log10_type < f.log10_type) es → length es + low ≤ 256
+bounded low [] room above small rise = omega arith
+bounded low (e ∷ es) room above small rise =
+    let here : low ≤ e.log10_type = above.0 in
+    let byte : e.log10_type < 256 = small.0 in
+    let rest = bounded (e.log10_type + 1) es (omega arith) (each_weaker (λ f. e.log10_type < f.log10_type) (λ f. e.log10_type + 1 ≤ f.log10_type) (λ f h. omega arith) es rise.0) small.1 rise.1 in
+    omega arith
+
+each_any : (P : TableEntry → Type 0) → ((e : TableEntry) → P e) → (es : List TableEntry) → Each P es
+each_any P h [] = tt
+each_any P h (e ∷ es) = (h e, each_any P h es)
+
+-- ---- the literals are as long as they are counted
+
+slots_size : (ss : List (Option PatternText)) → length (slot_literals ss) ≡ sum_by slot_size ss
+slots_size [] = refl
+slots_size (s ∷ ss) = omega (arith, length-append (literal_of s) (slot_literals ss), sum_by-cons slot_size s ss, slots_size ss, one s)
+  where
+    one : (s : Option PatternText) → length (literal_of s) ≡ slot_size s
+    one None = refl
+    one (Some p) = refl
+
+pub all_size : (es : List TableEntry) → length (literals es) ≡ literals_size es
+all_size [] = refl
+all_size (e ∷ es) =
+    let here : length (slot_literals (slots e.elements)) ≡ elements_size e.elements = slots_size (slots e.elements) in
+    let more : literals_size (e ∷ es) ≡ elements_size e.elements + literals_size es = sum_by-cons (λ (f : TableEntry). elements_size f.elements) e es in
+    omega (arith, length-append (slot_literals (slots e.elements)) (literals es), here, more, all_size es)
+
+-- ---- entries
+
+module _ (accepts : PatternText → Bool) where
+  entries_after : (before : TableEntry) (es : List TableEntry) → Each (λ f. before.log10_type < f.log10_type) es → Each (λ f. before.exponent ≤ f.exponent) es → Pairs (λ e f. e.log10_type < f.log10_type) es → Pairs (λ e f. e.exponent ≤ f.exponent) es
+      → Each (λ e. (e.exponent ≤ e.log10_type) × (e.log10_type ≤ e.exponent + 15)) es → Differ before es → AreWritable accepts es → AreEntries accepts (Some before) es
+  entries_after before [] a b types exps near differ writable = tt
+  entries_after before (e ∷ es) a b types exps near differ writable =
+      (record { is_byte = writable.0; below = near.0.0; few_zeros = near.0.1; patterns = writable.1 }, (a.0, b.0, differ.0), entries_after e es types.0 exps.0 types.1 exps.1 near.1 differ.1 writable.2)
+
+  entries_are : (es : List TableEntry) → Pairs (λ e f. e.log10_type < f.log10_type) es → Pairs (λ e f. e.exponent ≤ f.exponent) es
+      → Each (λ e. (e.exponent ≤ e.log10_type) × (e.log10_type ≤ e.exponent + 15)) es → FirstDiffer es → AreWritable accepts es → AreEntries accepts None es
+  entries_are [] types exps near differ writable = tt
+  entries_are (e ∷ es) types exps near differ writable =
+      (record { is_byte = writable.0; below = near.0.0; few_zeros = near.0.1; patterns = writable.1 }, tt, entries_after e es types.0 exps.0 types.1 exps.1 near.1 differ writable.2)
+
+  types_are_bytes : (es : List TableEntry) → AreWritable accepts es → Each (λ e. e.log10_type < 256) es
+  types_are_bytes [] h = tt
+  types_are_bytes (e ∷ es) h = (h.0, types_are_bytes es h.2)
+
+-- ---- a map without a fault
+
+within : (n : ℕ) → (if nat_lt 65535 n then Some TooLarge else None) ≡ None → n ≤ 65535
+within n h =
+    ⊎_elim
+    (λ (over : nat_lt 65535 n ≡ true). absurd (let k = rw over at h in cc))
+    (λ (under : nat_lt 65535 n ≡ false). ltb-false 65535 n under)
+    (cases_Bool (nat_lt 65535 n))
+
+module _ (plain : Option PatternElements) (map : List (ℕ × (ℕ × PatternElements))) where
+  pub short_kept : fault_of plain (given map) ≡ None → length (literals (kept plain (given map))) < 2 ^ 16
+  short_kept none =
+      let faults = no_entry_fault plain (given map) none in
+      let parts = none_or (first_entry_fault (kept plain (given map))) _ (rw faults.0 at none) in
+      let limit : literals_size (kept plain (given map)) ≤ 65535 = within (literals_size (kept plain (given map))) parts.1 in
+      omega (arith, all_size (kept plain (given map)))
+
+  module _ (accepts : PatternText → Bool) (sorted : IsStrictlySortedBy nat_cmp (keys_of map)) (writable : AreWritable accepts (kept plain (given map))) where
+    rising : Pairs (λ e f. e.log10_type < f.log10_type) (kept plain (given map))
+    rising = pairs_kept (λ e f. e.log10_type < f.log10_type) plain (given map) (types_rise map sorted)
+
+    pub few_kept : length (kept plain (given map)) ≤ 256
+    few_kept =
+        let h = bounded 0 (kept plain (given map)) (omega arith) (each_any (λ e. 0 ≤ e.log10_type) (λ e. omega arith) (kept plain (given map))) (types_are_bytes accepts (kept plain (given map)) writable) rising in
+        omega arith
+
+    pub packable : fault_of plain (given map) ≡ None → IsPackable accepts (kept plain (given map))
+    packable none =
+        let faults = no_entry_fault plain (given map) none in
+        let differ : FirstDiffer (kept plain (given map)) = subst FirstDiffer (kept_since_start plain (given map)) (kept_differ plain (given map)) in
+        record {
+          counted = few_kept;
+          short = short_kept none;
+          entries = entries_are accepts (kept plain (given map)) rising (pairs_kept (λ e f. e.exponent ≤ f.exponent) plain (given map) (exponents_rise 0 (given map) faults.0).1) (sound (kept plain (given map)) faults.1) differ writable;
+        }
