@@ -1,9 +1,3 @@
-pub mod TextStarts
-pub mod SymbolReading
-pub mod SymbolPacking
-pub mod SymbolDamage
-pub mod SymbolsBuilt
-pub mod SameBytes
 pub mod SameEntries
 pub mod EntryFaults
 pub mod KeptTables

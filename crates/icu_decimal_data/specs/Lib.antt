@@ -1,8 +1,8 @@
-pub mod Symbols
-pub mod SymbolBytes
-pub mod SymbolsShown
-pub mod Given
-pub mod DecimalSymbols
+pub use Rattle.icu_decimal_symbols.specs.Symbols
+pub use Rattle.icu_decimal_symbols.specs.SymbolBytes
+pub use Rattle.icu_decimal_symbols.specs.SymbolsShown
+pub use Rattle.icu_decimal_symbols.specs.Given
+pub use Rattle.icu_decimal_symbols.specs.DecimalSymbols
 pub mod CompactTable
 pub mod Kept
 pub mod CompactFaults

@@ -1,6 +1,6 @@
 -- What a check of bytes answers, beside what reading them gives.
 use Rattle.std.specs.Prelude.{◌≡◌, ℕ, Result, Ok, Err}
-use Rattle.icu_decimal_data.specs.declared.error.Damaged.{Damaged}
+use Rattle.icu_decimal_symbols.specs.declared.error.Damaged.{Damaged}
 
 -- the same number, or the same damaged byte
 abbrev pub Gives : Result ℕ Damaged → Result ℕ ℕ → Type 0

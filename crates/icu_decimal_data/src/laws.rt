@@ -2,13 +2,12 @@
 
 ghost use Rattle.std.specs.Prelude.{◌≡◌, ◌↔◌, IsTrue};
 ghost use Rattle.icu_decimal_data.specs.Faithful.{KeptMeansFull};
-ghost use Rattle.icu_decimal_data.specs.Symbols.{SymbolTexts, IsSymbolTexts};
-ghost use Rattle.icu_decimal_data.specs.SymbolBytes.{IsReadAgain};
 
 use crate::compact::CompactPatterns;
 use fixed_decimal::laws::magnitude_is_the_greatest_power;
 use icu_base::PatternBackend;
 use icu_base::laws::exactly_is_the_number;
+pub use icu_decimal_symbols::laws::symbols_are_read_again;
 
 /// What a table keeps of a map means what the whole map means: at each magnitude it has the map's exponent, and each
 /// significand picks the same pattern.
@@ -25,11 +24,4 @@ pub fn kept_means_full()
 /// Two tables are equal exactly where their entries are the same.
 pub fn equal_tables_are_the_same<P: PatternBackend>()
     ensures { (a b : _) → IsTrue (⟦<CompactPatterns<P> as PartialEq>⟧.eq a b) ↔ (a ≡ b) }
-{}
-
-/// The byte string of symbols, which `DecimalSymbolsStrs::as_bytes` gives, is read by `SymbolsView::parse`, and the view
-/// has their seven texts.
-#[tactic(auto, using(crate::proofs::SymbolDamage::is_read_again))]
-pub fn symbols_are_read_again()
-    ensures { (s : SymbolTexts) → IsSymbolTexts s → IsReadAgain s }
 {}

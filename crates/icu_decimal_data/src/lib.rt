@@ -4,17 +4,11 @@
 
 mod compact;
 mod compact_view;
-mod decimal_symbols;
 mod error;
 mod fallback;
-mod grouping_sizes;
 mod kept;
 pub mod laws;
 mod markers;
-mod symbol_bytes;
-mod symbol_damage;
-mod symbols;
-mod symbols_view;
 mod table_bytes;
 mod table_damage;
 mod table_search;
@@ -23,10 +17,10 @@ mod table_writing;
 
 pub use compact::CompactPatterns;
 pub use compact_view::{CompactView, EntryView};
-pub use decimal_symbols::DecimalSymbols;
 pub use error::{CompactError, Damaged, SymbolsError};
 pub use fallback::load_with_fallback;
-pub use grouping_sizes::GroupingSizes;
+pub use icu_decimal_symbols::{
+    DecimalSymbolStrsBuilder, DecimalSymbols, DecimalSymbolsStrs, GroupingSizes, SymbolsView,
+    decimal_symbols, grouping_sizes, symbols, symbols_view,
+};
 pub use markers::{DecimalCompactLongV1, DecimalCompactShortV1, DecimalDigitsV1, DecimalSymbolsV1};
-pub use symbols::{DecimalSymbolStrsBuilder, DecimalSymbolsStrs};
-pub use symbols_view::SymbolsView;

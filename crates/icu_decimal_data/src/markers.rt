@@ -1,8 +1,8 @@
 //! The kinds of data that formatters are made of.
 
 use crate::compact::CompactPatterns;
-use crate::decimal_symbols::DecimalSymbols;
 use icu_base::SinglePlaceholder;
+use icu_decimal_symbols::DecimalSymbols;
 use icu_provider::DataMarker;
 
 /// The symbols of a locale, or of a numbering system in a locale (ICU4X, `DecimalSymbolsV1`).

@@ -1,7 +1,0 @@
-use Rattle.std.proofs.Common.{arith}
-use Rattle.icu_decimal_data.proofs.TextStarts.{sum_more}
-use Rattle.icu_decimal_data.proofs.SymbolReading.{passing_goes_on}
-use Rattle.icu_decimal_data.proofs.symbol_damage.end_of.Goals as goal
-
-pub loop-i-preserved : goal.loop-i-preserved
-loop-i-preserved c = (omega (arith, sum_more c.args.bytes.now c.loop-i.i), omega arith, passing_goes_on c.args.bytes.now c.loop-i.i c.loop-i.total _ (omega arith) c.requires c.loop-i.invariant.2 (omega arith))

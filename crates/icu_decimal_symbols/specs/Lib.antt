@@ -1,0 +1,5 @@
+pub mod Symbols
+pub mod SymbolBytes
+pub mod SymbolsShown
+pub mod Given
+pub mod DecimalSymbols

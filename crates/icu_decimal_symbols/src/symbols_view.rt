@@ -1,0 +1,104 @@
+//! Symbols in bytes that are lent.
+
+#![tactic(auto, using(crate::proofs::SymbolReading::reading))]
+
+ghost use Rattle.std.specs.Prelude.{◌≡◌, IfOk, IsOkAnd, MatchResult, Some, None};
+ghost use Rattle.icu_provider.specs.NumberingSystem.{IsNumberingSystem};
+ghost use Rattle.icu_decimal_symbols.specs.Symbols.{SymbolTexts, IsSymbolTexts};
+ghost use Rattle.icu_decimal_symbols.specs.SymbolBytes.{IsSymbolBytes, symbol_bytes, first_damage};
+
+use crate::error::Damaged;
+use crate::symbol_bytes::text;
+use crate::symbol_damage::check;
+use std::alloc::AllocError;
+
+/// The seven texts of symbols, in the byte string that `DecimalSymbolsStrs::as_bytes` gives. The texts are lent for as
+/// long as the bytes are. No call takes memory.
+pub struct SymbolsView<'a> {
+    bytes: &'a [u8],
+    ghost packed: { IsSymbolBytes bytes.now },
+}
+
+impl Clone for SymbolsView<'_> {
+    ghost use Rattle.std.specs.Prelude.{◌≡◌, ⊤};
+
+    ghost is_clone = { λ s r. r ≡ s };
+
+    ghost is_infallible = { λ _. ⊤ };
+
+    fn clone(&self) -> Result<Self, AllocError> {
+        Ok(*self)
+    }
+}
+
+impl Copy for SymbolsView<'_> {}
+
+impl<'a> SymbolsView<'a> {
+    ghost use Rattle.icu_decimal_symbols.specs.SymbolsShown.{texts_shown};
+
+    /// The symbols that have these bytes.
+    ///
+    /// Five tests are made in order, and the first that fails tells the damaged byte: at least seven bytes, else their
+    /// number; lengths of at most 255 together, else the place of the length that passes it; as many bytes as the lengths
+    /// say, else the smaller of the two numbers; each text UTF-8 by itself, else where it begins; the last one the name of
+    /// a numbering system, else where it begins.
+    #[tactic(auto, using(crate::proofs::SymbolDamage::damage))]
+    pub fn parse(bytes: &'a [u8]) -> Result<Self, Damaged>
+        ensures found { IfOk result (λ v. IsSymbolTexts (texts_shown v) × (bytes.now ≡ symbol_bytes (texts_shown v))) }
+        ensures every { (s : SymbolTexts) → IsSymbolTexts s → bytes.now ≡ symbol_bytes s → IsOkAnd result (λ v. texts_shown v ≡ s) }
+        ensures damaged { MatchResult result (λ _. first_damage bytes.now ≡ None) (λ e. first_damage bytes.now ≡ Some e.byte) }
+    {
+        check(bytes)?;
+        Ok(SymbolsView { bytes })
+    }
+
+    /// What stands before a negative number.
+    pub fn minus_sign_prefix(&self) -> &'a str
+        ensures { result.now ≡ (texts_shown self.now).minus_sign_prefix }
+    {
+        text(self.bytes, 0)
+    }
+
+    /// What stands after a negative number.
+    pub fn minus_sign_suffix(&self) -> &'a str
+        ensures { result.now ≡ (texts_shown self.now).minus_sign_suffix }
+    {
+        text(self.bytes, 1)
+    }
+
+    /// What stands before a number that is marked as positive.
+    pub fn plus_sign_prefix(&self) -> &'a str
+        ensures { result.now ≡ (texts_shown self.now).plus_sign_prefix }
+    {
+        text(self.bytes, 2)
+    }
+
+    /// What stands after a number that is marked as positive.
+    pub fn plus_sign_suffix(&self) -> &'a str
+        ensures { result.now ≡ (texts_shown self.now).plus_sign_suffix }
+    {
+        text(self.bytes, 3)
+    }
+
+    /// What stands between integer and fraction.
+    pub fn decimal_separator(&self) -> &'a str
+        ensures { result.now ≡ (texts_shown self.now).decimal_separator }
+    {
+        text(self.bytes, 4)
+    }
+
+    /// What stands between groups of integer digits.
+    pub fn grouping_separator(&self) -> &'a str
+        ensures { result.now ≡ (texts_shown self.now).grouping_separator }
+    {
+        text(self.bytes, 5)
+    }
+
+    /// The numbering system whose digits are used unless another is asked for.
+    pub fn numsys(&self) -> &'a str
+        ensures text { result.now ≡ (texts_shown self.now).numsys }
+        ensures valid { IsNumberingSystem result.now }
+    {
+        text(self.bytes, 6)
+    }
+}
