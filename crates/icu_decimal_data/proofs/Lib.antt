@@ -18,3 +18,4 @@ pub mod TableSlots
 pub mod TableWriting
 pub mod TableOfMap
 pub mod TableCalls
+pub mod PackableTables

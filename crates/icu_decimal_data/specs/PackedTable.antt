@@ -4,7 +4,8 @@ use Rattle.std.specs.Str.{is_utf8}
 use Rattle.icu_base.specs.Patterns.{PatternText, place_alone}
 use Rattle.icu_base.specs.Elements.{slots}
 use Rattle.icu_decimal_data.specs.CompactTable.{TableEntry, shift_limit}
-use Rattle.icu_decimal_data.specs.Kept.{repeats}
+use Rattle.icu_decimal_data.specs.CompactFaults.{fault_of}
+use Rattle.icu_decimal_data.specs.Kept.{kept, repeats}
 
 -- What packing needs of a backend, by its test: a place that it accepts lies in the literal, and where it accepts any
 -- pattern with a place, it accepts the place alone.
@@ -62,3 +63,7 @@ pub record IsPackable (accepts : PatternText → Bool) (table : List TableEntry)
   pub counted : length table ≤ 256
   pub short : length (literals table) < 2 ^ 16
   pub entries : AreEntries accepts None table
+
+-- Each table that can be packed is made of a map: that of its own entries has no fault, and keeps them all.
+abbrev pub PackableIsMade : Type 0
+PackableIsMade = (accepts : PatternText → Bool) (t : List TableEntry) → IsPackable accepts t → (kept None t ≡ t) × (fault_of None t ≡ None)

@@ -10,6 +10,7 @@ ghost use Rattle.icu_base.specs.declared.plurals.category.PluralCategory.{Plural
 ghost use Rattle.icu_base.specs.Refs.{text_of_ref};
 ghost use Rattle.icu_base.specs.Rules.{category_of};
 ghost use Rattle.icu_decimal_data.specs.CompactTable.{IsCompactTable, IsIndex, entry_at, entry_for, next_entry, index_after, log10_type_of, exponent_of};
+ghost use Rattle.icu_decimal_data.specs.PackedTable.{IsPackable};
 ghost use Rattle.icu_decimal_data.specs.TableBytes.{table_bytes};
 ghost use Rattle.icu_decimal_data.specs.CompactFaults.{fault_of};
 ghost use Rattle.icu_decimal_data.specs.Kept.{given, kept, at};
@@ -183,7 +184,8 @@ impl<P: PatternBackend> CompactPatterns<P> {
 
     /// The one byte string of the table (docs/FORMATS.md). `CompactView::parse` reads it.
     pub fn as_bytes(&self) -> &[u8]
-        ensures { result.now ≡ table_bytes self.now }
+        ensures bytes { result.now ≡ table_bytes self.now }
+        ensures packable { IsPackable P.accepted self.now }
     {
         &self.bytes
     }

@@ -1,7 +1,11 @@
 //! What holds of all symbols and compact tables. The functions do nothing: each is its contract.
 
-ghost use Rattle.std.specs.Prelude.{◌≡◌, ◌↔◌, IsTrue};
+ghost use Rattle.std.specs.Prelude.{◌≡◌, ◌↔◌, List, IsOk, IsTrue};
+ghost use Rattle.icu_decimal_data.specs.CompactTable.{TableEntry};
 ghost use Rattle.icu_decimal_data.specs.Faithful.{KeptMeansFull};
+ghost use Rattle.icu_decimal_data.specs.PackedTable.{IsPackable, PackableIsMade};
+ghost use Rattle.icu_decimal_data.specs.TableBytes.{table_bytes};
+ghost use Rattle.icu_decimal_data.specs.TableReading.{table_in, table_step};
 
 use crate::compact::CompactPatterns;
 use fixed_decimal::laws::magnitude_is_the_greatest_power;
@@ -24,4 +28,20 @@ pub fn kept_means_full()
 /// Two tables are equal exactly where their entries are the same.
 pub fn equal_tables_are_the_same<P: PatternBackend>()
     ensures { (a b : _) → IsTrue (⟦<CompactPatterns<P> as PartialEq>⟧.eq a b) ↔ (a ≡ b) }
+{}
+
+/// Two tables are equal exactly where their byte strings are.
+pub fn equal_tables_have_equal_bytes<P: PatternBackend>()
+    ensures { (a b : List TableEntry) → IsPackable P.accepted a → IsPackable P.accepted b → IsTrue (⟦<CompactPatterns<P> as PartialEq>⟧.eq a b) ↔ (table_bytes a ≡ table_bytes b) }
+{}
+
+/// The byte string of a table, which `CompactPatterns::as_bytes` lends and `pack` copies, is read by `CompactView::parse`,
+/// and the view shows the table.
+pub fn tables_are_read_again<P: PatternBackend>()
+    ensures { (t : List TableEntry) → IsPackable P.accepted t → IsOk (table_step P.accepted (table_bytes t)) × (table_in (table_bytes t) ≡ t) }
+{}
+
+/// Every table that `CompactView::parse` reads is one that `CompactPatterns::new` makes: of the map of its own entries.
+pub fn packable_tables_are_made()
+    ensures { PackableIsMade }
 {}

@@ -12,6 +12,8 @@ mod fallback;
 #[cfg(test)]
 mod lookups;
 #[cfg(test)]
+mod packed;
+#[cfg(test)]
 mod readable;
 #[cfg(test)]
 mod symbol_bytes;

@@ -4,13 +4,13 @@ use icu_base::{NoPlaceholder, PatternBackend, SinglePlaceholder};
 use icu_decimal_data::CompactView;
 
 /// Types 4 and 8 of long Japanese.
-const JAPANESE: [u8; 126] = *b"\x02\x00\x06\x00\
+pub(crate) const JAPANESE: [u8; 126] = *b"\x02\x00\x06\x00\
 \x04\x04\0\0\0\0\0\0\0\0\0\0\0\0\0\0\0\0\0\0\0\0\0\0\0\0\0\0\0\0\0\0\0\0\0\0\0\0\0\0\0\0\0\0\0\0\0\0\0\0\0\x02\x00\x00\x03\x00\x00\x00\
 \x08\x08\0\0\0\0\0\0\0\0\0\0\0\0\0\0\0\0\0\0\0\0\0\0\0\0\0\0\0\0\0\0\0\0\0\0\0\0\0\0\0\0\0\0\0\0\0\0\0\0\0\x02\x03\x00\x03\x00\x00\x00\
 \xe4\xb8\x87\xe5\x84\x84";
 
 /// Type 5 with exponent 4, whose pattern is the number and `W`.
-const ONE_ENTRY: [u8; 63] = *b"\x01\x00\x01\x00\
+pub(crate) const ONE_ENTRY: [u8; 63] = *b"\x01\x00\x01\x00\
 \x05\x04\0\0\0\0\0\0\0\0\0\0\0\0\0\0\0\0\0\0\0\0\0\0\0\0\0\0\0\0\0\0\0\0\0\0\0\0\0\0\0\0\0\0\0\0\0\0\0\0\0\x02\x00\x00\x01\x00\x00\x00\
 W";
 

@@ -9,9 +9,9 @@ use icu_decimal_data::{CompactError, CompactPatterns};
 use std::alloc::Global;
 use std::collections::BTreeMap;
 
-type Elements<P> = PluralElements<Pattern<P>>;
+pub(crate) type Elements<P> = PluralElements<Pattern<P>>;
 
-type Map<P> = BTreeMap<u8, (u8, Elements<P>)>;
+pub(crate) type Map<P> = BTreeMap<u8, (u8, Elements<P>)>;
 
 /// A type, its exponent, the text for exactly one, and for all other numbers the text before which a number stands.
 pub(crate) type Row = (u8, u8, Option<&'static str>, &'static str);
@@ -49,7 +49,7 @@ pub(crate) const LONG_BANGLA: [Row; 3] = [
 pub(crate) const LONG_JAPANESE: [Row; 3] = [(3, 0, None, ""), (4, 4, None, "万"), (8, 8, None, "億")];
 
 /// A pattern, asked for again where memory was wanting.
-fn pattern<P: PatternBackend>(
+pub(crate) fn pattern<P: PatternBackend>(
     alloc: Global,
     place: Option<usize>,
     literal: &str,
@@ -103,7 +103,7 @@ fn map_of(alloc: Global, rows: &[Row]) -> Option<Map<SinglePlaceholder>> {
 }
 
 /// The table of a map, if there is one.
-fn made<P: PatternBackend>(
+pub(crate) fn made<P: PatternBackend>(
     alloc: Global,
     map: Option<Map<P>>,
     zero_magnitude: Option<&Elements<P>>,

@@ -1,0 +1,193 @@
+//! The one byte string of a compact table: what it is, that it is read again, and that the entries of a view make a table of
+//! just the view's bytes.
+
+use crate::table_bytes::{JAPANESE, ONE_ENTRY};
+use crate::tables::{Elements, LONG_JAPANESE, Map, Row, Table, made, pattern, table_of};
+use icu_base::{Pattern, PatternError, PluralElements, SinglePlaceholder};
+use icu_decimal_data::{CompactError, CompactView, EntryView};
+use std::alloc::Global;
+use std::collections::BTreeMap;
+
+type View<'a> = CompactView<'a, SinglePlaceholder>;
+
+/// The bytes of a table, asked for again where memory was wanting.
+fn packed(alloc: Global, table: &Table) -> Result<Vec<u8>, CompactError> {
+    match table.pack(alloc) {
+        Err(CompactError::OutOfMemory) => table.pack(alloc),
+        answered => answered,
+    }
+}
+
+/// Whether a table is lent and packed as these bytes.
+fn has_bytes(alloc: Global, table: &Table, bytes: &[u8]) -> bool {
+    match packed(alloc, table) {
+        Ok(packed) => table.as_bytes() == bytes && packed.as_slice() == bytes,
+        Err(_) => false,
+    }
+}
+
+/// Whether the table of the rows has these bytes.
+fn is_packed_as(alloc: Global, rows: &[Row], zero_magnitude: Option<&str>, bytes: &[u8]) -> bool {
+    match table_of(alloc, rows, zero_magnitude) {
+        Ok(table) => has_bytes(alloc, &table, bytes),
+        Err(_) => false,
+    }
+}
+
+#[test]
+fn a_table_is_packed_as_stated(rt: HostRuntime) {
+    assert!(rt; is_packed_as(rt.alloc(), &LONG_JAPANESE, Some(""), &JAPANESE));
+    assert!(rt; is_packed_as(rt.alloc(), &[(5, 4, None, "W")], None, &ONE_ENTRY));
+    assert!(rt; is_packed_as(rt.alloc(), &[], None, &[0, 0, 0, 0]));
+}
+
+/// How long the bytes of a table are, where they are read again.
+fn read_again(table: &Table) -> Option<usize> {
+    match View::parse(table.as_bytes()) {
+        Ok(_) => Some(table.as_bytes().len()),
+        Err(_) => None,
+    }
+}
+
+fn len_of_rows(alloc: Global, rows: &[Row]) -> Option<usize> {
+    match table_of(alloc, rows, None) {
+        Ok(table) => read_again(&table),
+        Err(_) => None,
+    }
+}
+
+/// Every type as its own exponent, with patterns that change from each to the next.
+fn all_types() -> [Row; 256] {
+    let mut rows: [Row; 256] = [(0, 0, None, "a"); 256];
+    for log10_type in 0..=255u8 {
+        let literal = if log10_type % 2 == 0 { "a" } else { "b" };
+        rows[log10_type as usize] = (log10_type, log10_type, None, literal);
+    }
+    rows
+}
+
+/// The table of every type has 4 bytes, 58 for each of the 256, and their literals.
+#[test]
+fn a_table_of_every_type_is_read_again(rt: HostRuntime) {
+    assert!(rt; len_of_rows(rt.alloc(), &all_types()) == Some(15108));
+}
+
+#[test]
+fn each_slot_has_its_own_literal(rt: HostRuntime) {
+    assert!(rt; len_of_rows(rt.alloc(), &[(3, 3, Some("K"), "K")]) == Some(64));
+    assert!(rt; len_of_rows(rt.alloc(), &[(3, 3, Some(""), "")]) == Some(62));
+}
+
+/// The pattern of a slot, made again; none where the slot is absent.
+fn slot_of(
+    alloc: Global,
+    entry: EntryView<'_, SinglePlaceholder>,
+    slot: u8,
+) -> Result<Option<Pattern<SinglePlaceholder>>, PatternError>
+    requires { slot < 8 }
+{
+    match entry.slot(slot) {
+        Some(shown) => match pattern(alloc, shown.place(), shown.literal()) {
+            Ok(pattern) => Ok(Some(pattern)),
+            Err(error) => Err(error),
+        },
+        None => Ok(None),
+    }
+}
+
+/// The patterns of an entry, made again.
+fn elements_of(
+    alloc: Global,
+    entry: EntryView<'_, SinglePlaceholder>,
+) -> Result<Elements<SinglePlaceholder>, PatternError> {
+    let Some(other) = slot_of(alloc, entry, 7)? else {
+        return Err(PatternError::BadPlace);
+    };
+    Ok(
+        PluralElements::new(other)
+            .with_explicit_zero_value(slot_of(alloc, entry, 0)?)
+            .with_explicit_one_value(slot_of(alloc, entry, 1)?)
+            .with_zero_value(slot_of(alloc, entry, 2)?)
+            .with_one_value(slot_of(alloc, entry, 3)?)
+            .with_two_value(slot_of(alloc, entry, 4)?)
+            .with_few_value(slot_of(alloc, entry, 5)?)
+            .with_many_value(slot_of(alloc, entry, 6)?),
+    )
+}
+
+/// The map with an entry; none where memory was wanting.
+fn with_entry(
+    alloc: Global,
+    mut map: Map<SinglePlaceholder>,
+    entry: EntryView<'_, SinglePlaceholder>,
+) -> Option<Map<SinglePlaceholder>> {
+    match elements_of(alloc, entry) {
+        Ok(elements) => match map.insert(entry.log10_type(), (entry.exponent(), elements)) {
+            Ok(_) => Some(map),
+            Err(_) => None,
+        },
+        Err(_) => None,
+    }
+}
+
+/// The entry of just this type, if there is one.
+fn entry_of(view: View<'_>, log10_type: u8) -> Option<EntryView<'_, SinglePlaceholder>> {
+    let entry = view.entry_for_magnitude(log10_type as i16)?;
+    if entry.log10_type() == log10_type {
+        Some(entry)
+    } else {
+        None
+    }
+}
+
+/// The map of a view's entries; none where memory was wanting.
+fn map_of(alloc: Global, view: View<'_>) -> Option<Map<SinglePlaceholder>> {
+    let mut map = BTreeMap::new(alloc);
+    for log10_type in 0..=255 {
+        if let Some(entry) = entry_of(view, log10_type) {
+            map = with_entry(alloc, map, entry)?;
+        }
+    }
+    Some(map)
+}
+
+/// The table of a view's entries, made again where memory was wanting.
+fn remade(alloc: Global, view: View<'_>) -> Result<Table, CompactError> {
+    match made(alloc, map_of(alloc, view), None) {
+        Err(CompactError::OutOfMemory) => made(alloc, map_of(alloc, view), None),
+        answered => answered,
+    }
+}
+
+/// Whether bytes are refused, or those of the table that their entries make.
+fn are_refused_or_remade(alloc: Global, bytes: &[u8]) -> bool {
+    match View::parse(bytes) {
+        Ok(view) => match remade(alloc, view) {
+            Ok(table) => table.as_bytes() == bytes,
+            Err(_) => false,
+        },
+        Err(_) => true,
+    }
+}
+
+/// The first value with which a byte of long Japanese is read, but not as the bytes of a table.
+fn misread(alloc: Global, index: usize) -> Option<u8> {
+    if index >= JAPANESE.len() {
+        return None;
+    }
+    for value in 0..=255 {
+        let mut bytes = JAPANESE;
+        bytes[index] = value;
+        if !are_refused_or_remade(alloc, &bytes) {
+            return Some(value);
+        }
+    }
+    None
+}
+
+#[test]
+fn what_a_view_shows_makes_its_bytes(rt: HostRuntime) {
+    for index in 0..JAPANESE.len() {
+        assert!(rt; misread(rt.alloc(), index) == None, "byte {index}");
+    }
+}
