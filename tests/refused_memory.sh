@@ -105,12 +105,23 @@ if [ $# = 0 ]; then
     done
     set -- "$@" program
 fi
-for name; do
-    if [ "$name" = program ]; then
-        sweep_program
-    else
-        sweep_crate "$name"
-    fi
-done
+# Several names are swept side by side, each by a run of this script, and what these said is told in the order of the names.
+if [ $# -gt 1 ]; then
+    printf '%s\n' "$@" | xargs -P "$(nproc)" -I NAME sh -c '"$0" -s "$1" "$2" >"$3/$2.said" 2>&1' "$root/tests/refused_memory.sh" "$step" NAME "$folder"
+    for name; do
+        count=$(tail -n 1 "$folder/$name.said")
+        if [[ $count =~ ^([0-9]+)\ passed,\ ([0-9]+)\ failed$ ]]; then
+            head -n -1 "$folder/$name.said"
+            passed=$((passed + BASH_REMATCH[1])) failed=$((failed + BASH_REMATCH[2]))
+        else
+            cat "$folder/$name.said"
+            failed=$((failed + 1))
+        fi
+    done
+elif [ "$1" = program ]; then
+    sweep_program
+else
+    sweep_crate "$1"
+fi
 echo "$passed passed, $failed failed"
 [ "$failed" -eq 0 ]

@@ -4,16 +4,16 @@ use Rattle.std.specs.List.{AllZip}
 use Rattle.std.proofs.Math.Seq.{drop-cons, take-suc}
 use Rattle.std.proofs.lemmas.List.{map-append}
 use Rattle.icu_plurals.specs.declared.category.PluralCategory.{PluralCategory}
-use Rattle.icu_plurals.specs.declared.error.RulesError.{RulesError}
-use Rattle.icu_plurals.specs.declared.error.RulesError.TheVariants.{BadRule, OutOfMemory}
-use Rattle.icu_plurals.specs.declared.condition.Condition.{Condition as OwnedCondition}
+use Rattle.plural_conditions.specs.declared.error.RulesError.{RulesError}
+use Rattle.plural_conditions.specs.declared.error.RulesError.TheVariants.{BadRule, OutOfMemory}
+use Rattle.plural_conditions.specs.declared.condition.Condition.{Condition as OwnedCondition}
 use Rattle.icu_plurals.specs.declared.rules.Rule.{Rule as OwnedRule}
-use Rattle.icu_plurals.specs.Owned.{condition_in}
-use Rattle.icu_plurals.specs.Grammar.{Condition, IsConditionText, IsTextFault}
-use Rattle.icu_plurals.specs.Reading.{condition_of, fault_byte}
+use Rattle.plural_conditions.specs.Owned.{condition_in}
+use Rattle.plural_conditions.specs.Grammar.{Condition, IsConditionText, IsTextFault}
+use Rattle.plural_conditions.specs.Reading.{condition_of, fault_byte}
 use Rattle.icu_plurals.specs.Rules.{Rule, GivenRule, given_rule, given_rules, IsReadFrom, IsFirstBadRule, rule_of, bad_rule_from}
-use Rattle.icu_plurals.proofs.Judged.{found_is_fault, none_is_condition, fault_is_found, condition_has_none, read_is_text}
-use Rattle.icu_plurals.proofs.Answered.{some, none, some_is, none_is}
+use Rattle.plural_conditions.proofs.Judged.{found_is_fault, none_is_condition, fault_is_found, condition_has_none, read_is_text}
+use Rattle.plural_conditions.proofs.Answered.{some, none, some_is, none_is}
 
 abbrev rest_of : ℕ → List GivenRule → Option ℕ → Option (ℕ × ℕ)
 rest_of k gs None = bad_rule_from (suc k) gs

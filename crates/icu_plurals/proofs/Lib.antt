@@ -1,16 +1,5 @@
-pub mod Answered
 pub mod DigitNumbers
 pub mod MovedPoint
-pub mod WellFormed
-pub mod Accepted
-pub mod Faults
-pub mod Spelled
-pub mod Digits
-pub mod Runs
-pub mod Fronts
-pub mod Progressing
 pub mod Holding
-pub mod Drafting
-pub mod Judged
 pub mod BadRules
 pub mod SelectedSlots

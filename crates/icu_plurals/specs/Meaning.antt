@@ -1,12 +1,12 @@
 -- When a condition holds of the operands of a number (UTS 35 Part 3, Plural rules syntax, Relations).
 use Rattle.std.specs.Prelude.{ℕ, ◌%◌, List, [], ◌∷◌, Bool, true, false, not, ◌&&◌, ◌==◌, nat_le, Option, Some, None, if◌then◌else◌}
 use Rattle.std.specs.List.{list_any, list_all}
-use Rattle.icu_plurals.specs.declared.condition.Operand.{Operand}
-use Rattle.icu_plurals.specs.declared.condition.Operand.TheVariants.{N, I, V, W, F, T, C, E}
-use Rattle.icu_plurals.specs.declared.condition.Item.{Item}
-use Rattle.icu_plurals.specs.declared.condition.Item.TheVariants.{Value, Range}
+use Rattle.plural_conditions.specs.declared.condition.Operand.{Operand}
+use Rattle.plural_conditions.specs.declared.condition.Operand.TheVariants.{N, I, V, W, F, T, C, E}
+use Rattle.plural_conditions.specs.declared.condition.Item.{Item}
+use Rattle.plural_conditions.specs.declared.condition.Item.TheVariants.{Value, Range}
 use Rattle.icu_plurals.specs.Operands.{Operands}
-use Rattle.icu_plurals.specs.Grammar.{Relation, Condition}
+use Rattle.plural_conditions.specs.Grammar.{Relation, Condition}
 
 -- what is left of a number by a modulus, if one is given
 abbrev pub remainder : ℕ → Option ℕ → ℕ

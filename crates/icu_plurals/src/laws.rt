@@ -1,23 +1,11 @@
 //! What holds of all operands and of all texts of conditions. The functions do nothing: each is its contract.
 ghost use Rattle.icu_plurals.specs.Laws.{MovingThePointMultiplies, ExactlyIsTheNumber};
 ghost use Rattle.icu_plurals.specs.Elements.{SelectedSlotHoldsTheSelected};
-ghost use Rattle.icu_plurals.specs.ConditionLaws.{EachTextIsJudged, NoTextIsJudgedTwice, FirstFaultsAreUnique, ConditionsAreUnique, TurnedRangesAreEmpty};
+ghost use Rattle.icu_plurals.specs.ConditionLaws.{TurnedRangesAreEmpty};
 
-/// Each text spells a condition or has a first fault, and none has both.
-pub fn each_text_is_judged_once()
-    ensures judged { EachTextIsJudged }
-    ensures once { NoTextIsJudgedTwice }
-{}
-
-/// A text has at most one first fault.
-pub fn first_faults_are_unique()
-    ensures { FirstFaultsAreUnique }
-{}
-
-/// A text spells at most one condition.
-pub fn conditions_are_unique()
-    ensures { ConditionsAreUnique }
-{}
+pub use plural_conditions::laws::{
+    conditions_are_unique, each_text_is_judged_once, first_faults_are_unique,
+};
 
 /// A range whose first value is greater than its last holds nothing.
 pub fn turned_ranges_are_empty()

@@ -3,24 +3,19 @@
 #![tactic(auto)]
 
 pub mod category;
-mod condition;
-mod draft;
 pub mod elements;
-pub mod error;
 pub mod laws;
-mod lexer;
 pub mod loading;
+mod meaning;
 pub mod operands;
-mod progress;
-mod reader;
 pub mod rules;
 mod whole_number;
 
 pub use category::PluralCategory;
 pub use elements::PluralElements;
-pub use error::RulesError;
 pub use loading::{PluralRulesPreferences, PluralsCardinalV1};
 pub use operands::PluralOperands;
+pub use plural_conditions::{RulesError, error};
 pub use rules::PluralRules;
 
 #[cfg(test)]

@@ -5,11 +5,10 @@ ghost use Rattle.icu_plurals.specs.Elements.{selected_slot};
 ghost use Rattle.icu_plurals.specs.Rules.{given_rules, IsReadFrom, IsFirstBadRule, category_of, rule_of, bad_rule_from};
 
 use crate::category::PluralCategory;
-use crate::condition::Condition;
 use crate::elements::PluralElements;
-use crate::error::RulesError;
+use crate::meaning::condition_holds;
 use crate::operands::PluralOperands;
-use crate::reader::{first_fault, read_condition};
+use plural_conditions::{Condition, RulesError, first_fault, read_condition};
 use std::alloc::Global;
 use std::marker::Model;
 
@@ -86,7 +85,7 @@ fn first_category(rules: &[Rule], operands: PluralOperands) -> PluralCategory
     ensures { result ≡ category_of (map rule_of rules.now) operands }
 {
     for rule in rules {
-        if rule.condition.holds(operands) {
+        if condition_holds(&rule.condition, operands) {
             return rule.category;
         }
     }

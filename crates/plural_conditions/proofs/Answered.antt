@@ -1,0 +1,29 @@
+-- Values that are there or not, and what is read or refused, spelled without their implicit arguments.
+use Rattle.std.proofs.Common.{◌≡◌, ℕ, Option, Some, None, Result, Ok, Err}
+use Rattle.plural_conditions.specs.Grammar.{Condition}
+use Rattle.plural_conditions.specs.Reading.{or_fault}
+
+abbrev pub some : {A : Type 0} → A → Option A
+some s = Some s
+
+abbrev pub none : {A : Type 0} → Option A
+none = None
+
+-- a condition that is read
+abbrev pub done : Condition → Result Condition ℕ
+done c = Ok c
+
+-- a text that is refused at a byte
+abbrev pub fault : ℕ → Result Condition ℕ
+fault b = Err b
+
+pub some_is : {A : Type 0} {s t : A} → some s ≡ some t → s ≡ t
+some_is e = cc
+
+pub none_is : {A : Type 0} {t : A} → none ≡ some t → ⊥
+none_is e = absurd cc
+
+-- what is read where more might have to follow is what was complete
+pub or_fault_ok : (o : Option Condition) (p : ℕ) (c : Condition) → or_fault o p ≡ done c → o ≡ Some c
+or_fault_ok (Some x) p c e = cc
+or_fault_ok None p c e = absurd cc

@@ -1,0 +1,11 @@
+pub mod Answered
+pub mod WellFormed
+pub mod Accepted
+pub mod Faults
+pub mod Spelled
+pub mod Digits
+pub mod Runs
+pub mod Fronts
+pub mod Progressing
+pub mod Drafting
+pub mod Judged

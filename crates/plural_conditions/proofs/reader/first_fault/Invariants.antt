@@ -1,0 +1,10 @@
+use Rattle.std.proofs.Common.{length}
+use Rattle.plural_conditions.proofs.Progressing.{Looks}
+use Rattle.plural_conditions.proofs.reader.first_fault.Given as goal
+
+-- what is left has the fault of the text
+abbrev pub invariant-loop-found : goal.invariant-loop-found
+invariant-loop-found l = Looks l.fn.text l.end l.at l.rest l.progress
+
+abbrev pub decreases-loop-found : goal.decreases-loop-found
+decreases-loop-found l = length l.rest

@@ -1,0 +1,15 @@
+-- The conditions that the values of `src/plurals/condition.rt` are.
+use Rattle.std.specs.Prelude.{List, map}
+use Rattle.plural_conditions.specs.declared.condition.Relation.{Relation as OwnedRelation}
+use Rattle.plural_conditions.specs.declared.condition.Alternative.{Alternative}
+use Rattle.plural_conditions.specs.declared.condition.Condition.{Condition as OwnedCondition}
+use Rattle.plural_conditions.specs.Grammar.{Relation, Condition}
+
+abbrev pub relation_of : OwnedRelation → Relation
+relation_of r = record { subject = r.subject; modulus = r.modulus; denied = r.denied; items = r.items.items }
+
+abbrev pub relations_of : Alternative → List Relation
+relations_of a = map relation_of a.relations.items
+
+abbrev pub condition_in : OwnedCondition → Condition
+condition_in c = map relations_of c.alternatives.items

@@ -1,0 +1,18 @@
+//! What holds of all texts of conditions. The functions do nothing: each is its contract.
+ghost use Rattle.plural_conditions.specs.ConditionLaws.{EachTextIsJudged, NoTextIsJudgedTwice, FirstFaultsAreUnique, ConditionsAreUnique};
+
+/// Each text spells a condition or has a first fault, and none has both.
+pub fn each_text_is_judged_once()
+    ensures judged { EachTextIsJudged }
+    ensures once { NoTextIsJudgedTwice }
+{}
+
+/// A text has at most one first fault.
+pub fn first_faults_are_unique()
+    ensures { FirstFaultsAreUnique }
+{}
+
+/// A text spells at most one condition.
+pub fn conditions_are_unique()
+    ensures { ConditionsAreUnique }
+{}
