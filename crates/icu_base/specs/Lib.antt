@@ -1,6 +1,7 @@
 pub mod Laws
 pub use Rattle.writeable.specs.Annotated
 pub use Rattle.writeable.specs.Events
+pub use Rattle.writeable.specs.Groups
 pub use Rattle.writeable.specs.Marks
 pub use Rattle.writeable.specs.PartSpans
 pub use Rattle.writeable.specs.Sink

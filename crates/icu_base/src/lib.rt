@@ -20,8 +20,8 @@ pub use icu_provider::{
 };
 pub use writeable;
 pub use writeable::{
-    EventWriter, OutOfMemory, Part, PartsText, PartsWrite, WriteFault, Writeable, event_writer,
-    parts_text, sink,
+    EventWriter, Grouping, OutOfMemory, Part, PartsText, PartsWrite, WriteFault, Writeable,
+    event_writer, groups, parts_text, sink,
 };
 
 #[cfg(test)]

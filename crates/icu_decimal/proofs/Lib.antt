@@ -2,7 +2,6 @@ pub mod Groupings
 pub mod GroupingLaws
 pub mod Separators
 pub mod EventSteps
-pub mod GroupSteps
 pub mod FormattedLemmas
 pub mod InlineWrites
 pub mod PowerPlaces

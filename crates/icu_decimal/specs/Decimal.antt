@@ -1,6 +1,7 @@
 -- What a plain formatter writes for a decimal, as one list of events (ICU4X `DecimalFormatter`; UTS 35, Number Formatting).
-use Rattle.std.specs.Prelude.{ℕ, List, [], ◌∷◌, ◌++◌, map, codes, unwrap_or}
+use Rattle.std.specs.Prelude.{ℕ, List, [], ◌∷◌, ◌++◌, codes, unwrap_or}
 use Rattle.icu_base.specs.Events.{Event, text_events, digit_events}
+pub use Rattle.icu_base.specs.Groups.{group_events}
 use Rattle.icu_decimal_data.specs.declared.decimal_symbols.DecimalSymbols.{DecimalSymbols}
 use Rattle.fixed_decimal.specs.declared.signs.Sign.{Sign}
 use Rattle.fixed_decimal.specs.Unsigned.{Unsigned, integer, fraction}
@@ -20,10 +21,6 @@ pub record DecimalFormat : Type 0 where
 -- the strategy of the options; none acts as `Auto`
 abbrev pub strategy_of : DecimalFormatterOptions → GroupingStrategy
 strategy_of options = unwrap_or options.grouping_strategy Auto
-
--- the digits of each group, one character each
-abbrev pub group_events : List ℕ → List (List ℕ) → List (List Event)
-group_events characters groups = map (digit_events characters) groups
 
 -- the separator of groups, as a part of its own
 abbrev pub separator_events : DecimalFormat → List Event

@@ -1,6 +1,7 @@
 -- Digits in groups (UTS 35, Number Formats: primary and secondary grouping sizes, minimum grouping digits).
 use Rattle.std.specs.Prelude.{◌≡◌, ℕ, ◌+◌, ◌-◌, ◌*◌, ◌<◌, ◌≤◌, Bool, true, false, IsTrue, not, ◌&&◌, ◌==◌, nat_le, max, List, [], ◌∷◌, ◌++◌, length, All, ℤ, pos, ◌+ℤ◌, ◌≤ℤ◌, if◌then◌else◌}
 use Rattle.std.specs.List.{flat_map}
+pub use Rattle.icu_base.specs.Groups.{put_before, cut, joined_after, joined}
 use Rattle.icu_decimal.specs.declared.options.GroupingStrategy.{GroupingStrategy}
 use Rattle.icu_decimal.specs.declared.options.GroupingStrategy.TheVariants.{Auto, Never, Always, Min2}
 use Rattle.icu_decimal_data.specs.declared.grouping_sizes.GroupingSizes.{GroupingSizes}
@@ -21,17 +22,6 @@ pub record IsGrouping {A : Type 0} (digits : List A) (primary secondary : ℕ) (
   pub first_at_most : length first ≤ secondary
   pub inner_sizes : All (λ g. length g ≡ secondary) inner
   pub last_size : length last ≡ primary
-
--- groups with one more digit in front: in the first group, or in one of its own where that is full
-abbrev pub put_before : {A : Type 0} → ℕ → ℕ → A → List (List A) → List (List A)
-put_before primary secondary x [] = (x ∷ []) ∷ []
-put_before primary secondary x (g ∷ []) = if length g == primary then (x ∷ []) ∷ g ∷ [] else (x ∷ g) ∷ []
-put_before primary secondary x (g ∷ h ∷ gs) = if length g == secondary then (x ∷ []) ∷ g ∷ h ∷ gs else (x ∷ g) ∷ h ∷ gs
-
--- the one grouping of more digits than the primary size
-abbrev pub cut : {A : Type 0} → ℕ → ℕ → List A → List (List A)
-cut primary secondary [] = []
-cut primary secondary (x ∷ xs) = put_before primary secondary x (cut primary secondary xs)
 
 -- the size of the groups before the last one; 0 stands for the primary size
 abbrev pub secondary_size : GroupingSizes → ℕ
@@ -77,12 +67,3 @@ pub record HasSeparatorAfter (upper magnitude : ℤ) (strategy : GroupingStrateg
   pub enough : pos (sizes.primary + least_before strategy sizes) ≤ℤ (upper +ℤ pos 1)
   pub groups_between : ℕ
   pub at : magnitude ≡ pos (sizes.primary + groups_between * secondary_size sizes)
-
--- the groups, one after another, with a separator between two
-abbrev pub joined_after : {A : Type 0} → List A → List (List A) → List A
-joined_after separator [] = []
-joined_after separator (g ∷ gs) = separator ++ (g ++ joined_after separator gs)
-
-abbrev pub joined : {A : Type 0} → List A → List (List A) → List A
-joined separator [] = []
-joined separator (g ∷ gs) = g ++ joined_after separator gs

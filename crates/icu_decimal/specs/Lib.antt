@@ -1,4 +1,3 @@
-pub mod Counted
 pub mod Decimal
 pub mod Formatted
 pub mod Grouping

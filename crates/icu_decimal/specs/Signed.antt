@@ -1,5 +1,5 @@
 -- The affixes of a sign around a value.
-use Rattle.std.specs.Prelude.{ℕ, List, ◌++◌, Bool, Option, Some, None, nat_eq, codes}
+use Rattle.std.specs.Prelude.{ℕ, List, [], ◌++◌, Bool, Option, Some, None, nat_eq, codes}
 use Rattle.std.specs.Borrow.{Bor}
 use Rattle.std.specs.Cmp.{IsEquivalence}
 use Rattle.std.specs.Cmp.Lexicographic.{pointwise}
@@ -50,6 +50,16 @@ affixed_events None es = es
 affixed_events (Some affixes) es =
     in_part affixes.category affixes.name (text_events affixes.prefix)
     ++ (es ++ in_part affixes.category affixes.name (text_events affixes.suffix))
+
+-- what stands before a value, in its part; nothing without affixes
+abbrev pub prefix_events : Option Affixes → List Event
+prefix_events None = []
+prefix_events (Some affixes) = in_part affixes.category affixes.name (text_events affixes.prefix)
+
+-- what stands after a value, in its part; nothing without affixes
+abbrev pub suffix_events : Option Affixes → List Event
+suffix_events None = []
+suffix_events (Some affixes) = in_part affixes.category affixes.name (text_events affixes.suffix)
 
 -- whether the parts and the texts are equal
 abbrev pub same_affixes : Affixes → Affixes → Bool

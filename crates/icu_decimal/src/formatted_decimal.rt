@@ -1,18 +1,15 @@
 //! Formatted decimals: what a formatter writes, as a value.
 
-ghost use Rattle.std.specs.Prelude.{◌≡◌, ◌≤◌, ◌<◌, ◌++◌, map, length, All};
+ghost use Rattle.std.specs.Prelude.{◌≡◌, ◌<◌, ◌++◌, All};
 ghost use Rattle.icu_base.specs.Events.{Event, text_of};
-ghost use Rattle.icu_decimal.specs.Decimal.{group_events};
-ghost use Rattle.icu_decimal.specs.Grouping.{cut, joined};
-ghost use Rattle.icu_decimal.specs.Part.{in_decimal_part};
 
 use crate::cow::Cow;
 use crate::formatted_sign::FormattedSign;
-use crate::grouper::{first_group, is_grouped, next_group, secondary_size};
+use crate::grouper::{is_grouped, secondary_size};
 use crate::options::{DecimalFormatterOptions, GroupingStrategy};
 use crate::parts;
 use fixed_decimal::UnsignedDecimal;
-use icu_base::{EventWriter, WriteFault, Writeable};
+use icu_base::{EventWriter, Grouping, WriteFault, Writeable};
 use icu_decimal_data::DecimalSymbols;
 use std::fmt;
 use std::marker::Model;
@@ -103,7 +100,7 @@ impl Writeable for FormattedUnsignedDecimal<'_> {
 }
 
 impl FormattedUnsignedDecimal<'_> {
-    ghost use Rattle.icu_decimal.specs.Decimal.{grouped_events, integer_events, fraction_events, separator_events};
+    ghost use Rattle.icu_decimal.specs.Decimal.{grouped_events, integer_events, fraction_events};
 
     /// Writes the digits at power 0 and above, as the integer part.
     fn write_integer<K: EventWriter>(&self, integer: &[u8], out: &mut K) -> Result<(), WriteFault>
@@ -128,33 +125,13 @@ impl FormattedUnsignedDecimal<'_> {
         if !is_grouped(integer.len(), strategy, sizes) {
             return out.digits(integer, self.digits);
         }
-        self.write_groups(integer, sizes.primary as usize, secondary_size(sizes), out)
-    }
-
-    /// Writes digits in groups, with the separator between two.
-    fn write_groups<K: EventWriter>(
-        &self,
-        digits: &[u8],
-        primary: usize,
-        secondary: usize,
-        out: &mut K,
-    ) -> Result<(), WriteFault>
-        requires primary { 0 < primary }
-        requires secondary { 0 < secondary }
-        requires more { primary < length digits.now }
-        requires below_ten { All (λ d. d < 10) digits.now }
-        ensures { K.wrote out.old result (joined (separator_events self.now.format) (group_events self.now.format.digits (cut primary secondary digits.now))) out.new }
-    {
-        let separator = self.symbols.grouping_separator();
-        let (first, mut rest) = digits.split_at(first_group(digits.len(), primary, secondary));
-        out.digits(first, self.digits)?;
-        'groups: while !rest.is_empty() {
-            let (group, after) = rest.split_at(next_group(rest.len(), primary, secondary));
-            out.part(parts::GROUP, separator)?;
-            out.digits(group, self.digits)?;
-            rest = after;
-        }
-        Ok(())
+        let grouping = Grouping {
+            primary: usize::from(sizes.primary),
+            secondary: secondary_size(sizes),
+            part: Some(parts::GROUP),
+            separator: self.symbols.grouping_separator(),
+        };
+        out.groups(integer, &grouping, self.digits)
     }
 
     /// Writes the decimal separator and the digits below power 0, as parts; without such digits nothing.

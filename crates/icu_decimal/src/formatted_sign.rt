@@ -75,12 +75,33 @@ impl<T: Writeable> Writeable for FormattedSign<'_, T> {
     ghost events = { λ f. affixed_events f.affixes (T.events f.value) };
 
     fn write_events<K: EventWriter>(&self, out: &mut K) -> Result<(), WriteFault> {
-        let Some((part, prefix, suffix)) = self.sign else {
-            return self.value.write_events(out);
-        };
-        out.part(part, prefix)?;
+        self.write_prefix(out)?;
         self.value.write_events(out)?;
-        out.part(part, suffix)
+        self.write_suffix(out)
+    }
+}
+
+impl<T> FormattedSign<'_, T> {
+    ghost use Rattle.icu_decimal.specs.Signed.{prefix_events, suffix_events};
+
+    /// Writes what stands before the value.
+    fn write_prefix<K: EventWriter>(&self, out: &mut K) -> Result<(), WriteFault>
+        ensures { K.wrote out.old result (prefix_events self.now.affixes) out.new }
+    {
+        match self.sign {
+            Some((part, prefix, _)) => out.part(part, prefix),
+            None => Ok(()),
+        }
+    }
+
+    /// Writes what stands after the value.
+    fn write_suffix<K: EventWriter>(&self, out: &mut K) -> Result<(), WriteFault>
+        ensures { K.wrote out.old result (suffix_events self.now.affixes) out.new }
+    {
+        match self.sign {
+            Some((part, _, suffix)) => out.part(part, suffix),
+            None => Ok(()),
+        }
     }
 }
 

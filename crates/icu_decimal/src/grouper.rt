@@ -2,7 +2,6 @@
 
 ghost use Rattle.std.specs.Prelude.{◌≡◌, ℕ, ◌+◌, ◌-◌, ◌*◌, ◌%◌, ◌<◌, ◌≤◌, ◌↔◌, IsTrue, List, length, pos, ◌+ℤ◌, ◌<ℤ◌, MatchOption};
 ghost use Rattle.icu_decimal.specs.Grouping.{digit_groups, EndsGroup, HasSeparatorAfter, groups_ever, least_before, secondary_size, is_grouped};
-ghost use Rattle.icu_decimal.specs.Counted.{IsGap, next_size};
 
 use crate::options::GroupingStrategy;
 use icu_decimal_data::GroupingSizes;
@@ -68,23 +67,4 @@ fn ends_group(magnitude: usize, sizes: GroupingSizes) -> bool
 {
     let primary = usize::from(sizes.primary);
     magnitude >= primary && (magnitude - primary) % secondary_size(sizes) == 0
-}
-
-/// How many digits stand before the first separator.
-pub(crate) fn first_group(count: usize, primary: usize, secondary: usize) -> usize
-    requires { 0 < secondary }
-    ensures { IsGap primary secondary count result }
-{
-    if count <= primary {
-        count
-    } else {
-        (count - primary - 1) % secondary + 1
-    }
-}
-
-/// How many digits stand in the group that the last `count` digits begin with.
-pub(crate) fn next_group(count: usize, primary: usize, secondary: usize) -> usize
-    ensures { result ≡ next_size primary secondary count }
-{
-    if count == primary { primary } else { secondary }
 }

@@ -4,3 +4,6 @@ pub mod MarkLemmas
 pub mod SpanLemmas
 pub mod TextLemmas
 pub mod DigitEvents
+pub mod Groupings
+pub mod GroupSteps
+pub mod GroupTexts

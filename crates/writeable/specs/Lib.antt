@@ -1,5 +1,7 @@
 pub mod Annotated
+pub mod Counted
 pub mod Events
+pub mod Groups
 pub mod Laws
 pub mod Marks
 pub mod PartSpans

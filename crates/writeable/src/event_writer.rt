@@ -5,9 +5,12 @@ ghost use Rattle.std.proofs.Common.{sym, ◌∙◌, subst};
 ghost use Rattle.writeable.specs.declared.sink.WriteFault.{WriteFault};
 ghost use Rattle.writeable.specs.Events.{Event, text_events, without_parts, text_of, digit_events};
 ghost use Rattle.writeable.specs.Events.Event.{Char, Open, Close};
+ghost use Rattle.writeable.specs.Groups.{separator_events, grouped_events};
 ghost use Rattle.writeable.specs.Sink.{LentWrites, Displays};
 ghost use Rattle.writeable.specs.Writes.{LentWrites-nothing, LentWrites-then, LentWrites-stop, without_parts-append, AppendsText-nothing, AppendsText-then, OnOk-stop, Displays-nothing, Displays-then, Displays-stop};
 
+use crate::byte_groups::{are_ascii, push_byte_groups, push_groups};
+use crate::groups::{Grouping, first_group, next_group};
 use crate::sink::{Part, PartsWrite, WriteFault};
 use std::{fmt, mem};
 
@@ -34,6 +37,40 @@ pub trait EventWriter {
     {
         for digit in digits {
             self.character(characters[*digit as usize])?;
+        }
+        Ok(())
+    }
+
+    /// Writes what stands between two groups.
+    fn separator(&mut self, grouping: &Grouping<'_>) -> Result<(), WriteFault>
+        ensures { wrote self.old result (separator_events grouping.now) self.new }
+    {
+        match grouping.part {
+            Some(part) => self.part(part, grouping.separator),
+            None => self.text(grouping.separator),
+        }
+    }
+
+    /// Writes digits in groups, with the separator between two.
+    fn groups(
+        &mut self,
+        digits: &[u8],
+        grouping: &Grouping<'_>,
+        characters: &[char; 10],
+    ) -> Result<(), WriteFault>
+        requires primary { 0 < grouping.now.primary }
+        requires secondary { 0 < grouping.now.secondary }
+        requires below_ten { All (λ d. d < 10) digits.now }
+        ensures { wrote self.old result (grouped_events grouping.now characters.now digits.now) self.new }
+    {
+        let (primary, secondary) = (grouping.primary, grouping.secondary);
+        let (first, mut rest) = digits.split_at(first_group(digits.len(), primary, secondary));
+        self.digits(first, characters)?;
+        'groups: while !rest.is_empty() {
+            let (group, after) = rest.split_at(next_group(rest.len(), primary, secondary));
+            self.separator(grouping)?;
+            self.digits(group, characters)?;
+            rest = after;
         }
         Ok(())
     }
@@ -150,6 +187,20 @@ impl<K: EventWriter> EventWriter for WithoutParts<'_, K> {
         self.out.digits(digits, characters)
     }
 
+    #[tactic(auto, using(crate::proofs::GroupTexts::group_steps))]
+    fn groups(
+        &mut self,
+        digits: &[u8],
+        grouping: &Grouping<'_>,
+        characters: &[char; 10],
+    ) -> Result<(), WriteFault> {
+        let without_part = Grouping {
+            part: None,
+            ..*grouping
+        };
+        self.out.groups(digits, &without_part, characters)
+    }
+
     fn open(&mut self, _part: Part) -> Result<(), WriteFault> {
         Ok(())
     }
@@ -231,6 +282,21 @@ impl EventWriter for Vec<u8> {
         push_digits(self, digits.split_at(ascii).1, characters)
     }
 
+    /// Asks for room once, where each character is one byte.
+    fn groups(
+        &mut self,
+        digits: &[u8],
+        grouping: &Grouping<'_>,
+        characters: &[char; 10],
+    ) -> Result<(), WriteFault> {
+        let separator = grouping.separator.as_bytes();
+        let (primary, secondary) = (grouping.primary, grouping.secondary);
+        if separator.len() == 1 && are_ascii(characters) {
+            return push_byte_groups(self, digits, primary, secondary, separator[0], characters);
+        }
+        push_groups(self, digits, grouping, characters)
+    }
+
     fn open(&mut self, part: Part) -> Result<(), WriteFault>
         ensures wrote { OnOk result (self.new.items ≡ self.old.items ++ text_of (Open part.category.now part.value.now ∷ [])) }
         ensures ok { IsOk result }
@@ -248,7 +314,7 @@ impl EventWriter for Vec<u8> {
 }
 
 /// Appends bytes; one alone, as most separators are, without a copy of memory.
-fn push_bytes(out: &mut Vec<u8>, bytes: &[u8]) -> Result<(), WriteFault>
+pub(crate) fn push_bytes(out: &mut Vec<u8>, bytes: &[u8]) -> Result<(), WriteFault>
     ensures { OnOk result (out.new.items ≡ out.old.items ++ bytes.now) }
 {
     if bytes.len() == 1 {

@@ -2,8 +2,10 @@
 //! ICU4X's crate `writeable`.
 #![tactic(auto)]
 
+mod byte_groups;
 pub mod error;
 pub mod event_writer;
+pub mod groups;
 pub mod laws;
 pub mod parts_text;
 pub mod sink;
@@ -11,6 +13,7 @@ pub mod writeable;
 
 pub use error::OutOfMemory;
 pub use event_writer::EventWriter;
+pub use groups::Grouping;
 pub use parts_text::PartsText;
 pub use sink::{Part, PartsWrite, WriteFault};
 pub use writeable::Writeable;

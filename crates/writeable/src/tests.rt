@@ -3,6 +3,7 @@ use super::*;
 use std::alloc::Global;
 
 mod bytes;
+mod groups;
 mod limit;
 mod spans;
 mod written;

@@ -6,12 +6,12 @@ use super::INTEGER;
 use crate::{EventWriter, WriteFault};
 use std::alloc::Global;
 
-const LATIN: [char; 10] = ['0', '1', '2', '3', '4', '5', '6', '7', '8', '9'];
+pub(super) const LATIN: [char; 10] = ['0', '1', '2', '3', '4', '5', '6', '7', '8', '9'];
 
-const BENGALI: [char; 10] = ['০', '১', '২', '৩', '৪', '৫', '৬', '৭', '৮', '৯'];
+pub(super) const BENGALI: [char; 10] = ['০', '১', '২', '৩', '৪', '৫', '৬', '৭', '৮', '৯'];
 
 /// Digits of four bytes each.
-const ADLAM: [char; 10] = [
+pub(super) const ADLAM: [char; 10] = [
     '\u{1e950}',
     '\u{1e951}',
     '\u{1e952}',
@@ -25,7 +25,7 @@ const ADLAM: [char; 10] = [
 ];
 
 /// Latin but for the nine.
-const MIXED: [char; 10] = ['0', '1', '2', '3', '4', '5', '6', '7', '8', '৯'];
+pub(super) const MIXED: [char; 10] = ['0', '1', '2', '3', '4', '5', '6', '7', '8', '৯'];
 
 /// Digits in a part, between a character and a text.
 fn write_parts<K: EventWriter>(

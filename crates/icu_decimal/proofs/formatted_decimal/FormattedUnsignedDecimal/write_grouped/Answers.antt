@@ -15,6 +15,5 @@ pub returns : goal.returns
 returns g c =
     let seen = ap (λ (f : FormattedNumber). is_grouped (length c.args.integer.now) f.format.symbols.grouping_sizes (strategy_of f.format.options)) c.self.view_is in
     let asked = (rw c.unwrap_or-strategy.ensures at c.is_grouped.ensures) ∙ seen in
-    let symbols = ap (λ (f : FormattedNumber). f.format.symbols) c.self.view_is in
-    let cut_is = rw (c.secondary_size.ensures, symbols) at c.write_groups.ensures in
-    rw (grouped-cut c.args.self.now.format c.args.integer.now (sym asked ∙ c.if-not-is_grouped.false)) cut_is
+    let cut_is = rw (c.from.ensures, c.secondary_size.ensures, c.grouping_separator.ensures) at c.groups.ensures in
+    rw (grouped-cut c.args.self.now.format c.args.integer.now (sym asked ∙ c.if-not-is_grouped.false), ← c.self.view_is) cut_is

@@ -1,15 +1,13 @@
 -- Groups taken from the front.
-use Rattle.std.proofs.Common.{◌≡◌, ◌⊎◌, ℕ, ◌+◌, ◌-◌, ◌*◌, ◌/◌, ◌%◌, ◌<◌, ◌≤◌, true, List, [], ◌∷◌, ◌++◌, length, take, drop, refl, sym, ap, ◌∙◌, arith, inl, inr}
+use Rattle.std.proofs.Common.{◌≡◌, ◌⊎◌, ℕ, ◌+◌, ◌-◌, ◌*◌, ◌/◌, ◌%◌, ◌<◌, ◌≤◌, true, List, [], ◌∷◌, ◌++◌, length, map, take, drop, refl, sym, ap, ◌∙◌, arith, inl, inr}
 use Rattle.std.proofs.lemmas.List.{take-append-drop, length-take-le, length-drop, take_all, drop_all}
 use Rattle.std.proofs.lemmas.Bool.Decides.{eqb_tells}
 use Rattle.std.proofs.lemmas.Nat.{mod_below, div-add-mod'}
 use Rattle.std.proofs.lemmas.Bool.{cases_lt}
 use Rattle.std.proofs.Math.Nat.{mul-mod_left, mod-eq_of_lt, add-mod_right}
-use Rattle.icu_decimal.specs.Grouping.{cut, put_before, joined, joined_after}
-use Rattle.icu_base.specs.Events.{Event, digit_events}
-use Rattle.icu_decimal.specs.Decimal.{group_events}
-use Rattle.icu_decimal.specs.Counted.{IsGap, next_size}
-use Rattle.icu_decimal.proofs.Groupings.{IsDue, is_full, is_full-FirstGroup, FirstGroup-cut}
+use Rattle.writeable.specs.Groups.{cut, put_before, joined, joined_after}
+use Rattle.writeable.specs.Counted.{IsGap, IsDue, next_size}
+use Rattle.writeable.proofs.Groupings.{is_full, is_full-FirstGroup, FirstGroup-cut}
 
 -- before full groups a digit begins a group of its own
 put_before-full : {A : Type 0} (p s : ℕ) (x : A) (gs : List (List A)) → is_full p s gs ≡ true → put_before p s x gs ≡ (x ∷ []) ∷ gs
@@ -82,18 +80,43 @@ module _ (p s : ℕ) (ds : List ℕ) (n : ℕ) (hp : 0 < p) (hs : 0 < s) where
       one_less : (k j : ℕ) → k ≡ j + s → k % s ≡ 0 → j % s ≡ 0
       one_less k j e z = sym (add-mod_right j s) ∙ rw e at z
 
--- the events of the groups, the first one first
-pub joined-front : (separator : List Event) (characters : List ℕ) (p s : ℕ) (ds g rest : List ℕ) → cut p s ds ≡ g ∷ cut p s rest → joined separator (group_events characters (cut p s ds)) ≡ digit_events characters g ++ joined_after separator (group_events characters (cut p s rest))
-joined-front separator characters p s ds g rest e = rw e refl
+-- what is written of the groups, the first one first
+pub joined-front : {B : Type 0} (f : List ℕ → List B) (separator : List B) (p s : ℕ) (ds g rest : List ℕ) → cut p s ds ≡ g ∷ cut p s rest → joined separator (map f (cut p s ds)) ≡ f g ++ joined_after separator (map f (cut p s rest))
+joined-front f separator p s ds g rest e = rw e refl
 
-pub joined_after-next : (separator : List Event) (characters : List ℕ) (p s : ℕ) (ds g rest : List ℕ) → cut p s ds ≡ g ∷ cut p s rest → joined_after separator (group_events characters (cut p s ds)) ≡ separator ++ (digit_events characters g ++ joined_after separator (group_events characters (cut p s rest)))
-joined_after-next separator characters p s ds g rest e = rw e refl
+pub joined_after-next : {B : Type 0} (f : List ℕ → List B) (separator : List B) (p s : ℕ) (ds g rest : List ℕ) → cut p s ds ≡ g ∷ cut p s rest → joined_after separator (map f (cut p s ds)) ≡ separator ++ (f g ++ joined_after separator (map f (cut p s rest)))
+joined_after-next f separator p s ds g rest e = rw e refl
 
 -- where something is left, whole groups are
 pub due_of : (p s : ℕ) (ds : List ℕ) → (ds ≡ []) ⊎ IsDue p s (length ds) → 0 < length ds → IsDue p s (length ds)
 due_of p s ds (inl none) some = absurd (omega (arith, ap length none))
 due_of p s ds (inr due) some = due
 
-pub joined_after-none : (separator : List Event) (characters : List ℕ) (p s : ℕ) (ds : List ℕ) → length ds ≡ 0 → joined_after separator (group_events characters (cut p s ds)) ≡ []
-joined_after-none separator characters p s [] e = refl
-joined_after-none separator characters p s (d ∷ ds) e = absurd (omega arith)
+pub joined_after-none : {B : Type 0} (f : List ℕ → List B) (separator : List B) (p s : ℕ) (ds : List ℕ) → length ds ≡ 0 → joined_after separator (map f (cut p s ds)) ≡ []
+joined_after-none f separator p s [] e = refl
+joined_after-none f separator p s (d ∷ ds) e = absurd (omega arith)
+
+-- the first group of any digits, and what is left after it
+pub first_of : {B : Type 0} (f : List ℕ → List B) (separator : List B) (p s : ℕ) (ds : List ℕ) (n : ℕ) → f [] ≡ [] → 0 < p → 0 < s → IsGap p s (length ds) n → (joined separator (map f (cut p s ds)) ≡ f (take n ds) ++ joined_after separator (map f (cut p s (drop n ds)))) × ((drop n ds ≡ []) ⊎ IsDue p s (length (drop n ds))) × (n ≤ length ds)
+first_of {B = B} f separator p s ds n nil hp hs gap = elim (cases_lt p (length ds)) [
+  | inl more ↦
+      let step = first_cut p s ds n hp hs more gap in
+      (joined-front f separator p s ds (take n ds) (drop n ds) step.0, inr step.1, step.2)
+  | inr few ↦
+      let all : n ≡ length ds = gap.0 few in
+      let whole : take n ds ≡ ds = take_all n ds (omega arith) in
+      let none : drop n ds ≡ [] = drop_all n ds (omega arith) in
+      (rw (whole, none) (one_of ds few), inl none, omega arith)
+]
+  where
+    one_of : (xs : List ℕ) → length xs ≤ p → joined separator (map f (cut p s xs)) ≡ f xs ++ joined_after separator (map f [])
+    one_of [] few = rw nil refl
+    one_of (x ∷ xs) few = rw (cut-one p s (x ∷ xs) (omega arith) few) refl
+
+-- a group that begins where whole groups are left, and what is left after it
+pub next_of : (p s : ℕ) (ds : List ℕ) (n : ℕ) → 0 < p → 0 < s → (ds ≡ []) ⊎ IsDue p s (length ds) → 0 < length ds → n ≡ next_size p s (length ds) → (cut p s ds ≡ take n ds ∷ cut p s (drop n ds)) × ((drop n ds ≡ []) ⊎ IsDue p s (length (drop n ds))) × (n ≤ length ds)
+next_of p s ds n hp hs due some size = next_cut p s ds n hp hs some (due_of p s ds due some) size
+
+-- and it has a digit
+pub next_some : (p s n count : ℕ) → 0 < p → 0 < s → n ≡ next_size p s count → 0 < n
+next_some p s n count hp hs size = elim (eqb_tells count p) [ inl t ↦ omega (arith, size, (rw t.0 at size)) | inr f ↦ omega (arith, (rw f.0 at size)) ]

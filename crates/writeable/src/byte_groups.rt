@@ -1,0 +1,154 @@
+//! Digits in groups, as bytes: where each digit and the separator are one byte, room is asked for once.
+ghost use Rattle.std.specs.Prelude.{◌≡◌, ◌+◌, ◌*◌, ◌<◌, ◌≤◌, ◌∷◌, ◌++◌, [], All, IsTrue, OnOk, length, vec_len, vec_capacity};
+ghost use Rattle.writeable.specs.Events.{digit_events, text_of};
+ghost use Rattle.writeable.specs.Groups.{cut, joined, group_texts};
+
+use crate::event_writer::{EventWriter, push_bytes};
+use crate::groups::{Grouping, first_group, next_group};
+use crate::sink::WriteFault;
+use std::mem;
+
+/// How many digits stand in a group of thousands.
+const THOUSANDS: usize = 3;
+
+/// Whether each of the characters is one byte.
+pub(crate) fn are_ascii(characters: &[char; 10]) -> bool
+    ensures { IsTrue result → All (λ c. c < 128) characters.now }
+{
+    characters.iter().all(|character| character.is_ascii())
+}
+
+/// Appends digits in groups, with the separator between two; room is asked for once.
+pub(crate) fn push_byte_groups(
+    out: &mut Vec<u8>,
+    digits: &[u8],
+    primary: usize,
+    secondary: usize,
+    separator: u8,
+    characters: &[char; 10],
+) -> Result<(), WriteFault>
+    requires primary { 0 < primary }
+    requires secondary { 0 < secondary }
+    requires below_ten { All (λ d. d < 10) digits.now }
+    requires ascii { All (λ c. c < 128) characters.now }
+    ensures { OnOk result (out.new.items ≡ out.old.items ++ joined (separator ∷ []) (group_texts characters.now (cut primary secondary digits.now))) }
+{
+    // at most one separator stands before each digit
+    let Ok(()) = out.reserve(2 * digits.len()) else {
+        return Err(WriteFault);
+    };
+    let alloc = *out.allocator();
+    let taken = mem::replace(out, Vec::new(alloc));
+    if primary == THOUSANDS && secondary == THOUSANDS {
+        *out = push_thousands(taken, digits, separator, characters);
+        return Ok(());
+    }
+    *out = push_sizes(taken, digits, primary, secondary, separator, characters);
+    Ok(())
+}
+
+/// Appends digits in groups of three, for which there is room.
+fn push_thousands(
+    mut out: Vec<u8>,
+    digits: &[u8],
+    separator: u8,
+    characters: &[char; 10],
+) -> Vec<u8>
+    requires below_ten { All (λ d. d < 10) digits.now }
+    requires ascii { All (λ c. c < 128) characters.now }
+    requires room { vec_len out + 2 * length digits.now ≤ vec_capacity out }
+    ensures { result.items ≡ out.items ++ joined (separator ∷ []) (group_texts characters.now (cut 3 3 digits.now)) }
+{
+    let (first, mut rest) = digits.split_at(first_group(digits.len(), THOUSANDS, THOUSANDS));
+    out = push_ascii(out, first, characters);
+    'groups: while rest.len() >= THOUSANDS {
+        let (group, after) = rest.split_at(THOUSANDS);
+        out.push_reserved(separator);
+        out = push_three(out, group, characters);
+        rest = after;
+    }
+    out
+}
+
+/// Appends digits in groups of any sizes, for which there is room.
+fn push_sizes(
+    mut out: Vec<u8>,
+    digits: &[u8],
+    primary: usize,
+    secondary: usize,
+    separator: u8,
+    characters: &[char; 10],
+) -> Vec<u8>
+    requires primary { 0 < primary }
+    requires secondary { 0 < secondary }
+    requires below_ten { All (λ d. d < 10) digits.now }
+    requires ascii { All (λ c. c < 128) characters.now }
+    requires room { vec_len out + 2 * length digits.now ≤ vec_capacity out }
+    ensures { result.items ≡ out.items ++ joined (separator ∷ []) (group_texts characters.now (cut primary secondary digits.now)) }
+{
+    let (first, mut rest) = digits.split_at(first_group(digits.len(), primary, secondary));
+    out = push_ascii(out, first, characters);
+    'groups: while !rest.is_empty() {
+        let (group, after) = rest.split_at(next_group(rest.len(), primary, secondary));
+        out.push_reserved(separator);
+        out = push_ascii(out, group, characters);
+        rest = after;
+    }
+    out
+}
+
+/// Appends the characters of three digits.
+#[inline(always)]
+fn push_three(mut out: Vec<u8>, digits: &[u8], characters: &[char; 10]) -> Vec<u8>
+    requires three { length digits.now ≡ 3 }
+    requires below_ten { All (λ d. d < 10) digits.now }
+    requires ascii { All (λ c. c < 128) characters.now }
+    requires room { vec_len out + 3 ≤ vec_capacity out }
+    ensures items { result.items ≡ out.items ++ text_of (digit_events characters.now digits.now) }
+    ensures len { vec_len result ≡ vec_len out + 3 }
+    ensures capacity { vec_capacity result ≡ vec_capacity out }
+{
+    out.push_reserved(characters[digits[0] as usize] as u8);
+    out.push_reserved(characters[digits[1] as usize] as u8);
+    out.push_reserved(characters[digits[2] as usize] as u8);
+    out
+}
+
+/// Appends the characters of digits.
+fn push_ascii(mut out: Vec<u8>, digits: &[u8], characters: &[char; 10]) -> Vec<u8>
+    requires below_ten { All (λ d. d < 10) digits.now }
+    requires ascii { All (λ c. c < 128) characters.now }
+    requires room { vec_len out + length digits.now ≤ vec_capacity out }
+    ensures items { result.items ≡ out.items ++ text_of (digit_events characters.now digits.now) }
+    ensures len { vec_len result ≡ vec_len out + length digits.now }
+    ensures capacity { vec_capacity result ≡ vec_capacity out }
+{
+    for index in 0..digits.len() {
+        out.push_reserved(characters[digits[index] as usize] as u8);
+    }
+    out
+}
+
+/// Appends digits in groups, with a separator of any length between two.
+pub(crate) fn push_groups(
+    out: &mut Vec<u8>,
+    digits: &[u8],
+    grouping: &Grouping<'_>,
+    characters: &[char; 10],
+) -> Result<(), WriteFault>
+    requires primary { 0 < grouping.now.primary }
+    requires secondary { 0 < grouping.now.secondary }
+    requires below_ten { All (λ d. d < 10) digits.now }
+    ensures { OnOk result (out.new.items ≡ out.old.items ++ joined grouping.now.separator.now (group_texts characters.now (cut grouping.now.primary grouping.now.secondary digits.now))) }
+{
+    let (primary, secondary) = (grouping.primary, grouping.secondary);
+    let (first, mut rest) = digits.split_at(first_group(digits.len(), primary, secondary));
+    out.digits(first, characters)?;
+    'groups: while !rest.is_empty() {
+        let (group, after) = rest.split_at(next_group(rest.len(), primary, secondary));
+        push_bytes(out, grouping.separator.as_bytes())?;
+        out.digits(group, characters)?;
+        rest = after;
+    }
+    Ok(())
+}
