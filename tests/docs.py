@@ -3,12 +3,13 @@
 
 usage: tests/docs.py [--write]
 
-- Each relative link of README.md, CONTRIBUTING.md, docs/, tables/ and the crates' pages has its target, a heading too.
+- Each relative link of README.md, CONTRIBUTING.md, docs/, tables/ and the crates' pages has its target, a heading too;
+  the name of a call, a definition or an edit that is a link stands in the file that the link leads to.
 - docs/EDITS.md names each must-fail edit, and docs/MAP.md each file of specs/ and proofs/, just as the files say:
   both pages are made from them. --write makes them anew.
 - Each block of Rust code of README.md stands so in a source of the crates.
 - Each command that README.md shows behind `$` gives the output below it, and each row of its table of locales is what
-  the program writes. They need crates/decfmt/out/decfmt, as `rt run` or `rt ci` builds it.
+  the program writes. They need crates/decfmt/out/decfmt and crates/tour/out/tour, as `rt run` and `rt ci` build them.
 
 The last line is 'N passed, M failed', one for each page's links, each page that is made, each block, each command and
 each row.
@@ -71,9 +72,22 @@ def broken_links(page):
     return broken
 
 
+def names_elsewhere(page):
+    """The linked names of calls, definitions and edits that don't stand in the file that the link leads to."""
+    wrong = []
+    for names, target in re.findall(r"\[(`[^\]]+`)\]\(([^)#\s]+\.(?:rt|antt|edit))\)", read(page)):
+        path = os.path.normpath(os.path.join(os.path.dirname(page), target))
+        text = read(path) + path.replace("/", " ").replace(".", " ") if os.path.exists(path) else ""
+        for name in re.findall(r"`([^`]+)`", names):
+            word = re.split(r"::|/", re.sub(r"<.*|\.rt$|\.antt$", "", name))[-1]
+            if not re.search(rf"(?<!\w){re.escape(word)}(?!\w)", text):
+                wrong.append(f"{name} in {target}")
+    return wrong
+
+
 def judge_links():
     for page in [page for pattern in PAGES for page in found(pattern)]:
-        broken = broken_links(page)
+        broken = broken_links(page) + names_elsewhere(page)
         judge(not broken, f"{page}: no target:", ", ".join(broken))
 
 
