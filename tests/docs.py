@@ -7,11 +7,12 @@ usage: tests/docs.py [--write]
   the name of a call, a definition or an edit that is a link stands in the file that the link leads to.
 - docs/EDITS.md names each must-fail edit, and docs/MAP.md each file of specs/ and proofs/, just as the files say:
   both pages are made from them. --write makes them anew.
-- Each block of Rust code of README.md stands so in a source of the crates.
+- Each block of Rust code of README.md stands so in a source of the crates; the example at the head of each library
+  stands in the program crates/examples.
 - Each command that README.md shows behind `$` gives the output below it, and each row of its table of locales is what
   the program writes. They need crates/decfmt/out/decfmt and crates/tour/out/tour, as `rt run` and `rt ci` build them.
 
-The last line is 'N passed, M failed', one for each page's links, each page that is made, each block, each command and
+The last line is 'N passed, M failed', one for each page's links, each page that is made, each block and example, each command and
 each row.
 """
 import glob
@@ -99,7 +100,7 @@ def edits_page():
         "# Must-fail edits",
         "",
         "Each edit changes the meaning of a call in one place, and the prover has to refuse it. Its name says the wrong",
-        "behaviour. `rt must-fail` in a crate tries its edits; the gate tries all. `tests/docs.py --write` makes this page.",
+        "behaviour. `rt must-fail NAME` tries those of a crate; the gate tries all. `tests/docs.py --write` makes this page.",
         "",
     ]
     for folder in found("crates/*/must-fail"):
@@ -211,6 +212,16 @@ def judge_code(page):
         judge(any(block in source for source in sources), "README.md: no source has", block.splitlines()[0])
 
 
+def judge_examples():
+    """The example at the head of each library is a run of lines of the program of examples."""
+    program = [line.strip() for line in read("crates/examples/src/main.rt").splitlines()]
+    for path in found("crates/*/src/lib.rt"):
+        for block in re.findall(r"^//! ```\n(.*?)^//! ```$", read(path), flags=re.M | re.S):
+            lines = [line[len("//!"):].strip() for line in block.splitlines()]
+            places = range(len(program) - len(lines) + 1)
+            judge(any(program[at:at + len(lines)] == lines for at in places), f"{path}: crates/examples hasn't its example")
+
+
 def output_of(command):
     """Standard output and standard error of a command, as a terminal shows them."""
     done = subprocess.run(["bash", "-c", command], stdout=subprocess.PIPE, stderr=subprocess.STDOUT, timeout=60)
@@ -248,6 +259,7 @@ def main():
     judge_links()
     page = read("README.md")
     judge_code(page)
+    judge_examples()
     judge_commands(page)
     judge_locales(page)
     print(f"{counts[True]} passed, {counts[False]} failed")
