@@ -3,8 +3,7 @@
 # each crate, as `rt test` or `rt ci` built it, and in the program over the sample tables in its three styles, and without
 # words. A test holds whichever is refused: the call answers as usual or refuses for want of memory, and answers as usual
 # when it is called again. The program ends with status 1 and 'error: out of memory', and what it wrote is a beginning of
-# its usual output; or it writes its usual output, as where the standard library asks once more. The tests of
-# decfmt need ample memory, so that the program stands for them.
+# its usual output; or it writes its usual output, as where the standard library asks once more.
 # usage: tests/refused_memory.sh [-s STEP] [CRATE|program ..], by default every crate and the program
 # With -s STEP of the allocations past the hundredth of a test only one in STEP is refused.
 # The last line is 'N passed, M failed', one for each test and each style. Without a C compiler nothing is refused.
@@ -101,7 +100,7 @@ sweep_program() {
 if [ $# = 0 ]; then
     for crate in crates/*/; do
         crate=$(basename "$crate")
-        [ "$crate" != decfmt ] && grep -rqs '^ *#\[test\]' "crates/$crate/src" && set -- "$@" "$crate"
+        grep -rqs '^ *#\[test\]' "crates/$crate/src" && set -- "$@" "$crate"
     done
     set -- "$@" program
 fi

@@ -1,10 +1,10 @@
 //! Rows of text against their output, and readers and writers that fail. Values live in functions that answer whether
-//! they hold.
+//! they hold; what was refused memory is asked once more.
 
 mod compact;
 
 use crate::laws::{inputs_have_one_list_of_lines, texts_have_one_answer};
-use crate::mode::Mode;
+use crate::mode::{Mode, StartError};
 use crate::running::{RunError, run};
 use std::alloc::{AllocError, Global};
 use std::io;
@@ -43,6 +43,25 @@ enum Full {
     TakesNothing,
 }
 
+/// What is seen of a run.
+#[derive(Clone, Copy, PartialEq, Eq)]
+enum Seen {
+    Holds,
+    Differs,
+    WantsMemory,
+}
+
+impl Seen {
+    /// What is seen of a run that ended so.
+    fn after(ended: Result<(), RunError>, is_as_usual: bool) -> Seen {
+        match ended {
+            Err(RunError::OutOfMemory) => Seen::WantsMemory,
+            _ if is_as_usual => Seen::Holds,
+            _ => Seen::Differs,
+        }
+    }
+}
+
 /// Takes one byte a call, and `room` bytes at most.
 #[derive(Drop)]
 struct SlowWriter {
@@ -69,26 +88,49 @@ impl Write for SlowWriter {
     }
 }
 
+/// The plain mode, made once more where memory was refused.
+fn english(alloc: Global) -> Result<Mode, StartError> {
+    match Mode::english(alloc) {
+        Ok(mode) => Ok(mode),
+        Err(_) => Mode::english(alloc),
+    }
+}
+
 /// Whether a run over these bytes, of which `good` can be read, into a writer with this room ends so and leaves this.
-fn runs_slowly(
+fn seen_slowly(
     alloc: Global,
     mode: &Mode,
     (bytes, good): (&[u8], usize),
     (room, full): (usize, Full),
     (outcome, want): (Result<(), RunError>, &[u8]),
-) -> bool {
+) -> Seen {
+    let Ok(held) = Vec::with_capacity(alloc, want.len() + 1) else {
+        return Seen::WantsMemory;
+    };
     let mut reader = SlowReader {
         bytes,
         good,
         at_once: 1,
     };
-    let mut writer = SlowWriter {
-        held: Vec::new(alloc),
-        room,
-        full,
-    };
+    let mut writer = SlowWriter { held, room, full };
     let ended = run(alloc, mode, &mut reader, &mut writer);
-    ended == outcome && writer.held.as_slice() == want
+    Seen::after(ended, ended == outcome && writer.held.as_slice() == want)
+}
+
+/// Whether that holds, asked once more where memory was refused.
+fn runs_slowly(
+    alloc: Global,
+    mode: &Mode,
+    input: (&[u8], usize),
+    output: (usize, Full),
+    want: (Result<(), RunError>, &[u8]),
+) -> bool {
+    let first = seen_slowly(alloc, mode, input, output, want);
+    let last = match first {
+        Seen::WantsMemory => seen_slowly(alloc, mode, input, output, want),
+        _ => first,
+    };
+    last == Seen::Holds
 }
 
 /// Whether the English run ends so and leaves this.
@@ -98,27 +140,41 @@ fn ends(
     output: (usize, Full),
     want: (Result<(), RunError>, &[u8]),
 ) -> bool {
-    match Mode::english(alloc) {
+    match english(alloc) {
         Ok(mode) => runs_slowly(alloc, &mode, input, output, want),
         Err(_) => false,
     }
 }
 
-/// Whether the output of an input is this.
-fn runs_at_once(alloc: Global, mode: &Mode, input: &[u8], want: &[u8]) -> bool {
-    let mut written = Vec::new(alloc);
-    let mut rest = input;
-    match run(alloc, mode, &mut rest, &mut written) {
-        Ok(()) => written.as_slice() == want,
-        Err(_) => false,
-    }
+/// Whether the output of an input is this, with so many bytes a call at most.
+fn seen_by(alloc: Global, mode: &Mode, bytes: &[u8], at_once: usize, want: &[u8]) -> Seen {
+    let Ok(mut written) = Vec::with_capacity(alloc, want.len()) else {
+        return Seen::WantsMemory;
+    };
+    let mut reader = SlowReader {
+        bytes,
+        good: usize::MAX,
+        at_once,
+    };
+    let ended = run(alloc, mode, &mut reader, &mut written);
+    Seen::after(ended, ended == Ok(()) && written.as_slice() == want)
+}
+
+/// Whether that holds, asked once more where memory was refused.
+fn runs_by(alloc: Global, mode: &Mode, bytes: &[u8], at_once: usize, want: &[u8]) -> bool {
+    let first = seen_by(alloc, mode, bytes, at_once, want);
+    let last = match first {
+        Seen::WantsMemory => seen_by(alloc, mode, bytes, at_once, want),
+        _ => first,
+    };
+    last == Seen::Holds
 }
 
 /// Whether the output of an input is this, also one byte a call.
 fn answers(alloc: Global, input: &[u8], want: &[u8]) -> bool {
-    match Mode::english(alloc) {
+    match english(alloc) {
         Ok(mode) => {
-            runs_at_once(alloc, &mode, input, want)
+            runs_by(alloc, &mode, input, usize::MAX, want)
                 && runs_slowly(
                     alloc,
                     &mode,
@@ -152,7 +208,7 @@ const ANSWERS: [(&str, &str); 16] = [
 ];
 
 /// The lines of one column of the answers.
-fn column(alloc: Global, answers: bool) -> Result<Vec<u8>, AllocError> {
+fn column_once(alloc: Global, answers: bool) -> Result<Vec<u8>, AllocError> {
     let mut lines = Vec::new(alloc);
     for (line, answer) in ANSWERS {
         let text = if answers { answer } else { line };
@@ -160,6 +216,14 @@ fn column(alloc: Global, answers: bool) -> Result<Vec<u8>, AllocError> {
         lines.push(b'\n')?;
     }
     Ok(lines)
+}
+
+/// The same, made once more where memory was refused.
+fn column(alloc: Global, answers: bool) -> Result<Vec<u8>, AllocError> {
+    match column_once(alloc, answers) {
+        Ok(bytes) => Ok(bytes),
+        Err(_) => column_once(alloc, answers),
+    }
 }
 
 /// Whether the answers' lines are answered so.
@@ -198,12 +262,21 @@ fn cuts_lines_and_returns(rt: HostRuntime) {
 }
 
 /// Nines, and behind them another byte.
-fn nines(alloc: Global, count: usize, last: u8) -> Result<Vec<u8>, AllocError> {
+fn nines_once(alloc: Global, count: usize, last: u8) -> Result<Vec<u8>, AllocError> {
     let mut nines = Vec::from_elem(alloc, b'9', count)?;
     nines.push(last)?;
     Ok(nines)
 }
 
+/// The same, made once more where memory was refused.
+fn nines(alloc: Global, count: usize, last: u8) -> Result<Vec<u8>, AllocError> {
+    match nines_once(alloc, count, last) {
+        Ok(bytes) => Ok(bytes),
+        Err(_) => nines_once(alloc, count, last),
+    }
+}
+
+/// Whether so many nines, and behind them another byte, are answered so.
 fn answers_nines(alloc: Global, count: usize, last: u8, want: &[u8]) -> bool {
     match nines(alloc, count, last) {
         Ok(input) => answers(alloc, &input, want),
@@ -212,7 +285,7 @@ fn answers_nines(alloc: Global, count: usize, last: u8, want: &[u8]) -> bool {
 }
 
 /// So many nines in groups of three, and a line's end.
-fn grouped(alloc: Global, count: usize) -> Result<Vec<u8>, AllocError> {
+fn grouped_once(alloc: Global, count: usize) -> Result<Vec<u8>, AllocError> {
     let mut grouped = Vec::new(alloc);
     for left in (0..count).rev() {
         grouped.push(b'9')?;
@@ -222,6 +295,14 @@ fn grouped(alloc: Global, count: usize) -> Result<Vec<u8>, AllocError> {
     }
     grouped.push(b'\n')?;
     Ok(grouped)
+}
+
+/// The same, made once more where memory was refused.
+fn grouped(alloc: Global, count: usize) -> Result<Vec<u8>, AllocError> {
+    match grouped_once(alloc, count) {
+        Ok(bytes) => Ok(bytes),
+        Err(_) => grouped_once(alloc, count),
+    }
 }
 
 /// Whether the longest number is written with 10922 separators.
@@ -240,12 +321,20 @@ fn refuses_too_many_digits(rt: HostRuntime) {
 }
 
 /// A line so many times.
-fn many(alloc: Global, line: &[u8], count: usize) -> Result<Vec<u8>, AllocError> {
+fn many_once(alloc: Global, line: &[u8], count: usize) -> Result<Vec<u8>, AllocError> {
     let mut lines = Vec::new(alloc);
     for _ in 0..count {
         lines.extend_from_slice(line)?;
     }
     Ok(lines)
+}
+
+/// The same, made once more where memory was refused.
+fn many(alloc: Global, line: &[u8], count: usize) -> Result<Vec<u8>, AllocError> {
+    match many_once(alloc, line, count) {
+        Ok(bytes) => Ok(bytes),
+        Err(_) => many_once(alloc, line, count),
+    }
 }
 
 /// Whether a line is answered so, so many times.
@@ -266,17 +355,8 @@ fn cuts_lines_across_blocks(rt: HostRuntime) {
 
 /// Whether the English run over these bytes, so many a call at most, leaves this.
 fn answers_by(alloc: Global, bytes: &[u8], at_once: usize, want: &[u8]) -> bool {
-    let mut reader = SlowReader {
-        bytes,
-        good: usize::MAX,
-        at_once,
-    };
-    let mut written = Vec::new(alloc);
-    match Mode::english(alloc) {
-        Ok(mode) => match run(alloc, &mode, &mut reader, &mut written) {
-            Ok(()) => written.as_slice() == want,
-            Err(_) => false,
-        },
+    match english(alloc) {
+        Ok(mode) => runs_by(alloc, &mode, bytes, at_once, want),
         Err(_) => false,
     }
 }

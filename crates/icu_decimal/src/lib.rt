@@ -1,4 +1,17 @@
 //! Decimals in the digits, signs, separators and groups of a locale: a port of ICU4X's `icu_decimal`.
+//!
+//! ```
+//! let symbols = DecimalSymbols::new_en_for_testing(rt.alloc()).ok()?;
+//! let formatter = DecimalFormatter::from_parts(
+//!     symbols,
+//!     DIGITS,
+//!     DecimalFormatterOptions::default(),
+//! );
+//! let decimal = Decimal::try_from_str(rt.alloc(), "-987654.321").ok()?;
+//! println!(rt; "{}", formatter.format(&decimal)).ok()
+//! ```
+//!
+//! prints `-987,654.321`.
 #![tactic(auto)]
 
 mod abstract_formatter;

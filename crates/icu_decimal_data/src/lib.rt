@@ -1,5 +1,13 @@
 //! Number symbols and compact patterns of a locale, as ICU4X's data provider hands them to a decimal formatter; their
 //! markers, and the order in which a provider is asked for them.
+//!
+//! ```
+//! let symbols = DecimalSymbols::new_en_for_testing(rt.alloc()).ok()?;
+//! let view = SymbolsView::parse(symbols.strings.as_bytes()).ok()?;
+//! println!(rt; "between groups {}", view.grouping_separator()).ok()
+//! ```
+//!
+//! prints `between groups ,`.
 #![tactic(auto)]
 
 mod compact;

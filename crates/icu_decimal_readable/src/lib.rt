@@ -1,4 +1,11 @@
 //! When the texts of numbers tell their numbers, said and tested of symbols, digits and compact tables.
+//!
+//! ```
+//! let symbols = DecimalSymbols::new_en_for_testing(rt.alloc()).ok()?;
+//! println!(rt; "readable: {}", are_numbers_readable(&symbols, &DIGITS)).ok()
+//! ```
+//!
+//! prints `readable: true`.
 #![tactic(auto)]
 
 mod readable;

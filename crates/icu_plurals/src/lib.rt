@@ -1,5 +1,21 @@
 //! Plural categories, operands, rules and elements (UTS 35 Part 3, Language Plural Rules), after ICU4X's crate
 //! `icu_plurals`.
+//!
+//! ```
+//! let rules = PluralRules::from_rules(
+//!     rt.alloc(),
+//!     &[(PluralCategory::One, "i = 1 and v = 0")],
+//! ).ok()?;
+//! let decimal = Decimal::try_from_str(rt.alloc(), "1").ok()?;
+//! let operands = PluralOperands::from_significand_and_exponent(&decimal.absolute, 0);
+//! println!(rt;
+//!     "one: {}",
+//!     rules.category_for(operands) == PluralCategory::One
+//! )
+//! .ok()
+//! ```
+//!
+//! prints `one: true`.
 #![tactic(auto)]
 
 pub mod category;

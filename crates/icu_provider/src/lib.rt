@@ -1,5 +1,13 @@
 //! What data is asked by and who answers, after ICU4X's crate `icu_provider`: locales, names of numbering systems,
 //! identifiers, requests, refusals and the trait of providers.
+//!
+//! ```
+//! let locale = DataLocale::try_from_str("de-CH").ok()?;
+//! let id = DataIdentifierBorrowed::for_locale(&locale);
+//! println!(rt; "by the locale alone: {}", id.system().is_none()).ok()
+//! ```
+//!
+//! prints `by the locale alone: true`.
 #![tactic(auto)]
 
 pub mod error;

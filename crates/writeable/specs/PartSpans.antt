@@ -1,3 +1,4 @@
+-- The parts of a text as spans with the names that callers see.
 use Rattle.std.specs.Prelude.{ℕ}
 use Rattle.writeable.specs.declared.sink.Part.{Part}
 use Rattle.writeable.specs.Spans.{Span}

@@ -1,5 +1,21 @@
 //! Text with marked parts: sinks that take characters and named parts, and values that write themselves to sinks, after
 //! ICU4X's crate `writeable`.
+//!
+//! ```
+//! let mut text = PartsText::new(rt.alloc());
+//! text.open_part(Part {
+//!     category: "number",
+//!     value: "integer",
+//! })
+//! .ok()?;
+//! text.write_str("12").ok()?;
+//! text.close_part().ok()?;
+//! text.write_str(" km").ok()?;
+//! let spans = text.spans(rt.alloc()).ok()?;
+//! println!(rt; "{} with {} part", text.text(), spans.len()).ok()
+//! ```
+//!
+//! prints `12 km with 1 part`.
 #![tactic(auto)]
 
 mod byte_groups;

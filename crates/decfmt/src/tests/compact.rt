@@ -1,6 +1,6 @@
 //! Lines in a compact mode, against what ICU4X and UTS 35 give for short English.
 
-use super::{Full, nines, runs_at_once, runs_slowly};
+use super::{Full, english, nines, runs_by, runs_slowly};
 use crate::mode::Mode;
 use crate::running::RunError;
 use icu_base::{Pattern, PluralElements, PluralRules, SinglePlaceholder};
@@ -15,7 +15,7 @@ const ROWS: [(u8, &str); 4] = [(3, "K"), (6, "M"), (9, "B"), (12, "T")];
 type Elements = PluralElements<Pattern<SinglePlaceholder>>;
 
 /// Puts a row into a map; whether there was memory for it.
-fn is_put(alloc: Global, map: &mut BTreeMap<u8, (u8, Elements)>, row: (u8, &str)) -> bool {
+fn is_put_once(alloc: Global, map: &mut BTreeMap<u8, (u8, Elements)>, row: (u8, &str)) -> bool {
     match Pattern::try_new(alloc, Some(0), row.1) {
         Ok(pattern) => map
             .insert(row.0, (row.0, PluralElements::new(pattern)))
@@ -24,36 +24,54 @@ fn is_put(alloc: Global, map: &mut BTreeMap<u8, (u8, Elements)>, row: (u8, &str)
     }
 }
 
-/// The map of the rows; with want of memory some are left out.
+/// The map of the rows, each put once more where memory was refused; with more want of memory some are left out.
 fn map(alloc: Global) -> BTreeMap<u8, (u8, Elements)> {
     let mut map = BTreeMap::new(alloc);
     for row in ROWS {
-        is_put(alloc, &mut map, row);
+        if !is_put_once(alloc, &mut map, row) {
+            is_put_once(alloc, &mut map, row);
+        }
     }
     map
 }
 
+/// The table of the rows, made once more where memory was refused.
+fn table(alloc: Global) -> Option<CompactPatterns<SinglePlaceholder>> {
+    match CompactPatterns::new(alloc, map(alloc), None) {
+        Ok(table) => Some(table),
+        Err(_) => CompactPatterns::new(alloc, map(alloc), None).ok(),
+    }
+}
+
+/// Plural rules without a condition, made once more where memory was refused.
+fn rules(alloc: Global) -> Option<PluralRules> {
+    match PluralRules::from_rules(alloc, &[]) {
+        Ok(rules) => Some(rules),
+        Err(_) => PluralRules::from_rules(alloc, &[]).ok(),
+    }
+}
+
 /// The mode of these parts and the table of the rows.
 fn with_rules(alloc: Global, formatter: DecimalFormatter, rules: PluralRules) -> Option<Mode> {
-    match CompactPatterns::new(alloc, map(alloc), None) {
-        Ok(table) => Some(Mode::Compact(CompactDecimalFormatter::from_parts(
+    match table(alloc) {
+        Some(table) => Some(Mode::Compact(CompactDecimalFormatter::from_parts(
             formatter, rules, table,
         ))),
-        Err(_) => None,
+        None => None,
     }
 }
 
 /// The mode of a plain formatter with the table of the rows.
 fn with_plain(alloc: Global, formatter: DecimalFormatter) -> Option<Mode> {
-    match PluralRules::from_rules(alloc, &[]) {
-        Ok(rules) => with_rules(alloc, formatter, rules),
-        Err(_) => None,
+    match rules(alloc) {
+        Some(rules) => with_rules(alloc, formatter, rules),
+        None => None,
     }
 }
 
 /// Compact numbers in short English.
 fn short_english(alloc: Global) -> Option<Mode> {
-    match Mode::english(alloc) {
+    match english(alloc) {
         Ok(Mode::Plain(formatter)) => with_plain(alloc, formatter),
         _ => None,
     }
@@ -63,7 +81,7 @@ fn short_english(alloc: Global) -> Option<Mode> {
 fn answers(alloc: Global, input: &[u8], want: &[u8]) -> bool {
     match short_english(alloc) {
         Some(mode) => {
-            runs_at_once(alloc, &mode, input, want)
+            runs_by(alloc, &mode, input, usize::MAX, want)
                 && runs_slowly(
                     alloc,
                     &mode,

@@ -1,0 +1,155 @@
+//! The examples of the libraries' first pages, one function for each library.
+#![tactic(auto)]
+
+use fixed_decimal::Decimal;
+use icu_decimal::options::{CompactDecimalFormatterOptions, DecimalFormatterOptions};
+use icu_decimal::preferences::CompactDecimalFormatterPreferences;
+use icu_decimal::{CompactDecimalFormatter, DecimalFormatter};
+use icu_decimal_data::{DecimalSymbols, SymbolsView};
+use icu_decimal_readable::are_numbers_readable;
+use icu_pattern::{Pattern, SinglePlaceholder};
+use icu_plurals::{PluralCategory, PluralElements, PluralOperands, PluralRules};
+use icu_provider::{DataIdentifierBorrowed, DataLocale};
+use icu_tables::Tables;
+use icu_unit::UnitFormatter;
+use std::process::ExitCode;
+use writeable::{Part, PartsText, PartsWrite, Writeable};
+
+const DIGITS: [char; 10] = ['0', '1', '2', '3', '4', '5', '6', '7', '8', '9'];
+
+/// English with thousands.
+const TABLES: &str =
+    "{\"symbols\":[{\"locale\":\"en\",\"minus\":[\"-\",\"\"],\"plus\":[\"+\",\"\"],\
+\"decimal\":\".\",\"group\":\",\",\"numsys\":\"latn\",\"sizes\":[3,3,1]}],\
+\"digits\":[[\"latn\",\"0123456789\"]],\
+\"rules\":[{\"locale\":\"en\",\"rules\":[[\"one\",\"i = 1 and v = 0\"]]}],\
+\"short\":[{\"locale\":\"en\",\"patterns\":[[3,3,{\"other\":\"{0}K\"}]]}]}";
+
+fn of_fixed_decimal(rt: &HostRuntime) -> Option<()> {
+    let decimal = Decimal::try_from_str(rt.alloc(), "-0012.50").ok()?;
+    println!(rt; "magnitude {}", decimal.absolute.nonzero_magnitude_start()).ok()?;
+    let rounded = decimal.rounded(0).ok()?;
+    println!(rt; "last digit {}", rounded.absolute.digit_at(0)).ok()
+}
+
+fn of_writeable(rt: &HostRuntime) -> Option<()> {
+    let mut text = PartsText::new(rt.alloc());
+    text.open_part(Part {
+        category: "number",
+        value: "integer",
+    })
+    .ok()?;
+    text.write_str("12").ok()?;
+    text.close_part().ok()?;
+    text.write_str(" km").ok()?;
+    let spans = text.spans(rt.alloc()).ok()?;
+    println!(rt; "{} with {} part", text.text(), spans.len()).ok()
+}
+
+fn of_icu_pattern(rt: &HostRuntime) -> Option<()> {
+    let pattern: Pattern<SinglePlaceholder> = Pattern::try_new(rt.alloc(), Some(0), " km").ok()?;
+    let text = pattern.interpolate("12").write_to_string(rt.alloc()).ok()?;
+    println!(rt; "{text}").ok()
+}
+
+fn of_icu_plurals(rt: &HostRuntime) -> Option<()> {
+    let rules = PluralRules::from_rules(
+        rt.alloc(),
+        &[(PluralCategory::One, "i = 1 and v = 0")],
+    ).ok()?;
+    let decimal = Decimal::try_from_str(rt.alloc(), "1").ok()?;
+    let operands = PluralOperands::from_significand_and_exponent(&decimal.absolute, 0);
+    println!(rt;
+        "one: {}",
+        rules.category_for(operands) == PluralCategory::One
+    )
+    .ok()
+}
+
+fn of_icu_provider(rt: &HostRuntime) -> Option<()> {
+    let locale = DataLocale::try_from_str("de-CH").ok()?;
+    let id = DataIdentifierBorrowed::for_locale(&locale);
+    println!(rt; "by the locale alone: {}", id.system().is_none()).ok()
+}
+
+fn of_icu_decimal_data(rt: &HostRuntime) -> Option<()> {
+    let symbols = DecimalSymbols::new_en_for_testing(rt.alloc()).ok()?;
+    let view = SymbolsView::parse(symbols.strings.as_bytes()).ok()?;
+    println!(rt; "between groups {}", view.grouping_separator()).ok()
+}
+
+fn of_icu_decimal_readable(rt: &HostRuntime) -> Option<()> {
+    let symbols = DecimalSymbols::new_en_for_testing(rt.alloc()).ok()?;
+    println!(rt; "readable: {}", are_numbers_readable(&symbols, &DIGITS)).ok()
+}
+
+fn of_icu_decimal(rt: &HostRuntime) -> Option<()> {
+    let symbols = DecimalSymbols::new_en_for_testing(rt.alloc()).ok()?;
+    let formatter = DecimalFormatter::from_parts(
+        symbols,
+        DIGITS,
+        DecimalFormatterOptions::default(),
+    );
+    let decimal = Decimal::try_from_str(rt.alloc(), "-987654.321").ok()?;
+    println!(rt; "{}", formatter.format(&decimal)).ok()
+}
+
+fn of_icu_tables(rt: &HostRuntime) -> Option<()> {
+    let tables = Tables::from_json(rt.alloc(), TABLES).ok()?;
+    let prefs = CompactDecimalFormatterPreferences {
+        locale_preferences: DataLocale::try_from_str("en").ok()?,
+        numbering_system: None,
+    };
+    let options = CompactDecimalFormatterOptions::default();
+    let formatter = CompactDecimalFormatter::try_new_short_unstable(
+        rt.alloc(),
+        &tables,
+        prefs,
+        options,
+    ).ok()?;
+    let decimal = Decimal::try_from_str(rt.alloc(), "15127").ok()?;
+    let text = formatter.format_to_string(rt.alloc(), &decimal).ok()?;
+    println!(rt; "{text}").ok()
+}
+
+fn of_icu_unit(rt: &HostRuntime) -> Option<()> {
+    let symbols = DecimalSymbols::new_en_for_testing(rt.alloc()).ok()?;
+    let formatter = DecimalFormatter::from_parts(
+        symbols,
+        DIGITS,
+        DecimalFormatterOptions::default(),
+    );
+    let rules = PluralRules::from_rules(
+        rt.alloc(),
+        &[(PluralCategory::One, "i = 1 and v = 0")],
+    ).ok()?;
+    let one = Pattern::try_new(rt.alloc(), Some(0), " meter").ok()?;
+    let other = Pattern::try_new(rt.alloc(), Some(0), " meters").ok()?;
+    let elements = PluralElements::new(other).with_one_value(Some(one));
+    let metres = UnitFormatter::new(formatter, rules, elements);
+    let decimal = Decimal::try_from_str(rt.alloc(), "1234").ok()?;
+    let mut text = PartsText::new(rt.alloc());
+    metres.write(rt.alloc(), &decimal, &mut text).ok()?;
+    println!(rt; "{}", text.text()).ok()
+}
+
+/// All examples; none where memory or standard output is wanting.
+fn print_all(rt: &HostRuntime) -> Option<()> {
+    of_fixed_decimal(rt)?;
+    of_writeable(rt)?;
+    of_icu_pattern(rt)?;
+    of_icu_plurals(rt)?;
+    of_icu_provider(rt)?;
+    of_icu_decimal_data(rt)?;
+    of_icu_decimal_readable(rt)?;
+    of_icu_decimal(rt)?;
+    of_icu_tables(rt)?;
+    of_icu_unit(rt)
+}
+
+fn main(rt: HostRuntime) -> ExitCode {
+    match print_all(&rt) {
+        Some(()) => ExitCode::SUCCESS,
+        None => ExitCode::FAILURE,
+    }
+}

@@ -1,0 +1,270 @@
+#!/usr/bin/env python3
+"""Judges the pages of the repository.
+
+usage: tests/docs.py [--write]
+
+- Each relative link of README.md, CONTRIBUTING.md, docs/, tables/ and the crates' pages has its target, a heading too;
+  the name of a call, a definition or an edit that is a link stands in the file that the link leads to.
+- docs/EDITS.md names each must-fail edit, and docs/MAP.md each file of specs/ and proofs/, just as the files say:
+  both pages are made from them. --write makes them anew.
+- Each block of Rust code of README.md stands so in a source of the crates; the example at the head of each library
+  stands in the program crates/examples.
+- Each command that README.md shows behind `$` gives the output below it, and each row of its table of locales is what
+  the program writes. They need crates/decfmt/out/decfmt and crates/tour/out/tour, as `rt run` and `rt ci` build them.
+
+The last line is 'N passed, M failed', one for each page's links, each page that is made, each block and example, each command and
+each row.
+"""
+import glob
+import os
+import re
+import subprocess
+import sys
+
+ROOT = os.path.dirname(os.path.dirname(os.path.abspath(__file__)))
+PROGRAM = "crates/decfmt/out/decfmt"
+PAGES = ["README.md", "CONTRIBUTING.md", "docs/*.md", "tables/README.md", "crates/*/README.md"]
+LOCALES_HEADER = "| locale | plain | short | long |"
+LOCALES_NUMBER = "1234567.8"
+
+counts = {True: 0, False: 0}
+
+
+def judge(held, name, told=""):
+    """Counts a case, and tells one that failed."""
+    counts[bool(held)] += 1
+    if not held:
+        print(f"docs: {name} {told}".rstrip())
+
+
+def read(path):
+    with open(path, encoding="utf-8") as file:
+        return file.read()
+
+
+def found(pattern):
+    """The files of a pattern in the order of their names, without what checks leave."""
+    return sorted(path for path in glob.glob(pattern, recursive=True) if "/out/" not in path)
+
+
+# Links
+
+def without_code(text):
+    """The text without its blocks of code and its quoted words."""
+    return re.sub(r"`[^`\n]*`", "", re.sub(r"^```.*?^```$", "", text, flags=re.M | re.S))
+
+
+def anchors(text):
+    """The names of the headings of a page, as a browser of repositories makes them."""
+    headings = re.findall(r"^#+ (.*)$", re.sub(r"^```.*?^```$", "", text, flags=re.M | re.S), flags=re.M)
+    return {re.sub(r"[^\w\- ]", "", heading.lower()).replace(" ", "-") for heading in headings}
+
+
+def broken_links(page):
+    """The relative links of a page that have no target."""
+    broken = []
+    for target in re.findall(r"\]\(([^)\s]+)\)", without_code(read(page))):
+        if re.match(r"[a-z]+:", target):
+            continue
+        path, _, anchor = target.partition("#")
+        path = os.path.normpath(os.path.join(os.path.dirname(page), path)) if path else page
+        if not os.path.exists(path) or (anchor and anchor not in anchors(read(path))):
+            broken.append(target)
+    return broken
+
+
+def names_elsewhere(page):
+    """The linked names of calls, definitions and edits that don't stand in the file that the link leads to."""
+    wrong = []
+    for names, target in re.findall(r"\[(`[^\]]+`)\]\(([^)#\s]+\.(?:rt|antt|edit))\)", read(page)):
+        path = os.path.normpath(os.path.join(os.path.dirname(page), target))
+        text = read(path) + path.replace("/", " ").replace(".", " ") if os.path.exists(path) else ""
+        for name in re.findall(r"`([^`]+)`", names):
+            word = re.split(r"::|/", re.sub(r"<.*|\.rt$|\.antt$", "", name))[-1]
+            if not re.search(rf"(?<!\w){re.escape(word)}(?!\w)", text):
+                wrong.append(f"{name} in {target}")
+    return wrong
+
+
+def judge_links():
+    for page in [page for pattern in PAGES for page in found(pattern)]:
+        broken = broken_links(page) + names_elsewhere(page)
+        judge(not broken, f"{page}: no target:", ", ".join(broken))
+
+
+# Pages that are made
+
+def edits_page():
+    """The must-fail edits by crate and by the file that they change."""
+    lines = [
+        "# Must-fail edits",
+        "",
+        "Each edit changes the meaning of a call in one place, and the prover has to refuse it. Its name says the wrong",
+        "behaviour. `rt must-fail NAME` tries those of a crate; the gate tries all. `tests/docs.py --write` makes this page.",
+        "",
+    ]
+    for folder in found("crates/*/must-fail"):
+        crate = folder.split("/")[1]
+        by_file = {}
+        for path in found(f"{folder}/*.edit"):
+            changed = re.search(r"^file: (.*)$", read(path), flags=re.M).group(1)
+            by_file.setdefault(changed, []).append(path)
+        lines += [f"## `{crate}`", "", "| file that is changed | edits |", "|---|---|"]
+        for changed in sorted(by_file):
+            links = [f"[`{os.path.basename(path)[:-5]}`](../{path})" for path in by_file[changed]]
+            lines.append(f"| [`{changed}`](../crates/{crate}/{changed}) | {', '.join(links)} |")
+        lines.append("")
+    return "\n".join(lines)
+
+
+def first_sentence(path):
+    """What the comment at the head of a file says, up to its first full stop."""
+    words = []
+    for line in read(path).splitlines():
+        if not line.startswith("-- "):
+            break
+        words.append(line[3:].strip())
+    text = " ".join(words)
+    return re.split(r"(?<=[^.]\.) (?=[A-Z])", text)[0].replace("|", "\\|") if text else None
+
+
+def module(path):
+    """The name by which a file of specs/ or proofs/ is imported."""
+    return path[len("crates/"):-len(".antt")].replace("/", ".")
+
+
+def is_of_a_function(path):
+    """Whether a file has the answers to the goals of one function."""
+    return "/proofs/" in path and os.path.basename(path) in ("Answers.antt", "Invariants.antt")
+
+
+def short_name(crate, path):
+    """A file as the map names it: in its own crate by its path, a function's proof by the function; else by its crate."""
+    own, _, rest = path[len("crates/"):].partition("/")
+    rest = os.path.dirname(rest) if is_of_a_function(path) else re.sub(r"\.(antt|rt)$", "", rest)
+    if own == crate:
+        return f"`{rest}`"
+    return f"[`{own}`](#{own})" if os.path.isdir(f"crates/{own}/specs") else f"`{own}`"
+
+
+def users():
+    """Which files import each module."""
+    importing = {}
+    for path in found("crates/*/**/*.antt") + found("crates/*/**/*.rt"):
+        for name in set(re.findall(r"\buse Rattle\.([\w.]+?)(?=\.\{| as |;|$|\s)", read(path), flags=re.M)):
+            importing.setdefault(name, []).append(path)
+    return importing
+
+
+def map_rows(crate, folder, importing):
+    """The rows of a crate's files of specs/ or proofs/."""
+    rows = []
+    for path in found(f"crates/{crate}/{folder}/**/*.antt"):
+        if is_of_a_function(path) or path.endswith("/Lib.antt"):
+            continue
+        says = first_sentence(path)
+        judge(says, f"{path}: no comment at its head")
+        by = sorted({short_name(crate, user) for user in importing.get(module(path), []) if not user.endswith("/Lib.antt")})
+        rows.append(f"| [`{path.split('/', 2)[2][:-5]}`](../{path}) | {says} | {', '.join(by)} |")
+    return rows
+
+
+def map_page():
+    """The files of specs/ and proofs/: what each says, and who imports it."""
+    lines = [
+        "# Definitions and lemmas",
+        "",
+        "The files of `specs/` have the definitions that contracts cite, those of `proofs/` lemmas and the answers to goals.",
+        "What a file says is the first sentence of the comment at its head. It is used by the files that import it; those of",
+        "another crate are told by the crate. `Lib` in either folder is the list of its modules, and isn't in the map.",
+        "`tests/docs.py --write` makes this page.",
+        "",
+    ]
+    importing = users()
+    for folder in found("crates/*/specs"):
+        crate = folder.split("/")[1]
+        lines += [f"## `{crate}`", "", "| file | says | is used by |", "|---|---|---|"]
+        lines += map_rows(crate, "specs", importing) + map_rows(crate, "proofs", importing) + [""]
+        functions = sorted({
+            os.path.dirname(path).split("/proofs/")[1]
+            for path in found(f"crates/{crate}/proofs/**/*.antt")
+            if is_of_a_function(path)
+        })
+        if functions:
+            names = ", ".join(f"[`{name.replace('/', '::')}`](../crates/{crate}/proofs/{name})" for name in functions)
+            lines += [f"Functions with a proof of their own: {names}.", ""]
+    return "\n".join(lines)
+
+
+def judge_page(page, text, is_writing):
+    if is_writing:
+        with open(page, "w", encoding="utf-8") as file:
+            file.write(text)
+    judge(os.path.exists(page) and read(page) == text, f"{page}: isn't what `tests/docs.py --write` makes")
+
+
+# What README.md shows
+
+def judge_code(page):
+    """Each block of Rust stands in a source of the crates."""
+    sources = [read(path) for path in found("crates/*/src/**/*.rt")]
+    for block in re.findall(r"^```rust\n(.*?)^```$", page, flags=re.M | re.S):
+        judge(any(block in source for source in sources), "README.md: no source has", block.splitlines()[0])
+
+
+def judge_examples():
+    """The example at the head of each library is a run of lines of the program of examples."""
+    program = [line.strip() for line in read("crates/examples/src/main.rt").splitlines()]
+    for path in found("crates/*/src/lib.rt"):
+        for block in re.findall(r"^//! ```\n(.*?)^//! ```$", read(path), flags=re.M | re.S):
+            lines = [line[len("//!"):].strip() for line in block.splitlines()]
+            places = range(len(program) - len(lines) + 1)
+            judge(any(program[at:at + len(lines)] == lines for at in places), f"{path}: crates/examples hasn't its example")
+
+
+def output_of(command):
+    """Standard output and standard error of a command, as a terminal shows them."""
+    done = subprocess.run(["bash", "-c", command], stdout=subprocess.PIPE, stderr=subprocess.STDOUT, timeout=60)
+    return done.stdout.decode("utf-8", "replace")
+
+
+def judge_commands(page):
+    """Each command behind `$` gives the lines below it."""
+    for block in re.findall(r"^```text\n(\$ .*?)^```$", page, flags=re.M | re.S):
+        for shown in re.split(r"^\$ ", block, flags=re.M)[1:]:
+            command, _, wanted = shown.partition("\n")
+            given = output_of(command)
+            judge(given.strip("\n") == wanted.strip("\n"), f"README.md: {command}:", given)
+
+
+def judge_locales(page):
+    """Each row of the table of locales is what the program writes of the number in the sample tables."""
+    rows = page.split(LOCALES_HEADER + "\n|---|---|---|---|\n")[1].split("\n\n")[0].splitlines()
+    for row in rows:
+        locale, *wanted = [cell.strip().strip("`") for cell in row.strip("|").split("|")]
+        given = [
+            output_of(f"echo {LOCALES_NUMBER} | {PROGRAM} tables/sample.json {locale} - {style}").strip("\n")
+            for style in ("plain", "short", "long")
+        ]
+        judge(given == wanted, f"README.md: {locale}:", str(given))
+
+
+def main():
+    is_writing = sys.argv[1:] == ["--write"]
+    if sys.argv[1:] and not is_writing:
+        sys.exit(__doc__)
+    os.chdir(ROOT)
+    judge_page("docs/EDITS.md", edits_page(), is_writing)
+    judge_page("docs/MAP.md", map_page(), is_writing)
+    judge_links()
+    page = read("README.md")
+    judge_code(page)
+    judge_examples()
+    judge_commands(page)
+    judge_locales(page)
+    print(f"{counts[True]} passed, {counts[False]} failed")
+    return 0 if counts[False] == 0 else 1
+
+
+if __name__ == "__main__":
+    sys.exit(main())
