@@ -1,7 +1,5 @@
 //! Symbols as one byte string: seven lengths, a byte each, then the seven texts.
 
-#![tactic(auto, using(crate::proofs::SymbolReading::reading))]
-
 ghost use Rattle.std.specs.Prelude.{◌≡◌, ℕ, ◌+◌, ◌<◌, ◌≤◌, ◌++◌, length, map, sum_by, slice_range, All, IsTrue, IfOk, IfSome, IsNone, vec_capacity};
 ghost use Rattle.std.specs.List.{concat};
 ghost use Rattle.std.specs.Str.{is_utf8};
@@ -96,6 +94,7 @@ fn range_of(bytes: &[u8], index: usize) -> (usize, usize)
 
 /// The text of symbols at an index, cut out of their bytes. It isn't checked again to be UTF-8, which every number that is
 /// written would pay for: that it is follows from `symbols`, and the prover asks for it.
+#[tactic(auto, using(crate::proofs::SymbolReading::reading))]
 pub(crate) fn text(bytes: &[u8], index: usize) -> &str
     requires symbols { IsSymbolBytes bytes.now }
     requires inside { index < COUNT }

@@ -1,7 +1,5 @@
 //! Whether bytes are those of symbols, and where not: five tests, in order.
 
-#![tactic(auto, using(crate::proofs::SymbolReading::reading))]
-
 ghost use Rattle.std.specs.Prelude.{◌≡◌, ℕ, ◌+◌, ◌≤◌, length, take, IsTrue, MatchResult, None, Some};
 ghost use Rattle.std.specs.Str.{is_utf8};
 ghost use Rattle.icu_provider.specs.NumberingSystem.{is_numbering_system};
@@ -13,6 +11,7 @@ use icu_provider::NumberingSystem;
 use std::str;
 
 /// Whether bytes are a text.
+#[tactic(auto, using(crate::proofs::SymbolReading::reading))]
 fn is_text(bytes: &[u8]) -> bool
     ensures { result ≡ is_utf8 bytes.now }
 {
@@ -20,6 +19,7 @@ fn is_text(bytes: &[u8]) -> bool
 }
 
 /// Whether a text names a numbering system.
+#[tactic(auto, using(crate::proofs::SymbolReading::reading))]
 fn names_system(bytes: &[u8]) -> bool
     requires { IsTrue (is_utf8 bytes.now) }
     ensures { result ≡ is_numbering_system bytes.now }
@@ -49,6 +49,7 @@ fn end_of(bytes: &[u8]) -> Result<usize, Damaged>
 }
 
 /// That each text is UTF-8; or where the first begins that isn't.
+#[tactic(auto, using(crate::proofs::SymbolReading::reading))]
 fn check_texts(bytes: &[u8]) -> Result<(), Damaged>
     requires counted { 7 ≤ length bytes.now }
     requires whole { length bytes.now ≡ text_start bytes.now 7 }
@@ -86,7 +87,7 @@ fn check_system(bytes: &[u8]) -> Result<(), Damaged>
 }
 
 /// That bytes are those of symbols; or the byte of the first test that fails.
-#[tactic(auto, using(crate::proofs::SymbolReading::reading), unfolding(crate::specs::SymbolBytes::first_damage))]
+#[tactic(auto, unfolding(crate::specs::SymbolBytes::first_damage))]
 pub(crate) fn check(bytes: &[u8]) -> Result<(), Damaged>
     ensures { MatchResult
         result

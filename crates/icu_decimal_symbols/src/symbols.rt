@@ -1,7 +1,5 @@
 //! The seven texts of symbols in one byte string, and the builder that makes them.
 
-#![tactic(auto, using(crate::proofs::SymbolReading::reading))]
-
 ghost use Rattle.std.specs.Prelude.{◌≡◌, ℕ, ◌<◌, ◌≤◌, ◌↔◌, IfOk, IsOk, IsErrOf};
 ghost use Rattle.icu_provider.specs.NumberingSystem.{IsNumberingSystem};
 ghost use Rattle.icu_decimal_symbols.specs.Symbols.{IsSymbolTexts, total_len};

@@ -1,7 +1,5 @@
 //! Symbols in bytes that are lent.
 
-#![tactic(auto, using(crate::proofs::SymbolReading::reading))]
-
 ghost use Rattle.std.specs.Prelude.{◌≡◌, IfOk, IsOkAnd, MatchResult, Some, None};
 ghost use Rattle.icu_provider.specs.NumberingSystem.{IsNumberingSystem};
 ghost use Rattle.icu_decimal_symbols.specs.Symbols.{SymbolTexts, IsSymbolTexts};
