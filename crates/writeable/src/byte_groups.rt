@@ -11,11 +11,15 @@ use std::mem;
 /// How many digits stand in a group of thousands.
 const THOUSANDS: usize = 3;
 
-/// Whether each of the characters is one byte.
+/// Whether each of the characters is one byte. All ten are asked, so that it is computed without jumps.
 pub(crate) fn are_ascii(characters: &[char; 10]) -> bool
     ensures { IsTrue result → All (λ c. c < 128) characters.now }
 {
-    characters.iter().all(|character| character.is_ascii())
+    let mut ascii = true;
+    for character in characters {
+        ascii &= character.is_ascii();
+    }
+    ascii
 }
 
 /// Appends digits in groups, with the separator between two; room is asked for once.
