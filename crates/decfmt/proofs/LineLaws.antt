@@ -20,6 +20,7 @@ lines_of-spelled (w ∷ ws) last one h =
     let spelled : ((w ++ 10 ∷ []) ++ ended ws) ++ flat_map (λ line. line) last ≡ w ++ 10 ∷ rest = append_assoc (w ++ 10 ∷ []) (ended ws) (flat_map (λ line. line) last) ∙ append_assoc w (10 ∷ []) rest in
     ap lines_of spelled ∙ lines_of-ended w rest part ∙ ap (λ (l : List (List ℕ)). w ∷ l) (lines_of-spelled ws last one (All-tail IsPartLine w (ws ++ last) h))
 
+-- an input has one list of lines at most
 pub lines-unique : (input : List ℕ) (lines : List (List ℕ)) → IsLines input lines → lines ≡ lines_of input
 lines-unique input lines is =
     is.parts ∙ sym (lines_of-spelled is.whole is.last is.at_most_one (rw is.parts at is.without_feed)) ∙ ap lines_of (sym is.spelled)
@@ -64,6 +65,7 @@ longer b bs lines other is = go is.whole is.last is.parts is.spelled is.at_most_
       without_feed = rw e (All-cons IsPartLine (b ∷ w) (ws ++ last) (other, All-head IsPartLine w (ws ++ last) h) (All-tail IsPartLine w (ws ++ last) h));
     }
 
+-- the list that is computed is the list of lines
 pub lines_of-is : (input : List ℕ) → IsLines input (lines_of input)
 unfolding lines_of
 lines_of-is [] = record { whole = []; last = []; parts = refl; spelled = refl; at_most_one = inl refl; without_feed = All-nil IsPartLine }

@@ -64,6 +64,7 @@ module _ (answer : List ℕ → List ℕ) where
   unfolding output_of lines_of
   output_of-nothing = refl
 
+-- whole lines followed by whole lines are whole lines
 pub AreWholeLines-append : (a b : List ℕ) → AreWholeLines a → AreWholeLines b → AreWholeLines (a ++ b)
 AreWholeLines-append a b h (inl e) = rw (e, append-nil a) h
 AreWholeLines-append a b h (inr (f, e)) = inr (a ++ f, rw e (sym (append_assoc a f (10 ∷ []))))
@@ -77,10 +78,12 @@ pub output_of-part : (answer : List ℕ → List ℕ) (p : List ℕ) → IsPartL
 output_of-part answer [] h e = absurd cc
 output_of-part answer (b ∷ bs) h e = output_of-last answer b bs h
 
+-- the output of nothing is empty
 pub output_of-none : (answer : List ℕ → List ℕ) (p : List ℕ) → (eqb (length p) 0 ≡ true) → output_of answer p ≡ []
 output_of-none answer [] e = output_of-nothing answer
 output_of-none answer (b ∷ bs) e = absurd (omega (arith, eqb-true (length (b ∷ bs)) 0 e))
 
+-- two parts of a line are one part
 pub IsPartLine-append : (p q : List ℕ) → IsPartLine p → IsPartLine q → IsPartLine (p ++ q)
 IsPartLine-append [] q h k = k
 IsPartLine-append (b ∷ p) q h k = (h.0, IsPartLine-append p q h.1 k)
@@ -100,6 +103,7 @@ IsPartLine-front hay n f = IsPartLine-at (take n hay) (λ k l.
     let inside : k < n = omega (arith, length-take n hay) in
     rw get_or-take (f.before k (omega arith) inside))
 
+-- bytes without a line feed are a part of a line
 pub IsPartLine-all : (hay : List ℕ) → Nowhere (Passes (is_byte 10) hay) 0 (length hay) → IsPartLine hay
 IsPartLine-all hay f = IsPartLine-at hay (λ k l. f k (omega arith) l)
 
@@ -111,6 +115,7 @@ line_split hay n f p =
     let whole : hay ≡ take n hay ++ drop n hay = sym (take-append-drop n hay) in
     whole ∙ ap (λ (l : List ℕ). take n hay ++ l) tail ∙ sym (append_assoc (take n hay) (10 ∷ []) (drop (n + 1) hay)) ∙ ap (λ (l : List ℕ). (take n hay ++ 10 ∷ []) ++ l) (ap (drop 1) (sym tail))
 
+-- a list of length 0 is empty
 pub nothing_of : (l : List ℕ) → length l ≡ 0 → l ≡ []
 nothing_of [] e = refl
 nothing_of (x ∷ l) e = absurd (omega arith)

@@ -3,6 +3,7 @@ use Rattle.std.proofs.Common.{◌≡◌, ℕ, suc, ◌-◌, Bool, true, false, L
 use Rattle.std.specs.Prelude.{◌==◌, if◌then◌else◌}
 use Rattle.decfmt.specs.Lines.{without_return}
 
+-- a line without its carriage return, by its last byte
 pub without_return-value : (line : List ℕ) → without_return line ≡ (if get_or line (length line - 1) 0 == 13 then take (length line - 1) line else line)
 unfolding without_return
 without_return-value [] = refl
@@ -15,6 +16,7 @@ without_return-value (b ∷ c ∷ bs) =
     onto true = refl
     onto false = refl
 
+-- an empty line has no carriage return
 pub without_return-empty : (line : List ℕ) → length line ≡ 0 → line ≡ without_return line
 unfolding without_return
 without_return-empty [] e = refl

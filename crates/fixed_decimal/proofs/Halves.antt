@@ -21,6 +21,7 @@ up_nearest unit q rest p some small (inl h) =
 up_nearest unit q rest p some small (inr (h, (j, e))) =
     nearest_tie_odd (unit * p) q (rest * p) j (rw (← h) (omega arith)) e
 
+-- what is to be rounded down is nearest to the multiple below it
 pub down_nearest : (unit q rest p : ℕ) → 0 < p → RoundsDown unit q rest → IsNearest (IsMultiple (unit * p)) (unit * p) (q * (unit * p) + rest * p) (q * (unit * p))
 down_nearest unit q rest p some (inl h) =
     let g : suc (2 * rest) ≤ unit = h in
@@ -59,11 +60,13 @@ five_half ds none = rw (← zero-add (length (5 ∷ ds))) (omega (arith, low_fiv
 pub above_at : (q k : ℕ) (ds : List ℕ) → k < length ds → 5 < get_or ds k 0 → RoundsUp (10 ^ length (drop k ds)) q (weighed 0 (drop k ds))
 above_at q k ds h s = rw (drop_more ds k 0 h) (first_above q (get_or ds k 0) (drop (k + 1) ds) s)
 
+-- a first digit below five is to be rounded down
 pub below_at : (q k : ℕ) (ds : List ℕ) → k < length ds → AreDigits ds → get_or ds k 0 < 5 → RoundsDown (10 ^ length (drop k ds)) q (weighed 0 (drop k ds))
 below_at q k ds h all s =
     let rest : AreDigits (get_or ds k 0 ∷ drop (k + 1) ds) = rw (drop_more ds k 0 h) at (All-drop (λ d. d < 10) k ds all) in
     rw (drop_more ds k 0 h) (first_below q (get_or ds k 0) (drop (k + 1) ds) rest s)
 
+-- a five with a digit behind it is to be rounded up
 pub five_above_at : (q k : ℕ) (ds : List ℕ) → k < length ds → get_or ds k 0 ≡ 5 → ¬ (All (λ d. d ≡ 0) (drop (k + 1) ds)) → RoundsUp (10 ^ length (drop k ds)) q (weighed 0 (drop k ds))
 five_above_at q k ds h five other =
     rw (drop_more ds k 0 h, five) (five_above q (drop (k + 1) ds) (not_none (drop (k + 1) ds) other))
@@ -71,6 +74,7 @@ five_above_at q k ds h five other =
     not_none : (xs : List ℕ) → ¬ (All (λ d. d ≡ 0) xs) → 0 < weighed 0 xs
     not_none xs some = elim (cases_eq (weighed 0 xs) 0) [ inl e ↦ absurd (some (none_weighed 0 xs e)) | inr e ↦ omega arith ]
 
+-- a five with zeros behind it is just half
 pub half_at : (k : ℕ) (ds : List ℕ) → k < length ds → get_or ds k 0 ≡ 5 → All (λ d. d ≡ 0) (drop (k + 1) ds) → 2 * weighed 0 (drop k ds) ≡ 10 ^ length (drop k ds)
 half_at k ds h five none = rw (drop_more ds k 0 h, five) (five_half (drop (k + 1) ds) none)
 

@@ -17,6 +17,7 @@ zeros_behind front a b n e = sym (append_assoc front (replicate a 0) (replicate 
 pub left_alone : (ds : List ℕ) (k : ℕ) → digits_left ds k None 0 ≡ take k ds
 left_alone ds k = append-nil (take k ds ++ []) ∙ append-nil (take k ds)
 
+-- how many digits are left without a carry
 pub left_length : (ds : List ℕ) (k z : ℕ) → k ≤ length ds → length (digits_left ds k None z) ≡ k + z
 left_length ds k z within = omega (arith, ap length (append-nil (take k ds)), length-append (take k ds ++ []) (replicate z 0), length-take-le k ds within, length-replicate {A = ℕ} z 0)
 

@@ -23,11 +23,13 @@ place_high x zero h = h
 place_high x (suc p) h =
     ⊎_elim (λ e. rw e h) (λ e. rw e (place_high x p (leb-false (10 ^ suc p) x e))) (cases_Bool (nat_le (10 ^ suc p) x))
 
+-- a size reaches ten to its magnitude
 pub magnitude_low : (x : ℕ) → 0 < x → 10 ^ magnitude x ≤ x
 unfolding magnitude
 magnitude_low zero h = absurd (omega arith)
 magnitude_low (suc n) h = place_low (suc n) (suc n) h
 
+-- a size is below ten to the place above its magnitude
 pub magnitude_high : (x : ℕ) → 0 < x → x < 10 ^ (magnitude x + 1)
 unfolding magnitude
 magnitude_high zero h = absurd (omega arith)
@@ -38,6 +40,7 @@ magnitude_high (suc n) h =
     one_more : (k : ℕ) → suc k ≡ k + 1
     one_more k = omega arith
 
+-- a size between two neighbouring powers of ten has the magnitude of the lower one
 pub magnitude_is : (x p : ℕ) → 10 ^ p ≤ x → x < 10 ^ (p + 1) → magnitude x ≡ p
 magnitude_is x p low high =
     let positive : 0 < x = omega (arith, ten_pos p) in
@@ -48,9 +51,11 @@ magnitude_is x p low high =
     (λ (above : p < magnitude x). absurd (omega (arith, ten_mono (p + 1) (magnitude x) (omega arith)))))
     (cases_order (magnitude x) p)
 
+-- the magnitude of a power of ten
 pub magnitude-ten : (p : ℕ) → magnitude (10 ^ p) ≡ p
 magnitude-ten p = magnitude_is (10 ^ p) p (omega arith) (omega (arith, ten_more p, ten_pos p))
 
+-- the magnitude of zero
 pub magnitude-zero : magnitude 0 ≡ finest
 unfolding magnitude
 magnitude-zero = refl

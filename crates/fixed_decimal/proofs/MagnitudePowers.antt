@@ -48,6 +48,7 @@ size_lt d is =
     let same : finest - d.scale + length d.digits ≡ finest + integer_count d = omega (arith, finest_large, is.low_limit, is.integer_some) in
     rw (← same) (weighed_lt (finest - d.scale) d.digits is.below_ten)
 
+-- the magnitude isn't above the greatest written power
 pub magnitude_le-high : (d : Unsigned) (m : ℤ) → IsUnsigned d → IsMagnitude (size d) m → m ≤ℤ high d
 magnitude_le-high d m is h =
     let same : integer_count d - 1 + 1 ≡ integer_count d = omega (arith, is.integer_some) in
@@ -87,6 +88,7 @@ magnitude_first ds s f m digits fine some zeros within first e =
     let next : g + length (d ∷ rest) ≡ k + 1 = omega arith in
     rw split (IsMagnitude-at (weighed g (d ∷ rest)) m k at (omega (arith, mul-le-mul_left (10 ^ k) one)) (rw next at (weighed_lt g (d ∷ rest) here)))
 
+-- digits that are all zeros have magnitude 0
 pub magnitude_none : (ds : List ℕ) (s f : ℕ) → ds ≡ replicate f 0 ++ drop f ds → f ≡ length ds → IsMagnitude (weighed (finest - s) ds) (pos 0)
 magnitude_none ds s f zeros all =
     let none : drop f ds ≡ [] = drop_all f ds (omega arith) in
@@ -134,6 +136,7 @@ magnitude_has x = elim (cases_eq x 0) [
       | inr not_above ↦ not_above
     ]
 
+-- a size has one magnitude
 pub magnitude_only : (x : ℕ) (m : ℤ) → IsMagnitude x m → m ≡ magnitude_power x
 magnitude_only x m (inl (none, e)) = let f : magnitude x ≡ finest = ap magnitude none ∙ magnitude-zero in omega (arith, ints)
 magnitude_only x m (inr (reached, greatest)) = both (magnitude_has x)

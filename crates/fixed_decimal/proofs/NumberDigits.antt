@@ -18,6 +18,7 @@ pub record IsSplit (number rest : ℕ) (found : List ℕ) : Type 0 where
   pub zero_short : number ≡ 0 → length found ≡ 1
   pub first : rest ≡ 0 → 0 < number → get_or (reverse found) 0 0 ≢ 0
 
+-- the last digit of a number, and what is left of it
 pub split_start : (number : ℕ) → IsSplit number (number / 10) (number % 10 ∷ [])
 split_start number = record {
   sum = omega arith;
@@ -27,6 +28,7 @@ split_start number = record {
   first = λ e h. (λ f. omega arith);
 }
 
+-- one more digit is split off
 pub split_more : (number rest : ℕ) (found : List ℕ) → 0 < rest → IsSplit number rest found → IsSplit number (rest / 10) (found ++ rest % 10 ∷ [])
 split_more number rest found some is =
     let back : reverse (found ++ rest % 10 ∷ []) ≡ rest % 10 ∷ reverse found = reverse-append found (rest % 10 ∷ []) in
@@ -61,6 +63,7 @@ split_number number rest found none is =
     let sum : 0 * 10 ^ length found + weighed 0 (reverse found) ≡ number = rw zero at is.sum in
     omega (arith, sum)
 
+-- the digits that were split off have the size of the number
 pub split_size : (number rest : ℕ) (found ds : List ℕ) → ds ≡ reverse found → rest ≤ 0 → IsSplit number rest found → weighed (finest - 0) ds ≡ number * 10 ^ (finest + 0)
 split_size number rest found ds e none is =
     let same : finest - 0 ≡ finest + 0 = omega arith in
@@ -71,6 +74,7 @@ AreDigits-reverse ds h k d l =
     let inside : k < length ds = omega (arith, length-reverse ds) in
     rw (get_or-reverse ds k d inside) (h (length ds - 1 - k) d (omega arith))
 
+-- the digits that were split off are a decimal
 pub split_valid : (number rest : ℕ) (found ds : List ℕ) → ds ≡ reverse found → length found ≤ 20 → IsSplit number rest found → IsUnsigned (record { digits = ds; scale = 0 })
 split_valid number rest found ds e few is =
     let l : length ds ≡ length found = ap length e ∙ length-reverse found in
@@ -81,6 +85,7 @@ split_valid number rest found ds e few is =
       low_limit = omega arith;
     }
 
+-- the greatest power of the digits that were split off
 pub split_high : (number rest : ℕ) (found ds : List ℕ) (m : ℤ) → ds ≡ reverse found → rest ≤ 0 → IsSplit number rest found → m ≡ pos (length ds - 0) -ℤ pos 1 → IsMagnitude (weighed (finest - 0) ds) m
 split_high number rest found ds m e none is at_high =
     let l : length ds ≡ length found = ap length e ∙ length-reverse found in

@@ -259,12 +259,14 @@ pub past_limits : (text : List ℕ) (s : Sign) (n b a : List ℕ) → text ≡ s
 past_limits text s n b a signed is (inl h) = (s, number_of b a, Reads-here text s n b a signed is, λ w. absurd (omega (arith, (limits_iff b a w).0)))
 past_limits text s n b a signed is (inr h) = (s, number_of b a, Reads-here text s n b a signed is, λ w. absurd (omega (arith, (limits_iff b a w).1)))
 
+-- a numeral with few digits isn't past the limits
 pub not_past_limits : (text : List ℕ) (s : Sign) (n b a : List ℕ) → text ≡ sign_text s ++ n → IsNumeral n b a → length b ≤ 32768 → length a ≤ 32768 → ¬ (ReadsPastLimits text)
 not_past_limits text s n b a signed is lb la (t, d, r, past) =
     let same : d ≡ number_of b a = Reads-unique text s t n b a d signed is r in
     let valid = number_valid b a is.before_digits is.after_digits lb la in
     past (rw same (record { high_limit = valid.high_limit; low_limit = valid.low_limit }))
 
+-- a sign and a numeral spell a decimal
 pub reads_something : (text : List ℕ) (s : Sign) (n b a : List ℕ) → text ≡ sign_text s ++ n → IsNumeral n b a → ¬ (ReadsNothing text)
 reads_something text s n b a signed is none = none s (number_of b a) (Reads-here text s n b a signed is)
 

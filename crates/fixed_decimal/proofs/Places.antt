@@ -27,6 +27,7 @@ padded ds f b i =
 zeros_first : (ds : List ℕ) (f i : ℕ) → i < f → get_or (replicate f 0 ++ ds) i 0 ≡ 0
 zeros_first ds f i h = get_or_append_left (replicate f 0) ds 0 i (omega (arith, length-replicate {A = ℕ} f 0)) ∙ zero_at f i
 
+-- the digit at a written power, by its place in the list
 pub digit_at_place : (d : Unsigned) (p : ℤ) (i : ℕ) → d.scale < length d.digits → pos i ≡ (pos (integer_count d) -ℤ pos 1) -ℤ p → digit_at d p ≡ get_or d.digits i 0
 digit_at_place d (pos n) i some e =
     let m = integer_count d in
@@ -39,6 +40,7 @@ digit_at_place d (negsuc n) i some e =
     let place : integer_count d + n ≡ i = omega (arith, ints) in
     get_or-drop (integer_count d) d.digits n 0 ∙ ap (λ k. get_or d.digits k 0) place
 
+-- above the written digits each digit is 0
 pub digit_at_above : (d : Unsigned) (p : ℤ) → d.scale < length d.digits → ((pos (integer_count d) -ℤ pos 1) -ℤ p) ≤ℤ negsuc 0 → digit_at d p ≡ 0
 digit_at_above d (pos n) some e =
     let m = integer_count d in

@@ -151,6 +151,7 @@ signed-spells s s' n (Some u) d e f =
       scale = sym (ap (λ (k : Unsigned). k.scale) whole);
     }
 
+-- what is computed of a text is what it spells
 pub reading-spells : (text : List ℕ) (s : Sign) (d : Unsigned) → reading text ≡ Some (s, d) → Reads text s d
 unfolding reading
 reading-spells [] s d e = absurd cc
@@ -161,6 +162,7 @@ reading-spells (b ∷ bs) s d e = go (b == 45) (b == 43) refl refl e
     go false true p q e = subst (λ (x : ℕ). Reads (x ∷ bs) s d) (sym (eqb-true b 43 q)) (signed-spells s Positive bs (unsigned_reading bs) d refl e)
     go false false p q e = signed-spells s no_sign (b ∷ bs) (unsigned_reading (b ∷ bs)) d refl e
 
+-- nothing is computed of a text that spells nothing
 pub reading-nothing : (text : List ℕ) → ReadsNothing text → reading text ≡ None
 reading-nothing text none = go (reading text) refl
   where
@@ -168,6 +170,7 @@ reading-nothing text none = go (reading text) refl
     go None e = refl
     go (Some (s, d)) e = absurd (none s d (reading-spells text s d e))
 
+-- a text of which nothing is computed spells nothing
 pub nothing-reading : (text : List ℕ) → reading text ≡ None → ReadsNothing text
 nothing-reading text none s d r = differ (sym none ∙ reading-reads text s d r)
   where
@@ -187,6 +190,7 @@ sign_ascii no_sign = All-nil (λ b. b < 128)
 sign_ascii Negative = All-cons (λ b. b < 128) 45 [] (omega arith) (All-nil (λ b. b < 128))
 sign_ascii Positive = All-cons (λ b. b < 128) 43 [] (omega arith) (All-nil (λ b. b < 128))
 
+-- bytes that aren't UTF-8 spell nothing
 pub reads_nothing : (text : List ℕ) → ¬ (IsUtf8 text) → ReadsNothing text
 reads_nothing text no_text s d r =
     let is = r.spelled in

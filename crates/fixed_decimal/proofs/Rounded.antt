@@ -12,10 +12,12 @@ use Rattle.fixed_decimal.proofs.Nearness.{nearest-unique}
 use Rattle.fixed_decimal.proofs.Rounds.{finest_large, down, up, exact, nothing, raised, carried}
 use Rattle.fixed_decimal.proofs.MagnitudePowers.{place_is, magnitude_has, magnitude_ge, magnitude_le-high, size_lt}
 
+-- a power, by its zeros and its scale
 pub power_is : (p : ℤ) → pos (zeros_at p) -ℤ pos (scale_at p) ≡ p
 power_is (pos n) = omega (arith, ints)
 power_is (negsuc n) = omega (arith, ints)
 
+-- a power has no zeros or no scale
 pub one_is_none : (p : ℤ) → (zeros_at p ≡ 0) ⊎ (scale_at p ≡ 0)
 one_is_none (pos n) = inr refl
 one_is_none (negsuc n) = inl refl

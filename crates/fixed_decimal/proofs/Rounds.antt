@@ -10,6 +10,7 @@ use Rattle.fixed_decimal.proofs.Weights.{weighed-append, weighed_times, weighed_
 use Rattle.fixed_decimal.proofs.Nearness.{nearest_below}
 use Rattle.fixed_decimal.proofs.Halves.{up_nearest, down_nearest}
 
+-- the finest unit lies below every written power
 pub finest_large : 32768 ≤ finest
 unfolding finest
 finest_large = omega arith

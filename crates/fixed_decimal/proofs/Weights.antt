@@ -12,10 +12,12 @@ use Rattle.fixed_decimal.specs.Size.{weighed}
 pub ten_more : (e : ℕ) → 10 ^ (e + 1) ≡ 10 * 10 ^ e
 ten_more e = omega (arith, pow_more 10 e)
 
+-- a power of ten isn't zero
 pub ten_pos : (e : ℕ) → 0 < 10 ^ e
 ten_pos zero = omega arith
 ten_pos (suc e) = omega (arith, ten_pos e)
 
+-- powers of ten grow
 pub ten_mono : (i j : ℕ) → i ≤ j → 10 ^ i ≤ 10 ^ j
 ten_mono i j h =
     let split : 10 ^ j ≡ 10 ^ i * 10 ^ (j - i) = ap (λ n. 10 ^ n) same ∙ pow-add 10 i (j - i) in
@@ -25,9 +27,11 @@ ten_mono i j h =
     same : j ≡ i + (j - i)
     same = omega arith
 
+-- digits without the first are digits
 pub AreDigits-tail : (x : ℕ) (xs : List ℕ) → AreDigits (x ∷ xs) → AreDigits xs
 AreDigits-tail x xs h = All-tail (λ d. d < 10) x xs h
 
+-- the first digit is below ten
 pub AreDigits-head : (x : ℕ) (xs : List ℕ) → AreDigits (x ∷ xs) → x < 10
 AreDigits-head x xs h = All-head (λ d. d < 10) x xs h
 
@@ -63,6 +67,7 @@ same_power i j e = ap (λ n. 10 ^ n) e
 pub weighed_units : (e : ℕ) (ds : List ℕ) → weighed e ds ≡ weighed 0 ds * 10 ^ e
 weighed_units e ds = ap (λ n. weighed n ds) (sym (zero-add e)) ∙ weighed_times 0 e ds
 
+-- zeros weigh nothing
 pub weighed-replicate_zero : (e n : ℕ) → weighed e (replicate n 0) ≡ 0
 weighed-replicate_zero e zero = refl
 weighed-replicate_zero e (suc n) = omega (arith, weighed-replicate_zero e n)
@@ -81,12 +86,14 @@ low_below e d ds h s =
     let five : suc d ≤ 5 = s in
     omega (arith, more, weighed_lt e ds (AreDigits-tail d ds h), mul-le-mul_left (10 ^ (e + length ds)) five)
 
+-- digits that begin above five weigh more than half
 pub low_above : (e d : ℕ) (ds : List ℕ) → 5 < d → 10 ^ (e + length (d ∷ ds)) < 2 * weighed e (d ∷ ds)
 low_above e d ds s =
     let more : 10 ^ (e + suc (length ds)) ≡ 10 * 10 ^ (e + length ds) = ap (λ k. 10 ^ k) (omega arith) ∙ ten_more (e + length ds) in
     let six : 6 ≤ d = s in
     omega (arith, more, ten_pos (e + length ds), mul-le-mul_left (10 ^ (e + length ds)) six)
 
+-- digits that begin with five weigh half and the rest
 pub low_five : (e : ℕ) (ds : List ℕ) → 2 * weighed e (5 ∷ ds) ≡ 10 ^ (e + length (5 ∷ ds)) + 2 * weighed e ds
 low_five e ds =
     let more : 10 ^ (e + suc (length ds)) ≡ 10 * 10 ^ (e + length ds) = ap (λ k. 10 ^ k) (omega arith) ∙ ten_more (e + length ds) in
@@ -99,6 +106,7 @@ weighed_none e (d ∷ ds) h =
     let first : d ≡ 0 = All-head (λ x. x ≡ 0) d ds h in
     rw (first, weighed_none e ds (All-tail (λ x. x ≡ 0) d ds h)) (omega arith)
 
+-- digits that weigh nothing are zeros
 pub none_weighed : (e : ℕ) (ds : List ℕ) → weighed e ds ≡ 0 → All (λ d. d ≡ 0) ds
 none_weighed e [] h = All-nil (λ d. d ≡ 0)
 none_weighed e (d ∷ ds) h =

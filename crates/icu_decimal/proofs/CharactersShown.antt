@@ -18,6 +18,7 @@ characters-append (Char c ∷ xs) ys = ap (λ l. c ∷ l) (characters-append xs 
 characters-append (Open category value ∷ xs) ys = characters-append xs ys
 characters-append (Close ∷ xs) ys = characters-append xs ys
 
+-- the characters of characters are these
 pub characters-characters : (cs : List ℕ) → characters (map Char cs) ≡ cs
 characters-characters [] = refl
 characters-characters (c ∷ cs) = ap (λ l. c ∷ l) (characters-characters cs)
@@ -62,6 +63,7 @@ characters-integer f d =
     ∙ characters-joined f (in_decimal_part (codes "group") (text_events f.symbols.strings.grouping_separator)) (groups_of f d)
     ∙ ap (λ l. joined l (map (λ g. digit_characters f g) (groups_of f d))) (characters-text_part (codes "group") f.symbols.strings.grouping_separator)
 
+-- the characters of a number, in its integer, its point and its fraction
 pub characters-unsigned : (f : DecimalFormat) (d : Unsigned)
     → characters (unsigned_events f d) ≡ joined (chars f.symbols.strings.grouping_separator) (map (λ g. digit_characters f g) (groups_of f d)) ++ fraction_text (chars f.symbols.strings.decimal_separator) (digit_characters f (fraction d))
 characters-unsigned f d = characters-append (integer_events f (integer d)) (fraction_events f (fraction d)) ∙ ap₂ ◌++◌ (characters-integer f d) (characters-fraction f (fraction d))
@@ -75,6 +77,7 @@ characters-in_parts : (value prefix : List ℕ) (es : List Event) (suffix : List
 characters-in_parts value prefix es suffix =
     characters-around (in_decimal_part value (text_events prefix)) es (in_decimal_part value (text_events suffix)) (chars prefix) (chars suffix) (characters-text_part value prefix) (characters-text_part value suffix)
 
+-- the characters of a value between the affixes of its sign
 pub characters-signed : (f : DecimalFormat) (sign : Sign) (es : List Event) → characters (signed_events f.symbols sign es) ≡ (affixes f.symbols.strings sign).before ++ (characters es ++ (affixes f.symbols.strings sign).after)
 characters-signed f NoSign es = sym (append-nil (characters es))
 characters-signed f Negative es = characters-in_parts (codes "minusSign") f.symbols.strings.minus_sign_prefix es f.symbols.strings.minus_sign_suffix

@@ -99,6 +99,7 @@ module _ (f : CompactFormat) (sign : Sign) (by : Option TableEntry) (significand
         after = every-append (IsOther f.decimal) (sides (pattern_of f by significand)).after (affixes f.decimal.symbols.strings sign).after inner.after outer.after;
       }
 
+-- equal compact texts of a readable formatter have equal signs, significands and exponents
 pub compact_tells : CompactTextTells
 compact_tells f s t by to c d es fs h hby hto hc hd wx wy e =
     let kx = pattern_is f by c hby in

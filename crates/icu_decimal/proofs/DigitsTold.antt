@@ -18,6 +18,7 @@ IsDigit x = x < 10
 abbrev pub IsDigitOf : DecimalFormat → ℕ → Type 0
 IsDigitOf f c = Contains f.digits c
 
+-- a character that is no digit of the formatter
 abbrev pub IsOther : DecimalFormat → ℕ → Type 0
 IsOther f c = ¬ (Contains f.digits c)
 
@@ -94,5 +95,6 @@ group_characters f h c hc =
     go [] some e = some refl
     go (g ∷ gs) some e = cc
 
+-- the characters of a fraction are digits of the formatter
 pub fraction_characters : (f : DecimalFormat) → IsReadable f.symbols.strings f.digits → (c : Unsigned) → IsUnsigned c → Every (IsDigitOf f) (digit_characters f (fraction c))
 fraction_characters f h c hc = every_map IsDigit (IsDigitOf f) (slice_index f.digits) (character_is f h) (fraction c) (fraction_below c hc)

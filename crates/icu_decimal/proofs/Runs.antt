@@ -13,18 +13,22 @@ abbrev pub Every : (ℕ → Type 0) → List ℕ → Type 0
 Every P [] = Unit {0}
 Every P (x ∷ xs) = P x × Every P xs
 
+-- what holds of all holds of every one
 pub every_of_all : (P : ℕ → Type 0) (xs : List ℕ) → All P xs → Every P xs
 every_of_all P [] h = tt
 every_of_all P (x ∷ xs) h = (h 0 x (omega arith), every_of_all P xs (λ k d l. h (suc k) d (omega arith)))
 
+-- what holds of two lists holds of both joined
 pub every-append : (P : ℕ → Type 0) (xs ys : List ℕ) → Every P xs → Every P ys → Every P (xs ++ ys)
 every-append P [] ys h k = k
 every-append P (x ∷ xs) ys h k = (h.0, every-append P xs ys h.1 k)
 
+-- what holds of joined lists holds of the first
 pub every_before : (P : ℕ → Type 0) (xs ys : List ℕ) → Every P (xs ++ ys) → Every P xs
 every_before P [] ys h = tt
 every_before P (x ∷ xs) ys h = (h.0, every_before P xs ys h.1)
 
+-- what holds of joined lists holds of the second
 pub every_after : (P : ℕ → Type 0) (xs ys : List ℕ) → Every P (xs ++ ys) → Every P ys
 every_after P [] ys h = h
 every_after P (x ∷ xs) ys h = every_after P xs ys h.1
@@ -72,15 +76,18 @@ every_concatenated P [] h = tt
 every_concatenated P ([] ∷ gs) h = absurd h
 every_concatenated P ((x ∷ g) ∷ gs) h = (h.0, every-append P g (concatenated gs) h.1 (every_concatenated P gs h.2))
 
+-- what holds of every value holds of what each becomes
 pub every_map : (P Q : ℕ → Type 0) (f : ℕ → ℕ) → ((c : ℕ) → P c → Q (f c)) → (xs : List ℕ) → Every P xs → Every Q (map f xs)
 every_map P Q f each [] h = tt
 every_map P Q f each (x ∷ xs) h = (each x h.0, every_map P Q f each xs h.1)
 
+-- runs of values become runs of what each becomes
 pub runs_map : (P Q : ℕ → Type 0) (f : ℕ → ℕ) → ((c : ℕ) → P c → Q (f c)) → (gs : List (List ℕ)) → Runs P gs → Runs Q (map (λ g. map f g) gs)
 runs_map P Q f each [] h = tt
 runs_map P Q f each ([] ∷ gs) h = absurd h
 runs_map P Q f each ((x ∷ g) ∷ gs) h = (each x h.0, every_map P Q f each g h.1, runs_map P Q f each gs h.2)
 
+-- joined runs, each value changed, are the changed runs joined
 pub concatenated-map : (f : ℕ → ℕ) (gs : List (List ℕ)) → concatenated (map (λ g. map f g) gs) ≡ map f (concatenated gs)
 concatenated-map f [] = refl
 concatenated-map f (g ∷ gs) = ap (λ l. map f g ++ l) (concatenated-map f gs) ∙ sym (map-append f g (concatenated gs))

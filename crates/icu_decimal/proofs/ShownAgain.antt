@@ -78,6 +78,7 @@ written_alone format sign d s exponent events y entry h exponent_is events_are =
     events_of : {e e' : Option TableEntry} {u v : Unsigned} → e ≡ e' → u ≡ v → signed_events format.decimal.symbols sign (without_parts (filled_events format e u)) ≡ signed_events format.decimal.symbols sign (without_parts (filled_events format e' v))
     events_of p q = λ i. signed_events format.decimal.symbols sign (without_parts (filled_events format (p i) (q i)))
 
+-- what is shown is shown again
 pub shown_again : (format : CompactFormat) (sign : Sign) (d again : Unsigned) → IsUnpadded d → IsUnpadded again → IsShownAgain format sign d again
 shown_again format sign d again unpadded unpadded_again = record {
   alike = λ s exponent events first same.
@@ -153,6 +154,7 @@ signed_without_parts symbols Negative es =
 signed_without_parts symbols Positive es =
     between (in_decimal_part (codes "plusSign") (text_events symbols.strings.plus_sign_prefix)) (in_decimal_part (codes "plusSign") (text_events symbols.strings.plus_sign_suffix)) es
 
+-- the significand and the exponent that are shown are accepted as they are
 pub shown_is_given : ShownIsGiven
 shown_is_given format sign d s exponent events t first =
     let displayed = first.displayed in

@@ -39,6 +39,7 @@ high_of : (f : CompactFormat) (s : Sign) (c x : Unsigned) (m : ℕ) (es : List E
     → high x ≡ int_max (pos 0) (magnitude_power h.shown -ℤ pos (exponent_of (displayed_entry f.table h.shown)))
 high_of f s c x m es h unpadded = h.displayed.high_is ∙ high_unpadded f.table c h.shown unpadded (magnitude_shown f.table (size c) h.shown h.displayed.nearest)
 
+-- readable texts are equal exactly where signs and shown numbers are
 pub shown_tells : ShownTextTells
 shown_tells f s t c d x y m n es fs readable unpadded_c unpadded_d first second = (
   λ same.

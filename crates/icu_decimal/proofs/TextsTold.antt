@@ -15,6 +15,7 @@ pub record AreOthers (f : DecimalFormat) (a : Surroundings) : Type 0 where
   pub before : Every (IsOther f) a.before
   pub after : Every (IsOther f) a.after
 
+-- texts without a digit have other characters alone
 pub are_others : (f : DecimalFormat) (a : Surroundings) → IsFreeOfDigits f.digits a → AreOthers f a
 are_others f a h = record { before = every_of_all (IsOther f) a.before h.before_free; after = every_of_all (IsOther f) a.after h.after_free }
 
@@ -36,6 +37,7 @@ unsigned_tells f a b c d h ha hb hc hd e =
     let of : List ℕ → List ℕ → Surroundings = λ x y. record { before = x; after = y } in
     (ap₂ of told.0 told.1, unsigned_same c d hc hd integers fractions)
 
+-- equal texts of a readable formatter are of equal decimals
 pub text_tells : TextTellsTheDecimal
 text_tells f s t c d h hc hd e =
     let told = unsigned_tells f (affixes f.symbols.strings s) (affixes f.symbols.strings t) c d h

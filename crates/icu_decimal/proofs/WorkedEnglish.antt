@@ -179,10 +179,12 @@ long_rows =
     record { exponent = 3; literal = codes " thousand" } ∷ record { exponent = 6; literal = codes " million" }
     ∷ record { exponent = 9; literal = codes " billion" } ∷ record { exponent = 12; literal = codes " trillion" } ∷ []
 
+-- English with its short patterns is readable
 pub english_short_readable : IsReadableCompact (with_table short_rows)
 unfolding chars
 english_short_readable = record { plain_readable = english_readable; table_readable = rows_readable short_rows refl refl }
 
+-- English with its long patterns is readable
 pub english_long_readable : IsReadableCompact (with_table long_rows)
 unfolding chars
 english_long_readable = record { plain_readable = english_readable; table_readable = rows_readable long_rows refl refl }

@@ -9,9 +9,11 @@ use Rattle.icu_decimal_data.specs.DecimalSymbols.{english_symbols}
 use Rattle.icu_decimal_data.specs.Symbols.{SymbolTexts}
 use Rattle.icu_decimal_readable.specs.Readable.{Surroundings, affixes, IsFreeOfDigits, IsReadable}
 
+-- the texts of English symbols
 abbrev pub texts : SymbolTexts
 texts = english_symbols.strings
 
+-- the digits from 0 to 9
 abbrev pub digits : List ℕ
 digits = codes "0123456789"
 
@@ -20,6 +22,7 @@ abbrev pub is_among : List ℕ → ℕ → Bool
 is_among [] c = false
 is_among (d ∷ ds) c = if d == c then true else is_among ds c
 
+-- whether none of some characters stands in a list, computed
 abbrev pub has_none_of : List ℕ → List ℕ → Bool
 has_none_of ds [] = true
 has_none_of ds (c ∷ cs) = if is_among ds c then false else has_none_of ds cs
@@ -37,6 +40,7 @@ neither : (b r : Bool) → (if b then false else r) ≡ true → (b ≡ false) �
 neither true r e = cc
 neither false r e = (refl, e)
 
+-- what is computed is so
 pub none_of : (ds cs : List ℕ) → has_none_of ds cs ≡ true → All (λ c. ¬ (Contains ds c)) cs
 none_of ds [] e k d l has = absurd (omega arith)
 none_of ds (c ∷ cs) e zero d l (j, within, is) =
@@ -61,6 +65,7 @@ affixes_free NoSign = record { before_free = none_of digits [] refl; after_free 
 affixes_free Negative = record { before_free = none_of digits (45 ∷ []) refl; after_free = none_of digits [] refl }
 affixes_free Positive = record { before_free = none_of digits (43 ∷ []) refl; after_free = none_of digits [] refl }
 
+-- English affixes tell their sign
 pub sign_told : (s t : Sign) → affixes texts s ≡ affixes texts t → s ≡ t
 unfolding chars
 sign_told NoSign NoSign e = refl
@@ -73,6 +78,7 @@ sign_told Positive NoSign e = let before = ap (λ (a : Surroundings). a.before) 
 sign_told Positive Negative e = let before = ap (λ (a : Surroundings). a.before) e in cc
 sign_told Positive Positive e = refl
 
+-- English numbers are readable
 pub english_readable : IsReadable texts digits
 unfolding chars
 english_readable = record {

@@ -13,6 +13,7 @@ lined_up (x ∷ a) b (y ∷ c) d e =
     let rest : a ++ b ≡ c ++ d = cc in
     elim (lined_up a b c d rest) [ inl h ↦ inl (h.0, cc (h.1)) | inr h ↦ inr (h.0, cc (h.1)) ]
 
+-- two joined texts are equal only if one front begins with the other
 pub not_lined_up : (a b c d : List ℕ) → ((m : List ℕ) → c ≢ a ++ m) → ((m : List ℕ) → a ≢ c ++ m) → a ++ b ≡ c ++ d → ⊥
 not_lined_up a b c d h i e = elim (lined_up a b c d e) [ inl x ↦ h x.0 x.1 | inr x ↦ i x.0 x.1 ]
 
@@ -20,6 +21,7 @@ not_lined_up a b c d h i e = elim (lined_up a b c d e) [ inl x ↦ h x.0 x.1 | i
 pub joined : (a b c d m : List ℕ) → c ≡ a ++ m → b ≡ m ++ d → a ++ b ≡ c ++ d
 joined a b c d m is e = ap (λ l. a ++ l) e ∙ sym (append_assoc a m d) ∙ ap (λ l. l ++ d) (sym is)
 
+-- of equal joined texts what is behind the shorter front
 pub parted : (a b c d m : List ℕ) → c ≡ a ++ m → a ++ b ≡ c ++ d → b ≡ m ++ d
 parted a b c d m is e = append_cancel_left a b (m ++ d) (e ∙ ap (λ l. l ++ d) is ∙ append_assoc a m d)
 
@@ -27,6 +29,7 @@ parted a b c d m is e = append_cancel_left a b (m ++ d) (e ∙ ap (λ l. l ++ d)
 pub same_characters : (a b c d : List ℕ) → IsUtf8 a → IsUtf8 c → a ++ b ≡ c ++ d → chars a ++ chars b ≡ chars c ++ chars d
 same_characters a b c d ua uc e = sym (chars-append a b ua) ∙ ap chars e ∙ chars-append c d uc
 
+-- joined texts with the same characters have the same bytes
 pub same_bytes : (a b c d : List ℕ) → IsUtf8 a → IsUtf8 b → IsUtf8 c → IsUtf8 d → chars a ++ chars b ≡ chars c ++ chars d → a ++ b ≡ c ++ d
 same_bytes a b c d ua ub uc ud e =
     sym (encodes-chars (a ++ b) (IsUtf8-append a b ua ub)) ∙ ap encode_utf8_all (chars-append a b ua ∙ e ∙ sym (chars-append c d uc)) ∙ encodes-chars (c ++ d) (IsUtf8-append c d uc ud)

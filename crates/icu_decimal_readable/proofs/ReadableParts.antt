@@ -20,15 +20,18 @@ nothing f = let of : List ℕ → List ℕ → Surroundings = λ x y. record { b
 pub minus_shown : (f : SymbolTexts) → SignsDiffer f → (chars f.minus_sign_prefix ≡ chars []) × (chars f.minus_sign_suffix ≡ chars []) → ⊥
 minus_shown f h same = let e = h Negative NoSign (same_pair f.minus_sign_prefix f.minus_sign_suffix [] [] same ∙ sym (nothing f)) in cc
 
+-- a plus that differs from no sign has a character
 pub plus_shown : (f : SymbolTexts) → SignsDiffer f → (chars f.plus_sign_prefix ≡ chars []) × (chars f.plus_sign_suffix ≡ chars []) → ⊥
 plus_shown f h same = let e = h Positive NoSign (same_pair f.plus_sign_prefix f.plus_sign_suffix [] [] same ∙ sym (nothing f)) in cc
 
+-- minus and plus differ in an affix
 pub both_differ : (f : SymbolTexts) → SignsDiffer f → (chars f.minus_sign_prefix ≡ chars f.plus_sign_prefix) × (chars f.minus_sign_suffix ≡ chars f.plus_sign_suffix) → ⊥
 both_differ f h same = let e = h Negative Positive (same_pair f.minus_sign_prefix f.minus_sign_suffix f.plus_sign_prefix f.plus_sign_suffix same) in cc
 
 parts : (a b : Surroundings) → a ≡ b → (a.before ≡ b.before) × (a.after ≡ b.after)
 parts a b e = (ap (λ (x : Surroundings). x.before) e, ap (λ (x : Surroundings). x.after) e)
 
+-- affixes that differ tell their sign
 pub signs_told : (f : SymbolTexts)
     → ((chars f.minus_sign_prefix ≡ chars []) × (chars f.minus_sign_suffix ≡ chars []) → ⊥)
     → ((chars f.plus_sign_prefix ≡ chars []) × (chars f.plus_sign_suffix ≡ chars []) → ⊥)
@@ -62,6 +65,7 @@ readable_of f digits ten different free told signs = record {
     affixes_free Negative = record { before_free = free.minus_prefix_free; after_free = free.minus_suffix_free }
     affixes_free Positive = record { before_free = free.plus_prefix_free; after_free = free.plus_suffix_free }
 
+-- readable symbols have no digit in an affix or a separator
 pub free_of : (f : SymbolTexts) (digits : List ℕ) → IsReadable f digits → IsFreeThroughout f digits
 free_of f digits h = record {
   minus_prefix_free = (h.affixes_free Negative).before_free;
@@ -72,14 +76,17 @@ free_of f digits h = record {
   grouping_free = h.grouping_free;
 }
 
+-- what isn't true is false
 pub untrue : (b : Bool) → (IsTrue b → ⊥) → IsTrue (not b)
 untrue true h = absurd (h refl)
 untrue false h = refl
 
+-- nothing is both true and false
 pub not_both : (b : Bool) → IsTrue (not b) → IsTrue b → ⊥
 not_both true n h = cc
 not_both false n h = cc
 
+-- false isn't true
 pub false_not_true : (b : Bool) → b ≡ false → IsTrue b → ⊥
 false_not_true true f h = cc
 false_not_true false f h = cc

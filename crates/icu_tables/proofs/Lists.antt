@@ -20,10 +20,12 @@ pub ruleset list_rules = list_of-items_of
 abbrev pub with_front : {A : Type 0} → List A → Result (List A) TableError → Result (List A) TableError
 with_front front read = read >>= λ xs. Ok (front ++ xs)
 
+-- an entry in front of those that are read stands behind those that were read
 pub regroup : {A : Type 0} (front : List A) (x : A) (read : Result (List A) TableError) → with_front front (read >>= λ xs. Ok (x ∷ xs)) ≡ with_front (front ++ x ∷ []) read
 regroup front x (Ok xs) = ap Ok (sym (append_assoc front (x ∷ []) xs))
 regroup front x (Err e) = refl
 
+-- a reading that failed fails with all that follows
 pub failed : {A B : Type 0} (e : TableError) (r : Result A TableError) (f : A → Result B TableError) → Fails e r → Fails e (r >>= f)
 failed NotJson r f h = rw h refl
 failed Float r f h = rw h refl

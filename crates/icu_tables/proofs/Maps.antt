@@ -52,6 +52,7 @@ are_below es (Some before) k up_to above = all_below es before k above up_to
 pub put_last : (es : Pairs) (e : GivenEntry) (left : List GivenEntry) (v : ℕ × PatternElements) → GoesOn es (e ∷ left) → insert_entry nat_cmp es e.log10_type v ≡ es ++ (e.log10_type, v) ∷ []
 put_last es e left v (before, up_to, (above, rise)) = insert_last es e.log10_type v (are_below es before e.log10_type up_to above)
 
+-- a map goes on with one more entry
 pub still_goes_on : (es : Pairs) (e : GivenEntry) (left : List GivenEntry) (v : ℕ × PatternElements) → GoesOn es (e ∷ left) → GoesOn (es ++ (e.log10_type, v) ∷ []) left
 still_goes_on es e left v (before, up_to, (above, rise)) = (Some e.log10_type, all_up_to es e.log10_type v (are_below es before e.log10_type up_to above), rise)
 
@@ -65,6 +66,7 @@ pub rise_on : (before : Option ℕ) (es : List GivenEntry) (e : GivenEntry) → 
 rise_on before [] e h above = (above, tt)
 rise_on before (x ∷ es) e h above = (h.0, rise_on (Some x.log10_type) es e h.1 above)
 
+-- the last type with one more entry
 pub last_on : (before : Option ℕ) (es : List GivenEntry) (e : GivenEntry) → last_type before (es ++ e ∷ []) ≡ Some e.log10_type
 last_on before [] e = refl
 last_on before (x ∷ es) e = last_on (Some x.log10_type) es e
@@ -77,6 +79,7 @@ entries_from es i x e lt = drop-cons es i x lt ∙ rw (← e, add-one) refl
 abbrev entry_with : GivenEntry → PatternElements → TableEntry
 entry_with e v = record { log10_type = e.log10_type; exponent = e.exponent; elements = v }
 
+-- one more entry is made, and the rest goes on
 pub made_goes_on : (place : Place) (front : List TableEntry) (e : GivenEntry) (es : List GivenEntry) (v : PatternElements) (total : Result (List TableEntry) TableError)
     → patterns_of place e.texts ≡ Ok v → with_front front (entries_of place (e ∷ es)) ≡ total
     → with_front (front ++ record { log10_type = e.log10_type; exponent = e.exponent; elements = v } ∷ []) (entries_of place es) ≡ total
@@ -85,12 +88,14 @@ made_goes_on place front e es v total h so_far =
     let one : with_front front (entries_of place (e ∷ es)) ≡ with_front (front ++ entry_with e v ∷ []) (entries_of place es) = rw h (regroup front (entry_with e v) (entries_of place es)) in
     sym one ∙ so_far
 
+-- an entry that is refused refuses all
 pub made_fails : (fault : TableError) (place : Place) (front : List TableEntry) (e : GivenEntry) (es : List GivenEntry) (total : Result (List TableEntry) TableError)
     → Fails fault (patterns_of place e.texts) → with_front front (entries_of place (e ∷ es)) ≡ total → Fails fault total
 unfolding entries_of
 made_fails fault place front e es total h so_far =
     rw (← so_far) (failed fault _ (λ xs. Ok (front ++ xs)) (failed fault (patterns_of place e.texts) (λ v. entries_of place es >>= λ xs. Ok (entry_with e v ∷ xs)) h))
 
+-- without entries left all are made
 pub made_ends : (place : Place) (front : List TableEntry) (total : Result (List TableEntry) TableError) → with_front front (entries_of place []) ≡ total → total ≡ Ok front
 unfolding entries_of
 made_ends place front total so_far = sym so_far ∙ ap Ok (append-nil front)

@@ -8,6 +8,7 @@ use Rattle.icu_tables.specs.Reading.{◌>>=◌, Fails}
 use Rattle.icu_tables.specs.declared.error.TableError.{TableError}
 use Rattle.icu_tables.proofs.Lists.{with_front, regroup, failed}
 
+-- one more entry is read, and the rest goes on
 pub entries_go_on : (front : List GivenEntry) (before : Option ℕ) (d : Data) (ds : List Data) (x : GivenEntry) (total : Result (List GivenEntry) TableError)
     → given_entry_in before d ≡ Ok x → with_front front (given_entries_in before (d ∷ ds)) ≡ total
     → with_front (front ++ x ∷ []) (given_entries_in (Some x.log10_type) ds) ≡ total
@@ -16,12 +17,14 @@ entries_go_on front before d ds x total h so_far =
     let one : with_front front (given_entries_in before (d ∷ ds)) ≡ with_front (front ++ x ∷ []) (given_entries_in (Some x.log10_type) ds) = rw h (regroup front x (given_entries_in (Some x.log10_type) ds)) in
     sym one ∙ so_far
 
+-- an entry that is refused refuses the list
 pub entries_fail : (e : TableError) (front : List GivenEntry) (before : Option ℕ) (d : Data) (ds : List Data) (total : Result (List GivenEntry) TableError)
     → Fails e (given_entry_in before d) → with_front front (given_entries_in before (d ∷ ds)) ≡ total → Fails e total
 unfolding given_entries_in
 entries_fail e front before d ds total h so_far =
     rw (← so_far) (failed e _ (λ xs. Ok (front ++ xs)) (failed e (given_entry_in before d) (λ x. given_entries_in (Some x.log10_type) ds >>= λ xs. Ok (x ∷ xs)) h))
 
+-- without entries left all are read
 pub entries_end : (front : List GivenEntry) (before : Option ℕ) (total : Result (List GivenEntry) TableError) → with_front front (given_entries_in before []) ≡ total → total ≡ Ok front
 unfolding given_entries_in
 entries_end front before total so_far = sym so_far ∙ ap Ok (append-nil front)

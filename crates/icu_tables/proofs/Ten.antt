@@ -10,12 +10,14 @@ use Rattle.icu_tables.specs.declared.error.TableError.TheVariants.{WrongKind}
 not_ten : (n : ℕ) → (n ≡ 10 → ⊥) → eqb n 10 ≡ false
 not_ten n h = grind (arith, nat_tests)
 
+-- ten characters are taken
 pub ten_taken : (key : Key) (text xs ys : List ℕ) → xs ≡ chars text → IsWholeChunk xs ys 10 → ten_in key text ≡ Ok ys
 unfolding ten_in
 ten_taken key text xs ys e h =
     let n : length (chars text) ≡ 10 = rw (← e) h.long in
     let k : eqb (length (chars text)) 10 ≡ true = rw n refl in rw (k, h.same, e) refl
 
+-- another count than ten is refused
 pub ten_refused : (key : Key) (text xs : List ℕ) → xs ≡ chars text → (length xs ≡ 10 → ⊥) → ten_in key text ≡ Err (WrongKind key)
 unfolding ten_in
 ten_refused key text xs e h = let k : eqb (length (chars text)) 10 ≡ false = not_ten (length (chars text)) (rw e at h) in rw k refl

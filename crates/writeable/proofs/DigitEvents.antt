@@ -37,6 +37,7 @@ digits_grow old out new characters digits i h e f =
     let c = get_or characters (get_or digits i 0) 0 in
     f ∙ ap (λ l. out ++ l) (append-nil (encode_utf8 c)) ∙ ap (λ l. l ++ encode_utf8 c) e ∙ append_assoc old (text_of (digit_events characters (take i digits))) (encode_utf8 c) ∙ ap (λ l. old ++ l) (sym (text_of-digits_more characters digits i h))
 
+-- one more digit is written as its character
 pub ascii_digits_grow : (old out new characters digits : List ℕ) (i : ℕ) → i < length digits → get_or characters (get_or digits i 0) 0 < 128 → out ≡ old ++ text_of (digit_events characters (take i digits)) → new ≡ out ++ get_or characters (get_or digits i 0) 0 ∷ [] → new ≡ old ++ text_of (digit_events characters (take (i + 1) digits))
 ascii_digits_grow old out new characters digits i h small e f =
     let c = get_or characters (get_or digits i 0) 0 in

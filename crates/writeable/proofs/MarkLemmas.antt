@@ -31,6 +31,7 @@ pub marked_events-char : (old new : List ℕ) (ms : List Mark) (c : ℕ) → new
 marked_events-char old new ms c e scalar h =
     ap (λ t. marked_events 0 t ms) e ∙ marked_events-text 0 old (encode_utf8 c) ms h ∙ ap (λ l. marked_events 0 old ms ++ l) (text_events-encode c scalar)
 
+-- marks stay marks of a longer text
 pub AreMarks-text : (from : ℕ) (text more : List ℕ) (ms : List Mark) → IsUtf8 more → AreMarks from text ms → AreMarks from (text ++ more) ms
 AreMarks-text from text more [] u h = IsUtf8-append text more h u
 AreMarks-text from text more (m ∷ ms) u h =
@@ -49,6 +50,7 @@ marked_events-mark from text (p ∷ ms) m e h =
     rw (marked_events-mark (mark_at p) (drop k text) ms m here h.3)
     (sym (append_assoc (text_events (take k text)) (mark_event p ∷ marked_events (mark_at p) (drop k text) ms) (mark_event m ∷ [])))
 
+-- a mark at the end of the text is one more mark
 pub AreMarks-mark : (from : ℕ) (text : List ℕ) (ms : List Mark) (m : Mark) → mark_at m ≡ from + length text → AreMarks from text ms → AreMarks from text (ms ++ m ∷ [])
 AreMarks-mark from text [] m e h =
     let k : ℕ = mark_at m - from in

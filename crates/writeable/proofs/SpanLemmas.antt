@@ -94,6 +94,7 @@ spans_from-marked from text (Close at ∷ ms) h =
     ∙ ap (λ n. spans_from n (ClosePart ∷ rest)) (place_of_mark from text (Close at) ms h)
     ∙ spans_from-marked at (drop (at - from) text) ms h.3
 
+-- a reversed list is mapped in reverse
 pub map-reverse : {A : Type 0} {B : Type 0} (f : A → B) (xs : List A) → map f (reverse xs) ≡ reverse (map f xs)
 map-reverse f [] = refl
 map-reverse f (x ∷ xs) = ap (map f) (reverse-append (x ∷ []) xs) ∙ map-append f (reverse xs) (x ∷ []) ∙ ap (λ l. l ++ f x ∷ []) (map-reverse f xs) ∙ sym (reverse-append (f x ∷ []) (map f xs))
