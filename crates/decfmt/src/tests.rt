@@ -2,46 +2,13 @@
 //! they hold; what was refused memory is asked once more.
 
 mod compact;
+mod slow;
 
 use crate::laws::{inputs_have_one_list_of_lines, texts_have_one_answer};
 use crate::mode::{Mode, StartError};
 use crate::running::{RunError, run};
+use slow::{Full, SlowReader, SlowWriter};
 use std::alloc::{AllocError, Global};
-use std::io;
-use std::io::{ErrorKind, Read, Write};
-
-/// Gives so many bytes a call at most, and after `good` bytes an error, if there are more.
-#[derive(Drop)]
-struct SlowReader<'a> {
-    bytes: &'a [u8],
-    good: usize,
-    at_once: usize,
-}
-
-impl Read for SlowReader<'_> {
-    fn read(&mut self, buf: &mut [u8]) -> io::Result<usize> {
-        if self.bytes.is_empty() {
-            return Ok(0);
-        }
-        let most = self.at_once.min(self.good);
-        let count = most.min(self.bytes.len()).min(buf.len());
-        if count == 0 {
-            return Err(io::Error::from(ErrorKind::Other));
-        }
-        let (given, rest) = self.bytes.split_at(count);
-        buf[..count].copy_from_slice(given);
-        self.bytes = rest;
-        self.good -= count;
-        Ok(count)
-    }
-}
-
-/// What a writer does after the bytes that it takes.
-#[derive(Clone, Copy)]
-enum Full {
-    Fails,
-    TakesNothing,
-}
 
 /// What is seen of a run.
 #[derive(Clone, Copy, PartialEq, Eq)]
@@ -59,32 +26,6 @@ impl Seen {
             _ if is_as_usual => Seen::Holds,
             _ => Seen::Differs,
         }
-    }
-}
-
-/// Takes one byte a call, and `room` bytes at most.
-#[derive(Drop)]
-struct SlowWriter {
-    held: Vec<u8>,
-    room: usize,
-    full: Full,
-}
-
-impl Write for SlowWriter {
-    fn write(&mut self, buf: &[u8]) -> io::Result<usize> {
-        if self.room == 0 || buf.is_empty() {
-            return match self.full {
-                Full::Fails => Err(io::Error::from(ErrorKind::Other)),
-                Full::TakesNothing => Ok(0),
-            };
-        }
-        self.held.push(buf[0])?;
-        self.room -= 1;
-        Ok(1)
-    }
-
-    fn flush(&mut self) -> io::Result<()> {
-        Ok(())
     }
 }
 

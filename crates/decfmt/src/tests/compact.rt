@@ -1,6 +1,7 @@
 //! Lines in a compact mode, against what ICU4X and UTS 35 give for short English.
 
-use super::{Full, english, nines, runs_by, runs_slowly};
+use super::slow::Full;
+use super::{english, nines, runs_by, runs_slowly};
 use crate::mode::Mode;
 use crate::running::RunError;
 use icu_base::{Pattern, PluralElements, PluralRules, SinglePlaceholder};
