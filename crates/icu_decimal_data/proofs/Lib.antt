@@ -19,3 +19,4 @@ pub mod TableWriting
 pub mod TableOfMap
 pub mod TableCalls
 pub mod PackableTables
+pub mod DamageInside

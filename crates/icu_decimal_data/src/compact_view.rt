@@ -1,6 +1,6 @@
 //! Compact tables in bytes that are lent.
 
-ghost use Rattle.std.specs.Prelude.{◌≡◌, ◌<◌, List, None, IfOk, IsOk, IsOkAnd, MatchResult, Err, slice_index_or, ⊤};
+ghost use Rattle.std.specs.Prelude.{◌≡◌, ◌≤◌, ◌<◌, List, None, IfOk, IfErr, IsOk, IsOkAnd, MatchResult, Err, length, slice_index_or, ⊤};
 ghost use Rattle.std.specs.Option.{option_map};
 ghost use Rattle.icu_base.specs.Elements.{slots, selected};
 ghost use Rattle.icu_base.specs.Refs.{text_of_ref};
@@ -50,6 +50,7 @@ impl<'a, P: PatternBackend> CompactView<'a, P> {
     pub fn parse(bytes: &'a [u8]) -> Result<Self, Damaged>
         ensures found { IfOk result (λ v. IsPackable P.accepted (table_shown v) × (bytes.now ≡ table_bytes (table_shown v))) }
         ensures every { (t : List TableEntry) → IsPackable P.accepted t → bytes.now ≡ table_bytes t → IsOkAnd result (λ v. table_shown v ≡ t) }
+        ensures inside { IfErr result (λ e. e.byte ≤ length bytes.now) }
         ensures damaged { MatchResult result (λ _. IsOk (table_step P.accepted bytes.now)) (λ e. table_step P.accepted bytes.now ≡ Err e.byte) }
     {
         check::<P>(bytes)?;

@@ -1,6 +1,8 @@
 //! The one byte string of a compact table: what it is, that it is read again, and that the entries of a view make a table of
 //! just the view's bytes.
 
+ghost use Rattle.std.specs.Prelude.{◌<◌};
+
 use crate::table_bytes::{JAPANESE, ONE_ENTRY};
 use crate::tables::{Elements, LONG_JAPANESE, Map, Row, Table, made, pattern, table_of};
 use icu_base::{Pattern, PatternError, PluralElements, SinglePlaceholder};
