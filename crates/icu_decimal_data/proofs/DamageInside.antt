@@ -1,5 +1,5 @@
 -- A damaged byte is not above the length.
-use Rattle.std.proofs.Common.{◌≡◌, ℕ, zero, suc, ◌+◌, ◌-◌, ◌*◌, ◌<◌, ◌≤◌, Bool, true, false, not, min, List, length, take, drop, slice_index, slice_range, Option, Some, None, Result, Ok, Err, cond, eqb, ltb, refl, sym, ◌∙◌, arith}
+use Rattle.std.proofs.Common.{◌≡◌, ℕ, zero, suc, ◌+◌, ◌-◌, ◌*◌, ◌≤◌, Bool, true, false, not, min, List, length, take, drop, slice_index, Option, Some, None, Result, Ok, Err, cond, eqb, ltb, refl, arith}
 use Rattle.std.specs.List.{list_all}
 use Rattle.std.proofs.lemmas.Bool.{eqb-true, ltb-false}
 use Rattle.std.proofs.lemmas.List.{length-drop}

@@ -1,14 +1,11 @@
 -- Every table that can be packed is made of a map: of its own entries.
-use Rattle.std.proofs.Common.{◌≡◌, ℕ, ◌+◌, ◌<◌, ◌≤◌, ◌^◌, Bool, true, false, not, ◌||◌, refl, arith, sym, ap, ◌∙◌, List, [], ◌∷◌, length, Option, Some, None, nat_lt, cond}
-use Rattle.std.specs.Prelude.{if◌then◌else◌}
-use Rattle.std.specs.Option.{option_or}
+use Rattle.std.proofs.Common.{◌≡◌, ◌+◌, ◌≤◌, Bool, false, refl, arith, ap, ◌∙◌, List, [], ◌∷◌, Option, Some, None, nat_lt}
 use Rattle.std.proofs.lemmas.Bool.{le-ltb}
 use Rattle.icu_base.specs.Patterns.{PatternText}
 use Rattle.icu_decimal_data.specs.CompactTable.{TableEntry}
 use Rattle.icu_decimal_data.specs.Kept.{kept, changes, repeats}
-use Rattle.icu_decimal_data.specs.CompactFaults.{falls_after, has_falling_exponents, entry_fault, first_entry_fault, fault_of, literals_size}
-use Rattle.icu_decimal_data.specs.PackedTable.{IsPackable, AreEntries, PackableIsMade}
-use Rattle.icu_decimal_data.specs.declared.error.CompactError.TheVariants.{TooLarge}
+use Rattle.icu_decimal_data.specs.CompactFaults.{falls_after, has_falling_exponents, first_entry_fault, literals_size}
+use Rattle.icu_decimal_data.specs.PackedTable.{AreEntries, PackableIsMade}
 use Rattle.icu_decimal_data.proofs.TableOfMap.{all_size}
 
 module _ (accepts : PatternText → Bool) where

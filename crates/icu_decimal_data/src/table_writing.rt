@@ -12,7 +12,9 @@ ghost use Rattle.icu_decimal_data.specs.PackedTable.{ArePatterns, AreWritable, l
 ghost use Rattle.icu_decimal_data.specs.TableBytes.{number_bytes, slot_bytes, slots_bytes, records_bytes, table_bytes};
 
 use crate::kept::{Elements, stays};
-use crate::table_bytes::{ABSENT, HEAD_LEN, RECORD_LEN, SLOT_LEN, WITH_PLACE, WITHOUT_PLACE, are_below_256};
+use crate::table_bytes::{
+    ABSENT, HEAD_LEN, RECORD_LEN, SLOT_LEN, WITH_PLACE, WITHOUT_PLACE, are_below_256,
+};
 use icu_base::{Pattern, PatternBackend};
 use std::alloc::{AllocError, Global};
 use std::collections::BTreeMap;
