@@ -26,6 +26,7 @@ PROGRAM = "crates/decfmt/out/decfmt"
 PAGES = ["README.md", "CONTRIBUTING.md", "docs/*.md", "tables/README.md", "crates/*/README.md"]
 LOCALES_HEADER = "| locale | plain | short | long |"
 LOCALES_NUMBER = "1234567.8"
+LOCALES_TABLES = "tables/six_locales.json"
 
 counts = {True: 0, False: 0}
 
@@ -238,12 +239,12 @@ def judge_commands(page):
 
 
 def judge_locales(page):
-    """Each row of the table of locales is what the program writes of the number in the sample tables."""
+    """Each row of the table of locales is what the program writes of the number by the tables of the six locales."""
     rows = page.split(LOCALES_HEADER + "\n|---|---|---|---|\n")[1].split("\n\n")[0].splitlines()
     for row in rows:
         locale, *wanted = [cell.strip().strip("`") for cell in row.strip("|").split("|")]
         given = [
-            output_of(f"echo {LOCALES_NUMBER} | {PROGRAM} tables/sample.json {locale} - {style}").strip("\n")
+            output_of(f"echo {LOCALES_NUMBER} | {PROGRAM} {LOCALES_TABLES} {locale} - {style}").strip("\n")
             for style in ("plain", "short", "long")
         ]
         judge(given == wanted, f"README.md: {locale}:", str(given))
