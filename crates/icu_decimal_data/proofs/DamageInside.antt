@@ -62,6 +62,7 @@ module _ (accepts : PatternText → Bool) (pool : List ℕ) (pool_at top : ℕ) 
       (record_inside before at sum (take 58 bytes) d (omega arith))
       (λ x _ q. records_inside n (Some (take 58 bytes)) (at + 58) x (drop 58 bytes) d (omega arith) q)
 
+-- the damaged byte of a table is at most the length of its bytes
 pub damage_inside : (accepts : PatternText → Bool) (bytes : List ℕ) (d : ℕ) → IsBytes bytes → table_step accepts bytes ≡ Err d → d ≤ length bytes
 unfolding table_step
 damage_inside accepts bytes d fits e =

@@ -6,6 +6,7 @@ use Rattle.icu_decimal_data.specs.CompactTable.{PatternElements, TableEntry}
 use Rattle.icu_decimal_data.specs.Kept.{kept}
 use Rattle.icu_decimal_data.specs.CompactFaults.{entry_fault, first_entry_fault, fault_of, has_falling_exponents}
 
+-- if the first of two has nothing, and else the second, neither has
 pub none_or : {T : Type 0} (a b : Option T) → option_or a b ≡ None → (a ≡ None) × (b ≡ None)
 none_or None b h = (refl, h)
 none_or (Some x) b h = absurd (cc)

@@ -40,6 +40,7 @@ kept e [] j h = absurd (omega arith)
 kept e (f ∷ fs) zero h = refl
 kept e (f ∷ fs) (suc j) h = kept e fs j (omega arith)
 
+-- the last of a front that is one longer
 pub front : (e : TableEntry) (es : List TableEntry) (k : ℕ) (o : Option TableEntry) → k ≤ length es → o ≡ before es k → option_or o (Some e) ≡ slice_get (e ∷ es) k
 front e es zero o h is = rw is
 front e es (suc j) o h is = rw is (kept e es j h)
@@ -68,6 +69,7 @@ by_index (e ∷ es) m h =
 pub entry_none_at : (table : List TableEntry) (m n : ℕ) → IsCompactTable table → n ≡ reached table m → n ≡ 0 → None ≡ entry_for table m
 entry_none_at table m n is e none = sym ((by_index table m is.types_rise).0 ∙ ap (before table) (sym e ∙ none))
 
+-- some are reached: the last of them is the entry
 pub entry_some_at : (table : List TableEntry) (m n : ℕ) → IsCompactTable table → n ≡ reached table m → 0 < n → slice_get table (n - 1) ≡ entry_for table m
 entry_some_at table m n is e some = at n some ∙ ap (before table) e ∙ sym ((by_index table m is.types_rise).0)
   where
@@ -75,9 +77,11 @@ entry_some_at table m n is e some = at n some ∙ ap (before table) e ∙ sym ((
     at zero some = absurd (omega arith)
     at (suc k) some = ap (slice_get table) (omega arith)
 
+-- none is reached: the first one is next
 pub next_none_at : (table : List TableEntry) (m n : ℕ) → IsCompactTable table → n ≡ reached table m → n ≡ 0 → next_entry table m ≡ slice_get table (index_after None)
 next_none_at table m n is e none = (by_index table m is.types_rise).1 ∙ ap (slice_get table) (sym e ∙ none)
 
+-- some are reached: the one behind them is next
 pub next_some_at : (table : List TableEntry) (m n : ℕ) → IsCompactTable table → n ≡ reached table m → 0 < n → next_entry table m ≡ slice_get table (index_after (Some (n - 1)))
 next_some_at table m n is e some = (by_index table m is.types_rise).1 ∙ ap (slice_get table) (sym e) ∙ ap (slice_get table) back
   where

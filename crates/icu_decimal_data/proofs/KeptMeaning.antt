@@ -271,6 +271,7 @@ module _ (exact : ExactlyIsTheNumber) (unique : MagnitudeIsUnique) where
           alike_along m _ _ None None (none_above m (e ∷ changes e es) (over, above_changes m e es past)) (none_above m (e ∷ es) (over, past)) (alike_itself m None))
           (on_or_above m e)
 
+  -- what is kept means what the whole map means
   pub kept_means_full : KeptMeansFull
   kept_means_full plain es up none faithful m =
       let c2 = small (kept plain es) (no_entry_fault plain es none).1 in

@@ -10,6 +10,7 @@ use Rattle.icu_decimal_data.specs.Kept.{kept, changes, repeats, is_zero_magnitud
 use Rattle.icu_decimal_data.specs.KeptSince.{kept_since}
 use Rattle.icu_decimal_data.proofs.SameEntries.{the_same}
 
+-- one more slot is counted, as far as the count fits
 pub size_step : (slots : List (Option PatternText)) (k size most : ℕ) → k < length slots
     → min (min (size + slot_size (slice_index_or slots k None)) most + sum_by slot_size (drop (k + 1) slots)) most ≡ min (size + sum_by slot_size (drop k slots)) most
 size_step slots k size most h =
@@ -32,6 +33,7 @@ after plain last before (e ∷ es) h =
     rw (r, s) (ap (λ (fs : List TableEntry). e ∷ fs) (after plain e e es refl)))
     (cases_Bool (repeats before e))
 
+-- with nothing kept before, what a walk keeps is what is kept
 pub kept_since_start : (plain : Option PatternElements) (es : List TableEntry) → kept_since plain None es ≡ kept plain es
 kept_since_start plain [] = refl
 kept_since_start plain (e ∷ es) =

@@ -23,14 +23,17 @@ abbrev pub Pairs : (TableEntry → TableEntry → Type 0) → List TableEntry �
 Pairs R [] = Unit {0}
 Pairs R (e ∷ es) = Each (R e) es × Pairs R es
 
+-- what holds of each by recursion holds of all
 pub all_each : (P : TableEntry → Type 0) (es : List TableEntry) → Each P es → All P es
 all_each P [] h = All-nil P
 all_each P (e ∷ es) h = All-cons P e es h.0 (all_each P es h.1)
 
+-- the same of pairs
 pub all_pairs : (R : TableEntry → TableEntry → Type 0) (es : List TableEntry) → Pairs R es → AllPairs R es
 all_pairs R [] h = λ i j d l g. absurd (omega arith)
 all_pairs R (e ∷ es) h = AllPairs-cons R e es (all_each (R e) es h.0) (all_pairs R es h.1)
 
+-- what follows from what holds of each holds of each
 pub each_weaker : (P Q : TableEntry → Type 0) → ((e : TableEntry) → P e → Q e) → (es : List TableEntry) → Each P es → Each Q es
 each_weaker P Q w [] h = tt
 each_weaker P Q w (e ∷ es) h = (w e h.0, each_weaker P Q w es h.1)
@@ -67,6 +70,7 @@ types_above k (e ∷ es) h = (less k e.0 h.0, types_above k es h.1)
     less : (x y : ℕ) → nat_cmp x y ≡ Less → x < y
     less x y h = rw h at (ranked x y (nat_cmp x y) refl)
 
+-- the types of a sorted map rise
 pub types_rise : (es : List (ℕ × (ℕ × PatternElements))) → IsStrictlySortedBy nat_cmp (keys_of es) → Pairs (λ e f. e.log10_type < f.log10_type) (given es)
 types_rise [] h = tt
 types_rise (e ∷ es) h = (types_above e.0 es (sorted_head nat_cmp e.0 (keys_of es) h), types_rise es (sorted_tail nat_cmp e.0 (keys_of es) h))
@@ -75,6 +79,7 @@ neither : (a b : Bool) → (a || b) ≡ false → (a ≡ false) × (b ≡ false)
 neither true b h = absurd (cc)
 neither false b h = (refl, h)
 
+-- without a fall exponents rise from a lower bound on
 pub exponents_rise : (low : ℕ) (es : List TableEntry) → falls_after low es ≡ false → Each (λ e. low ≤ e.exponent) es × Pairs (λ e f. e.exponent ≤ f.exponent) es
 exponents_rise low [] h = (tt, tt)
 exponents_rise low (e ∷ es) h =
@@ -83,6 +88,7 @@ exponents_rise low (e ∷ es) h =
     let on : low ≤ e.exponent = ltb-false e.exponent low parts.0 in
     ((on, each_weaker (λ f. e.exponent ≤ f.exponent) (λ f. low ≤ f.exponent) (λ f g. omega arith) es rest.0), rest)
 
+-- without a fault at an entry each exponent is near its type
 pub sound : (es : List TableEntry) → first_entry_fault es ≡ None → Each (λ e. (e.exponent ≤ e.log10_type) × (e.log10_type ≤ e.exponent + 15)) es
 sound [] h = tt
 sound (e ∷ es) h =

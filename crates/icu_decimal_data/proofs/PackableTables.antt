@@ -37,6 +37,7 @@ module _ (accepts : PatternText → Bool) where
       let rest = none_faulty (Some e) es h.2 in
       rw (below, near) rest
 
+-- each table that can be packed is what is kept of its own entries
 pub packable_is_made : PackableIsMade
 packable_is_made accepts t h =
     let same : kept None t ≡ t = all_kept accepts t h.entries in

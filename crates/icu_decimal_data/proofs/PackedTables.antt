@@ -42,6 +42,7 @@ pub record TakenTable (accepts : PatternText → Bool) (bytes : List ℕ) : Type
   pub whole : length bytes ≡ whole_len bytes
   pub records : TakenRecords accepts (pool_in bytes) (pool_start bytes) None (count_in bytes) 0 (drop 4 bytes) (number bytes 2)
 
+-- bytes that are passed have their lengths, and records of their pool
 pub table_read : (accepts : PatternText → Bool) (bytes : List ℕ) (last : ℕ) → IsBytes bytes → table_step accepts bytes ≡ Ok last → TakenTable accepts bytes
 unfolding table_step
 table_read accepts bytes last fits e =
@@ -135,6 +136,7 @@ module _ (accepts : PatternText → Bool) (backend : IsBackend accepts) (t : Lis
   records_are : (pool_at : ℕ) → (records_step accepts (literals t) pool_at (length t) None 4 0 (records_bytes 0 t ++ literals t) ≡ Ok (0 + length (literals t))) × (entries_in (literals t) (length t) (records_bytes 0 t ++ literals t) ≡ t)
   records_are pool_at = records_again accepts (literals t) pool_at t None None 4 0 (literals t) [] backend tt h.entries h.short (omega arith) (sym (append-nil (literals t)))
 
+  -- what is written of a table that can be packed is passed, and is that table
   pub table_again : (table_step accepts (table_bytes t) ≡ Ok (0 + length (literals t))) × (table_in (table_bytes t) ≡ t)
   unfolding table_in
   table_again =
@@ -167,16 +169,19 @@ backend_is accepts fits opens = record { inside = λ p h. go p.place p.literal (
     go None literal h = tt
     go (Some k) literal h = h.0
 
+-- the number of a result that has one
 pub ok_value : (r : Result ℕ ℕ) → IsOk r → (n : ℕ) × (r ≡ Ok n)
 ok_value (Ok n) h = (n, refl)
 ok_value (Err e) h = absurd cc
 
+-- bytes that are passed are written of the table that stands in them, which can be packed
 pub is_found : (accepts : PatternText → Bool) (bytes : List ℕ) → IsBytes bytes → IsOk (table_step accepts bytes) → IsPackable accepts (table_in bytes) × (bytes ≡ table_bytes (table_in bytes))
 is_found accepts bytes fits h =
     let v = ok_value (table_step accepts bytes) h in
     let t = table_taken accepts bytes v.0 fits v.1 in
     (t.0, sym t.1)
 
+-- a table stands in what is written of it
 pub is_only : (accepts : PatternText → Bool) (bytes : List ℕ) (t : List TableEntry) → IsBackend accepts → IsPackable accepts t → bytes ≡ table_bytes t → table_in bytes ≡ t
 is_only accepts bytes t backend h e = ap table_in e ∙ (table_again accepts backend t h).1
 

@@ -111,6 +111,7 @@ module _ (accepts : PatternText → Bool) (pool : List ℕ) (pool_at : ℕ) wher
         inside = omega (arith, t.inside, same);
       }
 
+  -- a record has 58 bytes
   pub length-record : (sum : ℕ) (e : TableEntry) → length (record_bytes sum e) ≡ 58
   length-record sum e = omega (arith, length-slots sum (slots e.elements))
 
@@ -163,6 +164,7 @@ module _ (accepts : PatternText → Bool) (pool : List ℕ) (pool_at : ℕ) wher
       let more : 58 + 58 * i ≡ 58 * suc i = omega arith in
       subst (λ (x : List ℕ). IsRecord pool (take 58 x) (entry_in pool (take 58 x))) (drop-drop (58 * i) 58 bytes ∙ ap (λ (k : ℕ). drop k bytes) more) (rest i (omega arith))
 
+  -- records that are passed are written of their entries
   pub records_taken : (n : ℕ) (before : Option (List ℕ)) (b : Option TableEntry) (at sum : ℕ) (bytes : List ℕ) (next : ℕ) → 58 * n ≤ length bytes → IsBytes bytes → IsBefore pool before b → sum ≤ length pool → records_step accepts pool pool_at n before at sum bytes ≡ Ok next → TakenRecords b n sum bytes next
   unfolding records_step
   records_taken zero before b at sum bytes next long fits is_before le e =
@@ -191,6 +193,7 @@ module _ (accepts : PatternText → Bool) (pool : List ℕ) (pool_at : ℕ) wher
         shown = shown_more n bytes one.is_record rest.shown;
       }
 
+  -- what is written of entries is passed, and those entries stand in it
   pub records_again : (es : List TableEntry) (before : Option (List ℕ)) (b : Option TableEntry) (at sum : ℕ) (rest after : List ℕ) → IsBackend accepts → IsBefore pool before b → AreEntries accepts b es → length pool < 2 ^ 16 → sum ≤ length pool → drop sum pool ≡ literals es ++ after
       → (records_step accepts pool pool_at (length es) before at sum (records_bytes sum es ++ rest) ≡ Ok (sum + length (literals es))) × (entries_in pool (length es) (records_bytes sum es ++ rest) ≡ es)
   unfolding records_step

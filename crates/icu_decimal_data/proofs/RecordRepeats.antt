@@ -7,6 +7,7 @@ use Rattle.icu_decimal_data.specs.TableReading.{same_slots, slots_without_explic
 use Rattle.icu_decimal_data.specs.TableReading.{pattern_in, slot_in, slots_in, slot_at, is_repeated, same_at, same_from}
 use Rattle.icu_decimal_data.proofs.SlotsLaws.{slots_by_place}
 
+-- whether a pattern is good, by its place and its literal
 pub good_is : (accepts : PatternText → Bool) (p : PatternText) (place : Option ℕ) (literal : List ℕ) (b : Bool) → place ≡ p.place → literal ≡ p.literal → b ≡ is_pattern accepts (record { place = place; literal = literal }) → b ≡ is_pattern accepts p
 good_is accepts p place literal b e f h = h ∙ ap (λ (o : Option ℕ). is_pattern accepts (record { place = o; literal = literal })) e ∙ ap (λ (l : List ℕ). is_pattern accepts (record { place = p.place; literal = l })) f
 
@@ -14,6 +15,7 @@ absent_is : (b : Bool) (p : PatternText) → option_eq same_pattern None (cond b
 absent_is true p = refl
 absent_is false p = refl
 
+-- a record repeats another by its first, second and later slots
 pub repeated_is : (pool before bytes : List ℕ) → is_repeated pool (Some before) bytes ≡ (same_at pool before bytes 0 && (eqb (slice_index (slot_at (drop 2 bytes) 1) 0) 0 && same_from pool before bytes 2 6))
 repeated_is pool before bytes =
     let a = slots_by_place pool (drop 2 before) in
@@ -24,12 +26,14 @@ repeated_is pool before bytes =
     ∙ ap (λ (x : Bool). same_at pool before bytes 0 && (x && same_from pool before bytes 2 6)) absent
 
 module _ (pool before bytes : List ℕ) (j : ℕ) (r : Bool) (h : same_from pool before bytes j (8 - j) ≡ r) where
+  -- the same slot, and then the later ones
   pub same_goes_on : j < 8 → same_at pool before bytes j ≡ true → same_from pool before bytes (j + 1) (8 - (j + 1)) ≡ r
   same_goes_on lt t =
       let e : 8 - j ≡ suc (8 - (j + 1)) = omega arith in
       let f : same_from pool before bytes j (suc (8 - (j + 1))) ≡ same_from pool before bytes (j + 1) (8 - (j + 1)) = ap (λ (b : Bool). b && same_from pool before bytes (j + 1) (8 - (j + 1))) t in
       sym f ∙ ap (same_from pool before bytes j) (sym e) ∙ h
 
+  -- another slot ends it
   pub same_ends : j < 8 → same_at pool before bytes j ≡ false → false ≡ r
   same_ends lt t =
       let e : 8 - j ≡ suc (8 - (j + 1)) = omega arith in
@@ -41,5 +45,6 @@ module _ (pool before bytes : List ℕ) (j : ℕ) (r : Bool) (h : same_from pool
 
 pub ruleset repeats = (same_goes_on, same_ends, same_done)
 
+-- whether a slot is the same in two records, by their bytes
 pub same_at_is : (pool before bytes : List ℕ) (j : ℕ) (a b : List ℕ) (x : Bool) → a ≡ slot_at (drop 2 before) j → b ≡ slot_at (drop 2 bytes) j → x ≡ option_eq same_pattern (slot_in pool a) (slot_in pool b) → x ≡ same_at pool before bytes j
 same_at_is pool before bytes j a b x e f h = h ∙ ap (λ (s : List ℕ). option_eq same_pattern (slot_in pool s) (slot_in pool b)) e ∙ ap (λ (s : List ℕ). option_eq same_pattern (slot_in pool (slot_at (drop 2 before) j)) (slot_in pool s)) f

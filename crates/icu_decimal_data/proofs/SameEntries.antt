@@ -11,6 +11,7 @@ use Rattle.icu_decimal_data.specs.CompactTable.{PatternElements, TableEntry}
 use Rattle.icu_decimal_data.specs.Kept.{same_patterns}
 use Rattle.icu_decimal_data.specs.SameTable.{same_entry, same_table}
 
+-- both of two tests are true where their conjunction is
 pub both : (a b : Bool) → (a && b) ≡ true → (a ≡ true) × (b ≡ true)
 both true b h = (refl, h)
 both false b h = absurd (cc)
@@ -72,6 +73,7 @@ same_pattern-Decides p q = (
 pub same_patterns-Decides : (a b : PatternElements) → Decides (same_patterns a b) (a ≡ b)
 same_patterns-Decides = same_elements-Decides same_pattern same_pattern-Decides
 
+-- patterns that are equal are the same
 pub the_same : (a b : PatternElements) → same_patterns a b ≡ true → a ≡ b
 the_same a b = (same_patterns-Decides a b).0
 
@@ -101,5 +103,6 @@ same_entry-Decides e f = (
       (both_true _ _ ((Decides-eqb e.exponent f.exponent).1 (ap (λ (g : TableEntry). g.exponent) h)) ((same_patterns-Decides e.elements f.elements).1 (ap (λ (g : TableEntry). g.elements) h))),
 )
 
+-- tables are equal exactly where they are the same
 pub same_table-Decides : (a b : List TableEntry) → Decides (same_table a b) (a ≡ b)
 same_table-Decides = pointwise-Decides same_entry same_entry-Decides

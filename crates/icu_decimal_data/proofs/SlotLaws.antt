@@ -160,6 +160,7 @@ module _ (accepts : PatternText → Bool) (pool : List ℕ) (pool_at : ℕ) (las
           let l = no_last last in
           kind_again p 2 k (ap kind_of e) (ap place_number e) refl (rw (l, open_is) refl) (sym e) (rw a refl) good small fits range
 
+  -- what is written of a slot is passed, and that slot stands in it
   pub slot_again : (s : Option PatternText) → IsBackend accepts → (last ≡ true → IsSome s) → ArePatterns accepts (s ∷ []) → length pool < 2 ^ 16 → sum + length (literal_of s) ≤ length pool
       → slice_range pool sum (sum + length (literal_of s)) ≡ literal_of s
       → (slot_step accepts pool pool_at last at sum (slot_bytes sum s) ≡ Ok (sum + length (literal_of s))) × (slot_in pool (slot_bytes sum s) ≡ s)

@@ -44,6 +44,7 @@ nothing_at : (pool : List ℕ) (sum : ℕ) → slice_range pool sum sum ≡ []
 nothing_at pool sum = let e : sum - sum ≡ 0 = omega arith in rw e refl
 
 module _ (accepts : PatternText → Bool) (pool : List ℕ) (pool_at : ℕ) where
+  -- slots that are passed are written of their patterns
   pub slots_taken : (n at sum : ℕ) (bytes : List ℕ) (next : ℕ) → 7 * n ≤ length bytes → IsBytes bytes → sum ≤ length pool → slots_step accepts pool pool_at n at sum bytes ≡ Ok next → TakenSlots accepts pool n sum bytes next
   unfolding slots_step
   slots_taken zero at sum bytes next long fits le e =
@@ -77,6 +78,7 @@ module _ (accepts : PatternText → Bool) (pool : List ℕ) (pool_at : ℕ) wher
   present_first s [] l = (λ e. l, tt)
   present_first s (t ∷ ss) l = (λ e. absurd (let f = eqb-true (length (t ∷ ss)) 0 e in omega arith), l)
 
+  -- what is written of slots is passed, and those slots stand in it
   pub slots_again : (ss : List (Option PatternText)) (at sum : ℕ) (rest after : List ℕ) → IsBackend accepts → ArePatterns accepts ss → LastIsPresent ss → length pool < 2 ^ 16 → sum ≤ length pool → drop sum pool ≡ slot_literals ss ++ after
       → (slots_step accepts pool pool_at (length ss) at sum (slots_bytes sum ss ++ rest) ≡ Ok (sum + length (slot_literals ss))) × (slots_in pool (length ss) (slots_bytes sum ss ++ rest) ≡ ss)
   unfolding slots_step
@@ -99,6 +101,7 @@ module _ (accepts : PatternText → Bool) (pool : List ℕ) (pool_at : ℕ) wher
       let end : next + length (slot_literals ss) ≡ sum + length (slot_literals (s ∷ ss)) = omega (arith, length-append (literal_of s) (slot_literals ss)) in
       (rw (front, back, one.0) (tail.0 ∙ ap (λ (k : ℕ). Ok k) end), rw (front, back, one.1, tail.1) refl)
 
+-- each slot has seven bytes
 pub length-slots : (sum : ℕ) (ss : List (Option PatternText)) → length (slots_bytes sum ss) ≡ 7 * length ss
 length-slots sum [] = refl
 length-slots sum (s ∷ ss) = omega (arith, length-append (slot_bytes sum s) (slots_bytes (sum + length (literal_of s)) ss), length-slots (sum + length (literal_of s)) ss, seven sum s)
@@ -113,9 +116,11 @@ some_then : (b : Bool) (p : PatternText) → IsSome (cond b None (Some p)) → c
 some_then true p h = absurd cc
 some_then false p h = refl
 
+-- the eight slots by where they stand
 pub slots_by_place : (pool bytes : List ℕ) → slots_in pool 8 bytes ≡ slot_in pool (slot_at bytes 0) ∷ slot_in pool (slot_at bytes 1) ∷ slot_in pool (slot_at bytes 2) ∷ slot_in pool (slot_at bytes 3) ∷ slot_in pool (slot_at bytes 4) ∷ slot_in pool (slot_at bytes 5) ∷ slot_in pool (slot_at bytes 6) ∷ slot_in pool (slot_at bytes 7) ∷ []
 slots_by_place pool bytes = rw (drop-drop 7 7 bytes, drop-drop 7 14 bytes, drop-drop 7 21 bytes, drop-drop 7 28 bytes, drop-drop 7 35 bytes, drop-drop 7 42 bytes) refl
 
+-- the slots of elements that are read, where the last is present
 pub slots_are : (pool bytes : List ℕ) → LastIsPresent (slots_in pool 8 bytes) → slots (elements_in pool bytes) ≡ slots_in pool 8 bytes
 slots_are pool bytes last =
     let by_place = slots_by_place pool bytes in
@@ -135,6 +140,7 @@ same_elements e f h =
     let e7 : e.other ≡ f.other = cc in
     λ i. record { explicit_zero = e0 i; explicit_one = e1 i; zero = e2 i; one = e3 i; two = e4 i; few = e5 i; many = e6 i; other = e7 i }
 
+-- elements are read from slots that are theirs
 pub elements_are : (pool bytes : List ℕ) (e : PatternElements) → slots_in pool 8 bytes ≡ slots e → elements_in pool bytes ≡ e
 elements_are pool bytes e h =
     let last : LastIsPresent (slots_in pool 8 bytes) = subst LastIsPresent (sym h) refl in

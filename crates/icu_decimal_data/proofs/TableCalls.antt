@@ -46,6 +46,7 @@ module _ (accepts : PatternText → Bool) where
   all_near b [] h = (tt, tt)
   all_near b (x ∷ es) h = let rest = all_near (Some x) es h.2 in ((h.0.below, rest.0), (h.0.few_zeros, rest.1))
 
+  -- the table in a table's bytes is a compact table
   pub is_compact : (bytes : List ℕ) → IsTableBytes accepts bytes → IsCompactTable (table_in bytes)
   is_compact bytes h =
       let entries = (is_found accepts bytes h.are_bytes h.read).0.entries in
@@ -94,6 +95,7 @@ count_reached (e ∷ es) m (suc k) le on off =
     let n : reached (e ∷ es) m ≡ suc (reached es m) = sum_by-cons (λ x. cond (nat_le (type_place x) m) 1 0) e es ∙ rw here (omega arith) in
     ap suc rest ∙ sym n
 
+-- the search counts just the entries that are reached
 pub reached_is : (bytes : List ℕ) (m k : ℕ) → IsReached bytes m k → k ≡ reached (table_in bytes) m
 reached_is bytes m k r =
     let len = length-table bytes in
@@ -101,6 +103,7 @@ reached_is bytes m k r =
 
 -- ---- by index
 
+-- an index of the table is one of its records
 pub index_inside : (bytes : List ℕ) (i : ℕ) → i < length (table_in bytes) → i < count_in bytes
 index_inside bytes i h = omega (arith, length-table bytes)
 
@@ -110,6 +113,7 @@ type_at_index bytes i h = type_is bytes i ∙ sym (ap log10_type_of (entry_at by
 pub exponent_at_index : (bytes : List ℕ) (i : ℕ) → i < count_in bytes → slice_index bytes (5 + 58 * i) ≡ exponent_of (slice_get (table_in bytes) i)
 exponent_at_index bytes i h = exponent_is bytes i ∙ sym (ap exponent_of (entry_at bytes i h))
 
+-- what holds of the entry in the bytes holds of the table's entry
 pub of_entry : (bytes : List ℕ) (i : ℕ) (Q : TableEntry → Type 0) → i < count_in bytes → Q (entry_of bytes i) → IfSome (slice_get (table_in bytes) i) Q
 of_entry bytes i Q h q = subst (λ (o : Option TableEntry). IfSome o Q) (sym (entry_at bytes i h)) q
 
@@ -152,6 +156,7 @@ sole_is_selected e p h o category = go (list_all is_none (e.explicit_zero ∷ e.
         by_category Many a b c d f = f
         by_category Other a b c d f = refl
 
+-- a sole pattern is what every number picks
 pub sole_picked : {R : Type 0} (r : Option R) (text : R → PatternText) (e : PatternElements) → option_map text r ≡ sole_value e → IfSome r (λ p. (o : Operands) (category : PluralCategory) → selected e o category ≡ text p)
 sole_picked None text e h = tt
 sole_picked (Some x) text e h = λ o category. sole_is_selected e (text x) (sym h) o category

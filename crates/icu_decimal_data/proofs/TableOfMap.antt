@@ -68,6 +68,7 @@ slots_size (s ∷ ss) = omega (arith, length-append (literal_of s) (slot_literal
     one None = refl
     one (Some p) = refl
 
+-- the literals are as long as they are counted
 pub all_size : (es : List TableEntry) → length (literals es) ≡ literals_size es
 all_size [] = refl
 all_size (e ∷ es) =
@@ -104,6 +105,7 @@ within n h =
     (cases_Bool (nat_lt 65535 n))
 
 module _ (plain : Option PatternElements) (map : List (ℕ × (ℕ × PatternElements))) where
+  -- without a fault the kept literals are short
   pub short_kept : fault_of plain (given map) ≡ None → length (literals (kept plain (given map))) < 2 ^ 16
   short_kept none =
       let faults = no_entry_fault plain (given map) none in
@@ -115,11 +117,13 @@ module _ (plain : Option PatternElements) (map : List (ℕ × (ℕ × PatternEle
     rising : Pairs (λ e f. e.log10_type < f.log10_type) (kept plain (given map))
     rising = pairs_kept (λ e f. e.log10_type < f.log10_type) plain (given map) (types_rise map sorted)
 
+    -- at most 256 entries are kept
     pub few_kept : length (kept plain (given map)) ≤ 256
     few_kept =
         let h = bounded 0 (kept plain (given map)) (omega arith) (each_any (λ e. 0 ≤ e.log10_type) (λ e. omega arith) (kept plain (given map))) (types_are_bytes accepts (kept plain (given map)) writable) rising in
         omega arith
 
+    -- what is kept without a fault can be packed
     pub packable : fault_of plain (given map) ≡ None → IsPackable accepts (kept plain (given map))
     packable none =
         let faults = no_entry_fault plain (given map) none in

@@ -23,10 +23,12 @@ length-entries : (pool : List ℕ) (n : ℕ) (bytes : List ℕ) → length (entr
 length-entries pool zero bytes = refl
 length-entries pool (suc n) bytes = omega (arith, length-entries pool n (drop 58 bytes))
 
+-- the entry of an index, by its record
 pub entry_at : (bytes : List ℕ) (i : ℕ) → i < count_in bytes → slice_get (table_in bytes) i ≡ Some (entry_of bytes i)
 unfolding table_in
 entry_at bytes i h = entries_at (pool_in bytes) (count_in bytes) (drop 4 bytes) i h
 
+-- a table has as many entries as its bytes count
 pub length-table : (bytes : List ℕ) → length (table_in bytes) ≡ count_in bytes
 unfolding table_in
 length-table bytes = length-entries (pool_in bytes) (count_in bytes) (drop 4 bytes)
@@ -34,9 +36,11 @@ length-table bytes = length-entries (pool_in bytes) (count_in bytes) (drop 4 byt
 byte_of_record : (bytes : List ℕ) (i k : ℕ) → k < 58 → get_or (take 58 (drop (58 * i) (drop 4 bytes))) k 0 ≡ slice_index bytes (4 + (58 * i + k))
 byte_of_record bytes i k h = get_or-take 58 (drop (58 * i) (drop 4 bytes)) k 0 h ∙ rw (get_or-drop, get_or-drop) refl
 
+-- the byte of a type
 pub type_is : (bytes : List ℕ) (i : ℕ) → type_in bytes i ≡ (entry_of bytes i).log10_type
 type_is bytes i = sym (byte_of_record bytes i 0 (omega arith) ∙ ap (λ (k : ℕ). slice_index bytes k) (omega arith))
 
+-- the byte of an exponent
 pub exponent_is : (bytes : List ℕ) (i : ℕ) → slice_index bytes (5 + 58 * i) ≡ (entry_of bytes i).exponent
 exponent_is bytes i = sym (byte_of_record bytes i 1 (omega arith) ∙ ap (λ (k : ℕ). slice_index bytes k) (omega arith))
 
@@ -57,6 +61,7 @@ module _ (accepts : PatternText → Bool) where
   rising b (x ∷ es) h zero (suc j) e f lt p q = let same : x ≡ e = cc in rw (← same) (above_all x es h.2 j f q)
   rising b (x ∷ es) h (suc i) (suc j) e f lt p q = rising (Some x) es h.2 i j e f (omega arith) p q
 
+  -- the records of a table are there, and their types rise
   pub searchable : (bytes : List ℕ) → IsTableBytes accepts bytes → IsSearchable bytes
   searchable bytes h =
       let v = ok_value (table_step accepts bytes) h.read in
@@ -113,6 +118,7 @@ in_list [] i e p = absurd (cc)
 in_list (x ∷ t) zero e p = omega arith
 in_list (x ∷ t) (suc i) e p = let r = in_list t i e p in omega arith
 
+-- the index of an entry is below the count
 pub entry_index_in : (bytes : List ℕ) (i : ℕ) (e : TableEntry) → slice_get (table_in bytes) i ≡ Some e → i < count_in bytes
 entry_index_in bytes i e p = omega (arith, in_list (table_in bytes) i e p, length-table bytes)
 

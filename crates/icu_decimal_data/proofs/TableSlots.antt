@@ -108,12 +108,14 @@ some_is true p = refl
 some_is false p = refl
 
 module _ (accepts : PatternText → Bool) (bytes : List ℕ) (i j : ℕ) (h : IsTableBytes accepts bytes) (inside : i < count_in bytes) (lt : j < 8) (found : List ℕ) (e : found ≡ slot_of bytes i j) where
+  -- a slot is present exactly where its kind isn't 0
   pub present_is : not (eqb (slice_index found 0) 0) ≡ is_some (slice_index_or (slots (entry_of bytes i).elements) j None)
   present_is =
       ap (λ (r : List ℕ). not (eqb (slice_index r 0) 0)) e
       ∙ some_is (eqb (slice_index (slot_of bytes i j) 0) 0) (pattern_in (pool_in bytes) (slot_of bytes i j))
       ∙ sym (ap is_some (slot_is accepts bytes i j h inside lt))
 
+  -- a kind of 0 is a slot without a pattern
   pub absent_is : slice_index found 0 ≡ 0 → None ≡ slice_index_or (slots (entry_of bytes i).elements) j None
   absent_is z = sym (slot_is accepts bytes i j h inside lt ∙ slot_none (pool_in bytes) (slot_of bytes i j) (zero_is _ (ap (λ (r : List ℕ). slice_index r 0) (sym e) ∙ z)))
 
@@ -121,6 +123,7 @@ module _ (accepts : PatternText → Bool) (bytes : List ℕ) (i j : ℕ) (h : Is
     some : eqb (slice_index (slot_of bytes i j) 0) 0 ≡ false
     some = not_zero_is _ (λ z. there (ap (λ (r : List ℕ). slice_index r 0) e ∙ z))
 
+    -- the literal of a present slot is UTF-8
     pub text_is : (literal pool : List ℕ) → literal ≡ (pattern_in pool found).literal → pool ≡ pool_in bytes → IsUtf8 literal
     text_is literal pool l p =
         let all : literal ≡ (pattern_in (pool_in bytes) (slot_of bytes i j)).literal = l ∙ ap (λ (r : List ℕ). (pattern_in r found).literal) p ∙ ap (λ (r : List ℕ). (pattern_in (pool_in bytes) r).literal) e in
@@ -129,9 +132,11 @@ module _ (accepts : PatternText → Bool) (bytes : List ℕ) (i j : ℕ) (h : Is
     pub read_is : (p : PatternText) (pool : List ℕ) → p ≡ pattern_in pool found → pool ≡ pool_in bytes → p ≡ pattern_in (pool_in bytes) (slot_of bytes i j)
     read_is p pool is q = is ∙ ap (λ (r : List ℕ). pattern_in r found) q ∙ ap (pattern_in (pool_in bytes)) e
 
+    -- the pattern of a present slot is one of the backend
     pub accepted_is : (p : PatternText) (pool : List ℕ) → p ≡ pattern_in pool found → pool ≡ pool_in bytes → accepts p ≡ true
     accepted_is p pool is q = ap accepts (read_is p pool is q) ∙ pattern_is_accepted accepts bytes i j h inside lt some
 
+    -- the pattern that is read of a present slot stands there
     pub stands_is : (p : PatternText) (pool : List ℕ) → p ≡ pattern_in pool found → pool ≡ pool_in bytes → Some p ≡ slice_index_or (slots (entry_of bytes i).elements) j None
     stands_is p pool is q = ap (λ (x : PatternText). Some x) (read_is p pool is q) ∙ sym (pattern_stands accepts bytes i j h inside lt some)
 
@@ -139,6 +144,7 @@ module _ (accepts : PatternText → Bool) (bytes : List ℕ) (i j : ℕ) (h : Is
 pub same_value : (o : Option PatternText) (x y : PatternText) → Some x ≡ o → o ≡ Some y → x ≡ y
 same_value o x y a b = let e : Some x ≡ Some y = a ∙ b in cc
 
+-- a slot has a pattern or none, not both
 pub no_value : (o : Option PatternText) (y : PatternText) → None ≡ o → o ≡ Some y → ⊥
 no_value o y a b = let e : None ≡ Some y = a ∙ b in cc
 
@@ -166,6 +172,7 @@ module _ {T : Type 0} where
   pub sole_goes_on : (ss : List (Option T)) (k : ℕ) (b all : Bool) → k < 7 → k < length ss → b ≡ is_some (slice_index_or ss k None) → b ≡ false → list_all is_none (take (7 - k) (drop k ss)) ≡ all → list_all is_none (take (7 - (k + 1)) (drop (k + 1) ss)) ≡ all
   sole_goes_on ss k b all lt inside is h e = let n = is_nothing (slice_index_or ss k None) (sym is ∙ h) in sym (sole_step ss k lt inside ∙ ap (λ (x : Bool). x && list_all is_none (take (7 - (k + 1)) (drop (k + 1) ss))) n) ∙ e
 
+  -- all seven were absent
   pub sole_done : (ss : List (Option T)) (k : ℕ) (all : Bool) → k ≡ 7 → list_all is_none (take (7 - k) (drop k ss)) ≡ all → true ≡ all
   sole_done ss k all e h = let none : 7 - k ≡ 0 = omega arith in sym (ap (λ (n : ℕ). list_all is_none (take n (drop k ss))) none) ∙ h
 

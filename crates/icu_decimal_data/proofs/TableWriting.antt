@@ -19,6 +19,7 @@ place_inside p place fits is = go p.place is fits
     go None e h = absurd cc
     go (Some k) e h = let same : k ≡ place = cc in rw (← same) h.0
 
+-- what holds anyway holds on success
 pub on_ok : {T E : Type 0} (r : Result T E) {A : Type 0} → A → OnOk r A
 on_ok (Ok x) a = a
 on_ok (Err e) a = tt
@@ -36,6 +37,7 @@ module _ (ss : List (Option PatternText)) (k : ℕ) (s : Option PatternText) (in
   first : drop k ss ≡ s ∷ drop (k + 1) ss
   first = drop-cons ss k None inside ∙ ap (λ (n : ℕ). slice_index_or ss k None ∷ drop n ss) (sym (add-one k)) ∙ ap (λ (x : Option PatternText). x ∷ drop (k + 1) ss) (sym is)
 
+  -- the pool with one literal more, and what is left
   pub pool_more : (pool next whole : List ℕ) → next ≡ pool ++ literal_of s → pool ++ slot_literals (drop k ss) ≡ whole → next ++ slot_literals (drop (k + 1) ss) ≡ whole
   pool_more pool next whole n h =
       ap (λ (x : List ℕ). x ++ slot_literals (drop (k + 1) ss)) n
@@ -43,11 +45,13 @@ module _ (ss : List (Option PatternText)) (k : ℕ) (s : Option PatternText) (in
       ∙ sym (ap (λ (x : List (Option PatternText)). pool ++ slot_literals x) first)
       ∙ h
 
+  -- there is room for one literal more
   pub room_for : (pool whole : List ℕ) → pool ++ slot_literals (drop k ss) ≡ whole → length whole < 2 ^ 16 → length pool + length (literal_of s) < 2 ^ 16
   room_for pool whole h small =
       let all : pool ++ (literal_of s ++ slot_literals (drop (k + 1) ss)) ≡ whole = sym (ap (λ (x : List (Option PatternText)). pool ++ slot_literals x) first) ∙ h in
       omega (arith, ap length all, length-append pool (literal_of s ++ slot_literals (drop (k + 1) ss)), length-append (literal_of s) (slot_literals (drop (k + 1) ss)))
 
+  -- the records with one slot more, and what is left
   pub records_more : (records later pool next whole : List ℕ) → later ≡ records ++ slot_bytes (length pool) s → next ≡ pool ++ literal_of s → records ++ slots_bytes (length pool) (drop k ss) ≡ whole → later ++ slots_bytes (length next) (drop (k + 1) ss) ≡ whole
   records_more records later pool next whole r n h =
       let len : length next ≡ length pool + length (literal_of s) = ap length n ∙ length-append pool (literal_of s) in
@@ -57,6 +61,7 @@ module _ (ss : List (Option PatternText)) (k : ℕ) (s : Option PatternText) (in
       ∙ sym (ap (λ (x : List (Option PatternText)). records ++ slots_bytes (length pool) x) first)
       ∙ h
 
+  -- the patterns that are left, with the one before them
   pub patterns_back : (accepts : PatternText → Bool) → ArePatterns accepts (s ∷ []) → ArePatterns accepts (drop (k + 1) ss) → ArePatterns accepts (drop k ss)
   patterns_back accepts one rest = subst (λ (x : List (Option PatternText)). ArePatterns accepts x) (sym first) (joined s one)
     where
@@ -72,6 +77,7 @@ pub record IsWritten (accepts : PatternText → Bool) (left whole : List TableEn
   pub pool_left : pool ++ literals left ≡ literals whole
   pub writable_left : AreWritable accepts left → AreWritable accepts whole
 
+-- before the first entry nothing is written
 pub none_written : (accepts : PatternText → Bool) (whole : List TableEntry) → IsWritten accepts whole whole [] []
 none_written accepts whole = record { records_left = refl; pool_left = refl; writable_left = λ h. h }
 
@@ -101,9 +107,11 @@ module _ (accepts : PatternText → Bool) (plain last : Option PatternElements) 
   now_left : IsWritten accepts (e ∷ kept_since plain (Some e.elements) es) whole records pool
   now_left = rw kept at h
 
+  -- there is room for the literals of a kept entry
   pub kept_room : length (literals whole) < 2 ^ 16 → length pool + length (slot_literals (slots e.elements)) < 2 ^ 16
   kept_room = entry_room accepts e (kept_since plain (Some e.elements) es) whole records pool now_left
 
+  -- a kept entry is written
   pub kept_written : (later next : List ℕ) → later ≡ ((records ++ e.log10_type ∷ []) ++ e.exponent ∷ []) ++ slots_bytes (length pool) (slots e.elements) → next ≡ pool ++ slot_literals (slots e.elements) → e.log10_type < 256 → ArePatterns accepts (slots e.elements)
       → IsWritten accepts (kept_since plain (Some e.elements) es) whole later next
   kept_written = entry_written accepts e (kept_since plain (Some e.elements) es) whole records pool now_left
@@ -124,9 +132,11 @@ length-records start [] = refl
 length-records start (e ∷ es) =
     omega (arith, length-append (record_bytes start e) (records_bytes (start + length (slot_literals (slots e.elements))) es), length-records (start + length (slot_literals (slots e.elements))) es, length-slots start (slots e.elements))
 
+-- how many entries there are, by the length of their records
 pub count_is : (records : List ℕ) (table : List TableEntry) → records ≡ records_bytes 0 table → length records / 58 ≡ length table
 count_is records table h = let len : length records ≡ 58 * length table = ap length h ∙ length-records 0 table in omega arith
 
+-- two lengths, the records and the pool are the table's bytes
 pub whole_is : (table : List TableEntry) (records pool : List ℕ) (count len : ℕ) → records ≡ records_bytes 0 table → pool ≡ literals table → count ≡ length table → len ≡ length pool
     → ((([] ++ number_bytes count) ++ number_bytes len) ++ records) ++ pool ≡ table_bytes table
 unfolding table_bytes

@@ -35,6 +35,7 @@ texts_same : (a : List (List ℕ)) → pointwise (pointwise nat_eq) a a ≡ true
 texts_same [] = refl
 texts_same (x ∷ xs) = let h = bytes_same x in let t = texts_same xs in rw (h, t) refl
 
+-- symbols have the same bytes exactly where they have the same texts
 pub same_bytes : (a b : List ℕ) → IsSymbolBytes a → IsSymbolBytes b → pointwise nat_eq a b ≡ same_texts (texts_in a) (texts_in b)
 same_bytes a b ha hb =
     elim (cases_Bool (pointwise nat_eq a b)) [

@@ -124,6 +124,7 @@ read_only bytes s h e = rw e (undamaged (symbol_bytes s) (are_bytes s h))
 pub is_found : (bytes : List ℕ) → first_damage bytes ≡ None → IsSymbolTexts (texts_in bytes) × (bytes ≡ symbol_bytes (texts_in bytes))
 is_found bytes e = let h = no_damage bytes e in (may_be bytes h, sym (written bytes h.counted h.whole))
 
+-- the texts of bytes that are written of them
 pub is_only : (bytes : List ℕ) (s : SymbolTexts) → bytes ≡ symbol_bytes s → texts_in bytes ≡ s
 is_only bytes s e = rw e (read_back s)
 
@@ -135,8 +136,10 @@ pub ruleset damage = (no_damage, read_only, is_found, is_only)
 
 -- ---- symbols that hold bytes
 
+-- bytes that hold symbols are those that are written of them
 pub held_bytes : (bytes : List ℕ) (s : SymbolTexts) → IsSymbolBytes bytes → texts_in bytes ≡ s → bytes ≡ symbol_bytes s
 held_bytes bytes s h e = sym (written bytes h.counted h.whole) ∙ ap (λ (x : SymbolTexts). symbol_bytes x) e
 
+-- and those texts are symbols
 pub held_texts : (bytes : List ℕ) (s : SymbolTexts) → IsSymbolBytes bytes → texts_in bytes ≡ s → IsSymbolTexts s
 held_texts bytes s h e = subst (λ (x : SymbolTexts). IsSymbolTexts x) e (may_be bytes h)

@@ -33,6 +33,7 @@ concat-texts bytes k (suc n) =
     let whole : slice_range bytes a c ≡ slice_range bytes a b ++ slice_range bytes b c = ap (λ (j : ℕ). take j (drop a bytes)) split ∙ take-add (b - a) (c - b) (drop a bytes) ∙ ap (λ (r : List ℕ). slice_range bytes a b ++ take (c - b) r) skip in
     ap (λ (r : List ℕ). slice_range bytes a b ++ r) rest ∙ sym whole
 
+-- the lengths that are written are those of the texts
 pub lengths-texts : (bytes : List ℕ) (k n : ℕ) → k + n ≤ length bytes → text_start bytes (k + n) ≤ length bytes → map length (texts_from bytes k n) ≡ take n (drop k bytes)
 lengths-texts bytes k zero h e = refl
 lengths-texts bytes k (suc n) h e =
@@ -42,6 +43,7 @@ lengths-texts bytes k (suc n) h e =
     let one : length (text_at bytes k) ≡ slice_index bytes k = length-take (text_start bytes (k + 1) - text_start bytes k) (drop (text_start bytes k) bytes) ∙ omega (arith, length-drop (text_start bytes k) bytes, start_more bytes k) in
     rw (drop_more bytes k 0 (omega arith), one, rest) refl
 
+-- bytes are written of the texts that they hold
 pub written : (bytes : List ℕ) → 7 ≤ length bytes → length bytes ≡ text_start bytes 7 → symbol_bytes (texts_in bytes) ≡ bytes
 written bytes h e =
     let lengths : map length (texts_from bytes 0 7) ≡ take 7 bytes = lengths-texts bytes 0 7 (omega arith) (omega arith) in
@@ -86,6 +88,7 @@ text_packed front t back seven =
     ∙ ap (λ (r : List ℕ). take (length t) r) (rest_packed front (t ∷ back) seven)
     ∙ take_at t (concat back) (length t) refl
 
+-- texts stand in what is written of them
 pub texts_packed : (front back : List (List ℕ)) → length (front ++ back) ≡ 7 → texts_from (packed (front ++ back)) (length front) (length back) ≡ back
 texts_packed front [] seven = refl
 texts_packed front (t ∷ back) seven =
@@ -98,6 +101,7 @@ texts_packed front (t ∷ back) seven =
     let one : text_at (packed (front ++ t ∷ back)) (length front) ≡ t = text_packed front t back seven in
     ap (λ (r : List (List ℕ)). text_at (packed (front ++ t ∷ back)) (length front) ∷ r) rest ∙ ap (λ (x : List ℕ). x ∷ back) one
 
+-- each text is read back
 pub read_back : (s : SymbolTexts) → texts_in (symbol_bytes s) ≡ s
 read_back s =
     let e : texts_from (symbol_bytes s) 0 7 ≡ texts_of s = texts_packed [] (texts_of s) refl in
@@ -111,5 +115,6 @@ read_back s =
     let e6 : p.numsys ≡ s.numsys = cc in
     λ i. record { minus_sign_prefix = e0 i; minus_sign_suffix = e1 i; plus_sign_prefix = e2 i; plus_sign_suffix = e3 i; decimal_separator = e4 i; grouping_separator = e5 i; numsys = e6 i }
 
+-- how long the bytes of texts are
 pub length-packed : (s : SymbolTexts) → length (symbol_bytes s) ≡ 7 + sum (map length (texts_of s))
 length-packed s = length-append (map length (texts_of s)) (concat (texts_of s)) ∙ omega (arith, length_concat (texts_of s))

@@ -28,6 +28,7 @@ module _ (bytes : List ℕ) (i before : ℕ) (r : Option ℕ) (lt : i < 7) (long
   at_length : drop i (take 7 bytes) ≡ slice_index bytes i ∷ drop (i + 1) (take 7 bytes)
   at_length = drop_more (take 7 bytes) i 0 (omega (arith, length-take 7 bytes)) ∙ ap (λ (n : ℕ). n ∷ drop (i + 1) (take 7 bytes)) (get_or-take 7 bytes i 0 lt)
 
+  -- a text that passes, and then the later ones
   pub passing_goes_on : before + slice_index bytes i ≤ 255 → first_passing (i + 1) (before + slice_index bytes i) (drop (i + 1) (take 7 bytes)) ≡ r
   passing_goes_on low =
       let t : ltb 255 (before + slice_index bytes i) ≡ false = le-ltb _ _ low in
@@ -48,6 +49,7 @@ passing_done bytes i before r le h = sym h ∙ ap (first_passing i before) (drop
 concat_push : (xs : List (List ℕ)) (y : List ℕ) → concat (xs ++ y ∷ []) ≡ concat xs ++ y
 concat_push xs y = concat-append xs (y ∷ []) ∙ ap (λ (r : List ℕ). concat xs ++ r) (append-nil y)
 
+-- one more text behind the others
 pub concat_more : (xs : List (Bor (List ℕ))) (i : ℕ) (d : Bor (List ℕ)) → i < length xs → concat (map (λ t. t.now) (take (i + 1) xs)) ≡ concat (map (λ t. t.now) (take i xs)) ++ (get_or xs i d).now
 concat_more xs i d lt = ap concat (map_more (λ (t : Bor (List ℕ)). t.now) xs i d lt) ∙ concat_push (map (λ (t : Bor (List ℕ)). t.now) (take i xs)) (get_or xs i d).now
 

@@ -25,6 +25,7 @@ module _ {T : Type 0} (e : Elements T) where
   by_category Many = one_of 6 e.many 7 e.other refl refl
   by_category Other = refl
 
+  -- the selected slot holds the selected value
   pub selected_slot_holds : (o : Operands) (category : PluralCategory)
       → slice_index_or (slots e) (selected_slot (presence e) o category) None ≡ Some (selected e o category)
   selected_slot_holds o category = go (is_exactly 0 o) (is_exactly 1 o)
@@ -40,6 +41,7 @@ small_or : (b : Bool) (slot rest : ℕ) → slot < 8 → rest < 8 → unwrap_or 
 small_or true slot rest h k = h
 small_or false slot rest h k = k
 
+-- the selected slot is one of eight
 pub selected_slot_small : (present : List Bool) (o : Operands) (category : PluralCategory) → selected_slot present o category < 8
 selected_slot_small present o category = go (is_exactly 0 o) (is_exactly 1 o)
   where
