@@ -1,5 +1,6 @@
 //! Which types a compact table keeps, what refuses a map, and which tables are equal.
 
+use crate::packed::read_again;
 use crate::tables::{
     LONG_BANGLA, LONG_ENGLISH, LONG_JAPANESE, Row, SHORT_ENGLISH, Table, copy_of, french_table,
     table_of, table_of_literal, table_without_place,
@@ -172,9 +173,10 @@ fn table_of_size(alloc: Global, size: usize) -> Result<Table, CompactError> {
     }
 }
 
+/// Whether a literal of this many bytes is kept: beside it the table's byte string has 62, and it is read again.
 fn keeps_bytes(alloc: Global, size: usize) -> bool {
     match table_of_size(alloc, size) {
-        Ok(table) => has_types(&table, &[3]),
+        Ok(table) => has_types(&table, &[3]) && read_again(&table) == size.checked_add(62),
         Err(_) => false,
     }
 }

@@ -3,10 +3,11 @@
 
 ghost use Rattle.std.specs.Prelude.{◌<◌};
 
+use crate::symbol_bytes::refused_allocation;
 use crate::table_bytes::{JAPANESE, ONE_ENTRY};
 use crate::tables::{Elements, LONG_JAPANESE, Map, Row, Table, made, pattern, table_of};
 use icu_base::{Pattern, PatternError, PluralElements, SinglePlaceholder};
-use icu_decimal_data::{CompactError, CompactView, EntryView};
+use icu_decimal_data::{CompactError, CompactPatterns, CompactView, EntryView};
 use std::alloc::Global;
 use std::collections::BTreeMap;
 
@@ -44,7 +45,7 @@ fn a_table_is_packed_as_stated(rt: HostRuntime) {
 }
 
 /// How long the bytes of a table are, where they are read again.
-fn read_again(table: &Table) -> Option<usize> {
+pub(crate) fn read_again(table: &Table) -> Option<usize> {
     match View::parse(table.as_bytes()) {
         Ok(_) => Some(table.as_bytes().len()),
         Err(_) => None,
@@ -191,5 +192,35 @@ fn misread(alloc: Global, index: usize) -> Option<u8> {
 fn what_a_view_shows_makes_its_bytes(rt: HostRuntime) {
     for index in 0..JAPANESE.len() {
         assert!(rt; misread(rt.alloc(), index) == None, "byte {index}");
+    }
+}
+
+/// Which of four copies is refused, counted from 2 on; none is 0.
+fn refused_copy(alloc: Global, table: &Table) -> u64 {
+    let mut refused = 0;
+    for count in 2..6 {
+        if table.copy(alloc).is_err() {
+            refused = count;
+        }
+    }
+    refused
+}
+
+/// Which call is refused of one that makes the table without entries and four that copy it, counted from 1 on; none is 0.
+fn refused_call(alloc: Global) -> u64 {
+    let made: Result<Table, CompactError> = CompactPatterns::new(alloc, BTreeMap::new(alloc), None);
+    match made {
+        Ok(table) => refused_copy(alloc, &table),
+        Err(_) => 1,
+    }
+}
+
+/// Where the run tells which allocation is refused, it is the call of that number that is refused: so no call asks for a
+/// second one.
+#[test]
+fn a_copy_is_one_allocation(rt: HostRuntime) {
+    let refused = refused_call(rt.alloc());
+    if let Some(allocation) = refused_allocation(&rt) {
+        assert_eq!(rt; allocation, refused);
     }
 }

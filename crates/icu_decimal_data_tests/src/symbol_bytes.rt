@@ -190,7 +190,7 @@ fn refused_call(alloc: Global) -> u64 {
 }
 
 /// The number that the run has in the file `refused_allocation`.
-fn refused_allocation(rt: &HostRuntime) -> Option<u64> {
+pub(crate) fn refused_allocation(rt: &HostRuntime) -> Option<u64> {
     let text = fs::read_to_string(rt, "refused_allocation").ok()?;
     text.trim().parse().ok()
 }
