@@ -1,7 +1,8 @@
-//! Rows of text against their output, and readers and writers that fail. Values live in functions that answer whether
-//! they hold; what was refused memory is asked once more.
+//! Rows of text against their output. Values live in functions that answer whether they hold; what was refused memory is
+//! asked once more.
 
 mod compact;
+mod failing;
 mod slow;
 
 use crate::laws::{inputs_have_one_list_of_lines, texts_have_one_answer};
@@ -317,66 +318,6 @@ fn answers_lines_by(alloc: Global, at_once: usize) -> bool {
 fn answers_whatever_is_read_at_once(rt: HostRuntime) {
     for at_once in [1, 2, 3, 7] {
         assert!(rt; answers_lines_by(rt.alloc(), at_once), "by {at_once}");
-    }
-}
-
-const LINES: &[u8] = b"5\n6\r\n7";
-
-/// How much room there is, and what is held where it ends.
-const ROOMS: [(usize, &str); 6] = [
-    (0, ""),
-    (1, "5"),
-    (2, "5\n"),
-    (3, "5\n6"),
-    (4, "5\n6\n"),
-    (5, "5\n6\n7"),
-];
-
-/// Whether a writer with this room is left with this, both where it fails then and where it takes no more.
-fn keeps(alloc: Global, room: usize, want: &[u8]) -> bool {
-    let fault = Err(RunError::Write);
-    ends(
-        alloc,
-        (LINES, usize::MAX),
-        (room, Full::Fails),
-        (fault, want),
-    ) && ends(
-        alloc,
-        (LINES, usize::MAX),
-        (room, Full::TakesNothing),
-        (fault, want),
-    )
-}
-
-#[test]
-fn keeps_a_beginning_where_writing_fails(rt: HostRuntime) {
-    for (room, want) in ROOMS {
-        assert!(rt; keeps(rt.alloc(), room, want.as_bytes()), "after {room}");
-    }
-}
-
-/// How many bytes can be read, and what is written of them.
-const GOOD: [(usize, &str); 6] = [
-    (0, ""),
-    (1, ""),
-    (2, "5\n"),
-    (3, "5\n"),
-    (4, "5\n"),
-    (5, "5\n6\n"),
-];
-
-#[test]
-fn keeps_whole_lines_where_reading_fails(rt: HostRuntime) {
-    for (good, want) in GOOD {
-        assert!(rt;
-            ends(
-                rt.alloc(),
-                (LINES, good),
-                (usize::MAX, Full::Fails),
-                (Err(RunError::Read), want.as_bytes())
-            ),
-            "after {good}"
-        );
     }
 }
 

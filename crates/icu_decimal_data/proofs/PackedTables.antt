@@ -12,9 +12,10 @@ use Rattle.icu_decimal_data.specs.PackedTable.{slot_literals, literals, IsPackab
 use Rattle.icu_decimal_data.specs.TableBytes.{number_bytes, record_bytes, records_bytes, table_bytes}
 use Rattle.icu_decimal_data.specs.TableReading.{number, entries_in, count_in, pool_start, pool_in, table_in, unless, ◌>>=◌, records_step, whole_len, table_step}
 use Rattle.icu_decimal_data.proofs.TableBasics.{IsBytes, IsBytes-drop, bind_ok, unless_ok, not_false, low_is, high_is, joined_is}
-use Rattle.icu_decimal_data.proofs.RecordLaws.{TakenRecords, records_taken, records_again, length-record}
+use Rattle.icu_decimal_data.proofs.RecordLaws.{TakenRecords, records_taken, records_again, length-records}
 
-length-entries : (pool : List ℕ) (n : ℕ) (bytes : List ℕ) → length (entries_in pool n bytes) ≡ n
+-- so many entries are read
+pub length-entries : (pool : List ℕ) (n : ℕ) (bytes : List ℕ) → length (entries_in pool n bytes) ≡ n
 length-entries pool zero bytes = refl
 length-entries pool (suc n) bytes = omega (arith, length-entries pool n (drop 58 bytes))
 
@@ -99,10 +100,6 @@ table_steps accepts bytes sum a b c d e =
     ∙ ap later d
     ∙ ap (λ (x : Bool). unless (not x) (pool_start bytes + sum) (Ok sum)) e
 
-length-records : (accepts : PatternText → Bool) (sum : ℕ) (es : List TableEntry) → length (records_bytes sum es) ≡ 58 * length es
-length-records accepts sum [] = refl
-length-records accepts sum (e ∷ es) = omega (arith, length-append (record_bytes sum e) (records_bytes (sum + length (slot_literals (slots e.elements))) es), length-records accepts (sum + length (slot_literals (slots e.elements))) es, length-record accepts [] 0 sum e)
-
 module _ (accepts : PatternText → Bool) (backend : IsBackend accepts) (t : List TableEntry) (h : IsPackable accepts t) where
   bytes_are : (n l : ℕ) (rest : List ℕ) → (count_in (number_bytes n ++ (number_bytes l ++ rest)) ≡ n) × (number (number_bytes n ++ (number_bytes l ++ rest)) 2 ≡ l)
   bytes_are n l rest = (joined_is n, joined_is l)
@@ -117,7 +114,7 @@ module _ (accepts : PatternText → Bool) (backend : IsBackend accepts) (t : Lis
 
   length_is : length (table_bytes t) ≡ 4 + 58 * length t + length (literals t)
   unfolding table_bytes
-  length_is = omega (arith, length-append (records_bytes 0 t) (literals t), length-records accepts 0 t)
+  length_is = omega (arith, length-append (records_bytes 0 t) (literals t), length-records 0 t)
 
   rest_is : drop 4 (table_bytes t) ≡ records_bytes 0 t ++ literals t
   unfolding table_bytes
@@ -131,7 +128,7 @@ module _ (accepts : PatternText → Bool) (backend : IsBackend accepts) (t : Lis
       ap (λ (k : ℕ). drop k (table_bytes t)) start_is
       ∙ sym (drop-drop (58 * length t) 4 (table_bytes t))
       ∙ ap (λ (r : List ℕ). drop (58 * length t) r) rest_is
-      ∙ drop_at (records_bytes 0 t) (literals t) (58 * length t) (length-records accepts 0 t)
+      ∙ drop_at (records_bytes 0 t) (literals t) (58 * length t) (length-records 0 t)
 
   records_are : (pool_at : ℕ) → (records_step accepts (literals t) pool_at (length t) None 4 0 (records_bytes 0 t ++ literals t) ≡ Ok (0 + length (literals t))) × (entries_in (literals t) (length t) (records_bytes 0 t ++ literals t) ≡ t)
   records_are pool_at = records_again accepts (literals t) pool_at t None None 4 0 (literals t) [] backend tt h.entries h.short (omega arith) (sym (append-nil (literals t)))

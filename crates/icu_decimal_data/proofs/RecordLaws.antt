@@ -34,6 +34,12 @@ pub record Passes (pool : List ℕ) (before : Option (List ℕ)) (bytes : List �
   pub holds : is_falling before bytes ≡ false
   pub differs : is_repeated pool before bytes ≡ false
 
+-- how long the records are
+pub length-records : (start : ℕ) (es : List TableEntry) → length (records_bytes start es) ≡ 58 * length es
+length-records start [] = refl
+length-records start (e ∷ es) =
+    omega (arith, length-append (record_bytes start e) (records_bytes (start + length (slot_literals (slots e.elements))) es), length-records (start + length (slot_literals (slots e.elements))) es, length-slots start (slots e.elements))
+
 and_true_is : (b : Bool) → (b && true) ≡ b
 and_true_is true = refl
 and_true_is false = refl

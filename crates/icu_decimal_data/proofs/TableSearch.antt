@@ -7,7 +7,7 @@ use Rattle.icu_base.specs.Patterns.{PatternText}
 use Rattle.icu_decimal_data.specs.CompactTable.{TableEntry, type_place, entry_for}
 use Rattle.icu_decimal_data.specs.PackedTable.{AreEntries}
 use Rattle.icu_decimal_data.specs.TableReading.{entry_in, entries_in, entry_of, count_in, pool_in, table_in, type_in, table_step, IsTableBytes, IsSearchable, IsReached}
-use Rattle.icu_decimal_data.proofs.PackedTables.{ok_value, is_found, table_read}
+use Rattle.icu_decimal_data.proofs.PackedTables.{length-entries, ok_value, is_found, table_read}
 use Rattle.icu_decimal_data.proofs.EntryPlaces.{before, front}
 
 -- ---- entries by their index
@@ -18,10 +18,6 @@ entries_at pool (suc n) bytes zero h = refl
 entries_at pool (suc n) bytes (suc i) h =
     let more : 58 + 58 * i ≡ 58 * suc i = omega arith in
     entries_at pool n (drop 58 bytes) i (omega arith) ∙ ap (λ (r : List ℕ). Some (entry_in pool (take 58 r))) (drop-drop (58 * i) 58 bytes ∙ ap (λ (k : ℕ). drop k bytes) more)
-
-length-entries : (pool : List ℕ) (n : ℕ) (bytes : List ℕ) → length (entries_in pool n bytes) ≡ n
-length-entries pool zero bytes = refl
-length-entries pool (suc n) bytes = omega (arith, length-entries pool n (drop 58 bytes))
 
 -- the entry of an index, by its record
 pub entry_at : (bytes : List ℕ) (i : ℕ) → i < count_in bytes → slice_get (table_in bytes) i ≡ Some (entry_of bytes i)

@@ -10,6 +10,7 @@ use Rattle.icu_decimal_data.specs.KeptSince.{kept_since, stays}
 use Rattle.icu_decimal_data.specs.PackedTable.{ArePatterns, AreWritable, literal_of, slot_literals, literals}
 use Rattle.icu_decimal_data.specs.TableBytes.{number_bytes, slot_bytes, slots_bytes, record_bytes, records_bytes, table_bytes}
 use Rattle.icu_decimal_data.proofs.SlotsLaws.{length-slots}
+use Rattle.icu_decimal_data.proofs.RecordLaws.{length-records}
 
 -- a place lies in its literal
 pub place_inside : (p : PatternText) (place : ℕ) → PlaceFits p → p.place ≡ Some place → place ≤ length p.literal
@@ -126,11 +127,6 @@ pub all_writable : (accepts : PatternText → Bool) (whole : List TableEntry) (r
 all_writable accepts whole records pool h = h.writable_left tt
 
 -- ---- the whole
-
-length-records : (start : ℕ) (es : List TableEntry) → length (records_bytes start es) ≡ 58 * length es
-length-records start [] = refl
-length-records start (e ∷ es) =
-    omega (arith, length-append (record_bytes start e) (records_bytes (start + length (slot_literals (slots e.elements))) es), length-records (start + length (slot_literals (slots e.elements))) es, length-slots start (slots e.elements))
 
 -- how many entries there are, by the length of their records
 pub count_is : (records : List ℕ) (table : List TableEntry) → records ≡ records_bytes 0 table → length records / 58 ≡ length table

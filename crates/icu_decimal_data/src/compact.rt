@@ -2,8 +2,8 @@
 
 #![tactic(auto, using(crate::proofs::TableCalls::calls))]
 
-ghost use Rattle.std.specs.Prelude.{◌≡◌, ◌↔◌, ◌+◌, ◌<◌, nat_le, IfOk, IfSome, IsErrOf, IsTrue, MatchOption, IsOkUnless, None, [], length, option_map, slice_get, slice_index_or};
-ghost use Rattle.fixed_decimal.specs.Size.{finest, place};
+ghost use Rattle.std.specs.Prelude.{◌≡◌, ◌↔◌, ◌<◌, IfOk, IfSome, IsErrOf, IsTrue, MatchOption, IsOkUnless, None, [], length, option_map, slice_get, slice_index_or};
+ghost use Rattle.fixed_decimal.specs.Size.{place};
 ghost use Rattle.icu_base.specs.Elements.{slots, selected, sole_value};
 ghost use Rattle.icu_base.specs.Operands.{Operands};
 ghost use Rattle.icu_base.specs.declared.plurals.category.PluralCategory.{PluralCategory};
@@ -197,11 +197,4 @@ impl<P: PatternBackend> CompactPatterns<P> {
     {
         Ok(Vec::from_slice(alloc, self.as_bytes())?)
     }
-}
-
-/// Whether a type is not above a magnitude.
-pub(crate) fn is_reached(log10_type: u8, magnitude: i32) -> bool
-    ensures { result ≡ nat_le (log10_type + finest) (place magnitude) }
-{
-    log10_type as i32 <= magnitude
 }

@@ -2,11 +2,10 @@
 
 #![tactic(auto, using(crate::proofs::TableSearch::searching))]
 
-ghost use Rattle.std.specs.Prelude.{◌≡◌, ◌+◌, ◌*◌, ◌<◌, slice_index};
-ghost use Rattle.fixed_decimal.specs.Size.{place};
+ghost use Rattle.std.specs.Prelude.{◌≡◌, ◌+◌, ◌*◌, ◌<◌, nat_le, slice_index};
+ghost use Rattle.fixed_decimal.specs.Size.{finest, place};
 ghost use Rattle.icu_decimal_data.specs.TableReading.{IsSearchable, IsReached, count_in, type_in};
 
-use crate::compact::is_reached;
 use crate::table_bytes::{HEAD_LEN, RECORD_LEN, number_at};
 
 /// The type of an entry.
@@ -25,6 +24,13 @@ pub(crate) fn exponent_at(bytes: &[u8], index: usize) -> u8
     ensures { result ≡ slice_index bytes.now (5 + 58 * index) }
 {
     bytes[HEAD_LEN + RECORD_LEN * index + 1]
+}
+
+/// Whether a type is not above a magnitude.
+fn is_reached(log10_type: u8, magnitude: i32) -> bool
+    ensures { result ≡ nat_le (log10_type + finest) (place magnitude) }
+{
+    log10_type as i32 <= magnitude
 }
 
 /// How many entries have a type that is not above a magnitude.

@@ -46,7 +46,7 @@ fn is_present<P: PatternBackend>(bytes: &[u8], index: usize, slot: usize) -> boo
 }
 
 /// In which slots an entry has patterns.
-pub(crate) fn presence<P: PatternBackend>(bytes: &[u8], index: usize) -> [bool; 8]
+fn presence<P: PatternBackend>(bytes: &[u8], index: usize) -> [bool; 8]
     requires table { IsTableBytes P.accepted bytes.now }
     requires inside { index < count_in bytes.now }
     ensures { result ≡ presence (entry_of bytes.now index).elements }

@@ -74,7 +74,7 @@ fn push_slots<P: PatternBackend>(
 }
 
 /// The records and the pool of the entries that are kept of a map.
-fn parts<P: PatternBackend>(
+fn records_and_pool<P: PatternBackend>(
     alloc: Global,
     map: &BTreeMap<u8, (u8, Elements<P>)>,
     zero_magnitude: Option<&Elements<P>>,
@@ -112,7 +112,7 @@ pub(crate) fn table_of<P: PatternBackend>(
     ensures are_bytes { IfOk result (λ b. (i : ℕ) → slice_index b.items i < 256) }
     ensures sorted { IsStrictlySortedBy nat_cmp (keys_of map.now.entries) }
 {
-    let (records, pool) = parts(alloc, map, zero_magnitude)?;
+    let (records, pool) = records_and_pool(alloc, map, zero_magnitude)?;
     let mut bytes = Vec::with_capacity(alloc, HEAD_LEN + records.len() + pool.len())?;
     push_number(&mut bytes, records.len() / RECORD_LEN)?;
     push_number(&mut bytes, pool.len())?;

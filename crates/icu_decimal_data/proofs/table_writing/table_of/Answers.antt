@@ -10,7 +10,7 @@ pub push_number-requires : goal.push_number-requires
 push_number-requires g c =
     let table = kept (at c.args.zero_magnitude) (given c.args.map.now.entries) in
     let count : c.len-3.result / 58 ≡ length table = ap (λ (n : ℕ). n / 58) (c.len-3.ensures ∙ c.in_ok-records.records.ok.0) ∙ count_is c.in_ok-records.records.items table c.in_ok-records.ensures.records in
-    let few = few_kept (at c.args.zero_magnitude) c.args.map.now.entries g.P.PatternBackend.accepted c.parts.ensures.sorted c.in_ok-records.ensures.writable in
+    let few = few_kept (at c.args.zero_magnitude) c.args.map.now.entries g.P.PatternBackend.accepted c.records_and_pool.ensures.sorted c.in_ok-records.ensures.writable in
     omega arith
 
 pub returns-clause-bytes : goal.returns-clause-bytes

@@ -4,7 +4,7 @@ use Rattle.icu_decimal_data.specs.Kept.{given, kept, at}
 use Rattle.icu_decimal_data.specs.KeptSince.{kept_since, stays}
 use Rattle.icu_decimal_data.proofs.KeptSteps.{kept_since_start}
 use Rattle.icu_decimal_data.proofs.TableWriting.{IsWritten, none_written, kept_room, kept_written}
-use Rattle.icu_decimal_data.proofs.table_writing.parts.Goals as goal
+use Rattle.icu_decimal_data.proofs.table_writing.records_and_pool.Goals as goal
 
 pub loop-log10_type-init : goal.loop-log10_type-init
 loop-log10_type-init g c =

@@ -1,7 +1,7 @@
 use Rattle.icu_decimal_data.specs.Kept.{given, kept, at}
 use Rattle.icu_decimal_data.specs.KeptSince.{kept_since}
 use Rattle.icu_decimal_data.proofs.TableWriting.{IsWritten}
-use Rattle.icu_decimal_data.proofs.table_writing.parts.Given as goal
+use Rattle.icu_decimal_data.proofs.table_writing.records_and_pool.Given as goal
 
 abbrev pub invariant-loop-log10_type : goal.invariant-loop-log10_type
 invariant-loop-log10_type g l = IsWritten g.P.PatternBackend.accepted (kept_since (at l.zero_magnitude) (at l.last) (given l.log10_type-iterator)) (kept (at l.zero_magnitude) (given l.map.entries)) l.records.items l.pool.items

@@ -1,7 +1,7 @@
 use Rattle.std.proofs.Common.{◌≡◌, pos, to_z, of_z, w32, arith}
 use Rattle.std.proofs.lemmas.Int.{ints}
 use Rattle.icu_decimal_data.proofs.EntryPlaces.{int_le-place}
-use Rattle.icu_decimal_data.proofs.compact.is_reached.Goals as goal
+use Rattle.icu_decimal_data.proofs.table_search.is_reached.Goals as goal
 
 pub returns : goal.returns
 returns c =
