@@ -1,5 +1,6 @@
 -- Each text spells one condition or has one first fault, and that is what is read.
-use Rattle.std.proofs.Common.{◌≡◌, ◌⊎◌, inl, inr, ℕ, suc, ◌<◌, ◌≤◌, List, ◌++◌, take, drop, length, Some, None, Result, Ok, Err, refl, sym, ap, ◌∙◌, append_assoc, arith}
+use Rattle.std.proofs.Common.{◌≡◌, ◌⊎◌, inl, inr, ℕ, suc, ◌<◌, ◌≤◌, List, ◌++◌, take, drop, length, Option, Some, None, Result, Ok, Err, refl, sym, ap, ◌∙◌, append_assoc, arith}
+use Rattle.std.specs.Prelude.{IfOk, IfSome, IfNone}
 use Rattle.std.proofs.lemmas.List.{take-append-drop, take-take}
 use Rattle.plural_conditions.specs.declared.lexer.Token.{Token}
 use Rattle.plural_conditions.specs.Tokens.{part_of}
@@ -85,6 +86,21 @@ none_is_condition text e = by (condition_of text) refl e
     by : (x : Result Condition ℕ) → condition_of text ≡ x → fault_byte x ≡ none → IsConditionText text
     by (Ok c) h k = (c, read_is_text text c h)
     by (Err a) h k = absurd (none_is (sym k))
+
+-- where something is found it is the first fault
+pub found_faults : (text : List ℕ) (found : Option ℕ) → found ≡ fault_byte (condition_of text) → IfSome found (λ b. IsTextFault text b)
+found_faults text None e = tt
+found_faults text (Some b) e = found_is_fault text b (sym e)
+
+-- where nothing is found the text spells a condition
+pub none_spells : (text : List ℕ) (found : Option ℕ) → found ≡ fault_byte (condition_of text) → IfNone found (IsConditionText text)
+none_spells text None e = none_is_condition text (sym e)
+none_spells text (Some b) e = tt
+
+-- what is read of a text is what it spells
+pub read_spells : {E : Type 0} (text : List ℕ) {A : Type 0} (f : A → Condition) (r : Result A E) → IfOk r (λ c. condition_of text ≡ Ok (f c)) → IfOk r (λ c. IsTextOf text (f c))
+read_spells text f (Ok c) e = read_is_text text (f c) e
+read_spells text f (Err e) h = tt
 
 pub fault_is_found : (text : List ℕ) (b : ℕ) → IsTextFault text b → fault_byte (condition_of text) ≡ Some b
 fault_is_found text b p = by (condition_of text) refl

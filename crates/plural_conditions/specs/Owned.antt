@@ -1,4 +1,4 @@
--- The conditions that the values of `src/plurals/condition.rt` are.
+-- The conditions that the values of `src/condition.rt` are.
 use Rattle.std.specs.Prelude.{List, map}
 use Rattle.plural_conditions.specs.declared.condition.Relation.{Relation as OwnedRelation}
 use Rattle.plural_conditions.specs.declared.condition.Alternative.{Alternative}

@@ -1,5 +1,6 @@
 //! Reading a condition: first its fault is sought, which takes no memory, and then it is read.
-ghost use Rattle.std.specs.Prelude.{◌≡◌, Ok, None, IfOk, IsOkUnless};
+ghost use Rattle.std.specs.Prelude.{◌≡◌, Ok, None, IfOk, IfSome, IfNone, IsOkUnless};
+ghost use Rattle.plural_conditions.specs.Grammar.{IsTextOf, IsConditionText, IsTextFault};
 ghost use Rattle.plural_conditions.specs.Reading.{fault_byte, condition_of};
 ghost use Rattle.plural_conditions.specs.Owned.{condition_in};
 
@@ -10,8 +11,8 @@ use crate::lexer::{first_token, part};
 use crate::progress::Progress;
 use std::alloc::Global;
 
-/// The byte of the first fault of a text, unless it spells a condition.
-pub fn first_fault(text: &str) -> Option<usize>
+/// The byte where reading a text stops, if it stops before the end or the end comes too early.
+fn stop_in(text: &str) -> Option<usize>
     ensures { result ≡ fault_byte (condition_of text.now) }
 {
     let part = part(text);
@@ -30,10 +31,20 @@ pub fn first_fault(text: &str) -> Option<usize>
     if progress.may_end() { None } else { Some(end) }
 }
 
+/// The byte of the first fault of a text, unless it spells a condition.
+pub fn first_fault(text: &str) -> Option<usize>
+    ensures found { result ≡ fault_byte (condition_of text.now) }
+    ensures fault { IfSome result (λ byte. IsTextFault text.now byte) }
+    ensures spells { IfNone result (IsConditionText text.now) }
+{
+    stop_in(text)
+}
+
 /// The condition of a text that spells one.
 pub fn read_condition(alloc: Global, text: &str) -> Result<Condition, RulesError>
     requires { fault_byte (condition_of text.now) ≡ None }
     ensures read { IfOk result (λ c. condition_of text.now ≡ Ok (condition_in c)) }
+    ensures spelled { IfOk result (λ c. IsTextOf text.now (condition_in c)) }
     ensures memory { IsOkUnless result RulesError.OutOfMemory }
 {
     let mut rest = part(text);

@@ -1,5 +1,6 @@
 use Rattle.std.proofs.Common.{sym, ◌∙◌}
 use Rattle.plural_conditions.proofs.Drafting.{reads-start, reads-goes_on, reads-next, reads-end, ok_reads}
+use Rattle.plural_conditions.proofs.Judged.{read_spells}
 use Rattle.plural_conditions.proofs.reader.read_condition.Goals as goal
 
 pub loop-found-init : goal.loop-found-init
@@ -14,3 +15,6 @@ loop-found-preserved c = reads-next _ _ _ _ _ _ _ _ c.loop-found.invariant c.in-
 
 pub returns-clause-read : goal.returns-clause-read
 returns-clause-read c = ok_reads _ _ _ c.finish.ensures.completed (reads-end _ _ _ _ c.loop-found.invariant c.in_default.ensures c.requires)
+
+pub returns-clause-spelled : goal.returns-clause-spelled
+returns-clause-spelled c = read_spells _ _ _ (ok_reads _ _ _ c.finish.ensures.completed (reads-end _ _ _ _ c.loop-found.invariant c.in_default.ensures c.requires))

@@ -1,6 +1,6 @@
 use Rattle.std.proofs.Common.{length}
 use Rattle.plural_conditions.proofs.Progressing.{Looks}
-use Rattle.plural_conditions.proofs.reader.first_fault.Given as goal
+use Rattle.plural_conditions.proofs.reader.stop_in.Given as goal
 
 -- what is left has the fault of the text
 abbrev pub invariant-loop-found : goal.invariant-loop-found
