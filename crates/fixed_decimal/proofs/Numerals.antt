@@ -193,9 +193,11 @@ module _ (text : List ℕ) where
 
 -- the same, as the code names the parts: n is the count of leading digits
 module _ (text : List ℕ) (n : ℕ) (e : n ≡ prefix_len is_ascii_digit text) where
+  -- a text of leading digits alone is the numeral of these digits, which are its integer
   pub whole : n ≡ length text → 0 < n → IsNumeral text (digit_values (take n text)) (digit_values (take (length text - n) (drop n text)))
   whole all some = rw (take_rest, e) (whole_numeral text (sym e ∙ all) (omega arith))
 
+  -- both parts of such a text are digits
   pub whole_passes : n ≡ length text → AllPass is_ascii_digit (take n text) × AllPass is_ascii_digit (take (length text - n) (drop n text))
   whole_passes all =
       let none : drop n text ≡ [] = drop_all n text (omega arith) in

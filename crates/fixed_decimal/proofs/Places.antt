@@ -53,6 +53,7 @@ module _ (d y : Unsigned) (f b : ℕ) (k : ℤ) (some : d.scale < length d.digit
   behind : (i : ℕ) → get_or y.digits (f + i) 0 ≡ get_or d.digits i 0
   behind i = ap (λ l. get_or l (f + i) 0) digits ∙ padded d.digits f b i
 
+  -- the digit at a power stands at the moved power
   pub digit_at-moved : (p : ℤ) → digit_at y (p +ℤ k) ≡ digit_at d p
   digit_at-moved p = go ((pos (integer_count d) -ℤ pos 1) -ℤ p) refl
     where

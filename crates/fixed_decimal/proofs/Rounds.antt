@@ -61,12 +61,14 @@ module _ (ds : List ℕ) (s c kept n s' e : ℕ) (len : s + c ≡ length ds) (fi
   result_size : (k : ℕ) (hs : List ℕ) → weighed (finest - s') (hs ++ replicate (k + n) 0) ≡ weighed k hs * 10 ^ e
   result_size k hs = weighed-zeros (finest - s') k n hs ∙ ap (λ x. weighed k hs * 10 ^ x) (omega arith)
 
+  -- where the kept digits are to stay, the number that they make is the nearest one
   pub down : kept + n ≡ c + s' → kept ≤ length ds → RoundsDown (10 ^ length (drop kept ds)) (weighed 0 (take kept ds)) (weighed 0 (drop kept ds)) → IsNearest (IsMultiple (10 ^ e)) (10 ^ e) (weighed (finest - s) ds) (weighed (finest - s') (take kept ds ++ replicate n 0))
   down keep within half =
       let y : weighed (finest - s') (take kept ds ++ replicate n 0) ≡ weighed 0 (take kept ds) * 10 ^ e = rw (zero-add n) at (result_size 0 (take kept ds)) in
       rw (size_split keep within, y, unit_split keep within)
       (down_nearest (10 ^ length (drop kept ds)) (weighed 0 (take kept ds)) (weighed 0 (drop kept ds)) (10 ^ (finest - s)) (ten_pos (finest - s)) half)
 
+  -- where the kept digits are to be raised, the number that they make then is the nearest one
   pub up : AreDigits (drop kept ds) → kept + n ≡ c + s' → kept ≤ length ds → RoundsUp (10 ^ length (drop kept ds)) (weighed 0 (take kept ds)) (weighed 0 (drop kept ds)) → (k : ℕ) (hs : List ℕ) → weighed k hs ≡ weighed 0 (take kept ds) + 1 → IsNearest (IsMultiple (10 ^ e)) (10 ^ e) (weighed (finest - s) ds) (weighed (finest - s') (hs ++ replicate (k + n) 0))
   up digits keep within half k hs one_more =
       let y : weighed (finest - s') (hs ++ replicate (k + n) 0) ≡ (weighed 0 (take kept ds) + 1) * 10 ^ e = result_size k hs ∙ ap (λ x. x * 10 ^ e) one_more in

@@ -11,9 +11,11 @@ pub record Digits : Type 0 where
   pub values : List ℕ
   pub rest : List ℕ
 
+-- one digit more in front
 abbrev pub digit_before : ℕ → Digits → Digits
 digit_before b d = record { values = (b - digit_zero) ∷ d.values; rest = d.rest }
 
+-- the digits that a text begins with, and what follows them
 abbrev pub leading_digits : List ℕ → Digits
 leading_digits [] = record { values = []; rest = [] }
 leading_digits (b ∷ bs) = if is_ascii_digit b then digit_before b (leading_digits bs) else record { values = []; rest = b ∷ bs }
@@ -33,14 +35,17 @@ with_fraction before [] rest = None
 with_fraction before (d ∷ ds) [] = number before (d ∷ ds)
 with_fraction before (d ∷ ds) (b ∷ bs) = None
 
+-- the number whose digits before the point are given, by what follows them
 abbrev pub after_integer : List ℕ → List ℕ → Option Unsigned
 after_integer before [] = whole_number before
 after_integer before (b ∷ bs) =
     if b == point then with_fraction before (leading_digits bs).values (leading_digits bs).rest else None
 
+-- the number that a text without a sign spells
 abbrev pub unsigned_reading : List ℕ → Option Unsigned
 unsigned_reading text = after_integer (leading_digits text).values (leading_digits text).rest
 
+-- the number with a sign
 abbrev pub signed : Sign → Option Unsigned → Option (Sign × Unsigned)
 signed sign None = None
 signed sign (Some d) = Some (sign, d)

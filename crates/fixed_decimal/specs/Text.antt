@@ -9,12 +9,15 @@ use Rattle.fixed_decimal.specs.Unsigned.{Unsigned, AreDigits, IsWithinLimits}
 abbrev pub plus_sign : ℕ
 plus_sign = 43
 
+-- the byte of a minus sign
 abbrev pub minus_sign : ℕ
 minus_sign = 45
 
+-- the byte of the point
 abbrev pub point : ℕ
 point = 46
 
+-- the byte of the digit 0
 abbrev pub digit_zero : ℕ
 digit_zero = 48
 
@@ -28,6 +31,7 @@ sign_text Positive = plus_sign ∷ []
 abbrev pub digits_text : List ℕ → List ℕ
 digits_text ds = map (λ d. digit_zero + d) ds
 
+-- what written digits stand for
 abbrev pub digit_values : List ℕ → List ℕ
 digit_values bytes = map (λ c. c - digit_zero) bytes
 

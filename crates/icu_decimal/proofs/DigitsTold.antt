@@ -31,6 +31,7 @@ module _ (f : DecimalFormat) (h : IsReadable f.symbols.strings f.digits) where
       (λ (g : y < x). absurd (h.different y x 0 g (omega (arith, h.ten)) (sym e))))
       (cases_order x y)
 
+  -- characters tell their digits
   pub characters_tell : (xs ys : List ℕ) → Every IsDigit xs → Every IsDigit ys → digit_characters f xs ≡ digit_characters f ys → xs ≡ ys
   characters_tell [] [] hx hy e = refl
   characters_tell [] (y ∷ ys) hx hy e = cc
@@ -53,6 +54,7 @@ module _ (c : Unsigned) (h : IsUnsigned c) where
   pub integer_below : Every IsDigit (integer c)
   integer_below = every_before IsDigit (integer c) (fraction c) both_below
 
+  -- the fraction's digits are digits
   pub fraction_below : Every IsDigit (fraction c)
   fraction_below = every_after IsDigit (integer c) (fraction c) both_below
 

@@ -20,11 +20,13 @@ runs-cut : (D : ℕ → Type 0) (p s : ℕ) (xs : List ℕ) → Every D xs → R
 runs-cut D p s [] h = tt
 runs-cut D p s (x ∷ xs) h = runs-put_before D p s x (cut p s xs) h.0 (runs-cut D p s xs h.1)
 
+-- no group of some digits is empty
 pub runs-groups : (D : ℕ → Type 0) (s : GroupingSizes) (strategy : GroupingStrategy) (x : ℕ) (xs : List ℕ) → Every D (x ∷ xs) → Runs D (digit_groups (x ∷ xs) s strategy)
 runs-groups D s strategy x xs h =
     elim (is_grouped (length (x ∷ xs)) s strategy) as (λ b. Runs D (if b then cut s.primary (secondary_size s) (x ∷ xs) else (x ∷ xs) ∷ []))
     [ true ↦ runs-cut D s.primary (secondary_size s) (x ∷ xs) h | false ↦ (h.0, h.1, tt) ]
 
+-- groups that hold a digit are not none
 pub some_groups : (gs : List (List ℕ)) (x : ℕ) (xs : List ℕ) → concatenated gs ≡ x ∷ xs → gs ≢ []
 some_groups [] x xs e none = cc
 some_groups (g ∷ gs) x xs e none = cc

@@ -51,6 +51,7 @@ module _ (p s : ℕ) (hp : 0 < p) (hs : 0 < s) where
       let e = ending k gs h.1 in
       record { inner = g ∷ e.inner; last = e.last; parts = ap (λ (l : List (List ℕ)). g ∷ l) e.parts; inner_sizes = All-cons (λ k. length k ≡ s) g e.inner h.0 e.inner_sizes; last_size = e.last_size }
 
+  -- what is cut is a grouping
   pub cut-is_grouping : (digits : List ℕ) → p < length digits → IsGrouping digits p s (cut p s digits)
   cut-is_grouping digits long = go (cut p s digits) (AreSized-cut digits) (concatenated-cut p s digits)
     where
@@ -107,6 +108,7 @@ module _ (p s : ℕ) (hp : 0 < p) (hs : 0 < s) where
       let sizes = All-tail (λ g. length g ≡ s) i inner h in
       cut-group i (concatenated (inner ++ last ∷ [])) (inner ++ last ∷ []) (omega (arith, size)) (omega (arith, size)) (omega (arith, length-append inner (last ∷ []))) (cut-inner inner last sizes k) (inner_full inner last sizes k)
 
+-- and the only one
 pub grouping-unique : (p s : ℕ) → 0 < p → (digits : List ℕ) (groups : List (List ℕ)) → IsGrouping digits p s groups → groups ≡ cut p s digits
 grouping-unique p s hp digits groups g =
     let hs : 0 < s = omega (arith, g.first_some, g.first_at_most) in

@@ -11,6 +11,7 @@ use Rattle.icu_decimal_data.specs.declared.grouping_sizes.GroupingSizes.{Groupin
 use Rattle.icu_decimal.specs.Grouping.{secondary_size, least_before, groups_ever, is_grouped, digit_groups, EndsGroup, HasSeparatorAfter}
 use Rattle.icu_decimal.proofs.Groupings.{IsDue, EndsGroup-cut}
 
+-- where both tests hold, each does
 pub and_both : (a b : Bool) → (a && b) ≡ true → (a ≡ true) × (b ≡ true)
 and_both true b e = (refl, e)
 and_both false b e = cc

@@ -77,6 +77,7 @@ module _ (decimal : DecimalFormat) (rules : List Rule) (sign : Sign) where
   abbrev padded_written : IsCompactFormat format sign padded padded 0 events
   padded_written = record { shown = 10 ^ finest; entry = None; displayed = padded_displayed; exponent_is = refl; events_are = refl }
 
+  -- without the premise on padding, that numbers are shown again is false
   pub padding_is_needed : ((d again : Unsigned) → IsUnpadded again → IsShownAgain format sign d again) → ⊥
   padding_is_needed law =
       let again = (law padded one one_unpadded).alike padded 0 events padded_written one_is in

@@ -44,13 +44,6 @@ affixes_for symbols Positive = Some (record {
   suffix = symbols.strings.plus_sign_suffix;
 })
 
--- the events between the two affixes, each in its part; without affixes the events alone
-abbrev pub affixed_events : Option Affixes → List Event → List Event
-affixed_events None es = es
-affixed_events (Some affixes) es =
-    in_part affixes.category affixes.name (text_events affixes.prefix)
-    ++ (es ++ in_part affixes.category affixes.name (text_events affixes.suffix))
-
 -- what stands before a value, in its part; nothing without affixes
 abbrev pub prefix_events : Option Affixes → List Event
 prefix_events None = []
@@ -60,6 +53,11 @@ prefix_events (Some affixes) = in_part affixes.category affixes.name (text_event
 abbrev pub suffix_events : Option Affixes → List Event
 suffix_events None = []
 suffix_events (Some affixes) = in_part affixes.category affixes.name (text_events affixes.suffix)
+
+-- the events between the two affixes, each in its part; without affixes the events alone
+abbrev pub affixed_events : Option Affixes → List Event → List Event
+affixed_events None es = es
+affixed_events (Some affixes) es = prefix_events (Some affixes) ++ (es ++ suffix_events (Some affixes))
 
 -- whether the parts and the texts are equal
 abbrev pub same_affixes : Affixes → Affixes → Bool

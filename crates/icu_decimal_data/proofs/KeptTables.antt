@@ -15,10 +15,12 @@ use Rattle.icu_decimal_data.specs.Kept.{given, kept, changes, repeats, is_zero_m
 use Rattle.icu_decimal_data.specs.CompactFaults.{fault_of, falls_after, entry_fault, first_entry_fault}
 use Rattle.icu_decimal_data.proofs.EntryFaults.{none_or, sound_entry, no_entry_fault}
 
+-- each entry has the property
 abbrev pub Each : (TableEntry → Type 0) → List TableEntry → Type 0
 Each P [] = Unit {0}
 Each P (e ∷ es) = P e × Each P es
 
+-- each entry is so related to each later one
 abbrev pub Pairs : (TableEntry → TableEntry → Type 0) → List TableEntry → Type 0
 Pairs R [] = Unit {0}
 Pairs R (e ∷ es) = Each (R e) es × Pairs R es

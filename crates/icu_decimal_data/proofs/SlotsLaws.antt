@@ -20,6 +20,7 @@ LastIsPresent [] = ⊤
 LastIsPresent (s ∷ []) = IsSome s
 LastIsPresent (s ∷ t ∷ ss) = LastIsPresent (t ∷ ss)
 
+-- what n slots that pass show: their bytes are written of the patterns in them, and their literals follow one another
 pub record TakenSlots (accepts : PatternText → Bool) (pool : List ℕ) (n sum : ℕ) (bytes : List ℕ) (next : ℕ) : Type 0 where
   pub written : slots_bytes sum (slots_in pool n bytes) ≡ take (7 * n) bytes
   pub next_is : next ≡ sum + length (slot_literals (slots_in pool n bytes))

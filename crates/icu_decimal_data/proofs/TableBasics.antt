@@ -5,6 +5,7 @@ use Rattle.std.proofs.lemmas.List.{get_or-drop, get_or-take, get_or_past, length
 use Rattle.std.proofs.Math.Seq.{take-add}
 use Rattle.icu_decimal_data.specs.TableReading.{unless, ◌>>=◌}
 
+-- each item is below 256
 abbrev pub IsBytes : List ℕ → Type 0
 IsBytes bytes = (i : ℕ) → get_or bytes i 0 < 256
 

@@ -13,6 +13,7 @@ abbrev pub falls_after : ℕ → List TableEntry → Bool
 falls_after before [] = false
 falls_after before (e ∷ es) = nat_lt e.exponent before || falls_after e.exponent es
 
+-- whether some exponent is below that of the type just before
 abbrev pub has_falling_exponents : List TableEntry → Bool
 has_falling_exponents es = falls_after 0 es
 
@@ -22,6 +23,7 @@ fault_at log10_type exponent =
     if nat_lt log10_type exponent then Some ExponentAboveType
     else if nat_lt (exponent + shift_limit) log10_type then Some TooManyZeros else None
 
+-- the fault of an entry by itself
 abbrev pub entry_fault : TableEntry → Option CompactError
 entry_fault e = fault_at e.log10_type e.exponent
 
@@ -34,9 +36,11 @@ first_entry_fault (e ∷ es) = option_or (entry_fault e) (first_entry_fault es)
 abbrev pub slot_size : Option PatternText → ℕ
 slot_size s = option_map_or (λ (p : PatternText). length p.literal) s 0
 
+-- the bytes of the literals of an entry's patterns
 abbrev pub elements_size : PatternElements → ℕ
 elements_size e = sum_by slot_size (slots e)
 
+-- the bytes of the literals of all entries
 abbrev pub literals_size : List TableEntry → ℕ
 literals_size es = sum_by (λ (e : TableEntry). elements_size e.elements) es
 

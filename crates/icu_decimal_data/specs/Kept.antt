@@ -23,6 +23,7 @@ abbrev pub skipped : Option PatternElements → List TableEntry → List TableEn
 skipped plain [] = []
 skipped plain (e ∷ es) = if is_zero_magnitude plain e.elements then e ∷ skipped plain es else []
 
+-- the entries from the first on that differs from the numbers that are not shortened
 abbrev pub unskipped : Option PatternElements → List TableEntry → List TableEntry
 unskipped plain [] = []
 unskipped plain (e ∷ es) = if is_zero_magnitude plain e.elements then unskipped plain es else e ∷ es

@@ -41,6 +41,7 @@ pub record IsEntry (accepts : PatternText → Bool) (e : TableEntry) : Type 0 wh
   pub few_zeros : e.log10_type ≤ e.exponent + shift_limit
   pub patterns : ArePatterns accepts (slots e.elements)
 
+-- each is an entry that may stand after the one before
 abbrev pub AreEntries : (PatternText → Bool) → Option TableEntry → List TableEntry → Type 0
 AreEntries accepts before [] = ⊤
 AreEntries accepts before (e ∷ es) = IsEntry accepts e × Follows before e × AreEntries accepts (Some e) es
@@ -50,10 +51,12 @@ abbrev pub literal_of : Option PatternText → List ℕ
 literal_of None = []
 literal_of (Some p) = p.literal
 
+-- the literals of some slots
 abbrev pub slot_literals : List (Option PatternText) → List ℕ
 slot_literals [] = []
 slot_literals (s ∷ ss) = literal_of s ++ slot_literals ss
 
+-- the literals of all entries
 abbrev pub literals : List TableEntry → List ℕ
 literals [] = []
 literals (e ∷ es) = slot_literals (slots e.elements) ++ literals es

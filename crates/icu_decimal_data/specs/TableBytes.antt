@@ -5,6 +5,7 @@ use Rattle.icu_base.specs.Elements.{slots}
 use Rattle.icu_decimal_data.specs.CompactTable.{TableEntry}
 use Rattle.icu_decimal_data.specs.PackedTable.{literal_of, slot_literals, literals}
 
+-- a number below 65,536, the low byte first
 abbrev pub number_bytes : ℕ → List ℕ
 number_bytes n = n % 256 ∷ n / 256 ∷ []
 
@@ -13,6 +14,7 @@ abbrev pub kind_of : Option ℕ → ℕ
 kind_of None = 1
 kind_of (Some k) = 2
 
+-- the place, or 0 without one
 abbrev pub place_number : Option ℕ → ℕ
 place_number None = 0
 place_number (Some k) = k
@@ -22,13 +24,16 @@ abbrev pub slot_bytes : ℕ → Option PatternText → List ℕ
 slot_bytes start None = 0 ∷ 0 ∷ 0 ∷ 0 ∷ 0 ∷ 0 ∷ 0 ∷ []
 slot_bytes start (Some p) = kind_of p.place ∷ (number_bytes start ++ (number_bytes (length p.literal) ++ number_bytes (place_number p.place)))
 
+-- the slots, where the first literal begins at a place in the pool
 abbrev pub slots_bytes : ℕ → List (Option PatternText) → List ℕ
 slots_bytes start [] = []
 slots_bytes start (s ∷ ss) = slot_bytes start s ++ slots_bytes (start + length (literal_of s)) ss
 
+-- 58 bytes: the type, the exponent, eight slots
 abbrev pub record_bytes : ℕ → TableEntry → List ℕ
 record_bytes start e = e.log10_type ∷ e.exponent ∷ slots_bytes start (slots e.elements)
 
+-- the records of entries one after another
 abbrev pub records_bytes : ℕ → List TableEntry → List ℕ
 records_bytes start [] = []
 records_bytes start (e ∷ es) = record_bytes start e ++ records_bytes (start + length (slot_literals (slots e.elements))) es

@@ -25,6 +25,7 @@ pattern_in pool slot = record {
   literal = slice_range pool (number slot 1) (number slot 1 + number slot 3);
 }
 
+-- what a slot's seven bytes hold: a pattern, or nothing
 abbrev pub slot_in : List ℕ → List ℕ → Option PatternText
 slot_in pool slot = if slice_index slot 0 == 0 then None else Some (pattern_in pool slot)
 
@@ -37,6 +38,7 @@ slots_in pool (suc n) bytes = slot_in pool (take 7 bytes) ∷ slots_in pool n (d
 abbrev pub slot_at : List ℕ → ℕ → List ℕ
 slot_at bytes j = slice_range bytes (7 * j) (7 * j + 7)
 
+-- the patterns in the 56 bytes of a record's slots
 abbrev pub elements_in : List ℕ → List ℕ → PatternElements
 elements_in pool bytes = record {
   explicit_zero = slot_in pool (slot_at bytes 0);
@@ -62,6 +64,7 @@ abbrev pub entries_in : List ℕ → ℕ → List ℕ → List TableEntry
 entries_in pool zero bytes = []
 entries_in pool (suc n) bytes = entry_in pool (take 58 bytes) ∷ entries_in pool n (drop 58 bytes)
 
+-- how many entries there are
 abbrev pub count_in : List ℕ → ℕ
 count_in bytes = number bytes 0
 
@@ -69,6 +72,7 @@ count_in bytes = number bytes 0
 abbrev pub pool_start : List ℕ → ℕ
 pool_start bytes = 4 + 58 * count_in bytes
 
+-- the literals, behind the records
 abbrev pub pool_in : List ℕ → List ℕ
 pool_in bytes = drop (pool_start bytes) bytes
 
@@ -78,6 +82,7 @@ table_in bytes = entries_in (pool_in bytes) (count_in bytes) (drop 4 bytes)
 
 -- ---- the first damage
 
+-- goes on with what was found, unless there is damage
 infixl 10 ◌>>=◌
 abbrev pub ◌>>=◌ : {A B : Type 0} → Result A ℕ → (A → Result B ℕ) → Result B ℕ
 (Ok x) >>= f = f x
@@ -118,6 +123,7 @@ abbrev pub is_wrong_type : Option (List ℕ) → List ℕ → Bool
 is_wrong_type None bytes = false
 is_wrong_type (Some before) bytes = nat_le (slice_index bytes 0) (slice_index before 0)
 
+-- an exponent below that of the record before
 abbrev pub is_falling : Option (List ℕ) → List ℕ → Bool
 is_falling None bytes = false
 is_falling (Some before) bytes = nat_lt (slice_index bytes 1) (slice_index before 1)
@@ -136,14 +142,16 @@ slots_without_explicit_one [] = []
 slots_without_explicit_one (a ∷ []) = a ∷ []
 slots_without_explicit_one (a ∷ b ∷ rest) = a ∷ None ∷ rest
 
+-- the patterns of the record before, but for that one's pattern for exactly one
 abbrev pub is_repeated : List ℕ → Option (List ℕ) → List ℕ → Bool
 is_repeated pool None bytes = false
 is_repeated pool (Some before) bytes = same_slots (slots_without_explicit_one (slots_in pool 8 (drop 2 before))) (slots_in pool 8 (drop 2 bytes))
 
--- the same slot in two records; the same slots from slot j on
+-- the same slot in two records
 abbrev pub same_at : List ℕ → List ℕ → List ℕ → ℕ → Bool
 same_at pool before bytes j = option_eq same_pattern (slot_in pool (slot_at (drop 2 before) j)) (slot_in pool (slot_at (drop 2 bytes) j))
 
+-- n slots from slot j on are the same in two records
 abbrev pub same_from : List ℕ → List ℕ → List ℕ → ℕ → ℕ → Bool
 same_from pool before bytes j zero = true
 same_from pool before bytes j (suc n) = same_at pool before bytes j && same_from pool before bytes (j + 1) n

@@ -81,8 +81,10 @@ impl<P: PatternBackend> CompactPatterns<P> {
         patterns: BTreeMap<u8, (u8, PluralElements<Pattern<P>>)>,
         zero_magnitude: Option<&PluralElements<Pattern<P>>>,
     ) -> Result<Self, CompactError>
-        ensures kept { IfOk result (λ table. table ≡ kept (at zero_magnitude.entry) (given patterns.entries)) }
-        ensures refused { MatchOption (fault_of (at zero_magnitude.entry) (given patterns.entries)) (IsOkUnless result OutOfMemory) (λ fault. IsErrOf result fault) }
+        ensures kept { IfOk result (λ table.
+            table ≡ kept (at zero_magnitude.entry) (given patterns.entries)) }
+        ensures refused { MatchOption (fault_of (at zero_magnitude.entry) (given patterns.entries))
+            (IsOkUnless result OutOfMemory) (λ fault. IsErrOf result fault) }
     {
         if let Some(fault) = first_fault(&patterns, zero_magnitude) {
             return Err(fault);
@@ -111,7 +113,8 @@ impl<P: PatternBackend> CompactPatterns<P> {
     /// The index of a magnitude's entry: the last one whose type is not above the magnitude.
     pub fn entry_index(&self, magnitude: i32) -> Option<usize>
         ensures entry { entry_at self.now result ≡ entry_for self.now (place magnitude) }
-        ensures next { slice_get self.now (index_after result) ≡ next_entry self.now (place magnitude) }
+        ensures next { slice_get self.now (index_after result)
+            ≡ next_entry self.now (place magnitude) }
         ensures index { IsIndex self.now result }
         ensures table { IsCompactTable self.now }
     {
@@ -142,7 +145,8 @@ impl<P: PatternBackend> CompactPatterns<P> {
     pub fn slot(&self, index: usize, slot: u8) -> Option<PatternRef<'_, P>>
         requires index { index < length self.now }
         requires slot { slot < 8 }
-        ensures { IfSome (slice_get self.now index) (λ e. option_map text_of_ref result ≡ slice_index_or (slots e.elements) slot None) }
+        ensures { IfSome (slice_get self.now index) (λ e. option_map text_of_ref result
+            ≡ slice_index_or (slots e.elements) slot None) }
     {
         pattern_at(&self.bytes, index, slot as usize)
     }
@@ -150,8 +154,11 @@ impl<P: PatternBackend> CompactPatterns<P> {
     /// The pattern of an entry that has one for all numbers and no other: what `pick` answers for every number.
     pub fn sole_pattern(&self, index: usize) -> Option<PatternRef<'_, P>>
         requires { index < length self.now }
-        ensures pattern { IfSome (slice_get self.now index) (λ e. option_map text_of_ref result ≡ sole_value e.elements) }
-        ensures picked { IfSome (slice_get self.now index) (λ e. IfSome result (λ p. (operands : Operands) (category : PluralCategory) → selected e.elements operands category ≡ text_of_ref p)) }
+        ensures pattern { IfSome (slice_get self.now index) (λ e. option_map text_of_ref result
+            ≡ sole_value e.elements) }
+        ensures picked { IfSome (slice_get self.now index) (λ e.
+            IfSome result (λ p. (operands : Operands) (category : PluralCategory)
+            → selected e.elements operands category ≡ text_of_ref p)) }
     {
         sole_pattern(&self.bytes, index)
     }
@@ -166,7 +173,8 @@ impl<P: PatternBackend> CompactPatterns<P> {
         rules: &PluralRules,
     ) -> PatternRef<'_, P>
         requires { index < length self.now }
-        ensures { IfSome (slice_get self.now index) (λ e. text_of_ref result ≡ selected e.elements operands.now (category_of rules.now operands.now)) }
+        ensures { IfSome (slice_get self.now index) (λ e. text_of_ref result
+            ≡ selected e.elements operands.now (category_of rules.now operands.now)) }
     {
         pick(&self.bytes, index, operands, rules)
     }

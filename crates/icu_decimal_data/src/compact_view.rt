@@ -48,10 +48,13 @@ impl<'a, P: PatternBackend> CompactView<'a, P> {
     /// two; then record by record and slot by slot what can't stand there; then bytes that no slot names, at the first.
     #[tactic(auto, using(crate::proofs::PackedTables::tables))]
     pub fn parse(bytes: &'a [u8]) -> Result<Self, Damaged>
-        ensures found { IfOk result (λ v. IsPackable P.accepted (table_shown v) × (bytes.now ≡ table_bytes (table_shown v))) }
-        ensures every { (t : List TableEntry) → IsPackable P.accepted t → bytes.now ≡ table_bytes t → IsOkAnd result (λ v. table_shown v ≡ t) }
+        ensures found { IfOk result (λ v. IsPackable P.accepted (table_shown v)
+            × (bytes.now ≡ table_bytes (table_shown v))) }
+        ensures every { (t : List TableEntry) → IsPackable P.accepted t → bytes.now ≡ table_bytes t
+            → IsOkAnd result (λ v. table_shown v ≡ t) }
         ensures inside { IfErr result (λ e. e.byte ≤ length bytes.now) }
-        ensures damaged { MatchResult result (λ _. IsOk (table_step P.accepted bytes.now)) (λ e. table_step P.accepted bytes.now ≡ Err e.byte) }
+        ensures damaged { MatchResult result (λ _. IsOk (table_step P.accepted bytes.now)) (λ e.
+            table_step P.accepted bytes.now ≡ Err e.byte) }
     {
         check::<P>(bytes)?;
         Ok(CompactView {
@@ -63,7 +66,8 @@ impl<'a, P: PatternBackend> CompactView<'a, P> {
     /// The entry of a magnitude, found by binary search: the last one whose type is not above the magnitude.
     #[tactic(auto, using(crate::proofs::TableSearch::searching))]
     pub fn entry_for_magnitude(&self, magnitude: i16) -> Option<EntryView<'a, P>>
-        ensures { option_map entry_shown result ≡ entry_for (table_shown self.now) (place magnitude) }
+        ensures { option_map entry_shown result
+            ≡ entry_for (table_shown self.now) (place magnitude) }
     {
         match reached(self.bytes, magnitude as i32) {
             0 => None,
@@ -130,7 +134,8 @@ impl<'a, P: PatternBackend> EntryView<'a, P> {
     /// few and many, and for all other numbers.
     pub fn slot(&self, slot: u8) -> Option<PatternRef<'a, P>>
         requires { slot < 8 }
-        ensures { option_map text_of_ref result ≡ slice_index_or (slots (entry_shown self.now).elements) slot None }
+        ensures { option_map text_of_ref result
+            ≡ slice_index_or (slots (entry_shown self.now).elements) slot None }
     {
         pattern_at(self.bytes, self.index, slot as usize)
     }
@@ -139,7 +144,8 @@ impl<'a, P: PatternBackend> EntryView<'a, P> {
     /// is just this one; else that of the number's plural category, where it is present; else the one for all other
     /// numbers.
     pub fn pick(&self, operands: &PluralOperands, rules: &PluralRules) -> PatternRef<'a, P>
-        ensures { text_of_ref result ≡ selected (entry_shown self.now).elements operands.now (category_of rules.now operands.now) }
+        ensures { text_of_ref result ≡ selected (entry_shown self.now).elements operands.now
+            (category_of rules.now operands.now) }
     {
         pick(self.bytes, self.index, operands, rules)
     }

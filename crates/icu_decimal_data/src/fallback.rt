@@ -20,7 +20,8 @@ pub fn load_with_fallback<M: DataMarker, D: DataProvider<M>>(
     provider: &D,
     ids: &[DataIdentifierBorrowed<'_>],
 ) -> Result<M::DataStruct, DataError>
-    ensures { Answers result (decided (map (λ id. D.answer provider.now (identifier_of id)) ids.now)) }
+    ensures { Answers result
+        (decided (map (λ id. D.answer provider.now (identifier_of id)) ids.now)) }
 {
     let Some((last, others)) = ids.split_last() else {
         return Err(DataError::from(DataErrorKind::InvalidRequest));

@@ -32,13 +32,15 @@ pub fn equal_tables_are_the_same<P: PatternBackend>()
 
 /// Two tables are equal exactly where their byte strings are.
 pub fn equal_tables_have_equal_bytes<P: PatternBackend>()
-    ensures { (a b : List TableEntry) → IsPackable P.accepted a → IsPackable P.accepted b → IsTrue (⟦<CompactPatterns<P> as PartialEq>⟧.eq a b) ↔ (table_bytes a ≡ table_bytes b) }
+    ensures { (a b : List TableEntry) → IsPackable P.accepted a → IsPackable P.accepted b
+        → IsTrue (⟦<CompactPatterns<P> as PartialEq>⟧.eq a b) ↔ (table_bytes a ≡ table_bytes b) }
 {}
 
 /// The byte string of a table, which `CompactPatterns::as_bytes` lends and `pack` copies, is read by `CompactView::parse`,
 /// and the view shows the table.
 pub fn tables_are_read_again<P: PatternBackend>()
-    ensures { (t : List TableEntry) → IsPackable P.accepted t → IsOk (table_step P.accepted (table_bytes t)) × (table_in (table_bytes t) ≡ t) }
+    ensures { (t : List TableEntry) → IsPackable P.accepted t
+        → IsOk (table_step P.accepted (table_bytes t)) × (table_in (table_bytes t) ≡ t) }
 {}
 
 /// Every table that `CompactView::parse` reads is one that `CompactPatterns::new` makes: of the map of its own entries.

@@ -79,7 +79,8 @@ fn check_slot<P: PatternBackend>(
     requires pool_room { pool_start + 2 ^ 16 < 2 ^ 64 }
     requires sum_room { sum ≤ length pool.now }
     ensures inside { IfOk result (λ n. n ≤ length pool.now) }
-    ensures gives { Gives result (slot_step P.accepted pool.now pool_start is_last at sum slot.now) }
+    ensures gives { Gives result
+        (slot_step P.accepted pool.now pool_start is_last at sum slot.now) }
 {
     if is_kind_wrong::<P>(is_last, slot[0]) {
         return Err(Damaged { byte: at });
@@ -156,7 +157,8 @@ fn is_same_place(a: &[u8], b: &[u8]) -> bool
 fn is_same_literal(pool: &[u8], a: &[u8], b: &[u8]) -> bool
     requires a { length a.now ≡ 7 }
     requires b { length b.now ≡ 7 }
-    ensures { result ≡ pointwise nat_eq (pattern_in pool.now a.now).literal (pattern_in pool.now b.now).literal }
+    ensures { result ≡ pointwise nat_eq (pattern_in pool.now a.now).literal
+        (pattern_in pool.now b.now).literal }
 {
     literal_of(pool, a) == literal_of(pool, b)
 }
@@ -234,7 +236,9 @@ fn check_record<P: PatternBackend>(
     requires pool_room { pool_start + 2 ^ 16 < 2 ^ 64 }
     requires sum_room { sum ≤ length pool.now }
     ensures inside { IfOk result (λ n. n ≤ length pool.now) }
-    ensures gives { Gives result (record_step P.accepted pool.now pool_start (option_map (λ b. b.now) before.entry) at sum bytes.now) }
+    ensures gives { Gives result
+        (record_step P.accepted pool.now pool_start
+        (option_map (λ b. b.now) before.entry) at sum bytes.now) }
 {
     let log10_type = bytes[0];
     let exponent = bytes[1];
@@ -272,7 +276,8 @@ fn check_records<P: PatternBackend>(
     requires few { count ≤ 256 }
     requires pool_room { pool_start + 2 ^ 16 < 2 ^ 64 }
     ensures inside { IfOk result (λ n. n ≤ length pool.now) }
-    ensures gives { Gives result (records_step P.accepted pool.now pool_start count None 4 0 records.now) }
+    ensures gives { Gives result
+        (records_step P.accepted pool.now pool_start count None 4 0 records.now) }
 {
     let mut total = 0;
     let mut before = None;

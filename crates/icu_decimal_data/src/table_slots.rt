@@ -40,7 +40,8 @@ fn is_present<P: PatternBackend>(bytes: &[u8], index: usize, slot: usize) -> boo
     requires table { IsTableBytes P.accepted bytes.now }
     requires inside { index < count_in bytes.now }
     requires slot { slot < 8 }
-    ensures { result ≡ is_some (slice_index_or (slots (entry_of bytes.now index).elements) slot None) }
+    ensures { result ≡ is_some
+        (slice_index_or (slots (entry_of bytes.now index).elements) slot None) }
 {
     slot_of(bytes, index, slot)[0] != ABSENT
 }
@@ -73,7 +74,8 @@ pub(crate) fn pattern_at<P: PatternBackend>(
     requires table { IsTableBytes P.accepted bytes.now }
     requires inside { index < count_in bytes.now }
     requires slot { slot < 8 }
-    ensures { option_map text_of_ref result ≡ slice_index_or (slots (entry_of bytes.now index).elements) slot None }
+    ensures { option_map text_of_ref result
+        ≡ slice_index_or (slots (entry_of bytes.now index).elements) slot None }
 {
     let found = slot_of(bytes, index, slot);
     if found[0] == ABSENT {
@@ -126,7 +128,8 @@ pub(crate) fn pick<'a, P: PatternBackend>(
 ) -> PatternRef<'a, P>
     requires table { IsTableBytes P.accepted bytes.now }
     requires inside { index < count_in bytes.now }
-    ensures { text_of_ref result ≡ selected (entry_of bytes.now index).elements operands.now (category_of rules.now operands.now) }
+    ensures { text_of_ref result ≡ selected (entry_of bytes.now index).elements operands.now
+        (category_of rules.now operands.now) }
 {
     let slot = rules.slot_for(operands, &presence::<P>(bytes, index));
     match pattern_at(bytes, index, slot as usize) {

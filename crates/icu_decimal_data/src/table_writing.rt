@@ -36,9 +36,12 @@ fn push_slot<P: PatternBackend>(
     slot: Option<&Pattern<P>>,
 ) -> Result<(), AllocError>
     requires { length pool.old.items + length (literal_of (option_map (λ p. p.now) slot)) < 2 ^ 16 }
-    ensures records { OnOk result (records.new.items ≡ records.old.items ++ slot_bytes (length pool.old.items) (option_map (λ p. p.now) slot.entry)) }
-    ensures pool { OnOk result (pool.new.items ≡ pool.old.items ++ literal_of (option_map (λ p. p.now) slot.entry)) }
-    ensures pattern { OnOk result (ArePatterns P.accepted (option_map (λ p. p.now) slot.entry ∷ [])) }
+    ensures records { OnOk result (records.new.items ≡ records.old.items
+        ++ slot_bytes (length pool.old.items) (option_map (λ p. p.now) slot.entry)) }
+    ensures pool { OnOk result (pool.new.items ≡ pool.old.items
+        ++ literal_of (option_map (λ p. p.now) slot.entry)) }
+    ensures pattern { OnOk result
+        (ArePatterns P.accepted (option_map (λ p. p.now) slot.entry ∷ [])) }
 {
     let Some(pattern) = slot else {
         return records.extend_from_slice(&[ABSENT; SLOT_LEN]);
@@ -63,8 +66,10 @@ fn push_slots<P: PatternBackend>(
     elements: &Elements<P>,
 ) -> Result<(), AllocError>
     requires { length pool.old.items + length (slot_literals (slots elements.now)) < 2 ^ 16 }
-    ensures records { OnOk result (records.new.items ≡ records.old.items ++ slots_bytes (length pool.old.items) (slots elements.now)) }
-    ensures pool { OnOk result (pool.new.items ≡ pool.old.items ++ slot_literals (slots elements.now)) }
+    ensures records { OnOk result (records.new.items ≡ records.old.items
+        ++ slots_bytes (length pool.old.items) (slots elements.now)) }
+    ensures pool { OnOk result (pool.new.items ≡ pool.old.items
+        ++ slot_literals (slots elements.now)) }
     ensures patterns { OnOk result (ArePatterns P.accepted (slots elements.now)) }
 {
     for slot in 0..8 {
@@ -80,9 +85,12 @@ fn records_and_pool<P: PatternBackend>(
     zero_magnitude: Option<&Elements<P>>,
 ) -> Result<(Vec<u8>, Vec<u8>), AllocError>
     requires { length (literals (kept (at zero_magnitude) (given map.now.entries))) < 2 ^ 16 }
-    ensures records { IfOk result (λ p. p.0.items ≡ records_bytes 0 (kept (at zero_magnitude.entry) (given map.now.entries))) }
-    ensures pool { IfOk result (λ p. p.1.items ≡ literals (kept (at zero_magnitude.entry) (given map.now.entries))) }
-    ensures writable { IfOk result (λ _. AreWritable P.accepted (kept (at zero_magnitude.entry) (given map.now.entries))) }
+    ensures records { IfOk result (λ p.
+        p.0.items ≡ records_bytes 0 (kept (at zero_magnitude.entry) (given map.now.entries))) }
+    ensures pool { IfOk result (λ p.
+        p.1.items ≡ literals (kept (at zero_magnitude.entry) (given map.now.entries))) }
+    ensures writable { IfOk result (λ _.
+        AreWritable P.accepted (kept (at zero_magnitude.entry) (given map.now.entries))) }
     ensures sorted { IsStrictlySortedBy nat_cmp (keys_of map.now.entries) }
 {
     let mut records = Vec::new(alloc);
@@ -107,8 +115,10 @@ pub(crate) fn table_of<P: PatternBackend>(
     zero_magnitude: Option<&Elements<P>>,
 ) -> Result<Vec<u8>, AllocError>
     requires { length (literals (kept (at zero_magnitude) (given map.now.entries))) < 2 ^ 16 }
-    ensures bytes { IfOk result (λ b. b.items ≡ table_bytes (kept (at zero_magnitude.entry) (given map.now.entries))) }
-    ensures writable { IfOk result (λ _. AreWritable P.accepted (kept (at zero_magnitude.entry) (given map.now.entries))) }
+    ensures bytes { IfOk result (λ b.
+        b.items ≡ table_bytes (kept (at zero_magnitude.entry) (given map.now.entries))) }
+    ensures writable { IfOk result (λ _.
+        AreWritable P.accepted (kept (at zero_magnitude.entry) (given map.now.entries))) }
     ensures are_bytes { IfOk result (λ b. (i : ℕ) → slice_index b.items i < 256) }
     ensures sorted { IsStrictlySortedBy nat_cmp (keys_of map.now.entries) }
 {

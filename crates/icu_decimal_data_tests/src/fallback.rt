@@ -31,7 +31,8 @@ struct Told {
 }
 
 impl DataProvider<NumberV1> for Told {
-    ghost answer = { λ told id. slice_index_or told.answers.now (length (unwrap_or id.system [])) (Err IdentifierNotFound) };
+    ghost answer = { λ told id. slice_index_or told.answers.now (length (unwrap_or id.system []))
+        (Err IdentifierNotFound) };
 
     fn load(&self, _alloc: Global, request: &DataRequest<'_>) -> Result<u8, DataError> {
         let digit = if request.silent { 2 } else { 1 };

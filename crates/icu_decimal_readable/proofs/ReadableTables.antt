@@ -79,6 +79,7 @@ module _ (P : ℕ → PatternText → Type 0) where
   entry_of table k None is h = tt
   entry_of table k (Some e) is h = λ p has. h (Some e) p ((k, slice_get_within table k e is, get_or_from_slice_get table k e e is), has)
 
+  -- where one entry fails the test, the table does
   pub entry_failed : (table : List TableEntry) (k : ℕ) (b : Bool) → k < length table → b ≡ false → IfSome (slice_get table k) (λ e. IsTrue b ↔ HoldsOfEntry P e) → HoldsThroughout P table → ⊥
   entry_failed table k b within f is h = go (slice_get table k) (slice_get-get_or table k (first table within) within) is (entry_of table k (slice_get table k) refl h)
     where

@@ -63,6 +63,7 @@ abbrev pub sides_at : Option ℕ → List ℕ → Surroundings
 sides_at None literal = record { before = chars literal; after = [] }
 sides_at (Some n) literal = record { before = chars (take n literal); after = chars (drop n literal) }
 
+-- what a pattern has on both sides of its place
 abbrev pub sides : PatternText → Surroundings
 sides p = sides_at p.place p.literal
 

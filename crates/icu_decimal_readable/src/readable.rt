@@ -21,7 +21,8 @@ pub(crate) fn has_no_digit(digits: &[char], text: &str) -> bool
 /// Whether a character differs from those before it.
 fn is_new(digits: &[char], index: usize) -> bool
     requires { index < length digits.now }
-    ensures { IsTrue result ↔ ((a d : ℕ) → a < index → slice_index_or digits.now a d ≢ slice_index_or digits.now index d) }
+    ensures { IsTrue result ↔ ((a d : ℕ) → a < index
+        → slice_index_or digits.now a d ≢ slice_index_or digits.now index d) }
 {
     for before in 0..index {
         if digits[before] == digits[index] {

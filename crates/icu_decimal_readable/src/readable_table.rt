@@ -102,7 +102,9 @@ fn have_same_surroundings(
     first: Number<'_>,
     second: Number<'_>,
 ) -> bool
-    ensures { IsTrue result ↔ (around (texts_given texts.now) first.entry.sign (surroundings_of first.entry.sides) ≡ around (texts_given texts.now) second.entry.sign (surroundings_of second.entry.sides)) }
+    ensures { IsTrue result ↔ (around (texts_given texts.now) first.entry.sign
+        (surroundings_of first.entry.sides) ≡ around (texts_given texts.now) second.entry.sign
+        (surroundings_of second.entry.sides)) }
 {
     let (a, b) = (affixes(texts, first.sign), first.sides);
     let (c, d) = (affixes(texts, second.sign), second.sides);
@@ -120,7 +122,8 @@ trait PatternTest {
     /// Whether it holds of the pattern with this place and this literal.
     fn passes(&self, exponent: u8, place: Option<usize>, literal: &str) -> bool
         requires { PlaceFits (record { place = place; literal = literal.now }) }
-        ensures { IsTrue result ↔ holds self.now exponent (record { place = place; literal = literal.now }) };
+        ensures { IsTrue result
+            ↔ holds self.now exponent (record { place = place; literal = literal.now }) };
 }
 
 /// Whether the pattern in a slot of an entry passes a test, if there is one.
@@ -132,7 +135,8 @@ fn slot_passes<T: PatternTest>(
 ) -> bool
     requires index { index < length patterns.now }
     requires slot { slot < 8 }
-    ensures { IfSome (slice_get patterns.now index) (λ e. IsTrue result ↔ IfSome (slice_index_or (slots e.elements) slot None) (T.holds test.now e.exponent)) }
+    ensures { IfSome (slice_get patterns.now index) (λ e. IsTrue result
+        ↔ IfSome (slice_index_or (slots e.elements) slot None) (T.holds test.now e.exponent)) }
 {
     match patterns.slot(index, slot) {
         Some(pattern) => test.passes(patterns.exponent(index), pattern.place(), pattern.literal()),
@@ -147,7 +151,8 @@ fn entry_passes<T: PatternTest>(
     test: &T,
 ) -> bool
     requires { index < length patterns.now }
-    ensures { IfSome (slice_get patterns.now index) (λ e. IsTrue result ↔ HoldsOfEntry (T.holds test.now) e) }
+    ensures { IfSome (slice_get patterns.now index) (λ e. IsTrue result
+        ↔ HoldsOfEntry (T.holds test.now) e) }
 {
     for slot in 0..8 {
         if !slot_passes(patterns, index, slot, test) {
@@ -197,7 +202,9 @@ impl PatternTest for Placed<'_> {
 
 /// Whether two numbers with the same around them have the same sign and exponent.
 fn are_told(texts: &DecimalSymbolStrsBuilder<'_>, first: Number<'_>, second: Number<'_>) -> bool
-    ensures { IsTrue result ↔ AreTold (texts_given texts.now) first.entry.sign first.entry.exponent (surroundings_of first.entry.sides) second.entry.sign second.entry.exponent (surroundings_of second.entry.sides) }
+    ensures { IsTrue result ↔ AreTold (texts_given texts.now) first.entry.sign first.entry.exponent
+        (surroundings_of first.entry.sides) second.entry.sign second.entry.exponent
+        (surroundings_of second.entry.sides) }
 {
     if first.sign == second.sign && first.exponent == second.exponent {
         return true;
@@ -207,7 +214,10 @@ fn are_told(texts: &DecimalSymbolStrsBuilder<'_>, first: Number<'_>, second: Num
 
 /// Whether a number is told from those of each sign that have the second number's exponent and sides.
 fn is_told_from(texts: &DecimalSymbolStrsBuilder<'_>, first: Number<'_>, second: Number<'_>) -> bool
-    ensures { IsTrue result ↔ IsToldFrom (texts_given texts.now) first.entry.sign first.entry.exponent (surroundings_of first.entry.sides) second.entry.exponent (surroundings_of second.entry.sides) }
+    ensures { IsTrue result ↔ IsToldFrom
+        (texts_given texts.now) first.entry.sign first.entry.exponent
+        (surroundings_of first.entry.sides) second.entry.exponent
+        (surroundings_of second.entry.sides) }
 {
     if !are_told(texts, first, second.with_sign(Sign::None)) {
         return false;
@@ -230,7 +240,8 @@ impl PatternTest for ToldFrom<'_> {
     ghost use Rattle.icu_decimal_readable.specs.Readable.{sides};
     ghost use Rattle.icu_decimal_readable.specs.ReadableTable.{surroundings_of, IsToldFrom};
 
-    ghost holds = { λ t n q. IsToldFrom (texts_given t.texts.now) t.number.sign t.number.exponent (surroundings_of t.number.sides) n (sides q) };
+    ghost holds = { λ t n q. IsToldFrom (texts_given t.texts.now) t.number.sign t.number.exponent
+        (surroundings_of t.number.sides) n (sides q) };
 
     fn passes(&self, exponent: u8, place: Option<usize>, literal: &str) -> bool {
         let second = Number {
@@ -248,7 +259,9 @@ fn is_told(
     patterns: &CompactPatterns<SinglePlaceholder>,
     number: Number<'_>,
 ) -> bool
-    ensures { IsTrue result ↔ IsToldThroughout (texts_given texts.now) patterns.now number.entry.sign number.entry.exponent (surroundings_of number.entry.sides) }
+    ensures { IsTrue result ↔ IsToldThroughout
+        (texts_given texts.now) patterns.now number.entry.sign number.entry.exponent
+        (surroundings_of number.entry.sides) }
 {
     all_pass(patterns, &ToldFrom { texts, number })
 }

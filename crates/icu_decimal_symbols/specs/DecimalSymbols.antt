@@ -30,6 +30,7 @@ same_sizes = eq_of_both (on (λ s. s.primary) nat_eq) (eq_of_both (on (λ s. s.s
 abbrev pub same_symbols : DecimalSymbols → DecimalSymbols → Bool
 same_symbols = eq_of_both (on (λ s. s.strings) same_texts) (on (λ s. s.grouping_sizes) same_sizes)
 
+-- this is an equivalence
 pub same_symbols_laws : IsEquivalence same_symbols
 same_symbols_laws =
     and_equiv (on_equiv (λ s. s.strings) same_texts_laws)

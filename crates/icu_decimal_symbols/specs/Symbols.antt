@@ -36,6 +36,7 @@ pub record IsSymbolTexts (s : SymbolTexts) : Type 0 where
 abbrev pub same_texts : SymbolTexts → SymbolTexts → Bool
 same_texts = on texts_of (pointwise (pointwise nat_eq))
 
+-- this is an equivalence
 pub same_texts_laws : IsEquivalence same_texts
 same_texts_laws = on_equiv texts_of (lists_equiv nat_list_eq_equiv)
 

@@ -17,7 +17,8 @@ pub(crate) const MAX_LEN: usize = 255;
 /// How long texts are together, where these are at most 255 bytes. A sum past that is never made, since it could pass the
 /// largest `usize`.
 pub(crate) fn short_len(texts: &[&str]) -> Option<usize>
-    ensures some { IfSome result (λ len. (len ≡ sum_by (λ t. length t.now) texts.now) × (len ≤ MAX_LEN)) }
+    ensures some { IfSome result (λ len. (len ≡ sum_by (λ t. length t.now) texts.now)
+        × (len ≤ MAX_LEN)) }
     ensures none { IsNone result → MAX_LEN < sum_by (λ t. length t.now) texts.now }
 {
     let mut len = 0;
@@ -45,7 +46,8 @@ fn lengths(alloc: Global, texts: &[&str], capacity: usize) -> Result<Vec<u8>, Al
 
 /// Bytes with texts behind them.
 fn with_texts(bytes: Vec<u8>, texts: &[&str]) -> Result<Vec<u8>, AllocError>
-    ensures items { IfOk result (λ v. v.items ≡ bytes.items ++ concat (map (λ t. t.now) texts.now)) }
+    ensures items { IfOk result (λ v. v.items ≡ bytes.items
+        ++ concat (map (λ t. t.now) texts.now)) }
     ensures texts { IfOk result (λ _. All (λ t. IsTrue (is_utf8 t.now)) texts.now) }
 {
     let mut all = bytes;

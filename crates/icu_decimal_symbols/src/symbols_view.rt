@@ -42,9 +42,12 @@ impl<'a> SymbolsView<'a> {
     /// a numbering system, else where it begins.
     #[tactic(auto, using(crate::proofs::SymbolDamage::damage))]
     pub fn parse(bytes: &'a [u8]) -> Result<Self, Damaged>
-        ensures found { IfOk result (λ v. IsSymbolTexts (texts_shown v) × (bytes.now ≡ symbol_bytes (texts_shown v))) }
-        ensures every { (s : SymbolTexts) → IsSymbolTexts s → bytes.now ≡ symbol_bytes s → IsOkAnd result (λ v. texts_shown v ≡ s) }
-        ensures damaged { MatchResult result (λ _. first_damage bytes.now ≡ None) (λ e. first_damage bytes.now ≡ Some e.byte) }
+        ensures found { IfOk result (λ v. IsSymbolTexts (texts_shown v)
+            × (bytes.now ≡ symbol_bytes (texts_shown v))) }
+        ensures every { (s : SymbolTexts) → IsSymbolTexts s → bytes.now ≡ symbol_bytes s
+            → IsOkAnd result (λ v. texts_shown v ≡ s) }
+        ensures damaged { MatchResult result (λ _. first_damage bytes.now ≡ None) (λ e.
+            first_damage bytes.now ≡ Some e.byte) }
     {
         check(bytes)?;
         Ok(SymbolsView { bytes })

@@ -17,6 +17,8 @@ mod given;
 #[cfg(test)]
 mod interface;
 #[cfg(test)]
+mod kept;
+#[cfg(test)]
 mod languages;
 #[cfg(test)]
 mod loading;

@@ -27,7 +27,8 @@ struct OneLocale {
 }
 
 impl DataProvider<DecimalSymbolsV1> for OneLocale {
-    ghost answer = { λ own id. if same_identifier id (record { system = None; locale = own.locale }) then Ok own.symbols else Err IdentifierNotFound };
+    ghost answer = { λ own id. if same_identifier id (record { system = None; locale = own.locale })
+        then Ok own.symbols else Err IdentifierNotFound };
 
     fn load(&self, alloc: Global, request: &DataRequest<'_>) -> Result<DecimalSymbols, DataError> {
         if request.id != DataIdentifierBorrowed::for_locale(&self.locale) {
@@ -40,7 +41,11 @@ impl DataProvider<DecimalSymbolsV1> for OneLocale {
 }
 
 impl DataProvider<DecimalDigitsV1> for OneLocale {
-    ghost answer = { λ own id. if same_identifier id (record { system = Some own.symbols.strings.numsys; locale = codes "und" }) then Ok own.digits else Err IdentifierNotFound };
+    ghost answer = { λ own id.
+        if same_identifier id (record {
+          system = Some own.symbols.strings.numsys;
+          locale = codes "und";
+        }) then Ok own.digits else Err IdentifierNotFound };
 
     fn load(&self, _alloc: Global, request: &DataRequest<'_>) -> Result<[char; 10], DataError> {
         if request.id != DataIdentifierBorrowed::for_marker_attributes(self.symbols.numsys()) {

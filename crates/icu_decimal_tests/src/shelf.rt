@@ -1,121 +1,23 @@
 //! A provider that copies what it keeps, each thing by its identifier.
 
-ghost use Rattle.std.specs.Prelude.{◌≡◌, Ok, Err, find, option_map, unwrap_or};
+ghost use Rattle.std.specs.Prelude.{◌≡◌, Err, find, option_map, unwrap_or};
 ghost use Rattle.std.specs.Option.{option_copied};
 ghost use Rattle.icu_base.specs.Answer.{Answers};
 ghost use Rattle.icu_base.specs.Identifier.{identifier_of, same_identifier};
 ghost use Rattle.icu_base.specs.declared.provider.error.DataErrorKind.TheVariants.{IdentifierNotFound};
 
-use crate::fixtures::{ENGLISH, LATIN};
+use crate::fixtures::LATIN;
+use crate::kept::{Kept, Table, Texts, Thousands};
 use icu_base::{
-    DataError, DataErrorKind, DataIdentifierBorrowed, DataProvider, DataRequest, Pattern,
-    PluralCategory, PluralElements, PluralRules, PluralsCardinalV1, SinglePlaceholder,
+    DataError, DataErrorKind, DataIdentifierBorrowed, DataProvider, DataRequest, PluralCategory,
+    PluralRules, PluralsCardinalV1,
 };
 use icu_decimal::provider::{
-    CompactPatterns, DecimalCompactLongV1, DecimalCompactShortV1, DecimalDigitsV1,
-    DecimalSymbolStrsBuilder, DecimalSymbols, DecimalSymbolsV1, GroupingSizes,
+    CompactPatterns, DecimalCompactLongV1, DecimalCompactShortV1, DecimalDigitsV1, DecimalSymbols,
+    DecimalSymbolsV1,
 };
 use std::alloc::Global;
 use std::collections::BTreeMap;
-
-type Table = CompactPatterns<SinglePlaceholder>;
-
-/// What a provider may keep: it is made of a row of a table, and copied for each answer.
-trait Kept: Sized + Drop {
-    type Row: Copy;
-
-    /// None where memory is wanting.
-    fn made(alloc: Global, row: Self::Row) -> Option<Self>;
-
-    fn copied(&self, alloc: Global) -> Result<Self, DataError>
-        ensures { Answers result (Ok self.now) };
-}
-
-impl Kept for DecimalSymbols {
-    type Row = Texts;
-
-    fn made(
-        alloc: Global,
-        (decimal_separator, grouping_separator, numsys): Texts,
-    ) -> Option<DecimalSymbols> {
-        let builder = DecimalSymbolStrsBuilder {
-            minus_sign_prefix: "-",
-            minus_sign_suffix: "",
-            plus_sign_prefix: "+",
-            plus_sign_suffix: "",
-            decimal_separator,
-            grouping_separator,
-            numsys,
-        };
-        match builder.build(alloc) {
-            Ok(strings) => Some(DecimalSymbols {
-                strings,
-                grouping_sizes: ENGLISH,
-            }),
-            Err(_) => None,
-        }
-    }
-
-    fn copied(&self, alloc: Global) -> Result<Self, DataError> {
-        match self.copy(alloc) {
-            Ok(symbols) => Ok(symbols),
-            Err(_) => Err(DataErrorKind::OutOfMemory.into()),
-        }
-    }
-}
-
-impl Kept for [char; 10] {
-    type Row = [char; 10];
-
-    fn made(_alloc: Global, row: [char; 10]) -> Option<[char; 10]> {
-        Some(row)
-    }
-
-    fn copied(&self, _alloc: Global) -> Result<Self, DataError> {
-        Ok(*self)
-    }
-}
-
-impl Kept for PluralRules {
-    type Row = &'static [(PluralCategory, &'static str)];
-
-    fn made(alloc: Global, row: &'static [(PluralCategory, &'static str)]) -> Option<PluralRules> {
-        PluralRules::from_rules(alloc, row).ok()
-    }
-
-    fn copied(&self, alloc: Global) -> Result<Self, DataError> {
-        match self.copy(alloc) {
-            Ok(rules) => Ok(rules),
-            Err(_) => Err(DataErrorKind::OutOfMemory.into()),
-        }
-    }
-}
-
-impl Kept for Table {
-    type Row = Thousands;
-
-    fn made(alloc: Global, (one, other): Thousands) -> Option<Table> {
-        let (Ok(one), Ok(other)) = (
-            Pattern::try_new(alloc, Some(0), one),
-            Pattern::try_new(alloc, Some(0), other),
-        ) else {
-            return None;
-        };
-        let elements = PluralElements::new(other).with_one_value(Some(one));
-        let mut map = BTreeMap::new(alloc);
-        match map.insert(3, (3, elements)) {
-            Ok(_) => CompactPatterns::new(alloc, map, None).ok(),
-            Err(_) => None,
-        }
-    }
-
-    fn copied(&self, alloc: Global) -> Result<Self, DataError> {
-        match self.copy(alloc) {
-            Ok(table) => Ok(table),
-            Err(_) => Err(DataErrorKind::OutOfMemory.into()),
-        }
-    }
-}
 
 /// What is answered by a system, or none, and a locale.
 #[derive(Drop)]
@@ -127,7 +29,11 @@ struct Entry<T> {
 
 impl<T> Entry<T> {
     fn is_for(&self, id: &DataIdentifierBorrowed<'_>) -> bool
-        ensures { result ≡ same_identifier (record { system = option_map (λ s. s.now) self.now.system; locale = self.now.locale.now }) (identifier_of id.now) }
+        ensures { result ≡ same_identifier
+            (record {
+              system = option_map (λ s. s.now) self.now.system;
+              locale = self.now.locale.now;
+            }) (identifier_of id.now) }
     {
         self.system == id.system() && self.locale == id.locale()
     }
@@ -138,7 +44,11 @@ fn entry_for<'a, T>(
     entries: &'a [Entry<T>],
     id: &DataIdentifierBorrowed<'_>,
 ) -> Option<&'a Entry<T>>
-    ensures { option_copied result ≡ find (λ e. same_identifier (record { system = option_map (λ s. s.now) e.system; locale = e.locale.now }) (identifier_of id.now)) entries.entry.now }
+    ensures { option_copied result
+        ≡ find (λ e. same_identifier (record {
+          system = option_map (λ s. s.now) e.system;
+          locale = e.locale.now;
+        }) (identifier_of id.now)) entries.entry.now }
 {
     entries.iter().find(|entry| entry.is_for(id))
 }
@@ -149,7 +59,12 @@ fn look_up<T: Kept>(
     entries: &[Entry<T>],
     id: &DataIdentifierBorrowed<'_>,
 ) -> Result<T, DataError>
-    ensures { Answers result (unwrap_or (option_map (λ e. e.answer) (find (λ e. same_identifier (record { system = option_map (λ s. s.now) e.system; locale = e.locale.now }) (identifier_of id.now)) entries.now)) (Err IdentifierNotFound)) }
+    ensures { Answers result
+        (unwrap_or (option_map (λ e. e.answer)
+        (find (λ e. same_identifier (record {
+          system = option_map (λ s. s.now) e.system;
+          locale = e.locale.now;
+        }) (identifier_of id.now)) entries.now)) (Err IdentifierNotFound)) }
 {
     match entry_for(entries, id) {
         Some(entry) => match &entry.answer {
@@ -171,7 +86,12 @@ pub(super) struct Shelf {
 }
 
 impl DataProvider<DecimalSymbolsV1> for Shelf {
-    ghost answer = { λ shelf id. unwrap_or (option_map (λ e. e.answer) (find (λ e. same_identifier (record { system = option_map (λ s. s.now) e.system; locale = e.locale.now }) id) shelf.symbols.items)) (Err IdentifierNotFound) };
+    ghost answer = { λ shelf id.
+        unwrap_or (option_map (λ e. e.answer)
+        (find (λ e. same_identifier (record {
+          system = option_map (λ s. s.now) e.system;
+          locale = e.locale.now;
+        }) id) shelf.symbols.items)) (Err IdentifierNotFound) };
 
     fn load(&self, alloc: Global, request: &DataRequest<'_>) -> Result<DecimalSymbols, DataError> {
         look_up(alloc, &self.symbols, &request.id)
@@ -179,7 +99,12 @@ impl DataProvider<DecimalSymbolsV1> for Shelf {
 }
 
 impl DataProvider<DecimalDigitsV1> for Shelf {
-    ghost answer = { λ shelf id. unwrap_or (option_map (λ e. e.answer) (find (λ e. same_identifier (record { system = option_map (λ s. s.now) e.system; locale = e.locale.now }) id) shelf.digits.items)) (Err IdentifierNotFound) };
+    ghost answer = { λ shelf id.
+        unwrap_or (option_map (λ e. e.answer)
+        (find (λ e. same_identifier (record {
+          system = option_map (λ s. s.now) e.system;
+          locale = e.locale.now;
+        }) id) shelf.digits.items)) (Err IdentifierNotFound) };
 
     fn load(&self, alloc: Global, request: &DataRequest<'_>) -> Result<[char; 10], DataError> {
         look_up(alloc, &self.digits, &request.id)
@@ -187,7 +112,12 @@ impl DataProvider<DecimalDigitsV1> for Shelf {
 }
 
 impl DataProvider<PluralsCardinalV1> for Shelf {
-    ghost answer = { λ shelf id. unwrap_or (option_map (λ e. e.answer) (find (λ e. same_identifier (record { system = option_map (λ s. s.now) e.system; locale = e.locale.now }) id) shelf.rules.items)) (Err IdentifierNotFound) };
+    ghost answer = { λ shelf id.
+        unwrap_or (option_map (λ e. e.answer)
+        (find (λ e. same_identifier (record {
+          system = option_map (λ s. s.now) e.system;
+          locale = e.locale.now;
+        }) id) shelf.rules.items)) (Err IdentifierNotFound) };
 
     fn load(&self, alloc: Global, request: &DataRequest<'_>) -> Result<PluralRules, DataError> {
         look_up(alloc, &self.rules, &request.id)
@@ -195,7 +125,12 @@ impl DataProvider<PluralsCardinalV1> for Shelf {
 }
 
 impl DataProvider<DecimalCompactShortV1> for Shelf {
-    ghost answer = { λ shelf id. unwrap_or (option_map (λ e. e.answer) (find (λ e. same_identifier (record { system = option_map (λ s. s.now) e.system; locale = e.locale.now }) id) shelf.short.items)) (Err IdentifierNotFound) };
+    ghost answer = { λ shelf id.
+        unwrap_or (option_map (λ e. e.answer)
+        (find (λ e. same_identifier (record {
+          system = option_map (λ s. s.now) e.system;
+          locale = e.locale.now;
+        }) id) shelf.short.items)) (Err IdentifierNotFound) };
 
     fn load(&self, alloc: Global, request: &DataRequest<'_>) -> Result<Table, DataError> {
         look_up(alloc, &self.short, &request.id)
@@ -203,7 +138,12 @@ impl DataProvider<DecimalCompactShortV1> for Shelf {
 }
 
 impl DataProvider<DecimalCompactLongV1> for Shelf {
-    ghost answer = { λ shelf id. unwrap_or (option_map (λ e. e.answer) (find (λ e. same_identifier (record { system = option_map (λ s. s.now) e.system; locale = e.locale.now }) id) shelf.long.items)) (Err IdentifierNotFound) };
+    ghost answer = { λ shelf id.
+        unwrap_or (option_map (λ e. e.answer)
+        (find (λ e. same_identifier (record {
+          system = option_map (λ s. s.now) e.system;
+          locale = e.locale.now;
+        }) id) shelf.long.items)) (Err IdentifierNotFound) };
 
     fn load(&self, alloc: Global, request: &DataRequest<'_>) -> Result<Table, DataError> {
         look_up(alloc, &self.long, &request.id)
@@ -212,9 +152,6 @@ impl DataProvider<DecimalCompactLongV1> for Shelf {
 
 /// What is answered by English and by the rest, kind by kind: the symbols, the digits, the rules and the patterns.
 pub(super) type Refusals = [Option<DataErrorKind>; 4];
-
-/// A decimal separator, a separator of groups, and the numbering system.
-type Texts = (&'static str, &'static str, &'static str);
 
 const ENGLISH_TEXTS: Texts = (".", ",", "latn");
 
@@ -243,9 +180,6 @@ const DIGITS: [Row<[char; 10]>; 7] = [
     (Some("thai"), "th", Ok(THAI)),
     (Some("nodigits"), "en", Err(DataErrorKind::Custom)),
 ];
-
-/// What stands after one thousand, and after other numbers of thousands.
-type Thousands = (&'static str, &'static str);
 
 const SHORT: [Row<Thousands>; 3] = [
     (None, "en", Ok(("K", "K"))),

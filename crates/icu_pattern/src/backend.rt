@@ -40,7 +40,8 @@ impl PatternBackend for SinglePlaceholder {
     /// No place, or a place where a character of the literal begins, or at its end.
     #[tactic(auto, using(crate::proofs::Boundaries::is_boundary_of))]
     fn accepts(place: Option<usize>, literal: &str) -> bool
-        ensures accepted { result ≡ has_fitting_place (record { place = place; literal = literal.now }) }
+        ensures accepted { result
+            ≡ has_fitting_place (record { place = place; literal = literal.now }) }
         ensures fits { IsTrue result ↔ PlaceFits (record { place = place; literal = literal.now }) }
     {
         match place {

@@ -25,7 +25,8 @@ impl<P: PatternBackend> Model for Pattern<P> {
 
     ghost view = { λ p. record { place = p.place; literal = string_bytes p.literal } };
 
-    ghost invariant = { λ p. IsTrue (P.accepted (record { place = p.place; literal = string_bytes p.literal })) };
+    ghost invariant = { λ p.
+        IsTrue (P.accepted (record { place = p.place; literal = string_bytes p.literal })) };
 }
 
 impl<P: PatternBackend> Pattern<P> {
@@ -35,7 +36,8 @@ impl<P: PatternBackend> Pattern<P> {
     /// The pattern with this place and this literal.
     pub fn try_new(alloc: Global, place: Option<usize>, literal: &str) -> Result<Self, PatternError>
         ensures given { IfOk result (λ p. p ≡ record { place = place; literal = literal.now }) }
-        ensures bad_place { IsErrOf result PatternError.BadPlace ↔ (P.accepted (record { place = place; literal = literal.now }) ≡ false) }
+        ensures bad_place { IsErrOf result PatternError.BadPlace
+            ↔ (P.accepted (record { place = place; literal = literal.now }) ≡ false) }
     {
         if !P::accepts(place, literal) {
             return Err(PatternError::BadPlace);
@@ -147,8 +149,10 @@ impl<'a, P: PatternBackend> PatternRef<'a, P> {
 
     /// The pattern with this place in a literal that is borrowed. It takes no memory.
     pub fn try_new(place: Option<usize>, literal: &'a str) -> Result<Self, PatternError>
-        ensures given { IfOk result (λ p. text_of_ref p ≡ record { place = place; literal = literal.now }) }
-        ensures bad_place { IsErrOf result PatternError.BadPlace ↔ (P.accepted (record { place = place; literal = literal.now }) ≡ false) }
+        ensures given { IfOk result (λ p.
+            text_of_ref p ≡ record { place = place; literal = literal.now }) }
+        ensures bad_place { IsErrOf result PatternError.BadPlace
+            ↔ (P.accepted (record { place = place; literal = literal.now }) ≡ false) }
         ensures no_memory { IsOkUnless result PatternError.BadPlace }
     {
         if P::accepts(place, literal) {

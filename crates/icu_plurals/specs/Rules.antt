@@ -21,9 +21,11 @@ pub record GivenRule : Type 0 where
   pub category : PluralCategory
   pub text : List ℕ
 
+-- a category and a text as a rule that is given
 abbrev pub given_rule : PluralCategory × Bor (List ℕ) → GivenRule
 given_rule r = record { category = r.0; text = r.1.now }
 
+-- such rules in their order
 abbrev pub given_rules : List (PluralCategory × Bor (List ℕ)) → List GivenRule
 given_rules rs = map given_rule rs
 
@@ -44,6 +46,7 @@ abbrev pub category_of : List Rule → Operands → PluralCategory
 category_of [] o = Other
 category_of (r ∷ rs) o = if holds o r.condition then r.category else category_of rs o
 
+-- the rule of a value
 abbrev pub rule_of : OwnedRule → Rule
 rule_of r = record { category = r.category; condition = condition_in r.condition }
 

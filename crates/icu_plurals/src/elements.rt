@@ -29,9 +29,27 @@ impl<T> Model for PluralElements<T> {
 
     ghost Value = { Elements T };
 
-    ghost view = { λ e. record { explicit_zero = e.explicit_zero; explicit_one = e.explicit_one; zero = e.zero; one = e.one; two = e.two; few = e.few; many = e.many; other = e.other } };
+    ghost view = { λ e. record {
+      explicit_zero = e.explicit_zero;
+      explicit_one = e.explicit_one;
+      zero = e.zero;
+      one = e.one;
+      two = e.two;
+      few = e.few;
+      many = e.many;
+      other = e.other;
+    } };
 
-    ghost inverse = { λ e. record { explicit_zero = e.explicit_zero; explicit_one = e.explicit_one; zero = e.zero; one = e.one; two = e.two; few = e.few; many = e.many; other = e.other } };
+    ghost inverse = { λ e. record {
+      explicit_zero = e.explicit_zero;
+      explicit_one = e.explicit_one;
+      zero = e.zero;
+      one = e.one;
+      two = e.two;
+      few = e.few;
+      many = e.many;
+      other = e.other;
+    } };
 }
 
 impl<T> PluralElements<T> {
@@ -151,7 +169,8 @@ impl<T> PluralElements<T> {
         ensures value { option_copied result ≡ sole_value self.now }
         ensures only { IfSome result (λ value. self.now ≡ only_other value.now) }
         ensures none { IfNone result ((value : T) → self.now ≡ only_other value → ⊥) }
-        ensures selected { IfSome result (λ value. (operands : Operands) (category : PluralCategory) → selected self.now operands category ≡ value.now) }
+        ensures selected { IfSome result (λ value. (operands : Operands) (category : PluralCategory)
+            → selected self.now operands category ≡ value.now) }
     {
         let small = self.explicit_zero.is_some()
             || self.explicit_one.is_some()
@@ -229,7 +248,8 @@ impl<T> PluralElements<T> {
     fn equal_but_for_explicit_one(&self, other: &Self) -> bool
     where
         T: PartialEq,
-        ensures { result ≡ same_elements T.eq (without_explicit_one self.now) (without_explicit_one other.now) }
+        ensures { result ≡ same_elements T.eq (without_explicit_one self.now)
+            (without_explicit_one other.now) }
     {
         let small = self.explicit_zero == other.explicit_zero && self.zero == other.zero;
         let middle = self.one == other.one && self.two == other.two && self.few == other.few;

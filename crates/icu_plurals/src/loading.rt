@@ -43,7 +43,8 @@ impl PluralRules {
         provider: &D,
         prefs: PluralRulesPreferences,
     ) -> Result<Self, DataError>
-        ensures { Answers result (D.answer provider.now (record { system = None; locale = prefs.locale_preferences })) }
+        ensures { Answers result
+            (D.answer provider.now (record { system = None; locale = prefs.locale_preferences })) }
     {
         let id = DataIdentifierBorrowed::for_locale(&prefs.locale_preferences);
         provider.load(alloc, &DataRequest { id, silent: false })

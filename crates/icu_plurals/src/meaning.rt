@@ -87,7 +87,9 @@ fn all_hold(relations: &[Relation], operands: PluralOperands) -> bool
 }
 
 fn one_holds(alternatives: &[Alternative], operands: PluralOperands) -> bool
-    ensures { result ≡ list_any (λ a. list_all (λ r. relation_holds operands (relation_of r)) a.relations.items) alternatives.now }
+    ensures { result ≡ list_any (λ a.
+        list_all (λ r. relation_holds operands (relation_of r)) a.relations.items)
+        alternatives.now }
 {
     alternatives
         .iter()

@@ -29,9 +29,25 @@ impl Model for PluralOperands {
 
     ghost Value = { Operands };
 
-    ghost view = { λ s. record { i = s.i; is_large = s.is_large; v = s.v; w = s.w; f = s.f; t = s.t; c = s.c } };
+    ghost view = { λ s. record {
+      i = s.i;
+      is_large = s.is_large;
+      v = s.v;
+      w = s.w;
+      f = s.f;
+      t = s.t;
+      c = s.c;
+    } };
 
-    ghost inverse = { λ o. record { i = o.i; is_large = o.is_large; v = o.v; w = o.w; f = o.f; t = o.t; c = o.c } };
+    ghost inverse = { λ o. record {
+      i = o.i;
+      is_large = o.is_large;
+      v = o.v;
+      w = o.w;
+      f = o.f;
+      t = o.t;
+      c = o.c;
+    } };
 }
 
 impl PluralOperands {

@@ -98,7 +98,8 @@ impl PluralRules {
     /// memory is asked for, so a bad rule is told however little memory is left.
     pub fn from_rules(alloc: Global, rules: &[(PluralCategory, &str)]) -> Result<Self, RulesError>
         ensures read { IfOk result (λ r. AllZip IsReadFrom (given_rules rules.now) r) }
-        ensures refused { (rule byte : ℕ) → IsErrOf result (RulesError.BadRule rule byte) ↔ IsFirstBadRule (given_rules rules.now) rule byte }
+        ensures refused { (rule byte : ℕ) → IsErrOf result (RulesError.BadRule rule byte)
+            ↔ IsFirstBadRule (given_rules rules.now) rule byte }
     {
         if let Some((rule, byte)) = first_bad_rule(rules) {
             return Err(RulesError::BadRule { rule, byte });
@@ -119,7 +120,8 @@ impl PluralRules {
     #[tactic(auto, using(crate::proofs::SelectedSlots::selected_slot_small))]
     pub fn slot_for(&self, operands: &PluralOperands, present: &[bool; 8]) -> u8
         requires { slice_index_or present.now 7 false ≡ true }
-        ensures slot { result ≡ selected_slot present.now operands.now (category_of self.now operands.now) }
+        ensures slot { result ≡ selected_slot present.now operands.now
+            (category_of self.now operands.now) }
         ensures in_range { result < 8 }
     {
         *PluralElements::numbered(present).get(*operands, self)

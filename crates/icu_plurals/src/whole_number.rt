@@ -35,7 +35,8 @@ pub(crate) fn with_digits(mut whole: WholeNumber, digits: &[u8]) -> WholeNumber
     requires seen { whole.lowest < 10 ^ 18 }
     requires below_ten { All (λ d. d < 10) digits.now }
     ensures seen { result.lowest < 10 ^ 18 }
-    ensures digits { (n : ℕ) → whole ≡ whole_number n → result ≡ whole_number (number_from_digits_after 10 n digits.now) }
+    ensures digits { (n : ℕ) → whole ≡ whole_number n
+        → result ≡ whole_number (number_from_digits_after 10 n digits.now) }
 {
     for digit in digits {
         whole = with_digit(whole, *digit);
@@ -47,7 +48,8 @@ pub(crate) fn with_digits(mut whole: WholeNumber, digits: &[u8]) -> WholeNumber
 pub(crate) fn with_zeros(mut whole: WholeNumber, count: usize) -> WholeNumber
     requires seen { whole.lowest < 10 ^ 18 }
     ensures seen { result.lowest < 10 ^ 18 }
-    ensures zeros { (n : ℕ) → whole ≡ whole_number n → result ≡ whole_number (number_from_digits_after 10 n (replicate count 0)) }
+    ensures zeros { (n : ℕ) → whole ≡ whole_number n
+        → result ≡ whole_number (number_from_digits_after 10 n (replicate count 0)) }
 {
     for _ in 0..count {
         whole = with_digit(whole, 0);

@@ -20,7 +20,10 @@ impl<'a> DataIdentifierBorrowed<'a> {
 
     fn new(system: Option<&'a str>, locale: &'a str) -> Self
         requires { IsLocale locale.now }
-        ensures { identifier_of result ≡ record { system = option_map (λ s. s.now) system.entry; locale = locale.entry.now } }
+        ensures { identifier_of result ≡ record {
+          system = option_map (λ s. s.now) system.entry;
+          locale = locale.entry.now;
+        } }
     {
         DataIdentifierBorrowed { system, locale }
     }
@@ -35,14 +38,20 @@ impl<'a> DataIdentifierBorrowed<'a> {
     /// A numbering system by any text, in the undetermined locale, `und`.
     #[tactic(auto, unfolding(crate::specs::Locale::is_locale))]
     pub fn for_marker_attributes(system: &'a str) -> Self
-        ensures { identifier_of result ≡ record { system = Some system.entry.now; locale = codes "und" } }
+        ensures { identifier_of result ≡ record {
+          system = Some system.entry.now;
+          locale = codes "und";
+        } }
     {
         Self::new(Some(system), "und")
     }
 
     /// A numbering system by any text, in a locale.
     pub fn for_marker_attributes_and_locale(system: &'a str, locale: &'a DataLocale) -> Self
-        ensures { identifier_of result ≡ record { system = Some system.entry.now; locale = locale.entry.now } }
+        ensures { identifier_of result ≡ record {
+          system = Some system.entry.now;
+          locale = locale.entry.now;
+        } }
     {
         Self::new(Some(system), locale.as_str())
     }
@@ -76,7 +85,8 @@ impl PartialEq for DataIdentifierBorrowed<'_> {
 
     /// Whether both the numbering systems and the locales are equal.
     fn eq(&self, other: &Self) -> bool
-        ensures computed { result ≡ same_identifier (identifier_of self.now) (identifier_of other.now) }
+        ensures computed { result
+            ≡ same_identifier (identifier_of self.now) (identifier_of other.now) }
         ensures same { IsTrue result ↔ (identifier_of self.now ≡ identifier_of other.now) }
     {
         (self.system, self.locale) == (other.system, other.locale)

@@ -34,9 +34,15 @@ impl Model for DataLocale {
 
     ghost invariant = { λ s. IsPadded IsLocale 63 s.bytes s.len };
 
-    ghost inverse = { λ text. record { bytes = text ++ replicate (63 - length text) 0; len = length text } };
+    ghost inverse = { λ text. record {
+      bytes = text ++ replicate (63 - length text) 0;
+      len = length text;
+    } };
 
-    ghost inverse_ok = { λ s h i. record { bytes = padded-text IsLocale 63 s.bytes s.len h i; len = length-text IsLocale 63 s.bytes s.len h i } };
+    ghost inverse_ok = { λ s h i. record {
+      bytes = padded-text IsLocale 63 s.bytes s.len h i;
+      len = length-text IsLocale 63 s.bytes s.len h i;
+    } };
 }
 
 fn is_alphanumeric_or_hyphen_byte(byte: u8) -> bool

@@ -34,9 +34,14 @@ impl Model for NumberingSystem {
 
     ghost invariant = { λ s. IsPadded IsNumberingSystem 8 s.bytes s.len };
 
-    ghost inverse = { λ text. record { bytes = text ++ replicate (8 - length text) 0; len = length text } };
+    ghost inverse = { λ text.
+        record { bytes = text ++ replicate (8 - length text) 0; len = length text } };
 
-    ghost inverse_ok = { λ s h i. record { bytes = padded-text IsNumberingSystem 8 s.bytes s.len h i; len = length-text IsNumberingSystem 8 s.bytes s.len h i } };
+    ghost inverse_ok = { λ s h i.
+        record {
+          bytes = padded-text IsNumberingSystem 8 s.bytes s.len h i;
+          len = length-text IsNumberingSystem 8 s.bytes s.len h i;
+        } };
 }
 
 fn is_lower_alphanumeric_byte(byte: u8) -> bool

@@ -35,6 +35,7 @@ failed (Entry key index fault) r f h = rw h refl
 failed OutOfMemory r f h = tt
 
 module _ {A : Type 0} (read : Place → Data → Result A TableError) (key : Key) where
+  -- an entry that is read is one more in front of the rest
   pub goes_on : (front : List A) (i : ℕ) (d : Data) (ds : List Data) (x : A) (total : Result (List A) TableError) → read (record { key = key; index = i }) d ≡ Ok x
       → with_front front (entries_at read key i (d ∷ ds)) ≡ total → with_front (front ++ x ∷ []) (entries_at read key (i + 1) ds) ≡ total
   unfolding entries_at
@@ -42,12 +43,14 @@ module _ {A : Type 0} (read : Place → Data → Result A TableError) (key : Key
       let one : with_front front (entries_at read key i (d ∷ ds)) ≡ with_front (front ++ x ∷ []) (entries_at read key (i + 1) ds) = rw h (regroup front x (entries_at read key (i + 1) ds)) in
       sym one ∙ so_far
 
+  -- an entry that is refused refuses the list
   pub fails : (e : TableError) (front : List A) (i : ℕ) (d : Data) (ds : List Data) (total : Result (List A) TableError) → Fails e (read (record { key = key; index = i }) d)
       → with_front front (entries_at read key i (d ∷ ds)) ≡ total → Fails e total
   unfolding entries_at
   fails e front i d ds total h so_far =
       rw (← so_far) (failed e _ (λ xs. Ok (front ++ xs)) (failed e (read (record { key = key; index = i }) d) (λ x. entries_at read key (i + 1) ds >>= λ xs. Ok (x ∷ xs)) h))
 
+  -- behind the last entry all are read
   pub ends : (front : List A) (i : ℕ) (total : Result (List A) TableError) → with_front front (entries_at read key i []) ≡ total → total ≡ Ok front
   unfolding entries_at
   ends front i total so_far = sym so_far ∙ ap Ok (append-nil front)

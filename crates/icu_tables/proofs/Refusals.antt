@@ -17,6 +17,7 @@ module _ (place : Place) (zero : Option PatternElements) (entries : List TableEn
   kept_by table None refused is = ap Ok (sym is)
   kept_by table (Some f) refused is = absurd cc
 
+  -- a table that is made is what the object says
   pub table_made : (table : List TableEntry)
       → MatchOption (fault_of zero entries) (IsOkUnless {T = List TableEntry} (Ok table) OutOfMemory) (λ fault. IsErrOf {T = List TableEntry} (Ok table) fault)
       → table ≡ kept zero entries → table_of_entries place zero entries ≡ Ok table
@@ -29,6 +30,7 @@ module _ (place : Place) (zero : Option PatternElements) (entries : List TableEn
   refused_by fault None refused other = let same : fault ≡ OutOfMemory = cc in absurd (other same)
   refused_by fault (Some f) refused other = let same : f ≡ fault = cc in ap (compact_refusal place) same
 
+  -- a table is refused as the object says, but for want of memory
   pub table_refused : (fault : CompactError)
       → MatchOption (fault_of zero entries) (IsOkUnless {T = List TableEntry} (Err fault) OutOfMemory) (λ f. IsErrOf {T = List TableEntry} (Err fault) f)
       → (fault ≡ OutOfMemory → ⊥) → table_of_entries place zero entries ≡ compact_refusal place fault

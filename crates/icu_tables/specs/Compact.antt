@@ -59,6 +59,7 @@ abbrev pub IsAbove : Option ℕ → ℕ → Type 0
 IsAbove None t = Unit {0}
 IsAbove (Some before) t = before < t
 
+-- each type is above the one before
 abbrev pub Rise : Option ℕ → List GivenEntry → Type 0
 Rise before [] = Unit {0}
 Rise before (e ∷ es) = IsAbove before e.log10_type × Rise (Some e.log10_type) es

@@ -107,7 +107,8 @@ fn with_entry(
     exponent: u8,
     patterns: Patterns,
 ) -> Result<(), TableError>
-    ensures added { OnOk result (map.new.entries ≡ insert_entry nat_cmp map.old.entries log10_type (exponent, patterns)) }
+    ensures added { OnOk result (map.new.entries ≡ insert_entry nat_cmp map.old.entries log10_type
+        (exponent, patterns)) }
     ensures memory { IsOkUnless result TableError.OutOfMemory }
 {
     match map.insert(log10_type, (exponent, patterns)) {

@@ -67,7 +67,8 @@ pub fn text_at(value: &Value, key: Key) -> Result<&str, TableError>
 /// The text under a key that may be absent.
 #[tactic(auto, unfolding(crate::specs::Reading::optional_at))]
 pub fn optional_text_at(value: &Value, key: Key) -> Result<Option<&str>, TableError>
-    ensures { Gives (option_map (λ x. x.now)) result (optional_at (text_in key) key (view value.now)) }
+    ensures { Gives (option_map (λ x. x.now)) result
+        (optional_at (text_in key) key (view value.now)) }
 {
     match value.get(key.name()) {
         Some(member) => Ok(Some(text_in(member, key)?)),
@@ -97,7 +98,8 @@ pub fn pair_in(value: &Value, key: Key) -> Result<(&Value, &Value), TableError>
 /// A list of exactly three values.
 #[tactic(auto, unfolding(crate::specs::Reading::triple_in, crate::specs::Reading::three_of))]
 pub fn triple_in(value: &Value, key: Key) -> Result<(&Value, (&Value, &Value)), TableError>
-    ensures { Gives (λ x. (view x.0.now, (view x.1.0.now, view x.1.1.now))) result (triple_in key (view value.now)) }
+    ensures { Gives (λ x. (view x.0.now, (view x.1.0.now, view x.1.1.now))) result
+        (triple_in key (view value.now)) }
 {
     match list_in(value, key)? {
         [first, second, third] => Ok((first, (second, third))),

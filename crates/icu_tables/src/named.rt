@@ -52,7 +52,8 @@ fn optional_system_of(
     place: Place,
     text: Option<&str>,
 ) -> Result<Option<NumberingSystem>, TableError>
-    ensures { Gives (λ x. x) result (optional_system_of place (option_map (λ t. t.now) text.entry)) }
+    ensures { Gives (λ x. x) result
+        (optional_system_of place (option_map (λ t. t.now) text.entry)) }
 {
     match text {
         Some(text) => Ok(Some(system_of(place, text)?)),
@@ -63,7 +64,8 @@ fn optional_system_of(
 /// The name of these texts.
 #[tactic(auto, unfolding(crate::specs::Named::identifier_from))]
 pub fn name_of(place: Place, locale: &str, system: Option<&str>) -> Result<Name, TableError>
-    ensures { Gives (λ x. x) result (identifier_from place locale.now (option_map (λ t. t.now) system.entry)) }
+    ensures { Gives (λ x. x) result
+        (identifier_from place locale.now (option_map (λ t. t.now) system.entry)) }
 {
     Ok(Name {
         locale: locale_of(place, locale)?,

@@ -49,7 +49,8 @@ fn around(
     before: &str,
     after: &str,
 ) -> Result<Pattern<SinglePlaceholder>, TableError>
-    ensures given { IfOk result (λ p. p ≡ record { place = Some (length before.now); literal = before.now ++ after.now }) }
+    ensures given { IfOk result (λ p.
+        p ≡ record { place = Some (length before.now); literal = before.now ++ after.now }) }
     ensures memory { IsOkUnless result TableError.OutOfMemory }
 {
     let literal = joined(alloc, before, after)?;
@@ -81,7 +82,8 @@ pub fn optional_pattern_of(
     place: Place,
     text: Option<&str>,
 ) -> Result<Option<Pattern<SinglePlaceholder>>, TableError>
-    ensures { Gives (λ x. x) result (optional_pattern_of place (option_map (λ t. t.now) text.entry)) }
+    ensures { Gives (λ x. x) result
+        (optional_pattern_of place (option_map (λ t. t.now) text.entry)) }
 {
     match text {
         Some(text) => Ok(Some(pattern_of(alloc, place, text)?)),

@@ -70,7 +70,8 @@ fn load_optional<T: Copied>(
     entries: &Option<Vec<Filed<T>>>,
     id: &DataIdentifierBorrowed<'_>,
 ) -> Result<T, DataError>
-    ensures { Answers result (optional_answer (option_map (λ v. v.items) entries.now) (identifier_of id.now)) }
+    ensures { Answers result (optional_answer (option_map (λ v. v.items) entries.now)
+        (identifier_of id.now)) }
 {
     match entries {
         Some(entries) => load_filed(alloc, entries, id),

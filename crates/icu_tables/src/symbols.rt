@@ -59,7 +59,13 @@ fn strings_at(value: &Value) -> Result<DecimalSymbolStrsBuilder<'_>, TableError>
 
 #[tactic(auto, unfolding(crate::specs::Symbols::symbol_fields_at))]
 fn symbol_fields_at(value: &Value, key: Key) -> Result<SymbolFields<'_>, TableError>
-    ensures { Gives (λ f. record { locale = f.locale.now; system = option_map (λ s. s.now) f.system; strings = texts_given f.strings; grouping_sizes = f.grouping_sizes }) result (symbol_fields_at key (view value.now)) }
+    ensures { Gives (λ f. record {
+      locale = f.locale.now;
+      system = option_map (λ s. s.now) f.system;
+      strings = texts_given f.strings;
+      grouping_sizes = f.grouping_sizes;
+    }) result
+        (symbol_fields_at key (view value.now)) }
 {
     let value = object_in(value, key)?;
     Ok(SymbolFields {

@@ -35,7 +35,13 @@ impl Model for Tables {
 
     ghost Value = { TablesData };
 
-    ghost view = { λ t. record { symbols = t.symbols.items; digits = t.digits.items; rules = option_map (λ v. v.items) t.rules; short = option_map (λ v. v.items) t.short; long = option_map (λ v. v.items) t.long } };
+    ghost view = { λ t. record {
+      symbols = t.symbols.items;
+      digits = t.digits.items;
+      rules = option_map (λ v. v.items) t.rules;
+      short = option_map (λ v. v.items) t.short;
+      long = option_map (λ v. v.items) t.long;
+    } };
 }
 
 /// The entries of a list.
@@ -69,7 +75,8 @@ fn optional_entries<T: FromEntry + Drop>(
     value: &Value,
     key: Key,
 ) -> Result<Option<Vec<T>>, TableError>
-    ensures { Gives (option_map (λ v. v.items)) result (optional_at (entries_in T.read_at key) key (view value.now)) }
+    ensures { Gives (option_map (λ v. v.items)) result
+        (optional_at (entries_in T.read_at key) key (view value.now)) }
 {
     match value.get(key.name()) {
         Some(member) => Ok(Some(entries_in(alloc, member, key)?)),

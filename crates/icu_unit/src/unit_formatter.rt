@@ -33,7 +33,11 @@ impl<F> Model for UnitFormatter<F> {
 
     ghost Value = { UnitFormat F };
 
-    ghost view = { λ f. record { formatter = f.formatter; rules = f.rules; elements = f.elements } };
+    ghost view = { λ f. record {
+      formatter = f.formatter;
+      rules = f.rules;
+      elements = f.elements;
+    } };
 }
 
 impl<F: AbstractFormatter> UnitFormatter<F> {
@@ -64,9 +68,16 @@ impl<F: AbstractFormatter> UnitFormatter<F> {
         value: &Decimal,
         sink: &mut S,
     ) -> Result<(), FormatError>
-        ensures written { WritesSuch S.events S.failures sink.old result (F.shows self.now.formatter value.now.absolute) (unit_events (F.symbols self.now.formatter) self.now.rules self.now.elements value.now.sign) sink.new }
-        ensures limited { KeepsLimitSuch S.events S.limit S.refusals sink.old result (F.shows self.now.formatter value.now.absolute) (unit_events (F.symbols self.now.formatter) self.now.rules self.now.elements value.now.sign) sink.new }
-        ensures overflow { IsErrOf result FormatError.Overflow ↔ F.overflows self.now.formatter value.now.absolute }
+        ensures written { WritesSuch S.events S.failures sink.old result
+            (F.shows self.now.formatter value.now.absolute)
+            (unit_events (F.symbols self.now.formatter) self.now.rules self.now.elements
+            value.now.sign) sink.new }
+        ensures limited { KeepsLimitSuch S.events S.limit S.refusals sink.old result
+            (F.shows self.now.formatter value.now.absolute)
+            (unit_events (F.symbols self.now.formatter) self.now.rules self.now.elements
+            value.now.sign) sink.new }
+        ensures overflow { IsErrOf result FormatError.Overflow
+            ↔ F.overflows self.now.formatter value.now.absolute }
     {
         let mut number = PartsText::new(alloc);
         match self
@@ -96,8 +107,10 @@ fn write_signed<F: AbstractFormatter, W: Writeable + Drop, S: PartsWrite>(
     sign: Sign,
     sink: &mut S,
 ) -> Result<(), WriteFault>
-    ensures writes { Writes S.events S.failures sink.old result (signed_events (F.symbols formatter.now) sign (W.events value)) sink.new }
-    ensures limited { KeepsLimit S.events S.limit S.refusals sink.old result (signed_events (F.symbols formatter.now) sign (W.events value)) sink.new }
+    ensures writes { Writes S.events S.failures sink.old result
+        (signed_events (F.symbols formatter.now) sign (W.events value)) sink.new }
+    ensures limited { KeepsLimit S.events S.limit S.refusals sink.old result
+        (signed_events (F.symbols formatter.now) sign (W.events value)) sink.new }
 {
     formatter.format_sign(value, sign).write_to_parts(sink)
 }

@@ -21,7 +21,10 @@ pub(crate) fn write_plain<S: PartsWrite>(
     value: &Decimal,
     sink: &mut S,
 ) -> Result<(), FormatError>
-    ensures written { WritesSuch S.events S.failures sink.old result (λ n. n ≡ plain_shown unit.now.formatter value.now.absolute) (unit_events unit.now.formatter.symbols unit.now.rules unit.now.elements value.now.sign) sink.new }
+    ensures written { WritesSuch S.events S.failures sink.old result (λ n.
+        n ≡ plain_shown unit.now.formatter value.now.absolute)
+        (unit_events unit.now.formatter.symbols unit.now.rules unit.now.elements value.now.sign)
+        sink.new }
     ensures overflow { IsErrOf result FormatError.Overflow ↔ ⊥ }
 {
     unit.write(alloc, value, sink)
@@ -34,8 +37,12 @@ pub(crate) fn write_compact<S: PartsWrite>(
     value: &Decimal,
     sink: &mut S,
 ) -> Result<(), FormatError>
-    ensures written { WritesSuch S.events S.failures sink.old result (ShowsCompact unit.now.formatter value.now.absolute) (unit_events unit.now.formatter.decimal.symbols unit.now.rules unit.now.elements value.now.sign) sink.new }
-    ensures overflow { IsErrOf result FormatError.Overflow ↔ ShowsPastLimits unit.now.formatter.table (size value.now.absolute) }
+    ensures written { WritesSuch S.events S.failures sink.old result
+        (ShowsCompact unit.now.formatter value.now.absolute)
+        (unit_events unit.now.formatter.decimal.symbols unit.now.rules unit.now.elements
+        value.now.sign) sink.new }
+    ensures overflow { IsErrOf result FormatError.Overflow
+        ↔ ShowsPastLimits unit.now.formatter.table (size value.now.absolute) }
 {
     unit.write(alloc, value, sink)
 }

@@ -16,6 +16,7 @@ use Rattle.plural_conditions.proofs.Answered.{some}
 Reads : ℕ → State → List Token → Condition → Type 0
 Reads end s ks c = (ts : List Placed) → kinds ts ≡ ks → reading_from end s ts ≡ Ok c
 
+-- a token that may stand there is read, and reading goes on behind it
 pub next_reads : (end : ℕ) (s next : State) (t : Placed) (ts : List Placed) → step s t.1 ≡ some next → reading_from end s (t ∷ ts) ≡ reading_from end next ts
 unfolding reading_from
 next_reads end s next t ts h = ap (λ (o : Option State). elim o as (λ _. Result Condition ℕ) [ None ↦ Err t.0 | Some n ↦ reading_from end n ts ]) h
@@ -144,6 +145,7 @@ alternatives_read end s cs (r ∷ rs) (q ∷ qs) opens h =
     relations_read end s (part_after cs) r rs (Or ∷ tokens_of (q ∷ qs)) (cs ++ (r ∷ rs) ∷ (q ∷ qs)) opens h.0.1
     (λ n g. by_step end n (joined (part_after (cs ++ (r ∷ rs) ∷ []))) Or (tokens_of (q ∷ qs)) _ g.by_or (rw append_assoc at after_or))
 
+-- what spells a condition is read as it
 pub spelled_is_read : (end : ℕ) (ts : List Placed) (c : Condition) → IsWellFormed c → kinds ts ≡ tokens_of c → reading end ts ≡ Ok c
 unfolding Reads reading
 spelled_is_read end ts [] h e = by_end end nothing [] refl ts e

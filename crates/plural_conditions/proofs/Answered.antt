@@ -3,9 +3,11 @@ use Rattle.std.proofs.Common.{◌≡◌, ℕ, Option, Some, None, Result, Ok, Er
 use Rattle.plural_conditions.specs.Grammar.{Condition}
 use Rattle.plural_conditions.specs.Reading.{or_fault}
 
+-- something, with its type told
 abbrev pub some : {A : Type 0} → A → Option A
 some s = Some s
 
+-- none, with its type told
 abbrev pub none : {A : Type 0} → Option A
 none = None
 
@@ -17,9 +19,11 @@ done c = Ok c
 abbrev pub fault : ℕ → Result Condition ℕ
 fault b = Err b
 
+-- what is found is one thing
 pub some_is : {A : Type 0} {s t : A} → some s ≡ some t → s ≡ t
 some_is e = cc
 
+-- nothing is not something
 pub none_is : {A : Type 0} {t : A} → none ≡ some t → ⊥
 none_is e = absurd cc
 

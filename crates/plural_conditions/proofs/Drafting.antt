@@ -215,6 +215,7 @@ pub record Reads (text rest : List ℕ) (g : Progress) (d : Drafted) : Type 0 wh
   pub kept : IsDraft g d
   pub read : reading_from (length (part_of text)) (state_of g d) (tokens_from at rest) ≡ condition_of text
 
+-- before the first token the draft is empty
 pub reads-start : (text part : List ℕ) (d : Drafted) → part ≡ part_of text → d ≡ empty_draft → Reads text part Nothing d
 unfolding condition_of reading
 reads-start text part d e h = rw (e, h) (record { at = 0; kept = (refl, refl, refl); read = refl })
@@ -225,12 +226,14 @@ left_fault text rest g d r h =
     ap (λ k. fault_from (length (part_of text)) k (tokens_from r.at rest)) (sym (progress_is g d))
     ∙ sym (fault_is (length (part_of text)) (state_of g d) (tokens_from r.at rest)) ∙ ap fault_byte r.read ∙ h
 
+-- a text without a fault has no token that may not follow
 pub reads-goes_on : (text rest : List ℕ) (g : Progress) (d : Drafted) (f : Found) → Reads text rest g d → IsFound rest f → fault_byte (condition_of text) ≡ None → next_progress g f.token ≡ None → ⊥
 reads-goes_on text rest g d f r k h e =
     let stopped : some (r.at + f.start) ≡ none = sym (stop_at (length (part_of text)) g (r.at + f.start, f.token) (tokens_from (r.at + f.end) (drop f.end rest)) e)
     ∙ sym (ap (fault_from (length (part_of text)) g) (k.tokens r.at)) ∙ left_fault text rest g d r h in
     none_is (sym stopped)
 
+-- with a token that may follow, the draft is again the state of reading
 pub reads-next : (text rest after : List ℕ) (g n : Progress) (d e : Drafted) (f : Found) → Reads text rest g d → IsFound rest f → next_progress g f.token ≡ Some n → after ≡ drop f.end rest → e ≡ with_token g f.token d → Reads text after n e
 reads-next text rest after g n d e f r k h a b =
     let next : Keeps g n f.token d = keeps g n f.token d r.kept h in
@@ -256,6 +259,7 @@ no_fault : (end : ℕ) (g : Progress) → fault_from end g [] ≡ cond (may_end 
 unfolding fault_from
 no_fault end g = refl
 
+-- behind the last token the draft is the condition of the text
 pub reads-end : (text rest : List ℕ) (g : Progress) (d : Drafted) → Reads text rest g d → ((p : ℕ) → tokens_from p rest ≡ []) → fault_byte (condition_of text) ≡ None → condition_of text ≡ Ok (completed g d)
 reads-end text rest g d r k h =
     let end = length (part_of text) in

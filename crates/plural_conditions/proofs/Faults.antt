@@ -94,6 +94,7 @@ unfolding placed
 kinds-placed [] = refl
 kinds-placed (k ∷ ks) = ap (λ (l : List Token). k ∷ l) (kinds-placed ks)
 
+-- where reading stops is the first fault
 pub first_fault : (end : ℕ) (ts : List Placed) (byte : ℕ) → reading end ts ≡ Err byte → IsFirstFault end ts byte
 unfolding reading
 first_fault end ts byte e =

@@ -82,6 +82,7 @@ unfolding written_from
 written-sign p b [] d m h k l = onto-sign p b [] h k l
 written-sign p b (c ∷ cs) d m h k l = rw (d, m) (onto-sign p b _ h k l)
 
+-- two points in front are the sign of a range
 pub dots_are_front : (text : List ℕ) → has_front 46 46 text ≡ true → IsFront text (record { token = Dots; len = 2 })
 dots_are_front [] h = absurd cc
 dots_are_front (b ∷ []) h = absurd cc
@@ -91,6 +92,7 @@ dots_are_front (b ∷ c ∷ bs) h = record {
   within = omega arith;
 }
 
+-- `!=` in front is one sign
 pub differs_is_front : (text : List ℕ) → has_front 33 61 text ≡ true → IsFront text (record { token = NotEquals; len = 2 })
 differs_is_front [] h = absurd cc
 differs_is_front (b ∷ []) h = absurd cc
@@ -100,6 +102,7 @@ differs_is_front (b ∷ c ∷ bs) h = record {
   within = omega arith;
 }
 
+-- a sign of one byte in front, where neither of the longer ones stands there
 pub sign_is_front : (text : List ℕ) (t : Token) → 0 < length text → has_front 46 46 text ≡ false → has_front 33 61 text ≡ false
     → is_space (slice_index text 0) ≡ false → is_letter (slice_index text 0) ≡ false → is_digit (slice_index text 0) ≡ false → t ≡ sign_token (slice_index text 0) → IsFront text (record { token = t; len = 1 })
 sign_is_front [] t z d m h k l e = absurd (omega arith)

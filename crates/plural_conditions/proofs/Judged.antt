@@ -73,6 +73,7 @@ pub refused_is_fault : (text : List ℕ) (b : ℕ) → condition_of text ≡ Err
 unfolding condition_of
 refused_is_fault text b e = first_fault (length (part_of text)) (text_tokens text) b e
 
+-- what is found is the first fault
 pub found_is_fault : (text : List ℕ) (b : ℕ) → fault_byte (condition_of text) ≡ Some b → IsTextFault text b
 found_is_fault text b e = by (condition_of text) refl e
   where
@@ -80,6 +81,7 @@ found_is_fault text b e = by (condition_of text) refl e
     by (Ok c) h k = absurd (none_is k)
     by (Err a) h k = refused_is_fault text b (h ∙ ap fault (some_is k))
 
+-- where nothing is found there is a condition
 pub none_is_condition : (text : List ℕ) → fault_byte (condition_of text) ≡ None → IsConditionText text
 none_is_condition text e = by (condition_of text) refl e
   where
@@ -102,6 +104,7 @@ pub read_spells : {E : Type 0} (text : List ℕ) {A : Type 0} (f : A → Conditi
 read_spells text f (Ok c) e = read_is_text text (f c) e
 read_spells text f (Err e) h = tt
 
+-- the first fault is found
 pub fault_is_found : (text : List ℕ) (b : ℕ) → IsTextFault text b → fault_byte (condition_of text) ≡ Some b
 fault_is_found text b p = by (condition_of text) refl
   where
@@ -109,6 +112,7 @@ fault_is_found text b p = by (condition_of text) refl
     by (Ok c) h = absurd (fault_or_condition text b p (c, read_is_text text c h))
     by (Err a) h = ap (λ n. some n) (fault_is_unique text a b (refused_is_fault text a h) p)
 
+-- in a text that spells a condition nothing is found
 pub condition_has_none : (text : List ℕ) → IsConditionText text → fault_byte (condition_of text) ≡ None
 condition_has_none text h = ap fault_byte (text_is_read text h.0 h.1)
 

@@ -42,6 +42,7 @@ subject_how p o Comma = refl
 subject_how p o Dots = refl
 subject_how p o Unknown = refl
 
+-- a successor is not zero
 pub not_zero : (n : ℕ) → (suc n == 0) ≡ false
 not_zero n = grind (arith, nat_tests)
 
@@ -158,6 +159,7 @@ more_is end g t ts = by (next_progress g t.1)
     by None = refl
     by (Some n) = refl
 
+-- which tokens may follow is all that the fault depends on
 pub fault_is : (end : ℕ) (s : State) (ts : List Placed) → fault_byte (reading_from end s ts) ≡ fault_from end (progress_of s) ts
 unfolding reading_from fault_from
 fault_is end s [] = finish_how end s
@@ -169,6 +171,7 @@ pub record Looks (text : List ℕ) (end at : ℕ) (rest : List ℕ) (g : Progres
   pub place : at + length rest ≡ end
   pub fault : fault_from end g (tokens_from at rest) ≡ fault_byte (condition_of text)
 
+-- before the first token the whole text is left
 pub looks-start : (text part : List ℕ) (end : ℕ) → part ≡ part_of text → end ≡ length part → Looks text end 0 part Nothing
 unfolding condition_of reading
 looks-start text part end e l = record {
@@ -188,6 +191,7 @@ go_on end g n t ts h = sym (more_is end g t ts) ∙ ap (more end t.0 ts) h
 pub looks-stop : (text : List ℕ) (end at : ℕ) (rest : List ℕ) (g : Progress) (f : Found) → Looks text end at rest g → IsFound rest f → next_progress g f.token ≡ None → Some (at + f.start) ≡ fault_byte (condition_of text)
 looks-stop text end at rest g f h k e = sym (stop_at end g (at + f.start, f.token) (tokens_from (at + f.end) (drop f.end rest)) e) ∙ sym (ap (fault_from end g) (k.tokens at)) ∙ h.fault
 
+-- behind a token that may follow, what is left has the fault of the text
 pub looks-next : (text : List ℕ) (end at : ℕ) (rest after : List ℕ) (g n : Progress) (f : Found) → Looks text end at rest g → IsFound rest f → next_progress g f.token ≡ Some n → after ≡ drop f.end rest → Looks text end (at + f.end) after n
 looks-next text end at rest after g n f h k e same = rw same (record {
   is_end = h.is_end;
@@ -195,6 +199,7 @@ looks-next text end at rest after g n f h k e same = rw same (record {
   fault = sym (go_on end g n (at + f.start, f.token) (tokens_from (at + f.end) (drop f.end rest)) e) ∙ sym (ap (fault_from end g) (k.tokens at)) ∙ h.fault;
 })
 
+-- behind the last token the fault is the end, unless the text may end there
 pub looks-end : (text : List ℕ) (end at : ℕ) (rest : List ℕ) (g : Progress) → Looks text end at rest g → ((p : ℕ) → tokens_from p rest ≡ []) → cond (may_end g) None (Some end) ≡ fault_byte (condition_of text)
 unfolding fault_from
 looks-end text end at rest g h k = sym (ap (fault_from end g) (k at)) ∙ h.fault

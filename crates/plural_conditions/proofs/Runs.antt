@@ -206,9 +206,11 @@ run_none kind p b bs h =
     let place : p + 1 ≡ p + 1 + 0 = omega arith in
     h ∙ ap (λ k. (p, kind (b ∷ [])) ∷ written_from k bs) place
 
+-- a byte that passes makes the run one longer
 pub prefix-yes : (test : ℕ → Bool) (c : ℕ) (cs : List ℕ) → test c ≡ true → suc (prefix_len test cs) ≡ prefix_len test (c ∷ cs)
 prefix-yes test c cs h = rw h (omega arith)
 
+-- a byte that does not pass ends the run
 pub prefix-no : (test : ℕ → Bool) (c : ℕ) (cs : List ℕ) → test c ≡ false → 0 ≡ prefix_len test (c ∷ cs)
 prefix-no test c cs h = rw h refl
 

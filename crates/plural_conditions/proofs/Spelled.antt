@@ -184,6 +184,7 @@ unfolding reading_from
 reading_writes end s [] c e = append-nil (written s) ∙ finish_writes s c (or_fault_ok (finish s) end c e)
 reading_writes end s (t ∷ ts) c e = next_writes end s t ts c (λ next k. reading_writes end next ts c k) (step s t.1) refl e
 
+-- what is read is spelled by the tokens
 pub read_is_spelled : (end : ℕ) (ts : List Placed) (c : Condition) → reading end ts ≡ Ok c → kinds ts ≡ tokens_of c
 unfolding reading
 read_is_spelled end ts c e = reading_writes end nothing ts c e

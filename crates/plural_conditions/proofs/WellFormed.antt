@@ -182,6 +182,7 @@ unfolding reading_from
 reading_keeps end s [] c h e = finish_keeps s c h (or_fault_ok (finish s) end c e)
 reading_keeps end s (t ∷ ts) c h e = next_keeps end s t ts c (λ next k r. reading_keeps end next ts c k r) h (step s t.1) refl e
 
+-- what is read is well formed
 pub read_is_well_formed : (end : ℕ) (ts : List Placed) (c : Condition) → reading end ts ≡ Ok c → IsWellFormed c
 unfolding reading
 read_is_well_formed end ts c e = reading_keeps end nothing ts c tt e

@@ -23,6 +23,7 @@ pub record Drafted : Type 0 where
   pub items : List Item
   pub item : Item
 
+-- what a draft holds
 abbrev pub drafted : Draft → Drafted
 drafted d = record {
   alternatives = map relations_of d.alternatives.items;
@@ -34,6 +35,7 @@ drafted d = record {
   item = d.item;
 }
 
+-- a draft before the first token
 abbrev pub empty_draft : Drafted
 empty_draft = record { alternatives = []; relations = []; subject = N; modulus = None; denied = false; items = []; item = Value 0 }
 

@@ -5,11 +5,14 @@ use Rattle.plural_conditions.specs.declared.condition.Alternative.{Alternative}
 use Rattle.plural_conditions.specs.declared.condition.Condition.{Condition as OwnedCondition}
 use Rattle.plural_conditions.specs.Grammar.{Relation, Condition}
 
+-- the relation of a value
 abbrev pub relation_of : OwnedRelation → Relation
 relation_of r = record { subject = r.subject; modulus = r.modulus; denied = r.denied; items = r.items.items }
 
+-- the relations of an alternative
 abbrev pub relations_of : Alternative → List Relation
 relations_of a = map relation_of a.relations.items
 
+-- the condition of a value
 abbrev pub condition_in : OwnedCondition → Condition
 condition_in c = map relations_of c.alternatives.items

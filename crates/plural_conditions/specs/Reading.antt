@@ -152,39 +152,47 @@ progress_of (valued p o m d xs a) = Valued
 progress_of (ranged p o m d xs a) = Ranged
 progress_of (ended p o m d xs x) = Ended
 
+-- an operand
 abbrev pub progress_at_operand : Token → Option Progress
 progress_at_operand (Letter o) = Some Subject
 progress_at_operand _ = None
 
+-- a modulus or a sign, after an operand
 abbrev pub progress_after_subject : Token → Option Progress
 progress_after_subject Percent = Some Divided
 progress_after_subject Equals = Some Listed
 progress_after_subject NotEquals = Some Listed
 progress_after_subject _ = None
 
+-- the value of a modulus, which is not zero
 abbrev pub progress_at_modulus : Token → Option Progress
 progress_at_modulus (Number n) = if n == 0 then None else Some Reduced
 progress_at_modulus _ = None
 
+-- a sign, after a modulus
 abbrev pub progress_at_sign : Token → Option Progress
 progress_at_sign Equals = Some Listed
 progress_at_sign NotEquals = Some Listed
 progress_at_sign _ = None
 
+-- a value, after a sign or a comma
 abbrev pub progress_at_value : Token → Option Progress
 progress_at_value (Number n) = Some Valued
 progress_at_value _ = None
 
+-- the other end of a range
 abbrev pub progress_at_end : Token → Option Progress
 progress_at_end (Number n) = Some Ended
 progress_at_end _ = None
 
+-- what joins, after an item
 abbrev pub progress_after_item : Token → Option Progress
 progress_after_item Comma = Some Listed
 progress_after_item And = Some Joined
 progress_after_item Or = Some Joined
 progress_after_item _ = None
 
+-- the dots of a range, or what joins, after a value
 abbrev pub progress_after_value : Token → Option Progress
 progress_after_value Dots = Some Ranged
 progress_after_value t = progress_after_item t

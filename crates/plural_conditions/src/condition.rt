@@ -86,7 +86,8 @@ fn copy_alternatives(
     alloc: Global,
     alternatives: &[Alternative],
 ) -> Result<Vec<Alternative>, RulesError>
-    ensures copied { IfOk result (λ v. map relations_of v.items ≡ map relations_of alternatives.now) }
+    ensures copied { IfOk result (λ v. map relations_of v.items
+        ≡ map relations_of alternatives.now) }
     ensures memory { IsOkUnless result RulesError.OutOfMemory }
 {
     let mut copied = Vec::new(alloc);

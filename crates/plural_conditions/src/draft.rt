@@ -98,7 +98,8 @@ impl Draft {
         progress: Progress,
         token: Token,
     ) -> Result<(), RulesError>
-        ensures taken { IfOk result (λ _. drafted self.new ≡ with_token progress token (drafted self.old)) }
+        ensures taken { IfOk result (λ _. drafted self.new
+            ≡ with_token progress token (drafted self.old)) }
         ensures memory { IsOkUnless result RulesError.OutOfMemory }
     {
         match token {

@@ -84,6 +84,7 @@ module _ (p s : ℕ) (ds : List ℕ) (n : ℕ) (hp : 0 < p) (hs : 0 < s) where
 pub joined-front : {B : Type 0} (f : List ℕ → List B) (separator : List B) (p s : ℕ) (ds g rest : List ℕ) → cut p s ds ≡ g ∷ cut p s rest → joined separator (map f (cut p s ds)) ≡ f g ++ joined_after separator (map f (cut p s rest))
 joined-front f separator p s ds g rest e = rw e refl
 
+-- what follows a group: a separator, the next group, and the rest
 pub joined_after-next : {B : Type 0} (f : List ℕ → List B) (separator : List B) (p s : ℕ) (ds g rest : List ℕ) → cut p s ds ≡ g ∷ cut p s rest → joined_after separator (map f (cut p s ds)) ≡ separator ++ (f g ++ joined_after separator (map f (cut p s rest)))
 joined_after-next f separator p s ds g rest e = rw e refl
 
@@ -92,6 +93,7 @@ pub due_of : (p s : ℕ) (ds : List ℕ) → (ds ≡ []) ⊎ IsDue p s (length d
 due_of p s ds (inl none) some = absurd (omega (arith, ap length none))
 due_of p s ds (inr due) some = due
 
+-- nothing follows the last group
 pub joined_after-none : {B : Type 0} (f : List ℕ → List B) (separator : List B) (p s : ℕ) (ds : List ℕ) → length ds ≡ 0 → joined_after separator (map f (cut p s ds)) ≡ []
 joined_after-none f separator p s [] e = refl
 joined_after-none f separator p s (d ∷ ds) e = absurd (omega arith)

@@ -38,6 +38,7 @@ FirstGroup-put_before p s n x (g ∷ h' ∷ gs) hp hs h =
       | inr f ↦ rw f.0 (omega arith, rw (k, mod_more (n - p - 1) s hs (λ e. f.1 (h.1 ∙ e))) (omega (arith, h.1)))
     ]
 
+-- how long the first group is where a list is cut
 pub FirstGroup-cut : {A : Type 0} (p s : ℕ) (xs : List A) → 0 < p → 0 < s → FirstGroup p s (length xs) (cut p s xs)
 FirstGroup-cut p s [] hp hs = refl
 FirstGroup-cut p s (x ∷ xs) hp hs = rw (← add-one (length xs)) (FirstGroup-put_before p s (length xs) x (cut p s xs) hp hs (FirstGroup-cut p s xs hp hs))

@@ -21,6 +21,7 @@ abbrev pub joined_after : {A : Type 0} → List A → List (List A) → List A
 joined_after separator [] = []
 joined_after separator (g ∷ gs) = separator ++ (g ++ joined_after separator gs)
 
+-- the groups with a separator between two
 abbrev pub joined : {A : Type 0} → List A → List (List A) → List A
 joined separator [] = []
 joined separator (g ∷ gs) = g ++ joined_after separator gs

@@ -40,8 +40,10 @@ AreMarks from text (m ∷ ms) = (from ≤ mark_at m) × (mark_at m - from ≤ le
 abbrev pub kept_events : Inside → List Event
 kept_events a = marked_events 0 (string_bytes a.text) a.marks.items
 
+-- what a text with marks has taken, as events, with its failures and its room
 abbrev pub annotated : Inside → Annotated
 annotated a = record { events = kept_events a; failures = a.failures; limit = option_map (λ left. length (kept_events a) + left) a.room; refusals = a.refusals }
 
+-- the marks stand in the text, in order
 abbrev pub IsMarked : Inside → Type 0
 IsMarked a = AreMarks 0 (string_bytes a.text) a.marks.items

@@ -31,6 +31,7 @@ spans_from at (Char c ∷ es) = spans_from (at + length (encode_utf8 c)) es
 spans_from at (Open category value ∷ es) = span_of at (end_of_part 0 at es) category value ++ spans_from at es
 spans_from at (Close ∷ es) = spans_from at es
 
+-- the spans of events, from the first byte on
 abbrev pub spans : List Event → List Span
 spans es = spans_from 0 es
 

@@ -25,7 +25,8 @@ impl Writeable for Twelve {
     ghost use Rattle.writeable.specs.Events.{Event, text_events};
     ghost use Rattle.writeable.specs.Events.Event.{Open, Close};
 
-    ghost events = { λ _. Open (codes "decimal") (codes "integer") ∷ (text_events (codes "12") ++ Close ∷ []) };
+    ghost events = { λ _. Open (codes "decimal") (codes "integer")
+        ∷ (text_events (codes "12") ++ Close ∷ []) };
 
     fn write_events<K: EventWriter>(&self, out: &mut K) -> Result<(), WriteFault> {
         out.open(INTEGER)?;
@@ -40,7 +41,8 @@ fn text_with<P: PatternBackend, W: Writeable + Drop>(
     pattern: &Pattern<P>,
     value: W,
 ) -> Result<String, WriteFault>
-    ensures { IfOk result (λ t. string_bytes t ≡ text_of (interpolated pattern.now (W.events value))) }
+    ensures { IfOk result (λ t.
+        string_bytes t ≡ text_of (interpolated pattern.now (W.events value))) }
 {
     let filled = pattern.interpolate(value);
     match filled.write_to_string(alloc) {

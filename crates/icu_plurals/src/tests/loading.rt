@@ -20,7 +20,8 @@ struct FrenchRules {
 }
 
 impl DataProvider<PluralsCardinalV1> for FrenchRules {
-    ghost answer = { λ s id. if is_none id.system && bytes_eq id.locale (codes "fr") then Ok s.rules else Err s.refusal };
+    ghost answer = { λ s id. if is_none id.system && bytes_eq id.locale (codes "fr") then Ok s.rules
+        else Err s.refusal };
 
     fn load(&self, alloc: Global, request: &DataRequest<'_>) -> Result<PluralRules, DataError> {
         self.asked.set(self.asked.get().wrapping_add(1));

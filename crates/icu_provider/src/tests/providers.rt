@@ -17,7 +17,9 @@ impl DataMarker for LengthV1 {
 struct Lengths;
 
 impl DataProvider<LengthV1> for Lengths {
-    ghost answer = { λ _ id. if is_some id.system then Err Custom else (if nat_eq (length id.locale) 2 then Err IdentifierNotFound else Ok (length id.locale)) };
+    ghost answer = { λ _ id. if is_some id.system then Err Custom
+        else (if nat_eq (length id.locale) 2 then Err IdentifierNotFound
+        else Ok (length id.locale)) };
 
     fn load(&self, _alloc: Global, request: &DataRequest<'_>) -> Result<usize, DataError> {
         if request.id.system().is_some() {
