@@ -7,11 +7,13 @@ use icu_decimal::preferences::CompactDecimalFormatterPreferences;
 use icu_decimal::{CompactDecimalFormatter, DecimalFormatter};
 use icu_decimal_data::{DecimalSymbols, SymbolsView};
 use icu_decimal_readable::are_numbers_readable;
+use icu_decimal_symbols::DecimalSymbolStrsBuilder;
 use icu_pattern::{Pattern, SinglePlaceholder};
 use icu_plurals::{PluralCategory, PluralElements, PluralOperands, PluralRules};
 use icu_provider::{DataIdentifierBorrowed, DataLocale};
 use icu_tables::Tables;
 use icu_unit::UnitFormatter;
+use plural_conditions::{first_fault, read_condition};
 use std::process::ExitCode;
 use writeable::{Part, PartsText, PartsWrite, Writeable};
 
@@ -52,6 +54,17 @@ fn of_icu_pattern(rt: &HostRuntime) -> Option<()> {
     println!(rt; "{text}").ok()
 }
 
+fn of_plural_conditions(rt: &HostRuntime) -> Option<()> {
+    let byte = first_fault("i = 1 or")?;
+    println!(rt; "refused at byte {byte}").ok()?;
+    let text = "i = 1 and v = 0";
+    if first_fault(text).is_some() {
+        return None;
+    }
+    let condition = read_condition(rt.alloc(), text).ok()?;
+    println!(rt; "alternatives: {}", condition.alternatives.len()).ok()
+}
+
 fn of_icu_plurals(rt: &HostRuntime) -> Option<()> {
     let rules = PluralRules::from_rules(
         rt.alloc(),
@@ -70,6 +83,20 @@ fn of_icu_provider(rt: &HostRuntime) -> Option<()> {
     let locale = DataLocale::try_from_str("de-CH").ok()?;
     let id = DataIdentifierBorrowed::for_locale(&locale);
     println!(rt; "by the locale alone: {}", id.system().is_none()).ok()
+}
+
+fn of_icu_decimal_symbols(rt: &HostRuntime) -> Option<()> {
+    let builder = DecimalSymbolStrsBuilder {
+        minus_sign_prefix: "-",
+        minus_sign_suffix: "",
+        plus_sign_prefix: "+",
+        plus_sign_suffix: "",
+        decimal_separator: ",",
+        grouping_separator: ".",
+        numsys: "latn",
+    };
+    let symbols = builder.build(rt.alloc()).ok()?;
+    println!(rt; "before fractions {}", symbols.decimal_separator()).ok()
 }
 
 fn of_icu_decimal_data(rt: &HostRuntime) -> Option<()> {
@@ -138,8 +165,10 @@ fn print_all(rt: &HostRuntime) -> Option<()> {
     of_fixed_decimal(rt)?;
     of_writeable(rt)?;
     of_icu_pattern(rt)?;
+    of_plural_conditions(rt)?;
     of_icu_plurals(rt)?;
     of_icu_provider(rt)?;
+    of_icu_decimal_symbols(rt)?;
     of_icu_decimal_data(rt)?;
     of_icu_decimal_readable(rt)?;
     of_icu_decimal(rt)?;
