@@ -1,6 +1,6 @@
 //! A provider that copies what it keeps, each thing by its identifier.
 
-ghost use Rattle.std.specs.Prelude.{◌≡◌, Err, find, option_map, unwrap_or};
+ghost use Rattle.std.specs.Prelude.{◌≡◌, Ok, Err, find, option_map, unwrap_or};
 ghost use Rattle.std.specs.Option.{option_copied};
 ghost use Rattle.icu_base.specs.Answer.{Answers};
 ghost use Rattle.icu_base.specs.Identifier.{identifier_of, same_identifier};
