@@ -2,8 +2,8 @@
 use Rattle.std.specs.Prelude.{ℕ, List, codes}
 use Rattle.decfmt.specs.declared.Failure.{Failure}
 use Rattle.decfmt.specs.declared.Failure.TheVariants.{Streams, Memory, Words, Tables, NoData}
-use Rattle.decfmt.specs.declared.mode.StartError.{StartError}
-use Rattle.decfmt.specs.declared.mode.StartError.TheVariants as start
+use Rattle.decimal_lines.specs.declared.mode.StartError.{StartError}
+use Rattle.decimal_lines.specs.declared.mode.StartError.TheVariants as start
 
 -- its status
 abbrev pub status_of : Failure → ℕ

@@ -1,10 +1,1 @@
-pub mod Plain
-pub mod Computed
-pub mod Compact
-pub mod Answers
-pub mod Lines
-pub mod Written
-pub mod Laws
 pub mod Endings
-pub mod Words
-pub mod Making

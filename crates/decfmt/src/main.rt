@@ -1,24 +1,11 @@
 //! `decfmt`: reads lines, and writes each decimal in the form of a locale.
 #![tactic(auto)]
 
-mod blocks;
-mod laws;
-mod line;
-mod making;
-mod mode;
-mod piece;
-mod running;
-#[cfg(test)]
-mod tests;
-mod words;
-
-use mode::{Mode, StartError};
-use running::{RunError, run};
+use decimal_lines::{Mode, RunError, StartError, parse_words, run};
 use std::alloc::{AllocError, AllocFailed};
 use std::io::ErrorKind;
 use std::process::ExitCode;
 use std::{env, fs, io};
-use words::parse_words;
 
 const USAGE: &str = "usage: decfmt TABLES LOCALE NU|- plain|short|long [auto|never|always|min2]";
 
@@ -62,7 +49,7 @@ impl Failure {
 
 impl From<RunError> for Failure {
     ghost use Rattle.std.specs.Prelude.{◌≡◌, ◌≢◌};
-    ghost use Rattle.decfmt.specs.declared.running.RunError.TheVariants.{OutOfMemory};
+    ghost use Rattle.decimal_lines.specs.declared.running.RunError.TheVariants.{OutOfMemory};
     ghost use Rattle.decfmt.specs.declared.Failure.TheVariants.{Streams, Memory};
 
     ghost from_gives = { λ error failure. (error ≡ OutOfMemory → failure ≡ Memory) × (error ≢ OutOfMemory → failure ≡ Streams) };

@@ -1,6 +1,7 @@
 //! The examples of the libraries' first pages, one function for each library.
 #![tactic(auto)]
 
+use decimal_lines::{Mode, format_lines};
 use fixed_decimal::Decimal;
 use icu_decimal::options::{CompactDecimalFormatterOptions, DecimalFormatterOptions};
 use icu_decimal::preferences::CompactDecimalFormatterPreferences;
@@ -15,6 +16,7 @@ use icu_tables::Tables;
 use icu_unit::UnitFormatter;
 use plural_conditions::{first_fault, read_condition};
 use std::process::ExitCode;
+use std::str;
 use writeable::{Part, PartsText, PartsWrite, Writeable};
 
 const DIGITS: [char; 10] = ['0', '1', '2', '3', '4', '5', '6', '7', '8', '9'];
@@ -160,6 +162,14 @@ fn of_icu_unit(rt: &HostRuntime) -> Option<()> {
     println!(rt; "{}", text.text()).ok()
 }
 
+fn of_decimal_lines(rt: &HostRuntime) -> Option<()> {
+    let mode = Mode::english(rt.alloc()).ok()?;
+    let mut output = [0; 32];
+    let filled = format_lines(rt.alloc(), &mode, b"1000007\n1e3\n", &mut output);
+    let text = str::from_utf8(output.get(..filled.written)?).ok()?;
+    print!(rt; "{text}").ok()
+}
+
 /// All examples; none where memory or standard output is wanting.
 fn print_all(rt: &HostRuntime) -> Option<()> {
     of_fixed_decimal(rt)?;
@@ -173,7 +183,8 @@ fn print_all(rt: &HostRuntime) -> Option<()> {
     of_icu_decimal_readable(rt)?;
     of_icu_decimal(rt)?;
     of_icu_tables(rt)?;
-    of_icu_unit(rt)
+    of_icu_unit(rt)?;
+    of_decimal_lines(rt)
 }
 
 fn main(rt: HostRuntime) -> ExitCode {

@@ -1,9 +1,0 @@
-use Rattle.std.proofs.Common.{ℕ, List, []}
-use Rattle.std.specs.Io.KnownBytes.{Consumes}
-use Rattle.decfmt.specs.Answers.{answer_to}
-use Rattle.decfmt.specs.Written.{Feeds}
-use Rattle.decfmt.proofs.running.run_by.Given as goal
-
-abbrev pub invariant-loop : goal.invariant-loop
-invariant-loop g l = (got : List ℕ) × Consumes (g.R.Read.remaining l.fn.reader) (g.R.Read.remaining l.reader) got
-    × Feeds (answer_to l.mode) (g.W.Write.contents l.fn.writer) (g.W.Write.contents l.writer) [] got l.held.items

@@ -1,0 +1,117 @@
+-- The answer to a text, by what the text reads as.
+use Rattle.std.proofs.Common.{◌≡◌, ℕ, ◌+◌, ◌<◌, Bool, true, false, List, [], ◌∷◌, length, length-append, Option, Some, None, refl, sym, ap, ◌∙◌, arith, inl, inr}
+use Rattle.std.specs.Prelude.{◌++◌, Result, Ok, Err, is_ok, OnOk, codes, ◌&&◌, nat_le, if◌then◌else◌}
+use Rattle.std.specs.Str.{IsUtf8}
+use Rattle.std.proofs.lemmas.Bool.{false≢true}
+use Rattle.std.proofs.lemmas.List.Elements.{All-append, All-cons}
+use Rattle.std.proofs.lemmas.Bool.Decides.{nat_tests}
+use Rattle.fixed_decimal.specs.declared.signs.Sign.{Sign}
+use Rattle.fixed_decimal.specs.Unsigned.{Unsigned, IsUnsigned, AreDigits}
+use Rattle.fixed_decimal.specs.Text.{Reads, ReadsNothing, ReadsPastLimits, integer_of}
+use Rattle.fixed_decimal.specs.Unsigned.{IsWithinLimits}
+use Rattle.decimal_lines.specs.declared.mode.Mode.{Mode}
+use Rattle.decimal_lines.specs.declared.mode.Mode.TheVariants.{Plain, Compact}
+use Rattle.fixed_decimal.specs.Reading.{reading}
+use Rattle.decimal_lines.specs.Answers.{HasTable, IsShown, IsAnswer, is_within_limits, shown_by, answer_for, answer_to}
+use Rattle.decimal_lines.proofs.Displaying.{compact-is, compact-only}
+use Rattle.fixed_decimal.proofs.Readings.{reading-reads, reading-spells, reading-nothing, nothing-reading, reads_nothing}
+
+is_within-limits : (d : Unsigned) → IsWithinLimits d → is_within_limits d ≡ true
+is_within-limits d w =
+    let high : nat_le (length d.digits) (d.scale + 32768) ≡ true = grind (arith, nat_tests, w.high_limit) in
+    let low : nat_le d.scale 32768 ≡ true = grind (arith, nat_tests, w.low_limit) in
+    rw (high, low) refl
+
+limits-is_within : (d : Unsigned) → is_within_limits d ≡ true → IsWithinLimits d
+limits-is_within d e = go (nat_le (length d.digits) (d.scale + 32768)) (nat_le d.scale 32768) refl refl e
+  where
+    go : (a b : Bool) → nat_le (length d.digits) (d.scale + 32768) ≡ a → nat_le d.scale 32768 ≡ b → (a && b) ≡ true → IsWithinLimits d
+    go true true p q e = record { high_limit = grind (arith, nat_tests); low_limit = grind (arith, nat_tests) }
+    go true false p q e = absurd cc
+    go false b p q e = absurd cc
+
+-- a decimal that is read within the limits
+reads-unsigned : (text : List ℕ) (s : Sign) (d : Unsigned) → Reads text s d → IsWithinLimits d → IsUnsigned d
+reads-unsigned text s d r w = record {
+  below_ten = rw r.digits (All-append (λ x. x < 10) (integer_of r.before) r.after (before_digits r.before r.spelled.before_digits) r.spelled.after_digits);
+  integer_some = omega (arith, r.scale, ap (λ ds. length {A = ℕ} ds) r.digits, length-append (integer_of r.before) r.after, some r.before);
+  high_limit = w.high_limit;
+  low_limit = w.low_limit;
+}
+  where
+    before_digits : (ds : List ℕ) → AreDigits ds → AreDigits (integer_of ds)
+    before_digits [] h = All-cons (λ x. x < 10) 0 [] (omega arith) h
+    before_digits (x ∷ xs) h = h
+
+    some : (ds : List ℕ) → 0 < length (integer_of ds)
+    some [] = omega arith
+    some (x ∷ xs) = omega arith
+
+-- what a mode shows is the one thing that it may show
+shown_by-is : (mode : Mode) → HasTable mode → (s : Sign) (d : Unsigned) → IsUnsigned d → IsShown mode s d (shown_by mode s d)
+shown_by-is (Plain format) has s d is = refl
+shown_by-is (Compact format) has s d is = compact-is format s d is has
+
+shown_by-only : (mode : Mode) (s : Sign) (d : Unsigned) (answer : List ℕ) → IsShown mode s d answer → answer ≡ shown_by mode s d
+shown_by-only (Plain format) s d answer shows = shows
+shown_by-only (Compact format) s d answer shows = compact-only format s d answer shows
+
+module _ (mode : Mode) (text : List ℕ) where
+  by_reading : (o : Option (Sign × Unsigned)) → reading text ≡ o → answer_to mode text ≡ answer_for mode o
+  unfolding answer_to
+  by_reading o e = ap (answer_for mode) e
+
+  pub answer_to-within : (s : Sign) (d : Unsigned) → Reads text s d → IsWithinLimits d → answer_to mode text ≡ shown_by mode s d
+  answer_to-within s d r w = by_reading (Some (s, d)) (reading-reads text s d r) ∙ rw (is_within-limits d w) refl
+
+  pub answer_to-nothing : ReadsNothing text → answer_to mode text ≡ codes "error: not a decimal"
+  answer_to-nothing none = by_reading None (reading-nothing text none)
+
+  pub answer_to-past : ReadsPastLimits text → answer_to mode text ≡ codes "error: too many digits"
+  answer_to-past (s, d, r, past) = by_reading (Some (s, d)) (reading-reads text s d r) ∙ go (is_within_limits d) refl
+    where
+      go : (b : Bool) → is_within_limits d ≡ b → (if b then shown_by mode s d else codes "error: too many digits") ≡ codes "error: too many digits"
+      go true e = absurd (past (limits-is_within d e))
+      go false e = refl
+
+  -- a decimal that isn't past the limits
+  pub answer_to-decimal : (s : Sign) (d : Unsigned) → Reads text s d → ¬ (ReadsPastLimits text) → answer_to mode text ≡ shown_by mode s d
+  answer_to-decimal s d r not_past = go (is_within_limits d) refl
+    where
+      go : (b : Bool) → is_within_limits d ≡ b → answer_to mode text ≡ shown_by mode s d
+      go true e = answer_to-within s d r (limits-is_within d e)
+      go false e = absurd (not_past (s, d, r, λ w. absurd (false≢true (sym e ∙ is_within-limits d w))))
+
+  pub answer_to-no_text : ¬ (IsUtf8 text) → answer_to mode text ≡ codes "error: not a decimal"
+  answer_to-no_text not_text = answer_to-nothing (reads_nothing text not_text)
+
+  -- it is an answer, and the only one
+  pub answer_to-is : HasTable mode → IsAnswer mode text (answer_to mode text)
+  answer_to-is has = go (reading text) refl
+    where
+      limited : (s : Sign) (d : Unsigned) → reading text ≡ Some (s, d) → (b : Bool) → is_within_limits d ≡ b → IsAnswer mode text (answer_to mode text)
+      limited s d e true f =
+          let r = reading-spells text s d e in
+          let w = limits-is_within d f in
+          inl (record { sign = s; absolute = d; reads = r; within = w; shown = rw (answer_to-within s d r w) (shown_by-is mode has s d (reads-unsigned text s d r w)) })
+      limited s d e false f =
+          let past : ReadsPastLimits text = (s, d, reading-spells text s d e, λ w. absurd (false≢true (sym f ∙ is_within-limits d w))) in
+          inr (inr (past, answer_to-past past))
+
+      go : (o : Option (Sign × Unsigned)) → reading text ≡ o → IsAnswer mode text (answer_to mode text)
+      go None e =
+          let none = nothing-reading text e in
+          inr (inl (none, answer_to-nothing none))
+      go (Some (s, d)) e = limited s d e (is_within_limits d) refl
+
+  pub answer_to-only : (answer : List ℕ) → IsAnswer mode text answer → answer ≡ answer_to mode text
+  answer_to-only answer (inl shows) = shown_by-only mode shows.sign shows.absolute answer shows.shown ∙ sym (answer_to-within shows.sign shows.absolute shows.reads shows.within)
+  answer_to-only answer (inr (inl (none, e))) = e ∙ sym (answer_to-nothing none)
+  answer_to-only answer (inr (inr (past, e))) = e ∙ sym (answer_to-past past)
+
+-- what a call added, if it did
+pub appended : {T E : Type 0} (r : Result T E) (new old more : List ℕ) → new ≡ (if is_ok r then old ++ more else old) → OnOk r (new ≡ old ++ more)
+appended (Ok v) new old more h = h
+appended (Err e) new old more h = tt
+
+pub ruleset answering = (answer_to-nothing, answer_to-past, answer_to-decimal, answer_to-no_text)

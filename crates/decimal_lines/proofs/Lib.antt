@@ -1,0 +1,10 @@
+pub mod Displaying
+pub mod Computing
+pub mod Answering
+pub mod Fed
+pub mod FilledLines
+pub mod Known
+pub mod LineLaws
+pub mod Parts
+pub mod Returns
+pub mod Runs

@@ -1,0 +1,42 @@
+-- The text of a decimal in compact form.
+use Rattle.std.specs.Prelude.{◌≡◌, ℕ, ◌⊎◌, List, Option, nat_le, if◌then◌else◌, codes, pos}
+use Rattle.icu_base.specs.Events.{Event, text_of, without_parts}
+use Rattle.fixed_decimal.specs.declared.signs.Sign.{Sign}
+use Rattle.fixed_decimal.specs.Size.{size, ten_to}
+use Rattle.fixed_decimal.specs.Unsigned.{Unsigned}
+use Rattle.icu_decimal_data.specs.CompactTable.{TableEntry}
+use Rattle.icu_decimal.specs.CompactFormat.{CompactFormat, IsCompactFormat, filled_events}
+use Rattle.icu_decimal.specs.CompactNumber.{ShowsPastLimits}
+use Rattle.icu_decimal.specs.Decimal.{signed_events}
+use Rattle.icu_decimal.specs.Displayed.{displayed_entry}
+use Rattle.decimal_lines.specs.Computed.{nearest_number, significand_shown}
+
+-- the text is that of the nearest compact number, which is within the limits
+pub record IsCompactText (format : CompactFormat) (sign : Sign) (d : Unsigned) (text : List ℕ) : Type 0 where
+  pub significand : Unsigned
+  pub exponent : ℕ
+  pub events : List Event
+  pub written : IsCompactFormat format sign d significand exponent events
+  pub within : ¬ (ShowsPastLimits format.table (size d))
+  pub spelled : text ≡ text_of events
+
+-- the answer is that text, or the number is past the limits and the answer says so
+abbrev pub IsCompactAnswer : CompactFormat → Sign → Unsigned → List ℕ → Type 0
+IsCompactAnswer format sign d answer = IsCompactText format sign d answer ⊎ (ShowsPastLimits format.table (size d) × (answer ≡ codes "error: overflow"))
+
+-- the characters of the sign around a significand in the pattern of an entry
+abbrev pub text_by : CompactFormat → Sign → Option TableEntry → Unsigned → List ℕ
+text_by format sign entry significand = text_of (signed_events format.decimal.symbols sign (without_parts (filled_events format entry significand)))
+
+-- the text by which d is displayed as the size y
+abbrev pub text_shown : CompactFormat → Sign → Unsigned → ℕ → List ℕ
+text_shown format sign d y = text_by format sign (displayed_entry format.table y) (significand_shown format.table d y)
+
+-- the characters that a compact formatter writes for a decimal whose nearest compact number is within the limits
+unfoldable pub compact_text : CompactFormat → Sign → Unsigned → List ℕ
+compact_text format sign d = text_shown format sign d (nearest_number format.table (size d))
+
+-- the answer to a decimal: that text, or `error: overflow` from ten to the power 32768 on
+unfoldable pub compact_answer : CompactFormat → Sign → Unsigned → List ℕ
+compact_answer format sign d =
+    if nat_le (ten_to (pos 32768)) (nearest_number format.table (size d)) then codes "error: overflow" else compact_text format sign d

@@ -1,0 +1,36 @@
+-- What an output of limited size holds once lines are written into it from its front.
+use Rattle.std.specs.Prelude.{◌≡◌, ℕ, ◌+◌, ◌<◌, ◌≤◌, List, [], ◌∷◌, ◌++◌, ◌⊎◌, drop, length}
+use Rattle.decimal_lines.specs.Lines.{IsPartLine, line_output, output_of}
+use Rattle.decimal_lines.specs.Written.{AreWholeLines}
+
+-- its first n bytes are this text, and those behind them are as they were
+pub record IsFilled (old new text : List ℕ) (n : ℕ) : Type 0 where
+  pub bytes : new ≡ text ++ drop n old
+  pub count : n ≡ length text
+  pub within : n ≤ length old
+
+-- the input begins with whole lines, and the output is filled with the output of these
+pub record HoldsWholeLines (answer : List ℕ → List ℕ) (input old new : List ℕ) (n : ℕ) : Type 0 where
+  pub whole : List ℕ
+  pub rest : List ℕ
+  pub are_whole : AreWholeLines whole
+  pub parts : input ≡ whole ++ rest
+  pub filled : IsFilled old new (output_of answer whole) n
+
+-- a line, without its line feed, and what follows it: the rest behind the line feed, or nothing
+pub record IsFirstLine (bytes line rest : List ℕ) : Type 0 where
+  pub is_part : IsPartLine line
+  pub parts : (bytes ≡ (line ++ 10 ∷ []) ++ rest) ⊎ ((bytes ≡ line) × (rest ≡ []))
+
+-- so it is, and the output of the line that follows them finds no room
+pub record HoldsAllThatFit (answer : List ℕ → List ℕ) (input old new : List ℕ) (n : ℕ) : Type 0 where
+  pub whole : List ℕ
+  pub line : List ℕ
+  pub left : List ℕ
+  pub rest : List ℕ
+  pub are_whole : AreWholeLines whole
+  pub parts : input ≡ whole ++ left
+  pub is_some : 0 < length left
+  pub next : IsFirstLine left line rest
+  pub filled : IsFilled old new (output_of answer whole) n
+  pub no_room : length old < n + length (line_output answer line)

@@ -1,0 +1,10 @@
+pub mod Plain
+pub mod Computed
+pub mod Compact
+pub mod Answers
+pub mod Lines
+pub mod Written
+pub mod Filled
+pub mod Laws
+pub mod Words
+pub mod Making

@@ -1,0 +1,117 @@
+//! From bytes to bytes, without a reader or a writer.
+
+ghost use Rattle.std.specs.Prelude.{◌≡◌, ◌+◌, ◌<◌, ◌≤◌, ◌++◌, take, drop, length, Err, IfOk, OnOk, OnErr};
+ghost use Rattle.decimal_lines.specs.Answers.{answer_to};
+ghost use Rattle.decimal_lines.specs.Filled.{HoldsAllThatFit, HoldsWholeLines, IsFilled, IsFirstLine};
+ghost use Rattle.decimal_lines.specs.Lines.{line_output, output_of};
+
+use crate::line::push_line;
+use crate::mode::Mode;
+use memchr::memchr;
+use std::alloc::Global;
+use thiserror::Error;
+
+/// Why an output doesn't hold the answers to all lines.
+#[derive(Clone, Copy, Debug, PartialEq, Eq, Error)]
+pub enum FillError {
+    #[error("the output is too small")]
+    TooSmall,
+    #[error("out of memory")]
+    OutOfMemory,
+}
+
+/// How far an output is filled (this project's own).
+#[derive(Clone, Copy, Debug, PartialEq, Eq)]
+pub struct Filled {
+    /// How many bytes of it are written, from its front; they end at a line's end.
+    pub written: usize,
+    /// Whether these are the answers to all lines, or why not.
+    pub outcome: Result<(), FillError>,
+}
+
+/// The first line of some bytes, without its line feed, and what follows.
+fn first_line(bytes: &[u8]) -> (&[u8], &[u8])
+    ensures { IsFirstLine bytes.now result.0.now result.1.now }
+{
+    match memchr(b'\n', bytes) {
+        Some(n) => {
+            let (line, after) = bytes.split_at(n);
+            (line, after.split_at(1).1)
+        }
+        None => bytes.split_at(bytes.len()),
+    }
+}
+
+/// Copies a text to a place in the output; where it ends.
+fn place(output: &mut [u8], at: usize, text: &[u8]) -> usize
+    requires { at + length text.now ≤ length output.old }
+    ensures bytes { output.new ≡ take at output.old ++ text.now ++ drop (at + length text.now) output.old }
+    ensures end { result ≡ at + length text.now }
+{
+    let end = at + text.len();
+    output[at..end].copy_from_slice(text);
+    end
+}
+
+/// Writes the answer to a line at a place in the output, if there is room for it; where it ends.
+fn put_line(
+    alloc: Global,
+    mode: &Mode,
+    line: &[u8],
+    text: &mut Vec<u8>,
+    output: &mut [u8],
+    at: usize,
+) -> Result<usize, FillError>
+    requires { at ≤ length output.old }
+    ensures fits { IfOk result (λ end. at + length (line_output (answer_to mode.now) line.now) ≤ length output.old) }
+    ensures bytes { OnOk result (output.new ≡ take at output.old ++ line_output (answer_to mode.now) line.now ++ drop (at + length (line_output (answer_to mode.now) line.now)) output.old) }
+    ensures end { IfOk result (λ end. end ≡ at + length (line_output (answer_to mode.now) line.now)) }
+    ensures unchanged { OnErr result (output.new ≡ output.old) }
+    ensures too_small { result ≡ Err FillError.TooSmall → length output.old < at + length (line_output (answer_to mode.now) line.now) }
+{
+    text.clear();
+    if push_line(alloc, mode, line, text).is_err() {
+        return Err(FillError::OutOfMemory);
+    }
+    if text.len() > output.len() - at {
+        return Err(FillError::TooSmall);
+    }
+    Ok(place(output, at, text))
+}
+
+/// Formats all lines of the input into the output: for each line the decimal in the mode's form, or an error line, and a
+/// line feed (this project's own).
+///
+/// What lines are is said at [`run`](crate::run). An output that is too small holds the answers to as many lines as fit.
+pub fn format_lines(alloc: Global, mode: &Mode, input: &[u8], output: &mut [u8]) -> Filled
+    // The output of the whole input was written.
+    ensures ok { OnOk result.outcome (IsFilled output.old output.new (output_of (answer_to mode.now) input.now) result.written) }
+
+    // What was written is the output of whole lines at the input's beginning;
+    ensures err { OnErr result.outcome (HoldsWholeLines (answer_to mode.now) input.now output.old output.new result.written) }
+
+    // it's too small for the whole output, and so for the next line's.
+    ensures too_small { result.outcome ≡ Err FillError.TooSmall → length output.old < length (output_of (answer_to mode.now) input.now) }
+    ensures full { result.outcome ≡ Err FillError.TooSmall → HoldsAllThatFit (answer_to mode.now) input.now output.old output.new result.written }
+{
+    let mut text = Vec::new(alloc);
+    let mut written = 0;
+    let mut left = input;
+    while !left.is_empty() {
+        let (line, rest) = first_line(left);
+        match put_line(alloc, mode, line, &mut text, output, written) {
+            Ok(end) => written = end,
+            Err(error) => {
+                return Filled {
+                    written,
+                    outcome: Err(error),
+                };
+            }
+        }
+        left = rest;
+    }
+    Filled {
+        written,
+        outcome: Ok(()),
+    }
+}

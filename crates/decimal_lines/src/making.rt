@@ -1,0 +1,156 @@
+//! The mode that the words and the file of tables make.
+
+ghost use Rattle.std.specs.Prelude.{◌≡◌};
+ghost use Rattle.decimal_lines.specs.Making.{Starts, compact_options, compact_preferences, long_mode, mode_by, mode_of, plain_mode, plain_options, plain_preferences, short_mode, start_error};
+
+use crate::mode::{Mode, StartError};
+use crate::words::{Style, Words};
+use icu_base::{DataError, DataErrorKind};
+use icu_decimal::options::{
+    CompactDecimalFormatterOptions, DecimalFormatterOptions, GroupingStrategy,
+};
+use icu_decimal::preferences::{CompactDecimalFormatterPreferences, DecimalFormatterPreferences};
+use icu_decimal::{CompactDecimalFormatter, DecimalFormatter};
+use icu_tables::{TableError, Tables};
+use std::alloc::Global;
+use std::str;
+
+/// The options of plain numbers under a strategy, or the default ones.
+fn plain_options(grouping: Option<GroupingStrategy>) -> DecimalFormatterOptions
+    ensures { result ≡ plain_options grouping }
+{
+    match grouping {
+        Some(strategy) => DecimalFormatterOptions::from(strategy),
+        None => DecimalFormatterOptions::default(),
+    }
+}
+
+/// The options of compact numbers under a strategy, or the default ones.
+fn compact_options(grouping: Option<GroupingStrategy>) -> CompactDecimalFormatterOptions
+    ensures { result ≡ compact_options grouping }
+{
+    match grouping {
+        Some(strategy) => CompactDecimalFormatterOptions::from(strategy),
+        None => CompactDecimalFormatterOptions::default(),
+    }
+}
+
+/// For whom compact numbers are written.
+fn compact_preferences(words: &Words<'_>) -> CompactDecimalFormatterPreferences
+    ensures { result ≡ compact_preferences words.now }
+{
+    CompactDecimalFormatterPreferences {
+        locale_preferences: words.locale,
+        numbering_system: words.system,
+    }
+}
+
+/// For whom plain numbers are written.
+fn plain_preferences(words: &Words<'_>) -> DecimalFormatterPreferences
+    ensures { result ≡ plain_preferences words.now }
+{
+    DecimalFormatterPreferences {
+        locale_preferences: words.locale,
+        numbering_system: words.system,
+    }
+}
+
+/// Why there is no mode where the tables refuse.
+fn start_error(error: DataError) -> StartError
+    ensures { result ≡ start_error error.kind }
+{
+    match error.kind {
+        DataErrorKind::OutOfMemory => StartError::OutOfMemory,
+        _ => StartError::NoData,
+    }
+}
+
+/// Plain numbers.
+#[tactic(auto, unfolding(crate::specs::Making::plain_mode))]
+fn plain_mode(alloc: Global, tables: &Tables, words: &Words<'_>) -> Result<Mode, StartError>
+    ensures { Starts result (plain_mode words.now tables.now) }
+{
+    let options = plain_options(words.grouping);
+    match DecimalFormatter::try_new_unstable(alloc, tables, plain_preferences(words), options) {
+        Ok(formatter) => Ok(Mode::Plain(formatter)),
+        Err(error) => Err(start_error(error)),
+    }
+}
+
+/// Numbers shortened by the short patterns.
+#[tactic(auto, unfolding(crate::specs::Making::short_mode))]
+fn short_mode(alloc: Global, tables: &Tables, words: &Words<'_>) -> Result<Mode, StartError>
+    ensures { Starts result (short_mode words.now tables.now) }
+{
+    let options = compact_options(words.grouping);
+    match CompactDecimalFormatter::try_new_short_unstable(
+        alloc,
+        tables,
+        compact_preferences(words),
+        options,
+    ) {
+        Ok(formatter) => Ok(Mode::Compact(formatter)),
+        Err(error) => Err(start_error(error)),
+    }
+}
+
+/// Numbers shortened by the long patterns.
+#[tactic(auto, unfolding(crate::specs::Making::long_mode))]
+fn long_mode(alloc: Global, tables: &Tables, words: &Words<'_>) -> Result<Mode, StartError>
+    ensures { Starts result (long_mode words.now tables.now) }
+{
+    let options = compact_options(words.grouping);
+    match CompactDecimalFormatter::try_new_long_unstable(
+        alloc,
+        tables,
+        compact_preferences(words),
+        options,
+    ) {
+        Ok(formatter) => Ok(Mode::Compact(formatter)),
+        Err(error) => Err(start_error(error)),
+    }
+}
+
+/// The mode of the style that is asked for.
+#[tactic(auto, unfolding(crate::specs::Making::mode_by))]
+fn mode_by(alloc: Global, tables: &Tables, words: &Words<'_>) -> Result<Mode, StartError>
+    ensures { Starts result (mode_by words.now tables.now) }
+{
+    match words.style {
+        Style::Plain => plain_mode(alloc, tables, words),
+        Style::Short => short_mode(alloc, tables, words),
+        Style::Long => long_mode(alloc, tables, words),
+    }
+}
+
+/// The mode of a text of tables.
+#[tactic(auto, unfolding(crate::specs::Making::mode_of))]
+fn mode_of(alloc: Global, words: &Words<'_>, text: &str) -> Result<Mode, StartError>
+    ensures { Starts result (mode_of words.now text.now) }
+{
+    match Tables::from_json(alloc, text) {
+        Ok(tables) => mode_by(alloc, &tables, words),
+        Err(TableError::OutOfMemory) => Err(StartError::OutOfMemory),
+        Err(_) => Err(StartError::Tables),
+    }
+}
+
+impl Mode {
+    ghost use Rattle.std.specs.Prelude.{◌≡◌, Err};
+    ghost use Rattle.std.specs.Str.{IsUtf8};
+    ghost use Rattle.decimal_lines.specs.Making.{Starts, mode_of};
+
+    /// The mode that the words ask for, by the bytes of the file of tables (this project's own).
+    ///
+    /// `Tables` where the file isn't UTF-8 or its text is refused; `NoData` where it says nothing of what the formatter
+    /// of the locale needs; `OutOfMemory` wherever memory is wanting.
+    pub fn make(alloc: Global, words: &Words<'_>, file: &[u8]) -> Result<Mode, StartError>
+        ensures text { IsUtf8 file.now → Starts result (mode_of words.now file.now) }
+        ensures no_text { ¬ (IsUtf8 file.now) → result ≡ Err StartError.Tables }
+    {
+        let Ok(text) = str::from_utf8(file) else {
+            return Err(StartError::Tables);
+        };
+        mode_of(alloc, words, text)
+    }
+}

@@ -1,0 +1,46 @@
+//! How each line is formatted.
+
+use icu_decimal::options::DecimalFormatterOptions;
+use icu_decimal::provider::DecimalSymbols;
+use icu_decimal::{CompactDecimalFormatter, DecimalFormatter};
+use std::alloc::Global;
+use thiserror::Error;
+
+/// Why there is no formatter.
+#[derive(Clone, Copy, Debug, PartialEq, Eq, Error)]
+pub enum StartError {
+    /// The file of tables isn't UTF-8, or its text is refused.
+    #[error("tables refused")]
+    Tables,
+    /// The tables don't say what the formatter needs.
+    #[error("no data")]
+    NoData,
+    #[error("out of memory")]
+    OutOfMemory,
+}
+
+/// The formatter of a run: plain numbers, or compact ones.
+#[derive(Drop)]
+pub enum Mode {
+    Plain(DecimalFormatter),
+    Compact(CompactDecimalFormatter),
+}
+
+impl Mode {
+    ghost use Rattle.std.specs.Prelude.{◌≡◌, IfOk, IsOkUnless};
+    ghost use Rattle.decimal_lines.specs.declared.mode.Mode.TheVariants.{Plain};
+    ghost use Rattle.decimal_lines.specs.Plain.{english};
+
+    /// Plain numbers in English.
+    pub fn english(alloc: Global) -> Result<Mode, StartError>
+        ensures mode { IfOk result (λ mode. mode ≡ Plain english) }
+        ensures memory { IsOkUnless result StartError.OutOfMemory }
+    {
+        let Ok(symbols) = DecimalSymbols::new_en_for_testing(alloc) else {
+            return Err(StartError::OutOfMemory);
+        };
+        let digits = ['0', '1', '2', '3', '4', '5', '6', '7', '8', '9'];
+        let options = DecimalFormatterOptions::default();
+        Ok(Mode::Plain(DecimalFormatter::from_parts(symbols, digits, options)))
+    }
+}

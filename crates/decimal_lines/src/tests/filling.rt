@@ -1,0 +1,69 @@
+//! Lines of bytes in an output of limited size.
+
+use super::english;
+use crate::filling::{FillError, Filled, format_lines};
+use std::alloc::Global;
+
+const LINES: &[u8] = b"5\n6\r\n1234";
+
+/// The answers, and how many bytes behind them are left as they were.
+const ALL: &[u8] = b"5\n6\n1,234\n";
+
+/// How much room there is, how much of it holds whole lines, and why not all.
+const ROOMS: [(usize, usize, Option<FillError>); 8] = [
+    (0, 0, Some(FillError::TooSmall)),
+    (1, 0, Some(FillError::TooSmall)),
+    (2, 2, Some(FillError::TooSmall)),
+    (3, 2, Some(FillError::TooSmall)),
+    (4, 4, Some(FillError::TooSmall)),
+    (9, 4, Some(FillError::TooSmall)),
+    (10, 10, None),
+    (12, 10, None),
+];
+
+/// Fills the room with the answers; again where memory was refused.
+fn fill(alloc: Global, input: &[u8], output: &mut [u8]) -> Option<Filled> {
+    let Ok(mode) = english(alloc) else {
+        return None;
+    };
+    let first = format_lines(alloc, &mode, input, output);
+    match first.outcome {
+        Err(FillError::OutOfMemory) => Some(format_lines(alloc, &mode, input, output)),
+        _ => Some(first),
+    }
+}
+
+/// Whether an output with this room holds so many bytes of the answers, and behind them what it held.
+fn fills(alloc: Global, room: usize, written: usize, cause: Option<FillError>) -> bool {
+    let mut output = [b'x'; 16];
+    let outcome = match cause {
+        Some(cause) => Err(cause),
+        None => Ok(()),
+    };
+    let is_as_told = match fill(alloc, LINES, &mut output[..room]) {
+        Some(filled) => filled == Filled { written, outcome },
+        None => false,
+    };
+    is_as_told && output[..written] == ALL[..written] && output[written..] == [b'x'; 16][written..]
+}
+
+#[test]
+fn fills_with_all_lines_that_fit(rt: HostRuntime) {
+    for (room, written, cause) in ROOMS {
+        assert!(rt; fills(rt.alloc(), room, written, cause), "in {room}");
+    }
+}
+
+/// Whether nothing is written for no line, also where there is no room.
+fn fills_nothing(alloc: Global) -> bool {
+    let mut output = [];
+    match fill(alloc, b"", &mut output) {
+        Some(filled) => filled.written == 0 && filled.outcome == Ok(()),
+        None => false,
+    }
+}
+
+#[test]
+fn fills_no_room_with_no_lines(rt: HostRuntime) {
+    assert!(rt; fills_nothing(rt.alloc()));
+}

@@ -1,0 +1,140 @@
+//! The words that the program is started with.
+
+ghost use Rattle.std.specs.Prelude.{◌≡◌, map};
+ghost use Rattle.decimal_lines.specs.Words.{grouping_named, locale_named, strategy_named, style_named, system_named, words_from, words_of};
+
+use icu_base::{DataLocale, NumberingSystem};
+use icu_decimal::options::GroupingStrategy;
+use std::marker::Model;
+
+/// How numbers are written: in full, or shortened by the short or the long patterns of the tables.
+#[derive(Clone, Copy, Debug, PartialEq, Eq)]
+pub enum Style {
+    Plain,
+    Short,
+    Long,
+}
+
+/// What the words ask for (this project's own).
+#[derive(Debug, Drop)]
+pub struct Words<'a> {
+    /// The file of the tables; any text.
+    pub path: &'a str,
+    /// The locale whose data is taken.
+    pub locale: DataLocale,
+    /// The numbering system that is preferred; `None` where none is.
+    pub system: Option<NumberingSystem>,
+    pub style: Style,
+    /// When separators are written; `None` leaves it to the default of the style.
+    pub grouping: Option<GroupingStrategy>,
+}
+
+impl<'a> Model for Words<'a> {
+    ghost use Rattle.decimal_lines.specs.Words.{WordsData};
+
+    ghost Value = { WordsData };
+
+    ghost view = { λ w. record { path = w.path.now; locale = w.locale; system = w.system; style = w.style; grouping = w.grouping } };
+}
+
+/// The locale of a word.
+#[tactic(auto, unfolding(crate::specs::Words::locale_named))]
+fn locale_named(word: &str) -> Option<DataLocale>
+    ensures { result ≡ locale_named word.now }
+{
+    match DataLocale::try_from_str(word) {
+        Ok(locale) => Some(locale),
+        Err(_) => None,
+    }
+}
+
+/// The numbering system of a word, none for a hyphen.
+#[tactic(auto, unfolding(crate::specs::Words::system_named))]
+fn system_named(word: &str) -> Option<Option<NumberingSystem>>
+    ensures { result ≡ system_named word.now }
+{
+    if word == "-" {
+        return Some(None);
+    }
+    match NumberingSystem::try_from_str(word) {
+        Ok(system) => Some(Some(system)),
+        Err(_) => None,
+    }
+}
+
+/// The style of a word.
+#[tactic(auto, unfolding(crate::specs::Words::style_named))]
+fn style_named(word: &str) -> Option<Style>
+    ensures { result ≡ style_named word.now }
+{
+    match word {
+        "plain" => Some(Style::Plain),
+        "short" => Some(Style::Short),
+        "long" => Some(Style::Long),
+        _ => None,
+    }
+}
+
+/// The grouping strategy of a word.
+#[tactic(auto, unfolding(crate::specs::Words::strategy_named))]
+fn strategy_named(word: &str) -> Option<GroupingStrategy>
+    ensures { result ≡ strategy_named word.now }
+{
+    match word {
+        "auto" => Some(GroupingStrategy::Auto),
+        "never" => Some(GroupingStrategy::Never),
+        "always" => Some(GroupingStrategy::Always),
+        "min2" => Some(GroupingStrategy::Min2),
+        _ => None,
+    }
+}
+
+/// The grouping strategy of at most one word more.
+#[tactic(auto, unfolding(crate::specs::Words::grouping_named))]
+fn grouping_named(more: &[&str]) -> Option<Option<GroupingStrategy>>
+    ensures { result ≡ grouping_named (map (λ w. w.now) more.now) }
+{
+    match more {
+        [] => Some(None),
+        [word] => Some(Some(strategy_named(word)?)),
+        _ => None,
+    }
+}
+
+/// What the first four words and those after them ask for.
+#[tactic(auto, unfolding(crate::specs::Words::words_from))]
+fn words_from<'a>(
+    path: &'a str,
+    locale: &str,
+    system: &str,
+    style: &str,
+    more: &[&str],
+) -> Option<Words<'a>>
+    ensures { result ≡ words_from path.now locale.now system.now style.now (map (λ w. w.now) more.now) }
+{
+    Some(Words {
+        path,
+        locale: locale_named(locale)?,
+        system: system_named(system)?,
+        style: style_named(style)?,
+        grouping: grouping_named(more)?,
+    })
+}
+
+/// What the words after the program's name ask for: `TABLES LOCALE NU|- plain|short|long`, and where it is given one of
+/// `auto`, `never`, `always` and `min2` (this project's own).
+///
+/// `None` where they are others: fewer or more, a locale or a numbering system that can't be one, another style or
+/// strategy. No words at all are `None` too.
+#[tactic(auto, unfolding(crate::specs::Words::words_of))]
+pub fn parse_words<'a>(words: &[&'a str]) -> Option<Words<'a>>
+    ensures { result ≡ words_of (map (λ w. w.now) words.now) }
+{
+    match words {
+        [path, locale, system, style, more @ ..] => words_from(path, locale, system, style, more),
+        _ => None,
+    }
+}
+
+#[cfg(test)]
+mod tests;
