@@ -3,14 +3,14 @@
 # rooms that are too small, and what the exceptions are.
 # usage: tests/c_library.sh [--build FOLDER]
 # With --build the library alone is made: FOLDER/libtalmuiga.a and, where there is a C compiler, FOLDER/libtalmuiga.so.
-# The archive is crates/talmuiga_c/out/libtalmuiga_c.a, as `rt lib` in crates/talmuiga_c builds it; that is done here if
-# it isn't there. The last line is 'N passed, M failed'; what needs a C compiler or Python is left out without them.
+# The archive is crates/talmuiga_c/out/libtalmuiga_c.a, as `rt lib` in crates/talmuiga_c builds it; that is done here where
+# it isn't there or a source is newer. The last line is 'N passed, M failed'; what needs a C compiler or Python is left out without them.
 set -u
 cd "$(dirname "$0")/.." || exit 1
 root=$PWD archive=$PWD/crates/talmuiga_c/out/libtalmuiga_c.a
 compiler=${CC:-cc}
 # what the toolchain's allocator needs of C
-heap=$(dirname "$(dirname "$(rt doc)")")/c/liblibc_c.a
+heap=$(dirname "$(rt doc)")/c/liblibc_c.a
 passed=0 failed=0
 
 # judge NAME WANTED GIVEN
@@ -25,7 +25,9 @@ judge() {
 
 # build FOLDER
 build() {
-    [ -s "$archive" ] || (cd crates/talmuiga_c && rt lib) || return 1
+    if [ ! -s "$archive" ] || [ -n "$(find crates -name out -prune -o -name '*.rt' -newer "$archive" -print -quit)" ]; then
+        (cd crates/talmuiga_c && rt lib) || return 1
+    fi
     cp "$archive" "$1/libtalmuiga.a" || return 1
     (cd "$1" && ar x "$heap" && ar rs libtalmuiga.a ./*.o 2>/dev/null && rm -f ./*.o) || return 1
     if command -v "$compiler" >/dev/null; then

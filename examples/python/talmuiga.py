@@ -78,19 +78,21 @@ def format_bytes(function, texts, lines):
         room *= 2
     if status:
         raise REFUSALS[status]
-    return output.raw[:written.value].decode()
+    return ctypes.string_at(output, written.value).decode()
 
 
 def format_texts(function, texts, decimals):
     """A text for each decimal, in their order."""
-    lines = "\n".join(decimals)
-    for index, decimal in enumerate(decimals if "\r" in lines or lines.count("\n") >= max(len(decimals), 1) else ()):
-        if "\r" in decimal or "\n" in decimal:
-            raise NotFormatted(index, decimal, ERROR_LINES[0])
-    answers = format_bytes(function, texts, (lines + "\n").encode() if decimals else b"").split("\n")[:-1]
-    for index, answer in enumerate(answers):
-        if answer in ERROR_LINES:
-            raise NotFormatted(index, decimals[index], answer)
+    lines = "\n".join([*decimals, ""])
+    if "\r" in lines or lines.count("\n") > len(decimals):
+        index = next(index for index, decimal in enumerate(decimals) if "\r" in decimal or "\n" in decimal)
+        raise NotFormatted(index, decimals[index], ERROR_LINES[0])
+    output = format_bytes(function, texts, lines.encode())
+    answers = output.split("\n")[:-1]
+    if any(line in output for line in ERROR_LINES):
+        for index, answer in enumerate(answers):
+            if answer in ERROR_LINES:
+                raise NotFormatted(index, decimals[index], answer)
     return answers
 
 

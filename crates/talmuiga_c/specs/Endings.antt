@@ -12,14 +12,19 @@ use Rattle.talmuiga_c.specs.Asked.{mode_asked}
 -- a status
 abbrev pub done : ℕ
 done = 0
+
 abbrev pub out_of_memory : ℕ
 out_of_memory = 1
+
 abbrev pub words_refused : ℕ
 words_refused = 2
+
 abbrev pub tables_refused : ℕ
 tables_refused = 3
+
 abbrev pub no_data : ℕ
 no_data = 4
+
 abbrev pub output_too_small : ℕ
 output_too_small = 5
 

@@ -18,7 +18,12 @@ fn text_in(bytes: &[u8]) -> Option<&str>
 }
 
 /// The words of four texts, the last of which may be empty.
-fn words_in<'a>(locale: &'a str, system: &'a str, style: &'a str, grouping: &'a str) -> Option<Words<'a>>
+fn words_in<'a>(
+    locale: &'a str,
+    system: &'a str,
+    style: &'a str,
+    grouping: &'a str,
+) -> Option<Words<'a>>
     ensures { result ≡ words_in locale.now system.now style.now grouping.now }
 {
     if grouping.is_empty() {
@@ -32,8 +37,18 @@ fn words_in<'a>(locale: &'a str, system: &'a str, style: &'a str, grouping: &'a 
 ///
 /// `None` where one isn't UTF-8, or is no such word.
 #[tactic(auto, unfolding(crate::specs::Asked::words_asked))]
-pub fn words_asked<'a>(locale: &'a [u8], system: &'a [u8], style: &'a [u8], grouping: &'a [u8]) -> Option<Words<'a>>
+pub fn words_asked<'a>(
+    locale: &'a [u8],
+    system: &'a [u8],
+    style: &'a [u8],
+    grouping: &'a [u8],
+) -> Option<Words<'a>>
     ensures { result ≡ words_asked locale.now system.now style.now grouping.now }
 {
-    words_in(text_in(locale)?, text_in(system)?, text_in(style)?, text_in(grouping)?)
+    words_in(
+        text_in(locale)?,
+        text_in(system)?,
+        text_in(style)?,
+        text_in(grouping)?,
+    )
 }

@@ -1,7 +1,9 @@
 //! Statuses and outputs of the two exports. Values live in functions that answer whether they hold; what was refused memory
 //! is asked once more.
 
-use crate::status::{DONE, NO_DATA, OUTPUT_TOO_SMALL, OUT_OF_MEMORY, TABLES_REFUSED, WORDS_REFUSED};
+use crate::status::{
+    DONE, NO_DATA, OUT_OF_MEMORY, OUTPUT_TOO_SMALL, TABLES_REFUSED, WORDS_REFUSED,
+};
 use crate::{talmuiga_format_english_sized, talmuiga_format_lines_sized};
 use std::alloc::Global;
 
@@ -28,22 +30,28 @@ const ENGLISH: [(usize, u32, usize); 5] = [
 fn ends_in_english(alloc: Global, room: usize, status: u32, count: usize) -> bool {
     let mut output = [b'x'; 16];
     let mut written = 99;
-    let first = talmuiga_format_english_sized(alloc, LINES, &mut output[..room], &mut written);
+    let Some(part) = output.get_mut(..room) else {
+        return false;
+    };
+    let first = talmuiga_format_english_sized(alloc, LINES, part, &mut written);
     let last = if first == OUT_OF_MEMORY {
-        talmuiga_format_english_sized(alloc, LINES, &mut output[..room], &mut written)
+        talmuiga_format_english_sized(alloc, LINES, part, &mut written)
     } else {
         first
     };
     last == status
         && written == count
-        && output[..count] == b"1,650\n-5\n"[..count]
-        && output[count..] == [b'x'; 16][count..]
+        && output.get(..count) == b"1,650\n-5\n".get(..count)
+        && output.get(count..) == [b'x'; 16].get(count..)
 }
 
 #[test]
 fn formats_english(rt: HostRuntime) {
     for (room, status, count) in ENGLISH {
-        assert!(rt; ends_in_english(rt.alloc(), room, status, count), "in {room}");
+        assert!(rt;
+            ends_in_english(rt.alloc(), room, status, count),
+            "in {room}"
+        );
     }
 }
 
@@ -70,11 +78,27 @@ fn ends(
     let mut output = [b'x'; 16];
     let mut written = 99;
     let first = talmuiga_format_lines_sized(
-        alloc, tables, locale, b"-", style, grouping, LINES, &mut output, &mut written,
+        alloc,
+        tables,
+        locale,
+        b"-",
+        style,
+        grouping,
+        LINES,
+        &mut output,
+        &mut written,
     );
     let last = if first == OUT_OF_MEMORY {
         talmuiga_format_lines_sized(
-            alloc, tables, locale, b"-", style, grouping, LINES, &mut output, &mut written,
+            alloc,
+            tables,
+            locale,
+            b"-",
+            style,
+            grouping,
+            LINES,
+            &mut output,
+            &mut written,
         )
     } else {
         first
@@ -85,6 +109,15 @@ fn ends(
 #[test]
 fn formats_by_tables(rt: HostRuntime) {
     for (tables, locale, style, grouping, status, want) in ASKED {
-        assert!(rt; ends(rt.alloc(), tables, (locale, style, grouping), status, want.as_bytes()), "{want}");
+        assert!(rt;
+            ends(
+                rt.alloc(),
+                tables,
+                (locale, style, grouping),
+                status,
+                want.as_bytes()
+            ),
+            "{want}"
+        );
     }
 }

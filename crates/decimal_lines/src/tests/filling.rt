@@ -40,11 +40,16 @@ fn fills(alloc: Global, room: usize, written: usize, cause: Option<FillError>) -
         Some(cause) => Err(cause),
         None => Ok(()),
     };
-    let is_as_told = match fill(alloc, LINES, &mut output[..room]) {
+    let Some(part) = output.get_mut(..room) else {
+        return false;
+    };
+    let is_as_told = match fill(alloc, LINES, part) {
         Some(filled) => filled == Filled { written, outcome },
         None => false,
     };
-    is_as_told && output[..written] == ALL[..written] && output[written..] == [b'x'; 16][written..]
+    is_as_told
+        && output.get(..written) == ALL.get(..written)
+        && output.get(written..) == [b'x'; 16].get(written..)
 }
 
 #[test]
