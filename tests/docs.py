@@ -139,6 +139,11 @@ def is_of_a_function(path):
     return "/proofs/" in path and os.path.basename(path) in ("Answers.antt", "Invariants.antt")
 
 
+def is_found(path):
+    """Whether a file has just answers that a search finds, which stand there so that a false goal is refused at once."""
+    return "oals that a search finds" in read(path).split("\n", 1)[0]
+
+
 def short_name(crate, path):
     """A file as the map names it: in its own crate by its path, a function's proof by the function; else by its crate."""
     own, _, rest = path[len("crates/"):].partition("/")
@@ -189,7 +194,7 @@ def map_page():
         functions = sorted({
             os.path.dirname(path).split("/proofs/")[1]
             for path in found(f"crates/{crate}/proofs/**/*.antt")
-            if is_of_a_function(path)
+            if is_of_a_function(path) and not is_found(path)
         })
         if functions:
             names = ", ".join(f"[`{name.replace('/', '::')}`](../crates/{crate}/proofs/{name})" for name in functions)

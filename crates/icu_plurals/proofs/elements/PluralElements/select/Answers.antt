@@ -1,0 +1,12 @@
+-- Goals that a search finds; it is not tried longer where one is false.
+use Rattle.std.proofs.Common.{rules}
+use Rattle.icu_plurals.proofs.elements.PluralElements.select.Goals as goal
+
+pub returns-in-Some : goal.returns-in-Some
+returns-in-Some g c = search rules
+
+pub returns-in-Some-category_value : goal.returns-in-Some-category_value
+returns-in-Some-category_value g c = search rules
+
+pub returns-in-None : goal.returns-in-None
+returns-in-None g c = search rules
