@@ -1,4 +1,4 @@
-use Rattle.std.proofs.Common.{◌≡◌, ◌∙◌, true, sym, ◌∷◌, arith}
+use Rattle.std.proofs.Common.{rules, ◌≡◌, ◌∙◌, true, sym, ◌∷◌, arith}
 use Rattle.icu_decimal_data.specs.CompactTable.{TableEntry}
 use Rattle.icu_decimal_data.specs.Kept.{given, kept, at}
 use Rattle.icu_decimal_data.specs.KeptSince.{kept_since, stays}
@@ -33,3 +33,55 @@ loop-log10_type-preserved-then-stays g c =
     let done = c.in_ok-push_slots.ensures in
     let two = rw c.in_ok-push.ensures.items at c.in_ok-push-2.ensures.items in
     kept_written g.P.PatternBackend.accepted plain last e es whole c.loop-log10_type.records.items c.loop-log10_type.pool.items here left c.push_slots.new.records.items c.push_slots.new.pool.items (rw two at done.records) done.pool (omega arith) done.patterns
+
+-- Goals that a search finds; it is not tried longer where one is false.
+pub returns-in_err-push-clause-records : goal.returns-in_err-push-clause-records
+returns-in_err-push-clause-records g c = search rules
+
+pub returns-in_err-push-clause-pool : goal.returns-in_err-push-clause-pool
+returns-in_err-push-clause-pool g c = search rules
+
+pub returns-in_err-push-clause-writable : goal.returns-in_err-push-clause-writable
+returns-in_err-push-clause-writable g c = search rules
+
+pub returns-in_err-push-clause-sorted : goal.returns-in_err-push-clause-sorted
+returns-in_err-push-clause-sorted g c = search rules
+
+pub returns-in_err-push-2-clause-records : goal.returns-in_err-push-2-clause-records
+returns-in_err-push-2-clause-records g c = search rules
+
+pub returns-in_err-push-2-clause-pool : goal.returns-in_err-push-2-clause-pool
+returns-in_err-push-2-clause-pool g c = search rules
+
+pub returns-in_err-push-2-clause-writable : goal.returns-in_err-push-2-clause-writable
+returns-in_err-push-2-clause-writable g c = search rules
+
+pub returns-in_err-push-2-clause-sorted : goal.returns-in_err-push-2-clause-sorted
+returns-in_err-push-2-clause-sorted g c = search rules
+
+pub returns-in_err-push_slots-clause-records : goal.returns-in_err-push_slots-clause-records
+returns-in_err-push_slots-clause-records g c = search rules
+
+pub returns-in_err-push_slots-clause-pool : goal.returns-in_err-push_slots-clause-pool
+returns-in_err-push_slots-clause-pool g c = search rules
+
+pub returns-in_err-push_slots-clause-writable : goal.returns-in_err-push_slots-clause-writable
+returns-in_err-push_slots-clause-writable g c = search rules
+
+pub returns-in_err-push_slots-clause-sorted : goal.returns-in_err-push_slots-clause-sorted
+returns-in_err-push_slots-clause-sorted g c = search rules
+
+pub loop-log10_type-preserved : goal.loop-log10_type-preserved
+loop-log10_type-preserved g c = search rules
+
+pub returns-clause-records : goal.returns-clause-records
+returns-clause-records g c = search rules
+
+pub returns-clause-pool : goal.returns-clause-pool
+returns-clause-pool g c = search rules
+
+pub returns-clause-writable : goal.returns-clause-writable
+returns-clause-writable g c = search rules
+
+pub returns-clause-sorted : goal.returns-clause-sorted
+returns-clause-sorted g c = search rules
