@@ -52,7 +52,8 @@ impl From<RunError> for Failure {
     ghost use Rattle.decimal_lines.specs.declared.running.RunError.TheVariants.{OutOfMemory};
     ghost use Rattle.decfmt.specs.declared.Failure.TheVariants.{Streams, Memory};
 
-    ghost from_gives = { λ error failure. (error ≡ OutOfMemory → failure ≡ Memory) × (error ≢ OutOfMemory → failure ≡ Streams) };
+    ghost from_gives = { λ error failure. (error ≡ OutOfMemory → failure ≡ Memory)
+        × (error ≢ OutOfMemory → failure ≡ Streams) };
 
     fn from(error: RunError) -> Failure {
         match error {

@@ -20,7 +20,8 @@ fn end_line(
 ) -> Result<(), AllocError>
     requires held_part { IsPartLine held.old.items }
     requires rest_part { IsPartLine rest.now }
-    ensures { OnOk result (Feeds (answer_to mode.now) (Some out.old.items) (Some out.new.items) held.old.items (rest.now ++ 10 ∷ []) held.new.items) }
+    ensures { OnOk result (Feeds (answer_to mode.now) (Some out.old.items)
+        (Some out.new.items) held.old.items (rest.now ++ 10 ∷ []) held.new.items) }
 {
     if held.is_empty() {
         push_line(alloc, mode, rest, out)?;
@@ -41,7 +42,8 @@ pub fn take_block(
     out: &mut Vec<u8>,
 ) -> Result<(), AllocError>
     requires { IsPartLine held.old.items }
-    ensures { OnOk result (Feeds (answer_to mode.now) (Some out.old.items) (Some out.new.items) held.old.items block.now held.new.items) }
+    ensures { OnOk result (Feeds (answer_to mode.now) (Some out.old.items)
+        (Some out.new.items) held.old.items block.now held.new.items) }
 {
     let mut rest = block;
     while let Some(n) = memchr(b'\n', rest) {

@@ -45,7 +45,8 @@ fn first_line(bytes: &[u8]) -> (&[u8], &[u8])
 /// Copies a text to a place in the output; where it ends.
 fn place(output: &mut [u8], at: usize, text: &[u8]) -> usize
     requires { at + length text.now ≤ length output.old }
-    ensures bytes { output.new ≡ take at output.old ++ text.now ++ drop (at + length text.now) output.old }
+    ensures bytes { output.new ≡ take at output.old ++ text.now
+        ++ drop (at + length text.now) output.old }
     ensures end { result ≡ at + length text.now }
 {
     let end = at + text.len();
@@ -63,11 +64,16 @@ fn put_line(
     at: usize,
 ) -> Result<usize, FillError>
     requires { at ≤ length output.old }
-    ensures fits { IfOk result (λ end. at + length (line_output (answer_to mode.now) line.now) ≤ length output.old) }
-    ensures bytes { OnOk result (output.new ≡ take at output.old ++ line_output (answer_to mode.now) line.now ++ drop (at + length (line_output (answer_to mode.now) line.now)) output.old) }
-    ensures end { IfOk result (λ end. end ≡ at + length (line_output (answer_to mode.now) line.now)) }
+    ensures fits { IfOk result (λ end. at + length (line_output (answer_to mode.now) line.now)
+        ≤ length output.old) }
+    ensures bytes { OnOk result (output.new ≡ take at output.old
+        ++ line_output (answer_to mode.now) line.now
+        ++ drop (at + length (line_output (answer_to mode.now) line.now)) output.old) }
+    ensures end { IfOk result (λ end.
+        end ≡ at + length (line_output (answer_to mode.now) line.now)) }
     ensures unchanged { OnErr result (output.new ≡ output.old) }
-    ensures too_small { result ≡ Err FillError.TooSmall → length output.old < at + length (line_output (answer_to mode.now) line.now) }
+    ensures too_small { result ≡ Err FillError.TooSmall
+        → length output.old < at + length (line_output (answer_to mode.now) line.now) }
 {
     text.clear();
     if push_line(alloc, mode, line, text).is_err() {
@@ -85,14 +91,18 @@ fn put_line(
 /// What lines are is said at [`run`](crate::run). An output that is too small holds the answers to as many lines as fit.
 pub fn format_lines(alloc: Global, mode: &Mode, input: &[u8], output: &mut [u8]) -> Filled
     // The output of the whole input was written.
-    ensures ok { OnOk result.outcome (IsFilled output.old output.new (output_of (answer_to mode.now) input.now) result.written) }
+    ensures ok { OnOk result.outcome
+        (IsFilled output.old output.new (output_of (answer_to mode.now) input.now) result.written) }
 
     // What was written is the output of whole lines at the input's beginning;
-    ensures err { OnErr result.outcome (HoldsWholeLines (answer_to mode.now) input.now output.old output.new result.written) }
+    ensures err { OnErr result.outcome
+        (HoldsWholeLines (answer_to mode.now) input.now output.old output.new result.written) }
 
     // it's too small for the whole output, and so for the next line's.
-    ensures too_small { result.outcome ≡ Err FillError.TooSmall → length output.old < length (output_of (answer_to mode.now) input.now) }
-    ensures full { result.outcome ≡ Err FillError.TooSmall → HoldsAllThatFit (answer_to mode.now) input.now output.old output.new result.written }
+    ensures too_small { result.outcome ≡ Err FillError.TooSmall
+        → length output.old < length (output_of (answer_to mode.now) input.now) }
+    ensures full { result.outcome ≡ Err FillError.TooSmall
+        → HoldsAllThatFit (answer_to mode.now) input.now output.old output.new result.written }
 {
     let mut text = Vec::new(alloc);
     let mut written = 0;

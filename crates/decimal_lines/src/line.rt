@@ -32,7 +32,8 @@ fn push_plain(
     decimal: &Decimal,
     out: &mut Vec<u8>,
 ) -> Result<(), AllocError>
-    ensures { OnOk result (out.new.items ≡ out.old.items ++ plain_text formatter.now decimal.now.sign decimal.now.absolute) }
+    ensures { OnOk result (out.new.items ≡ out.old.items
+        ++ plain_text formatter.now decimal.now.sign decimal.now.absolute) }
 {
     let formatted = formatter.format(decimal);
     match formatted.write_events(out) {
@@ -48,7 +49,8 @@ fn push_compact(
     decimal: &Decimal,
     out: &mut Vec<u8>,
 ) -> Result<(), AllocError>
-    ensures { OnOk result (out.new.items ≡ out.old.items ++ compact_answer formatter.now decimal.now.sign decimal.now.absolute) }
+    ensures { OnOk result (out.new.items ≡ out.old.items
+        ++ compact_answer formatter.now decimal.now.sign decimal.now.absolute) }
 {
     match formatter.format(alloc, decimal) {
         Ok(formatted) => match formatted.write_events(out) {
@@ -67,7 +69,8 @@ fn push_decimal(
     decimal: &Decimal,
     out: &mut Vec<u8>,
 ) -> Result<(), AllocError>
-    ensures { OnOk result (out.new.items ≡ out.old.items ++ shown_by mode.now decimal.now.sign decimal.now.absolute) }
+    ensures { OnOk result (out.new.items ≡ out.old.items
+        ++ shown_by mode.now decimal.now.sign decimal.now.absolute) }
 {
     match mode {
         Mode::Plain(formatter) => push_plain(formatter, decimal, out),
@@ -96,7 +99,8 @@ pub fn push_line(
     line: &[u8],
     out: &mut Vec<u8>,
 ) -> Result<(), AllocError>
-    ensures { OnOk result (out.new.items ≡ out.old.items ++ line_output (answer_to mode.now) line.now) }
+    ensures { OnOk result (out.new.items ≡ out.old.items
+        ++ line_output (answer_to mode.now) line.now) }
 {
     push_answer(alloc, mode, without_return(line), out)?;
     out.push(b'\n')?;

@@ -13,7 +13,8 @@ pub struct WriteFailed;
 /// Writes all of the piece; on an error some bytes of it are left.
 pub fn write_piece<W: Write>(writer: &mut W, piece: &[u8]) -> Result<(), WriteFailed>
     ensures ok { OnOk result (Appends (W.contents writer.old) (W.contents writer.new) piece.now) }
-    ensures err { OnErr result (AppendsProperBeginning (W.contents writer.old) (W.contents writer.new) piece.now) }
+    ensures err { OnErr result
+        (AppendsProperBeginning (W.contents writer.old) (W.contents writer.new) piece.now) }
 {
     let mut rest = piece;
     while !rest.is_empty() {

@@ -37,9 +37,13 @@ fn finish<W: Write>(
     writer: &mut W,
 ) -> Result<(), RunError>
     requires { IsPartLine held.now }
-    ensures ok { OnOk result (Appends (W.contents writer.old) (W.contents writer.new) (output_of (answer_to mode.now) held.now)) }
-    ensures err { OnErr result (AppendsBeginning (W.contents writer.old) (W.contents writer.new) (output_of (answer_to mode.now) held.now)) }
-    ensures write { result ≡ Err RunError.Write → AppendsProperBeginning (W.contents writer.old) (W.contents writer.new) (output_of (answer_to mode.now) held.now) }
+    ensures ok { OnOk result (Appends (W.contents writer.old) (W.contents writer.new)
+        (output_of (answer_to mode.now) held.now)) }
+    ensures err { OnErr result (AppendsBeginning (W.contents writer.old) (W.contents writer.new)
+        (output_of (answer_to mode.now) held.now)) }
+    ensures write { result ≡ Err RunError.Write
+        → AppendsProperBeginning (W.contents writer.old) (W.contents writer.new)
+        (output_of (answer_to mode.now) held.now) }
     ensures not_read { result ≢ Err RunError.Read }
 {
     if held.is_empty() {

@@ -34,7 +34,13 @@ impl<'a> Model for Words<'a> {
 
     ghost Value = { WordsData };
 
-    ghost view = { λ w. record { path = w.path.now; locale = w.locale; system = w.system; style = w.style; grouping = w.grouping } };
+    ghost view = { λ w. record {
+      path = w.path.now;
+      locale = w.locale;
+      system = w.system;
+      style = w.style;
+      grouping = w.grouping;
+    } };
 }
 
 /// The locale of a word.
@@ -110,7 +116,8 @@ fn words_from<'a>(
     style: &str,
     more: &[&str],
 ) -> Option<Words<'a>>
-    ensures { result ≡ words_from path.now locale.now system.now style.now (map (λ w. w.now) more.now) }
+    ensures { result ≡ words_from path.now locale.now system.now style.now
+        (map (λ w. w.now) more.now) }
 {
     Some(Words {
         path,

@@ -45,13 +45,18 @@ pub trait AbstractFormatter: Sealed {
         value: &UnsignedDecimal,
         sink: &mut S,
     ) -> Result<(), FormatError>
-        ensures written { WritesSuch S.events S.failures sink.old result (shows self.now value.now) (λ n. n.events) sink.new }
-        ensures limited { KeepsLimitSuch S.events S.limit S.refusals sink.old result (shows self.now value.now) (λ n. n.events) sink.new }
+        ensures written { WritesSuch S.events S.failures sink.old result (shows self.now value.now)
+            (λ n. n.events) sink.new }
+        ensures limited { KeepsLimitSuch S.events S.limit S.refusals sink.old result
+            (shows self.now value.now) (λ n. n.events) sink.new }
         ensures overflow { IsErrOf result FormatError.Overflow ↔ overflows self.now value.now };
 
     /// A value with the affixes of a sign around it; this takes no memory.
     fn format_sign<'a, W: Writeable>(&'a self, value: W, sign: Sign) -> FormattedSign<'a, W>
-        ensures { result ≡ record { affixes = affixes_for (symbols self.now) sign; value = value } };
+        ensures { result ≡ record {
+          affixes = affixes_for (symbols self.now) sign;
+          value = value;
+        } };
 
     /// The plural operands of what is shown of a number.
     ///
@@ -61,7 +66,8 @@ pub trait AbstractFormatter: Sealed {
         alloc: Global,
         value: &UnsignedDecimal,
     ) -> Result<PluralOperands, FormatError>
-        ensures shown { IfOk result (λ o. (n : Shown) × shows self.now value.now n × (n.operands ≡ o)) }
+        ensures shown { IfOk result (λ o. (n : Shown) × shows self.now value.now n
+            × (n.operands ≡ o)) }
         ensures overflow { IsErrOf result FormatError.Overflow ↔ overflows self.now value.now }
         ensures no_sink { IfErr result (λ e. e ≢ FormatError.Sink) };
 
@@ -93,8 +99,10 @@ impl AbstractFormatter for DecimalFormatter {
         value: &UnsignedDecimal,
         sink: &mut S,
     ) -> Result<(), FormatError>
-        ensures written { WritesSuch S.events S.failures sink.old result (λ n. n ≡ plain_shown self.now value.now) (λ n. n.events) sink.new }
-        ensures limited { KeepsLimitSuch S.events S.limit S.refusals sink.old result (λ n. n ≡ plain_shown self.now value.now) (λ n. n.events) sink.new }
+        ensures written { WritesSuch S.events S.failures sink.old result (λ n.
+            n ≡ plain_shown self.now value.now) (λ n. n.events) sink.new }
+        ensures limited { KeepsLimitSuch S.events S.limit S.refusals sink.old result (λ n.
+            n ≡ plain_shown self.now value.now) (λ n. n.events) sink.new }
         ensures overflow { IsErrOf result FormatError.Overflow ↔ ⊥ }
         ensures only_sink { IfErr result (λ e. e ≡ FormatError.Sink) }
     {
@@ -118,7 +126,8 @@ impl AbstractFormatter for DecimalFormatter {
         alloc: Global,
         value: &UnsignedDecimal,
     ) -> Result<PluralOperands, FormatError>
-        ensures shown { IfOk result (λ o. (n : Shown) × (n ≡ plain_shown self.now value.now) × (n.operands ≡ o)) }
+        ensures shown { IfOk result (λ o. (n : Shown) × (n ≡ plain_shown self.now value.now)
+            × (n.operands ≡ o)) }
         ensures overflow { IsErrOf result FormatError.Overflow ↔ ⊥ }
         ensures no_sink { IfErr result (λ e. e ≢ FormatError.Sink) }
         ensures operands { result ≡ Ok (operands_of value.now 0) }

@@ -40,7 +40,11 @@ impl Model for CompactDecimalFormatter {
 
     ghost Value = { CompactFormat };
 
-    ghost view = { λ f. record { decimal = f.decimal_formatter; rules = f.plural_rules; table = f.patterns } };
+    ghost view = { λ f. record {
+      decimal = f.decimal_formatter;
+      rules = f.plural_rules;
+      table = f.patterns;
+    } };
 }
 
 impl CompactDecimalFormatter {
@@ -50,7 +54,11 @@ impl CompactDecimalFormatter {
         plural_rules: PluralRules,
         patterns: CompactPatterns<SinglePlaceholder>,
     ) -> Self
-        ensures { result ≡ record { decimal = decimal_formatter; rules = plural_rules; table = patterns } }
+        ensures { result ≡ record {
+          decimal = decimal_formatter;
+          rules = plural_rules;
+          table = patterns;
+        } }
     {
         CompactDecimalFormatter {
             decimal_formatter,
@@ -74,8 +82,11 @@ impl CompactDecimalFormatter {
         alloc: Global,
         value: &Decimal,
     ) -> Result<FormattedSign<'l, FormattedUnsignedCompactDecimal<'l>>, FormatError>
-        ensures nearest { IfOk result (λ r. IsCompactFormat self.now value.now.sign value.now.absolute (significand_of r.value) r.value.exponent (signed_compact_shown r)) }
-        ensures overflow { IsErrOf result FormatError.Overflow ↔ ShowsPastLimits self.now.table (size value.now.absolute) }
+        ensures nearest { IfOk result (λ r.
+            IsCompactFormat self.now value.now.sign value.now.absolute
+            (significand_of r.value) r.value.exponent (signed_compact_shown r)) }
+        ensures overflow { IsErrOf result FormatError.Overflow
+            ↔ ShowsPastLimits self.now.table (size value.now.absolute) }
         ensures no_sink { IfErr result (λ e. e ≢ FormatError.Sink) }
     {
         let compact = self.format_unsigned(alloc, &value.absolute)?;
@@ -88,8 +99,11 @@ impl CompactDecimalFormatter {
         alloc: Global,
         value: &UnsignedDecimal,
     ) -> Result<FormattedUnsignedCompactDecimal<'l>, FormatError>
-        ensures nearest { IfOk result (λ r. IsCompactFormat self.now NoSign value.now (significand_of r) r.exponent (compact_shown r)) }
-        ensures overflow { IsErrOf result FormatError.Overflow ↔ ShowsPastLimits self.now.table (size value.now) }
+        ensures nearest { IfOk result (λ r.
+            IsCompactFormat self.now NoSign value.now (significand_of r) r.exponent
+            (compact_shown r)) }
+        ensures overflow { IsErrOf result FormatError.Overflow
+            ↔ ShowsPastLimits self.now.table (size value.now) }
         ensures no_sink { IfErr result (λ e. e ≢ FormatError.Sink) }
     {
         let compacted = nearest_compact(alloc, &self.patterns, value)?;
@@ -105,8 +119,12 @@ impl CompactDecimalFormatter {
 
     /// The text of the nearest compact number. `Sink` is never answered.
     pub fn format_to_string(&self, alloc: Global, value: &Decimal) -> Result<String, FormatError>
-        ensures nearest { IfOk result (λ t. (significand : _) × (exponent : ℕ) × (events : List Event) × IsCompactFormat self.now value.now.sign value.now.absolute significand exponent events × (string_bytes t ≡ text_of events)) }
-        ensures overflow { IsErrOf result FormatError.Overflow ↔ ShowsPastLimits self.now.table (size value.now.absolute) }
+        ensures nearest { IfOk result (λ t. (significand : _) × (exponent : ℕ)
+            × (events : List Event)
+            × IsCompactFormat self.now value.now.sign value.now.absolute significand exponent events
+            × (string_bytes t ≡ text_of events)) }
+        ensures overflow { IsErrOf result FormatError.Overflow
+            ↔ ShowsPastLimits self.now.table (size value.now.absolute) }
         ensures no_sink { IfErr result (λ e. e ≢ FormatError.Sink) }
     {
         let formatted = self.format(alloc, value)?;
@@ -125,9 +143,17 @@ impl CompactDecimalFormatter {
         significand: &'l Decimal,
         exponent: u8,
     ) -> Result<FormattedSign<'l, InterpolatedDecimal<'l>>, CompactExponentError>
-        ensures accepted { IsOk result ↔ (exponent ≡ exponent_needed self.now significand.now.absolute exponent) }
-        ensures given { IfOk result (λ r. given_shown r ≡ given_events self.now significand.now.sign significand.now.absolute exponent) }
-        ensures refused { IfErr result (λ e. e ≡ record { actual = exponent; expected = exponent_needed self.now significand.now.absolute exponent; magnitude = magnitude_with significand.now.absolute exponent }) }
+        ensures accepted { IsOk result
+            ↔ (exponent ≡ exponent_needed self.now significand.now.absolute exponent) }
+        ensures given { IfOk result (λ r.
+            given_shown r ≡ given_events self.now significand.now.sign significand.now.absolute
+            exponent) }
+        ensures refused { IfErr result (λ e.
+            e ≡ record {
+              actual = exponent;
+              expected = exponent_needed self.now significand.now.absolute exponent;
+              magnitude = magnitude_with significand.now.absolute exponent;
+            }) }
     {
         let absolute = &significand.absolute;
         let magnitude = absolute.nonzero_magnitude_start() as i32 + exponent as i32;
@@ -178,7 +204,8 @@ impl CompactDecimalFormatter {
         significand: &UnsignedDecimal,
     ) -> Option<PatternRef<'_, SinglePlaceholder>>
         requires { IsIndex self.now.table index }
-        ensures { pattern_or_alone result ≡ pattern_of self.now (entry_at self.now.table index) significand.now }
+        ensures { pattern_or_alone result
+            ≡ pattern_of self.now (entry_at self.now.table index) significand.now }
     {
         match index {
             Some(index) => Some(self.pattern_at(index, significand)),
@@ -193,7 +220,9 @@ impl CompactDecimalFormatter {
         significand: &UnsignedDecimal,
     ) -> PatternRef<'_, SinglePlaceholder>
         requires { index < length self.now.table }
-        ensures { IfSome (slice_get self.now.table index) (λ e. text_of_ref result ≡ selected e.elements (operands_of significand.now 0) (category_of self.now.rules (operands_of significand.now 0))) }
+        ensures { IfSome (slice_get self.now.table index) (λ e. text_of_ref result
+            ≡ selected e.elements (operands_of significand.now 0)
+            (category_of self.now.rules (operands_of significand.now 0))) }
     {
         if let Some(pattern) = self.patterns.sole_pattern(index) {
             return pattern;

@@ -30,10 +30,12 @@ pub(crate) fn nearest_compact<P: PatternBackend>(
     table: &CompactPatterns<P>,
     value: &UnsignedDecimal,
 ) -> Result<Compacted, FormatError>
-    ensures displayed { IfOk result (λ r. (y : ℕ) × IsDisplayed table.now value.now y (entry_at table.now r.index) r.significand) }
+    ensures displayed { IfOk result (λ r. (y : ℕ)
+        × IsDisplayed table.now value.now y (entry_at table.now r.index) r.significand) }
     ensures exponent { IfOk result (λ r. r.exponent ≡ exponent_of (entry_at table.now r.index)) }
     ensures index { IfOk result (λ r. IsIndex table.now r.index) }
-    ensures overflow { IsErrOf result FormatError.Overflow ↔ ShowsPastLimits table.now (size value.now) }
+    ensures overflow { IsErrOf result FormatError.Overflow
+        ↔ ShowsPastLimits table.now (size value.now) }
     ensures no_sink { IfErr result (λ e. e ≢ FormatError.Sink) }
 {
     let power = value.nonzero_magnitude_start();
@@ -123,7 +125,8 @@ fn power_of_ten(alloc: Global, power: i16) -> Result<UnsignedDecimal, DecimalErr
 fn round_power(exponent: u8, magnitude: i16) -> i32
     ensures place { place result ≡ rounding_place exponent (place magnitude) }
     ensures below { result <ℤ magnitude }
-    ensures high { (exponent ≡ 0) ⊎ (pos exponent ≤ℤ magnitude) → (exponent ≡ 0) ⊎ (pos 0 ≤ℤ result) }
+    ensures high { (exponent ≡ 0) ⊎ (pos exponent ≤ℤ magnitude)
+        → (exponent ≡ 0) ⊎ (pos 0 ≤ℤ result) }
     ensures low { result <ℤ pos 0 → result ≡ magnitude -ℤ pos 1 }
 {
     let magnitude = magnitude as i32;
@@ -145,11 +148,16 @@ fn significand_at(
     requires power { power ≡ magnitude_power (size value.now) }
     requires valid { IsUnsigned value.now }
     requires exponent { (exponent ≡ 0) ⊎ (pos exponent ≤ℤ power) }
-    ensures nearest { IfOk result (λ s. IsRoundedAt (rounding_place exponent (magnitude (size value.now))) (size value.now) (size s * 10 ^ exponent)) }
-    ensures high { IfOk result (λ s. high s ≡ int_max (pos 0) (int_max (high value.now) (magnitude_power (size s * 10 ^ exponent)) -ℤ pos exponent)) }
+    ensures nearest { IfOk result (λ s.
+        IsRoundedAt (rounding_place exponent (magnitude (size value.now))) (size value.now)
+        (size s * 10 ^ exponent)) }
+    ensures high { IfOk result (λ s.
+        high s ≡ int_max (pos 0)
+        (int_max (high value.now) (magnitude_power (size s * 10 ^ exponent)) -ℤ pos exponent)) }
     ensures trimmed { IfOk result (λ s. IsTrimmed s) }
     ensures valid { IfOk result (λ s. IsUnsigned s) }
-    ensures overflow { IsErrOf result FormatError.Overflow ↔ RoundsPast (rounding_place exponent (magnitude (size value.now))) (size value.now) }
+    ensures overflow { IsErrOf result FormatError.Overflow
+        ↔ RoundsPast (rounding_place exponent (magnitude (size value.now))) (size value.now) }
     ensures no_sink { IfErr result (λ e. e ≢ FormatError.Sink) }
 {
     let at = round_power(exponent, power);

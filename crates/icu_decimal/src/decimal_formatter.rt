@@ -72,8 +72,12 @@ impl DecimalFormatter {
 
     /// The decimal as it is to be written; this takes no memory, and writing it takes only what the sink takes.
     pub fn format<'l>(&'l self, value: &'l Decimal) -> FormattedDecimal<'l>
-        ensures value { result ≡ record { affixes = affixes_for self.now.symbols value.now.sign; value = record { format = self.now; number = value.now.absolute } } }
-        ensures shown { decimal_shown result ≡ decimal_events self.now value.now.sign value.now.absolute }
+        ensures value { result ≡ record {
+          affixes = affixes_for self.now.symbols value.now.sign;
+          value = record { format = self.now; number = value.now.absolute };
+        } }
+        ensures shown { decimal_shown result
+            ≡ decimal_events self.now value.now.sign value.now.absolute }
     {
         let number = self.format_unsigned(Cow::Borrowed(&value.absolute));
         FormattedDecimal {
@@ -94,7 +98,8 @@ impl DecimalFormatter {
 
     /// The text of the decimal.
     pub fn format_to_string(&self, alloc: Global, value: &Decimal) -> Result<String, FormatError>
-        ensures text { IfOk result (λ t. string_bytes t ≡ text_of (decimal_events self.now value.now.sign value.now.absolute)) }
+        ensures text { IfOk result (λ t.
+            string_bytes t ≡ text_of (decimal_events self.now value.now.sign value.now.absolute)) }
         ensures memory { IsOkUnless result FormatError.OutOfMemory }
     {
         match self.format(value).write_to_string(alloc) {
@@ -105,7 +110,8 @@ impl DecimalFormatter {
 
     /// Whether compact numbers by this table are readable, where the formatter's own numbers are.
     pub(crate) fn is_readable_by(&self, patterns: &CompactPatterns<SinglePlaceholder>) -> bool
-        ensures { IsTrue result ↔ IsReadableTable self.now.symbols.strings self.now.digits patterns.now }
+        ensures { IsTrue result
+            ↔ IsReadableTable self.now.symbols.strings self.now.digits patterns.now }
     {
         is_table_readable(patterns, &self.symbols, &self.digits)
     }

@@ -35,9 +35,17 @@ impl Model for CompactExponentError {
 
     ghost Value = { ExponentMismatch };
 
-    ghost view = { λ s. record { actual = s.actual; expected = s.expected; magnitude = s.magnitude } };
+    ghost view = { λ s. record {
+      actual = s.actual;
+      expected = s.expected;
+      magnitude = s.magnitude;
+    } };
 
-    ghost inverse = { λ m. record { actual = m.actual; expected = m.expected; magnitude = m.magnitude } };
+    ghost inverse = { λ m. record {
+      actual = m.actual;
+      expected = m.expected;
+      magnitude = m.magnitude;
+    } };
 }
 
 impl fmt::Display for CompactExponentError {

@@ -41,9 +41,12 @@ impl<T: PartialEq> PartialEq for FormattedSign<'_, T> {
     ghost use Rattle.std.specs.Cmp.Lexicographic.{options_equiv};
     ghost use Rattle.icu_decimal.specs.Signed.{same_affixes, same_affixes_laws};
 
-    ghost eq = { eq_of_both (on (λ f. f.value) T.eq) (on (λ f. f.affixes) (option_eq same_affixes)) };
+    ghost eq = { eq_of_both (on (λ f. f.value) T.eq)
+        (on (λ f. f.affixes) (option_eq same_affixes)) };
 
-    ghost laws = { and_per (on_per (λ f. f.value) {E = T.eq} T.laws) (on_per (λ f. f.affixes) {E = option_eq same_affixes} (partial_equiv_from_equiv (options_equiv same_affixes_laws))) };
+    ghost laws = { and_per (on_per (λ f. f.value) {E = T.eq} T.laws)
+        (on_per (λ f. f.affixes) {E = option_eq same_affixes}
+        (partial_equiv_from_equiv (options_equiv same_affixes_laws))) };
 
     /// Whether the values and the affixes are equal.
     fn eq(&self, other: &Self) -> bool {
@@ -53,7 +56,8 @@ impl<T: PartialEq> PartialEq for FormattedSign<'_, T> {
 
 /// Whether two signs have equal parts and texts.
 fn are_same(a: &Option<(Part, &str, &str)>, b: &Option<(Part, &str, &str)>) -> bool
-    ensures { result ≡ option_eq same_affixes (option_map affixes_of a.now) (option_map affixes_of b.now) }
+    ensures { result ≡ option_eq same_affixes (option_map affixes_of a.now)
+        (option_map affixes_of b.now) }
 {
     match (a, b) {
         (Some((part, prefix, suffix)), Some((other, before, after))) => {

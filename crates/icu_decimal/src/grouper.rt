@@ -63,7 +63,8 @@ pub(crate) fn secondary_size(sizes: GroupingSizes) -> usize
 /// Whether whole groups are left below the digit at a magnitude.
 fn ends_group(magnitude: usize, sizes: GroupingSizes) -> bool
     requires { 0 < sizes.primary }
-    ensures { IsTrue result ↔ ((sizes.primary ≤ magnitude) × ((magnitude - sizes.primary) % secondary_size sizes ≡ 0)) }
+    ensures { IsTrue result ↔ ((sizes.primary ≤ magnitude)
+        × ((magnitude - sizes.primary) % secondary_size sizes ≡ 0)) }
 {
     let primary = usize::from(sizes.primary);
     magnitude >= primary && (magnitude - primary) % secondary_size(sizes) == 0

@@ -54,8 +54,10 @@ pub fn equal_signed_values_write_equal_events<T: Writeable + PartialEq>()
 
 /// Equal formatted numbers and decimals write equal events.
 pub fn equal_values_write_equal_events()
-    ensures numbers { (a b : _) → IsTrue (⟦<FormattedUnsignedDecimal<'static> as PartialEq>⟧.eq a b) → unsigned_shown a ≡ unsigned_shown b }
-    ensures decimals { (a b : _) → IsTrue (⟦<FormattedDecimal<'static> as PartialEq>⟧.eq a b) → decimal_shown a ≡ decimal_shown b }
+    ensures numbers { (a b : _) → IsTrue (⟦<FormattedUnsignedDecimal<'static> as PartialEq>⟧.eq a b)
+        → unsigned_shown a ≡ unsigned_shown b }
+    ensures decimals { (a b : _) → IsTrue (⟦<FormattedDecimal<'static> as PartialEq>⟧.eq a b)
+        → decimal_shown a ≡ decimal_shown b }
 {
     equal_parts_are_the_same();
     equal_signed_values_write_equal_events::<FormattedUnsignedDecimal<'static>>();
@@ -94,7 +96,8 @@ pub fn smaller_never_shows_larger()
 /// Where the formatter is readable, two decimals without leading padding are written in the same characters exactly where
 /// their signs and the numbers that are shown are the same.
 pub fn shown_again()
-    ensures again { (format : CompactFormat) (sign : Sign) (d again : Unsigned) → IsUnpadded d → IsUnpadded again → IsShownAgain format sign d again }
+    ensures again { (format : CompactFormat) (sign : Sign) (d again : Unsigned) → IsUnpadded d
+        → IsUnpadded again → IsShownAgain format sign d again }
     ensures given { ShownIsGiven }
     ensures readable { ShownTextTells }
 {}

@@ -28,7 +28,9 @@ fn load_preferred<M: DataMarker, D: DataProvider<M>>(
     preferred: Option<DataIdentifierBorrowed<'_>>,
     other: DataIdentifierBorrowed<'_>,
 ) -> Result<M::DataStruct, DataError>
-    ensures { Answers result (decided (map (D.answer provider.now) (asked (option_map identifier_of preferred.entry) (identifier_of other.entry)))) }
+    ensures { Answers result
+        (decided (map (D.answer provider.now)
+        (asked (option_map identifier_of preferred.entry) (identifier_of other.entry)))) }
 {
     match preferred {
         Some(preferred) => load_with_fallback::<M, D>(alloc, provider, &[preferred, other]),

@@ -48,7 +48,8 @@ impl Default for DecimalFormatterOptions {
 impl From<GroupingStrategy> for DecimalFormatterOptions {
     ghost use Rattle.std.specs.Prelude.{◌≡◌, Some};
 
-    ghost from_gives = { λ strategy options. options ≡ record { grouping_strategy = Some strategy } };
+    ghost from_gives = { λ strategy options.
+        options ≡ record { grouping_strategy = Some strategy } };
 
     fn from(strategy: GroupingStrategy) -> Self {
         DecimalFormatterOptions {
@@ -79,7 +80,8 @@ impl Default for CompactDecimalFormatterOptions {
 impl From<GroupingStrategy> for CompactDecimalFormatterOptions {
     ghost use Rattle.std.specs.Prelude.{◌≡◌, Some};
 
-    ghost from_gives = { λ strategy options. options ≡ record { grouping_strategy = Some strategy } };
+    ghost from_gives = { λ strategy options.
+        options ≡ record { grouping_strategy = Some strategy } };
 
     fn from(grouping_strategy: GroupingStrategy) -> Self {
         CompactDecimalFormatterOptions {
@@ -91,7 +93,8 @@ impl From<GroupingStrategy> for CompactDecimalFormatterOptions {
 impl From<DecimalFormatterOptions> for CompactDecimalFormatterOptions {
     ghost use Rattle.std.specs.Prelude.{◌≡◌};
 
-    ghost from_gives = { λ plain compact. compact ≡ record { grouping_strategy = plain.grouping_strategy } };
+    ghost from_gives = { λ plain compact.
+        compact ≡ record { grouping_strategy = plain.grouping_strategy } };
 
     fn from(plain: DecimalFormatterOptions) -> Self {
         CompactDecimalFormatterOptions {
@@ -103,7 +106,8 @@ impl From<DecimalFormatterOptions> for CompactDecimalFormatterOptions {
 impl From<CompactDecimalFormatterOptions> for DecimalFormatterOptions {
     ghost use Rattle.std.specs.Prelude.{◌≡◌};
 
-    ghost from_gives = { λ compact plain. plain ≡ record { grouping_strategy = compact.grouping_strategy } };
+    ghost from_gives = { λ compact plain.
+        plain ≡ record { grouping_strategy = compact.grouping_strategy } };
 
     fn from(compact: CompactDecimalFormatterOptions) -> Self {
         DecimalFormatterOptions {

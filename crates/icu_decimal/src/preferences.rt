@@ -18,7 +18,8 @@ pub struct DecimalFormatterPreferences {
 
 /// The undetermined locale, `und`, and no preferred system.
 impl Default for DecimalFormatterPreferences {
-    ghost is_default = { λ prefs. prefs ≡ record { locale_preferences = codes "und"; numbering_system = None } };
+    ghost is_default = { λ prefs.
+        prefs ≡ record { locale_preferences = codes "und"; numbering_system = None } };
 
     fn default() -> Self {
         DecimalFormatterPreferences {
@@ -31,7 +32,8 @@ impl Default for DecimalFormatterPreferences {
 impl DecimalFormatterPreferences {
     /// What data is asked by first: the preferred numbering system in the locale, where a system is preferred.
     pub fn nu_id<'a>(&'a self, locale: &'a DataLocale) -> Option<DataIdentifierBorrowed<'a>>
-        ensures { option_map identifier_of result ≡ preferred_id self.entry.now.numbering_system locale.entry.now }
+        ensures { option_map identifier_of result
+            ≡ preferred_id self.entry.now.numbering_system locale.entry.now }
     {
         match &self.numbering_system {
             Some(system) => Some(DataIdentifierBorrowed::for_marker_attributes_and_locale(
@@ -54,7 +56,8 @@ pub struct CompactDecimalFormatterPreferences {
 
 /// The undetermined locale, `und`, and no preferred system.
 impl Default for CompactDecimalFormatterPreferences {
-    ghost is_default = { λ prefs. prefs ≡ record { locale_preferences = codes "und"; numbering_system = None } };
+    ghost is_default = { λ prefs.
+        prefs ≡ record { locale_preferences = codes "und"; numbering_system = None } };
 
     fn default() -> Self {
         let plain = DecimalFormatterPreferences::default();
@@ -77,7 +80,8 @@ impl From<&CompactDecimalFormatterPreferences> for DecimalFormatterPreferences {
 }
 
 impl From<&CompactDecimalFormatterPreferences> for PluralRulesPreferences {
-    ghost from_gives = { λ compact plural. plural ≡ record { locale_preferences = compact.now.locale_preferences } };
+    ghost from_gives = { λ compact plural.
+        plural ≡ record { locale_preferences = compact.now.locale_preferences } };
 
     fn from(prefs: &CompactDecimalFormatterPreferences) -> Self {
         PluralRulesPreferences {

@@ -36,7 +36,8 @@ pub fn format_asked(
     output: &mut [u8],
     written: &mut usize,
 ) -> u32
-    ensures { EndsIn (mode_asked words.now tables.now) input.now output.old output.new written.new result }
+    ensures { EndsIn (mode_asked words.now tables.now) input.now output.old output.new written.new
+        result }
 {
     match Mode::make(alloc, words, tables) {
         Ok(mode) => format_by(alloc, &mode, input, output, written),

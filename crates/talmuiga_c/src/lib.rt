@@ -49,7 +49,8 @@ pub extern "C" fn talmuiga_format_lines_sized(
     output: &mut [u8],
     written: &mut usize,
 ) -> u32
-    ensures { Ends (words_asked locale.now system.now style.now grouping.now) tables.now input.now output.old output.new written.new result }
+    ensures { Ends (words_asked locale.now system.now style.now grouping.now) tables.now input.now
+        output.old output.new written.new result }
 {
     match words_asked(locale, system, style, grouping) {
         Some(words) => format_asked(alloc, &words, tables, input, output, written),

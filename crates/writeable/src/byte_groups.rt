@@ -35,7 +35,9 @@ pub(crate) fn push_byte_groups(
     requires secondary { 0 < secondary }
     requires below_ten { All (λ d. d < 10) digits.now }
     requires ascii { All (λ c. c < 128) characters.now }
-    ensures { OnOk result (out.new.items ≡ out.old.items ++ joined (separator ∷ []) (group_texts characters.now (cut primary secondary digits.now))) }
+    ensures { OnOk result (out.new.items ≡ out.old.items
+        ++ joined (separator ∷ [])
+        (group_texts characters.now (cut primary secondary digits.now))) }
 {
     // at most one separator stands before each digit
     let Ok(()) = out.reserve(2 * digits.len()) else {
@@ -61,7 +63,8 @@ fn push_thousands(
     requires below_ten { All (λ d. d < 10) digits.now }
     requires ascii { All (λ c. c < 128) characters.now }
     requires room { vec_len out + 2 * length digits.now ≤ vec_capacity out }
-    ensures { result.items ≡ out.items ++ joined (separator ∷ []) (group_texts characters.now (cut 3 3 digits.now)) }
+    ensures { result.items ≡ out.items
+        ++ joined (separator ∷ []) (group_texts characters.now (cut 3 3 digits.now)) }
 {
     let (first, mut rest) = digits.split_at(first_group(digits.len(), THOUSANDS, THOUSANDS));
     out = push_ascii(out, first, characters);
@@ -88,7 +91,8 @@ fn push_sizes(
     requires below_ten { All (λ d. d < 10) digits.now }
     requires ascii { All (λ c. c < 128) characters.now }
     requires room { vec_len out + 2 * length digits.now ≤ vec_capacity out }
-    ensures { result.items ≡ out.items ++ joined (separator ∷ []) (group_texts characters.now (cut primary secondary digits.now)) }
+    ensures { result.items ≡ out.items
+        ++ joined (separator ∷ []) (group_texts characters.now (cut primary secondary digits.now)) }
 {
     let (first, mut rest) = digits.split_at(first_group(digits.len(), primary, secondary));
     out = push_ascii(out, first, characters);
@@ -143,7 +147,9 @@ pub(crate) fn push_groups(
     requires primary { 0 < grouping.now.primary }
     requires secondary { 0 < grouping.now.secondary }
     requires below_ten { All (λ d. d < 10) digits.now }
-    ensures { OnOk result (out.new.items ≡ out.old.items ++ joined grouping.now.separator.now (group_texts characters.now (cut grouping.now.primary grouping.now.secondary digits.now))) }
+    ensures { OnOk result (out.new.items ≡ out.old.items
+        ++ joined grouping.now.separator.now
+        (group_texts characters.now (cut grouping.now.primary grouping.now.secondary digits.now))) }
 {
     let (primary, secondary) = (grouping.primary, grouping.secondary);
     let (first, mut rest) = digits.split_at(first_group(digits.len(), primary, secondary));

@@ -85,7 +85,8 @@ pub trait EventWriter {
 
     /// Writes a text as a part of its own.
     fn part(&mut self, part: Part, text: &str) -> Result<(), WriteFault>
-        ensures { wrote self.old result (Open part.category.now part.value.now ∷ (text_events text.now ++ Close ∷ [])) self.new }
+        ensures { wrote self.old result (Open part.category.now part.value.now
+            ∷ (text_events text.now ++ Close ∷ [])) self.new }
     {
         self.open(part)?;
         self.text(text)?;
@@ -122,9 +123,11 @@ impl<S: PartsWrite> EventWriter for WithParts<'_, S> {
 
     ghost nothing = { λ a. LentWrites-nothing S.events S.failures S.limit S.refusals a.sink };
 
-    ghost then = { λ a b c r es fs. LentWrites-then S.events S.failures S.limit S.refusals a.sink b.sink c.sink r es fs };
+    ghost then = { λ a b c r es fs.
+        LentWrites-then S.events S.failures S.limit S.refusals a.sink b.sink c.sink r es fs };
 
-    ghost stop = { λ a b e r es fs. LentWrites-stop S.events S.failures S.limit S.refusals a.sink b.sink e r es fs };
+    ghost stop = { λ a b e r es fs.
+        LentWrites-stop S.events S.failures S.limit S.refusals a.sink b.sink e r es fs };
 
     fn text(&mut self, text: &str) -> Result<(), WriteFault> {
         self.sink.write_str(text)
@@ -165,7 +168,8 @@ impl<'a, K> WithoutParts<'a, K> {
 
 // The events without parts, as the inner writer writes them.
 impl<K: EventWriter> EventWriter for WithoutParts<'_, K> {
-    ghost wrote = { λ a r es b. (b.out.ghost_name ≡ a.out.ghost_name) × K.wrote a.out.now r (without_parts es) b.out.now };
+    ghost wrote = { λ a r es b. (b.out.ghost_name ≡ a.out.ghost_name)
+        × K.wrote a.out.now r (without_parts es) b.out.now };
 
     ghost nothing = { λ a. (refl, K.nothing a.out.now) };
 
@@ -216,7 +220,8 @@ impl EventWriter for String {
 
     ghost nothing = { λ a. AppendsText-nothing (string_bytes a) };
 
-    ghost then = { λ a b c r es fs. AppendsText-then (string_bytes a) (string_bytes b) (string_bytes c) r es fs };
+    ghost then = { λ a b c r es fs.
+        AppendsText-then (string_bytes a) (string_bytes b) (string_bytes c) r es fs };
 
     ghost stop = { λ a b e r es fs err h. OnOk-stop _ r err };
 
@@ -230,7 +235,8 @@ impl EventWriter for String {
     }
 
     fn open(&mut self, part: Part) -> Result<(), WriteFault>
-        ensures wrote { OnOk result (string_bytes self.new ≡ string_bytes self.old ++ text_of (Open part.category.now part.value.now ∷ [])) }
+        ensures wrote { OnOk result (string_bytes self.new ≡ string_bytes self.old
+            ++ text_of (Open part.category.now part.value.now ∷ [])) }
         ensures ok { IsOk result }
     {
         let _ = part;
@@ -238,7 +244,8 @@ impl EventWriter for String {
     }
 
     fn close(&mut self) -> Result<(), WriteFault>
-        ensures wrote { OnOk result (string_bytes self.new ≡ string_bytes self.old ++ text_of (Close ∷ [])) }
+        ensures wrote { OnOk result (string_bytes self.new ≡ string_bytes self.old
+            ++ text_of (Close ∷ [])) }
         ensures ok { IsOk result }
     {
         Ok(())
@@ -298,7 +305,8 @@ impl EventWriter for Vec<u8> {
     }
 
     fn open(&mut self, part: Part) -> Result<(), WriteFault>
-        ensures wrote { OnOk result (self.new.items ≡ self.old.items ++ text_of (Open part.category.now part.value.now ∷ [])) }
+        ensures wrote { OnOk result (self.new.items ≡ self.old.items
+            ++ text_of (Open part.category.now part.value.now ∷ [])) }
         ensures ok { IsOk result }
     {
         let _ = part;
@@ -328,7 +336,8 @@ fn push_ascii_digits(mut out: Vec<u8>, digits: &[u8], characters: &[char; 10]) -
     requires below_ten { All (λ d. d < 10) digits.now }
     requires room { vec_len out + length digits.now ≤ vec_capacity out }
     ensures within { result.1 ≤ length digits.now }
-    ensures items { result.0.items ≡ out.items ++ text_of (digit_events characters.now (take result.1 digits.now)) }
+    ensures items { result.0.items ≡ out.items
+        ++ text_of (digit_events characters.now (take result.1 digits.now)) }
 {
     for index in 0..digits.len() {
         let character = characters[digits[index] as usize];
@@ -343,7 +352,8 @@ fn push_ascii_digits(mut out: Vec<u8>, digits: &[u8], characters: &[char; 10]) -
 /// Appends the character of each digit.
 fn push_digits(out: &mut Vec<u8>, digits: &[u8], characters: &[char; 10]) -> Result<(), WriteFault>
     requires { All (λ d. d < 10) digits.now }
-    ensures { OnOk result (out.new.items ≡ out.old.items ++ text_of (digit_events characters.now digits.now)) }
+    ensures { OnOk result (out.new.items ≡ out.old.items
+        ++ text_of (digit_events characters.now digits.now)) }
 {
     for digit in digits {
         out.character(characters[*digit as usize])?;
@@ -371,7 +381,8 @@ impl<W: fmt::Write> EventWriter for fmt::Formatter<W> {
     }
 
     fn open(&mut self, part: Part) -> Result<(), WriteFault>
-        ensures wrote { Displays W.write_str_gives self.old result (Open part.category.now part.value.now ∷ []) self.new }
+        ensures wrote { Displays W.write_str_gives self.old result
+            (Open part.category.now part.value.now ∷ []) self.new }
         ensures ok { IsOk result }
     {
         let _ = part;

@@ -124,7 +124,10 @@ impl PartsText {
 
     /// Counts a failure for want of memory.
     fn fault_of_memory(&mut self) -> WriteFault
-        ensures { self.new ≡ record self.old { failures = one_more_failure self.old.failures; refusals = one_more_failure self.old.refusals } }
+        ensures { self.new ≡ record self.old {
+          failures = one_more_failure self.old.failures;
+          refusals = one_more_failure self.old.refusals;
+        } }
     {
         self.refusals = self.refusals.saturating_add(1);
         self.fault()
@@ -133,8 +136,10 @@ impl PartsText {
     /// Keeps a text whole, in a sink without a limit.
     fn keep_text(&mut self, text: &str) -> Result<(), WriteFault>
         requires { self.old.limit ≡ None }
-        ensures writes { Writes (λ s. s.events) (λ s. s.failures) self.old result (text_events text.now) self.new }
-        ensures limited { KeepsLimit (λ s. s.events) (λ s. s.limit) (λ s. s.refusals) self.old result (text_events text.now) self.new }
+        ensures writes { Writes (λ s. s.events) (λ s. s.failures) self.old result
+            (text_events text.now) self.new }
+        ensures limited { KeepsLimit (λ s. s.events) (λ s. s.limit) (λ s. s.refusals)
+            self.old result (text_events text.now) self.new }
         ensures within { IsWithinLimit self.new }
     {
         if self.text.push_str(text).is_err() {
@@ -145,8 +150,10 @@ impl PartsText {
 
     /// Keeps the opening of a part, or else a close.
     fn keep_mark(&mut self, opened: Option<Part>) -> Result<(), WriteFault>
-        ensures writes { Writes (λ s. s.events) (λ s. s.failures) self.old result (mark_event_of opened ∷ []) self.new }
-        ensures limited { KeepsLimit (λ s. s.events) (λ s. s.limit) (λ s. s.refusals) self.old result (mark_event_of opened ∷ []) self.new }
+        ensures writes { Writes (λ s. s.events) (λ s. s.failures) self.old result
+            (mark_event_of opened ∷ []) self.new }
+        ensures limited { KeepsLimit (λ s. s.events) (λ s. s.limit) (λ s. s.refusals)
+            self.old result (mark_event_of opened ∷ []) self.new }
         ensures within { IsWithinLimit self.new }
     {
         if self.room == Some(0) {
@@ -171,8 +178,10 @@ impl PartsWrite for PartsText {
     ghost refusals = { λ s. s.refusals };
 
     fn write_str(&mut self, text: &str) -> Result<(), WriteFault>
-        ensures writes { Writes (λ s. s.events) (λ s. s.failures) self.old result (text_events text.now) self.new }
-        ensures limited { KeepsLimit (λ s. s.events) (λ s. s.limit) (λ s. s.refusals) self.old result (text_events text.now) self.new }
+        ensures writes { Writes (λ s. s.events) (λ s. s.failures) self.old result
+            (text_events text.now) self.new }
+        ensures limited { KeepsLimit (λ s. s.events) (λ s. s.limit) (λ s. s.refusals)
+            self.old result (text_events text.now) self.new }
         ensures within { IsWithinLimit self.new }
         ensures empty { length text.now ≡ 0 → IsOk result }
         ensures full { IsFull self.old → 0 < length text.now → IsErr result }
@@ -191,8 +200,10 @@ impl PartsWrite for PartsText {
     }
 
     fn write_char(&mut self, character: char) -> Result<(), WriteFault>
-        ensures writes { Writes (λ s. s.events) (λ s. s.failures) self.old result (Char character ∷ []) self.new }
-        ensures limited { KeepsLimit (λ s. s.events) (λ s. s.limit) (λ s. s.refusals) self.old result (Char character ∷ []) self.new }
+        ensures writes { Writes (λ s. s.events) (λ s. s.failures) self.old result
+            (Char character ∷ []) self.new }
+        ensures limited { KeepsLimit (λ s. s.events) (λ s. s.limit) (λ s. s.refusals)
+            self.old result (Char character ∷ []) self.new }
         ensures within { IsWithinLimit self.new }
         ensures full { IsFull self.old → IsErr result }
     {
@@ -207,8 +218,10 @@ impl PartsWrite for PartsText {
     }
 
     fn open_part(&mut self, part: Part) -> Result<(), WriteFault>
-        ensures writes { Writes (λ s. s.events) (λ s. s.failures) self.old result (Open part.category.now part.value.now ∷ []) self.new }
-        ensures limited { KeepsLimit (λ s. s.events) (λ s. s.limit) (λ s. s.refusals) self.old result (Open part.category.now part.value.now ∷ []) self.new }
+        ensures writes { Writes (λ s. s.events) (λ s. s.failures) self.old result
+            (Open part.category.now part.value.now ∷ []) self.new }
+        ensures limited { KeepsLimit (λ s. s.events) (λ s. s.limit) (λ s. s.refusals)
+            self.old result (Open part.category.now part.value.now ∷ []) self.new }
         ensures within { IsWithinLimit self.new }
         ensures full { IsFull self.old → IsErr result }
     {
@@ -216,8 +229,10 @@ impl PartsWrite for PartsText {
     }
 
     fn close_part(&mut self) -> Result<(), WriteFault>
-        ensures writes { Writes (λ s. s.events) (λ s. s.failures) self.old result (Close ∷ []) self.new }
-        ensures limited { KeepsLimit (λ s. s.events) (λ s. s.limit) (λ s. s.refusals) self.old result (Close ∷ []) self.new }
+        ensures writes { Writes (λ s. s.events) (λ s. s.failures) self.old result
+            (Close ∷ []) self.new }
+        ensures limited { KeepsLimit (λ s. s.events) (λ s. s.limit) (λ s. s.refusals)
+            self.old result (Close ∷ []) self.new }
         ensures within { IsWithinLimit self.new }
         ensures full { IsFull self.old → IsErr result }
     {

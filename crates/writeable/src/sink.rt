@@ -41,17 +41,21 @@ pub trait PartsWrite {
     /// Appends the characters of a text. An empty text adds no event.
     fn write_str(&mut self, text: &str) -> Result<(), WriteFault>
         ensures writes { Writes events failures self.old result (text_events text.now) self.new }
-        ensures limited { KeepsLimit events limit refusals self.old result (text_events text.now) self.new };
+        ensures limited { KeepsLimit events limit refusals self.old result
+            (text_events text.now) self.new };
 
     /// Appends a character.
     fn write_char(&mut self, character: char) -> Result<(), WriteFault>
         ensures writes { Writes events failures self.old result (Char character ∷ []) self.new }
-        ensures limited { KeepsLimit events limit refusals self.old result (Char character ∷ []) self.new };
+        ensures limited { KeepsLimit events limit refusals self.old result
+            (Char character ∷ []) self.new };
 
     /// Opens a part, which lasts until its own close.
     fn open_part(&mut self, part: Part) -> Result<(), WriteFault>
-        ensures writes { Writes events failures self.old result (Open part.category.now part.value.now ∷ []) self.new }
-        ensures limited { KeepsLimit events limit refusals self.old result (Open part.category.now part.value.now ∷ []) self.new };
+        ensures writes { Writes events failures self.old result
+            (Open part.category.now part.value.now ∷ []) self.new }
+        ensures limited { KeepsLimit events limit refusals self.old result
+            (Open part.category.now part.value.now ∷ []) self.new };
 
     /// Closes the part that was opened last and is still open. With no part open this is an event all the same.
     fn close_part(&mut self) -> Result<(), WriteFault>

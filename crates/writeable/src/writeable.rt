@@ -32,7 +32,8 @@ pub trait Writeable {
     /// Writes the value with its parts (ICU4X, `write_to_parts`).
     final fn write_to_parts<S: PartsWrite>(&self, sink: &mut S) -> Result<(), WriteFault>
         ensures writes { Writes S.events S.failures sink.old result (events self.now) sink.new }
-        ensures limited { KeepsLimit S.events S.limit S.refusals sink.old result (events self.now) sink.new }
+        ensures limited { KeepsLimit S.events S.limit S.refusals sink.old result
+            (events self.now) sink.new }
     {
         let mut out = WithParts { sink };
         let result = self.write_events(&mut out);
@@ -42,8 +43,10 @@ pub trait Writeable {
 
     /// Writes the characters alone (ICU4X, `write_to`).
     final fn write_to<S: PartsWrite>(&self, sink: &mut S) -> Result<(), WriteFault>
-        ensures writes { Writes S.events S.failures sink.old result (without_parts (events self.now)) sink.new }
-        ensures limited { KeepsLimit S.events S.limit S.refusals sink.old result (without_parts (events self.now)) sink.new }
+        ensures writes { Writes S.events S.failures sink.old result
+            (without_parts (events self.now)) sink.new }
+        ensures limited { KeepsLimit S.events S.limit S.refusals sink.old result
+            (without_parts (events self.now)) sink.new }
     {
         let mut out = WithParts { sink };
         let result = self.write_characters(&mut out);

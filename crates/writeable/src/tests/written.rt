@@ -15,7 +15,8 @@ impl Writeable for Grouped<'_> {
     ghost use Rattle.writeable.specs.Events.{Event, text_events};
     ghost use Rattle.writeable.specs.Events.Event.{Open, Close};
 
-    ghost events = { λ g. Open (codes "decimal") (codes "group") ∷ (text_events g.text.now ++ Close ∷ []) };
+    ghost events = { λ g. Open (codes "decimal") (codes "group")
+        ∷ (text_events g.text.now ++ Close ∷ []) };
 
     fn write_events<K: EventWriter>(&self, out: &mut K) -> Result<(), WriteFault> {
         out.open(GROUP)?;
@@ -29,9 +30,13 @@ impl fmt::Display for Grouped<'_> {
     ghost use Rattle.writeable.specs.Events.{text_events, text_of};
     ghost use Rattle.writeable.specs.Events.Event.{Open, Close};
 
-    ghost output = { λ g. Some (text_of (Open (codes "decimal") (codes "group") ∷ (text_events g.text.now ++ Close ∷ []))) };
+    ghost output = { λ g. Some
+        (text_of (Open (codes "decimal") (codes "group")
+        ∷ (text_events g.text.now ++ Close ∷ []))) };
 
-    ghost styled_output = { λ g _. Some (text_of (Open (codes "decimal") (codes "group") ∷ (text_events g.text.now ++ Close ∷ []))) };
+    ghost styled_output = { λ g _.
+        Some (text_of (Open (codes "decimal") (codes "group")
+        ∷ (text_events g.text.now ++ Close ∷ []))) };
 
     fn fmt<W: fmt::Write>(&self, f: &mut fmt::Formatter<W>) -> fmt::Result {
         self.write_events(f).map_err(|_| fmt::Error)
