@@ -1,6 +1,5 @@
 -- Goals that a search finds; it is not tried longer where one is false.
 use Rattle.std.proofs.Common.{rules}
-use Rattle.icu_decimal_data.proofs.TableSteps.{steps}
 use Rattle.icu_decimal_data.specs.TableReading.{table_step, record_step, slot_step}
 use Rattle.icu_decimal_data.proofs.table_damage.check.Goals as goal
 

@@ -1,7 +1,7 @@
 use Rattle.std.proofs.Common.{rules, [], ◌∷◌, Some, ◌∙◌}
 use Rattle.icu_base.specs.Refs.{text_of_ref}
 use Rattle.icu_decimal_data.specs.PackedTable.{ArePatterns}
-use Rattle.icu_decimal_data.proofs.TableWriting.{writing, on_ok, pattern_good}
+use Rattle.icu_decimal_data.proofs.TableWriting.{on_ok, pattern_good}
 use Rattle.icu_decimal_data.proofs.table_writing.push_slot.Goals as goal
 
 pub returns-clause-pattern : goal.returns-clause-pattern
