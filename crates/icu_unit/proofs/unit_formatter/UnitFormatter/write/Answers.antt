@@ -1,6 +1,5 @@
--- Goals that a search finds; it is not tried longer where one is false.
+-- The goals that a search finds at once; it is not tried longer where one is false.
 use Rattle.std.proofs.Common.{rules}
-use Rattle.std.proofs.lemmas.Grind.{common_steps}
 use Rattle.icu_unit.proofs.unit_formatter.UnitFormatter.write.Goals as goal
 
 pub returns-in-Err-Overflow-clause-written : goal.returns-in-Err-Overflow-clause-written
