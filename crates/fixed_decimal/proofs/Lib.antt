@@ -12,3 +12,5 @@ pub mod NumberDigits
 pub mod Moved
 pub mod LeftDigits
 pub mod Significands
+pub mod LaneLemmas
+pub mod ShortTexts

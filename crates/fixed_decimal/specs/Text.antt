@@ -53,6 +53,14 @@ abbrev pub integer_of : List ℕ → List ℕ
 integer_of [] = 0 ∷ []
 integer_of (d ∷ ds) = d ∷ ds
 
+-- the text spells the number, without a sign
+pub record IsNumber (text : List ℕ) (d : Unsigned) : Type 0 where
+  pub before : List ℕ
+  pub after : List ℕ
+  pub spelled : IsNumeral text before after
+  pub digits : d.digits ≡ integer_of before ++ after
+  pub scale : d.scale ≡ length after
+
 -- the text spells the sign and the number, each written digit at its power
 pub record Reads (text : List ℕ) (sign : Sign) (d : Unsigned) : Type 0 where
   pub numeral : List ℕ

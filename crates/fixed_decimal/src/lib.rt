@@ -15,12 +15,14 @@
 mod digits;
 mod equality;
 mod error;
+mod lanes;
 pub mod laws;
 mod numbers;
 mod reading;
 mod rounded_digits;
 mod rounding;
 mod scaling;
+mod short_text;
 mod signed;
 mod significand;
 mod signs;

@@ -7,7 +7,9 @@ ghost use Rattle.smallvec.specs.SmallVec.{HasRoomFor, small_vec_len};
 ghost use Rattle.fixed_decimal.specs.Unsigned.{IsUnsigned};
 ghost use Rattle.fixed_decimal.specs.Text.{plus_sign, minus_sign, sign_text, digit_values, IsNumeral, integer_of, Reads, ReadsNothing, ReadsPastLimits};
 
-use crate::digits::{Digits, MAX_DIGITS};
+use crate::digits::MAX_DIGITS;
+use crate::lanes::{LANES, digits_from, digits_in, padded};
+use crate::short_text::short_number;
 use crate::{Decimal, DecimalError, Sign, UnsignedDecimal};
 use smallvec::SmallVec;
 use std::alloc::{AllocError, Global};
@@ -36,6 +38,12 @@ impl Decimal {
         ensures limit { IsErrOf result DecimalError.Limit ↔ ReadsPastLimits text.now }
     {
         let (sign, numeral) = split_sign(text);
+        if numeral.len() <= LANES {
+            return match short_number(alloc, numeral) {
+                Some(absolute) => Ok(Decimal { sign, absolute }),
+                None => Err(DecimalError::Syntax),
+            };
+        }
         let Some((before, after)) = split_numeral(numeral) else {
             return Err(DecimalError::Syntax);
         };
@@ -61,12 +69,21 @@ fn split_sign(text: &[u8]) -> (Sign, &[u8])
     }
 }
 
-/// How many digits a text begins with.
+/// How many digits a text begins with; sixteen bytes are judged in one step.
 fn leading_digits(text: &[u8]) -> usize
     ensures count { result ≡ prefix_len is_ascii_digit text.now }
     ensures within { result ≤ length text.now }
 {
-    text.iter().take_while(|b| b.is_ascii_digit()).count()
+    let mut count = 0;
+    'steps: while text.len() - count >= LANES {
+        let run = digits_from(&text[count..count + LANES], 0);
+        count += run;
+        if run < LANES {
+            return count;
+        }
+    }
+    let rest = &text[count..];
+    count + digits_in(rest, &padded(rest), 0)
 }
 
 /// The digits before and after the point.
@@ -106,28 +123,39 @@ fn from_digits_text(
     ensures scale { IfOk result (λ d. d.scale ≡ length after.now) }
     ensures valid { IfOk result (λ d. IsUnsigned d) }
 {
-    let mut digits = SmallVec::with_capacity(alloc, before.len().max(1) + after.len())?;
     if before.is_empty() {
-        digits.push_reserved(0);
+        return copied(alloc, b"0", after);
     }
-    let integer = push_values(digits, before);
-    let digits = push_values(integer, after);
+    copied(alloc, before, after)
+}
+
+/// The decimal of these digits at power 0 and above, of which there are some, and below it.
+fn copied(alloc: Global, integer: &[u8], fraction: &[u8]) -> Result<UnsignedDecimal, AllocError>
+    requires some { 0 < length integer.now }
+    requires integer_digits { AllPass is_ascii_digit integer.now }
+    requires fraction_digits { AllPass is_ascii_digit fraction.now }
+    requires integer_limit { length integer.now ≤ MAX_DIGITS }
+    requires fraction_limit { length fraction.now ≤ MAX_DIGITS }
+    ensures digits { IfOk result (λ d. d.digits ≡ integer_of (digit_values integer.now) ++ digit_values fraction.now) }
+    ensures scale { IfOk result (λ d. d.scale ≡ length fraction.now) }
+    ensures valid { IfOk result (λ d. IsUnsigned d) }
+{
+    let mut digits = SmallVec::with_capacity(alloc, integer.len() + fraction.len())?;
+    digits.extend_from_slice(integer)?;
+    digits.extend_from_slice(fraction)?;
+    make_values(digits.as_mut_slice());
     Ok(UnsignedDecimal {
         digits,
-        scale: after.len() as u16,
+        scale: fraction.len() as u16,
     })
 }
 
-/// Appends the digits that a text writes, for which there is room.
-fn push_values(mut digits: Digits, text: &[u8]) -> Digits
-    requires room { HasRoomFor digits (length text.now) }
-    requires written { AllPass is_ascii_digit text.now }
-    ensures values { result.items ≡ digits.items ++ digit_values text.now }
-    ensures len { small_vec_len result ≡ small_vec_len digits + length text.now }
-    ensures capacity { result.capacity ≡ digits.capacity }
+/// Makes written digits what they stand for.
+fn make_values(digits: &mut [u8])
+    requires { AllPass is_ascii_digit digits.old }
+    ensures { digits.new ≡ digit_values digits.old }
 {
-    for i in 0..text.len() {
-        digits.push_reserved(text[i] - b'0');
+    for i in 0..digits.len() {
+        digits[i] -= b'0';
     }
-    digits
 }

@@ -65,7 +65,8 @@ fn is_signed(made: &Result<Decimal, DecimalError>, sign: Sign, digits: &str) -> 
     }
 }
 
-const TEXTS: [(&str, Sign, &str); 7] = [
+/// The last seven stand on both sides of sixteen bytes, which are read in one step.
+const TEXTS: [(&str, Sign, &str); 14] = [
     ("1000007", Sign::None, "1000007"),
     ("-987654.321", Sign::Negative, "987654.321"),
     ("0012", Sign::None, "0012"),
@@ -73,6 +74,17 @@ const TEXTS: [(&str, Sign, &str); 7] = [
     ("1.20", Sign::None, "1.20"),
     (".5", Sign::None, "0.5"),
     ("+5", Sign::Positive, "5"),
+    ("-9081726354433221", Sign::Negative, "9081726354433221"),
+    ("90817263544332211", Sign::None, "90817263544332211"),
+    (".908172635443322", Sign::None, "0.908172635443322"),
+    (".9081726354433221", Sign::None, "0.9081726354433221"),
+    ("90817263544332.1", Sign::None, "90817263544332.1"),
+    ("9081726354433221.1", Sign::None, "9081726354433221.1"),
+    (
+        "9.08172635443322119081726354433221908",
+        Sign::None,
+        "9.08172635443322119081726354433221908",
+    ),
 ];
 
 #[test]
@@ -118,7 +130,27 @@ fn refusal(alloc: Global, text: &str) -> Option<DecimalError> {
 
 #[test]
 fn refuses_other_texts(rt: HostRuntime) {
-    for text in ["12.", "1e3", "+", "", ".", "-.", "1 ", "\u{ff11}", "+-1"] {
+    for text in [
+        "12.",
+        "1e3",
+        "+",
+        "",
+        ".",
+        "-.",
+        "1 ",
+        "\u{ff11}",
+        "+-1",
+        "1.2.3",
+        "1/2",
+        "1:2",
+        "908172635443322.",
+        "9081726354433221.",
+        "908172635443322x",
+        "9081726354433221x",
+        "9081726354433221908172635443322x",
+        "908172635443322.x",
+        "9081726354433221.1.1",
+    ] {
         assert!(rt;
             refusal(rt.alloc(), text) == Some(DecimalError::Syntax),
             "{text}"

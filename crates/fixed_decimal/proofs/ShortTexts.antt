@@ -1,0 +1,75 @@
+-- What is read of a short text: its lanes are the text with zeros behind it.
+use Rattle.std.proofs.Common.{◌≡◌, ℕ, ◌+◌, ◌-◌, ◌<◌, ◌≤◌, List, [], ◌∷◌, ◌++◌, length, take, replicate, refl, sym, ap, ◌∙◌, subst, arith, true}
+use Rattle.std.proofs.lemmas.List.{append-nil, append_assoc, length-append, length-map, take_at, map-append}
+use Rattle.std.proofs.lemmas.List.Elements.{All-append, All-nil}
+use Rattle.std.specs.List.{prefix_len, AllPass}
+use Rattle.std.specs.Char.{is_ascii_digit}
+use Rattle.fixed_decimal.specs.declared.signs.Sign.{Sign}
+use Rattle.fixed_decimal.specs.Unsigned.{Unsigned, IsUnsigned, IsWithinLimits}
+use Rattle.fixed_decimal.specs.Text.{digit_values, digits_text, integer_of, sign_text, IsNumber, Reads, ReadsNothing, ReadsPastLimits}
+use Rattle.fixed_decimal.proofs.Numerals.{digits_text-values, AreDigits-values, tail_passes, Reads-one}
+
+-- the digits of a text as its lanes give them
+pub lane_values : (text lanes values : List ℕ) (n : ℕ) → lanes ≡ text ++ replicate n 0 → AllPass is_ascii_digit text
+    → ((k : ℕ) → AllPass is_ascii_digit (take k lanes) → take k values ≡ digit_values (take k lanes))
+    → take (length text) values ≡ digit_values text
+lane_values text lanes values n e digits given =
+    let front : take (length text) lanes ≡ text = ap (take (length text)) e ∙ take_at text (replicate n 0) (length text) refl in
+    given (length text) (subst (λ (l : List ℕ). AllPass is_ascii_digit l) (sym front) digits) ∙ ap digit_values front
+
+-- some digits are the digits at power 0 and above
+some_integer : (bs : List ℕ) → 0 < length bs → digit_values bs ≡ integer_of (digit_values bs)
+some_integer [] some = absurd (omega arith)
+some_integer (b ∷ bs) some = refl
+
+-- the digits of two texts as their lanes give them
+pub both_values : (integer fraction lanes values : List ℕ) (n : ℕ) → lanes ≡ integer ++ (fraction ++ replicate n 0) → 0 < length integer → AllPass is_ascii_digit integer → AllPass is_ascii_digit fraction
+    → ((k : ℕ) → AllPass is_ascii_digit (take k lanes) → take k values ≡ digit_values (take k lanes))
+    → take (length integer + length fraction) values ≡ integer_of (digit_values integer) ++ digit_values fraction
+both_values integer fraction lanes values n e some front back given =
+    ap (λ k. take k values) (sym (length-append integer fraction))
+    ∙ lane_values (integer ++ fraction) lanes values n (e ∙ sym (append_assoc integer fraction (replicate n 0))) (All-append (λ b. is_ascii_digit b ≡ true) integer fraction front back) given
+    ∙ map-append (λ c. c - 48) integer fraction
+    ∙ ap (λ (l : List ℕ). l ++ digit_values fraction) (some_integer integer some)
+
+-- a whole number of at most sixteen digits is within the limits
+pub whole_valid : (bs : List ℕ) → AllPass is_ascii_digit bs → 0 < length bs → length bs ≤ 16 → IsUnsigned (record { digits = digit_values bs; scale = 0 })
+whole_valid bs digits some short = record {
+  below_ten = AreDigits-values bs digits;
+  integer_some = omega (arith, length-map bs (λ c. c - 48));
+  high_limit = omega (arith, length-map bs (λ c. c - 48));
+  low_limit = omega arith;
+}
+
+-- a text whose digits go to its end
+pub all_digits : (text : List ℕ) → length text ≡ prefix_len is_ascii_digit text → AllPass is_ascii_digit text
+all_digits text all = tail_passes text 0 (sym all)
+
+-- a text of digits alone is their whole number
+pub whole_number : (text : List ℕ) (d : Unsigned) → AllPass is_ascii_digit text → 0 < length text → d.digits ≡ digit_values text → d.scale ≡ 0 → IsNumber text d
+whole_number text d digits some e f = record {
+  before = digit_values text;
+  after = [];
+  spelled = record {
+    spelled = sym (append-nil (digits_text (digit_values text)) ∙ digits_text-values text digits);
+    some_digit = omega (arith, length-map text (λ c. c - 48));
+    before_digits = AreDigits-values text digits;
+    after_digits = All-nil (λ d. d < 10);
+  };
+  digits = e ∙ some_integer text some ∙ sym (append-nil (integer_of (digit_values text)));
+  scale = f;
+}
+
+-- a number behind a sign is what the text reads as
+pub signed_number : (text n : List ℕ) (s : Sign) (d : Unsigned) → text ≡ sign_text s ++ n → IsNumber n d → Reads text s d
+signed_number text n s d signed is = record { numeral = n; before = is.before; after = is.after; signed = signed; spelled = is.spelled; digits = is.digits; scale = is.scale }
+
+-- so the text reads as something
+pub signed_reads : (text n : List ℕ) (s : Sign) (d : Unsigned) → text ≡ sign_text s ++ n → IsNumber n d → ¬ (ReadsNothing text)
+signed_reads text n s d signed is none = none s d (signed_number text n s d signed is)
+
+-- and where it is valid, not as something past the limits
+pub signed_within : (text n : List ℕ) (s : Sign) (d : Unsigned) → text ≡ sign_text s ++ n → IsNumber n d → IsUnsigned d → ¬ (ReadsPastLimits text)
+signed_within text n s d signed is valid (t, e, r, past) =
+    let same = Reads-one text s t d e (signed_number text n s d signed is) r in
+    past (subst IsWithinLimits same.1 (record { high_limit = valid.high_limit; low_limit = valid.low_limit }))

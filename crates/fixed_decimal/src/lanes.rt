@@ -1,0 +1,69 @@
+//! Short texts, looked at whole: sixteen bytes in one step.
+
+ghost use Rattle.std.specs.Prelude.{◌≡◌, ◌+◌, ◌-◌, ◌≤◌, ◌++◌, length, take, drop, replicate, ℕ};
+ghost use Rattle.std.specs.List.{prefix_len, AllPass};
+ghost use Rattle.std.specs.Char.{is_ascii_digit};
+ghost use Rattle.fixed_decimal.specs.Text.{digit_values};
+
+use std::simd::prelude::*;
+
+/// How many bytes are looked at in one step. As many digits fit in a decimal without memory.
+pub(crate) const LANES: usize = 16;
+
+/// A text, and zeros behind it.
+pub(crate) fn padded(text: &[u8]) -> [u8; LANES]
+    requires { length text.now ≤ LANES }
+    ensures { result ≡ text.now ++ replicate (LANES - length text.now) 0 }
+{
+    let mut lanes = [0; LANES];
+    lanes[..text.len()].copy_from_slice(text);
+    lanes
+}
+
+/// Two texts one behind the other, and zeros behind them.
+pub(crate) fn both_padded(front: &[u8], back: &[u8]) -> [u8; LANES]
+    requires { length front.now + length back.now ≤ LANES }
+    ensures { result ≡ front.now ++ (back.now ++ replicate (LANES - (length front.now + length back.now)) 0) }
+{
+    let mut lanes = [0; LANES];
+    let (before, after) = lanes.split_at_mut(front.len());
+    before.copy_from_slice(front);
+    after[..back.len()].copy_from_slice(back);
+    lanes
+}
+
+/// How many digits stand from a place on, before the first byte that is none.
+pub(crate) fn digits_from(lanes: &[u8], start: usize) -> usize
+    requires lanes { length lanes.now ≡ LANES }
+    requires start { start ≤ LANES }
+    ensures { result ≡ prefix_len is_ascii_digit (drop start lanes.now) }
+{
+    let values = u8x16::from_slice(lanes) - u8x16::splat(b'0');
+    let others = values.simd_ge(u8x16::splat(10)).to_bitmask() >> start;
+    if others == 0 {
+        LANES - start
+    } else {
+        others.trailing_zeros() as usize
+    }
+}
+
+/// How many digits stand in a text from a place on, before the first byte that is none. Its lanes tell; the text is for the
+/// contract alone.
+pub(crate) fn digits_in(text: &[u8], lanes: &[u8], start: usize) -> usize
+    requires short { length text.now ≤ LANES }
+    requires lanes { lanes.now ≡ text.now ++ replicate (LANES - length text.now) 0 }
+    requires start { start ≤ length text.now }
+    ensures count { result ≡ prefix_len is_ascii_digit (drop start text.now) }
+    ensures within { result + start ≤ length text.now }
+{
+    let _ = text;
+    digits_from(lanes, start)
+}
+
+/// What the lanes stand for, where they are digits.
+pub(crate) fn values_of(lanes: &[u8]) -> [u8; LANES]
+    requires { length lanes.now ≡ LANES }
+    ensures { (n : ℕ) → AllPass is_ascii_digit (take n lanes.now) → take n result ≡ digit_values (take n lanes.now) }
+{
+    (u8x16::from_slice(lanes) - u8x16::splat(b'0')).to_array()
+}
