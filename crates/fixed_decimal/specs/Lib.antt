@@ -2,6 +2,7 @@ pub mod Unsigned
 pub mod Size
 pub mod Text
 pub mod Reading
+pub mod ShortDigits
 pub mod Nearest
 pub mod Rounding
 pub mod RoundedDigits

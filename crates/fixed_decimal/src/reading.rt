@@ -9,7 +9,7 @@ ghost use Rattle.fixed_decimal.specs.Text.{plus_sign, minus_sign, sign_text, dig
 
 use crate::digits::MAX_DIGITS;
 use crate::lanes::{LANES, digits_from, digits_in, padded};
-use crate::short_text::short_number;
+use crate::short_text::short_digits;
 use crate::{Decimal, DecimalError, Sign, UnsignedDecimal};
 use smallvec::SmallVec;
 use std::alloc::{AllocError, Global};
@@ -39,10 +39,14 @@ impl Decimal {
     {
         let (sign, numeral) = split_sign(text);
         if numeral.len() <= LANES {
-            return match short_number(alloc, numeral) {
-                Some(absolute) => Ok(Decimal { sign, absolute }),
-                None => Err(DecimalError::Syntax),
+            let Some(short) = short_digits(numeral) else {
+                return Err(DecimalError::Syntax);
             };
+            let absolute = UnsignedDecimal {
+                digits: SmallVec::from_buf_and_len(alloc, short.values, short.count),
+                scale: short.scale as u16,
+            };
+            return Ok(Decimal { sign, absolute });
         }
         let Some((before, after)) = split_numeral(numeral) else {
             return Err(DecimalError::Syntax);

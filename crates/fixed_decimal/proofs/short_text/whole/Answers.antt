@@ -1,17 +1,12 @@
-use Rattle.std.proofs.Common.{◌≡◌, ◌∙◌}
+use Rattle.std.proofs.Common.{◌≡◌, length, take}
 use Rattle.fixed_decimal.specs.Text.{digit_values}
 use Rattle.fixed_decimal.proofs.ShortTexts.{lane_values, whole_valid}
 use Rattle.fixed_decimal.proofs.short_text.whole.Goals as goal
 
-pub invariant_of-result : goal.invariant_of-result
-invariant_of-result c =
-    let e : c.from_buf_and_len.result.items ≡ digit_values c.args.text.now = c.from_buf_and_len.ensures.items ∙ lane_values c.args.text.now _ _ _ c.requires.lanes c.requires.written c.values_of.ensures in
-    rw e (whole_valid c.args.text.now c.requires.written c.requires.some c.requires.short)
-
 pub returns-clause-digits : goal.returns-clause-digits
-returns-clause-digits c = c.from_buf_and_len.ensures.items ∙ lane_values c.args.text.now _ _ _ c.requires.lanes c.requires.written c.values_of.ensures
+returns-clause-digits c = lane_values c.args.text.now _ _ _ c.requires.lanes c.requires.written c.values_of.ensures
 
 pub returns-clause-valid : goal.returns-clause-valid
 returns-clause-valid c =
-    let e : c.from_buf_and_len.result.items ≡ digit_values c.args.text.now = c.from_buf_and_len.ensures.items ∙ lane_values c.args.text.now _ _ _ c.requires.lanes c.requires.written c.values_of.ensures in
+    let e : take (length c.args.text.now) c.values_of.result ≡ digit_values c.args.text.now = lane_values c.args.text.now _ _ _ c.requires.lanes c.requires.written c.values_of.ensures in
     rw e (whole_valid c.args.text.now c.requires.written c.requires.some c.requires.short)

@@ -6,8 +6,8 @@ use Rattle.std.specs.Char.{is_ascii_digit}
 use Rattle.fixed_decimal.specs.Text.{digit_values}
 use Rattle.fixed_decimal.proofs.Numerals.{pointed, pointed_passes, has_point_at, has_fraction_at, fraction_passes_at}
 use Rattle.fixed_decimal.proofs.ShortTexts.{all_digits, whole_number}
-use Rattle.fixed_decimal.proofs.short_text.short_number.Goals as goal
-use Rattle.fixed_decimal.proofs.short_text.short_number.Goals.{else-text-count-eq46-via-then-text-count-eq46+then-not-is_empty+else-digits_in-after, else-text-count-eq46-via-then-text-count-eq46+else-not-is_empty, else-text-count-eq46-via-else-text-count-eq46}
+use Rattle.fixed_decimal.proofs.short_text.short_digits.Goals as goal
+use Rattle.fixed_decimal.proofs.short_text.short_digits.Goals.{else-text-count-eq46-via-then-text-count-eq46+then-not-is_empty+else-digits_in-after, else-text-count-eq46-via-then-text-count-eq46+else-not-is_empty, else-text-count-eq46-via-else-text-count-eq46}
 
 pub whole-requires-clause-written : goal.whole-requires-clause-written
 whole-requires-clause-written c = all_digits c.args.text.now (sym c.if-count-text.true ∙ c.digits_in-count.ensures.count)
