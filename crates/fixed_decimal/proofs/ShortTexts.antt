@@ -1,6 +1,6 @@
 -- What is read of a short text: its lanes are the text with zeros behind it.
-use Rattle.std.proofs.Common.{◌≡◌, ℕ, ◌+◌, ◌-◌, ◌<◌, ◌≤◌, List, [], ◌∷◌, ◌++◌, length, take, replicate, refl, sym, ap, ◌∙◌, subst, arith, true}
-use Rattle.std.proofs.lemmas.List.{append-nil, append_assoc, length-append, length-map, take_at, map-append}
+use Rattle.std.proofs.Common.{◌≡◌, ℕ, ◌+◌, ◌-◌, ◌<◌, ◌≤◌, List, [], ◌∷◌, ◌++◌, length, take, refl, sym, ap, ◌∙◌, subst, arith, true}
+use Rattle.std.proofs.lemmas.List.{length-take-le, take-append-le, append-nil, append_assoc, length-append, length-map, take_at, map-append}
 use Rattle.std.proofs.lemmas.List.Elements.{All-append, All-nil}
 use Rattle.std.specs.List.{prefix_len, AllPass}
 use Rattle.std.specs.Char.{is_ascii_digit}
@@ -10,11 +10,11 @@ use Rattle.fixed_decimal.specs.Text.{digit_values, digits_text, integer_of, sign
 use Rattle.fixed_decimal.proofs.Numerals.{digits_text-values, AreDigits-values, tail_passes, Reads-one}
 
 -- the digits of a text as its lanes give them
-pub lane_values : (text lanes values : List ℕ) (n : ℕ) → lanes ≡ text ++ replicate n 0 → AllPass is_ascii_digit text
+pub lane_values : (text lanes values rest : List ℕ) → lanes ≡ text ++ rest → AllPass is_ascii_digit text
     → ((k : ℕ) → AllPass is_ascii_digit (take k lanes) → take k values ≡ digit_values (take k lanes))
     → take (length text) values ≡ digit_values text
-lane_values text lanes values n e digits given =
-    let front : take (length text) lanes ≡ text = ap (take (length text)) e ∙ take_at text (replicate n 0) (length text) refl in
+lane_values text lanes values rest e digits given =
+    let front : take (length text) lanes ≡ text = ap (take (length text)) e ∙ take_at text rest (length text) refl in
     given (length text) (subst (λ (l : List ℕ). AllPass is_ascii_digit l) (sym front) digits) ∙ ap digit_values front
 
 -- some digits are the digits at power 0 and above
@@ -23,12 +23,12 @@ some_integer [] some = absurd (omega arith)
 some_integer (b ∷ bs) some = refl
 
 -- the digits of two texts as their lanes give them
-pub both_values : (integer fraction lanes values : List ℕ) (n : ℕ) → lanes ≡ integer ++ (fraction ++ replicate n 0) → 0 < length integer → AllPass is_ascii_digit integer → AllPass is_ascii_digit fraction
+pub both_values : (integer fraction lanes values rest : List ℕ) → lanes ≡ integer ++ (fraction ++ rest) → 0 < length integer → AllPass is_ascii_digit integer → AllPass is_ascii_digit fraction
     → ((k : ℕ) → AllPass is_ascii_digit (take k lanes) → take k values ≡ digit_values (take k lanes))
     → take (length integer + length fraction) values ≡ integer_of (digit_values integer) ++ digit_values fraction
-both_values integer fraction lanes values n e some front back given =
+both_values integer fraction lanes values rest e some front back given =
     ap (λ k. take k values) (sym (length-append integer fraction))
-    ∙ lane_values (integer ++ fraction) lanes values n (e ∙ sym (append_assoc integer fraction (replicate n 0))) (All-append (λ b. is_ascii_digit b ≡ true) integer fraction front back) given
+    ∙ lane_values (integer ++ fraction) lanes values rest (e ∙ sym (append_assoc integer fraction rest)) (All-append (λ b. is_ascii_digit b ≡ true) integer fraction front back) given
     ∙ map-append (λ c. c - 48) integer fraction
     ∙ ap (λ (l : List ℕ). l ++ digit_values fraction) (some_integer integer some)
 
@@ -73,3 +73,8 @@ pub signed_within : (text n : List ℕ) (s : Sign) (d : Unsigned) → text ≡ s
 signed_within text n s d signed is valid (t, e, r, past) =
     let same = Reads-one text s t d e (signed_number text n s d signed is) r in
     past (subst IsWithinLimits same.1 (record { high_limit = valid.high_limit; low_limit = valid.low_limit }))
+
+-- the front of a text as its lanes have it
+pub front_lanes : (text lanes rest : List ℕ) (n : ℕ) → lanes ≡ text ++ rest → n ≤ length text → take (length (take n text)) lanes ≡ take n text
+front_lanes text lanes rest n e inside =
+    ap (λ (k : ℕ). take k lanes) (length-take-le n text inside) ∙ ap (take n) e ∙ take-append-le n text rest inside

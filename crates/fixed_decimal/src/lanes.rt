@@ -32,6 +32,15 @@ pub(crate) fn both_padded(front: &[u8], back: &[u8]) -> [u8; LANES]
     lanes
 }
 
+/// The lanes with a text from a place on.
+pub(crate) fn with_text(mut lanes: [u8; LANES], place: usize, text: &[u8]) -> [u8; LANES]
+    requires { place + length text.now ≤ LANES }
+    ensures { result ≡ take place lanes ++ (text.now ++ drop (place + length text.now) lanes) }
+{
+    lanes[place..place + text.len()].copy_from_slice(text);
+    lanes
+}
+
 /// How many digits stand from a place on, before the first byte that is none.
 pub(crate) fn digits_from(lanes: &[u8], start: usize) -> usize
     requires lanes { length lanes.now ≡ LANES }

@@ -7,7 +7,7 @@ ghost use Rattle.fixed_decimal.specs.Unsigned.{IsUnsigned};
 ghost use Rattle.fixed_decimal.specs.Text.{digit_values, IsNumeral, IsNumber, integer_of};
 ghost use Rattle.fixed_decimal.specs.ShortDigits.{short_number};
 
-use crate::lanes::{LANES, both_padded, digits_in, padded, values_of};
+use crate::lanes::{LANES, both_padded, digits_in, padded, values_of, with_text};
 
 /// The digits of a short text.
 #[derive(Clone, Copy)]
@@ -42,7 +42,7 @@ pub(crate) fn short_digits(text: &[u8]) -> Option<ShortDigits>
         && !after.is_empty()
         && digits_in(text, &lanes, count + 1) == after.len()
     {
-        Some(pointed(&text[..count], after))
+        Some(pointed(lanes, &text[..count], after))
     } else {
         None
     }
@@ -66,8 +66,9 @@ fn whole(text: &[u8], lanes: &[u8]) -> ShortDigits
     }
 }
 
-/// The number of the digits before and after a point.
-fn pointed(before: &[u8], after: &[u8]) -> ShortDigits
+/// The number of the digits before and after a point. Those before it are the first lanes.
+fn pointed(lanes: [u8; LANES], before: &[u8], after: &[u8]) -> ShortDigits
+    requires lanes { take (length before.now) lanes ≡ before.now }
     requires before_digits { AllPass is_ascii_digit before.now }
     requires after_digits { AllPass is_ascii_digit after.now }
     requires room { max 1 (length before.now) + length after.now ≤ LANES }
@@ -77,13 +78,14 @@ fn pointed(before: &[u8], after: &[u8]) -> ShortDigits
     ensures count { result.count ≤ LANES }
 {
     if before.is_empty() {
-        return joined(b"0", after);
+        return joined(both_padded(b"0", after), b"0", after);
     }
-    joined(before, after)
+    joined(with_text(lanes, before.len(), after), before, after)
 }
 
-/// The number of these digits at power 0 and above, of which there are some, and below it.
-fn joined(integer: &[u8], fraction: &[u8]) -> ShortDigits
+/// The number of these digits at power 0 and above, of which there are some, and below it. They are the first lanes.
+fn joined(lanes: [u8; LANES], integer: &[u8], fraction: &[u8]) -> ShortDigits
+    requires lanes { (rest : List ℕ) × (lanes ≡ integer.now ++ (fraction.now ++ rest)) }
     requires some { 0 < length integer.now }
     requires integer_digits { AllPass is_ascii_digit integer.now }
     requires fraction_digits { AllPass is_ascii_digit fraction.now }
@@ -93,7 +95,6 @@ fn joined(integer: &[u8], fraction: &[u8]) -> ShortDigits
     ensures valid { IsUnsigned (short_number result.values result.count result.scale) }
     ensures count { result.count ≤ LANES }
 {
-    let lanes = both_padded(integer, fraction);
     ShortDigits {
         values: values_of(&lanes),
         count: integer.len() + fraction.len(),
