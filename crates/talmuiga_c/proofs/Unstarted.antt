@@ -1,5 +1,5 @@
 -- Calls that end before a line is formatted.
-use Rattle.std.proofs.Common.{◌≡◌, ℕ, Bool, true, false, List, [], Ok, Err, refl, sym, ap, ◌∙◌, inl, inr, arith}
+use Rattle.std.proofs.Common.{◌≡◌, ℕ, Bool, true, false, List, [], Ok, Err, refl, sym, inl, inr, arith}
 use Rattle.std.specs.Prelude.{Result, if◌then◌else◌}
 use Rattle.std.specs.Str.{IsUtf8, is_utf8}
 use Rattle.std.proofs.lemmas.Str.{IsUtf8-from_is_utf8}
@@ -11,7 +11,7 @@ use Rattle.decimal_lines.specs.declared.mode.StartError.{StartError}
 use Rattle.decimal_lines.specs.declared.mode.StartError.TheVariants as start
 use Rattle.decimal_lines.proofs.Parts.{output_of-nothing}
 use Rattle.talmuiga_c.specs.Asked.{mode_asked}
-use Rattle.talmuiga_c.specs.Endings.{EndsIn, IsFormatted, IsUntouched, out_of_memory, status_of}
+use Rattle.talmuiga_c.specs.Endings.{EndsIn, IsFormatted, out_of_memory, status_of}
 use Rattle.talmuiga_c.proofs.Texts.{is_no_text}
 
 -- want of memory before the first line
