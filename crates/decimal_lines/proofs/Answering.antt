@@ -64,9 +64,11 @@ module _ (mode : Mode) (text : List ℕ) where
   pub answer_to-within : (s : Sign) (d : Unsigned) → Reads text s d → IsWithinLimits d → answer_to mode text ≡ shown_by mode s d
   answer_to-within s d r w = by_reading (Some (s, d)) (reading-reads text s d r) ∙ rw (is_within-limits d w) refl
 
+  -- the answer to a text that spells no decimal
   pub answer_to-nothing : ReadsNothing text → answer_to mode text ≡ codes "error: not a decimal"
   answer_to-nothing none = by_reading None (reading-nothing text none)
 
+  -- and to one that needs a power of ten past the limits
   pub answer_to-past : ReadsPastLimits text → answer_to mode text ≡ codes "error: too many digits"
   answer_to-past (s, d, r, past) = by_reading (Some (s, d)) (reading-reads text s d r) ∙ go (is_within_limits d) refl
     where
@@ -104,6 +106,7 @@ module _ (mode : Mode) (text : List ℕ) where
           inr (inl (none, answer_to-nothing none))
       go (Some (s, d)) e = limited s d e (is_within_limits d) refl
 
+  -- the computed answer is the only one
   pub answer_to-only : (answer : List ℕ) → IsAnswer mode text answer → answer ≡ answer_to mode text
   answer_to-only answer (inl shows) = shown_by-only mode shows.sign shows.absolute answer shows.shown ∙ sym (answer_to-within shows.sign shows.absolute shows.reads shows.within)
   answer_to-only answer (inr (inl (none, e))) = e ∙ sym (answer_to-nothing none)

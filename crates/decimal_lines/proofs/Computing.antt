@@ -131,6 +131,7 @@ module _ (count x : ℕ) (some : 0 < count) (few : count ≤ 32768) (whole : x %
   length_is : length (decimal_of count x).digits ≡ count + scale_of x
   length_is = length-digits_from x (finest - scale_of x) (count + scale_of x)
 
+  -- what is computed of a size is a number
   pub decimal-unsigned : IsUnsigned (decimal_of count x)
   decimal-unsigned = record {
     below_ten = digits_from-digits x (finest - scale_of x) (count + scale_of x);
@@ -139,14 +140,17 @@ module _ (count x : ℕ) (some : 0 < count) (few : count ≤ 32768) (whole : x %
     low_limit = scale_within;
   }
 
+  -- it has this size
   pub decimal-size : size (decimal_of count x) ≡ x
   decimal-size =
       let same : finest + count ≡ finest - scale_of x + (count + scale_of x) = omega (arith, scale_within, finest_large) in
       weighed-digits_from x (finest - scale_of x) (count + scale_of x) scale_whole (rw same at below)
 
+  -- it has so many integer digits
   pub decimal-count : integer_count (decimal_of count x) ≡ count
   decimal-count = omega (arith, length_is)
 
+  -- its fraction has no zero at its end
   pub decimal-trimmed : IsTrimmed (decimal_of count x)
   decimal-trimmed = go (scale_of x) refl
     where

@@ -203,6 +203,7 @@ module _ (format : CompactFormat) (sign : Sign) (d : Unsigned) where
       go true e = absurd (within (nearest_number format.table (size d), number-nearest format.table (size d), grind (arith, nat_tests)))
       go false e = refl
 
+  -- the answer where the nearest compact number is past the limits
   pub answer-past : ShowsPastLimits format.table (size d) → compact_answer format sign d ≡ codes "error: overflow"
   unfolding compact_answer
   answer-past past = go (nat_le (ten_to (pos 32768)) (nearest_number format.table (size d))) refl
@@ -215,10 +216,12 @@ module _ (format : CompactFormat) (sign : Sign) (d : Unsigned) where
   pub answer-written : (s : Unsigned) (exponent : ℕ) (events : List Event) → IsCompactFormat format sign d s exponent events → ¬ (ShowsPastLimits format.table (size d)) → compact_answer format sign d ≡ text_of events
   answer-written s exponent events w within = answer-within within ∙ compact_text-told format sign d s exponent events w
 
+  -- the computed compact answer is the only one
   pub compact-only : (answer : List ℕ) → IsCompactAnswer format sign d answer → answer ≡ compact_answer format sign d
   compact-only answer (inl is) = is.spelled ∙ sym (answer-written is.significand is.exponent is.events is.written is.within)
   compact-only answer (inr (past, e)) = e ∙ sym (answer-past past)
 
+  -- and it is one
   pub compact-is : IsUnsigned d → IsCompactTable format.table → IsCompactAnswer format sign d (compact_answer format sign d)
   compact-is is t = go (nat_le (ten_to (pos 32768)) (nearest_number format.table (size d))) refl
     where

@@ -8,6 +8,7 @@ use Rattle.decimal_lines.proofs.Parts.{output_of-append, output_of-ended, output
 use Rattle.decimal_lines.proofs.Known.{Appends-then, Appends-nothing, AppendsProperBeginning-then}
 
 module _ (answer : List ℕ → List ℕ) where
+  -- no bytes add nothing
   pub Feeds-nothing : (w : Option (List ℕ)) (held : List ℕ) → IsPartLine held → Feeds answer w w held [] held
   Feeds-nothing w held h = record {
     whole = [];
@@ -37,6 +38,7 @@ module _ (answer : List ℕ → List ℕ) where
     appends = rw (output_of-ended answer (held ++ more) (IsPartLine-append held more h k)) p;
   }
 
+  -- some bytes and then others add what both do
   pub Feeds-then : (w w1 w2 : Option (List ℕ)) (p a p1 b p2 : List ℕ) → Feeds answer w w1 p a p1 → Feeds answer w1 w2 p1 b p2 → Feeds answer w w2 p (a ++ b) p2
   Feeds-then w w1 w2 p a p1 b p2 f s = record {
     whole = f.whole ++ s.whole;
@@ -46,6 +48,7 @@ module _ (answer : List ℕ → List ℕ) where
     appends = rw (output_of-append answer f.whole s.whole f.are_whole) (Appends-then w w1 w2 (output_of answer f.whole) (output_of answer s.whole) f.appends s.appends);
   }
 
+  -- some bytes and then a break are a break
   pub Feeds-breaks : (w w1 w2 : Option (List ℕ)) (p a p1 b : List ℕ) → Feeds answer w w1 p a p1 → Breaks answer w1 w2 (p1 ++ b) → Breaks answer w w2 (p ++ (a ++ b))
   Feeds-breaks w w1 w2 p a p1 b f s = record {
     whole = f.whole ++ s.whole;

@@ -50,6 +50,7 @@ module _ (answer : List ℕ → List ℕ) where
           let some_line : 0 < length line = omega (arith, ap (λ (k : List ℕ). length k) e) in
           ap (output_of answer) e ∙ last line some_line first.is_part ∙ sym (ap (λ (k : List ℕ). line_output answer line ++ k) nothing ∙ append-nil (line_output answer line))
 
+  -- before the first line nothing is filled
   pub Fills-nothing : (input old : List ℕ) → Fills answer input input old old 0
   Fills-nothing input old = record {
     done = [];

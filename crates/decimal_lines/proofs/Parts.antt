@@ -48,18 +48,22 @@ lines_of-append w x (inl e) = rw e refl
 lines_of-append w x (inr (f, e)) = rw e (ended-append f x)
 
 module _ (answer : List ℕ → List ℕ) where
+  -- the output of whole lines and what follows them
   pub output_of-append : (w x : List ℕ) → AreWholeLines w → output_of answer (w ++ x) ≡ output_of answer w ++ output_of answer x
   unfolding output_of
   output_of-append w x h = rw (lines_of-append w x h) (flat_map-append (line_output answer) (lines_of w) (lines_of x))
 
+  -- the output of one line and its line feed
   pub output_of-ended : (p : List ℕ) → IsPartLine p → output_of answer (p ++ 10 ∷ []) ≡ line_output answer p
   unfolding output_of lines_of
   output_of-ended p h = rw (lines_of-ended p [] h) (append-nil (line_output answer p))
 
+  -- the output of a last line without one
   pub output_of-last : (b : ℕ) (bs : List ℕ) → IsPartLine (b ∷ bs) → output_of answer (b ∷ bs) ≡ line_output answer (b ∷ bs)
   unfolding output_of
   output_of-last b bs h = rw (lines_of-last b bs h) (append-nil (line_output answer (b ∷ bs)))
 
+  -- no line has no output
   pub output_of-nothing : output_of answer [] ≡ []
   unfolding output_of lines_of
   output_of-nothing = refl

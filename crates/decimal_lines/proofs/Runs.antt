@@ -9,6 +9,7 @@ use Rattle.decimal_lines.proofs.Parts.{output_of-append}
 use Rattle.decimal_lines.proofs.Known.{Appends-then, AppendsBeginning-then, AppendsBeginning-nothing, Appends-keeps, AppendsProperBeginning-then, AppendsProperBeginning-more, AppendsProperBeginning-is_beginning}
 
 module _ (answer : List ℕ → List ℕ) (w : Option (List ℕ)) where
+  -- where reading fails, the output is that of the whole lines before
   pub stops : (r r' w' : Option (List ℕ)) (got held : List ℕ) → Consumes r r' got → Feeds answer w w' [] got held → IfSome r (λ input. StopsBetween answer w w' input r')
   stops None r' w' got held p f = tt
   stops (Some input) None w' got held p f = absurd p
@@ -28,6 +29,7 @@ module _ (answer : List ℕ → List ℕ) (w : Option (List ℕ)) where
       let e : output_of answer bytes ≡ output_of answer s.whole ++ output_of answer s.after = ap (output_of answer) s.parts ∙ output_of-append answer s.whole s.after s.are_whole in
       rw e (AppendsProperBeginning-more w w' (output_of answer s.whole) (output_of answer s.after) s.appends)
 
+  -- where writing fails, something of the output is left
   pub breaks : (r r' w' : Option (List ℕ)) (got : List ℕ) → Consumes r r' got → Breaks answer w w' got → IfSome r (λ input. AppendsProperBeginning w w' (output_of answer input))
   breaks None r' w' got p s = tt
   breaks (Some input) None w' got p s = absurd p
@@ -39,6 +41,7 @@ module _ (answer : List ℕ → List ℕ) (w : Option (List ℕ)) where
     appends = s.appends;
   })
 
+  -- a beginning with something left is a beginning
   pub proper : (r w' : Option (List ℕ)) → IfSome r (λ input. AppendsProperBeginning w w' (output_of answer input)) → IfSome r (λ input. AppendsBeginning w w' (output_of answer input))
   proper None w' p = tt
   proper (Some input) w' p = AppendsProperBeginning-is_beginning w w' (output_of answer input) p
@@ -86,6 +89,7 @@ module _ (answer : List ℕ → List ℕ) (w : Option (List ℕ)) where
         let e : input ≡ got = p ∙ ap (λ (k : List ℕ). got ++ k) q ∙ append-nil got in
         rw (e, whole_output) (AppendsBeginning-then w w1 w2 (output_of answer f.whole) (output_of answer held) f.appends a)
 
+  -- nothing written is a beginning
   pub unread : (r : Option (List ℕ)) → IfSome r (λ input. AppendsBeginning w w (output_of answer input))
   unread None = tt
   unread (Some input) = AppendsBeginning-nothing w (output_of answer input)

@@ -17,5 +17,6 @@ AnswerIsUnique = (mode : Mode) (text answer : List ℕ) → IsAnswer mode text a
 abbrev pub InputHasLines : Type 0
 InputHasLines = (input : List ℕ) → IsLines input (lines_of input)
 
+-- and no other one
 abbrev pub LinesAreUnique : Type 0
 LinesAreUnique = (input : List ℕ) (lines : List (List ℕ)) → IsLines input lines → lines ≡ lines_of input

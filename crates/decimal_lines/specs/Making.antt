@@ -25,6 +25,7 @@ Stops start.Tables made = made ≡ Err start.Tables
 Stops start.NoData made = made ≡ Err start.NoData
 Stops start.OutOfMemory made = Unit {0}
 
+-- What a call answers is this; want of memory may come whatever it is.
 abbrev pub Starts : {X : Type 0} → Result X StartError → Result X StartError → Type 0
 Starts (Ok x) made = made ≡ Ok x
 Starts (Err e) made = Stops e made
@@ -33,13 +34,16 @@ Starts (Err e) made = Stops e made
 abbrev pub plain_options : Option GroupingStrategy → DecimalFormatterOptions
 plain_options grouping = record { grouping_strategy = grouping }
 
+-- and these for compact ones
 abbrev pub compact_options : Option GroupingStrategy → CompactDecimalFormatterOptions
 compact_options None = record { grouping_strategy = Some Min2 }
 compact_options (Some strategy) = record { grouping_strategy = Some strategy }
 
+-- the words' locale and system, for plain numbers
 abbrev pub plain_preferences : WordsData → DecimalFormatterPreferences
 plain_preferences words = record { locale_preferences = words.locale; numbering_system = words.system }
 
+-- and for compact ones
 abbrev pub compact_preferences : WordsData → CompactDecimalFormatterPreferences
 compact_preferences words = record { locale_preferences = words.locale; numbering_system = words.system }
 

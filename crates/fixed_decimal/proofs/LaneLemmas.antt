@@ -56,10 +56,12 @@ module _ (sub ge : ℕ → ℕ → ℕ) (agree : agree_below (λ x. not (top 7 (
   digits_are : prefix_len (λ x. not (stops x)) (drop start v) ≡ prefix_len is_ascii_digit (drop start v)
   digits_are = prefix_len-agrees (λ x. not (stops x)) is_ascii_digit (λ x small. agree_below_at (λ x. not (stops x)) is_ascii_digit 256 x agree small) (drop start v) (Each1-from_get_or (λ x. x < 256) (drop start v) 0 (λ k h. rw (get_or-drop start v k 0) (fits (start + k)).fits))
 
+  -- where no lane behind the start stops, all of them are digits
   pub none_stops : mask % 2 ^ 64 / 2 ^ start ≡ 0 → 16 - start ≡ prefix_len is_ascii_digit (drop start v)
   none_stops none =
       omega (arith, leading_from_mask_l stops (drop start v) (sym mask_is ∙ none), length-drop start v, long, digits_are)
 
+  -- else the first that stops ends the digits
   pub one_stops : (mask % 2 ^ 64 / 2 ^ start ≡ 0 → ⊥) → count_trailing_zeros 64 (mask % 2 ^ 64 / 2 ^ start) ≡ prefix_len is_ascii_digit (drop start v)
   one_stops some =
       ap (count_trailing_zeros 64) mask_is
@@ -137,12 +139,15 @@ module _ (text : List ℕ) (count run : ℕ) (inside : count + 16 ≤ length tex
       let n : count + 16 - count ≡ 16 = omega arith in
       found ∙ ap (λ (k : ℕ). prefix_len is_ascii_digit (take k (drop count text))) n
 
+  -- a step reads sixteen bytes at most
   pub step_within : run ≤ 16
   step_within = omega (arith, step_found, step_long, prefix_len-le-length is_ascii_digit (take 16 (drop count text)))
 
+  -- with fewer the digits end there
   pub step_ends : run < 16 → prefix_len is_ascii_digit text ≡ count + prefix_len is_ascii_digit (drop count text) → count + run ≡ prefix_len is_ascii_digit text
   step_ends short so_far = omega (arith, so_far, step_found, part_ends 16 (drop count text) (omega (arith, step_found, step_long)))
 
+  -- with sixteen they may go on
   pub step_goes_on : 16 ≤ run → prefix_len is_ascii_digit text ≡ count + prefix_len is_ascii_digit (drop count text) → prefix_len is_ascii_digit text ≡ count + run + prefix_len is_ascii_digit (drop (count + run) text)
   step_goes_on full so_far =
       let all : run ≡ 16 = omega (arith, step_within) in

@@ -115,6 +115,7 @@ digits_text-values (b ∷ bs) h =
     value_of : (x : ℕ) → is_ascii_digit x ≡ true → 48 + (x - 48) ≡ x
     value_of x h = grind (arith, nat_tests)
 
+-- the values of written digits are digits
 pub AreDigits-values : (bs : List ℕ) → AllPass is_ascii_digit bs → AreDigits (digit_values bs)
 AreDigits-values bs h = All-map (λ d. d < 10) (λ c. c - 48) bs (All-weaker (λ x. is_ascii_digit x ≡ true) (λ x. x - 48 < 10) small bs h)
   where

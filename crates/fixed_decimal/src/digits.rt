@@ -44,7 +44,8 @@ pub fn without_zeros(digits: &[u8], least: usize) -> usize
     requires { least ≤ length digits.now }
     ensures least { least ≤ result }
     ensures within { result ≤ length digits.now }
-    ensures zeros { digits.now ≡ take result digits.now ++ replicate (length digits.now - result) 0 }
+    ensures zeros { digits.now ≡ take result digits.now
+        ++ replicate (length digits.now - result) 0 }
     ensures stops { least < result → slice_index digits.now (result - 1) ≢ 0 }
 {
     let mut left = digits.len();
@@ -82,7 +83,8 @@ pub fn push_zeros(digits: &mut Digits, count: usize)
 /// Writes zeros before and behind the digits; where memory is refused the digits are as they were.
 pub fn widen(digits: &mut Digits, front: usize, back: usize) -> Result<(), DecimalError>
     requires { small_vec_len digits.old + (front + back) < 2 ^ 32 }
-    ensures items { OnOk result (digits.new.items ≡ replicate front 0 ++ (digits.old.items ++ replicate back 0)) }
+    ensures items { OnOk result (digits.new.items ≡ replicate front 0
+        ++ (digits.old.items ++ replicate back 0)) }
     ensures memory { IsOkUnless result DecimalError.OutOfMemory }
     ensures unchanged { OnErr result (digits.new.items ≡ digits.old.items) }
 {

@@ -23,7 +23,8 @@ pub(crate) fn padded(text: &[u8]) -> [u8; LANES]
 /// Two texts one behind the other, and zeros behind them.
 pub(crate) fn both_padded(front: &[u8], back: &[u8]) -> [u8; LANES]
     requires { length front.now + length back.now ≤ LANES }
-    ensures { result ≡ front.now ++ (back.now ++ replicate (LANES - (length front.now + length back.now)) 0) }
+    ensures { result ≡ front.now
+        ++ (back.now ++ replicate (LANES - (length front.now + length back.now)) 0) }
 {
     let mut lanes = [0; LANES];
     let (before, after) = lanes.split_at_mut(front.len());
@@ -72,7 +73,8 @@ pub(crate) fn digits_in(text: &[u8], lanes: &[u8], start: usize) -> usize
 /// What the lanes stand for, where they are digits.
 pub(crate) fn values_of(lanes: &[u8]) -> [u8; LANES]
     requires { length lanes.now ≡ LANES }
-    ensures { (n : ℕ) → AllPass is_ascii_digit (take n lanes.now) → take n result ≡ digit_values (take n lanes.now) }
+    ensures { (n : ℕ) → AllPass is_ascii_digit (take n lanes.now)
+        → take n result ≡ digit_values (take n lanes.now) }
 {
     (u8x16::from_slice(lanes) - u8x16::splat(b'0')).to_array()
 }

@@ -64,7 +64,8 @@ impl Decimal {
 /// The sign that a text begins with, and the rest.
 fn split_sign(text: &[u8]) -> (Sign, &[u8])
     ensures signed { text.now ≡ sign_text result.0 ++ result.1.now }
-    ensures unsigned { result.0 ≡ Sign.None → (slice_index text.now 0 ≢ plus_sign) × (slice_index text.now 0 ≢ minus_sign) }
+    ensures unsigned { result.0 ≡ Sign.None → (slice_index text.now 0 ≢ plus_sign)
+        × (slice_index text.now 0 ≢ minus_sign) }
 {
     match text {
         [b'-', rest @ ..] => (Sign::Negative, rest),
@@ -92,8 +93,10 @@ fn leading_digits(text: &[u8]) -> usize
 
 /// The digits before and after the point.
 fn split_numeral(text: &[u8]) -> Option<(&[u8], &[u8])>
-    ensures spelled { IfSome result (λ parts. IsNumeral text.now (digit_values parts.0.now) (digit_values parts.1.now)) }
-    ensures digits { IfSome result (λ parts. AllPass is_ascii_digit parts.0.now × AllPass is_ascii_digit parts.1.now) }
+    ensures spelled { IfSome result (λ parts.
+        IsNumeral text.now (digit_values parts.0.now) (digit_values parts.1.now)) }
+    ensures digits { IfSome result (λ parts. AllPass is_ascii_digit parts.0.now
+        × AllPass is_ascii_digit parts.1.now) }
     ensures none { IfNone result ((before after : List ℕ) → ¬ (IsNumeral text.now before after)) }
 {
     let count = leading_digits(text);
@@ -123,7 +126,8 @@ fn from_digits_text(
     requires after_digits { AllPass is_ascii_digit after.now }
     requires before_limit { length before.now ≤ MAX_DIGITS }
     requires after_limit { length after.now ≤ MAX_DIGITS }
-    ensures digits { IfOk result (λ d. d.digits ≡ integer_of (digit_values before.now) ++ digit_values after.now) }
+    ensures digits { IfOk result (λ d. d.digits ≡ integer_of (digit_values before.now)
+        ++ digit_values after.now) }
     ensures scale { IfOk result (λ d. d.scale ≡ length after.now) }
     ensures valid { IfOk result (λ d. IsUnsigned d) }
 {
@@ -140,7 +144,8 @@ fn copied(alloc: Global, integer: &[u8], fraction: &[u8]) -> Result<UnsignedDeci
     requires fraction_digits { AllPass is_ascii_digit fraction.now }
     requires integer_limit { length integer.now ≤ MAX_DIGITS }
     requires fraction_limit { length fraction.now ≤ MAX_DIGITS }
-    ensures digits { IfOk result (λ d. d.digits ≡ integer_of (digit_values integer.now) ++ digit_values fraction.now) }
+    ensures digits { IfOk result (λ d. d.digits ≡ integer_of (digit_values integer.now)
+        ++ digit_values fraction.now) }
     ensures scale { IfOk result (λ d. d.scale ≡ length fraction.now) }
     ensures valid { IfOk result (λ d. IsUnsigned d) }
 {

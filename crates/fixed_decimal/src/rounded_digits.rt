@@ -35,7 +35,8 @@ impl RoundedDigits {
     pub(crate) fn leave(self, digits: &mut Digits) -> Result<(), AllocError>
         requires kept { self.kept ≤ small_vec_len digits.old }
         requires small { self.kept + self.zeros < TOO_MANY_DIGITS }
-        ensures items { OnOk result (digits.new.items ≡ digits_left digits.old.items self.kept self.raised self.zeros) }
+        ensures items { OnOk result (digits.new.items
+            ≡ digits_left digits.old.items self.kept self.raised self.zeros) }
         ensures unchanged { OnErr result (digits.new.items ≡ digits.old.items) }
     {
         let count = self.kept + self.zeros + 1;
@@ -49,7 +50,8 @@ impl RoundedDigits {
     pub(crate) fn gathered(self, alloc: Global, digits: &[u8]) -> Result<Digits, AllocError>
         requires kept { self.kept ≤ length digits.now }
         requires small { self.kept + self.zeros < TOO_MANY_DIGITS }
-        ensures { IfOk result (λ ds. ds.items ≡ digits_left digits.now self.kept self.raised self.zeros) }
+        ensures { IfOk result (λ ds.
+            ds.items ≡ digits_left digits.now self.kept self.raised self.zeros) }
     {
         let mut gathered = SmallVec::from_slice(alloc, &digits[..self.kept])?;
         gathered.reserve(self.zeros + 1)?;
@@ -60,7 +62,8 @@ impl RoundedDigits {
     /// Writes what stands behind the first digits, for which there is room.
     fn push_rest(self, digits: &mut Digits)
         requires { HasRoomFor digits.old (self.zeros + 1) }
-        ensures { digits.new.items ≡ (digits.old.items ++ option_to_list self.raised) ++ replicate self.zeros 0 }
+        ensures { digits.new.items ≡ (digits.old.items ++ option_to_list self.raised)
+            ++ replicate self.zeros 0 }
     {
         if let Some(digit) = self.raised {
             digits.push_reserved(digit);
@@ -77,7 +80,9 @@ impl RoundedDigits {
         ensures kept { result.0.kept ≤ length digits.now }
         ensures small { result.0.kept + result.0.zeros < TOO_MANY_DIGITS }
         ensures scale { result.1 ≤ scale }
-        ensures zeros { digits_left digits.now self.kept self.raised self.zeros ≡ digits_left digits.now result.0.kept result.0.raised result.0.zeros ++ replicate (scale - result.1) 0 }
+        ensures zeros { digits_left digits.now self.kept self.raised self.zeros
+            ≡ digits_left digits.now result.0.kept result.0.raised result.0.zeros
+            ++ replicate (scale - result.1) 0 }
         ensures last { let left = digits_left digits.now result.0.kept result.0.raised result.0.zeros in
             (result.1 ≡ 0) ⊎ (slice_index left (length left - 1) ≢ 0) }
     {

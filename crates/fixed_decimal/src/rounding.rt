@@ -18,7 +18,8 @@ impl UnsignedDecimal {
     pub fn rounded(mut self, power: i16) -> Result<Self, (Self, DecimalError)>
         ensures rounded { IfOk result (λ y. IsRounded self power y) }
         ensures valid { MatchResult result (λ y. IsUnsigned y) (λ e. IsUnsigned e.0) }
-        ensures limit { IsErrAnd result (λ e. e.1 ≡ DecimalError.Limit) ↔ RoundsPastLimits self power }
+        ensures limit { IsErrAnd result (λ e. e.1 ≡ DecimalError.Limit)
+            ↔ RoundsPastLimits self power }
         ensures no_syntax { IfErr result (λ e. e.1 ≢ DecimalError.Syntax) }
         ensures handed_back { IfErr result (λ e. e.0 ≡ self) }
     {
@@ -41,9 +42,19 @@ pub(crate) fn round_digits(digits: &[u8], scale: u16, power: i16) -> Option<Roun
     ensures kept { IfSome result (λ r. r.kept ≤ length digits.now) }
     ensures small { IfSome result (λ r. r.kept + r.zeros < 200000) }
     ensures raised { IfSome result (λ r. IfSome r.raised (λ d. d ≢ 0)) }
-    ensures valid { IfSome result (λ r. IsUnsigned (record { digits = digits_left digits.now r.kept r.raised r.zeros; scale = scale_at power })) }
-    ensures rounded { IfSome result (λ r. IsRounded (record { digits = digits.now; scale = scale }) power (record { digits = digits_left digits.now r.kept r.raised r.zeros; scale = scale_at power })) }
-    ensures none { IfNone result (RoundsPastLimits (record { digits = digits.now; scale = scale }) power) }
+    ensures valid { IfSome result (λ r.
+        IsUnsigned (record {
+          digits = digits_left digits.now r.kept r.raised r.zeros;
+          scale = scale_at power;
+        })) }
+    ensures rounded { IfSome result (λ r.
+        IsRounded (record { digits = digits.now; scale = scale }) power
+        (record {
+          digits = digits_left digits.now r.kept r.raised r.zeros;
+          scale = scale_at power;
+        })) }
+    ensures none { IfNone result
+        (RoundsPastLimits (record { digits = digits.now; scale = scale }) power) }
 {
     let count = digits.len();
     let integer_count = count - scale as usize;

@@ -18,7 +18,8 @@ impl UnsignedDecimal {
         ensures moved { IfOk result (λ y. IsMoved self power y) }
         ensures size { IfOk result (λ y. IsTimesTenTo power (size self) (size y)) }
         ensures valid { MatchResult result (λ y. IsUnsigned y) (λ e. IsUnsigned e.0) }
-        ensures limit { IsErrAnd result (λ e. e.1 ≡ DecimalError.Limit) ↔ MovesPastLimits self power }
+        ensures limit { IsErrAnd result (λ e. e.1 ≡ DecimalError.Limit)
+            ↔ MovesPastLimits self power }
         ensures no_syntax { IfErr result (λ e. e.1 ≢ DecimalError.Syntax) }
         ensures handed_back { IfErr result (λ e. e.0 ≡ self) }
     {
@@ -63,12 +64,14 @@ fn moved_range(integer_count: usize, scale: u16, power: i16) -> Option<MovedRang
     requires integer_some { 0 < integer_count }
     requires integer_limit { integer_count ≤ MAX_DIGITS }
     requires scale_limit { scale ≤ MAX_DIGITS }
-    ensures front { IfSome result (λ r. pos r.front ≡ int_max (pos 0) (pos 1 -ℤ (pos integer_count +ℤ power))) }
+    ensures front { IfSome result (λ r.
+        pos r.front ≡ int_max (pos 0) (pos 1 -ℤ (pos integer_count +ℤ power))) }
     ensures back { IfSome result (λ r. pos r.back ≡ int_max (pos 0) (power -ℤ pos scale)) }
     ensures scale { IfSome result (λ r. pos r.scale ≡ int_max (pos 0) (pos scale -ℤ power)) }
     ensures high { OnSome result ((pos integer_count +ℤ power) ≤ℤ pos 32768) }
     ensures low { OnSome result ((pos scale -ℤ power) ≤ℤ pos 32768) }
-    ensures none { IfNone result ((pos 32768 <ℤ (pos integer_count +ℤ power)) ⊎ (pos 32768 <ℤ (pos scale -ℤ power))) }
+    ensures none { IfNone result ((pos 32768 <ℤ (pos integer_count +ℤ power))
+        ⊎ (pos 32768 <ℤ (pos scale -ℤ power))) }
 {
     let high = integer_count as i32 + power as i32;
     let low = scale as i32 - power as i32;

@@ -23,7 +23,8 @@ pub(crate) struct ShortDigits {
 /// The number that a short text writes, as its digits.
 pub(crate) fn short_digits(text: &[u8]) -> Option<ShortDigits>
     requires { length text.now ≤ LANES }
-    ensures spelled { IfSome result (λ s. IsNumber text.now (short_number s.values s.count s.scale)) }
+    ensures spelled { IfSome result (λ s.
+        IsNumber text.now (short_number s.values s.count s.scale)) }
     ensures valid { IfSome result (λ s. IsUnsigned (short_number s.values s.count s.scale)) }
     ensures count { IfSome result (λ s. s.count ≤ LANES) }
     ensures none { IfNone result ((before after : List ℕ) → ¬ (IsNumeral text.now before after)) }
@@ -72,7 +73,8 @@ fn pointed(lanes: [u8; LANES], before: &[u8], after: &[u8]) -> ShortDigits
     requires before_digits { AllPass is_ascii_digit before.now }
     requires after_digits { AllPass is_ascii_digit after.now }
     requires room { max 1 (length before.now) + length after.now ≤ LANES }
-    ensures digits { take result.count result.values ≡ integer_of (digit_values before.now) ++ digit_values after.now }
+    ensures digits { take result.count result.values ≡ integer_of (digit_values before.now)
+        ++ digit_values after.now }
     ensures scale { result.scale ≡ length after.now }
     ensures valid { IsUnsigned (short_number result.values result.count result.scale) }
     ensures count { result.count ≤ LANES }
@@ -90,7 +92,8 @@ fn joined(lanes: [u8; LANES], integer: &[u8], fraction: &[u8]) -> ShortDigits
     requires integer_digits { AllPass is_ascii_digit integer.now }
     requires fraction_digits { AllPass is_ascii_digit fraction.now }
     requires room { length integer.now + length fraction.now ≤ LANES }
-    ensures digits { take result.count result.values ≡ integer_of (digit_values integer.now) ++ digit_values fraction.now }
+    ensures digits { take result.count result.values ≡ integer_of (digit_values integer.now)
+        ++ digit_values fraction.now }
     ensures scale { result.scale ≡ length fraction.now }
     ensures valid { IsUnsigned (short_number result.values result.count result.scale) }
     ensures count { result.count ≤ LANES }

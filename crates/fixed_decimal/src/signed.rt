@@ -37,7 +37,8 @@ impl Decimal {
 
     /// The digits of a whole number, without leading zeros; `Negative` below zero, else without a sign.
     pub fn from_i64(alloc: Global, value: i64) -> Result<Self, DecimalError>
-        ensures sign { IfOk result (λ d. MatchBool (int_lt value (pos 0)) (d.sign ≡ Sign.Negative) (d.sign ≡ Sign.None)) }
+        ensures sign { IfOk result (λ d.
+            MatchBool (int_lt value (pos 0)) (d.sign ≡ Sign.Negative) (d.sign ≡ Sign.None)) }
         ensures size { IfOk result (λ d. size d.absolute ≡ unsigned_abs value * ten_to (pos 0)) }
         ensures low { IfOk result (λ d. low d.absolute ≡ pos 0) }
         ensures high { IfOk result (λ d. high d.absolute ≡ magnitude_power (size d.absolute)) }
@@ -59,10 +60,12 @@ impl Decimal {
     /// `Limit` is judged before memory is asked for; after a refusal the value is as it was.
     pub fn multiply_pow10(&mut self, power: i16) -> Result<(), DecimalError>
         ensures moved { OnOk result (IsMoved self.old.absolute power self.new.absolute) }
-        ensures size { OnOk result (IsTimesTenTo power (size self.old.absolute) (size self.new.absolute)) }
+        ensures size { OnOk result
+            (IsTimesTenTo power (size self.old.absolute) (size self.new.absolute)) }
         ensures sign { self.new.sign ≡ self.old.sign }
         ensures valid { IsUnsigned self.new.absolute }
-        ensures limit { IsErrOf result DecimalError.Limit ↔ MovesPastLimits self.old.absolute power }
+        ensures limit { IsErrOf result DecimalError.Limit
+            ↔ MovesPastLimits self.old.absolute power }
         ensures no_syntax { ¬ (IsErrOf result DecimalError.Syntax) }
         ensures unchanged { OnErr result (self.new ≡ self.old) }
     {
@@ -76,8 +79,10 @@ impl Decimal {
     pub fn rounded(self, power: i16) -> Result<Self, (Self, DecimalError)>
         ensures rounded { IfOk result (λ y. IsRounded self.absolute power y.absolute) }
         ensures sign { IfOk result (λ y. y.sign ≡ self.sign) }
-        ensures valid { MatchResult result (λ y. IsUnsigned y.absolute) (λ e. IsUnsigned e.0.absolute) }
-        ensures limit { IsErrAnd result (λ e. e.1 ≡ DecimalError.Limit) ↔ RoundsPastLimits self.absolute power }
+        ensures valid { MatchResult result (λ y. IsUnsigned y.absolute) (λ e.
+            IsUnsigned e.0.absolute) }
+        ensures limit { IsErrAnd result (λ e. e.1 ≡ DecimalError.Limit)
+            ↔ RoundsPastLimits self.absolute power }
         ensures no_syntax { IfErr result (λ e. e.1 ≢ DecimalError.Syntax) }
         ensures handed_back { IfErr result (λ e. e.0 ≡ self) }
     {

@@ -6,6 +6,7 @@ use Rattle.std.proofs.lemmas.Bool.{false≢true}
 use Rattle.std.proofs.lemmas.Str.{IsUtf8-from_is_utf8, is_utf8-from_IsUtf8}
 use Rattle.talmuiga_c.specs.Asked.{text_in}
 
+-- bytes that fail the test are no text
 pub is_no_text : (bytes : List ℕ) → is_utf8 bytes ≡ false → ¬ (IsUtf8 bytes)
 is_no_text bytes e = λ text. absurd (false≢true (sym e ∙ is_utf8-from_IsUtf8 bytes text))
 
