@@ -11,8 +11,9 @@ use icu_decimal_data::GroupingSizes;
 /// At magnitudes above `upper` the rule of the sizes goes on; below 0 there are no separators.
 pub fn check(upper: i16, magnitude: i16, strategy: GroupingStrategy, sizes: GroupingSizes) -> bool
     // Exactly where the groups end one, other than the last, with the digit at the magnitude.
-    ensures groups { (digits : List ℕ) (m : ℕ) → pos (length digits) ≡ upper +ℤ pos 1 → magnitude ≡ pos m → m < length digits →
-        (IsTrue result ↔ EndsGroup (digit_groups digits sizes strategy) m) }
+    ensures groups { (digits : List ℕ) (m : ℕ) → pos (length digits) ≡ upper +ℤ pos 1
+        → magnitude ≡ pos m → m < length digits
+        → (IsTrue result ↔ EndsGroup (digit_groups digits sizes strategy) m) }
     ensures rule { IsTrue result ↔ HasSeparatorAfter upper magnitude strategy sizes }
 {
     let (Some(upper), Some(magnitude)) = (natural(upper), natural(magnitude)) else {
