@@ -1,7 +1,6 @@
 -- Values that are there or not, and what is read or refused, spelled without their implicit arguments.
 use Rattle.std.proofs.Common.{◌≡◌, ℕ, Option, Some, None, Result, Ok, Err}
 use Rattle.plural_conditions.specs.Grammar.{Condition}
-use Rattle.plural_conditions.specs.Reading.{or_fault}
 
 -- something, with its type told
 abbrev pub some : {A : Type 0} → A → Option A
@@ -26,8 +25,3 @@ some_is e = cc
 -- nothing is not something
 pub none_is : {A : Type 0} {t : A} → none ≡ some t → ⊥
 none_is e = absurd cc
-
--- what is read where more might have to follow is what was complete
-pub or_fault_ok : (o : Option Condition) (p : ℕ) (c : Condition) → or_fault o p ≡ done c → o ≡ Some c
-or_fault_ok (Some x) p c e = cc
-or_fault_ok None p c e = absurd cc

@@ -1,38 +1,37 @@
 -- A reading stops at the first token that can't stand there.
-use Rattle.std.proofs.Common.{◌≡◌, ℕ, zero, suc, ◌<◌, ◌≤◌, List, [], ◌∷◌, ◌++◌, map, take, length, Option, Some, None, Result, Ok, Err, refl, sym, ap, ◌∙◌, arith}
+use Rattle.std.proofs.Common.{◌≡◌, ℕ, zero, suc, ◌<◌, ◌≤◌, List, [], ◌∷◌, ◌++◌, Bool, true, false, map, take, length, Option, Some, None, Ok, Err, refl, sym, ap, ◌∙◌, arith}
 use Rattle.plural_conditions.specs.declared.condition.Operand.TheVariants.{N}
 use Rattle.plural_conditions.specs.declared.lexer.Token.{Token}
 use Rattle.plural_conditions.specs.declared.lexer.Token.TheVariants.{Letter, Number, Equals}
 use Rattle.plural_conditions.specs.Grammar.{Condition, Placed, kinds, place_at, IsFirstFault}
-use Rattle.plural_conditions.specs.Reading.{State, nothing, joined, subject, divided, reduced, listed, valued, ranged, ended, step, finish, or_fault, reading_from, reading}
-use Rattle.plural_conditions.proofs.WellFormed.{read_is_well_formed}
-use Rattle.plural_conditions.proofs.Spelled.{read_is_spelled}
-use Rattle.plural_conditions.proofs.Accepted.{next_reads, spelled_is_read}
+use Rattle.plural_conditions.specs.declared.progress.Progress.{Progress}
+use Rattle.plural_conditions.specs.declared.progress.Progress.TheVariants.{Nothing, Joined, Subject, Divided, Reduced, Listed, Valued, Ranged, Ended}
+use Rattle.plural_conditions.specs.Drafts.{Drafted, empty_draft, with_token, completed}
+use Rattle.plural_conditions.specs.Reading.{next_progress, may_end, reading_from, reading}
+use Rattle.plural_conditions.proofs.Spelled.{read_is_well_formed, read_is_spelled}
+use Rattle.plural_conditions.proofs.Accepted.{spelled_is_read}
 use Rattle.plural_conditions.proofs.Answered.{done, fault}
+use Rattle.plural_conditions.proofs.Steps.{goes_on, stuck, at_end, ended}
 
--- any state can go on to a condition
-completed : (end : ℕ) (s : State) → (more : List Placed) × (c : Condition) × (reading_from end s more ≡ Ok c)
+-- however it ends, what was read can go on to a condition
+completes : (end : ℕ) (g : Progress) (d : Drafted) → (more : List Placed) × (c : Condition) × (reading_from end g d more ≡ Ok c)
 unfolding reading_from
-completed end nothing = ([], _, refl)
-completed end (joined p) = ((0, Letter N) ∷ (0, Equals) ∷ (0, Number 0) ∷ [], _, refl)
-completed end (subject p o) = ((0, Equals) ∷ (0, Number 0) ∷ [], _, refl)
-completed end (divided p o) = ((0, Number 1) ∷ (0, Equals) ∷ (0, Number 0) ∷ [], _, refl)
-completed end (reduced p o m) = ((0, Equals) ∷ (0, Number 0) ∷ [], _, refl)
-completed end (listed p o m d xs) = ((0, Number 0) ∷ [], _, refl)
-completed end (valued p o m d xs a) = ([], _, refl)
-completed end (ranged p o m d xs a) = ((0, Number 0) ∷ [], _, refl)
-completed end (ended p o m d xs x) = ([], _, refl)
+completes end Nothing d = ([], _, refl)
+completes end Joined d = ((0, Letter N) ∷ (0, Equals) ∷ (0, Number 0) ∷ [], _, refl)
+completes end Subject d = ((0, Equals) ∷ (0, Number 0) ∷ [], _, refl)
+completes end Divided d = ((0, Number 1) ∷ (0, Equals) ∷ (0, Number 0) ∷ [], _, refl)
+completes end Reduced d = ((0, Equals) ∷ (0, Number 0) ∷ [], _, refl)
+completes end Listed d = ((0, Number 0) ∷ [], _, refl)
+completes end Valued d = ([], _, refl)
+completes end Ranged d = ((0, Number 0) ∷ [], _, refl)
+completes end Ended d = ([], _, refl)
 
-record Stops (end : ℕ) (s : State) (ts : List Placed) (byte : ℕ) : Type 0 where
+record Stops (end : ℕ) (g : Progress) (d : Drafted) (ts : List Placed) (byte : ℕ) : Type 0 where
   count : ℕ
   within : count ≤ length ts
   place : byte ≡ place_at end ts count
-  before : (more : List Placed) × (c : Condition) × (reading_from end s (take count ts ++ more) ≡ Ok c)
-  after : count < length ts → (more : List Placed) (c : Condition) → reading_from end s (take (suc count) ts ++ more) ≡ Ok c → ⊥
-
-stuck : (end : ℕ) (s : State) (t : Placed) (ts : List Placed) → step s t.1 ≡ None → reading_from end s (t ∷ ts) ≡ Err t.0
-unfolding reading_from
-stuck end s t ts h = ap (λ (o : Option State). elim o as (λ _. Result Condition ℕ) [ None ↦ Err t.0 | Some n ↦ reading_from end n ts ]) h
+  before : (more : List Placed) × (c : Condition) × (reading_from end g d (take count ts ++ more) ≡ Ok c)
+  after : count < length ts → (more : List Placed) (c : Condition) → reading_from end g d (take (suc count) ts ++ more) ≡ Ok c → ⊥
 
 err_is : (a b : ℕ) → fault a ≡ fault b → a ≡ b
 err_is a b e = cc
@@ -40,42 +39,39 @@ err_is a b e = cc
 no_ok : (a : ℕ) (c : Condition) → fault a ≡ done c → ⊥
 no_ok a c e = absurd cc
 
-finish_none : (o : Option Condition) (p byte : ℕ) → or_fault o p ≡ fault byte → byte ≡ p
-finish_none None p byte e = cc
-finish_none (Some c) p byte e = absurd cc
+end_is : (b : Bool) (c : Condition) (end byte : ℕ) → ended b c end ≡ fault byte → byte ≡ end
+end_is true c end byte e = absurd cc
+end_is false c end byte e = cc
 
-ended_at : (end : ℕ) (s : State) (byte : ℕ) → reading_from end s [] ≡ fault byte → byte ≡ end
-unfolding reading_from
-ended_at end s byte e = finish_none (finish s) end byte e
-
-next_stops : (end : ℕ) (s : State) (t : Placed) (ts : List Placed) (byte : ℕ) → ((n : State) → reading_from end n ts ≡ fault byte → Stops end n ts byte)
-    → reading_from end s (t ∷ ts) ≡ fault byte → (o : Option State) → step s t.1 ≡ o → Stops end s (t ∷ ts) byte
-next_stops end s t ts byte rest e None q = record {
+next_stops : (end : ℕ) (g : Progress) (d : Drafted) (t : Placed) (ts : List Placed) (byte : ℕ) → ((n : Progress) (e : Drafted) → reading_from end n e ts ≡ fault byte → Stops end n e ts byte)
+    → reading_from end g d (t ∷ ts) ≡ fault byte → (o : Option Progress) → next_progress g t.1 ≡ o → Stops end g d (t ∷ ts) byte
+next_stops end g d t ts byte rest e None q = record {
   count = 0;
   within = omega arith;
-  place = err_is byte t.0 (sym e ∙ stuck end s t ts q);
-  before = completed end s;
-  after = λ lt more c k. no_ok t.0 c (sym (stuck end s t more q) ∙ k);
+  place = err_is byte t.0 (sym e ∙ stuck end g d t ts q);
+  before = completes end g d;
+  after = λ lt more c k. no_ok t.0 c (sym (stuck end g d t more q) ∙ k);
 }
-next_stops end s t ts byte rest e (Some n) q =
-    let r : Stops end n ts byte = rest n (sym (next_reads end s n t ts q) ∙ e) in
+next_stops end g d t ts byte rest e (Some n) q =
+    let d' = with_token g t.1 d in
+    let r : Stops end n d' ts byte = rest n d' (sym (goes_on end g n d t ts q) ∙ e) in
     record {
       count = suc r.count;
       within = omega (arith, r.within);
       place = r.place;
-      before = (r.before.0, r.before.1, next_reads end s n t (take r.count ts ++ r.before.0) q ∙ r.before.2);
-      after = λ lt more c k. r.after (omega (arith, lt)) more c (sym (next_reads end s n t (take (suc r.count) ts ++ more) q) ∙ k);
+      before = (r.before.0, r.before.1, goes_on end g n d t (take r.count ts ++ r.before.0) q ∙ r.before.2);
+      after = λ lt more c k. r.after (omega (arith, lt)) more c (sym (goes_on end g n d t (take (suc r.count) ts ++ more) q) ∙ k);
     }
 
-stops : (end : ℕ) (s : State) (ts : List Placed) (byte : ℕ) → reading_from end s ts ≡ fault byte → Stops end s ts byte
-stops end s [] byte e = record {
+stops : (end : ℕ) (g : Progress) (d : Drafted) (ts : List Placed) (byte : ℕ) → reading_from end g d ts ≡ fault byte → Stops end g d ts byte
+stops end g d [] byte e = record {
   count = 0;
   within = omega arith;
-  place = ended_at end s byte e;
-  before = completed end s;
+  place = end_is (may_end g) (completed g d) end byte (sym (at_end end g d) ∙ e);
+  before = completes end g d;
   after = λ lt. absurd (omega (arith, lt));
 }
-stops end s (t ∷ ts) byte e = next_stops end s t ts byte (λ n k. stops end n ts byte k) e (step s t.1) refl
+stops end g d (t ∷ ts) byte e = next_stops end g d t ts byte (λ n e' k. stops end n e' ts byte k) e (next_progress g t.1) refl
 
 kinds-append : (xs ys : List Placed) → kinds (xs ++ ys) ≡ kinds xs ++ kinds ys
 kinds-append [] ys = refl
@@ -98,7 +94,7 @@ kinds-placed (k ∷ ks) = ap (λ (l : List Token). k ∷ l) (kinds-placed ks)
 pub first_fault : (end : ℕ) (ts : List Placed) (byte : ℕ) → reading end ts ≡ Err byte → IsFirstFault end ts byte
 unfolding reading
 first_fault end ts byte e =
-    let r = stops end nothing ts byte e in
+    let r = stops end Nothing empty_draft ts byte e in
     let b = r.before in
     record {
       count = r.count;

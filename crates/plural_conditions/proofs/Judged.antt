@@ -6,8 +6,7 @@ use Rattle.plural_conditions.specs.declared.lexer.Token.{Token}
 use Rattle.plural_conditions.specs.Tokens.{part_of}
 use Rattle.plural_conditions.specs.Grammar.{Condition, IsWellFormed, tokens_of, Placed, kinds, place_at, text_tokens, IsTextOf, IsConditionText, Begins, IsFirstFault, IsTextFault}
 use Rattle.plural_conditions.specs.Reading.{condition_of, fault_byte}
-use Rattle.plural_conditions.proofs.WellFormed.{read_is_well_formed}
-use Rattle.plural_conditions.proofs.Spelled.{read_is_spelled}
+use Rattle.plural_conditions.proofs.Spelled.{read_is_well_formed, read_is_spelled}
 use Rattle.plural_conditions.proofs.Accepted.{spelled_is_read}
 use Rattle.plural_conditions.proofs.Faults.{first_fault}
 use Rattle.plural_conditions.proofs.Answered.{some, none, done, fault, some_is, none_is}

@@ -1,11 +1,10 @@
 pub mod Answered
-pub mod WellFormed
+pub mod Moves
+pub mod Steps
 pub mod Accepted
 pub mod Faults
 pub mod Spelled
 pub mod Digits
 pub mod Runs
 pub mod Fronts
-pub mod Progressing
-pub mod Drafting
 pub mod Judged

@@ -1,190 +1,222 @@
--- The tokens that a state has read, and that what is read is spelled so.
-use Rattle.std.proofs.Common.{◌≡◌, ℕ, zero, suc, List, [], ◌∷◌, ◌++◌, Bool, Option, Some, None, Ok, refl, sym, ap, ◌∙◌, append_assoc}
-use Rattle.std.specs.List.{flat_map}
+-- What is read is well formed, and spelled by the tokens.
+use Rattle.std.proofs.Common.{◌≡◌, ◌≢◌, ℕ, ◌<◌, List, [], ◌∷◌, ◌++◌, Bool, true, false, Option, Some, None, Ok, refl, sym, ap, ◌∙◌, append_assoc, arith}
+use Rattle.std.specs.Prelude.{IfSome}
+use Rattle.std.specs.List.{flat_map, AllByRecursion}
 use Rattle.std.proofs.lemmas.List.{append-nil}
 use Rattle.std.proofs.lemmas.List.Concat.{flat_map-append}
-use Rattle.plural_conditions.specs.declared.condition.Operand.{Operand}
 use Rattle.plural_conditions.specs.declared.condition.Item.{Item}
 use Rattle.plural_conditions.specs.declared.condition.Item.TheVariants.{Value}
 use Rattle.plural_conditions.specs.declared.lexer.Token.{Token}
-use Rattle.plural_conditions.specs.declared.lexer.Token.TheVariants.{Letter, And, Or, Number, Percent, Equals, NotEquals, Comma, Dots, Unknown}
-use Rattle.plural_conditions.specs.Grammar.{Relation, Condition, separated, item_tokens, modulus_tokens, sign_of, relation_tokens, tokens_of, Placed, kinds}
-use Rattle.plural_conditions.specs.Reading.{Part, State, nothing, joined, subject, divided, reduced, listed, valued, ranged, ended, made, also, instead, finished, empty_part, expects_operand, after_subject, expects_modulus, expects_sign, expects_value, after_value, after_item, expects_end, step, finish, reading_from, reading}
-use Rattle.plural_conditions.proofs.Answered.{done, fault, some_is, none_is, or_fault_ok}
+use Rattle.plural_conditions.specs.declared.lexer.Token.TheVariants.{Letter, And, Or, Number, Percent, Comma, Dots}
+use Rattle.plural_conditions.specs.declared.progress.Progress.{Progress}
+use Rattle.plural_conditions.specs.declared.progress.Progress.TheVariants.{Nothing, Joined, Subject, Divided, Reduced, Listed, Valued, Ranged, Ended}
+use Rattle.plural_conditions.specs.Grammar.{Relation, IsRelation, IsWellFormed, Condition, separated, item_tokens, modulus_tokens, sign_of, relation_tokens, tokens_of, Placed, kinds}
+use Rattle.plural_conditions.specs.Drafts.{Drafted, last_relation, with_relation, with_alternative, first_of, with_token, completed, empty_draft}
+use Rattle.plural_conditions.specs.Reading.{next_progress, may_end, reading_from, reading}
+use Rattle.plural_conditions.proofs.Answered.{done}
+use Rattle.plural_conditions.proofs.Moves.{EachMove, by_move}
+use Rattle.plural_conditions.proofs.Steps.{ended_ok, read_on}
+
+-- ---- well formed
+
+-- whole alternatives and relations are well formed
+abbrev IsPart : Condition → List Relation → Type 0
+IsPart alternatives relations = IsWellFormed alternatives × AllByRecursion IsRelation relations
+
+abbrev IsModulus : Option ℕ → Type 0
+IsModulus m = IfSome m (λ n. 0 < n)
+
+-- what is read is well formed, and what isn't read yet is empty
+abbrev IsDraft : Progress → Drafted → Type 0
+IsDraft Nothing d = (d.alternatives ≡ []) × (d.relations ≡ []) × (d.items ≡ [])
+IsDraft Joined d = IsPart d.alternatives d.relations × (d.items ≡ [])
+IsDraft Subject d = IsPart d.alternatives d.relations × (d.items ≡ []) × (d.modulus ≡ None)
+IsDraft Divided d = IsPart d.alternatives d.relations × (d.items ≡ [])
+IsDraft Reduced d = IsPart d.alternatives d.relations × (d.items ≡ []) × IsModulus d.modulus
+IsDraft Listed d = IsPart d.alternatives d.relations × IsModulus d.modulus
+IsDraft Valued d = IsPart d.alternatives d.relations × IsModulus d.modulus × (d.item ≡ Value (first_of d.item))
+IsDraft Ranged d = IsPart d.alternatives d.relations × IsModulus d.modulus
+IsDraft Ended d = IsPart d.alternatives d.relations × IsModulus d.modulus
+
+all_push : {A : Type 0} (P : A → Type 0) (xs : List A) (x : A) → AllByRecursion P xs → P x → AllByRecursion P (xs ++ x ∷ [])
+all_push P [] x h k = (k, tt)
+all_push P (y ∷ ys) x h k = (h.0, all_push P ys x h.1 k)
+
+not_empty : {A : Type 0} (xs : List A) (x : A) → xs ++ x ∷ [] ≢ []
+not_empty [] x = λ e. absurd cc
+not_empty (y ∷ ys) x = λ e. absurd cc
+
+relations_are : (d : Drafted) → AllByRecursion IsRelation d.relations → IsModulus d.modulus → AllByRecursion IsRelation (d.relations ++ last_relation d ∷ [])
+relations_are d h m = all_push IsRelation d.relations (last_relation d) h (record { modulus = m; items = not_empty d.items d.item })
+
+is_finished : (d : Drafted) → IsPart d.alternatives d.relations → IsModulus d.modulus → IsWellFormed (with_alternative d).alternatives
+is_finished d h m = all_push (λ rs. (rs ≢ []) × AllByRecursion IsRelation rs) d.alternatives (d.relations ++ last_relation d ∷ []) h.0 (not_empty d.relations (last_relation d), relations_are d h.1 m)
+
+and_keeps : (d : Drafted) → IsPart d.alternatives d.relations → IsModulus d.modulus → IsDraft Joined (with_relation d)
+and_keeps d h m = ((h.0, relations_are d h.1 m), refl)
+
+or_keeps : (d : Drafted) → IsPart d.alternatives d.relations → IsModulus d.modulus → IsDraft Joined (with_alternative d)
+or_keeps d h m = ((is_finished d h m, tt), refl)
+
+no_part : (d : Drafted) → d.alternatives ≡ [] → d.relations ≡ [] → IsPart d.alternatives d.relations
+no_part d h k = rw (h, k) (tt, tt)
+
+no_modulus : (m : Option ℕ) → m ≡ None → IsModulus m
+no_modulus m h = rw h tt
+
+keeps : EachMove (λ g t n. (d : Drafted) → IsDraft g d → IsDraft n (with_token g t d))
+keeps = record {
+  first = λ o d h. (no_part d h.0 h.1, h.2, refl);
+  next = λ o d h. (h.0, h.1, refl);
+  percent = λ d h. (h.0, h.1);
+  equals = λ d h. (h.0, no_modulus d.modulus h.2);
+  differs = λ d h. (h.0, no_modulus d.modulus h.2);
+  modulus = λ n d h. (h.0, h.1, omega arith);
+  reduced_equals = λ d h. (h.0, h.2);
+  reduced_differs = λ d h. (h.0, h.2);
+  value = λ n d h. (h.0, h.1, refl);
+  dots = λ d h. (h.0, h.1);
+  value_comma = λ d h. (h.0, h.1);
+  value_and = λ d h. and_keeps d h.0 h.1;
+  value_or = λ d h. or_keeps d h.0 h.1;
+  range = λ n d h. h;
+  range_comma = λ d h. h;
+  range_and = λ d h. and_keeps d h.0 h.1;
+  range_or = λ d h. or_keeps d h.0 h.1;
+}
+
+-- ---- spelled
 
 -- parts, each with a token after it
-abbrev pub followed : {A : Type 0} → Token → (A → List Token) → List A → List Token
+abbrev followed : {A : Type 0} → Token → (A → List Token) → List A → List Token
 followed between f xs = flat_map (λ x. f x ++ between ∷ []) xs
 
-pub followed-push : {A : Type 0} (between : Token) (f : A → List Token) (xs : List A) (x : A) → followed between f (xs ++ x ∷ []) ≡ followed between f xs ++ (f x ++ between ∷ [])
+followed-push : {A : Type 0} (between : Token) (f : A → List Token) (xs : List A) (x : A) → followed between f (xs ++ x ∷ []) ≡ followed between f xs ++ (f x ++ between ∷ [])
 followed-push between f xs x = flat_map-append (λ x. f x ++ between ∷ []) xs (x ∷ []) ∙ ap (λ (k : List Token). followed between f xs ++ k) (append-nil (f x ++ between ∷ []))
 
-pub separated-push : {A : Type 0} (between : Token) (f : A → List Token) (xs : List A) (x : A) → separated between f (xs ++ x ∷ []) ≡ followed between f xs ++ f x
+separated-push : {A : Type 0} (between : Token) (f : A → List Token) (xs : List A) (x : A) → separated between f (xs ++ x ∷ []) ≡ followed between f xs ++ f x
 separated-push between f [] x = refl
 separated-push between f (y ∷ []) x = simp append_assoc
 separated-push between f (y ∷ z ∷ ys) x = rw (separated-push between f (z ∷ ys) x) (simp append_assoc)
 
-abbrev pub part_tokens : Part → List Token
-part_tokens p = followed Or (separated And relation_tokens) p.alternatives ++ followed And relation_tokens p.relations
+abbrev part_tokens : Drafted → List Token
+part_tokens d = followed Or (separated And relation_tokens) d.alternatives ++ followed And relation_tokens d.relations
 
-abbrev pub list_tokens : Part → Operand → Option ℕ → Bool → List Item → List Token
-list_tokens p o m d xs = part_tokens p ++ (Letter o ∷ (modulus_tokens m ++ sign_of d ∷ followed Comma item_tokens xs))
+abbrev list_tokens : Drafted → List Token
+list_tokens d = part_tokens d ++ (Letter d.subject ∷ (modulus_tokens d.modulus ++ sign_of d.denied ∷ followed Comma item_tokens d.items))
 
-abbrev pub written : State → List Token
-written nothing = []
-written (joined p) = part_tokens p
-written (subject p o) = part_tokens p ++ Letter o ∷ []
-written (divided p o) = part_tokens p ++ Letter o ∷ Percent ∷ []
-written (reduced p o m) = part_tokens p ++ Letter o ∷ Percent ∷ Number m ∷ []
-written (listed p o m d xs) = list_tokens p o m d xs
-written (valued p o m d xs a) = list_tokens p o m d xs ++ Number a ∷ []
-written (ranged p o m d xs a) = list_tokens p o m d xs ++ Number a ∷ Dots ∷ []
-written (ended p o m d xs x) = list_tokens p o m d xs ++ item_tokens x
+-- the tokens that have been read
+abbrev written : Progress → Drafted → List Token
+written Nothing d = []
+written Joined d = part_tokens d
+written Subject d = part_tokens d ++ Letter d.subject ∷ []
+written Divided d = part_tokens d ++ Letter d.subject ∷ Percent ∷ []
+written Reduced d = part_tokens d ++ Letter d.subject ∷ modulus_tokens d.modulus
+written Listed d = list_tokens d
+written Valued d = list_tokens d ++ Number (first_of d.item) ∷ []
+written Ranged d = list_tokens d ++ Number (first_of d.item) ∷ Dots ∷ []
+written Ended d = list_tokens d ++ item_tokens d.item
 
 -- a relation with its last item
-relation_ends : (p : Part) (o : Operand) (m : Option ℕ) (d : Bool) (xs : List Item) (x : Item) → list_tokens p o m d xs ++ item_tokens x ≡ part_tokens p ++ relation_tokens (made o m d (xs ++ x ∷ []))
-relation_ends p o m d xs x = rw (separated-push Comma item_tokens xs x) (simp append_assoc)
+relation_ends : (d : Drafted) → list_tokens d ++ item_tokens d.item ≡ part_tokens d ++ relation_tokens (last_relation d)
+relation_ends d = rw (separated-push Comma item_tokens d.items d.item) (simp append_assoc)
 
-also_tokens : (p : Part) (r : Relation) → part_tokens (also p r) ≡ (part_tokens p ++ relation_tokens r) ++ And ∷ []
-also_tokens p r = rw (followed-push And relation_tokens p.relations r) (simp append_assoc)
+finished_tokens : (d : Drafted) → tokens_of (with_alternative d).alternatives ≡ part_tokens d ++ relation_tokens (last_relation d)
+finished_tokens d =
+    separated-push Or (separated And relation_tokens) d.alternatives (d.relations ++ last_relation d ∷ []) ∙ rw (separated-push And relation_tokens d.relations (last_relation d)) (simp append_assoc)
 
-finished_tokens : (p : Part) (r : Relation) → tokens_of (finished p r) ≡ part_tokens p ++ relation_tokens r
-finished_tokens p r =
-    separated-push Or (separated And relation_tokens) p.alternatives (p.relations ++ r ∷ []) ∙ rw (separated-push And relation_tokens p.relations r) (simp append_assoc)
+and_writes : (d : Drafted) → part_tokens (with_relation d) ≡ (list_tokens d ++ item_tokens d.item) ++ And ∷ []
+and_writes d = rw (relation_ends d, followed-push And relation_tokens d.relations (last_relation d)) (simp append_assoc)
 
-instead_tokens : (p : Part) (r : Relation) → part_tokens (instead p r) ≡ (part_tokens p ++ relation_tokens r) ++ Or ∷ []
-instead_tokens p r = append-nil _ ∙ followed-push Or (separated And relation_tokens) p.alternatives (p.relations ++ r ∷ []) ∙ rw (separated-push And relation_tokens p.relations r) (simp append_assoc)
+or_writes : (d : Drafted) → part_tokens (with_alternative d) ≡ (list_tokens d ++ item_tokens d.item) ++ Or ∷ []
+or_writes d =
+    append-nil _ ∙ followed-push Or (separated And relation_tokens) d.alternatives (d.relations ++ last_relation d ∷ [])
+    ∙ rw (relation_ends d, separated-push And relation_tokens d.relations (last_relation d)) (simp append_assoc)
 
-operand_writes : (p : Part) (t : Token) (next : State) → expects_operand p t ≡ Some next → written next ≡ part_tokens p ++ t ∷ []
-operand_writes p (Letter k) next e = rw (← some_is e) refl
-operand_writes p And next e = absurd (none_is e)
-operand_writes p Or next e = absurd (none_is e)
-operand_writes p (Number k) next e = absurd (none_is e)
-operand_writes p Percent next e = absurd (none_is e)
-operand_writes p Equals next e = absurd (none_is e)
-operand_writes p NotEquals next e = absurd (none_is e)
-operand_writes p Comma next e = absurd (none_is e)
-operand_writes p Dots next e = absurd (none_is e)
-operand_writes p Unknown next e = absurd (none_is e)
+comma_writes : (d : Drafted) → list_tokens (record d { items = d.items ++ d.item ∷ [] }) ≡ (list_tokens d ++ item_tokens d.item) ++ Comma ∷ []
+comma_writes d = rw (followed-push Comma item_tokens d.items d.item) (simp append_assoc)
 
-subject_writes : (p : Part) (o : Operand) (t : Token) (next : State) → after_subject p o t ≡ Some next → written next ≡ (part_tokens p ++ Letter o ∷ []) ++ t ∷ []
-subject_writes p o (Letter k) next e = absurd (none_is e)
-subject_writes p o And next e = absurd (none_is e)
-subject_writes p o Or next e = absurd (none_is e)
-subject_writes p o (Number k) next e = absurd (none_is e)
-subject_writes p o Percent next e = rw (← some_is e) (simp append_assoc)
-subject_writes p o Equals next e = rw (← some_is e) (simp append_assoc)
-subject_writes p o NotEquals next e = rw (← some_is e) (simp append_assoc)
-subject_writes p o Comma next e = absurd (none_is e)
-subject_writes p o Dots next e = absurd (none_is e)
-subject_writes p o Unknown next e = absurd (none_is e)
+-- a value is its item
+value_is : (d : Drafted) (t : Token) → d.item ≡ Value (first_of d.item) → (list_tokens d ++ item_tokens d.item) ++ t ∷ [] ≡ (list_tokens d ++ Number (first_of d.item) ∷ []) ++ t ∷ []
+value_is d t h = ap (λ (x : Item). (list_tokens d ++ item_tokens x) ++ t ∷ []) h
 
-modulus_writes : (p : Part) (o : Operand) (t : Token) (next : State) → expects_modulus p o t ≡ Some next → written next ≡ (part_tokens p ++ Letter o ∷ Percent ∷ []) ++ t ∷ []
-modulus_writes p o (Letter k) next e = absurd (none_is e)
-modulus_writes p o And next e = absurd (none_is e)
-modulus_writes p o Or next e = absurd (none_is e)
-modulus_writes p o (Number zero) next e = absurd (none_is e)
-modulus_writes p o (Number (suc k)) next e = rw (← some_is e) (simp append_assoc)
-modulus_writes p o Percent next e = absurd (none_is e)
-modulus_writes p o Equals next e = absurd (none_is e)
-modulus_writes p o NotEquals next e = absurd (none_is e)
-modulus_writes p o Comma next e = absurd (none_is e)
-modulus_writes p o Dots next e = absurd (none_is e)
-modulus_writes p o Unknown next e = absurd (none_is e)
+-- a sign behind an operand, and behind a modulus
+sign_writes : (b : Bool) (d : Drafted) → d.items ≡ [] → list_tokens (record d { denied = b }) ≡ (part_tokens d ++ Letter d.subject ∷ modulus_tokens d.modulus) ++ sign_of b ∷ []
+sign_writes b d h = rw h (simp append_assoc)
 
-sign_writes : (p : Part) (o : Operand) (m : ℕ) (t : Token) (next : State) → expects_sign p o (Some m) t ≡ Some next → written next ≡ (part_tokens p ++ Letter o ∷ Percent ∷ Number m ∷ []) ++ t ∷ []
-sign_writes p o m (Letter k) next e = absurd (none_is e)
-sign_writes p o m And next e = absurd (none_is e)
-sign_writes p o m Or next e = absurd (none_is e)
-sign_writes p o m (Number k) next e = absurd (none_is e)
-sign_writes p o m Percent next e = absurd (none_is e)
-sign_writes p o m Equals next e = rw (← some_is e) (simp append_assoc)
-sign_writes p o m NotEquals next e = rw (← some_is e) (simp append_assoc)
-sign_writes p o m Comma next e = absurd (none_is e)
-sign_writes p o m Dots next e = absurd (none_is e)
-sign_writes p o m Unknown next e = absurd (none_is e)
+plain_sign_writes : (b : Bool) (d : Drafted) → d.items ≡ [] → d.modulus ≡ None → list_tokens (record d { denied = b }) ≡ (part_tokens d ++ Letter d.subject ∷ []) ++ sign_of b ∷ []
+plain_sign_writes b d h k = sign_writes b d h ∙ ap (λ (m : Option ℕ). (part_tokens d ++ Letter d.subject ∷ modulus_tokens m) ++ sign_of b ∷ []) k
 
-value_writes : (p : Part) (o : Operand) (m : Option ℕ) (d : Bool) (xs : List Item) (t : Token) (next : State) → expects_value p o m d xs t ≡ Some next → written next ≡ list_tokens p o m d xs ++ t ∷ []
-value_writes p o m d xs (Letter k) next e = absurd (none_is e)
-value_writes p o m d xs And next e = absurd (none_is e)
-value_writes p o m d xs Or next e = absurd (none_is e)
-value_writes p o m d xs (Number k) next e = rw (← some_is e) refl
-value_writes p o m d xs Percent next e = absurd (none_is e)
-value_writes p o m d xs Equals next e = absurd (none_is e)
-value_writes p o m d xs NotEquals next e = absurd (none_is e)
-value_writes p o m d xs Comma next e = absurd (none_is e)
-value_writes p o m d xs Dots next e = absurd (none_is e)
-value_writes p o m d xs Unknown next e = absurd (none_is e)
+writes : EachMove (λ g t n. (d : Drafted) → IsDraft g d → written n (with_token g t d) ≡ written g d ++ t ∷ [])
+writes = record {
+  first = λ o d h. rw (h.0, h.1) refl;
+  next = λ o d h. refl;
+  percent = λ d h. simp append_assoc;
+  equals = λ d h. plain_sign_writes false d h.1 h.2;
+  differs = λ d h. plain_sign_writes true d h.1 h.2;
+  modulus = λ n d h. simp append_assoc;
+  reduced_equals = λ d h. sign_writes false d h.1;
+  reduced_differs = λ d h. sign_writes true d h.1;
+  value = λ n d h. refl;
+  dots = λ d h. simp append_assoc;
+  value_comma = λ d h. comma_writes d ∙ value_is d Comma h.2;
+  value_and = λ d h. and_writes d ∙ value_is d And h.2;
+  value_or = λ d h. or_writes d ∙ value_is d Or h.2;
+  range = λ n d h. simp append_assoc;
+  range_comma = λ d h. comma_writes d;
+  range_and = λ d h. and_writes d;
+  range_or = λ d h. or_writes d;
+}
 
-end_writes : (p : Part) (o : Operand) (m : Option ℕ) (d : Bool) (xs : List Item) (a : ℕ) (t : Token) (next : State) → expects_end p o m d xs a t ≡ Some next → written next ≡ (list_tokens p o m d xs ++ Number a ∷ Dots ∷ []) ++ t ∷ []
-end_writes p o m d xs a (Letter k) next e = absurd (none_is e)
-end_writes p o m d xs a And next e = absurd (none_is e)
-end_writes p o m d xs a Or next e = absurd (none_is e)
-end_writes p o m d xs a (Number k) next e = rw (← some_is e) (simp append_assoc)
-end_writes p o m d xs a Percent next e = absurd (none_is e)
-end_writes p o m d xs a Equals next e = absurd (none_is e)
-end_writes p o m d xs a NotEquals next e = absurd (none_is e)
-end_writes p o m d xs a Comma next e = absurd (none_is e)
-end_writes p o m d xs a Dots next e = absurd (none_is e)
-end_writes p o m d xs a Unknown next e = absurd (none_is e)
+-- ---- both, to the end
 
-item_writes : (p : Part) (o : Operand) (m : Option ℕ) (d : Bool) (xs : List Item) (x : Item) (t : Token) (next : State) → after_item p o m d xs x t ≡ Some next → written next ≡ (list_tokens p o m d xs ++ item_tokens x) ++ t ∷ []
-item_writes p o m d xs x (Letter k) next e = absurd (none_is e)
-item_writes p o m d xs x And next e = rw (← some_is e, also_tokens p (made o m d (xs ++ x ∷ []))) (ap (λ (k : List Token). k ++ And ∷ []) (sym (relation_ends p o m d xs x)))
-item_writes p o m d xs x Or next e = rw (← some_is e, instead_tokens p (made o m d (xs ++ x ∷ []))) (ap (λ (k : List Token). k ++ Or ∷ []) (sym (relation_ends p o m d xs x)))
-item_writes p o m d xs x (Number k) next e = absurd (none_is e)
-item_writes p o m d xs x Percent next e = absurd (none_is e)
-item_writes p o m d xs x Equals next e = absurd (none_is e)
-item_writes p o m d xs x NotEquals next e = absurd (none_is e)
-item_writes p o m d xs x Comma next e = rw (← some_is e) (rw (followed-push Comma item_tokens xs x) (simp append_assoc))
-item_writes p o m d xs x Dots next e = absurd (none_is e)
-item_writes p o m d xs x Unknown next e = absurd (none_is e)
+-- the condition is well formed and spelled by the tokens read and those that are left
+record Spells (g : Progress) (d : Drafted) (ts : List Placed) (c : Condition) : Type 0 where
+  well_formed : IsWellFormed c
+  spelled : written g d ++ kinds ts ≡ tokens_of c
 
-after_value_writes : (p : Part) (o : Operand) (m : Option ℕ) (d : Bool) (xs : List Item) (a : ℕ) (t : Token) (next : State) → after_value p o m d xs a t ≡ Some next → written next ≡ (list_tokens p o m d xs ++ Number a ∷ []) ++ t ∷ []
-after_value_writes p o m d xs a (Letter k) next e = item_writes p o m d xs (Value a) (Letter k) next e
-after_value_writes p o m d xs a And next e = item_writes p o m d xs (Value a) And next e
-after_value_writes p o m d xs a Or next e = item_writes p o m d xs (Value a) Or next e
-after_value_writes p o m d xs a (Number k) next e = item_writes p o m d xs (Value a) (Number k) next e
-after_value_writes p o m d xs a Percent next e = item_writes p o m d xs (Value a) Percent next e
-after_value_writes p o m d xs a Equals next e = item_writes p o m d xs (Value a) Equals next e
-after_value_writes p o m d xs a NotEquals next e = item_writes p o m d xs (Value a) NotEquals next e
-after_value_writes p o m d xs a Comma next e = item_writes p o m d xs (Value a) Comma next e
-after_value_writes p o m d xs a Dots next e = rw (← some_is e) (simp append_assoc)
-after_value_writes p o m d xs a Unknown next e = item_writes p o m d xs (Value a) Unknown next e
+finished : (g : Progress) (d : Drafted) → IsDraft g d → may_end g ≡ true → Spells g d [] (completed g d)
+finished Nothing d h e = record { well_formed = rw h.0 tt; spelled = rw h.0 refl }
+finished Joined d h e = absurd cc
+finished Subject d h e = absurd cc
+finished Divided d h e = absurd cc
+finished Reduced d h e = absurd cc
+finished Listed d h e = absurd cc
+finished Valued d h e = record {
+  well_formed = is_finished d h.0 h.1;
+  spelled = append-nil _ ∙ sym (ap (λ (x : Item). list_tokens d ++ item_tokens x) h.2) ∙ relation_ends d ∙ sym (finished_tokens d);
+}
+finished Ranged d h e = absurd cc
+finished Ended d h e = record { well_formed = is_finished d h.0 h.1; spelled = append-nil _ ∙ relation_ends d ∙ sym (finished_tokens d) }
 
-pub step_writes : (s : State) (t : Token) (next : State) → step s t ≡ Some next → written next ≡ written s ++ t ∷ []
-step_writes nothing t next e = operand_writes empty_part t next e
-step_writes (joined p) t next e = operand_writes p t next e
-step_writes (subject p o) t next e = subject_writes p o t next e
-step_writes (divided p o) t next e = modulus_writes p o t next e
-step_writes (reduced p o m) t next e = sign_writes p o m t next e
-step_writes (listed p o m d xs) t next e = value_writes p o m d xs t next e
-step_writes (valued p o m d xs a) t next e = after_value_writes p o m d xs a t next e
-step_writes (ranged p o m d xs a) t next e = end_writes p o m d xs a t next e
-step_writes (ended p o m d xs x) t next e = item_writes p o m d xs x t next e
+next_spells : (end : ℕ) (g : Progress) (d : Drafted) (t : Placed) (ts : List Placed) (c : Condition) → IsDraft g d
+    → ((n : Progress) (e : Drafted) → IsDraft n e → reading_from end n e ts ≡ done c → Spells n e ts c)
+    → (o : Option Progress) → next_progress g t.1 ≡ o → read_on end d t ts g o ≡ done c → Spells g d (t ∷ ts) c
+next_spells end g d t ts c h rest None q e = absurd cc
+next_spells end g d t ts c h rest (Some n) q e =
+    let d' = with_token g t.1 d in
+    let one : written n d' ≡ written g d ++ t.1 ∷ [] = by_move (λ g t n. (d : Drafted) → IsDraft g d → written n (with_token g t d) ≡ written g d ++ t ∷ []) writes g n t.1 q d h in
+    let r : Spells n d' ts c = rest n d' (by_move (λ g t n. (d : Drafted) → IsDraft g d → IsDraft n (with_token g t d)) keeps g n t.1 q d h) e in
+    record {
+      well_formed = r.well_formed;
+      spelled = sym (append_assoc (written g d) (t.1 ∷ []) (kinds ts)) ∙ ap (λ (k : List Token). k ++ kinds ts) (sym one) ∙ r.spelled;
+    }
 
-finish_writes : (s : State) (c : Condition) → finish s ≡ Some c → written s ≡ tokens_of c
-finish_writes nothing c e = rw (← some_is e) refl
-finish_writes (joined p) c e = absurd (none_is e)
-finish_writes (subject p o) c e = absurd (none_is e)
-finish_writes (divided p o) c e = absurd (none_is e)
-finish_writes (reduced p o m) c e = absurd (none_is e)
-finish_writes (listed p o m d xs) c e = absurd (none_is e)
-finish_writes (valued p o m d xs a) c e = rw (← some_is e) (relation_ends p o m d xs (Value a) ∙ sym (finished_tokens p (made o m d (xs ++ Value a ∷ []))))
-finish_writes (ranged p o m d xs a) c e = absurd (none_is e)
-finish_writes (ended p o m d xs x) c e = rw (← some_is e) (relation_ends p o m d xs x ∙ sym (finished_tokens p (made o m d (xs ++ x ∷ []))))
-
-next_writes : (end : ℕ) (s : State) (t : Placed) (ts : List Placed) (c : Condition) → ((next : State) → reading_from end next ts ≡ done c → written next ++ kinds ts ≡ tokens_of c)
-    → (o : Option State) → step s t.1 ≡ o → elim o [ None ↦ fault t.0 | Some next ↦ reading_from end next ts ] ≡ done c → written s ++ t.1 ∷ kinds ts ≡ tokens_of c
-next_writes end s t ts c rest None q e = absurd cc
-next_writes end s t ts c rest (Some next) q e = sym (append_assoc (written s) (t.1 ∷ []) (kinds ts)) ∙ ap (λ (k : List Token). k ++ kinds ts) (sym (step_writes s t.1 next q)) ∙ rest next e
-
-reading_writes : (end : ℕ) (s : State) (ts : List Placed) (c : Condition) → reading_from end s ts ≡ done c → written s ++ kinds ts ≡ tokens_of c
+reading_spells : (end : ℕ) (g : Progress) (d : Drafted) (ts : List Placed) (c : Condition) → IsDraft g d → reading_from end g d ts ≡ done c → Spells g d ts c
 unfolding reading_from
-reading_writes end s [] c e = append-nil (written s) ∙ finish_writes s c (or_fault_ok (finish s) end c e)
-reading_writes end s (t ∷ ts) c e = next_writes end s t ts c (λ next k. reading_writes end next ts c k) (step s t.1) refl e
+reading_spells end g d [] c h e =
+    let k = ended_ok (may_end g) (completed g d) c end e in
+    rw (← k.1) (finished g d h k.0)
+reading_spells end g d (t ∷ ts) c h e = next_spells end g d t ts c h (λ n e' k r. reading_spells end n e' ts c k r) (next_progress g t.1) refl e
+
+read_spells : (end : ℕ) (ts : List Placed) (c : Condition) → reading end ts ≡ done c → Spells Nothing empty_draft ts c
+unfolding reading
+read_spells end ts c e = reading_spells end Nothing empty_draft ts c (refl, refl, refl) e
+
+-- what is read is well formed
+pub read_is_well_formed : (end : ℕ) (ts : List Placed) (c : Condition) → reading end ts ≡ Ok c → IsWellFormed c
+read_is_well_formed end ts c e = (read_spells end ts c e).well_formed
 
 -- what is read is spelled by the tokens
 pub read_is_spelled : (end : ℕ) (ts : List Placed) (c : Condition) → reading end ts ≡ Ok c → kinds ts ≡ tokens_of c
-unfolding reading
-read_is_spelled end ts c e = reading_writes end nothing ts c e
+read_is_spelled end ts c e = (read_spells end ts c e).spelled

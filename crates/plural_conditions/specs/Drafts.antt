@@ -10,7 +10,6 @@ use Rattle.plural_conditions.specs.declared.progress.Progress.{Progress}
 use Rattle.plural_conditions.specs.declared.progress.Progress.TheVariants.{Divided, Valued, Ranged, Ended}
 use Rattle.plural_conditions.specs.declared.draft.Draft.{Draft}
 use Rattle.plural_conditions.specs.Grammar.{Relation, Condition}
-use Rattle.plural_conditions.specs.Reading.{made}
 use Rattle.plural_conditions.specs.Owned.{relation_of, relations_of}
 
 -- whole alternatives, whole relations of the last one, and the parts of the last relation with its last item apart
@@ -22,6 +21,10 @@ pub record Drafted : Type 0 where
   pub denied : Bool
   pub items : List Item
   pub item : Item
+
+-- a relation of its parts
+abbrev pub made : Operand → Option ℕ → Bool → List Item → Relation
+made o m denied items = record { subject = o; modulus = m; denied = denied; items = items }
 
 -- what a draft holds
 abbrev pub drafted : Draft → Drafted
@@ -43,9 +46,13 @@ empty_draft = record { alternatives = []; relations = []; subject = N; modulus =
 abbrev pub with_item : Drafted → Drafted
 with_item d = record d { items = d.items ++ d.item ∷ [] }
 
+-- the relation that ends with the last item
+abbrev pub last_relation : Drafted → Relation
+last_relation d = made d.subject d.modulus d.denied (d.items ++ d.item ∷ [])
+
 -- the last relation is whole
 abbrev pub with_relation : Drafted → Drafted
-with_relation d = record d { relations = d.relations ++ made d.subject d.modulus d.denied (d.items ++ d.item ∷ []) ∷ []; items = [] }
+with_relation d = record d { relations = d.relations ++ last_relation d ∷ []; items = [] }
 
 -- the last alternative is whole
 abbrev pub with_alternative : Drafted → Drafted

@@ -1,5 +1,5 @@
 use Rattle.std.proofs.Common.{sym, ◌∙◌}
-use Rattle.plural_conditions.proofs.Drafting.{reads-start, reads-goes_on, reads-next, reads-end, ok_reads}
+use Rattle.plural_conditions.proofs.Steps.{reads-start, reads-goes_on, reads-next, reads-end, ok_reads}
 use Rattle.plural_conditions.proofs.Judged.{read_spells}
 use Rattle.plural_conditions.proofs.reader.read_condition.Goals as goal
 

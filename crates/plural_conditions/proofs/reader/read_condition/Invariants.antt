@@ -1,6 +1,6 @@
 use Rattle.std.proofs.Common.{length}
 use Rattle.plural_conditions.specs.Drafts.{drafted}
-use Rattle.plural_conditions.proofs.Drafting.{Reads}
+use Rattle.plural_conditions.proofs.Steps.{Reads}
 use Rattle.plural_conditions.proofs.reader.read_condition.Given as goal
 
 -- the draft and what is left make the condition

@@ -1,5 +1,5 @@
 use Rattle.std.proofs.Common.{length}
-use Rattle.plural_conditions.proofs.Progressing.{Looks}
+use Rattle.plural_conditions.proofs.Steps.{Looks}
 use Rattle.plural_conditions.proofs.reader.stop_in.Given as goal
 
 -- what is left has the fault of the text
