@@ -1,6 +1,7 @@
 #!/usr/bin/env python3
 """Writes an input of the comparison, always the same: `generate.py mixed|long`; or tables of many locales, the sample's
-under other names: `generate.py tables [BYTES]`."""
+under other names: `generate.py tables [BYTES]`; or the sample with the signs that CLDR has in Arabic, which ICU writes:
+`generate.py locales`."""
 
 import json
 import os
@@ -47,10 +48,15 @@ def long_line(numbers):
     return ("-" if numbers.below(3) == 0 else "") + numbers.digits(length)
 
 
+def sample_tables():
+    """The tables of the sample."""
+    with open(os.path.join(os.path.dirname(__file__), "../tables/sample.json"), encoding="utf-8") as file:
+        return json.load(file)
+
+
 def tables(size):
     """The sample tables, and their entries again and again under other locales, up to so many bytes."""
-    with open(os.path.join(os.path.dirname(__file__), "../tables/sample.json"), encoding="utf-8") as file:
-        sample = json.load(file)
+    sample = sample_tables()
     kinds = ("symbols", "rules", "short", "long")
     texts = {kind: [] for kind in kinds}
     written = turn = 0
@@ -66,8 +72,20 @@ def tables(size):
     return "{" + ",".join(parts) + "}"
 
 
+def locales():
+    """The sample tables, with the letter mark before Arabic signs."""
+    sample = sample_tables()
+    for entry in sample["symbols"]:
+        if entry["numsys"] == "arab":
+            entry["minus"], entry["plus"] = ["\u061c-", ""], ["\u061c+", ""]
+    return json.dumps(sample, ensure_ascii=False)
+
+
 def main():
     shape = sys.argv[1]
+    if shape == "locales":
+        print(locales())
+        return
     if shape == "tables":
         print(tables(int(sys.argv[2]) if len(sys.argv) > 2 else 10_000_000))
         return

@@ -1,18 +1,18 @@
-// ICU4C: NumberFormatter::formatDecimal in English, every written fraction digit kept.
+// ICU4C: NumberFormatter::formatDecimal in a locale, English without a word, every written fraction digit kept.
 #include <cstdio>
 #include <string>
 #include <iostream>
 #include <unicode/numberformatter.h>
 #include <unicode/unistr.h>
 
-int main() {
+int main(int count, char **words) {
     using namespace icu;
     using namespace icu::number;
     std::ios::sync_with_stdio(false);
     UErrorCode status = U_ZERO_ERROR;
     LocalizedNumberFormatter formatters[32];
     for (int i = 0; i < 32; i++) {
-        formatters[i] = NumberFormatter::withLocale(Locale::getEnglish())
+        formatters[i] = NumberFormatter::withLocale(Locale(count > 1 ? words[1] : "en"))
             .precision(Precision::fixedFraction(i))
             .roundingMode(UNUM_ROUND_DOWN);
     }
