@@ -19,8 +19,6 @@ mod making;
 mod mode;
 mod piece;
 mod running;
-#[cfg(test)]
-mod tests;
 mod words;
 
 pub use filling::{FillError, Filled, format_lines};

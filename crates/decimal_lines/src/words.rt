@@ -142,6 +142,3 @@ pub fn parse_words<'a>(words: &[&'a str]) -> Option<Words<'a>>
         _ => None,
     }
 }
-
-#[cfg(test)]
-mod tests;

@@ -32,8 +32,6 @@ mod provider;
 mod rules;
 mod symbols;
 mod tables;
-#[cfg(test)]
-mod tests;
 mod texts;
 mod whole_numbers;
 

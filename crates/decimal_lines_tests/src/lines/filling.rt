@@ -1,7 +1,7 @@
 //! Lines of bytes in an output of limited size.
 
 use super::english;
-use crate::filling::{FillError, Filled, format_lines};
+use decimal_lines::{FillError, Filled, format_lines};
 use std::alloc::Global;
 
 const LINES: &[u8] = b"5\n6\r\n1234";

@@ -2,7 +2,7 @@
 
 use super::ends;
 use super::slow::Full;
-use crate::running::RunError;
+use decimal_lines::RunError;
 use std::alloc::Global;
 
 const LINES: &[u8] = b"5\n6\r\n7";

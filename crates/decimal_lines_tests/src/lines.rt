@@ -6,9 +6,8 @@ mod failing;
 mod filling;
 mod slow;
 
-use crate::laws::{inputs_have_one_list_of_lines, texts_have_one_answer};
-use crate::mode::{Mode, StartError};
-use crate::running::{RunError, run};
+use decimal_lines::laws::{inputs_have_one_list_of_lines, texts_have_one_answer};
+use decimal_lines::{Mode, RunError, StartError, run};
 use slow::{Full, SlowReader, SlowWriter};
 use std::alloc::{AllocError, Global};
 

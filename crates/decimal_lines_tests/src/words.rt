@@ -1,4 +1,6 @@
-use super::{Style, parse_words};
+//! The words of a program, read and refused.
+
+use decimal_lines::{Style, parse_words};
 use icu_decimal::options::GroupingStrategy;
 
 /// Whether the words of such a locale and system are read, with this style and strategy.

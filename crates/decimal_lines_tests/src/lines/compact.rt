@@ -2,8 +2,7 @@
 
 use super::slow::Full;
 use super::{english, nines, runs_by, runs_slowly};
-use crate::mode::Mode;
-use crate::running::RunError;
+use decimal_lines::{Mode, RunError};
 use icu_base::{Pattern, PluralElements, PluralRules, SinglePlaceholder};
 use icu_decimal::provider::CompactPatterns;
 use icu_decimal::{CompactDecimalFormatter, DecimalFormatter};

@@ -1,6 +1,5 @@
 //! Documents that are refused, and what tables answer.
 
-use crate::{EntryFault, Key, TableError, Tables, compact_from_value};
 use icu_base::{
     DataErrorKind, DataIdentifierBorrowed, DataLocale, DataProvider, DataRequest, PluralsCardinalV1,
 };
@@ -8,6 +7,7 @@ use icu_decimal_data::{
     CompactPatterns, DecimalCompactLongV1, DecimalCompactShortV1, DecimalDigitsV1, DecimalSymbolsV1,
 };
 use icu_pattern::SinglePlaceholder;
+use icu_tables::{EntryFault, Key, TableError, Tables, compact_from_value};
 use serde_json::Value;
 use std::alloc::Global;
 

@@ -1,0 +1,7 @@
+//! The tests of decimal_lines' public calls; the library itself offers nothing.
+#![tactic(auto)]
+
+#[cfg(test)]
+mod lines;
+#[cfg(test)]
+mod words;

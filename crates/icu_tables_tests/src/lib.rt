@@ -1,0 +1,5 @@
+//! The tests of icu_tables' public calls; the library itself offers nothing.
+#![tactic(auto)]
+
+#[cfg(test)]
+mod documents;
