@@ -33,3 +33,7 @@ text_of es = encode_utf8_all (characters es)
 -- the character of each digit, by a table of the characters of the digits 0 to 9
 abbrev pub digit_events : List ℕ → List ℕ → List Event
 digit_events characters digits = map (λ d. Char (slice_index characters d)) digits
+
+-- the characters '0' to '9'
+abbrev pub ascii_characters : List ℕ
+ascii_characters = 48 ∷ 49 ∷ 50 ∷ 51 ∷ 52 ∷ 53 ∷ 54 ∷ 55 ∷ 56 ∷ 57 ∷ []

@@ -3,7 +3,7 @@ ghost use Rattle.std.specs.Prelude.{◌≡◌, ◌+◌, ◌<◌, ◌≤◌, ◌�
 ghost use Rattle.std.specs.String.{string_bytes};
 ghost use Rattle.std.proofs.Common.{sym, ◌∙◌, subst};
 ghost use Rattle.writeable.specs.declared.sink.WriteFault.{WriteFault};
-ghost use Rattle.writeable.specs.Events.{Event, text_events, without_parts, text_of, digit_events};
+ghost use Rattle.writeable.specs.Events.{Event, text_events, without_parts, text_of, digit_events, ascii_characters};
 ghost use Rattle.writeable.specs.Events.Event.{Char, Open, Close};
 ghost use Rattle.writeable.specs.Groups.{separator_events, grouped_events};
 ghost use Rattle.writeable.specs.Sink.{LentWrites, Displays};
@@ -13,6 +13,9 @@ use crate::byte_groups::{are_ascii, push_byte_groups, push_groups};
 use crate::groups::{Grouping, first_group, next_group};
 use crate::sink::{Part, PartsWrite, WriteFault};
 use std::{fmt, mem};
+
+/// The characters '0' to '9'.
+pub const ASCII_DIGITS: [char; 10] = ['0', '1', '2', '3', '4', '5', '6', '7', '8', '9'];
 
 /// Where the events of a value go: a sink with parts, a sink that takes its characters alone, a text, a buffer of bytes
 /// (in UTF-8), or a formatter. All but the first take the characters alone.
@@ -73,6 +76,24 @@ pub trait EventWriter {
             rest = after;
         }
         Ok(())
+    }
+
+    /// Writes digits by the characters '0' to '9', which need no table.
+    fn ascii_digits(&mut self, digits: &[u8]) -> Result<(), WriteFault>
+        requires { All (λ d. d < 10) digits.now }
+        ensures { wrote self.old result (digit_events ascii_characters digits.now) self.new }
+    {
+        self.digits(digits, &ASCII_DIGITS)
+    }
+
+    /// Writes digits in groups by the characters '0' to '9', which need no table.
+    fn ascii_groups(&mut self, digits: &[u8], grouping: &Grouping<'_>) -> Result<(), WriteFault>
+        requires primary { 0 < grouping.now.primary }
+        requires secondary { 0 < grouping.now.secondary }
+        requires below_ten { All (λ d. d < 10) digits.now }
+        ensures { wrote self.old result (grouped_events grouping.now ascii_characters digits.now) self.new }
+    {
+        self.groups(digits, grouping, &ASCII_DIGITS)
     }
 
     /// Opens a part.
@@ -203,6 +224,18 @@ impl<K: EventWriter> EventWriter for WithoutParts<'_, K> {
             ..*grouping
         };
         self.out.groups(digits, &without_part, characters)
+    }
+
+    #[tactic(auto, using(crate::proofs::EventLemmas::digit_steps))]
+    fn ascii_digits(&mut self, digits: &[u8]) -> Result<(), WriteFault> {
+        self.out.ascii_digits(digits)
+    }
+
+    #[tactic(auto, using(crate::proofs::GroupTexts::group_steps))]
+    fn ascii_groups(&mut self, digits: &[u8], grouping: &Grouping<'_>) -> Result<(), WriteFault> {
+        let mut without_part = *grouping;
+        without_part.part = None;
+        self.out.ascii_groups(digits, &without_part)
     }
 
     fn open(&mut self, _part: Part) -> Result<(), WriteFault> {
