@@ -9,7 +9,7 @@ use crate::sink::WriteFault;
 use std::mem;
 
 /// How many digits stand in a group of thousands.
-const THOUSANDS: usize = 3;
+pub(crate) const THOUSANDS: usize = 3;
 
 /// Whether each of the characters is one byte. All ten are asked, so that it is computed without jumps.
 pub(crate) fn are_ascii(characters: &[char; 10]) -> bool

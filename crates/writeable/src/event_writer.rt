@@ -9,7 +9,8 @@ ghost use Rattle.writeable.specs.Groups.{separator_events, grouped_events};
 ghost use Rattle.writeable.specs.Sink.{LentWrites, Displays};
 ghost use Rattle.writeable.specs.Writes.{LentWrites-nothing, LentWrites-then, LentWrites-stop, without_parts-append, AppendsText-nothing, AppendsText-then, OnOk-stop, Displays-nothing, Displays-then, Displays-stop};
 
-use crate::byte_groups::{are_ascii, push_byte_groups, push_groups};
+use crate::ascii_bytes::{push_digit_bytes, push_digit_thousands};
+use crate::byte_groups::{THOUSANDS, are_ascii, push_byte_groups, push_groups};
 use crate::groups::{Grouping, first_group, next_group};
 use crate::sink::{Part, PartsWrite, WriteFault};
 use std::{fmt, mem};
@@ -337,6 +338,21 @@ impl EventWriter for Vec<u8> {
         push_groups(self, digits, grouping, characters)
     }
 
+    /// Asks for room once.
+    fn ascii_digits(&mut self, digits: &[u8]) -> Result<(), WriteFault> {
+        push_digit_bytes(self, digits)
+    }
+
+    /// Asks for room once, where groups are of three and the separator is one byte.
+    fn ascii_groups(&mut self, digits: &[u8], grouping: &Grouping<'_>) -> Result<(), WriteFault> {
+        let separator = grouping.separator.as_bytes();
+        let thousands = grouping.primary == THOUSANDS && grouping.secondary == THOUSANDS;
+        if !thousands || separator.len() != 1 {
+            return self.groups(digits, grouping, &ASCII_DIGITS);
+        }
+        push_digit_thousands(self, digits, separator[0])
+    }
+
     fn open(&mut self, part: Part) -> Result<(), WriteFault>
         ensures wrote { OnOk result (self.new.items ≡ self.old.items
             ++ text_of (Open part.category.now part.value.now ∷ [])) }
@@ -354,10 +370,13 @@ impl EventWriter for Vec<u8> {
     }
 }
 
-/// Appends bytes; one alone, as most separators are, without a copy of memory.
+/// Appends bytes; none, as most affixes are, and one alone, as most separators are, without a copy of memory.
 pub(crate) fn push_bytes(out: &mut Vec<u8>, bytes: &[u8]) -> Result<(), WriteFault>
     ensures { OnOk result (out.new.items ≡ out.old.items ++ bytes.now) }
 {
+    if bytes.is_empty() {
+        return Ok(());
+    }
     if bytes.len() == 1 {
         return out.push(bytes[0]).map_err(|_| WriteFault);
     }
