@@ -29,7 +29,7 @@ pub mod sink;
 pub mod writeable;
 
 pub use error::OutOfMemory;
-pub use event_writer::EventWriter;
+pub use event_writer::{ASCII_DIGITS, EventWriter};
 pub use groups::Grouping;
 pub use parts_text::PartsText;
 pub use sink::{Part, PartsWrite, WriteFault};

@@ -27,23 +27,26 @@ pub(super) const ADLAM: [char; 10] = [
 /// Latin but for the nine.
 pub(super) const MIXED: [char; 10] = ['0', '1', '2', '3', '4', '5', '6', '7', '8', '৯'];
 
-/// Digits in a part, between a character and a text.
+/// Digits in a part, between a character and a text. Without a table they are written as '0' to '9'.
 fn write_parts<K: EventWriter>(
     out: &mut K,
     digits: &[u8],
-    characters: &[char; 10],
+    characters: Option<&[char; 10]>,
 ) -> Result<(), WriteFault>
     requires { All (λ d. d < 10) digits.now }
 {
     out.character('€')?;
     out.open(INTEGER)?;
-    out.digits(digits, characters)?;
+    match characters {
+        Some(characters) => out.digits(digits, characters)?,
+        None => out.ascii_digits(digits)?,
+    }
     out.close()?;
     out.part(INTEGER, " ok")
 }
 
 /// Whether a buffer of bytes gets this text; asked once more where memory was wanting.
-fn is_in_bytes(alloc: Global, digits: &[u8], characters: &[char; 10], text: &str) -> bool
+fn is_in_bytes(alloc: Global, digits: &[u8], characters: Option<&[char; 10]>, text: &str) -> bool
     requires { All (λ d. d < 10) digits.now }
 {
     let mut out = Vec::new(alloc);
@@ -57,7 +60,7 @@ fn is_in_bytes(alloc: Global, digits: &[u8], characters: &[char; 10], text: &str
 }
 
 /// Whether a text gets this text; asked once more where memory was wanting.
-fn is_in_a_text(alloc: Global, digits: &[u8], characters: &[char; 10], text: &str) -> bool
+fn is_in_a_text(alloc: Global, digits: &[u8], characters: Option<&[char; 10]>, text: &str) -> bool
     requires { All (λ d. d < 10) digits.now }
 {
     let mut out = String::new(alloc);
@@ -74,10 +77,14 @@ fn is_in_a_text(alloc: Global, digits: &[u8], characters: &[char; 10], text: &st
 fn writes_digits_to_bytes_and_texts(rt: HostRuntime) {
     let digits = [1, 9, 0, 9, 2];
     for (characters, text) in [
-        (&LATIN, "€19092 ok"),
-        (&BENGALI, "€১৯০৯২ ok"),
-        (&MIXED, "€1৯0৯2 ok"),
-        (&ADLAM, "€\u{1e951}\u{1e959}\u{1e950}\u{1e959}\u{1e952} ok"),
+        (None, "€19092 ok"),
+        (Some(&LATIN), "€19092 ok"),
+        (Some(&BENGALI), "€১৯০৯২ ok"),
+        (Some(&MIXED), "€1৯0৯2 ok"),
+        (
+            Some(&ADLAM),
+            "€\u{1e951}\u{1e959}\u{1e950}\u{1e959}\u{1e952} ok",
+        ),
     ] {
         assert!(rt;
             is_in_bytes(rt.alloc(), &digits, characters, text),
@@ -92,5 +99,7 @@ fn writes_digits_to_bytes_and_texts(rt: HostRuntime) {
 
 #[test]
 fn writes_no_digits_to_bytes(rt: HostRuntime) {
-    assert!(rt; is_in_bytes(rt.alloc(), &[], &LATIN, "€ ok"));
+    for characters in [None, Some(&LATIN)] {
+        assert!(rt; is_in_bytes(rt.alloc(), &[], characters, "€ ok"));
+    }
 }
