@@ -1,4 +1,4 @@
-use Rattle.std.proofs.Common.{◌≡◌, ◌+◌, arith, sym, ◌∙◌}
+use Rattle.std.proofs.Common.{sym}
 use Rattle.writeable.proofs.DigitEvents.{ascii_character}
 use Rattle.writeable.proofs.ascii_bytes.digit_byte.Goals as goal
 
