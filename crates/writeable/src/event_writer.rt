@@ -1,19 +1,18 @@
 //! Where the events of a value go: one interface over sinks, texts and formatters.
 ghost use Rattle.std.specs.Prelude.{◌≡◌, ◌+◌, ◌<◌, ◌≤◌, ◌∷◌, ◌++◌, [], All, List, Result, Ok, Err, OnOk, IsErr, IsOk, length, take, vec_len, vec_capacity, refl};
-ghost use Rattle.std.specs.String.{string_bytes};
 ghost use Rattle.std.proofs.Common.{sym, ◌∙◌, subst};
 ghost use Rattle.writeable.specs.declared.sink.WriteFault.{WriteFault};
 ghost use Rattle.writeable.specs.Events.{Event, text_events, without_parts, text_of, digit_events, ascii_characters};
 ghost use Rattle.writeable.specs.Events.Event.{Char, Open, Close};
 ghost use Rattle.writeable.specs.Groups.{separator_events, grouped_events};
-ghost use Rattle.writeable.specs.Sink.{LentWrites, Displays};
-ghost use Rattle.writeable.specs.Writes.{LentWrites-nothing, LentWrites-then, LentWrites-stop, without_parts-append, AppendsText-nothing, AppendsText-then, OnOk-stop, Displays-nothing, Displays-then, Displays-stop};
+ghost use Rattle.writeable.specs.Sink.{LentWrites};
+ghost use Rattle.writeable.specs.Writes.{LentWrites-nothing, LentWrites-then, LentWrites-stop, without_parts-append, AppendsText-nothing, AppendsText-then, OnOk-stop};
 
 use crate::ascii_bytes::{push_digit_bytes, push_digit_thousands};
 use crate::byte_groups::{THOUSANDS, are_ascii, push_byte_groups, push_groups};
 use crate::groups::{Grouping, first_group, next_group};
 use crate::sink::{Part, PartsWrite, WriteFault};
-use std::{fmt, mem};
+use std::mem;
 
 /// The characters '0' to '9'.
 pub const ASCII_DIGITS: [char; 10] = ['0', '1', '2', '3', '4', '5', '6', '7', '8', '9'];
@@ -248,44 +247,6 @@ impl<K: EventWriter> EventWriter for WithoutParts<'_, K> {
     }
 }
 
-// On success the text of the events stands behind what the string held.
-impl EventWriter for String {
-    ghost wrote = { λ a r es b. OnOk r (string_bytes b ≡ string_bytes a ++ text_of es) };
-
-    ghost nothing = { λ a. AppendsText-nothing (string_bytes a) };
-
-    ghost then = { λ a b c r es fs.
-        AppendsText-then (string_bytes a) (string_bytes b) (string_bytes c) r es fs };
-
-    ghost stop = { λ a b e r es fs err h. OnOk-stop _ r err };
-
-    #[tactic(auto, using(crate::proofs::EventLemmas::text_steps))]
-    fn text(&mut self, text: &str) -> Result<(), WriteFault> {
-        self.push_str(text).map_err(|_| WriteFault)
-    }
-
-    fn character(&mut self, character: char) -> Result<(), WriteFault> {
-        self.push(character).map_err(|_| WriteFault)
-    }
-
-    fn open(&mut self, part: Part) -> Result<(), WriteFault>
-        ensures wrote { OnOk result (string_bytes self.new ≡ string_bytes self.old
-            ++ text_of (Open part.category.now part.value.now ∷ [])) }
-        ensures ok { IsOk result }
-    {
-        let _ = part;
-        Ok(())
-    }
-
-    fn close(&mut self) -> Result<(), WriteFault>
-        ensures wrote { OnOk result (string_bytes self.new ≡ string_bytes self.old
-            ++ text_of (Close ∷ [])) }
-        ensures ok { IsOk result }
-    {
-        Ok(())
-    }
-}
-
 // On success the text of the events stands behind the bytes that the buffer held.
 impl EventWriter for Vec<u8> {
     ghost wrote = { λ a r es b. OnOk r (b.items ≡ a.items ++ text_of es) };
@@ -411,40 +372,4 @@ fn push_digits(out: &mut Vec<u8>, digits: &[u8], characters: &[char; 10]) -> Res
         out.character(characters[*digit as usize])?;
     }
     Ok(())
-}
-
-// On success a formatter that indents nothing has written the text of the events, whatever its options are (`Displays`).
-impl<W: fmt::Write> EventWriter for fmt::Formatter<W> {
-    ghost wrote = { λ a r es b. Displays W.write_str_gives a r es b };
-
-    ghost nothing = { λ a. Displays-nothing W.write_str_gives a };
-
-    ghost then = { λ a b c r es fs. Displays-then W.write_str_gives a b c r es fs };
-
-    ghost stop = { λ a b e r es fs. Displays-stop W.write_str_gives a b e r es fs };
-
-    #[tactic(auto, using(crate::proofs::EventLemmas::text_steps))]
-    fn text(&mut self, text: &str) -> Result<(), WriteFault> {
-        self.write_str(text).map_err(|_| WriteFault)
-    }
-
-    fn character(&mut self, character: char) -> Result<(), WriteFault> {
-        self.write_char(character).map_err(|_| WriteFault)
-    }
-
-    fn open(&mut self, part: Part) -> Result<(), WriteFault>
-        ensures wrote { Displays W.write_str_gives self.old result
-            (Open part.category.now part.value.now ∷ []) self.new }
-        ensures ok { IsOk result }
-    {
-        let _ = part;
-        Ok(())
-    }
-
-    fn close(&mut self) -> Result<(), WriteFault>
-        ensures wrote { Displays W.write_str_gives self.old result (Close ∷ []) self.new }
-        ensures ok { IsOk result }
-    {
-        Ok(())
-    }
 }

@@ -22,10 +22,12 @@ mod ascii_bytes;
 mod byte_groups;
 pub mod error;
 pub mod event_writer;
+mod formatter_writer;
 pub mod groups;
 pub mod laws;
 pub mod parts_text;
 pub mod sink;
+mod text_writer;
 pub mod writeable;
 
 pub use error::OutOfMemory;
