@@ -1,5 +1,5 @@
 -- Digits in groups (UTS 35, Number Formats: primary and secondary grouping sizes, minimum grouping digits).
-use Rattle.std.specs.Prelude.{◌≡◌, ℕ, ◌+◌, ◌-◌, ◌*◌, ◌<◌, ◌≤◌, Bool, true, false, IsTrue, not, ◌&&◌, ◌==◌, nat_le, max, List, [], ◌∷◌, ◌++◌, length, All, ℤ, pos, ◌+ℤ◌, ◌≤ℤ◌, if◌then◌else◌}
+use Rattle.std.specs.Prelude.{◌≡◌, ℕ, ◌+◌, ◌-◌, ◌*◌, ◌^◌, ◌<◌, ◌≤◌, ◌↔◌, Bool, true, false, IsTrue, not, ◌&&◌, ◌==◌, nat_le, max, List, [], ◌∷◌, ◌++◌, length, All, ℤ, pos, ◌+ℤ◌, ◌≤ℤ◌, if◌then◌else◌}
 use Rattle.std.specs.List.{flat_map}
 pub use Rattle.icu_base.specs.Groups.{put_before, cut, joined_after, joined}
 use Rattle.icu_decimal.specs.declared.options.GroupingStrategy.{GroupingStrategy}
@@ -45,6 +45,11 @@ groups_ever Min2 = true
 abbrev pub is_grouped : ℕ → GroupingSizes → GroupingStrategy → Bool
 is_grouped count sizes strategy =
     groups_ever strategy && (not (sizes.primary == 0) && nat_le (least_before strategy sizes) (count - sizes.primary))
+
+-- the greatest count of digits that are not grouped, as far as counts fit in 64 bits
+abbrev pub IsLongestUngrouped : ℕ → GroupingSizes → GroupingStrategy → Type 0
+IsLongestUngrouped longest sizes strategy =
+    (count : ℕ) → count < 2 ^ 64 → (IsTrue (is_grouped count sizes strategy) ↔ longest < count)
 
 -- the groups of an integer's digits
 abbrev pub digit_groups : {A : Type 0} → List A → GroupingSizes → GroupingStrategy → List (List A)

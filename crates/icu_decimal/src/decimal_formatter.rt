@@ -3,14 +3,16 @@
 ghost use Rattle.std.specs.Prelude.{◌≡◌, ◌↔◌, IsTrue, List, IfOk, IsOkUnless, codes};
 ghost use Rattle.std.specs.String.{string_bytes};
 ghost use Rattle.icu_base.specs.Events.{Event, text_of};
-ghost use Rattle.icu_decimal.specs.Decimal.{decimal_events, signed_events, unsigned_events};
+ghost use Rattle.icu_decimal.specs.Decimal.{decimal_events, signed_events, unsigned_events, strategy_of};
+ghost use Rattle.icu_decimal.specs.Grouping.{is_grouped};
 ghost use Rattle.icu_decimal_readable.specs.Readable.{IsReadable, IsReadableTable};
 
 use crate::cow::Cow;
 use crate::error::FormatError;
 use crate::formatted_decimal::{FormattedDecimal, FormattedUnsignedDecimal};
 use crate::formatted_sign::FormattedSign;
-use crate::options::DecimalFormatterOptions;
+use crate::grouper::longest_ungrouped;
+use crate::options::{DecimalFormatterOptions, GroupingStrategy};
 use crate::parts;
 use fixed_decimal::{Decimal, Sign, UnsignedDecimal};
 use icu_base::{SinglePlaceholder, Writeable};
@@ -25,14 +27,20 @@ pub struct DecimalFormatter {
     options: DecimalFormatterOptions,
     symbols: DecimalSymbols,
     digits: [char; 10],
+    /// The greatest count of digits that are not grouped.
+    longest_ungrouped: usize,
 }
 
 impl Model for DecimalFormatter {
-    ghost use Rattle.icu_decimal.specs.Decimal.{DecimalFormat};
+    ghost use Rattle.icu_decimal.specs.Decimal.{DecimalFormat, strategy_of};
+    ghost use Rattle.icu_decimal.specs.Grouping.{IsLongestUngrouped};
 
     ghost Value = { DecimalFormat };
 
     ghost view = { λ f. record { symbols = f.symbols; digits = f.digits; options = f.options } };
+
+    ghost invariant = { λ f.
+        IsLongestUngrouped f.longest_ungrouped f.symbols.grouping_sizes (strategy_of f.options) };
 }
 
 impl DecimalFormatter {
@@ -48,7 +56,9 @@ impl DecimalFormatter {
     ) -> Self
         ensures { result ≡ record { symbols = symbols; digits = digits; options = options } }
     {
+        let strategy = options.grouping_strategy.unwrap_or(GroupingStrategy::Auto);
         DecimalFormatter {
+            longest_ungrouped: longest_ungrouped(strategy, symbols.grouping_sizes),
             options,
             symbols,
             digits,
@@ -65,6 +75,7 @@ impl DecimalFormatter {
                 options: self.options,
                 symbols,
                 digits: self.digits,
+                longest_ungrouped: self.longest_ungrouped,
             }),
             Err(_) => Err(FormatError::OutOfMemory),
         }
@@ -125,10 +136,37 @@ impl DecimalFormatter {
     {
         FormattedUnsignedDecimal {
             value,
-            options: &self.options,
-            symbols: &self.symbols,
-            digits: &self.digits,
+            format: self,
         }
+    }
+
+    /// How it groups.
+    pub(crate) fn options(&self) -> &DecimalFormatterOptions
+        ensures { result.now ≡ self.now.options }
+    {
+        &self.options
+    }
+
+    /// Its texts and sizes.
+    pub(crate) fn symbols(&self) -> &DecimalSymbols
+        ensures { result.now ≡ self.now.symbols }
+    {
+        &self.symbols
+    }
+
+    /// The characters of its digits.
+    pub(crate) fn digits(&self) -> &[char; 10]
+        ensures { result.now ≡ self.now.digits }
+    {
+        &self.digits
+    }
+
+    /// Whether it groups this many digits.
+    pub(crate) fn is_grouped(&self, count: usize) -> bool
+        ensures { IsTrue result
+            ↔ IsTrue (is_grouped count self.now.symbols.grouping_sizes (strategy_of self.now.options)) }
+    {
+        self.longest_ungrouped < count
     }
 
     /// The value with the affixes of the sign around it.

@@ -4,9 +4,10 @@ ghost use Rattle.std.specs.Prelude.{◌≡◌, ◌<◌, ◌++◌, All};
 ghost use Rattle.icu_base.specs.Events.{Event, text_of};
 
 use crate::cow::Cow;
+use crate::decimal_formatter::DecimalFormatter;
 use crate::formatted_sign::FormattedSign;
-use crate::grouper::{is_grouped, secondary_size};
-use crate::options::{DecimalFormatterOptions, GroupingStrategy};
+use crate::grouper::secondary_size;
+use crate::options::DecimalFormatterOptions;
 use crate::parts;
 use fixed_decimal::UnsignedDecimal;
 use icu_base::{EventWriter, Grouping, WriteFault, Writeable};
@@ -35,9 +36,7 @@ impl<'l> Model for FormattedDecimal<'l> {
 #[derive(Drop)]
 pub struct FormattedUnsignedDecimal<'l> {
     pub(crate) value: Cow<'l, UnsignedDecimal>,
-    pub(crate) options: &'l DecimalFormatterOptions,
-    pub(crate) symbols: &'l DecimalSymbols,
-    pub(crate) digits: &'l [char; 10],
+    pub(crate) format: &'l DecimalFormatter,
 }
 
 impl<'l> Model for FormattedUnsignedDecimal<'l> {
@@ -46,10 +45,7 @@ impl<'l> Model for FormattedUnsignedDecimal<'l> {
 
     ghost Value = { FormattedNumber };
 
-    ghost view = { λ f. record {
-      format = record { symbols = f.symbols.now; digits = f.digits.now; options = f.options.now };
-      number = value_of f.value;
-    } };
+    ghost view = { λ f. record { format = f.format.now; number = value_of f.value } };
 }
 
 impl PartialEq for FormattedUnsignedDecimal<'_> {
@@ -71,9 +67,9 @@ impl PartialEq for FormattedUnsignedDecimal<'_> {
     /// Whether the numbers, the options, the symbols and the digits are equal, wherever they are kept.
     fn eq(&self, other: &Self) -> bool {
         self.value.get() == other.value.get()
-            && self.options == other.options
-            && self.symbols == other.symbols
-            && self.digits == other.digits
+            && self.format.options() == other.format.options()
+            && self.format.symbols() == other.format.symbols()
+            && self.format.digits() == other.format.digits()
     }
 }
 
@@ -117,21 +113,19 @@ impl FormattedUnsignedDecimal<'_> {
         requires { All (λ d. d < 10) integer.now }
         ensures { K.wrote out.old result (grouped_events self.now.format integer.now) out.new }
     {
-        let strategy = self
-            .options
-            .grouping_strategy
-            .unwrap_or(GroupingStrategy::Auto);
-        let sizes = self.symbols.grouping_sizes;
-        if !is_grouped(integer.len(), strategy, sizes) {
-            return out.digits(integer, self.digits);
+        let characters = self.format.digits();
+        if !self.format.is_grouped(integer.len()) {
+            return out.digits(integer, characters);
         }
+        let symbols = self.format.symbols();
+        let sizes = symbols.grouping_sizes;
         let grouping = Grouping {
             primary: usize::from(sizes.primary),
             secondary: secondary_size(sizes),
             part: Some(parts::GROUP),
-            separator: self.symbols.grouping_separator(),
+            separator: symbols.grouping_separator(),
         };
-        out.groups(integer, &grouping, self.digits)
+        out.groups(integer, &grouping, characters)
     }
 
     /// Writes the decimal separator and the digits below power 0, as parts; without such digits nothing.
@@ -142,9 +136,9 @@ impl FormattedUnsignedDecimal<'_> {
         if fraction.is_empty() {
             return Ok(());
         }
-        out.part(parts::DECIMAL, self.symbols.decimal_separator())?;
+        out.part(parts::DECIMAL, self.format.symbols().decimal_separator())?;
         out.open(parts::FRACTION)?;
-        out.digits(fraction, self.digits)?;
+        out.digits(fraction, self.format.digits())?;
         out.close()
     }
 }

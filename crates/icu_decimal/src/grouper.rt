@@ -1,7 +1,7 @@
 //! Where separators stand in an integer.
 
 ghost use Rattle.std.specs.Prelude.{◌≡◌, ℕ, ◌+◌, ◌-◌, ◌*◌, ◌%◌, ◌<◌, ◌≤◌, ◌↔◌, IsTrue, List, length, pos, ◌+ℤ◌, ◌<ℤ◌, MatchOption};
-ghost use Rattle.icu_decimal.specs.Grouping.{digit_groups, EndsGroup, HasSeparatorAfter, groups_ever, least_before, secondary_size, is_grouped};
+ghost use Rattle.icu_decimal.specs.Grouping.{digit_groups, EndsGroup, HasSeparatorAfter, groups_ever, least_before, secondary_size, is_grouped, IsLongestUngrouped};
 
 use crate::options::GroupingStrategy;
 use icu_decimal_data::GroupingSizes;
@@ -40,8 +40,19 @@ fn least_before(strategy: GroupingStrategy, sizes: GroupingSizes) -> usize
     usize::from(sizes.min_grouping).max(least)
 }
 
+/// The greatest count of digits that are not grouped, so that whether digits are is one comparison.
+pub(crate) fn longest_ungrouped(strategy: GroupingStrategy, sizes: GroupingSizes) -> usize
+    ensures { IsLongestUngrouped result sizes strategy }
+{
+    let primary = usize::from(sizes.primary);
+    if strategy == GroupingStrategy::Never || primary == 0 {
+        return usize::MAX;
+    }
+    primary + least_before(strategy, sizes) - 1
+}
+
 /// Whether this many digits are grouped.
-pub(crate) fn is_grouped(count: usize, strategy: GroupingStrategy, sizes: GroupingSizes) -> bool
+fn is_grouped(count: usize, strategy: GroupingStrategy, sizes: GroupingSizes) -> bool
     ensures { result ≡ is_grouped count sizes strategy }
 {
     let primary = usize::from(sizes.primary);
