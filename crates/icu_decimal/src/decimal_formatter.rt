@@ -1,8 +1,9 @@
 //! The plain formatter.
 
-ghost use Rattle.std.specs.Prelude.{◌≡◌, ◌↔◌, IsTrue, List, IfOk, IsOkUnless, codes};
+ghost use Rattle.std.specs.Prelude.{◌≡◌, ◌<◌, ◌↔◌, IsTrue, All, List, IfOk, IsOkUnless, codes};
 ghost use Rattle.std.specs.String.{string_bytes};
-ghost use Rattle.icu_base.specs.Events.{Event, text_of};
+ghost use Rattle.icu_base.specs.Events.{Event, text_of, digit_events};
+ghost use Rattle.icu_base.specs.Groups.{grouped_events};
 ghost use Rattle.icu_decimal.specs.Decimal.{decimal_events, signed_events, unsigned_events, strategy_of};
 ghost use Rattle.icu_decimal.specs.Grouping.{is_grouped};
 ghost use Rattle.icu_decimal_readable.specs.Readable.{IsReadable, IsReadableTable};
@@ -15,7 +16,8 @@ use crate::grouper::longest_ungrouped;
 use crate::options::{DecimalFormatterOptions, GroupingStrategy};
 use crate::parts;
 use fixed_decimal::{Decimal, Sign, UnsignedDecimal};
-use icu_base::{SinglePlaceholder, Writeable};
+use icu_base::event_writer::ASCII_DIGITS;
+use icu_base::{EventWriter, Grouping, SinglePlaceholder, WriteFault, Writeable};
 use icu_decimal_data::{CompactPatterns, DecimalSymbols};
 use icu_decimal_readable::{are_numbers_readable, is_table_readable};
 use std::alloc::Global;
@@ -29,9 +31,13 @@ pub struct DecimalFormatter {
     digits: [char; 10],
     /// The greatest count of digits that are not grouped.
     longest_ungrouped: usize,
+    /// Whether the digits are the characters '0' to '9', which need no table.
+    is_ascii: bool,
 }
 
 impl Model for DecimalFormatter {
+    ghost use Rattle.std.specs.Prelude.{◌≡◌, IsTrue};
+    ghost use Rattle.icu_base.specs.Events.{ascii_characters};
     ghost use Rattle.icu_decimal.specs.Decimal.{DecimalFormat, strategy_of};
     ghost use Rattle.icu_decimal.specs.Grouping.{IsLongestUngrouped};
 
@@ -40,7 +46,8 @@ impl Model for DecimalFormatter {
     ghost view = { λ f. record { symbols = f.symbols; digits = f.digits; options = f.options } };
 
     ghost invariant = { λ f.
-        IsLongestUngrouped f.longest_ungrouped f.symbols.grouping_sizes (strategy_of f.options) };
+        IsLongestUngrouped f.longest_ungrouped f.symbols.grouping_sizes (strategy_of f.options)
+        × (IsTrue f.is_ascii → f.digits ≡ ascii_characters) };
 }
 
 impl DecimalFormatter {
@@ -59,6 +66,7 @@ impl DecimalFormatter {
         let strategy = options.grouping_strategy.unwrap_or(GroupingStrategy::Auto);
         DecimalFormatter {
             longest_ungrouped: longest_ungrouped(strategy, symbols.grouping_sizes),
+            is_ascii: digits == ASCII_DIGITS,
             options,
             symbols,
             digits,
@@ -76,6 +84,7 @@ impl DecimalFormatter {
                 symbols,
                 digits: self.digits,
                 longest_ungrouped: self.longest_ungrouped,
+                is_ascii: self.is_ascii,
             }),
             Err(_) => Err(FormatError::OutOfMemory),
         }
@@ -167,6 +176,40 @@ impl DecimalFormatter {
             ↔ IsTrue (is_grouped count self.now.symbols.grouping_sizes (strategy_of self.now.options)) }
     {
         self.longest_ungrouped < count
+    }
+
+    /// Writes digits by its characters.
+    pub(crate) fn write_digits<K: EventWriter>(
+        &self,
+        digits: &[u8],
+        out: &mut K,
+    ) -> Result<(), WriteFault>
+        requires { All (λ d. d < 10) digits.now }
+        ensures { K.wrote out.old result (digit_events self.now.digits digits.now) out.new }
+    {
+        if self.is_ascii {
+            return out.ascii_digits(digits);
+        }
+        out.digits(digits, &self.digits)
+    }
+
+    /// Writes digits in groups by its characters.
+    pub(crate) fn write_groups<K: EventWriter>(
+        &self,
+        digits: &[u8],
+        grouping: &Grouping<'_>,
+        out: &mut K,
+    ) -> Result<(), WriteFault>
+        requires primary { 0 < grouping.now.primary }
+        requires secondary { 0 < grouping.now.secondary }
+        requires below_ten { All (λ d. d < 10) digits.now }
+        ensures { K.wrote out.old result
+            (grouped_events grouping.now self.now.digits digits.now) out.new }
+    {
+        if self.is_ascii {
+            return out.ascii_groups(digits, grouping);
+        }
+        out.groups(digits, grouping, &self.digits)
     }
 
     /// The value with the affixes of the sign around it.

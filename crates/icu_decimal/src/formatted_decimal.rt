@@ -113,9 +113,8 @@ impl FormattedUnsignedDecimal<'_> {
         requires { All (λ d. d < 10) integer.now }
         ensures { K.wrote out.old result (grouped_events self.now.format integer.now) out.new }
     {
-        let characters = self.format.digits();
         if !self.format.is_grouped(integer.len()) {
-            return out.digits(integer, characters);
+            return self.format.write_digits(integer, out);
         }
         let symbols = self.format.symbols();
         let sizes = symbols.grouping_sizes;
@@ -125,7 +124,7 @@ impl FormattedUnsignedDecimal<'_> {
             part: Some(parts::GROUP),
             separator: symbols.grouping_separator(),
         };
-        out.groups(integer, &grouping, characters)
+        self.format.write_groups(integer, &grouping, out)
     }
 
     /// Writes the decimal separator and the digits below power 0, as parts; without such digits nothing.
@@ -138,7 +137,7 @@ impl FormattedUnsignedDecimal<'_> {
         }
         out.part(parts::DECIMAL, self.format.symbols().decimal_separator())?;
         out.open(parts::FRACTION)?;
-        out.digits(fraction, self.format.digits())?;
+        self.format.write_digits(fraction, out)?;
         out.close()
     }
 }
