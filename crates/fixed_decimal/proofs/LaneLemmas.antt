@@ -2,7 +2,8 @@
 use Rattle.std.proofs.Common.{◌≡◌, ℕ, ◌+◌, ◌-◌, ◌*◌, ◌%◌, ◌/◌, ◌^◌, ◌<◌, ◌≤◌, Bool, true, false, not, cond, List, [], ◌∷◌, map, length, get_or, take, drop, Fits, w8, refl, sym, ap, ◌∙◌, arith, zero, suc, replicate, ◌++◌}
 use Rattle.std.proofs.lemmas.Bool.{agree_below, agree_below_at}
 use Rattle.std.proofs.lemmas.Simd.{zip2_splat, zip2_splat_left, map-map, mask_l-mod, leading_from_mask_l, trailing_mask_l, Each1-from_get_or}
-use Rattle.std.proofs.lemmas.List.{length-take-le, drop-drop, drop-replicate, take_all, length-map, drop-map, length-drop, get_or-drop}
+use Rattle.std.proofs.lemmas.List.{length-take-le, drop-drop, drop-replicate, take_all, length-map, drop-map, length-drop, get_or-drop, take-append-le, take-take, take-append-drop, append_assoc}
+use Rattle.std.proofs.lemmas.Slice.{drop-append-drop}
 use Rattle.std.proofs.lemmas.List.Elements.{All-head, All-tail}
 use Rattle.std.proofs.lemmas.List.Sums.{prefix_len-le-length}
 use Rattle.std.specs.List.{prefix_len, AllPass}
@@ -84,6 +85,30 @@ values_are sub agree v long n digits =
     go [] (suc n) digits = refl
     go (x ∷ v) (suc n) digits =
         rw (here x (All-head (λ x. is_ascii_digit x ≡ true) x (take n v) digits), go v n (All-tail (λ x. is_ascii_digit x ≡ true) x (take n v) digits)) refl
+
+-- as many bytes of a text's beginning as of its end, written over zeros, are the text and zeros behind it
+pub both_ends : (text zeros first last front result : List ℕ) (n : ℕ) → n ≤ length text → length text ≤ n + n → length text ≤ 16 → zeros ≡ replicate 16 0 → first ≡ take n text → last ≡ drop (length text - n) text
+    → front ≡ first ++ drop (0 + length first) zeros → result ≡ take (length text - n) front ++ (last ++ drop (length text - n + length last) front) → result ≡ text ++ replicate (16 - length text) 0
+both_ends text zeros first last front result n part both short e0 e1 e2 eg er =
+    let at : 0 + length first ≡ length first = omega arith in
+    let ef : front ≡ first ++ drop (length first) zeros = eg ∙ ap (λ (k : ℕ). first ++ drop k zeros) at in
+    let a : length first ≡ n = ap length e1 ∙ length-take-le n text part in
+    let b : take (length text - n) front ≡ take (length text - n) text =
+    ap (take (length text - n)) ef ∙ take-append-le (length text - n) first (drop (length first) zeros) (omega (arith, a, both)) ∙ ap (take (length text - n)) e1 ∙ take-take (length text - n) n text (omega (arith, both)) in
+    let len : length last ≡ length text - (length text - n) = ap length e2 ∙ length-drop (length text - n) text in
+    let all : length text - n + length last ≡ length text = omega (arith, len, part) in
+    let z : drop (length text - n + length last) front ≡ replicate (16 - length text) 0 =
+    ap (λ (k : ℕ). drop k front) all
+    ∙ ap (drop (length text)) ef
+    ∙ drop-append-drop (length first) zeros first (length text) (omega (arith, a, part)) refl
+    ∙ ap (drop (length text)) e0
+    ∙ drop-replicate (length text) 16 0 in
+    er
+    ∙ ap (λ (l : List ℕ). l ++ (last ++ drop (length text - n + length last) front)) b
+    ∙ ap (λ (l : List ℕ). take (length text - n) text ++ (last ++ l)) z
+    ∙ ap (λ (l : List ℕ). take (length text - n) text ++ (l ++ replicate (16 - length text) 0)) e2
+    ∙ sym (append_assoc (take (length text - n) text) (drop (length text - n) text) (replicate (16 - length text) 0))
+    ∙ ap (λ (l : List ℕ). l ++ replicate (16 - length text) 0) (take-append-drop (length text - n) text)
 
 -- zeros behind two texts
 pub both_left : (front back zeros part : List ℕ) → part ≡ drop (length front) zeros → zeros ≡ replicate 16 0 → length front + length back ≤ 16 → drop (length back) part ≡ replicate (16 - (length front + length back)) 0

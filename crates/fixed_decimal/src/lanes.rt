@@ -15,9 +15,26 @@ pub(crate) fn padded(text: &[u8]) -> [u8; LANES]
     requires { length text.now ≤ LANES }
     ensures { result ≡ text.now ++ replicate (LANES - length text.now) 0 }
 {
-    let mut lanes = [0; LANES];
-    lanes[..text.len()].copy_from_slice(text);
-    lanes
+    match text.len() {
+        8.. => by_ends(text, 8),
+        4..=7 => by_ends(text, 4),
+        2..=3 => by_ends(text, 2),
+        _ => by_ends(text, text.len()),
+    }
+}
+
+/// A text, and zeros behind it, out of as many bytes of its beginning as of its end: copies of a length that the caller
+/// writes as a number take one load and one store each.
+#[inline(always)]
+fn by_ends(text: &[u8], part: usize) -> [u8; LANES]
+    requires part { part ≤ length text.now }
+    requires both { length text.now ≤ part + part }
+    requires short { length text.now ≤ LANES }
+    ensures { result ≡ text.now ++ replicate (LANES - length text.now) 0 }
+{
+    let front = with_text([0; LANES], 0, &text[..part]);
+    let place = text.len() - part;
+    with_text(front, place, &text[place..])
 }
 
 /// Two texts one behind the other, and zeros behind them.
