@@ -20,8 +20,8 @@ pub use icu_provider::{
 };
 pub use writeable;
 pub use writeable::{
-    EventWriter, Grouping, OutOfMemory, Part, PartsText, PartsWrite, WriteFault, Writeable,
-    event_writer, groups, parts_text, sink,
+    ASCII_DIGITS, EventWriter, Grouping, OutOfMemory, Part, PartsText, PartsWrite, WriteFault,
+    Writeable, event_writer, groups, parts_text, sink,
 };
 
 #[cfg(test)]
