@@ -124,3 +124,7 @@ for turn in $(seq 1 "$runs"); do
 done
 echo
 echo "start-up with $(stat -c %s build/tables.json) bytes of tables: $((${best[start]} / 1000)) ms"
+
+# Library callers in four locales.
+echo
+./locales.sh "$runs"
