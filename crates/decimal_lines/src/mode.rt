@@ -1,5 +1,6 @@
 //! How each line is formatted.
 
+use icu_base::ASCII_DIGITS;
 use icu_decimal::options::DecimalFormatterOptions;
 use icu_decimal::provider::DecimalSymbols;
 use icu_decimal::{CompactDecimalFormatter, DecimalFormatter};
@@ -39,8 +40,7 @@ impl Mode {
         let Ok(symbols) = DecimalSymbols::new_en_for_testing(alloc) else {
             return Err(StartError::OutOfMemory);
         };
-        let digits = ['0', '1', '2', '3', '4', '5', '6', '7', '8', '9'];
         let options = DecimalFormatterOptions::default();
-        Ok(Mode::Plain(DecimalFormatter::from_parts(symbols, digits, options)))
+        Ok(Mode::Plain(DecimalFormatter::from_parts(symbols, ASCII_DIGITS, options)))
     }
 }

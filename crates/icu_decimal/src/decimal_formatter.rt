@@ -16,8 +16,7 @@ use crate::grouper::longest_ungrouped;
 use crate::options::{DecimalFormatterOptions, GroupingStrategy};
 use crate::parts;
 use fixed_decimal::{Decimal, Sign, UnsignedDecimal};
-use icu_base::event_writer::ASCII_DIGITS;
-use icu_base::{EventWriter, Grouping, SinglePlaceholder, WriteFault, Writeable};
+use icu_base::{ASCII_DIGITS, EventWriter, Grouping, SinglePlaceholder, WriteFault, Writeable};
 use icu_decimal_data::{CompactPatterns, DecimalSymbols};
 use icu_decimal_readable::{are_numbers_readable, is_table_readable};
 use std::alloc::Global;
@@ -31,7 +30,7 @@ pub struct DecimalFormatter {
     digits: [char; 10],
     /// The greatest count of digits that are not grouped.
     longest_ungrouped: usize,
-    /// Whether the digits are the characters '0' to '9', which need no table.
+    /// Whether the digits are the characters '0' to '9', for which writers have calls of their own.
     is_ascii: bool,
 }
 

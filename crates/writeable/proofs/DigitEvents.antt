@@ -1,9 +1,9 @@
 -- The events of digits, one by one.
-use Rattle.std.proofs.Common.{◌≡◌, ℕ, zero, suc, ◌+◌, ◌<◌, List, [], ◌∷◌, ◌++◌, length, take, drop, get_or, sym, ap, ◌∙◌, refl, append-nil, append_assoc, rules, arith}
+use Rattle.std.proofs.Common.{◌≡◌, ℕ, ◌+◌, ◌<◌, List, [], ◌∷◌, ◌++◌, length, take, drop, get_or, sym, ap, ◌∙◌, refl, append-nil, append_assoc, rules, arith}
 use Rattle.std.proofs.lemmas.Grind.{common_steps}
 use Rattle.std.proofs.lemmas.List.{drop_more, take_more, map-append, take-append-drop}
 use Rattle.std.specs.Char.{encode_utf8}
-use Rattle.writeable.specs.Events.{digit_events, text_of, ascii_characters}
+use Rattle.writeable.specs.Events.{digit_events, text_of}
 use Rattle.writeable.specs.Events.Event.{Char}
 use Rattle.writeable.specs.Writes.{text_of-append}
 
@@ -53,17 +53,3 @@ pub one_byte : (bytes : List ℕ) → length bytes ≡ 1 → bytes ≡ get_or by
 one_byte [] e = absurd (omega arith)
 one_byte (b ∷ []) e = refl
 one_byte (b ∷ c ∷ bytes) e = absurd (omega arith)
-
--- the character of a digit among '0' to '9'
-pub ascii_character : (d : ℕ) → d < 10 → get_or ascii_characters d 0 ≡ 48 + d
-ascii_character zero h = refl
-ascii_character (suc zero) h = refl
-ascii_character (suc (suc zero)) h = refl
-ascii_character (suc (suc (suc zero))) h = refl
-ascii_character (suc (suc (suc (suc zero)))) h = refl
-ascii_character (suc (suc (suc (suc (suc zero))))) h = refl
-ascii_character (suc (suc (suc (suc (suc (suc zero)))))) h = refl
-ascii_character (suc (suc (suc (suc (suc (suc (suc zero))))))) h = refl
-ascii_character (suc (suc (suc (suc (suc (suc (suc (suc zero)))))))) h = refl
-ascii_character (suc (suc (suc (suc (suc (suc (suc (suc (suc zero))))))))) h = refl
-ascii_character (suc (suc (suc (suc (suc (suc (suc (suc (suc (suc d)))))))))) h = absurd (omega arith)

@@ -9,7 +9,7 @@ use crate::sink::WriteFault;
 use std::mem;
 
 /// How many digits stand in a group of thousands.
-pub(crate) const THOUSANDS: usize = 3;
+const THOUSANDS: usize = 3;
 
 /// Whether each of the characters is one byte. All ten are asked, so that it is computed without jumps.
 pub(crate) fn are_ascii(characters: &[char; 10]) -> bool
@@ -20,6 +20,26 @@ pub(crate) fn are_ascii(characters: &[char; 10]) -> bool
         ascii &= character.is_ascii();
     }
     ascii
+}
+
+/// Appends digits; room is asked for once.
+pub(crate) fn push_byte_digits(
+    out: &mut Vec<u8>,
+    digits: &[u8],
+    characters: &[char; 10],
+) -> Result<(), WriteFault>
+    requires below_ten { All (λ d. d < 10) digits.now }
+    requires ascii { All (λ c. c < 128) characters.now }
+    ensures { OnOk result (out.new.items ≡ out.old.items
+        ++ text_of (digit_events characters.now digits.now)) }
+{
+    let Ok(()) = out.reserve(digits.len()) else {
+        return Err(WriteFault);
+    };
+    let alloc = *out.allocator();
+    let taken = mem::replace(out, Vec::new(alloc));
+    *out = push_ascii(taken, digits, characters);
+    Ok(())
 }
 
 /// Appends digits in groups, with the separator between two; room is asked for once.

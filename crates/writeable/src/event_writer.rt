@@ -8,8 +8,7 @@ ghost use Rattle.writeable.specs.Groups.{separator_events, grouped_events};
 ghost use Rattle.writeable.specs.Sink.{LentWrites};
 ghost use Rattle.writeable.specs.Writes.{LentWrites-nothing, LentWrites-then, LentWrites-stop, without_parts-append, AppendsText-nothing, AppendsText-then, OnOk-stop};
 
-use crate::ascii_bytes::{push_digit_bytes, push_digit_thousands};
-use crate::byte_groups::{THOUSANDS, are_ascii, push_byte_groups, push_groups};
+use crate::byte_groups::{are_ascii, push_byte_digits, push_byte_groups, push_groups};
 use crate::groups::{Grouping, first_group, next_group};
 use crate::sink::{Part, PartsWrite, WriteFault};
 use std::mem;
@@ -78,7 +77,7 @@ pub trait EventWriter {
         Ok(())
     }
 
-    /// Writes digits by the characters '0' to '9', which need no table.
+    /// Writes digits by the characters '0' to '9', of which a writer knows that each is one byte.
     fn ascii_digits(&mut self, digits: &[u8]) -> Result<(), WriteFault>
         requires { All (λ d. d < 10) digits.now }
         ensures { wrote self.old result (digit_events ascii_characters digits.now) self.new }
@@ -86,7 +85,7 @@ pub trait EventWriter {
         self.digits(digits, &ASCII_DIGITS)
     }
 
-    /// Writes digits in groups by the characters '0' to '9', which need no table.
+    /// Writes digits in groups by the characters '0' to '9', of which a writer knows that each is one byte.
     fn ascii_groups(&mut self, digits: &[u8], grouping: &Grouping<'_>) -> Result<(), WriteFault>
         requires primary { 0 < grouping.now.primary }
         requires secondary { 0 < grouping.now.secondary }
@@ -301,17 +300,23 @@ impl EventWriter for Vec<u8> {
 
     /// Asks for room once.
     fn ascii_digits(&mut self, digits: &[u8]) -> Result<(), WriteFault> {
-        push_digit_bytes(self, digits)
+        push_byte_digits(self, digits, &ASCII_DIGITS)
     }
 
-    /// Asks for room once, where groups are of three and the separator is one byte.
+    /// Asks for room once, where the separator is one byte.
     fn ascii_groups(&mut self, digits: &[u8], grouping: &Grouping<'_>) -> Result<(), WriteFault> {
         let separator = grouping.separator.as_bytes();
-        let thousands = grouping.primary == THOUSANDS && grouping.secondary == THOUSANDS;
-        if !thousands || separator.len() != 1 {
-            return self.groups(digits, grouping, &ASCII_DIGITS);
+        if separator.len() == 1 {
+            return push_byte_groups(
+                self,
+                digits,
+                grouping.primary,
+                grouping.secondary,
+                separator[0],
+                &ASCII_DIGITS,
+            );
         }
-        push_digit_thousands(self, digits, separator[0])
+        push_groups(self, digits, grouping, &ASCII_DIGITS)
     }
 
     fn open(&mut self, part: Part) -> Result<(), WriteFault>

@@ -18,7 +18,6 @@
 //! prints `12 km with 1 part`.
 #![tactic(auto)]
 
-mod ascii_bytes;
 mod byte_groups;
 pub mod error;
 pub mod event_writer;

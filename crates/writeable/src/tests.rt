@@ -6,6 +6,7 @@ mod bytes;
 mod groups;
 mod limit;
 mod spans;
+mod writers;
 mod written;
 
 const INTEGER: Part = Part {

@@ -47,7 +47,8 @@ impl EventWriter for String {
         characters: &[char; 10],
     ) -> Result<(), WriteFault> {
         let separator = grouping.separator.as_bytes();
-        let separators = digits.len() / grouping.primary.min(grouping.secondary);
+        let before_last = digits.len().saturating_sub(grouping.primary);
+        let separators = before_last.div_ceil(grouping.secondary);
         let room = digits.len().saturating_mul(characters[0].len_utf8());
         let Ok(()) = self.reserve(room.saturating_add(separators.saturating_mul(separator.len())))
         else {

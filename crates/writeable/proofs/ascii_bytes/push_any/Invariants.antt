@@ -1,6 +1,0 @@
-use Rattle.std.proofs.Common.{◌≡◌, ◌+◌, ◌++◌, take, vec_len, vec_capacity}
-use Rattle.writeable.specs.Events.{text_of, digit_events, ascii_characters}
-use Rattle.writeable.proofs.ascii_bytes.push_any.Given as goal
-
-abbrev pub invariant-loop-index : goal.invariant-loop-index
-invariant-loop-index l = (l.out.items ≡ l.initial.out.items ++ text_of (digit_events ascii_characters (take l.index l.digits))) × (vec_len l.out ≡ vec_len l.initial.out + l.index) × (vec_capacity l.out ≡ vec_capacity l.initial.out)
