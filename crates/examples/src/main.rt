@@ -17,9 +17,7 @@ use icu_unit::UnitFormatter;
 use plural_conditions::{first_fault, read_condition};
 use std::process::ExitCode;
 use std::str;
-use writeable::{Part, PartsText, PartsWrite, Writeable};
-
-const DIGITS: [char; 10] = ['0', '1', '2', '3', '4', '5', '6', '7', '8', '9'];
+use writeable::{ASCII_DIGITS, Part, PartsText, PartsWrite, Writeable};
 
 /// English with thousands.
 const TABLES: &str =
@@ -109,14 +107,18 @@ fn of_icu_decimal_data(rt: &HostRuntime) -> Option<()> {
 
 fn of_icu_decimal_readable(rt: &HostRuntime) -> Option<()> {
     let symbols = DecimalSymbols::new_en_for_testing(rt.alloc()).ok()?;
-    println!(rt; "readable: {}", are_numbers_readable(&symbols, &DIGITS)).ok()
+    println!(rt;
+        "readable: {}",
+        are_numbers_readable(&symbols, &ASCII_DIGITS)
+    )
+    .ok()
 }
 
 fn of_icu_decimal(rt: &HostRuntime) -> Option<()> {
     let symbols = DecimalSymbols::new_en_for_testing(rt.alloc()).ok()?;
     let formatter = DecimalFormatter::from_parts(
         symbols,
-        DIGITS,
+        ASCII_DIGITS,
         DecimalFormatterOptions::default(),
     );
     let decimal = Decimal::try_from_str(rt.alloc(), "-987654.321").ok()?;
@@ -145,7 +147,7 @@ fn of_icu_unit(rt: &HostRuntime) -> Option<()> {
     let symbols = DecimalSymbols::new_en_for_testing(rt.alloc()).ok()?;
     let formatter = DecimalFormatter::from_parts(
         symbols,
-        DIGITS,
+        ASCII_DIGITS,
         DecimalFormatterOptions::default(),
     );
     let rules = PluralRules::from_rules(

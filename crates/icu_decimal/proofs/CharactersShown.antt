@@ -10,6 +10,7 @@ use Rattle.icu_decimal.specs.Decimal.{DecimalFormat, strategy_of, integer_events
 use Rattle.icu_decimal.specs.Grouping.{digit_groups, joined, joined_after}
 use Rattle.icu_decimal.specs.Part.{in_decimal_part}
 use Rattle.icu_decimal_readable.specs.Readable.{affixes}
+use Rattle.writeable.proofs.EventLemmas.{characters-map_Char}
 use Rattle.icu_decimal.proofs.Runs.{fraction_text}
 
 characters-append : (xs ys : List Event) → characters (xs ++ ys) ≡ characters xs ++ characters ys
@@ -17,11 +18,6 @@ characters-append [] ys = refl
 characters-append (Char c ∷ xs) ys = ap (λ l. c ∷ l) (characters-append xs ys)
 characters-append (Open category value ∷ xs) ys = characters-append xs ys
 characters-append (Close ∷ xs) ys = characters-append xs ys
-
--- the characters of characters are these
-pub characters-characters : (cs : List ℕ) → characters (map Char cs) ≡ cs
-characters-characters [] = refl
-characters-characters (c ∷ cs) = ap (λ l. c ∷ l) (characters-characters cs)
 
 characters-in_part : (value : List ℕ) (es : List Event) → characters (in_decimal_part value es) ≡ characters es
 characters-in_part value es = characters-append es (Close ∷ []) ∙ append-nil (characters es)
@@ -49,7 +45,7 @@ groups_of f d = digit_groups (integer d) f.symbols.grouping_sizes (strategy_of f
 
 -- a text in a part
 characters-text_part : (value bytes : List ℕ) → characters (in_decimal_part value (text_events bytes)) ≡ chars bytes
-characters-text_part value bytes = characters-in_part value (text_events bytes) ∙ characters-characters (chars bytes)
+characters-text_part value bytes = characters-in_part value (text_events bytes) ∙ characters-map_Char (chars bytes)
 
 characters-fraction : (f : DecimalFormat) (ds : List ℕ) → characters (fraction_events f ds) ≡ fraction_text (chars f.symbols.strings.decimal_separator) (digit_characters f ds)
 characters-fraction f [] = refl

@@ -12,15 +12,16 @@ use Rattle.icu_base.specs.Rules.{category_of}
 use Rattle.icu_base.specs.declared.plurals.category.PluralCategory.{PluralCategory}
 use Rattle.icu_base.specs.declared.plurals.category.PluralCategory.TheVariants.{Zero, One, Two, Few, Many, Other}
 use Rattle.icu_decimal_data.specs.CompactTable.{PatternElements, TableEntry}
+use Rattle.writeable.proofs.EventLemmas.{characters-map_Char}
+use Rattle.writeable.proofs.LawLemmas.{characters-without_parts}
 use Rattle.icu_decimal.specs.CompactFormat.{CompactFormat, pattern_of, filled_events}
 use Rattle.icu_decimal.specs.Decimal.{unsigned_events, signed_events}
 use Rattle.icu_decimal_readable.specs.Readable.{Surroundings, affixes, sides_at, sides, surroundings, HasPattern, IsEntryOf, IsPatternBy}
 use Rattle.icu_decimal.specs.Readable.{IsReadableCompact}
 use Rattle.icu_decimal.specs.ReadableLaws.{IsWrittenBy, CompactTextTells}
-use Rattle.icu_decimal.proofs.CharactersShown.{characters-signed, characters-around, characters-characters}
+use Rattle.icu_decimal.proofs.CharactersShown.{characters-signed, characters-around}
 use Rattle.icu_decimal.proofs.DigitsTold.{IsOther}
 use Rattle.icu_decimal.proofs.Runs.{every-append}
-use Rattle.icu_decimal.proofs.ShownAgain.{characters-without_parts}
 use Rattle.icu_decimal.proofs.TextsTold.{AreOthers, are_others, unsigned_tells}
 
 -- an optional value, or another
@@ -61,7 +62,7 @@ pattern_is f (Some e) significand h = (h, selected_is e.elements (operands_of si
 
 characters-placed : (place : Option ℕ) (literal : List ℕ) (es : List Event) → IsSome place → characters (around literal place es) ≡ (sides_at place literal).before ++ (characters es ++ (sides_at place literal).after)
 characters-placed None literal es some = cc
-characters-placed (Some n) literal es some = characters-around (text_events (take n literal)) es (text_events (drop n literal)) (chars (take n literal)) (chars (drop n literal)) (characters-characters (chars (take n literal))) (characters-characters (chars (drop n literal)))
+characters-placed (Some n) literal es some = characters-around (text_events (take n literal)) es (text_events (drop n literal)) (chars (take n literal)) (chars (drop n literal)) (characters-map_Char (chars (take n literal))) (characters-map_Char (chars (drop n literal)))
 
 regroup : (a b c d e : List ℕ) → a ++ ((b ++ (c ++ d)) ++ e) ≡ (a ++ b) ++ (c ++ (d ++ e))
 regroup a b c d e = simp append_assoc

@@ -2,7 +2,7 @@
 use Rattle.std.proofs.Common.{◌≡◌, ℕ, ◌<◌, ◌≤◌, ◌+◌, ◌-◌, ◌*◌, ◌/◌, ◌%◌, ◌↔◌, IsTrue, Bool, true, false, not, List, [], ◌∷◌, ◌++◌, length, inl, inr, refl, sym, ap, ◌∙◌, arith, ne_eqb, ℤ, pos}
 use Rattle.std.specs.Prelude.{◌==◌, ◌&&◌, nat_le}
 use Rattle.std.proofs.lemmas.Int.{ints}
-use Rattle.std.proofs.lemmas.Bool.{false≢true}
+use Rattle.std.proofs.lemmas.Bool.{false≢true, and_parts}
 use Rattle.std.proofs.lemmas.Bool.Decides.{nat_tests, eqb_tells}
 use Rattle.std.proofs.Math.Nat.{mul-mod_left}
 use Rattle.icu_decimal.specs.declared.options.GroupingStrategy.{GroupingStrategy}
@@ -10,11 +10,6 @@ use Rattle.icu_decimal.specs.declared.options.GroupingStrategy.TheVariants.{Auto
 use Rattle.icu_decimal_data.specs.declared.grouping_sizes.GroupingSizes.{GroupingSizes}
 use Rattle.icu_decimal.specs.Grouping.{secondary_size, least_before, groups_ever, is_grouped, digit_groups, EndsGroup, HasSeparatorAfter}
 use Rattle.icu_decimal.proofs.Groupings.{IsDue, EndsGroup-cut}
-
--- where both tests hold, each does
-pub and_both : (a b : Bool) → (a && b) ≡ true → (a ≡ true) × (b ≡ true)
-and_both true b e = (refl, e)
-and_both false b e = cc
 
 module _ (strategy : GroupingStrategy) (sizes : GroupingSizes) where
   -- what has to hold for so many digits to be grouped
@@ -25,8 +20,8 @@ module _ (strategy : GroupingStrategy) (sizes : GroupingSizes) where
 
   pub groups-from : (count : ℕ) → is_grouped count sizes strategy ≡ true → Groups count
   groups-from count e =
-      let first = and_both (groups_ever strategy) (not (sizes.primary == 0) && nat_le (least_before strategy sizes) (count - sizes.primary)) e in
-      let second = and_both (not (sizes.primary == 0)) (nat_le (least_before strategy sizes) (count - sizes.primary)) first.1 in
+      let first = and_parts (groups_ever strategy) (not (sizes.primary == 0) && nat_le (least_before strategy sizes) (count - sizes.primary)) e in
+      let second = and_parts (not (sizes.primary == 0)) (nat_le (least_before strategy sizes) (count - sizes.primary)) first.1 in
       record { ever = first.0; primary_some = grind (arith, nat_tests, second.0); enough = grind (arith, nat_tests, second.1) }
 
   pub groups-to : (count : ℕ) → Groups count → is_grouped count sizes strategy ≡ true

@@ -20,6 +20,7 @@ use Rattle.icu_decimal.specs.Decimal.{signed_events}
 use Rattle.icu_decimal.specs.Displayed.{are_same_entry, displayed_entry, displayed_high, IsDisplayed}
 use Rattle.icu_decimal.specs.CompactLaws.{IsUnpadded, IsWrittenAlone, IsShownAgain, ShownIsGiven}
 use Rattle.icu_decimal.specs.Part.{in_decimal_part}
+use Rattle.writeable.proofs.LawLemmas.{characters-without_parts}
 use Rattle.icu_decimal.proofs.CompactCore.{exponent_le_magnitude}
 use Rattle.icu_decimal.proofs.DisplayedOnce.{displayed_is_one}
 use Rattle.icu_decimal.proofs.NearestLaws.{nearest_to_itself, itself_nearest, nearest_within, zero_is_compact}
@@ -129,13 +130,6 @@ without_parts-twice [] = refl
 without_parts-twice (Char c ∷ es) = ap (λ l. Char c ∷ l) (without_parts-twice es)
 without_parts-twice (Open category value ∷ es) = without_parts-twice es
 without_parts-twice (Close ∷ es) = without_parts-twice es
-
--- and the characters stay
-pub characters-without_parts : (es : List Event) → characters (without_parts es) ≡ characters es
-characters-without_parts [] = refl
-characters-without_parts (Char c ∷ es) = ap (λ l. c ∷ l) (characters-without_parts es)
-characters-without_parts (Open category value ∷ es) = characters-without_parts es
-characters-without_parts (Close ∷ es) = characters-without_parts es
 
 -- between two affixes parts inside make no difference to the characters
 between : (before after es : List Event) → without_parts (before ++ (es ++ after)) ≡ without_parts (before ++ (without_parts es ++ after))

@@ -11,7 +11,7 @@ use Rattle.icu_decimal_data.specs.DecimalSymbols.{english_symbols}
 use Rattle.icu_decimal_readable.specs.Readable.{Surroundings, affixes, sides, sides_at, surroundings, HasPattern, IsFreeOfDigits, IsPatternBy, IsReadableTable}
 use Rattle.icu_decimal.specs.CompactFormat.{CompactFormat}
 use Rattle.icu_decimal.specs.Readable.{IsReadableCompact}
-use Rattle.icu_decimal.proofs.WorkedReadable.{texts, digits, has_none_of, none_of, sign_told, english_readable}
+use Rattle.icu_decimal.proofs.WorkedReadable.{texts, digits, has_none_of, neither, none_of, sign_told, english_readable}
 
 -- an exponent, and the literal that follows a number: the one pattern of an entry whose type is its exponent
 record Row : Type 0 where
@@ -64,10 +64,6 @@ itself (c ∷ cs) = rw (eq-eqb c c refl) (itself cs)
 both : (b r : Bool) → (if b then r else false) ≡ true → (b ≡ true) × (r ≡ true)
 both true r e = (refl, e)
 both false r e = cc
-
-neither : (b r : Bool) → (if b then false else r) ≡ true → (b ≡ false) × (r ≡ true)
-neither true r e = cc
-neither false r e = (refl, e)
 
 is_among : (rows : List Row) (j : ℕ) (r : Row) (t : List ℕ) → IsRowAt rows j r → tail r ≡ t → is_tail_of rows t ≡ true
 is_among [] j r t at same = absurd at

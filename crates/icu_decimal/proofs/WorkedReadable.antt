@@ -36,7 +36,8 @@ among [] c k l e = absurd (omega arith)
 among (d ∷ ds) c zero l e = rw (eq-eqb d c e) refl
 among (d ∷ ds) c (suc k) l e = elim (d == c) as (λ b. (if b then true else is_among ds c) ≡ true) [ true ↦ refl | false ↦ among ds c k (omega arith) e ]
 
-neither : (b r : Bool) → (if b then false else r) ≡ true → (b ≡ false) × (r ≡ true)
+-- of two tests that have to fail, both do
+pub neither : (b r : Bool) → (if b then false else r) ≡ true → (b ≡ false) × (r ≡ true)
 neither true r e = cc
 neither false r e = (refl, e)
 

@@ -4,7 +4,7 @@
 //! let symbols = DecimalSymbols::new_en_for_testing(rt.alloc()).ok()?;
 //! let formatter = DecimalFormatter::from_parts(
 //!     symbols,
-//!     DIGITS,
+//!     ASCII_DIGITS,
 //!     DecimalFormatterOptions::default(),
 //! );
 //! let decimal = Decimal::try_from_str(rt.alloc(), "-987654.321").ok()?;

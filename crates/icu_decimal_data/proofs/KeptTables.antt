@@ -5,7 +5,7 @@ use Rattle.std.specs.List.Sorted.{IsStrictlySortedBy}
 use Rattle.std.specs.Map.{keys_of}
 use Rattle.std.specs.Ordering.{nat_cmp}
 use Rattle.std.specs.declared.cmp.Ordering.TheVariants.{Less}
-use Rattle.std.proofs.lemmas.Bool.{cases_Bool}
+use Rattle.std.proofs.lemmas.Bool.{cases_Bool, or_parts}
 use Rattle.std.proofs.lemmas.Cmp.{ranked}
 use Rattle.std.proofs.lemmas.List.Kept.{AllPairs-cons}
 use Rattle.std.proofs.lemmas.List.Elements.{All-nil, All-cons}
@@ -77,15 +77,11 @@ pub types_rise : (es : List (ℕ × (ℕ × PatternElements))) → IsStrictlySor
 types_rise [] h = tt
 types_rise (e ∷ es) h = (types_above e.0 es (sorted_head nat_cmp e.0 (keys_of es) h), types_rise es (sorted_tail nat_cmp e.0 (keys_of es) h))
 
-neither : (a b : Bool) → (a || b) ≡ false → (a ≡ false) × (b ≡ false)
-neither true b h = absurd (cc)
-neither false b h = (refl, h)
-
 -- without a fall exponents rise from a lower bound on
 pub exponents_rise : (low : ℕ) (es : List TableEntry) → falls_after low es ≡ false → Each (λ e. low ≤ e.exponent) es × Pairs (λ e f. e.exponent ≤ f.exponent) es
 exponents_rise low [] h = (tt, tt)
 exponents_rise low (e ∷ es) h =
-    let parts = neither (nat_lt e.exponent low) (falls_after e.exponent es) h in
+    let parts = or_parts (nat_lt e.exponent low) (falls_after e.exponent es) h in
     let rest = exponents_rise e.exponent es parts.1 in
     let on : low ≤ e.exponent = ltb-false e.exponent low parts.0 in
     ((on, each_weaker (λ f. e.exponent ≤ f.exponent) (λ f. low ≤ f.exponent) (λ f g. omega arith) es rest.0), rest)

@@ -1,7 +1,7 @@
 -- The records: what is read is written so, and what is written is read.
 use Rattle.std.proofs.Common.{◌≡◌, ℕ, zero, suc, ◌+◌, ◌-◌, ◌*◌, ◌<◌, ◌≤◌, ◌^◌, Bool, true, false, ◌&&◌, ◌||◌, List, [], ◌∷◌, ◌++◌, length, take, drop, slice_index, slice_range, Option, Some, None, Result, Ok, ltb, refl, sym, ap, ◌∙◌, arith, subst}
 use Rattle.std.specs.Prelude.{⊤}
-use Rattle.std.proofs.lemmas.Bool.{ltb-false, le-ltb, leb-false, lt-leb}
+use Rattle.std.proofs.lemmas.Bool.{ltb-false, le-ltb, leb-false, lt-leb, or_parts}
 use Rattle.std.proofs.lemmas.List.{length-append, append_assoc, length-take, length-drop, take_at, drop_at, drop-drop, take_all}
 use Rattle.std.proofs.Math.Seq.{take-add}
 use Rattle.icu_base.specs.Patterns.{PatternText, same_pattern}
@@ -13,7 +13,7 @@ use Rattle.icu_decimal_data.specs.TableReading.{same_slots, slots_without_explic
 use Rattle.icu_decimal_data.specs.Kept.{repeats}
 use Rattle.icu_decimal_data.specs.TableBytes.{slots_bytes, record_bytes, records_bytes}
 use Rattle.icu_decimal_data.specs.TableReading.{slots_in, entry_in, entries_in, unless, ◌>>=◌, slots_step, is_wrong_type, is_falling, is_wrong_exponent, is_repeated, record_step, records_step}
-use Rattle.icu_decimal_data.proofs.TableBasics.{IsBytes, IsBytes-drop, IsBytes-take, bind_ok, unless_ok, ok_is, or_false, range_split}
+use Rattle.icu_decimal_data.proofs.TableBasics.{IsBytes, IsBytes-drop, IsBytes-take, bind_ok, unless_ok, ok_is, range_split}
 use Rattle.icu_decimal_data.proofs.SlotsLaws.{TakenSlots, slots_taken, slots_again, length-slots, slots_are, elements_are}
 
 -- a record's bytes stand for an entry
@@ -100,8 +100,8 @@ module _ (accepts : PatternText → Bool) (pool : List ℕ) (pool_at : ℕ) wher
       let entry = entry_in pool bytes in
       let ss : slots entry.elements ≡ slots_in pool 8 (drop 2 bytes) = slots_are pool (drop 2 bytes) t.last in
       let whole : take 56 (drop 2 bytes) ≡ drop 2 bytes = take_all 56 (drop 2 bytes) (omega (arith, length-drop 2 bytes)) in
-      let w0 = or_false (ltb (slice_index bytes 0) (slice_index bytes 1)) _ c.0 in
-      let w1 = or_false (ltb 15 (slice_index bytes 0 - slice_index bytes 1)) _ w0.1 in
+      let w0 = or_parts (ltb (slice_index bytes 0) (slice_index bytes 1)) _ c.0 in
+      let w1 = or_parts (ltb 15 (slice_index bytes 0 - slice_index bytes 1)) _ w0.1 in
       let below = ltb-false _ _ w0.0 in
       let few = ltb-false _ _ w1.0 in
       let r : IsRecord pool bytes entry = record { log10_type = refl; exponent = refl; elements = sym ss } in

@@ -5,19 +5,12 @@ use Rattle.std.specs.Option.{option_eq}
 use Rattle.std.specs.Cmp.Lexicographic.{pointwise}
 use Rattle.std.proofs.lemmas.Bool.Decides.{Decides-eqb}
 use Rattle.std.proofs.lemmas.Slice.Eq.{bytes_eq-Decides}
+use Rattle.std.proofs.lemmas.Bool.{and_parts, and_from}
 use Rattle.icu_base.specs.Patterns.{PatternText, same_pattern}
 use Rattle.icu_base.specs.Elements.{Elements, same_elements}
 use Rattle.icu_decimal_data.specs.CompactTable.{PatternElements, TableEntry}
 use Rattle.icu_decimal_data.specs.Kept.{same_patterns}
 use Rattle.icu_decimal_data.specs.SameTable.{same_entry, same_table}
-
--- both of two tests are true where their conjunction is
-pub both : (a b : Bool) → (a && b) ≡ true → (a ≡ true) × (b ≡ true)
-both true b h = (refl, h)
-both false b h = absurd (cc)
-
-pub both_true : (a b : Bool) → a ≡ true → b ≡ true → (a && b) ≡ true
-both_true a b p q = rw (p, q) refl
 
 module _ {T : Type 0} where
   pub option_eq-Decides : (eq : T → T → Bool) → ((x y : T) → Decides (eq x y) (x ≡ y)) → (a b : Option T) → Decides (option_eq eq a b) (a ≡ b)
@@ -29,13 +22,13 @@ module _ {T : Type 0} where
   pub same_elements-Decides : (eq : T → T → Bool) → ((x y : T) → Decides (eq x y) (x ≡ y)) → (a b : Elements T) → Decides (same_elements eq a b) (a ≡ b)
   same_elements-Decides eq d a b = (
     λ h.
-        let r0 = both (option_eq eq a.explicit_zero b.explicit_zero) _ h in
-        let r1 = both (option_eq eq a.explicit_one b.explicit_one) _ r0.1 in
-        let r2 = both (option_eq eq a.zero b.zero) _ r1.1 in
-        let r3 = both (option_eq eq a.one b.one) _ r2.1 in
-        let r4 = both (option_eq eq a.two b.two) _ r3.1 in
-        let r5 = both (option_eq eq a.few b.few) _ r4.1 in
-        let r6 = both (option_eq eq a.many b.many) _ r5.1 in
+        let r0 = and_parts (option_eq eq a.explicit_zero b.explicit_zero) _ h in
+        let r1 = and_parts (option_eq eq a.explicit_one b.explicit_one) _ r0.1 in
+        let r2 = and_parts (option_eq eq a.zero b.zero) _ r1.1 in
+        let r3 = and_parts (option_eq eq a.one b.one) _ r2.1 in
+        let r4 = and_parts (option_eq eq a.two b.two) _ r3.1 in
+        let r5 = and_parts (option_eq eq a.few b.few) _ r4.1 in
+        let r6 = and_parts (option_eq eq a.many b.many) _ r5.1 in
         λ i. record {
           explicit_zero = (option_eq-Decides eq d a.explicit_zero b.explicit_zero).0 r0.0 i;
           explicit_one = (option_eq-Decides eq d a.explicit_one b.explicit_one).0 r1.0 i;
@@ -47,26 +40,26 @@ module _ {T : Type 0} where
           other = (d a.other b.other).0 r6.1 i;
         },
     λ h.
-        both_true _ _ ((option_eq-Decides eq d a.explicit_zero b.explicit_zero).1 (ap (λ (e : Elements T). e.explicit_zero) h))
-        (both_true _ _ ((option_eq-Decides eq d a.explicit_one b.explicit_one).1 (ap (λ (e : Elements T). e.explicit_one) h))
-        (both_true _ _ ((option_eq-Decides eq d a.zero b.zero).1 (ap (λ (e : Elements T). e.zero) h))
-        (both_true _ _ ((option_eq-Decides eq d a.one b.one).1 (ap (λ (e : Elements T). e.one) h))
-        (both_true _ _ ((option_eq-Decides eq d a.two b.two).1 (ap (λ (e : Elements T). e.two) h))
-        (both_true _ _ ((option_eq-Decides eq d a.few b.few).1 (ap (λ (e : Elements T). e.few) h))
-        (both_true _ _ ((option_eq-Decides eq d a.many b.many).1 (ap (λ (e : Elements T). e.many) h))
+        and_from _ _ ((option_eq-Decides eq d a.explicit_zero b.explicit_zero).1 (ap (λ (e : Elements T). e.explicit_zero) h))
+        (and_from _ _ ((option_eq-Decides eq d a.explicit_one b.explicit_one).1 (ap (λ (e : Elements T). e.explicit_one) h))
+        (and_from _ _ ((option_eq-Decides eq d a.zero b.zero).1 (ap (λ (e : Elements T). e.zero) h))
+        (and_from _ _ ((option_eq-Decides eq d a.one b.one).1 (ap (λ (e : Elements T). e.one) h))
+        (and_from _ _ ((option_eq-Decides eq d a.two b.two).1 (ap (λ (e : Elements T). e.two) h))
+        (and_from _ _ ((option_eq-Decides eq d a.few b.few).1 (ap (λ (e : Elements T). e.few) h))
+        (and_from _ _ ((option_eq-Decides eq d a.many b.many).1 (ap (λ (e : Elements T). e.many) h))
         ((d a.other b.other).1 (ap (λ (e : Elements T). e.other) h)))))))),
   )
 
 pub same_pattern-Decides : (p q : PatternText) → Decides (same_pattern p q) (p ≡ q)
 same_pattern-Decides p q = (
   λ h.
-      let r = both (option_eq nat_eq p.place q.place) _ h in
+      let r = and_parts (option_eq nat_eq p.place q.place) _ h in
       λ i. record {
         place = (option_eq-Decides nat_eq Decides-eqb p.place q.place).0 r.0 i;
         literal = (bytes_eq-Decides p.literal q.literal).0 r.1 i;
       },
   λ h.
-      both_true _ _ ((option_eq-Decides nat_eq Decides-eqb p.place q.place).1 (ap (λ (e : PatternText). e.place) h))
+      and_from _ _ ((option_eq-Decides nat_eq Decides-eqb p.place q.place).1 (ap (λ (e : PatternText). e.place) h))
       ((bytes_eq-Decides p.literal q.literal).1 (ap (λ (e : PatternText). e.literal) h)),
 )
 
@@ -83,24 +76,24 @@ pointwise-Decides eq d [] (y ∷ ys) = (λ h. absurd (cc), λ h. absurd (cc))
 pointwise-Decides eq d (x ∷ xs) [] = (λ h. absurd (cc), λ h. absurd (cc))
 pointwise-Decides eq d (x ∷ xs) (y ∷ ys) = (
   λ h.
-      let r = both (eq x y) _ h in
+      let r = and_parts (eq x y) _ h in
       λ i. (d x y).0 r.0 i ∷ (pointwise-Decides eq d xs ys).0 r.1 i,
-  λ h. both_true _ _ ((d x y).1 (cc)) ((pointwise-Decides eq d xs ys).1 (cc)),
+  λ h. and_from _ _ ((d x y).1 (cc)) ((pointwise-Decides eq d xs ys).1 (cc)),
 )
 
 pub same_entry-Decides : (e f : TableEntry) → Decides (same_entry e f) (e ≡ f)
 same_entry-Decides e f = (
   λ h.
-      let r0 = both (nat_eq e.log10_type f.log10_type) _ h in
-      let r1 = both (nat_eq e.exponent f.exponent) _ r0.1 in
+      let r0 = and_parts (nat_eq e.log10_type f.log10_type) _ h in
+      let r1 = and_parts (nat_eq e.exponent f.exponent) _ r0.1 in
       λ i. record {
         log10_type = (Decides-eqb e.log10_type f.log10_type).0 r0.0 i;
         exponent = (Decides-eqb e.exponent f.exponent).0 r1.0 i;
         elements = (same_patterns-Decides e.elements f.elements).0 r1.1 i;
       },
   λ h.
-      both_true _ _ ((Decides-eqb e.log10_type f.log10_type).1 (ap (λ (g : TableEntry). g.log10_type) h))
-      (both_true _ _ ((Decides-eqb e.exponent f.exponent).1 (ap (λ (g : TableEntry). g.exponent) h)) ((same_patterns-Decides e.elements f.elements).1 (ap (λ (g : TableEntry). g.elements) h))),
+      and_from _ _ ((Decides-eqb e.log10_type f.log10_type).1 (ap (λ (g : TableEntry). g.log10_type) h))
+      (and_from _ _ ((Decides-eqb e.exponent f.exponent).1 (ap (λ (g : TableEntry). g.exponent) h)) ((same_patterns-Decides e.elements f.elements).1 (ap (λ (g : TableEntry). g.elements) h))),
 )
 
 -- tables are equal exactly where they are the same

@@ -2,13 +2,13 @@
 use Rattle.std.proofs.Common.{◌≡◌, ℕ, zero, suc, ◌+◌, ◌-◌, ◌*◌, ◌/◌, ◌%◌, ◌<◌, ◌≤◌, ◌^◌, Bool, true, false, cond, not, ◌&&◌, ◌||◌, IsTrue, IsSome, List, [], ◌∷◌, length, slice_range, Option, Some, None, Ok, eqb, ltb, refl, sym, ap, ◌∙◌, arith}
 use Rattle.std.specs.List.{list_all}
 use Rattle.std.specs.Str.{is_utf8}
-use Rattle.std.proofs.lemmas.Bool.{eqb-true, eq-eqb, ltb-false, le-ltb}
+use Rattle.std.proofs.lemmas.Bool.{eqb-true, eq-eqb, ltb-false, le-ltb, and_parts, or_parts}
 use Rattle.icu_base.specs.Patterns.{PatternText, place_alone}
 use Rattle.icu_decimal_data.specs.PackedTable.{is_pattern, IsBackend}
 use Rattle.icu_decimal_data.specs.PackedTable.{ArePatterns, literal_of}
 use Rattle.icu_decimal_data.specs.TableBytes.{kind_of, place_number, slot_bytes}
 use Rattle.icu_decimal_data.specs.TableReading.{number, pattern_in, slot_in, unless, is_wrong_kind, is_wrong_place, slot_step}
-use Rattle.icu_decimal_data.proofs.TableBasics.{IsBytes, unless_ok, ok_is, not_false, or_false, and_true, low_is, high_is, joined_is, length-range}
+use Rattle.icu_decimal_data.proofs.TableBasics.{IsBytes, unless_ok, ok_is, not_false, low_is, high_is, joined_is, length-range, nothing_at}
 
 -- what is known of a slot that was read
 pub record Taken (accepts : PatternText → Bool) (pool : List ℕ) (last : Bool) (sum : ℕ) (slot : List ℕ) (next : ℕ) : Type 0 where
@@ -19,9 +19,6 @@ pub record Taken (accepts : PatternText → Bool) (pool : List ℕ) (last : Bool
   pub patterns : ArePatterns accepts (slot_in pool slot ∷ [])
   pub present : last ≡ true → IsSome (slot_in pool slot)
 
-nothing_at : (pool : List ℕ) (sum : ℕ) → slice_range pool sum sum ≡ []
-nothing_at pool sum = let e : sum - sum ≡ 0 = omega arith in rw e refl
-
 module _ (accepts : PatternText → Bool) (pool : List ℕ) (pool_at : ℕ) (last : Bool) (at sum : ℕ) where
   absent_taken : (s0 s1 l0 l1 p0 p1 next : ℕ) → sum ≤ length pool
       → slot_step accepts pool pool_at last at sum (0 ∷ s0 ∷ s1 ∷ l0 ∷ l1 ∷ p0 ∷ p1 ∷ []) ≡ Ok next → Taken accepts pool last sum (0 ∷ s0 ∷ s1 ∷ l0 ∷ l1 ∷ p0 ∷ p1 ∷ []) next
@@ -30,12 +27,12 @@ module _ (accepts : PatternText → Bool) (pool : List ℕ) (pool_at : ℕ) (las
       let a = unless_ok (is_wrong_kind accepts last 0) at _ next e in
       let b = unless_ok (not (list_all (λ (b : ℕ). eqb b 0) (s0 ∷ s1 ∷ l0 ∷ l1 ∷ p0 ∷ p1 ∷ []))) (at + 1) (Ok sum) next a.1 in
       let z = not_false (list_all (λ (b : ℕ). eqb b 0) (s0 ∷ s1 ∷ l0 ∷ l1 ∷ p0 ∷ p1 ∷ [])) b.0 in
-      let z0 = and_true (eqb s0 0) _ z in
-      let z1 = and_true (eqb s1 0) _ z0.1 in
-      let z2 = and_true (eqb l0 0) _ z1.1 in
-      let z3 = and_true (eqb l1 0) _ z2.1 in
-      let z4 = and_true (eqb p0 0) _ z3.1 in
-      let z5 = and_true (eqb p1 0) _ z4.1 in
+      let z0 = and_parts (eqb s0 0) _ z in
+      let z1 = and_parts (eqb s1 0) _ z0.1 in
+      let z2 = and_parts (eqb l0 0) _ z1.1 in
+      let z3 = and_parts (eqb l1 0) _ z2.1 in
+      let z4 = and_parts (eqb p0 0) _ z3.1 in
+      let z5 = and_parts (eqb p1 0) _ z4.1 in
       let e0 : s0 ≡ 0 = eqb-true _ _ z0.0 in
       let e1 : s1 ≡ 0 = eqb-true _ _ z1.0 in
       let e2 : l0 ≡ 0 = eqb-true _ _ z2.0 in
@@ -49,7 +46,7 @@ module _ (accepts : PatternText → Bool) (pool : List ℕ) (pool_at : ℕ) (las
         literal = rw (← same) (nothing_at pool sum);
         inside = omega arith;
         patterns = tt;
-        present = λ t. absurd (let f = or_false false _ a.0 in let g = or_false (last && true) _ f.1 in and_last last t g.0);
+        present = λ t. absurd (let f = or_parts false _ a.0 in let g = or_parts (last && true) _ f.1 in and_last last t g.0);
       }
     where
       and_last : (l : Bool) → l ≡ true → (l && true) ≡ false → ⊥
@@ -99,12 +96,12 @@ module _ (accepts : PatternText → Bool) (pool : List ℕ) (pool_at : ℕ) (las
   taken zero s0 s1 l0 l1 p0 p1 next b0 b1 b2 le e = absent_taken s0 s1 l0 l1 p0 p1 next le e
   taken (suc zero) s0 s1 l0 l1 p0 p1 next b0 b1 b2 le e =
       present_taken 1 s0 s1 l0 l1 p0 p1 next b0 b1 b2 refl None refl refl
-      (λ w. let f = or_false (ltb (l0 + 256 * l1) (p0 + 256 * p1)) _ w in sym (eqb-true _ _ (not_false _ f.1))) e
+      (λ w. let f = or_parts (ltb (l0 + 256 * l1) (p0 + 256 * p1)) _ w in sym (eqb-true _ _ (not_false _ f.1))) e
   taken (suc (suc zero)) s0 s1 l0 l1 p0 p1 next b0 b1 b2 le e =
       present_taken 2 s0 s1 l0 l1 p0 p1 next b0 b1 b2 refl (Some (p0 + 256 * p1)) refl refl (λ w. refl) e
   taken (suc (suc (suc k))) s0 s1 l0 l1 p0 p1 next b0 b1 b2 le e =
       let a = unless_ok (is_wrong_kind accepts last (suc (suc (suc k)))) at _ next e in
-      let f = or_false (ltb 2 (suc (suc (suc k)))) _ a.0 in
+      let f = or_parts (ltb 2 (suc (suc (suc k)))) _ a.0 in
       let g = ltb-false 2 (suc (suc (suc k))) f.0 in
       absurd (omega arith)
 
@@ -151,7 +148,7 @@ module _ (accepts : PatternText → Bool) (pool : List ℕ) (pool_at : ℕ) (las
           let l = no_last last in
           kind_again p 1 0 (ap kind_of e) (ap place_number e) refl (rw l refl) (sym e) (rw a refl) good small fits range
       go (Some k) e =
-          let parts = and_true (is_utf8 p.literal) (accepts p) good in
+          let parts = and_parts (is_utf8 p.literal) (accepts p) good in
           let some : IsSome p.place = rw e refl in
           let open_is : accepts place_alone ≡ true = backend.opened p parts.1 some in
           let in_it = backend.inside p parts.1 in

@@ -11,7 +11,7 @@ use Rattle.icu_decimal_data.specs.CompactTable.{PatternElements}
 use Rattle.icu_decimal_data.specs.PackedTable.{ArePatterns, literal_of, slot_literals}
 use Rattle.icu_decimal_data.specs.TableBytes.{slot_bytes, slots_bytes}
 use Rattle.icu_decimal_data.specs.TableReading.{pattern_in, slot_in, slots_in, slot_at, elements_in, slot_step, slots_step}
-use Rattle.icu_decimal_data.proofs.TableBasics.{IsBytes, IsBytes-drop, IsBytes-take, bind_ok, ok_is, range_split}
+use Rattle.icu_decimal_data.proofs.TableBasics.{IsBytes, IsBytes-drop, IsBytes-take, bind_ok, ok_is, range_split, nothing_at}
 use Rattle.icu_decimal_data.proofs.SlotLaws.{Taken, slot_taken, slot_again}
 
 -- the last of some slots, if any, is a pattern
@@ -40,9 +40,6 @@ patterns_first accepts (Some p) ss a = ((a.0, tt), a.1)
 last_more : (pool : List ℕ) (s : Option PatternText) (m : ℕ) (bytes : List ℕ) → (eqb m 0 ≡ true → IsSome s) → LastIsPresent (slots_in pool m bytes) → LastIsPresent (s ∷ slots_in pool m bytes)
 last_more pool s zero bytes h l = h refl
 last_more pool s (suc m) bytes h l = l
-
-nothing_at : (pool : List ℕ) (sum : ℕ) → slice_range pool sum sum ≡ []
-nothing_at pool sum = let e : sum - sum ≡ 0 = omega arith in rw e refl
 
 module _ (accepts : PatternText → Bool) (pool : List ℕ) (pool_at : ℕ) where
   -- slots that are passed are written of their patterns

@@ -1,5 +1,5 @@
 -- Small facts.
-use Rattle.std.proofs.Common.{◌≡◌, ℕ, ◌+◌, ◌-◌, ◌*◌, ◌/◌, ◌%◌, ◌<◌, ◌≤◌, Bool, true, false, not, ◌&&◌, ◌||◌, List, ◌++◌, length, get_or, take, drop, slice_range, Result, Ok, Err, refl, ap, ◌∙◌, arith, inl, inr}
+use Rattle.std.proofs.Common.{◌≡◌, ℕ, ◌+◌, ◌-◌, ◌*◌, ◌/◌, ◌%◌, ◌<◌, ◌≤◌, Bool, true, false, not, ◌&&◌, ◌||◌, List, [], ◌++◌, length, get_or, take, drop, slice_range, Result, Ok, Err, refl, ap, ◌∙◌, arith, inl, inr}
 use Rattle.std.proofs.lemmas.Bool.{cases_lt}
 use Rattle.std.proofs.lemmas.List.{get_or-drop, get_or-take, get_or_past, length-take, length-drop, drop-drop}
 use Rattle.std.proofs.Math.Seq.{take-add}
@@ -43,15 +43,9 @@ pub not_false : (b : Bool) → not b ≡ false → b ≡ true
 not_false true e = refl
 not_false false e = absurd cc
 
--- neither of two is true where their disjunction is false
-pub or_false : (a b : Bool) → (a || b) ≡ false → (a ≡ false) × (b ≡ false)
-or_false true b e = absurd cc
-or_false false b e = (refl, e)
-
--- both of two are true where their conjunction is
-pub and_true : (a b : Bool) → (a && b) ≡ true → (a ≡ true) × (b ≡ true)
-and_true true b e = (refl, e)
-and_true false b e = absurd cc
+-- nothing stands between a place and itself
+pub nothing_at : (pool : List ℕ) (at : ℕ) → slice_range pool at at ≡ []
+nothing_at pool at = let e : at - at ≡ 0 = omega arith in rw e refl
 
 -- low and high bytes
 pub low_is : (a b : ℕ) → a < 256 → (a + 256 * b) % 256 ≡ a

@@ -6,6 +6,7 @@ use Rattle.std.specs.Cmp.Lexicographic.{pointwise}
 use Rattle.std.specs.Option.{option_map}
 use Rattle.std.proofs.lemmas.List.Sums.{sum_by-cons}
 use Rattle.std.proofs.lemmas.Slice.Eq.{bytes_eq-Decides}
+use Rattle.std.proofs.lemmas.Bool.{and_parts}
 use Rattle.icu_base.specs.Elements.{selected, sole_value, is_exactly, category_value}
 use Rattle.icu_base.specs.Operands.{Operands}
 use Rattle.icu_base.specs.Patterns.{PatternText}
@@ -16,7 +17,7 @@ use Rattle.icu_decimal_data.specs.SameTable.{same_table}
 use Rattle.icu_decimal_data.specs.PackedTable.{IsBackend, IsPackable, AreEntries}
 use Rattle.icu_decimal_data.specs.TableBytes.{table_bytes}
 use Rattle.icu_decimal_data.specs.TableReading.{entry_of, count_in, type_in, table_in, table_step, IsTableBytes, IsReached}
-use Rattle.icu_decimal_data.proofs.TableBasics.{IsBytes, and_true}
+use Rattle.icu_decimal_data.proofs.TableBasics.{IsBytes}
 use Rattle.icu_decimal_data.proofs.KeptTables.{Each, Pairs, each_weaker, all_each, all_pairs}
 use Rattle.icu_decimal_data.proofs.SameEntries.{same_table-Decides}
 use Rattle.icu_decimal_data.proofs.PackedTables.{is_found, table_again}
@@ -138,13 +139,13 @@ sole_is_selected e p h o category = go (list_all is_none (e.explicit_zero ∷ e.
     go : (all : Bool) → list_all is_none (e.explicit_zero ∷ e.explicit_one ∷ e.zero ∷ e.one ∷ e.two ∷ e.few ∷ e.many ∷ []) ≡ all → (if all then Some e.other else None) ≡ Some p → selected e o category ≡ p
     go false n s = absurd cc
     go true n s =
-        let r0 = and_true (is_none e.explicit_zero) _ n in
-        let r1 = and_true (is_none e.explicit_one) _ r0.1 in
-        let r2 = and_true (is_none e.zero) _ r1.1 in
-        let r3 = and_true (is_none e.one) _ r2.1 in
-        let r4 = and_true (is_none e.two) _ r3.1 in
-        let r5 = and_true (is_none e.few) _ r4.1 in
-        let r6 = and_true (is_none e.many) _ r5.1 in
+        let r0 = and_parts (is_none e.explicit_zero) _ n in
+        let r1 = and_parts (is_none e.explicit_one) _ r0.1 in
+        let r2 = and_parts (is_none e.zero) _ r1.1 in
+        let r3 = and_parts (is_none e.one) _ r2.1 in
+        let r4 = and_parts (is_none e.two) _ r3.1 in
+        let r5 = and_parts (is_none e.few) _ r4.1 in
+        let r6 = and_parts (is_none e.many) _ r5.1 in
         let same : e.other ≡ p = cc in
         by_parts (is_exactly 0 o) (is_exactly 1 o) e.explicit_zero e.explicit_one (category_value e category) (none_there _ r0.0) (none_there _ r1.0) (by_category category (none_there _ r2.0) (none_there _ r3.0) (none_there _ r4.0) (none_there _ r5.0) (none_there _ r6.0)) ∙ same
       where

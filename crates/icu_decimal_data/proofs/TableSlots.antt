@@ -3,7 +3,7 @@ use Rattle.std.proofs.Common.{◌≡◌, ℕ, zero, suc, ◌+◌, ◌-◌, ◌*�
 use Rattle.std.specs.Prelude.{is_some, is_none, if◌then◌else◌}
 use Rattle.std.specs.List.{list_all}
 use Rattle.std.specs.Str.{is_utf8, IsUtf8}
-use Rattle.std.proofs.lemmas.Bool.{cases_Bool, eqb-true, eq-eqb}
+use Rattle.std.proofs.lemmas.Bool.{cases_Bool, eqb-true, eq-eqb, and_parts}
 use Rattle.std.proofs.lemmas.List.{drop-drop, take-take, drop-take}
 use Rattle.std.proofs.lemmas.Str.{IsUtf8-from_is_utf8}
 use Rattle.icu_base.specs.Patterns.{PatternText}
@@ -11,7 +11,6 @@ use Rattle.icu_base.specs.Elements.{slots}
 use Rattle.icu_decimal_data.specs.CompactTable.{TableEntry}
 use Rattle.icu_decimal_data.specs.PackedTable.{is_pattern, ArePatterns, IsEntry, AreEntries}
 use Rattle.icu_decimal_data.specs.TableReading.{pattern_in, slot_in, slots_in, entry_of, count_in, pool_in, table_in, table_step, slot_of, IsTableBytes}
-use Rattle.icu_decimal_data.proofs.TableBasics.{and_true}
 use Rattle.icu_decimal_data.proofs.PackedTables.{ok_value, is_found, table_read}
 use Rattle.icu_decimal_data.proofs.TableSearch.{entry_at}
 
@@ -80,7 +79,7 @@ module _ (accepts : PatternText → Bool) (bytes : List ℕ) (i j : ℕ) (h : Is
   good : (is_utf8 (pattern_in (pool_in bytes) (slot_of bytes i j)).literal ≡ true) × (accepts (pattern_in (pool_in bytes) (slot_of bytes i j)) ≡ true)
   good =
       let p = pattern_in (pool_in bytes) (slot_of bytes i j) in
-      and_true (is_utf8 p.literal) (accepts p) (slot_pattern accepts bytes i j p h inside lt (slot_some (pool_in bytes) (slot_of bytes i j) some))
+      and_parts (is_utf8 p.literal) (accepts p) (slot_pattern accepts bytes i j p h inside lt (slot_some (pool_in bytes) (slot_of bytes i j) some))
 
   pub literal_is_text : IsUtf8 (pattern_in (pool_in bytes) (slot_of bytes i j)).literal
   literal_is_text = IsUtf8-from_is_utf8 _ good.0

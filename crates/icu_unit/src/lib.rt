@@ -4,7 +4,7 @@
 //! let symbols = DecimalSymbols::new_en_for_testing(rt.alloc()).ok()?;
 //! let formatter = DecimalFormatter::from_parts(
 //!     symbols,
-//!     DIGITS,
+//!     ASCII_DIGITS,
 //!     DecimalFormatterOptions::default(),
 //! );
 //! let rules = PluralRules::from_rules(

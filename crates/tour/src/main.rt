@@ -2,7 +2,9 @@
 #![tactic(auto)]
 
 use fixed_decimal::Decimal;
-use icu_base::{PartsText, Pattern, PluralCategory, PluralElements, PluralRules, Writeable};
+use icu_base::{
+    ASCII_DIGITS, PartsText, Pattern, PluralCategory, PluralElements, PluralRules, Writeable,
+};
 use icu_decimal::options::{CompactDecimalFormatterOptions, DecimalFormatterOptions};
 use icu_decimal::provider::{CompactPatterns, DecimalSymbols};
 use icu_decimal::{CompactDecimalFormatter, DecimalFormatter};
@@ -10,12 +12,10 @@ use std::alloc::Global;
 use std::collections::BTreeMap;
 use std::process::ExitCode;
 
-const DIGITS: [char; 10] = ['0', '1', '2', '3', '4', '5', '6', '7', '8', '9'];
-
 /// English symbols and digits.
 fn english(alloc: Global, options: DecimalFormatterOptions) -> Option<DecimalFormatter> {
     let symbols = DecimalSymbols::new_en_for_testing(alloc).ok()?;
-    Some(DecimalFormatter::from_parts(symbols, DIGITS, options))
+    Some(DecimalFormatter::from_parts(symbols, ASCII_DIGITS, options))
 }
 
 /// Writes a number, and each of its parts with the bytes where it stands.

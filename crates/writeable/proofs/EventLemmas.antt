@@ -8,7 +8,8 @@ use Rattle.std.proofs.lemmas.List.{map-append}
 use Rattle.writeable.specs.Events.{text_events, digit_events, text_of, without_parts, characters}
 use Rattle.writeable.specs.Events.Event.{Char}
 
-characters-map_Char : (cs : List ℕ) → characters (map Char cs) ≡ cs
+-- the characters of characters are these
+pub characters-map_Char : (cs : List ℕ) → characters (map Char cs) ≡ cs
 characters-map_Char [] = refl
 characters-map_Char (c ∷ cs) = ap (λ l. c ∷ l) (characters-map_Char cs)
 

@@ -12,7 +12,8 @@ use Rattle.writeable.specs.Spans.{spans, spans_from, span_of, end_of_part, moved
 use Rattle.writeable.specs.Writes.{text_of-append}
 use Rattle.writeable.proofs.EventLemmas.{text_events-append, text_of-text_events}
 
-characters-without_parts : (es : List Event) → characters (without_parts es) ≡ characters es
+-- the characters stay without the parts
+pub characters-without_parts : (es : List Event) → characters (without_parts es) ≡ characters es
 characters-without_parts [] = refl
 characters-without_parts (Char c ∷ es) = ap (λ l. c ∷ l) (characters-without_parts es)
 characters-without_parts (Open category value ∷ es) = characters-without_parts es

@@ -1,12 +1,12 @@
+use Rattle.std.proofs.lemmas.Bool.{and_parts}
 use Rattle.icu_decimal.proofs.FormattedLemmas.{unsigned_shown-same}
-use Rattle.icu_decimal.proofs.Separators.{and_both}
 use Rattle.icu_decimal.proofs.laws.equal_values_write_equal_events.Goals as goal
 
 pub returns-clause-numbers : goal.returns-clause-numbers
 returns-clause-numbers c a b h =
-    let first = and_both _ _ h in
-    let second = and_both _ _ first.1 in
-    let third = and_both _ _ second.1 in
+    let first = and_parts _ _ h in
+    let second = and_parts _ _ first.1 in
+    let third = and_parts _ _ second.1 in
     let same = c.equal_parts_are_the_same.ensures in
     unsigned_shown-same a b (same.numbers _ _ first.0) (same.options _ _ second.0) (same.symbols _ _ third.0) (same.digits _ _ third.1)
 
