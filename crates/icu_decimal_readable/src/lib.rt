@@ -2,7 +2,11 @@
 //!
 //! ```
 //! let symbols = DecimalSymbols::new_en_for_testing(rt.alloc()).ok()?;
-//! println!(rt; "readable: {}", are_numbers_readable(&symbols, &ASCII_DIGITS)).ok()
+//! println!(rt;
+//!     "readable: {}",
+//!     are_numbers_readable(&symbols, &ASCII_DIGITS)
+//! )
+//! .ok()
 //! ```
 //!
 //! prints `readable: true`.
