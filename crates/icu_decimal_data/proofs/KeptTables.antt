@@ -1,5 +1,5 @@
 -- What is kept of a map without a fault is a table.
-use Rattle.std.proofs.Common.{◌≡◌, ℕ, ◌+◌, ◌<◌, ◌≤◌, ⊎_elim, Bool, true, false, ◌||◌, refl, arith, List, [], ◌∷◌, Option, None, All, AllPairs, nat_lt, ltb-false}
+use Rattle.std.proofs.Common.{◌≡◌, ℕ, ◌+◌, ◌<◌, ◌≤◌, ⊎_elim, true, false, refl, arith, List, [], ◌∷◌, Option, None, All, AllPairs, nat_lt, ltb-false}
 use Rattle.std.specs.List.{AllByRecursion}
 use Rattle.std.specs.List.Sorted.{IsStrictlySortedBy}
 use Rattle.std.specs.Map.{keys_of}

@@ -6,10 +6,9 @@ use Rattle.std.specs.Prelude.{IfSome, IsSome}
 use Rattle.std.specs.Str.{IsCharBoundary}
 use Rattle.icu_base.specs.Patterns.{PatternText, PlaceFits, place_alone}
 use Rattle.icu_decimal_data.specs.PackedTable.{IsBackend}
-use Rattle.icu_base.specs.Elements.{slots}
 use Rattle.icu_decimal_data.specs.CompactTable.{TableEntry}
-use Rattle.icu_decimal_data.specs.PackedTable.{slot_literals, literals, IsPackable}
-use Rattle.icu_decimal_data.specs.TableBytes.{number_bytes, record_bytes, records_bytes, table_bytes}
+use Rattle.icu_decimal_data.specs.PackedTable.{literals, IsPackable}
+use Rattle.icu_decimal_data.specs.TableBytes.{number_bytes, records_bytes, table_bytes}
 use Rattle.icu_decimal_data.specs.TableReading.{number, entries_in, count_in, pool_start, pool_in, table_in, unless, ◌>>=◌, records_step, whole_len, table_step}
 use Rattle.icu_decimal_data.proofs.TableBasics.{IsBytes, IsBytes-drop, bind_ok, unless_ok, not_false, low_is, high_is, joined_is}
 use Rattle.icu_decimal_data.proofs.RecordLaws.{TakenRecords, records_taken, records_again, length-records}

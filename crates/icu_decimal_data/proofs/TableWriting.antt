@@ -9,7 +9,6 @@ use Rattle.icu_decimal_data.specs.CompactTable.{TableEntry, PatternElements}
 use Rattle.icu_decimal_data.specs.KeptSince.{kept_since, stays}
 use Rattle.icu_decimal_data.specs.PackedTable.{ArePatterns, AreWritable, literal_of, slot_literals, literals}
 use Rattle.icu_decimal_data.specs.TableBytes.{number_bytes, slot_bytes, slots_bytes, record_bytes, records_bytes, table_bytes}
-use Rattle.icu_decimal_data.proofs.SlotsLaws.{length-slots}
 use Rattle.icu_decimal_data.proofs.RecordLaws.{length-records}
 
 -- a place lies in its literal
