@@ -20,7 +20,7 @@ copy() {
 }
 
 for crate in writeable icu_pattern icu_provider fixed_decimal plural_conditions icu_plurals icu_base \
-    icu_decimal_symbols icu_decimal_data icu_decimal_readable icu_decimal icu_tables; do
+    icu_decimal_symbols icu_decimal_options icu_decimal_data icu_decimal_readable icu_decimal icu_tables; do
     copy "$crate"
 done
 echo 'texts: fixed_decimal icu_decimal icu_provider icu_tables' >>"$folder/crates.txt"

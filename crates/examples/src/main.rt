@@ -7,8 +7,9 @@ use icu_decimal::options::{CompactDecimalFormatterOptions, DecimalFormatterOptio
 use icu_decimal::preferences::CompactDecimalFormatterPreferences;
 use icu_decimal::{CompactDecimalFormatter, DecimalFormatter};
 use icu_decimal_data::{DecimalSymbols, SymbolsView};
+use icu_decimal_options::{GroupingStrategy, check};
 use icu_decimal_readable::are_numbers_readable;
-use icu_decimal_symbols::DecimalSymbolStrsBuilder;
+use icu_decimal_symbols::{DecimalSymbolStrsBuilder, GroupingSizes};
 use icu_pattern::{Pattern, SinglePlaceholder};
 use icu_plurals::{PluralCategory, PluralElements, PluralOperands, PluralRules};
 use icu_provider::{DataIdentifierBorrowed, DataLocale};
@@ -99,6 +100,16 @@ fn of_icu_decimal_symbols(rt: &HostRuntime) -> Option<()> {
     println!(rt; "before fractions {}", symbols.decimal_separator()).ok()
 }
 
+fn of_icu_decimal_options(rt: &HostRuntime) -> Option<()> {
+    let sizes = GroupingSizes {
+        primary: 3,
+        secondary: 2,
+        min_grouping: 1,
+    };
+    let separated = check(7, 5, GroupingStrategy::default(), sizes);
+    println!(rt; "after hundreds of thousands: {separated}").ok()
+}
+
 fn of_icu_decimal_data(rt: &HostRuntime) -> Option<()> {
     let symbols = DecimalSymbols::new_en_for_testing(rt.alloc()).ok()?;
     let view = SymbolsView::parse(symbols.strings.as_bytes()).ok()?;
@@ -181,6 +192,7 @@ fn print_all(rt: &HostRuntime) -> Option<()> {
     of_icu_plurals(rt)?;
     of_icu_provider(rt)?;
     of_icu_decimal_symbols(rt)?;
+    of_icu_decimal_options(rt)?;
     of_icu_decimal_data(rt)?;
     of_icu_decimal_readable(rt)?;
     of_icu_decimal(rt)?;

@@ -7,7 +7,7 @@ use Rattle.fixed_decimal.specs.Unsigned.{Unsigned, integer, fraction}
 use Rattle.icu_base.specs.Events.{Event, characters, text_events, digit_events}
 use Rattle.icu_base.specs.Events.Event.{Char, Open, Close}
 use Rattle.icu_decimal.specs.Decimal.{DecimalFormat, strategy_of, integer_events, fraction_events, unsigned_events, signed_events}
-use Rattle.icu_decimal.specs.Grouping.{digit_groups, joined, joined_after}
+use Rattle.icu_decimal_options.specs.Grouping.{digit_groups, joined, joined_after}
 use Rattle.icu_decimal.specs.Part.{in_decimal_part}
 use Rattle.icu_decimal_readable.specs.Readable.{affixes}
 use Rattle.writeable.proofs.EventLemmas.{characters-map_Char}

@@ -4,11 +4,11 @@ use Rattle.std.proofs.lemmas.List.{take-append-drop, get_or_default}
 use Rattle.std.proofs.lemmas.Bool.{cases_order}
 use Rattle.fixed_decimal.specs.Unsigned.{Unsigned, IsUnsigned, integer_count, integer, fraction}
 use Rattle.icu_decimal.specs.Decimal.{DecimalFormat, strategy_of}
-use Rattle.icu_decimal.specs.Grouping.{concatenated, digit_groups}
+use Rattle.icu_decimal_options.specs.Grouping.{concatenated, digit_groups}
 use Rattle.icu_decimal_readable.specs.Readable.{IsReadable}
 use Rattle.icu_decimal.proofs.CharactersShown.{digit_characters, groups_of}
 use Rattle.icu_decimal.proofs.GroupRuns.{runs-groups, some_groups}
-use Rattle.icu_decimal.proofs.GroupingLaws.{concatenated-digit_groups}
+use Rattle.icu_decimal_options.proofs.GroupingLaws.{concatenated-digit_groups}
 use Rattle.icu_decimal.proofs.Runs.{Every, Runs, every_of_all, every_before, every_after, every_map, runs_map, concatenated-map}
 
 abbrev pub IsDigit : ℕ → Type 0

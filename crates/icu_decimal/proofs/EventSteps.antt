@@ -2,7 +2,7 @@
 use Rattle.std.proofs.Common.{◌≡◌, ℕ, ◌<◌, List, [], ◌∷◌, ◌++◌, length, refl, sym, arith, codes, Option, Some, None, true, false, append-nil}
 use Rattle.icu_base.specs.Events.{Event, text_events, digit_events}
 use Rattle.icu_decimal.specs.Decimal.{DecimalFormat, fraction_events, grouped_events, group_events, separator_events, strategy_of}
-use Rattle.icu_decimal.specs.Grouping.{is_grouped, cut, joined, secondary_size}
+use Rattle.icu_decimal_options.specs.Grouping.{is_grouped, cut, joined, secondary_size}
 use Rattle.icu_decimal.specs.Part.{in_decimal_part}
 use Rattle.icu_decimal.specs.Signed.{Affixes, affixed_events, prefix_events, suffix_events}
 

@@ -1,7 +1,7 @@
 -- No group of digits is empty.
 use Rattle.std.proofs.Common.{◌≡◌, ◌≢◌, ℕ, ◌==◌, true, false, List, [], ◌∷◌, length, if◌then◌else◌}
-use Rattle.icu_decimal.specs.declared.options.GroupingStrategy.{GroupingStrategy}
-use Rattle.icu_decimal.specs.Grouping.{concatenated, put_before, cut, secondary_size, is_grouped, digit_groups}
+use Rattle.icu_decimal_options.specs.declared.options.GroupingStrategy.{GroupingStrategy}
+use Rattle.icu_decimal_options.specs.Grouping.{concatenated, put_before, cut, secondary_size, is_grouped, digit_groups}
 use Rattle.icu_decimal_data.specs.declared.grouping_sizes.GroupingSizes.{GroupingSizes}
 use Rattle.icu_decimal.proofs.Runs.{Every, Runs}
 

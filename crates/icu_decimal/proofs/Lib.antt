@@ -1,6 +1,3 @@
-pub mod Groupings
-pub mod GroupingLaws
-pub mod Separators
 pub mod EventSteps
 pub mod FormattedLemmas
 pub mod InlineWrites

@@ -1,7 +1,7 @@
 -- A text of runs of digits between texts without one is read in one way.
 use Rattle.std.proofs.Common.{◌≡◌, ◌≢◌, ℕ, suc, arith, refl, sym, ap, ap₂, ◌∙◌, subst, List, [], ◌∷◌, ◌++◌, append_assoc, All, map}
 use Rattle.std.proofs.lemmas.List.{map-append}
-use Rattle.icu_decimal.specs.Grouping.{concatenated, joined, joined_after}
+use Rattle.icu_decimal_options.specs.Grouping.{concatenated, joined, joined_after}
 
 -- a separator and digits, and nothing where there is none
 abbrev pub fraction_text : List ℕ → List ℕ → List ℕ

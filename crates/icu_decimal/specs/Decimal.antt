@@ -5,10 +5,10 @@ pub use Rattle.icu_base.specs.Groups.{group_events}
 use Rattle.icu_decimal_data.specs.declared.decimal_symbols.DecimalSymbols.{DecimalSymbols}
 use Rattle.fixed_decimal.specs.declared.signs.Sign.{Sign}
 use Rattle.fixed_decimal.specs.Unsigned.{Unsigned, integer, fraction}
-use Rattle.icu_decimal.specs.declared.options.GroupingStrategy.{GroupingStrategy}
-use Rattle.icu_decimal.specs.declared.options.GroupingStrategy.TheVariants.{Auto}
-use Rattle.icu_decimal.specs.declared.options.DecimalFormatterOptions.{DecimalFormatterOptions}
-use Rattle.icu_decimal.specs.Grouping.{digit_groups, joined}
+use Rattle.icu_decimal_options.specs.declared.options.GroupingStrategy.{GroupingStrategy}
+use Rattle.icu_decimal_options.specs.declared.options.GroupingStrategy.TheVariants.{Auto}
+use Rattle.icu_decimal_options.specs.declared.options.DecimalFormatterOptions.{DecimalFormatterOptions}
+use Rattle.icu_decimal_options.specs.Grouping.{digit_groups, joined}
 use Rattle.icu_decimal.specs.Part.{in_decimal_part}
 use Rattle.icu_decimal.specs.Signed.{affixes_for, affixed_events}
 

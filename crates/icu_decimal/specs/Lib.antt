@@ -1,6 +1,8 @@
+pub use Rattle.icu_decimal_options.specs.Grouping
+pub use Rattle.icu_decimal_options.specs.GroupingLaws
+pub use Rattle.icu_decimal_options.specs.Preferences
 pub mod Decimal
 pub mod Formatted
-pub mod Grouping
 pub mod Laws
 pub mod Cow
 pub mod Part
@@ -13,7 +15,6 @@ pub mod CompactFormat
 pub mod PatternGiven
 pub mod ExponentMismatch
 pub mod Loaded
-pub mod Preferences
 pub mod Readable
 pub mod ReadableLaws
 pub mod Shown

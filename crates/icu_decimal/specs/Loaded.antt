@@ -9,11 +9,11 @@ use Rattle.icu_decimal_data.specs.Decided.{decided}
 use Rattle.icu_decimal_data.specs.declared.decimal_symbols.DecimalSymbols.{DecimalSymbols}
 use Rattle.icu_decimal.specs.CompactFormat.{CompactFormat}
 use Rattle.icu_decimal.specs.Decimal.{DecimalFormat}
-use Rattle.icu_decimal.specs.Preferences.{asked, locale_id, plain_preferences, preferred_id}
-use Rattle.icu_decimal.specs.declared.options.DecimalFormatterOptions.{DecimalFormatterOptions}
-use Rattle.icu_decimal.specs.declared.options.CompactDecimalFormatterOptions.{CompactDecimalFormatterOptions}
-use Rattle.icu_decimal.specs.declared.preferences.DecimalFormatterPreferences.{DecimalFormatterPreferences}
-use Rattle.icu_decimal.specs.declared.preferences.CompactDecimalFormatterPreferences.{CompactDecimalFormatterPreferences}
+use Rattle.icu_decimal_options.specs.Preferences.{asked, locale_id, plain_preferences, preferred_id}
+use Rattle.icu_decimal_options.specs.declared.options.DecimalFormatterOptions.{DecimalFormatterOptions}
+use Rattle.icu_decimal_options.specs.declared.options.CompactDecimalFormatterOptions.{CompactDecimalFormatterOptions}
+use Rattle.icu_decimal_options.specs.declared.preferences.DecimalFormatterPreferences.{DecimalFormatterPreferences}
+use Rattle.icu_decimal_options.specs.declared.preferences.CompactDecimalFormatterPreferences.{CompactDecimalFormatterPreferences}
 
 -- what a provider answers by each identifier
 abbrev pub Provider : Type 0 → Type 0

@@ -5,19 +5,19 @@ ghost use Rattle.std.specs.String.{string_bytes};
 ghost use Rattle.icu_base.specs.Events.{Event, text_of, digit_events};
 ghost use Rattle.icu_base.specs.Groups.{grouped_events};
 ghost use Rattle.icu_decimal.specs.Decimal.{decimal_events, signed_events, unsigned_events, strategy_of};
-ghost use Rattle.icu_decimal.specs.Grouping.{is_grouped};
+ghost use Rattle.icu_decimal_options.specs.Grouping.{is_grouped};
 ghost use Rattle.icu_decimal_readable.specs.Readable.{IsReadable, IsReadableTable};
 
 use crate::cow::Cow;
 use crate::error::FormatError;
 use crate::formatted_decimal::{FormattedDecimal, FormattedUnsignedDecimal};
 use crate::formatted_sign::FormattedSign;
-use crate::grouper::longest_ungrouped;
-use crate::options::{DecimalFormatterOptions, GroupingStrategy};
 use crate::parts;
 use fixed_decimal::{Decimal, Sign, UnsignedDecimal};
 use icu_base::{ASCII_DIGITS, EventWriter, Grouping, SinglePlaceholder, WriteFault, Writeable};
 use icu_decimal_data::{CompactPatterns, DecimalSymbols};
+use icu_decimal_options::grouper::longest_ungrouped;
+use icu_decimal_options::options::{DecimalFormatterOptions, GroupingStrategy};
 use icu_decimal_readable::{are_numbers_readable, is_table_readable};
 use std::alloc::Global;
 use std::marker::Model;
@@ -38,7 +38,7 @@ impl Model for DecimalFormatter {
     ghost use Rattle.std.specs.Prelude.{◌≡◌, IsTrue};
     ghost use Rattle.icu_base.specs.Events.{ascii_characters};
     ghost use Rattle.icu_decimal.specs.Decimal.{DecimalFormat, strategy_of};
-    ghost use Rattle.icu_decimal.specs.Grouping.{IsLongestUngrouped};
+    ghost use Rattle.icu_decimal_options.specs.Grouping.{IsLongestUngrouped};
 
     ghost Value = { DecimalFormat };
 

@@ -6,12 +6,12 @@ ghost use Rattle.icu_base.specs.Events.{Event, text_of};
 use crate::cow::Cow;
 use crate::decimal_formatter::DecimalFormatter;
 use crate::formatted_sign::FormattedSign;
-use crate::grouper::secondary_size;
-use crate::options::DecimalFormatterOptions;
 use crate::parts;
 use fixed_decimal::UnsignedDecimal;
 use icu_base::{EventWriter, Grouping, WriteFault, Writeable};
 use icu_decimal_data::DecimalSymbols;
+use icu_decimal_options::grouper::secondary_size;
+use icu_decimal_options::options::DecimalFormatterOptions;
 use std::fmt;
 use std::marker::Model;
 

@@ -6,32 +6,22 @@ ghost use Rattle.fixed_decimal.specs.declared.signs.Sign.{Sign};
 ghost use Rattle.fixed_decimal.specs.Unsigned.{Unsigned};
 ghost use Rattle.icu_decimal.specs.CompactFormat.{CompactFormat};
 ghost use Rattle.icu_decimal.specs.CompactLaws.{OneCompactNumberIsNearest, NearestIsRounded, DisplayedIsOne, NearestKeepsOrder, MagnitudeIsShown, CompactNumberIsItsNearest, IsUnpadded, IsShownAgain, ShownIsGiven};
-ghost use Rattle.icu_decimal.specs.Laws.{AutoAndAlwaysWriteAlike, NoneActsAsAuto, SeparatorsTakenOut, DigitsHaveAGrouping, DigitsHaveOneGrouping};
+ghost use Rattle.icu_decimal.specs.Laws.{AutoAndAlwaysWriteAlike, NoneActsAsAuto};
 ghost use Rattle.icu_decimal.specs.ReadableLaws.{CompactTextTells, ShownTextTells, TextTellsTheDecimal};
 
 use crate::formatted_decimal::{FormattedDecimal, FormattedUnsignedDecimal};
 use crate::formatted_sign::FormattedSign;
-use crate::options::DecimalFormatterOptions;
 use fixed_decimal::UnsignedDecimal;
 use icu_base::Writeable;
 use icu_decimal_data::DecimalSymbols;
 pub use icu_decimal_data::laws::kept_means_full;
+pub use icu_decimal_options::laws::{grouping_is_unique, separators_taken_out};
+use icu_decimal_options::options::DecimalFormatterOptions;
 
 /// The strategies `Auto` and `Always` write the same, and so does no strategy.
 pub fn auto_and_always_write_alike()
     ensures always { AutoAndAlwaysWriteAlike }
     ensures none { NoneActsAsAuto }
-{}
-
-/// Taking out the separators gives the integer's digits in order.
-pub fn separators_taken_out()
-    ensures { SeparatorsTakenOut }
-{}
-
-/// More digits than the primary size have one grouping by the sizes.
-pub fn grouping_is_unique()
-    ensures some { DigitsHaveAGrouping }
-    ensures one { DigitsHaveOneGrouping }
 {}
 
 /// Where a plain formatter is readable, equal texts mean equal decimals: in sign, range and every digit.

@@ -23,12 +23,9 @@ pub mod error;
 mod formatted_compact;
 mod formatted_decimal;
 mod formatted_sign;
-pub mod grouper;
 pub mod laws;
 mod loading;
-pub mod options;
 pub mod parts;
-pub mod preferences;
 pub mod provider;
 #[cfg(test)]
 mod tests;
@@ -45,4 +42,5 @@ pub use decimal_formatter::DecimalFormatter;
 pub use formatted_compact::{FormattedUnsignedCompactDecimal, InterpolatedDecimal};
 pub use formatted_decimal::{FormattedDecimal, FormattedUnsignedDecimal};
 pub use formatted_sign::FormattedSign;
+pub use icu_decimal_options::{grouper, options, preferences};
 pub use preferences::DecimalFormatterPreferences;

@@ -5,12 +5,10 @@ ghost use Rattle.icu_base.specs.Answer.{Answers};
 ghost use Rattle.icu_base.specs.Identifier.{identifier_of};
 ghost use Rattle.icu_decimal_data.specs.Decided.{decided};
 ghost use Rattle.icu_decimal.specs.Loaded.{loaded, loaded_compact};
-ghost use Rattle.icu_decimal.specs.Preferences.{asked};
+ghost use Rattle.icu_decimal_options.specs.Preferences.{asked};
 
 use crate::compact_formatter::CompactDecimalFormatter;
 use crate::decimal_formatter::DecimalFormatter;
-use crate::options::{CompactDecimalFormatterOptions, DecimalFormatterOptions};
-use crate::preferences::{CompactDecimalFormatterPreferences, DecimalFormatterPreferences};
 use icu_base::{
     DataError, DataIdentifierBorrowed, DataMarker, DataProvider, PluralRules,
     PluralRulesPreferences, PluralsCardinalV1, SinglePlaceholder,
@@ -18,6 +16,10 @@ use icu_base::{
 use icu_decimal_data::{
     CompactPatterns, DecimalCompactLongV1, DecimalCompactShortV1, DecimalDigitsV1,
     DecimalSymbolsV1, load_with_fallback,
+};
+use icu_decimal_options::options::{CompactDecimalFormatterOptions, DecimalFormatterOptions};
+use icu_decimal_options::preferences::{
+    CompactDecimalFormatterPreferences, DecimalFormatterPreferences,
 };
 use std::alloc::Global;
 

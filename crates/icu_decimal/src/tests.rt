@@ -4,9 +4,9 @@
 use crate::cow::Cow;
 use crate::decimal_formatter::DecimalFormatter;
 use crate::error::CompactExponentError;
-use crate::options::DecimalFormatterOptions;
 use crate::provider::DecimalSymbols;
 use fixed_decimal::{Decimal, Sign};
+use icu_decimal_options::options::DecimalFormatterOptions;
 use std::alloc::{AllocError, Global};
 use std::fmt::Display;
 use std::process::Abort;

@@ -31,8 +31,6 @@ mod one_locale;
 #[cfg(test)]
 mod operands;
 #[cfg(test)]
-mod options;
-#[cfg(test)]
 mod plain;
 #[cfg(test)]
 mod readable;

@@ -2,7 +2,7 @@
 
 use crate::shelf::{Bare, Refusals, Shelf};
 use fixed_decimal::Decimal;
-use icu_base::{DataErrorKind, DataLocale, PluralRulesPreferences};
+use icu_base::{DataErrorKind, DataLocale};
 use icu_decimal::options::{
     CompactDecimalFormatterOptions, DecimalFormatterOptions, GroupingStrategy,
 };
@@ -284,58 +284,6 @@ fn answers_the_first_refusal(rt: HostRuntime) {
             "{kind:?}"
         );
     }
-}
-
-/// A preferred system in a locale of Egypt and the system and the locale of what is asked by first.
-const PREFERRED: [(Option<&str>, Option<(Option<&str>, &str)>); 2] = [
-    (None, None),
-    (Some("thai"), Some((Some("thai"), "ar-EG"))),
-];
-
-/// Whether the first identifier is so.
-fn is_asked_first(system: Option<&str>, want: Option<(Option<&str>, &str)>) -> bool {
-    let prefs = DecimalFormatterPreferences::from(&preferences("und", system));
-    let egypt = DataLocale::try_from_str("ar-EG").unwrap_or_default();
-    match (prefs.nu_id(&egypt), want) {
-        (Some(id), Some((system, locale))) => id.system() == system && id.locale() == locale,
-        (None, None) => true,
-        _ => false,
-    }
-}
-
-#[test]
-fn asks_first_by_the_preferred_system(rt: HostRuntime) {
-    for (system, want) in PREFERRED {
-        assert!(rt; is_asked_first(system, want), "{system:?}");
-    }
-}
-
-/// Whether compact preferences become plain ones, and those of plural rules, with what they hold.
-fn become_others(locale: &str, system: Option<&str>) -> bool {
-    let compact = preferences(locale, system);
-    let plain = DecimalFormatterPreferences::from(&compact);
-    let plural = PluralRulesPreferences::from(&compact);
-    plain.locale_preferences.as_str() == locale
-        && plain.numbering_system == compact.numbering_system
-        && plain.numbering_system.is_some() == system.is_some()
-        && plural.locale_preferences.as_str() == locale
-}
-
-#[test]
-fn preferences_become_others_as_they_are(rt: HostRuntime) {
-    for (locale, system) in [("ar-EG", Some("thai")), ("th", None), ("und", Some("latn"))] {
-        assert!(rt; become_others(locale, system), "{locale}");
-    }
-}
-
-#[test]
-fn preferences_are_undetermined_by_default(rt: HostRuntime) {
-    assert!(rt; CompactDecimalFormatterPreferences::default() == preferences("und", None));
-    assert!(rt;
-        DecimalFormatterPreferences::default()
-            == DecimalFormatterPreferences::from(&preferences("und", None))
-    );
-    assert!(rt; CompactDecimalFormatterPreferences::default() != preferences("und", Some("latn")));
 }
 
 /// Whether a formatter is made of hardly anything, or why it isn't.

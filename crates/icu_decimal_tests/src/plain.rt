@@ -1,4 +1,4 @@
-//! Plain numbers: what the formatter writes of decimals, and where separators stand.
+//! Plain numbers: what the formatter writes of decimals.
 
 ghost use Rattle.std.specs.Prelude.{◌≡◌, true};
 
@@ -6,7 +6,6 @@ use crate::fixtures::{
     BENGALI, ENGLISH, INDIC, LATIN, english, formatter, nines, read, scaled, symbols,
 };
 use fixed_decimal::Decimal;
-use icu_decimal::grouper::check;
 use icu_decimal::options::{DecimalFormatterOptions, GroupingStrategy};
 use icu_decimal::provider::GroupingSizes;
 use icu_decimal::{Cow, DecimalFormatter};
@@ -104,67 +103,6 @@ fn groups_by_sizes_and_strategies(rt: HostRuntime) {
             are_shown(&rt, rt.alloc(), sizes, strategy, wanted),
             "{}",
             wanted[3]
-        );
-    }
-}
-
-/// Stands for no separator.
-const NOWHERE: i16 = -1;
-
-/// The magnitude of a first digit, sizes, a strategy, and the magnitudes below it that a separator follows.
-const SEPARATED: [(i16, GroupingSizes, GroupingStrategy, [i16; 2]); 15] = [
-    (6, ENGLISH, GroupingStrategy::Auto, [3, 6]),
-    (6, INDIC, GroupingStrategy::Auto, [3, 5]),
-    (3, ENGLISH, GroupingStrategy::Auto, [3, 3]),
-    (3, ENGLISH, GroupingStrategy::Min2, [NOWHERE, NOWHERE]),
-    (4, ENGLISH, GroupingStrategy::Min2, [3, 3]),
-    (6, ENGLISH, GroupingStrategy::Never, [NOWHERE, NOWHERE]),
-    (6, ONE_SIZE, GroupingStrategy::Auto, [3, 6]),
-    (3, ONE_SIZE, GroupingStrategy::Auto, [3, 3]),
-    (3, ONE_SIZE, GroupingStrategy::Min2, [NOWHERE, NOWHERE]),
-    (6, MIN3, GroupingStrategy::Auto, [3, 6]),
-    (5, MIN3, GroupingStrategy::Auto, [3, 3]),
-    (4, MIN3, GroupingStrategy::Auto, [NOWHERE, NOWHERE]),
-    (4, MIN3, GroupingStrategy::Min2, [NOWHERE, NOWHERE]),
-    (6, UNGROUPED, GroupingStrategy::Auto, [NOWHERE, NOWHERE]),
-    (6, UNGROUPED, GroupingStrategy::Min2, [NOWHERE, NOWHERE]),
-];
-
-/// Whether separators follow just these of the magnitudes from 0 to the first digit's.
-fn are_separators(
-    upper: i16,
-    sizes: GroupingSizes,
-    strategy: GroupingStrategy,
-    separators: [i16; 2],
-) -> bool {
-    for magnitude in 0..=upper {
-        let want = magnitude == separators[0] || magnitude == separators[1];
-        if check(upper, magnitude, strategy, sizes) != want {
-            return false;
-        }
-    }
-    true
-}
-
-#[test]
-fn checks_each_magnitude(rt: HostRuntime) {
-    for (upper, sizes, strategy, separators) in SEPARATED {
-        assert!(rt;
-            are_separators(upper, sizes, strategy, separators),
-            "{upper} {strategy:?} {separators:?}"
-        );
-    }
-}
-
-/// The magnitude of a first digit, one that the number has no digit at, and whether a separator would follow there.
-const BEYOND: [(i16, i16, bool); 4] = [(3, 6, true), (2, 3, false), (6, -3, false), (-1, 3, false)];
-
-#[test]
-fn checks_magnitudes_beyond_the_number(rt: HostRuntime) {
-    for (upper, magnitude, want) in BEYOND {
-        assert!(rt;
-            check(upper, magnitude, GroupingStrategy::Auto, ENGLISH) == want,
-            "{upper} {magnitude}"
         );
     }
 }

@@ -1,7 +1,7 @@
 use Rattle.std.proofs.Common.{◌≡◌, length, true, false, arith}
 use Rattle.std.proofs.lemmas.Bool.Decides.{nat_tests}
 use Rattle.icu_decimal.specs.Decimal.{strategy_of}
-use Rattle.icu_decimal.specs.Grouping.{is_grouped}
+use Rattle.icu_decimal_options.specs.Grouping.{is_grouped}
 use Rattle.icu_decimal.proofs.EventSteps.{grouped-whole, grouped-cut}
 use Rattle.icu_decimal.proofs.formatted_decimal.FormattedUnsignedDecimal.write_grouped.Goals as goal
 

@@ -1,5 +1,0 @@
-use Rattle.icu_decimal.proofs.GroupingLaws.{concatenated-digit_groups}
-use Rattle.icu_decimal.proofs.laws.separators_taken_out.Goals as goal
-
-pub returns : goal.returns
-returns c = concatenated-digit_groups

@@ -1,0 +1,25 @@
+//! What a formatter is asked: for whom, how, and by both where the groups of an integer end.
+//!
+//! ```
+//! let sizes = GroupingSizes {
+//!     primary: 3,
+//!     secondary: 2,
+//!     min_grouping: 1,
+//! };
+//! let separated = check(7, 5, GroupingStrategy::default(), sizes);
+//! println!(rt; "after hundreds of thousands: {separated}").ok()
+//! ```
+//!
+//! prints `after hundreds of thousands: true`.
+#![tactic(auto)]
+
+pub mod grouper;
+pub mod laws;
+pub mod options;
+pub mod preferences;
+#[cfg(test)]
+mod tests;
+
+pub use grouper::check;
+pub use options::{CompactDecimalFormatterOptions, DecimalFormatterOptions, GroupingStrategy};
+pub use preferences::{CompactDecimalFormatterPreferences, DecimalFormatterPreferences};
