@@ -26,8 +26,6 @@ mod short_text;
 mod signed;
 mod significand;
 mod signs;
-#[cfg(test)]
-mod tests;
 mod trimming;
 mod unsigned;
 

@@ -23,6 +23,3 @@ pub use writeable::{
     ASCII_DIGITS, EventWriter, Grouping, OutOfMemory, Part, PartsText, PartsWrite, WriteFault,
     Writeable, event_writer, groups, parts_text, sink,
 };
-
-#[cfg(test)]
-mod tests;

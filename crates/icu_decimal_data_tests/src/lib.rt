@@ -1,5 +1,5 @@
-//! The tests of icu_decimal_data's calls; the library itself offers nothing. They see the contracts of icu_decimal_data
-//! alone, so its edits don't wait for them.
+//! The tests of the calls of icu_decimal_data, icu_decimal_symbols, icu_decimal_options and icu_decimal_readable; the library
+//! itself offers nothing. They see the contracts of these crates alone, so that their edits don't wait for the tests.
 //!
 //! Each test holds whichever single allocation fails: a call gives its usual answer or is refused for want of memory, and
 //! the same call then gives its usual answer.
@@ -10,9 +10,15 @@ mod compact;
 #[cfg(test)]
 mod fallback;
 #[cfg(test)]
+mod groups;
+#[cfg(test)]
 mod lookups;
 #[cfg(test)]
+mod options;
+#[cfg(test)]
 mod packed;
+#[cfg(test)]
+mod preferences;
 #[cfg(test)]
 mod readable;
 #[cfg(test)]

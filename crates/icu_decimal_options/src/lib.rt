@@ -17,8 +17,6 @@ pub mod grouper;
 pub mod laws;
 pub mod options;
 pub mod preferences;
-#[cfg(test)]
-mod tests;
 
 pub use grouper::check;
 pub use options::{CompactDecimalFormatterOptions, DecimalFormatterOptions, GroupingStrategy};

@@ -18,6 +18,3 @@ pub use backend::{NoPlaceholder, PatternBackend, SinglePlaceholder};
 pub use error::PatternError;
 pub use interpolated::Interpolated;
 pub use pattern::{Pattern, PatternRef};
-
-#[cfg(test)]
-mod tests;

@@ -33,6 +33,3 @@ pub use loading::{PluralRulesPreferences, PluralsCardinalV1};
 pub use operands::PluralOperands;
 pub use plural_conditions::{RulesError, error};
 pub use rules::PluralRules;
-
-#[cfg(test)]
-mod tests;

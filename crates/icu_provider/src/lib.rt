@@ -21,6 +21,3 @@ pub use identifier::{DataIdentifierBorrowed, DataRequest};
 pub use locale::{BadLocale, DataLocale};
 pub use numbering_system::{BadNumberingSystem, NumberingSystem};
 pub use provider::{DataMarker, DataProvider};
-
-#[cfg(test)]
-mod tests;

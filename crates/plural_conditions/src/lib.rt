@@ -22,8 +22,6 @@ pub mod laws;
 mod lexer;
 mod progress;
 pub mod reader;
-#[cfg(test)]
-mod tests;
 
 pub use condition::Condition;
 pub use error::RulesError;

@@ -1,0 +1,60 @@
+//! What the tests are made with: decimals, and whether numbers are written as wanted. What was refused memory is asked
+//! once more.
+
+use fixed_decimal::{Decimal, DecimalError, Sign, UnsignedDecimal};
+use std::alloc::{AllocError, Global};
+use std::process::Abort;
+
+/// Reads a text, once more where memory was refused.
+pub(crate) fn read(alloc: Global, text: &str) -> Result<Decimal, DecimalError> {
+    match Decimal::try_from_str(alloc, text) {
+        Err(DecimalError::OutOfMemory) => Decimal::try_from_str(alloc, text),
+        answer => answer,
+    }
+}
+
+/// The number that a text spells.
+pub(crate) fn number(rt: &impl Abort, alloc: Global, text: &str) -> UnsignedDecimal {
+    match read(alloc, text) {
+        Ok(decimal) => decimal.absolute,
+        Err(_) => panic!(rt; "{text} was refused"),
+    }
+}
+
+/// A text of the same character so many times, made once more where memory was refused.
+pub(crate) fn repeated(alloc: Global, byte: u8, count: usize) -> Result<Vec<u8>, AllocError> {
+    match Vec::from_elem(alloc, byte, count) {
+        Ok(bytes) => Ok(bytes),
+        Err(_) => Vec::from_elem(alloc, byte, count),
+    }
+}
+
+/// Whether the number is written so, digit by digit over its whole range.
+pub(crate) fn is_written(number: &UnsignedDecimal, text: &str) -> bool {
+    let mut bytes = text.bytes();
+    for power in number.magnitude_range().rev() {
+        if power == -1 && bytes.next() != Some(b'.') {
+            return false;
+        }
+        if bytes.next() != Some(b'0' + number.digit_at(power)) {
+            return false;
+        }
+    }
+    bytes.next().is_none()
+}
+
+/// Whether the number is there, and written so.
+pub(crate) fn is_made(made: &Result<UnsignedDecimal, DecimalError>, text: &str) -> bool {
+    match made {
+        Ok(number) => is_written(number, text),
+        Err(_) => false,
+    }
+}
+
+/// Whether the decimal is there, with this sign, and its number written so.
+pub(crate) fn is_signed(made: &Result<Decimal, DecimalError>, sign: Sign, digits: &str) -> bool {
+    match made {
+        Ok(decimal) => decimal.sign == sign && is_written(&decimal.absolute, digits),
+        Err(_) => false,
+    }
+}
