@@ -40,7 +40,7 @@ impl UnsignedDecimal {
 pub(crate) fn round_digits(digits: &[u8], scale: u16, power: i16) -> Option<RoundedDigits>
     requires { IsUnsigned (record { digits = digits.now; scale = scale }) }
     ensures kept { IfSome result (λ r. r.kept ≤ length digits.now) }
-    ensures small { IfSome result (λ r. r.kept + r.zeros < 200000) }
+    ensures small { IfSome result (λ r. r.kept + r.zeros < TOO_MANY_DIGITS) }
     ensures raised { IfSome result (λ r. IfSome r.raised (λ d. d ≢ 0)) }
     ensures valid { IfSome result (λ r.
         IsUnsigned (record {

@@ -1,10 +1,10 @@
 -- What a map without a fault has.
-use Rattle.std.proofs.Common.{◌≡◌, ◌+◌, ◌≤◌, ⊎_elim, true, false, refl, List, Option, Some, None, nat_lt, ltb-false}
+use Rattle.std.proofs.Common.{◌≡◌, ◌+◌, ◌≤◌, ⊎_elim, true, false, refl, arith, List, [], ◌∷◌, Option, Some, None, nat_lt, ltb-false}
 use Rattle.std.specs.Option.{option_or}
-use Rattle.std.proofs.lemmas.Bool.{cases_Bool}
+use Rattle.std.proofs.lemmas.Bool.{cases_Bool, le-ltb}
 use Rattle.icu_decimal_data.specs.CompactTable.{PatternElements, TableEntry}
 use Rattle.icu_decimal_data.specs.Kept.{kept}
-use Rattle.icu_decimal_data.specs.CompactFaults.{entry_fault, first_entry_fault, fault_of, has_falling_exponents}
+use Rattle.icu_decimal_data.specs.CompactFaults.{entry_fault, falls_after, first_entry_fault, fault_of, has_falling_exponents}
 
 -- if the first of two has nothing, and else the second, neither has
 pub none_or : {T : Type 0} (a b : Option T) → option_or a b ≡ None → (a ≡ None) × (b ≡ None)
@@ -22,6 +22,11 @@ sound_entry e h =
     (λ (near : nat_lt (e.exponent + 15) e.log10_type ≡ false). (ltb-false e.log10_type e.exponent under, ltb-false (e.exponent + 15) e.log10_type near))
     (cases_Bool (nat_lt (e.exponent + 15) e.log10_type)))
     (cases_Bool (nat_lt e.log10_type e.exponent))
+
+-- no exponent is below 0
+pub falls_after_nothing : (es : List TableEntry) → falls_after 0 es ≡ has_falling_exponents es
+falls_after_nothing [] = refl
+falls_after_nothing (e ∷ es) = let here : nat_lt e.exponent 0 ≡ false = le-ltb _ _ (omega arith) in rw here refl
 
 -- no exponent falls, and no kept entry has a fault
 pub no_entry_fault : (plain : Option PatternElements) (es : List TableEntry) → fault_of plain es ≡ None → (has_falling_exponents es ≡ false) × (first_entry_fault (kept plain es) ≡ None)

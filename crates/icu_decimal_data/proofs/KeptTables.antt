@@ -12,7 +12,7 @@ use Rattle.std.proofs.lemmas.List.Elements.{All-nil, All-cons}
 use Rattle.std.proofs.lemmas.Map.Keys.{sorted_head, sorted_tail}
 use Rattle.icu_decimal_data.specs.CompactTable.{PatternElements, TableEntry, IsCompactTable}
 use Rattle.icu_decimal_data.specs.Kept.{given, kept, changes, repeats, is_zero_magnitude}
-use Rattle.icu_decimal_data.specs.CompactFaults.{fault_of, falls_after, entry_fault, first_entry_fault}
+use Rattle.icu_decimal_data.specs.CompactFaults.{fault_of, falls_after, has_falling_exponents, entry_fault, first_entry_fault}
 use Rattle.icu_decimal_data.proofs.EntryFaults.{none_or, sound_entry, no_entry_fault}
 
 -- each entry has the property
@@ -78,13 +78,18 @@ types_rise [] h = tt
 types_rise (e ∷ es) h = (types_above e.0 es (sorted_head nat_cmp e.0 (keys_of es) h), types_rise es (sorted_tail nat_cmp e.0 (keys_of es) h))
 
 -- without a fall exponents rise from a lower bound on
-pub exponents_rise : (low : ℕ) (es : List TableEntry) → falls_after low es ≡ false → Each (λ e. low ≤ e.exponent) es × Pairs (λ e f. e.exponent ≤ f.exponent) es
+exponents_rise : (low : ℕ) (es : List TableEntry) → falls_after low es ≡ false → Each (λ e. low ≤ e.exponent) es × Pairs (λ e f. e.exponent ≤ f.exponent) es
 exponents_rise low [] h = (tt, tt)
 exponents_rise low (e ∷ es) h =
     let parts = or_parts (nat_lt e.exponent low) (falls_after e.exponent es) h in
     let rest = exponents_rise e.exponent es parts.1 in
     let on : low ≤ e.exponent = ltb-false e.exponent low parts.0 in
     ((on, each_weaker (λ f. e.exponent ≤ f.exponent) (λ f. low ≤ f.exponent) (λ f g. omega arith) es rest.0), rest)
+
+-- without a fall exponents rise
+pub without_a_fall : (es : List TableEntry) → has_falling_exponents es ≡ false → Pairs (λ e f. e.exponent ≤ f.exponent) es
+without_a_fall [] h = tt
+without_a_fall (e ∷ es) h = exponents_rise e.exponent es h
 
 -- without a fault at an entry each exponent is near its type
 pub sound : (es : List TableEntry) → first_entry_fault es ≡ None → Each (λ e. (e.exponent ≤ e.log10_type) × (e.log10_type ≤ e.exponent + 15)) es
@@ -99,7 +104,7 @@ kept_is_table plain es sorted none =
     let small = sound (kept plain (given es)) faults.1 in
     record {
       types_rise = all_pairs _ _ (pairs_kept (λ e f. e.log10_type < f.log10_type) plain (given es) (types_rise es sorted));
-      exponents_rise = all_pairs _ _ (pairs_kept (λ e f. e.exponent ≤ f.exponent) plain (given es) (exponents_rise 0 (given es) faults.0).1);
+      exponents_rise = all_pairs _ _ (pairs_kept (λ e f. e.exponent ≤ f.exponent) plain (given es) (without_a_fall (given es) faults.0));
       exponents_small = all_each _ _ (each_weaker _ (λ e. e.exponent ≤ e.log10_type) (λ e h. h.0) (kept plain (given es)) small);
       shifts_small = all_each _ _ (each_weaker _ (λ e. e.log10_type ≤ e.exponent + 15) (λ e h. h.1) (kept plain (given es)) small);
     }

@@ -25,9 +25,7 @@ module _ (accepts : PatternText → Bool) where
 
   first_falls : (es : List TableEntry) → AreEntries accepts None es → has_falling_exponents es ≡ false
   first_falls [] h = refl
-  first_falls (e ∷ es) h =
-      let here : nat_lt e.exponent 0 ≡ false = le-ltb _ _ (omega arith) in
-      rw here (none_falls e es h.2)
+  first_falls (e ∷ es) h = none_falls e es h.2
 
   none_faulty : (b : Option TableEntry) (es : List TableEntry) → AreEntries accepts b es → first_entry_fault es ≡ None
   none_faulty b [] h = refl

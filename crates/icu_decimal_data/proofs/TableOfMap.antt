@@ -16,7 +16,7 @@ use Rattle.icu_decimal_data.specs.declared.error.CompactError.TheVariants.{TooLa
 use Rattle.icu_decimal_data.specs.PackedTable.{IsPackable, AreEntries, AreWritable, literal_of, slot_literals, literals}
 use Rattle.icu_decimal_data.proofs.EntryFaults.{none_or, no_entry_fault}
 use Rattle.icu_decimal_data.proofs.KeptSteps.{kept_since_start}
-use Rattle.icu_decimal_data.proofs.KeptTables.{Each, Pairs, each_weaker, pairs_kept, types_rise, sound, exponents_rise}
+use Rattle.icu_decimal_data.proofs.KeptTables.{Each, Pairs, each_weaker, pairs_kept, types_rise, sound, without_a_fall}
 
 -- ---- no kept entry repeats the one before
 
@@ -131,5 +131,5 @@ module _ (plain : Option PatternElements) (map : List (ℕ × (ℕ × PatternEle
         record {
           counted = few_kept;
           short = short_kept none;
-          entries = entries_are accepts (kept plain (given map)) rising (pairs_kept (λ e f. e.exponent ≤ f.exponent) plain (given map) (exponents_rise 0 (given map) faults.0).1) (sound (kept plain (given map)) faults.1) differ writable;
+          entries = entries_are accepts (kept plain (given map)) rising (pairs_kept (λ e f. e.exponent ≤ f.exponent) plain (given map) (without_a_fall (given map) faults.0)) (sound (kept plain (given map)) faults.1) differ writable;
         }

@@ -8,14 +8,15 @@ use Rattle.icu_decimal_data.specs.Kept.{kept}
 use Rattle.icu_decimal_data.specs.declared.error.CompactError.{CompactError}
 use Rattle.icu_decimal_data.specs.declared.error.CompactError.TheVariants.{ExponentsFall, ExponentAboveType, TooManyZeros, TooLarge}
 
--- whether an exponent is below that of the type just before
+-- whether an exponent is below that of the type just before, where the first comes after this one
 abbrev pub falls_after : ℕ → List TableEntry → Bool
 falls_after before [] = false
 falls_after before (e ∷ es) = nat_lt e.exponent before || falls_after e.exponent es
 
 -- whether some exponent is below that of the type just before
 abbrev pub has_falling_exponents : List TableEntry → Bool
-has_falling_exponents es = falls_after 0 es
+has_falling_exponents [] = false
+has_falling_exponents (e ∷ es) = falls_after e.exponent es
 
 -- an exponent above its type, or a type too far above its exponent
 abbrev pub fault_at : ℕ → ℕ → Option CompactError

@@ -2,14 +2,9 @@
 use Rattle.std.specs.Prelude.{◌≡◌, ℕ, ◌<◌, Bool, true, false, List, [], ◌∷◌, ◌++◌, length, if◌then◌else◌, ◌==◌, ◌↔◌}
 use Rattle.std.proofs.Common.{refl, sym, ap, ◌∙◌, ◌⊎◌, arith, inl, inr}
 use Rattle.std.proofs.lemmas.Bool.Decides.{eqb_tells}
-use Rattle.icu_decimal_options.specs.Grouping.{concatenated, put_before, cut, joined, EndsGroup}
+use Rattle.icu_decimal_options.specs.Grouping.{concatenated, put_before, cut, EndsGroup}
 pub use Rattle.writeable.proofs.Groupings.{is_full, FirstGroup, FirstGroup-cut, is_full-FirstGroup}
 pub use Rattle.writeable.specs.Counted.{IsDue}
-
-pub joined-put_before : {A : Type 0} (separator : List A) (p s : ℕ) (x : A) (gs : List (List A)) → joined separator (put_before p s x gs) ≡ x ∷ ((if is_full p s gs then separator else []) ++ joined separator gs)
-joined-put_before separator p s x [] = refl
-joined-put_before separator p s x (g ∷ []) = elim (length g == p) as (λ b. joined separator (if b then (x ∷ []) ∷ g ∷ [] else (x ∷ g) ∷ []) ≡ x ∷ ((if b then separator else []) ++ joined separator (g ∷ []))) [ true ↦ refl | false ↦ refl ]
-joined-put_before separator p s x (g ∷ h ∷ gs) = elim (length g == s) as (λ b. joined separator (if b then (x ∷ []) ∷ g ∷ h ∷ gs else (x ∷ g) ∷ h ∷ gs) ≡ x ∷ ((if b then separator else []) ++ joined separator (g ∷ h ∷ gs))) [ true ↦ refl | false ↦ refl ]
 
 pub concatenated-put_before : {A : Type 0} (p s : ℕ) (x : A) (gs : List (List A)) → concatenated (put_before p s x gs) ≡ x ∷ concatenated gs
 concatenated-put_before p s x [] = refl
