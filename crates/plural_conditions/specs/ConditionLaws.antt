@@ -1,6 +1,7 @@
 -- Laws of the texts of conditions, for the callers of this crate.
-use Rattle.std.specs.Prelude.{◌≡◌, ◌⊎◌, ℕ, List}
+use Rattle.std.specs.Prelude.{◌≡◌, ◌⊎◌, ◌↔◌, ℕ, List, Ok, Err}
 use Rattle.plural_conditions.specs.Grammar.{Condition, IsTextOf, IsConditionText, IsTextFault}
+use Rattle.plural_conditions.specs.Reading.{condition_of}
 
 -- each text spells a condition or has a first fault
 abbrev pub EachTextIsJudged : Type 0
@@ -17,3 +18,11 @@ FirstFaultsAreUnique = (text : List ℕ) (first second : ℕ) → IsTextFault te
 -- a text spells at most one condition
 abbrev pub ConditionsAreUnique : Type 0
 ConditionsAreUnique = (text : List ℕ) (first second : Condition) → IsTextOf text first → IsTextOf text second → first ≡ second
+
+-- what is computed of a text is the condition that it spells
+abbrev pub ReadingIsSpelled : Type 0
+ReadingIsSpelled = (text : List ℕ) (condition : Condition) → (condition_of text ≡ Ok condition) ↔ IsTextOf text condition
+
+-- and a byte exactly where that is its first fault
+abbrev pub RefusalIsFirstFault : Type 0
+RefusalIsFirstFault = (text : List ℕ) (byte : ℕ) → (condition_of text ≡ Err byte) ↔ IsTextFault text byte
