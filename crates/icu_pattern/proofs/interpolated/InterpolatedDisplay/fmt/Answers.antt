@@ -1,0 +1,9 @@
+-- Goals that a search finds; it is not tried longer where one is false.
+use Rattle.std.proofs.Common.{rules}
+use Rattle.icu_pattern.proofs.interpolated.InterpolatedDisplay.fmt.Goals as goal
+
+pub returns-clause-writes : goal.returns-clause-writes
+returns-clause-writes g c = search rules
+
+pub returns-clause-styled : goal.returns-clause-styled
+returns-clause-styled g c = search rules
