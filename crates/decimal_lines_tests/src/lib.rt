@@ -4,4 +4,6 @@
 #[cfg(test)]
 mod lines;
 #[cfg(test)]
+mod tables;
+#[cfg(test)]
 mod words;

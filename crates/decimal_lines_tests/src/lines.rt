@@ -1,6 +1,7 @@
 //! Rows of text against their output. Values live in functions that answer whether they hold; what was refused memory is
 //! asked once more.
 
+mod by_tables;
 mod compact;
 mod failing;
 mod filling;

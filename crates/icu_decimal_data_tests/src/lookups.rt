@@ -1,7 +1,8 @@
 //! What a compact table answers: the entry of a magnitude, the pattern of a slot, and what a number picks.
 
 use crate::tables::{Row, SHORT_ENGLISH, Table, french_rules, french_table, operands_of, table_of};
-use icu_base::PluralRules;
+use icu_base::{PluralRules, SinglePlaceholder};
+use icu_decimal_data::CompactView;
 use std::alloc::Global;
 
 /// Whether a magnitude has the entry of this index and exponent in short English.
@@ -149,6 +150,68 @@ fn picks_by_the_number(rt: HostRuntime) {
         assert!(rt;
             picks_in_french(rt.alloc(), row),
             "{} at entry {}",
+            row.1,
+            row.0
+        );
+    }
+}
+
+/// Whether a number picks this pattern of the entry of a magnitude, in a view of a table's bytes.
+fn picks_in_view(
+    alloc: Global,
+    view: CompactView<'_, SinglePlaceholder>,
+    rules: &PluralRules,
+    (magnitude, number, literal): (i16, &str, &str),
+) -> bool {
+    match operands_of(alloc, number) {
+        Ok(operands) => match view.entry_for_magnitude(magnitude) {
+            Some(entry) => entry.pick(&operands, rules).literal() == literal,
+            None => false,
+        },
+        Err(_) => false,
+    }
+}
+
+/// The same, of the bytes of a table.
+fn picks_in_bytes(
+    alloc: Global,
+    bytes: &[u8],
+    rules: &PluralRules,
+    row: (i16, &str, &str),
+) -> bool {
+    match CompactView::parse(bytes) {
+        Ok(view) => picks_in_view(alloc, view, rules, row),
+        Err(_) => false,
+    }
+}
+
+fn picks_in_french_bytes(alloc: Global, row: (i16, &str, &str)) -> bool {
+    match french_rules(alloc) {
+        Ok(rules) => match french_table(alloc) {
+            Ok(table) => picks_in_bytes(alloc, table.as_bytes(), &rules, row),
+            Err(_) => false,
+        },
+        Err(_) => false,
+    }
+}
+
+const PICKED_AT_MAGNITUDES: [(i16, &str, &str); 8] = [
+    (3, "1", "mille"),
+    (5, "1", "mille"),
+    (3, "1.0", " mille"),
+    (5, "2", " mille"),
+    (6, "1.2", " million"),
+    (8, "0", " million"),
+    (6, "35", " millions"),
+    (8, "1000000", " millions"),
+];
+
+#[test]
+fn picks_by_the_number_in_a_view(rt: HostRuntime) {
+    for row in PICKED_AT_MAGNITUDES {
+        assert!(rt;
+            picks_in_french_bytes(rt.alloc(), row),
+            "{} at magnitude {}",
             row.1,
             row.0
         );

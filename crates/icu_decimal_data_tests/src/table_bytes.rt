@@ -93,6 +93,32 @@ fn each_fault_of_one_entry_tells_its_byte(rt: HostRuntime) {
     }
 }
 
+/// Which byte is told of the table of one entry with one byte more.
+fn damage_of_one_entry_and_a_byte() -> Option<usize> {
+    let mut bytes = [b'W'; 64];
+    bytes[..63].copy_from_slice(&ONE_ENTRY);
+    damage::<SinglePlaceholder>(&bytes)
+}
+
+#[test]
+fn another_length_is_told_at_the_smaller_one(rt: HostRuntime) {
+    assert!(rt; damage::<SinglePlaceholder>(&ONE_ENTRY[..62]) == Some(62));
+    assert!(rt; damage_of_one_entry_and_a_byte() == Some(63));
+}
+
+/// Which byte is told of long Japanese with one byte more, that the length of the literals counts.
+fn damage_of_a_counted_byte() -> Option<usize> {
+    let mut bytes = [0x41; 127];
+    bytes[..126].copy_from_slice(&JAPANESE);
+    bytes[2] = 7;
+    damage::<SinglePlaceholder>(&bytes)
+}
+
+#[test]
+fn a_byte_that_no_slot_names_is_told(rt: HostRuntime) {
+    assert!(rt; damage_of_a_counted_byte() == Some(126));
+}
+
 #[test]
 fn a_repeated_pattern_is_told_at_the_type(rt: HostRuntime) {
     let mut bytes = JAPANESE;

@@ -124,6 +124,25 @@ fn what_is_shown_is_given_alike(rt: HostRuntime) {
     }
 }
 
+/// A number that stays below the next power of ten.
+const BELOW_A_CARRY: Row = (
+    Language::ShortEnglish,
+    "999499.99",
+    "999000",
+    ("999", 3),
+    "999K",
+);
+
+/// Whether the number, the size that is shown of it, and the significand with its exponent are written alike.
+fn is_shown_again(rt: &impl Abort, alloc: Global, row: &Row) -> bool {
+    writes_number(rt, alloc, row) && writes_shown(rt, alloc, row) && gives_shown(rt, alloc, row)
+}
+
+#[test]
+fn what_is_shown_without_a_carry_is_shown_again(rt: HostRuntime) {
+    assert!(rt; is_shown_again(&rt, rt.alloc(), &BELOW_A_CARRY));
+}
+
 /// Padding is kept where the entry stays, so the number that is shown, without it, is written otherwise.
 const PADDED: [(&str, &str); 4] = [
     ("0999499", "0999K"),

@@ -27,9 +27,20 @@ fn refusal(alloc: Global, text: &str) -> Option<TableError> {
     }
 }
 
-const REFUSED: [(&str, TableError); 22] = [
+/// A list in a list, 200 deep.
+const NESTED: &str = "[[[[[[[[[[[[[[[[[[[[[[[[[[[[[[[[[[[[[[[[[[[[[[[[[[\
+[[[[[[[[[[[[[[[[[[[[[[[[[[[[[[[[[[[[[[[[[[[[[[[[[[\
+[[[[[[[[[[[[[[[[[[[[[[[[[[[[[[[[[[[[[[[[[[[[[[[[[[\
+[[[[[[[[[[[[[[[[[[[[[[[[[[[[[[[[[[[[[[[[[[[[[[[[[[\
+]]]]]]]]]]]]]]]]]]]]]]]]]]]]]]]]]]]]]]]]]]]]]]]]]]\
+]]]]]]]]]]]]]]]]]]]]]]]]]]]]]]]]]]]]]]]]]]]]]]]]]]\
+]]]]]]]]]]]]]]]]]]]]]]]]]]]]]]]]]]]]]]]]]]]]]]]]]]\
+]]]]]]]]]]]]]]]]]]]]]]]]]]]]]]]]]]]]]]]]]]]]]]]]]]";
+
+const REFUSED: [(&str, TableError); 23] = [
     ("{\"symbols\":[]", TableError::NotJson),
     ("", TableError::NotJson),
+    (NESTED, TableError::NotJson),
     ("{}", TableError::Missing(Key::Symbols)),
     ("{\"symbols\":[]}", TableError::Missing(Key::Digits)),
     ("[]", TableError::WrongKind(Key::Document)),
@@ -140,6 +151,33 @@ const REFUSED: [(&str, TableError); 22] = [
 fn documents_are_refused_by_name(rt: HostRuntime) {
     for (text, wanted) in REFUSED {
         assert!(rt; refusal(rt.alloc(), text) == Some(wanted), "{text}");
+    }
+}
+
+/// A key, its name and its text.
+const KEYS: [(Key, &str); 4] = [
+    (Key::Document, ""),
+    (Key::Symbols, "symbols"),
+    (Key::Numsys, "numsys"),
+    (Key::ExplicitOne, "explicit_one"),
+];
+
+/// Whether a key is named and displayed so; the text is made once more where memory was refused.
+fn is_named(alloc: Global, key: Key, want: &str) -> bool {
+    let is_displayed = match key.to_string(alloc) {
+        Ok(text) => text.as_str() == want,
+        Err(_) => match key.to_string(alloc) {
+            Ok(text) => text.as_str() == want,
+            Err(_) => false,
+        },
+    };
+    key.name() == want && is_displayed
+}
+
+#[test]
+fn keys_are_named_as_documents_spell_them(rt: HostRuntime) {
+    for (key, want) in KEYS {
+        assert!(rt; is_named(rt.alloc(), key, want), "{want}");
     }
 }
 
