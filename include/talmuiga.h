@@ -2,7 +2,8 @@
  *
  * The input is lines of decimals, the output has one line for each: the decimal as the locale writes it, or one of
  * "error: not a decimal", "error: too many digits" and "error: overflow". A line ends in a line feed, one carriage return
- * before it is dropped, and the last line may end without. Texts are bytes with a length; none of them ends in a NUL.
+ * before it is dropped, and the last line may end without. Texts are bytes with a length, without a NUL at the end;
+ * only the words of talmuiga_format_lines, at the end of this file, end in one.
  *
  * What a call promises of its output is proved of the code that the library is built of. What its caller owes is below,
  * and nothing checks it. */

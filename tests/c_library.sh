@@ -1,16 +1,19 @@
 #!/bin/bash
 # Builds the library for C, archive and shared object, and runs the C and the Python example over it: statuses, output,
 # rooms that are too small, and what the exceptions are.
-# usage: tests/c_library.sh [--build FOLDER]
+# usage: tests/c_library.sh [--build FOLDER | --after-ci]
 # With --build the library alone is made: FOLDER/libtalmuiga.a and, where there is a C compiler, FOLDER/libtalmuiga.so.
 # The archive is crates/talmuiga_c/out/libtalmuiga_c.a, as `rt lib` in crates/talmuiga_c builds it; that is done here where
-# it isn't there or a source is newer. The last line is 'N passed, M failed'; what needs a C compiler or Python is left out without them.
+# it isn't there or a source is newer. With --after-ci, right after `rt ci`, it is built over the libraries that this proved,
+# and talmuiga_c alone is proved once more; `rt lib` would prove them all.
+# The last line is 'N passed, M failed'; what needs a C compiler or Python is left out without them.
 set -u
 cd "$(dirname "$0")/.." || exit 1
 root=$PWD archive=$PWD/crates/talmuiga_c/out/libtalmuiga_c.a
 compiler=${CC:-cc}
+kit=$(dirname "$(rt doc)")
 # what the toolchain's allocator needs of C
-heap=$(dirname "$(rt doc)")/c/liblibc_c.a
+heap=$kit/c/liblibc_c.a
 passed=0 failed=0
 
 # judge NAME WANTED GIVEN
@@ -23,9 +26,23 @@ judge() {
     fi
 }
 
+# The archive over the libraries that `rt ci` has proved, as that calls the compiler for a program.
+build_after_ci() {
+    local library words=()
+    for library in "$root"/crates/*/out/rlib; do
+        words+=(-L "dependency=$library")
+    done
+    (cd crates/talmuiga_c && "$kit/bin/rattle" build --crate-name talmuiga_c src/lib.rt --crate-type staticlib \
+        --extern "std=$kit/rlibs/std.rlib" --extern "decimal_lines=$root/crates/decimal_lines/out/rlib/decimal_lines.rlib" \
+        -L "dependency=$kit/rlibs" "${words[@]}" --antt-project "$kit/rattle/logic/antt-project.json" \
+        --logic-built "$kit/logic_built" --toolchain "$kit/toolchain" --backend llvm -o "$archive")
+}
+
 # build FOLDER
 build() {
-    if [ ! -s "$archive" ] || [ -n "$(find crates -name out -prune -o -name '*.rt' -newer "$archive" -print -quit)" ]; then
+    if [ "$after_ci" ]; then
+        build_after_ci || return 1
+    elif [ ! -s "$archive" ] || [ -n "$(find crates -name out -prune -o -name '*.rt' -newer "$archive" -print -quit)" ]; then
         (cd crates/talmuiga_c && rt lib) || return 1
     fi
     cp "$archive" "$1/libtalmuiga.a" || return 1
@@ -35,6 +52,8 @@ build() {
     fi
 }
 
+after_ci=
+[ "${1:-}" = --after-ci ] && after_ci=yes
 if [ "${1:-}" = --build ]; then
     mkdir -p "$2" && build "$2"
     exit

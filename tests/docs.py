@@ -100,8 +100,9 @@ def edits_page():
     lines = [
         "# Must-fail edits",
         "",
-        "Each edit changes the meaning of a call in one place, and the prover has to refuse it. Its name says the wrong",
-        "behaviour. `rt must-fail NAME` tries those of a crate; the gate tries all. `tests/docs.py --write` makes this page.",
+        "Each edit changes one meaning of a call, mostly in one place, and the prover has to refuse it. Its name says the",
+        "wrong behaviour. `rt must-fail NAME` tries those of a crate; the gate tries all. `tests/docs.py --write` makes this",
+        "page.",
         "",
     ]
     for folder in found("crates/*/must-fail"):
@@ -144,13 +145,18 @@ def is_found(path):
     return "oals that a search finds" in read(path).split("\n", 1)[0]
 
 
+def is_mapped(crate):
+    """Whether a crate has definitions or proofs."""
+    return any(os.path.isdir(f"crates/{crate}/{folder}") for folder in ("specs", "proofs"))
+
+
 def short_name(crate, path):
     """A file as the map names it: in its own crate by its path, a function's proof by the function; else by its crate."""
     own, _, rest = path[len("crates/"):].partition("/")
     rest = os.path.dirname(rest) if is_of_a_function(path) else re.sub(r"\.(antt|rt)$", "", rest)
     if own == crate:
         return f"`{rest}`"
-    return f"[`{own}`](#{own})" if os.path.isdir(f"crates/{own}/specs") else f"`{own}`"
+    return f"[`{own}`](#{own})" if is_mapped(own) else f"`{own}`"
 
 
 def users():
@@ -187,10 +193,11 @@ def map_page():
         "",
     ]
     importing = users()
-    for folder in found("crates/*/specs"):
-        crate = folder.split("/")[1]
-        lines += [f"## `{crate}`", "", "| file | says | is used by |", "|---|---|---|"]
-        lines += map_rows(crate, "specs", importing) + map_rows(crate, "proofs", importing) + [""]
+    for crate in filter(is_mapped, sorted(os.listdir("crates"))):
+        lines += [f"## `{crate}`", ""]
+        rows = map_rows(crate, "specs", importing) + map_rows(crate, "proofs", importing)
+        if rows:
+            lines += ["| file | says | is used by |", "|---|---|---|", *rows, ""]
         functions = sorted({
             os.path.dirname(path).split("/proofs/")[1]
             for path in found(f"crates/{crate}/proofs/**/*.antt")

@@ -65,20 +65,26 @@ def counts_of(lines):
     return counts
 
 
-def waits_of(crates):
-    """The tasks that each task waits for: a proof and tests for the proofs of the crates below, edits for both."""
+def waits_of(counts):
+    """The tasks that each task waits for: a proof and tests for the proofs of the crates below, each edit for both."""
     below = {}
     with open("crates.txt") as file:
         for line in file:
             name, _, words = line.split("#")[0].partition(":")
             below[name.split(" ")[0].strip()] = words.split()
     waits = {}
-    for crate in crates:
-        proofs = [(it, "proof") for it in below.get(crate, []) if it in crates]
+    for crate, count in counts.items():
+        proofs = [(it, "proof") for it in below.get(crate, []) if it in counts]
         waits[crate, "proof"] = proofs
         waits[crate, "tests"] = proofs
-        waits[crate, "edits"] = [(crate, "proof"), (crate, "tests")]
+        for number in range(count["edits"]):
+            waits[crate, "edits", number] = [(crate, "proof"), (crate, "tests")]
     return waits
+
+
+def shares_of(waits, minutes, counts):
+    """The minutes of each task, an edit's as its share of what those of its crate took."""
+    return {it: minutes.get(it[:2], 0) / (counts[it[0]]["edits"] if it[1] == "edits" else 1) for it in waits}
 
 
 def chain_of(waits, minutes):
@@ -88,7 +94,7 @@ def chain_of(waits, minutes):
     def chain(task):
         if task not in longest:
             before = max((chain(it) for it in waits[task]), default=(0, []))
-            longest[task] = (before[0] + minutes.get(task, 0), before[1] + [task])
+            longest[task] = (before[0] + minutes[task], before[1] + [task])
         return longest[task]
 
     return max((chain(it) for it in waits), default=(0, []))
@@ -101,7 +107,7 @@ def scheduled(waits, minutes, processors=4):
     def weight(task):
         if task not in behind:
             after = (weight(it) for it, before in waits.items() if task in before)
-            behind[task] = minutes.get(task, 0) + max(after, default=0)
+            behind[task] = minutes[task] + max(after, default=0)
         return behind[task]
 
     left, running, done, now = sorted(waits, key=weight, reverse=True), [], set(), 0
@@ -109,7 +115,7 @@ def scheduled(waits, minutes, processors=4):
         ready = [it for it in left if done.issuperset(waits[it])]
         for task in ready[: processors - len(running)]:
             left.remove(task)
-            heapq.heappush(running, (now + minutes.get(task, 0), task))
+            heapq.heappush(running, (now + minutes[task], task))
         now, ended = heapq.heappop(running)
         done.add(ended)
     return now
@@ -150,9 +156,10 @@ def main():
     print("| together | " + " | ".join(f"{cell:.0f}" for cell in sums) + " |")
     print(f"\nprocessor minutes {sum(minutes.values()):.0f}, minutes from begin to end {(time.time() - began) / 60:.0f}")
     waits = waits_of(counts)
-    length, chain = chain_of(waits, minutes)
-    print(f"longest chain {length:.0f} minutes: " + ", ".join(" ".join(it) for it in chain))
-    print(f"the same tasks on four free processors {scheduled(waits, minutes):.0f} minutes")
+    shares = shares_of(waits, minutes, counts)
+    length, chain = chain_of(waits, shares)
+    print(f"longest chain {length:.0f} minutes: " + ", ".join(" ".join(map(str, it)) for it in chain))
+    print(f"the same tasks on four free processors {scheduled(waits, shares):.0f} minutes")
     worked, lost = (b - a for a, b in zip(before, host()))
     print(f"this machine worked {worked:.0f} processor minutes; its host gave {lost:.0f} more to others")
     return status
