@@ -14,8 +14,10 @@ use thiserror::Error;
 /// Why an output doesn't hold the answers to all lines.
 #[derive(Clone, Copy, Debug, PartialEq, Eq, Error)]
 pub enum FillError {
+    /// The answer to the next line has no room behind what is written.
     #[error("the output is too small")]
     TooSmall,
+    /// An allocation was refused.
     #[error("out of memory")]
     OutOfMemory,
 }

@@ -16,6 +16,7 @@ pub enum StartError {
     /// The tables don't say what the formatter needs.
     #[error("no data")]
     NoData,
+    /// An allocation was refused.
     #[error("out of memory")]
     OutOfMemory,
 }
@@ -23,7 +24,9 @@ pub enum StartError {
 /// The formatter of a run: plain numbers, or compact ones.
 #[derive(Drop)]
 pub enum Mode {
+    /// Numbers in full.
     Plain(DecimalFormatter),
+    /// Numbers shortened by patterns, the short or the long ones.
     Compact(CompactDecimalFormatter),
 }
 

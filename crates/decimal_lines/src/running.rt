@@ -17,10 +17,13 @@ use thiserror::Error;
 /// Why a run stopped early.
 #[derive(Clone, Copy, Debug, PartialEq, Eq, Error)]
 pub enum RunError {
+    /// The reader answered an error, or 2^64 reads had no end.
     #[error("reading failed")]
     Read,
+    /// The writer answered an error, or took no byte.
     #[error("writing failed")]
     Write,
+    /// An allocation was refused.
     #[error("out of memory")]
     OutOfMemory,
 }

@@ -10,8 +10,11 @@ use std::marker::Model;
 /// How numbers are written: in full, or shortened by the short or the long patterns of the tables.
 #[derive(Clone, Copy, Debug, PartialEq, Eq)]
 pub enum Style {
+    /// In full, as `15,127`.
     Plain,
+    /// By the short patterns, as `15K`.
     Short,
+    /// By the long patterns, as `15 thousand`.
     Long,
 }
 
@@ -24,6 +27,7 @@ pub struct Words<'a> {
     pub locale: DataLocale,
     /// The numbering system that is preferred; `None` where none is.
     pub system: Option<NumberingSystem>,
+    /// How numbers are written.
     pub style: Style,
     /// When separators are written; `None` leaves it to the default of the style.
     pub grouping: Option<GroupingStrategy>,

@@ -14,7 +14,9 @@ use std::alloc::Global;
 /// A decimal: a sign and a number without one. `-0` keeps its sign.
 #[derive(Debug, PartialEq, Eq, Drop)]
 pub struct Decimal {
+    /// The sign as it is written.
     pub sign: Sign,
+    /// The number without its sign.
     pub absolute: UnsignedDecimal,
 }
 

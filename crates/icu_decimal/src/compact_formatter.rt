@@ -136,8 +136,8 @@ impl CompactDecimalFormatter {
 
     /// A significand with a given exponent, its digits as they are given, with their parts; this takes no memory.
     ///
-    /// The exponent has to be the one that the magnitude of significand and exponent together needs; 0 stands at the
-    /// magnitude 0.
+    /// The exponent has to be the one that the magnitude of significand and exponent together needs; a significand 0
+    /// counts with magnitude 0, to which the exponent is added.
     pub fn format_with_exponent<'l>(
         &'l self,
         significand: &'l Decimal,

@@ -43,9 +43,9 @@ impl<'a, P: PatternBackend> CompactView<'a, P> {
 
     /// The table that has these bytes.
     ///
-    /// Damage is told by its byte, and the first that is found from left to right is told: fewer than four bytes, at
-    /// their number; more than 256 entries, at 0; another length than the first four bytes say, at the smaller of the
-    /// two; then record by record and slot by slot what can't stand there; then bytes that no slot names, at the first.
+    /// Damage is told by its byte, and the first that is met is told: fewer than four bytes, at their number; more than
+    /// 256 entries, at 0; another length than the first four bytes say, at the smaller of the two; then record by
+    /// record and slot by slot what can't stand there; then bytes that no slot names, at the first.
     #[tactic(auto, using(crate::proofs::PackedTables::tables))]
     pub fn parse(bytes: &'a [u8]) -> Result<Self, Damaged>
         ensures found { IfOk result (λ v. IsPackable P.accepted (table_shown v)

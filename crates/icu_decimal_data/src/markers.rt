@@ -12,8 +12,9 @@ impl DataMarker for DecimalSymbolsV1 {
     type DataStruct = DecimalSymbols;
 }
 
-/// The characters of the digits 0 to 9 of a numbering system (ICU4X, `DecimalDigitsV1`). They are the same in every
-/// locale, so they are asked for in the undetermined one, unless a locale is preferred with its own.
+/// The characters of the digits 0 to 9 of a numbering system (ICU4X, `DecimalDigitsV1`). They are asked for by the
+/// preferred system in the locale, where one is preferred, and else by the system that the symbols name, in the
+/// undetermined locale; so too where nothing is found by the preferred one.
 pub struct DecimalDigitsV1;
 
 impl DataMarker for DecimalDigitsV1 {

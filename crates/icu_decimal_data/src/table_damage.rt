@@ -1,4 +1,5 @@
-//! Whether bytes are those of a compact table, and where not: they are read from left to right, up to the first damage.
+//! Whether bytes are those of a compact table, and where not: they are judged record by record and slot by slot, up to
+//! the first damage that is met.
 
 #![tactic(auto, using(crate::proofs::TableSteps::steps), unfolding(crate::specs::TableReading::slot_step, crate::specs::TableReading::record_step, crate::specs::TableReading::table_step))]
 
@@ -296,7 +297,7 @@ fn check_records<P: PatternBackend>(
     Ok(total)
 }
 
-/// That bytes are those of a table; or the first damaged byte.
+/// That bytes are those of a table; or the byte of the first damage that is met.
 pub(crate) fn check<P: PatternBackend>(bytes: &[u8]) -> Result<(), Damaged>
     ensures { Passes result (table_step P.accepted bytes.now) }
 {

@@ -85,6 +85,6 @@ numbered present = record {
 abbrev pub selected_slot : List Bool → Operands → PluralCategory → ℕ
 selected_slot present o category = selected (numbered present) o category
 
--- whatever the values are, the one that is selected stands in the slot that is
+-- of elements whose values are texts, the one that is selected stands in the slot that is
 abbrev pub SelectedSlotHoldsTheSelected : Type 0
 SelectedSlotHoldsTheSelected = (e : Elements (List ℕ)) (o : Operands) (category : PluralCategory) → slice_index_or (slots e) (selected_slot (presence e) o category) None ≡ Some (selected e o category)

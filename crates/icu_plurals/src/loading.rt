@@ -19,6 +19,7 @@ impl DataMarker for PluralsCardinalV1 {
 /// For whom plural rules are made (ICU4X, `PluralRulesPreferences`).
 #[derive(Clone, Copy, Debug, PartialEq, Eq)]
 pub struct PluralRulesPreferences {
+    /// The locale, whose text goes to the provider as it is.
     pub locale_preferences: DataLocale,
 }
 

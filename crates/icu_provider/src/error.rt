@@ -26,7 +26,9 @@ pub enum DataErrorKind {
 #[derive(Clone, Copy, Debug, PartialEq, Eq, Error)]
 #[error("{kind}{}{context}", separator(.context))]
 pub struct DataError {
+    /// Why the data is refused.
     pub kind: DataErrorKind,
+    /// The provider's own text, empty where there is none.
     pub context: &'static str,
 }
 

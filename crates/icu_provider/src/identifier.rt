@@ -103,6 +103,7 @@ impl Eq for DataIdentifierBorrowed<'_> {
 /// A question to a provider of data (ICU4X, `DataRequest`).
 #[derive(Clone, Copy, Debug)]
 pub struct DataRequest<'a> {
+    /// By which identifier the data is asked.
     pub id: DataIdentifierBorrowed<'a>,
     /// Whether a provider need not report that it has no data, since another identifier is asked then.
     pub silent: bool,

@@ -11,6 +11,7 @@ use std::alloc::Global;
 
 /// The name of a kind of data (ICU4X, `DataMarker`).
 pub trait DataMarker {
+    /// The type of such data.
     type DataStruct;
 }
 

@@ -8,41 +8,57 @@ use std::alloc::Global;
 /// An operand of a relation, by the letter that UTS 35 gives it.
 #[derive(Clone, Copy, PartialEq, Eq)]
 pub enum Operand {
+    /// The number itself, without sign.
     N,
+    /// Its integer digits, as a number.
     I,
+    /// How many fraction digits are written.
     V,
+    /// How many are, without the zeros at the end.
     W,
+    /// The fraction digits, as a whole number.
     F,
+    /// The same without the zeros at the end.
     T,
+    /// The exponent.
     C,
+    /// The same as `C`.
     E,
 }
 
 /// A value, or a range with both ends.
 #[derive(Clone, Copy, PartialEq, Eq)]
 pub enum Item {
+    /// One number.
     Value(u64),
+    /// All numbers from the first to the last, both included; none where the first is greater.
     Range(u64, u64),
 }
 
 /// An operand, reduced by a modulus if one is given, is listed, or is denied to be.
 #[derive(Drop)]
 pub struct Relation {
+    /// The operand of which the relation speaks.
     pub subject: Operand,
+    /// What the operand is reduced by, if it is; in what is read of a text it isn't zero.
     pub modulus: Option<u64>,
+    /// Whether it holds where the operand isn't listed (`!=`).
     pub denied: bool,
+    /// The list: values and ranges.
     pub items: Vec<Item>,
 }
 
 /// Relations that hold together.
 #[derive(Drop)]
 pub struct Alternative {
+    /// The relations, as they stand between `and`.
     pub relations: Vec<Relation>,
 }
 
 /// Alternatives of which one holds, or none at all.
 #[derive(Drop)]
 pub struct Condition {
+    /// The alternatives, as they stand between `or`; without any the condition holds always.
     pub alternatives: Vec<Alternative>,
 }
 

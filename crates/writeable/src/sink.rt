@@ -10,7 +10,9 @@ use thiserror::Error;
 /// The name of a part of a text, as `decimal` and `minusSign` (ICU4X, `writeable::Part`).
 #[derive(Debug, Clone, Copy, PartialEq, Eq)]
 pub struct Part {
+    /// What names the kind of value, as `decimal`.
     pub category: &'static str,
+    /// Which part of such a value it is, as `minusSign`.
     pub value: &'static str,
 }
 

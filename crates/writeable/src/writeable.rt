@@ -54,7 +54,7 @@ pub trait Writeable {
         result
     }
 
-    /// The characters as a text. It fails only for want of memory.
+    /// The characters as a text. A `String` refuses only for want of memory; no clause says when the call fails.
     final fn write_to_string(&self, alloc: Global) -> Result<String, WriteFault>
         ensures { IfOk result (λ t. string_bytes t ≡ text_of (events self.now)) }
     {
