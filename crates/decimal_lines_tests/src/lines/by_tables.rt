@@ -14,14 +14,19 @@ fn made(alloc: Global, words: &Words<'_>, file: &[u8]) -> Result<Mode, StartErro
     }
 }
 
-/// Whether the output of an input by these words is this.
-fn answers(alloc: Global, words: &[&str], input: &str, want: &str) -> bool {
-    let Some(words) = parse_words(words) else {
-        return false;
-    };
-    match made(alloc, &words, TABLES.as_bytes()) {
+/// Whether the output of an input by what these words ask for is this.
+fn answers_asked(alloc: Global, words: &Words<'_>, input: &str, want: &str) -> bool {
+    match made(alloc, words, TABLES.as_bytes()) {
         Ok(mode) => runs_by(alloc, &mode, input.as_bytes(), usize::MAX, want.as_bytes()),
         Err(_) => false,
+    }
+}
+
+/// The same by the words.
+fn answers(alloc: Global, words: &[&str], input: &str, want: &str) -> bool {
+    match parse_words(words) {
+        Some(words) => answers_asked(alloc, &words, input, want),
+        None => false,
     }
 }
 
@@ -117,14 +122,19 @@ fn answers_by_words_and_tables(rt: HostRuntime) {
     }
 }
 
-/// Whether a mode of these words and this file is refused so.
-fn refuses(alloc: Global, words: &[&str], file: &[u8], want: StartError) -> bool {
-    let Some(words) = parse_words(words) else {
-        return false;
-    };
-    match made(alloc, &words, file) {
+/// Whether a mode of what these words ask for and this file is refused so.
+fn refuses_asked(alloc: Global, words: &Words<'_>, file: &[u8], want: StartError) -> bool {
+    match made(alloc, words, file) {
         Ok(_) => false,
         Err(error) => error == want,
+    }
+}
+
+/// The same by the words.
+fn refuses(alloc: Global, words: &[&str], file: &[u8], want: StartError) -> bool {
+    match parse_words(words) {
+        Some(words) => refuses_asked(alloc, &words, file, want),
+        None => false,
     }
 }
 
