@@ -60,6 +60,7 @@ def counts_of(lines):
         elif proved and crate:
             count = counts.setdefault(crate, dict.fromkeys(TASKS, 0))
             count["tests" if is_tests else "proof"] = int((proved[1] or 0) if is_tests else proved[2])
+            crate = None
         elif edits:
             counts.setdefault(edits[1], dict.fromkeys(TASKS, 0))["edits"] = int(edits[2])
     return counts
