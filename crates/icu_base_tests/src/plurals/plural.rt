@@ -5,7 +5,7 @@ use std::alloc::Global;
 use std::process::Abort;
 
 /// The cardinal rules of French, as UTS 35 publishes them.
-pub const FRENCH: [(PluralCategory, &str); 2] = [
+pub(crate) const FRENCH: [(PluralCategory, &str); 2] = [
     (
         PluralCategory::One,
         "i = 0,1 @integer 0, 1 @decimal 0.0~1.5",
@@ -17,7 +17,7 @@ pub const FRENCH: [(PluralCategory, &str); 2] = [
 ];
 
 /// The decimal, read again where memory was wanting.
-pub fn decimal_of(rt: &impl Abort, alloc: Global, text: &str) -> Decimal {
+pub(crate) fn decimal_of(rt: &impl Abort, alloc: Global, text: &str) -> Decimal {
     match Decimal::try_from_str(alloc, text) {
         Ok(decimal) => decimal,
         Err(DecimalError::OutOfMemory) => match Decimal::try_from_str(alloc, text) {
@@ -29,13 +29,21 @@ pub fn decimal_of(rt: &impl Abort, alloc: Global, text: &str) -> Decimal {
 }
 
 /// The operands of a decimal in text and an exponent.
-pub fn operands_of(rt: &impl Abort, alloc: Global, text: &str, exponent: u8) -> PluralOperands {
+pub(crate) fn operands_of(
+    rt: &impl Abort,
+    alloc: Global,
+    text: &str,
+    exponent: u8,
+) -> PluralOperands {
     let decimal = decimal_of(rt, alloc, text);
     PluralOperands::from_significand_and_exponent(&decimal.absolute, exponent)
 }
 
 /// The rules, asked for again where memory was wanting.
-pub fn judged(alloc: Global, rules: &[(PluralCategory, &str)]) -> Result<PluralRules, RulesError> {
+pub(crate) fn judged(
+    alloc: Global,
+    rules: &[(PluralCategory, &str)],
+) -> Result<PluralRules, RulesError> {
     match PluralRules::from_rules(alloc, rules) {
         Err(RulesError::OutOfMemory) => PluralRules::from_rules(alloc, rules),
         judged => judged,
@@ -43,7 +51,11 @@ pub fn judged(alloc: Global, rules: &[(PluralCategory, &str)]) -> Result<PluralR
 }
 
 /// The rules, which are in the grammar.
-pub fn rules_of(rt: &impl Abort, alloc: Global, rules: &[(PluralCategory, &str)]) -> PluralRules {
+pub(crate) fn rules_of(
+    rt: &impl Abort,
+    alloc: Global,
+    rules: &[(PluralCategory, &str)],
+) -> PluralRules {
     match judged(alloc, rules) {
         Ok(rules) => rules,
         Err(_) => panic!(rt; "the rules were refused"),
@@ -51,7 +63,13 @@ pub fn rules_of(rt: &impl Abort, alloc: Global, rules: &[(PluralCategory, &str)]
 }
 
 /// Whether a condition holds of a number, which is a decimal in text and an exponent.
-pub fn holds(rt: &impl Abort, alloc: Global, condition: &str, number: &str, exponent: u8) -> bool {
+pub(crate) fn holds(
+    rt: &impl Abort,
+    alloc: Global,
+    condition: &str,
+    number: &str,
+    exponent: u8,
+) -> bool {
     let rules = rules_of(rt, alloc, &[(PluralCategory::One, condition)]);
     let category = rules.category_for(operands_of(rt, alloc, number, exponent));
     category == PluralCategory::One
