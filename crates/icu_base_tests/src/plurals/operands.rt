@@ -63,7 +63,7 @@ const WRITTEN: &[(&str, &str)] = &[
     ),
     (
         "999999999999999999",
-        "i = 999999999999999999 and v = 0 and f = 0 and c = 0",
+        "i = 999999999999999999 and v = 0 and w = 0 and f = 0 and t = 0 and c = 0",
     ),
 ];
 
@@ -150,7 +150,7 @@ const LONG: &[(&str, &str)] = &[
     ),
     (
         "7.9999999999999999990",
-        "i = 7 and v = 18 and w = 18 and f = 999999999999999999 and t = 999999999999999999",
+        "i = 7 and v = 18 and w = 18 and f = 999999999999999999 and t = 999999999999999999 and c = 0",
     ),
     (
         "7.1000000000000000001",
@@ -165,45 +165,41 @@ fn eighteen_fraction_digits_are_seen(rt: HostRuntime) {
     }
 }
 
-/// Numbers with more than eighteen integer digits: i is not what the lowest ones are, and has their remainders.
+/// Numbers with more than eighteen integer digits: no list has i, and by a modulus of 10^18 - 1 it is what its eighteen
+/// lowest digits are, or 0 where these are all nines, which the modulus of 10^17 tells from all zeros.
 const LARGE: &[(&str, u8, &str)] = &[
-    (
-        "1000000000000000000",
-        0,
-        "i != 0 and i % 100000000000000000 = 0",
-    ),
+    ("1000000000000000000", 0, ALL_ZEROS),
     (
         "1000000000000000001",
         0,
-        "i != 1 and i % 100000000000000000 = 1",
+        "i != 0..999999999999999999 and i % 999999999999999999 = 1",
     ),
     (
         "9123456789012345678",
         0,
-        "i != 123456789012345678 and i % 100000000000000000 = 23456789012345678",
+        "i != 0..999999999999999999 and i % 999999999999999999 = 123456789012345678",
     ),
     (
         "10000000000000000000000000000000000000002",
         0,
-        "i != 2 and i % 100000000000000000 = 2",
+        "i != 0..999999999999999999 and i % 999999999999999999 = 2",
     ),
-    ("1", 18, "i != 0 and i % 100000000000000000 = 0"),
+    ("1", 18, ALL_ZEROS),
     (
         "1.5",
         18,
-        "i != 500000000000000000 and i % 100000000000000000 = 0",
+        "i != 0..999999999999999999 and i % 999999999999999999 = 500000000000000000",
     ),
-    (
-        "1",
-        255,
-        "i != 0 and i % 100000000000000000 = 0 and c = 255",
-    ),
+    ("1", 255, ALL_ZEROS),
     (
         "1.23456789012345678901",
         20,
-        "i != 456789012345678901 and i % 100000000000000000 = 56789012345678901",
+        "i != 0..999999999999999999 and i % 999999999999999999 = 456789012345678901",
     ),
 ];
+
+const ALL_ZEROS: &str =
+    "i != 0..999999999999999999 and i % 999999999999999999 = 0 and i % 100000000000000000 = 0";
 
 #[test]
 fn a_digit_above_the_eighteenth_is_noticed(rt: HostRuntime) {
@@ -238,7 +234,8 @@ fn holds_of_sevens(
 
 #[test]
 fn operands_at_both_ends_of_the_written_range(rt: HostRuntime) {
-    let high = "i != 0 and i % 100000000000000000 = 0 and v = 0 and c = 255";
+    let high = "v = 0 and c = 255";
+    assert!(rt; holds_of_sevens(&rt, rt.alloc(), ALL_ZEROS, 32767, 255));
     assert!(rt; holds_of_sevens(&rt, rt.alloc(), high, 32767, 255));
     let low = "i = 0 and v = 18 and w = 0 and f = 0 and c = 0";
     assert!(rt; holds_of_sevens(&rt, rt.alloc(), low, -32768, 0));

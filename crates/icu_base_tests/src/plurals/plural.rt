@@ -62,7 +62,19 @@ pub(crate) fn rules_of(
     }
 }
 
-/// Whether a condition holds of a number, which is a decimal in text and an exponent.
+/// The category of a number, which is a decimal in text and an exponent, by one rule for the category one.
+pub(crate) fn category_by(
+    rt: &impl Abort,
+    alloc: Global,
+    condition: &str,
+    number: &str,
+    exponent: u8,
+) -> PluralCategory {
+    let rules = rules_of(rt, alloc, &[(PluralCategory::One, condition)]);
+    rules.category_for(operands_of(rt, alloc, number, exponent))
+}
+
+/// Whether a condition holds of a number.
 pub(crate) fn holds(
     rt: &impl Abort,
     alloc: Global,
@@ -70,7 +82,5 @@ pub(crate) fn holds(
     number: &str,
     exponent: u8,
 ) -> bool {
-    let rules = rules_of(rt, alloc, &[(PluralCategory::One, condition)]);
-    let category = rules.category_for(operands_of(rt, alloc, number, exponent));
-    category == PluralCategory::One
+    category_by(rt, alloc, condition, number, exponent) == PluralCategory::One
 }

@@ -1,5 +1,5 @@
 //! Texts of conditions: which are refused and where, and what the others mean.
-use super::plural::{holds, judged, operands_of, rules_of};
+use super::plural::{category_by, judged, operands_of, rules_of};
 use icu_plurals::PluralCategory::{One, Other, Two};
 use icu_plurals::{PluralCategory, PluralRules, RulesError};
 use std::alloc::Global;
@@ -57,7 +57,7 @@ type Case = (&'static str, &'static str, u8, bool);
 
 /// Whether a condition holds of a number just where it is to.
 fn is_held(rt: &impl Abort, alloc: Global, (rule, number, exponent, wanted): Case) -> bool {
-    holds(rt, alloc, rule, number, exponent) == wanted
+    category_by(rt, alloc, rule, number, exponent) == if wanted { One } else { Other }
 }
 
 const SPELLED: &[Case] = &[
