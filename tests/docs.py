@@ -24,6 +24,7 @@ import sys
 ROOT = os.path.dirname(os.path.dirname(os.path.abspath(__file__)))
 PROGRAM = "crates/decfmt/out/decfmt"
 PAGES = ["README.md", "CONTRIBUTING.md", "docs/*.md", "tables/README.md", "crates/*/README.md"]
+CIRCLES = ("must-fail", "edits")
 LOCALES_HEADER = "| locale | plain | short | long |"
 LOCALES_NUMBER = "1234567.8"
 LOCALES_TABLES = "tables/six_locales.json"
@@ -96,25 +97,30 @@ def judge_links():
 # Pages that are made
 
 def edits_page():
-    """The must-fail edits by crate and by the file that they change."""
+    """The must-fail edits by crate, by the file that they change and by their circle."""
     lines = [
         "# Must-fail edits",
         "",
         "Each edit changes one meaning of a call, mostly in one place, and the prover has to refuse it. Its name says the",
-        "wrong behaviour. `rt must-fail NAME` tries those of a crate; the gate tries all. `tests/docs.py --write` makes this",
-        "page.",
+        "wrong behaviour. Those of the inner circle, in `must-fail/`, guard what README.md and the first link of each promise",
+        "of PROVED.md name: every run of the gate tries them, and `rt must-fail NAME` tries those of a crate. Those of the",
+        "outer circle, in `edits/`, are tried by `tests/edits.sh NAME`, and by the gate where the crate, or what it stands",
+        "on, is another than `edits.lock` has. `tests/docs.py --write` makes this page.",
         "",
     ]
-    for folder in found("crates/*/must-fail"):
-        crate = folder.split("/")[1]
+    for crate in sorted({path.split("/")[1] for path in found("crates/*/must-fail") + found("crates/*/edits")}):
         by_file = {}
-        for path in found(f"{folder}/*.edit"):
-            changed = re.search(r"^file: (.*)$", read(path), flags=re.M).group(1)
-            by_file.setdefault(changed, []).append(path)
-        lines += [f"## `{crate}`", "", "| file that is changed | edits |", "|---|---|"]
+        for folder in CIRCLES:
+            for path in found(f"crates/{crate}/{folder}/*.edit"):
+                changed = re.search(r"^file: (.*)$", read(path), flags=re.M).group(1)
+                by_file.setdefault(changed, {}).setdefault(folder, []).append(path)
+        lines += [f"## `{crate}`", "", "| file that is changed | inner edits | outer edits |", "|---|---|---|"]
         for changed in sorted(by_file):
-            links = [f"[`{os.path.basename(path)[:-5]}`](../{path})" for path in by_file[changed]]
-            lines.append(f"| [`{changed}`](../crates/{crate}/{changed}) | {', '.join(links)} |")
+            cells = [
+                ", ".join(f"[`{os.path.basename(path)[:-5]}`](../{path})" for path in by_file[changed].get(folder, []))
+                for folder in CIRCLES
+            ]
+            lines.append(f"| [`{changed}`](../crates/{crate}/{changed}) | {' | '.join(cells)} |")
         lines.append("")
     return "\n".join(lines)
 
