@@ -6,6 +6,8 @@
 #[cfg(test)]
 mod fixtures;
 #[cfg(test)]
+mod large;
+#[cfg(test)]
 mod numbers;
 #[cfg(test)]
 mod rounding;

@@ -20,7 +20,7 @@ fn refusal_once(alloc: Global, text: &str) -> Option<TableError> {
 }
 
 /// The same, asked once more where memory was wanting.
-fn refusal(alloc: Global, text: &str) -> Option<TableError> {
+pub(crate) fn refusal(alloc: Global, text: &str) -> Option<TableError> {
     match refusal_once(alloc, text) {
         Some(TableError::OutOfMemory) => refusal_once(alloc, text),
         told => told,
@@ -37,7 +37,7 @@ const NESTED: &str = "[[[[[[[[[[[[[[[[[[[[[[[[[[[[[[[[[[[[[[[[[[[[[[[[[[\
 ]]]]]]]]]]]]]]]]]]]]]]]]]]]]]]]]]]]]]]]]]]]]]]]]]]\
 ]]]]]]]]]]]]]]]]]]]]]]]]]]]]]]]]]]]]]]]]]]]]]]]]]]";
 
-const REFUSED: [(&str, TableError); 23] = [
+const REFUSED: [(&str, TableError); 26] = [
     ("{\"symbols\":[]", TableError::NotJson),
     ("", TableError::NotJson),
     (NESTED, TableError::NotJson),
@@ -111,6 +111,34 @@ const REFUSED: [(&str, TableError); 23] = [
             key: Key::Symbols,
             index: 0,
             fault: EntryFault::BadSymbolsNumberingSystem,
+        },
+    ),
+    (
+        "{\"symbols\":[{\"locale\":\"en\",\"minus\":[\"-\",\"\"],\"plus\":[\"+\",\"\"],\"decimal\":\".\",\"group\":\"\
+xxxxxxxxxxxxxxxxxxxxxxxxxxxxxxxxxxxxxxxxxxxxxxxxxxxxxxxxxxxxxxxx\
+xxxxxxxxxxxxxxxxxxxxxxxxxxxxxxxxxxxxxxxxxxxxxxxxxxxxxxxxxxxxxxxx\
+xxxxxxxxxxxxxxxxxxxxxxxxxxxxxxxxxxxxxxxxxxxxxxxxxxxxxxxxxxxxxxxx\
+xxxxxxxxxxxxxxxxxxxxxxxxxxxxxxxxxxxxxxxxxxxxxxxxxxxxxxxxxxxxxxxx\",\"numsys\":\"latn\",\"sizes\":[3,3,1]}],\"digits\":[]}",
+        TableError::Entry {
+            key: Key::Symbols,
+            index: 0,
+            fault: EntryFault::SymbolsTooLarge,
+        },
+    ),
+    (
+        "{\"symbols\":[],\"digits\":[],\"short\":[{\"locale\":\"en\",\"system\":\"la\",\"patterns\":[]}]}",
+        TableError::Entry {
+            key: Key::Short,
+            index: 0,
+            fault: EntryFault::BadNumberingSystem,
+        },
+    ),
+    (
+        "{\"symbols\":[],\"digits\":[],\"short\":[{\"locale\":\"en\",\"patterns\":[[16,0,{\"other\":\"{0}K\"}]]}]}",
+        TableError::Entry {
+            key: Key::Short,
+            index: 0,
+            fault: EntryFault::TooManyZeros,
         },
     ),
     (
@@ -188,14 +216,16 @@ const TABLES: &str = "{\"symbols\":[\
 {\"locale\":\"en\",\"system\":\"arab\",\"minus\":[\"-\",\"\"],\"plus\":[\"+\",\"\"],\"decimal\":\";\",\"group\":\",\",\"numsys\":\"arab\",\"sizes\":[3,3,1]}],\
 \"digits\":[[\"latn\",\"0123456789\"],[\"latn\",\"9876543210\"]],\
 \"rules\":[{\"locale\":\"en\",\"rules\":[[\"one\",\"i = 1 and v = 0\"]]}],\
-\"short\":[{\"locale\":\"en\",\"patterns\":[[3,3,{\"other\":\"{0}K\"}],[4,3,{\"other\":\"{0}K\"}],[6,6,{\"other\":\"{0}M\"}]]}],\
-\"long\":[{\"locale\":\"ja\",\"zero\":{\"other\":\"{0}\"},\"patterns\":[[3,0,{\"other\":\"{0}\"}],[4,4,{\"other\":\"{0}万\"}]]}]}";
+\"short\":[{\"locale\":\"en\",\"patterns\":[[3,3,{\"other\":\"{0}K\"}],[4,3,{\"other\":\"{0}K\"}],[6,6,{\"other\":\"{0}M\"}]]},\
+{\"locale\":\"en\",\"system\":\"arab\",\"patterns\":[[3,3,{\"other\":\"{0}k\"}]]}],\
+\"long\":[{\"locale\":\"ja\",\"system\":\"arab\",\"patterns\":[[4,4,{\"other\":\"{0}W\"}]]},\
+{\"locale\":\"ja\",\"zero\":{\"other\":\"{0}\"},\"patterns\":[[3,0,{\"other\":\"{0}\"}],[4,4,{\"other\":\"{0}万\"}]]}]}";
 
 const LATIN: [char; 10] = ['0', '1', '2', '3', '4', '5', '6', '7', '8', '9'];
 
 /// What is asked for.
 #[derive(Clone, Copy, Debug, PartialEq, Eq)]
-enum Asked {
+pub(crate) enum Asked {
     Symbols,
     Digits,
     Rules,
@@ -277,7 +307,7 @@ fn answer_once(
 }
 
 /// The same, asked once more where memory was wanting.
-fn answer(
+pub(crate) fn answer(
     alloc: Global,
     text: &str,
     asked: Asked,
@@ -289,9 +319,16 @@ fn answer(
     }
 }
 
-const ANSWERED: [(Asked, (&str, &str), Result<char, DataErrorKind>); 12] = [
+const ANSWERED: [(Asked, (&str, &str), Result<char, DataErrorKind>); 15] = [
     (Asked::Short, ("en", ""), Ok('K')),
+    (Asked::Short, ("en", "arab"), Ok('k')),
+    (
+        Asked::Short,
+        ("en", "latn"),
+        Err(DataErrorKind::IdentifierNotFound),
+    ),
     (Asked::Long, ("ja", ""), Ok('万')),
+    (Asked::Long, ("ja", "arab"), Ok('W')),
     (
         Asked::Long,
         ("en", ""),
@@ -340,8 +377,10 @@ const WITHOUT_RULES: &str = "{\"symbols\":[],\"digits\":[]}";
 
 #[test]
 fn absent_keys_are_other_refusals(rt: HostRuntime) {
-    let rules = answer(rt.alloc(), WITHOUT_RULES, Asked::Rules, ("en", ""));
-    assert!(rt; rules == Err(DataErrorKind::MarkerNotFound));
+    for asked in [Asked::Rules, Asked::Short, Asked::Long] {
+        let answer = answer(rt.alloc(), WITHOUT_RULES, asked, ("en", ""));
+        assert!(rt; answer == Err(DataErrorKind::MarkerNotFound), "{asked:?}");
+    }
 }
 
 /// How many entries the table of a text keeps, or why there is none.
@@ -356,7 +395,7 @@ fn entries_once(alloc: Global, text: &str) -> Result<usize, TableError> {
 }
 
 /// The same, asked once more where memory was wanting.
-fn entries(alloc: Global, text: &str) -> Result<usize, TableError> {
+pub(crate) fn entries(alloc: Global, text: &str) -> Result<usize, TableError> {
     match entries_once(alloc, text) {
         Err(TableError::OutOfMemory) => entries_once(alloc, text),
         told => told,

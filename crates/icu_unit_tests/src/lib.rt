@@ -6,6 +6,8 @@ mod currencies;
 #[cfg(test)]
 mod instances;
 #[cfg(test)]
+mod large;
+#[cfg(test)]
 mod making;
 #[cfg(test)]
 mod sinks;
