@@ -3,10 +3,15 @@ use Rattle.std.proofs.Common.{◌≡◌, ℕ, ◌+◌, ◌<◌, ◌≤◌, ◌�
 use Rattle.std.proofs.Math.Seq.{take-append_seam}
 use Rattle.std.proofs.lemmas.List.{append-nil}
 use Rattle.std.proofs.lemmas.Slice.{drop-append-drop}
-use Rattle.decimal_lines.specs.Filled.{IsFilled, IsFirstLine, HoldsAllThatFit, HoldsWholeLines}
-use Rattle.decimal_lines.specs.Lines.{IsPartLine, line_output, output_of}
+use Rattle.decimal_lines.specs.Filled.{HasRoomLeft, IsFilled, IsFirstLine, HoldsAllThatFit, HoldsWholeLines}
+use Rattle.decimal_lines.specs.Lines.{IsPartLine, line_output, output_of, without_return}
 use Rattle.decimal_lines.specs.Written.{AreWholeLines}
 use Rattle.decimal_lines.proofs.Parts.{AreWholeLines-append, nothing_of, output_of-append, output_of-ended, output_of-last, output_of-nothing}
+
+-- the output of a line has its line feed at least
+pub line_some : (answer : List ℕ → List ℕ) (line : List ℕ) → 0 < length (line_output answer line)
+unfolding line_output
+line_some answer line = omega (arith, length-append (answer (without_return line)) (10 ∷ []))
 
 -- more text behind what was filled
 filled-then : (old new new' text more : List ℕ) (n : ℕ) → IsFilled old new text n
@@ -83,6 +88,10 @@ module _ (answer : List ℕ → List ℕ) where
       -- what was written is the output of whole lines
       pub Fills-stops : HoldsWholeLines answer input old new n
       Fills-stops = record { whole = f.done; rest = left; are_whole = are_whole; parts = f.parts; filled = f.filled }
+
+      -- with room behind it
+      pub Fills-room : n < length new → HasRoomLeft answer input old new n
+      Fills-room room = record { holds = Fills-stops; is_some = some; room = omega (arith, Fills-length) }
 
       module _ (line rest : List ℕ) (first : IsFirstLine left line rest) where
         outputs : output_of answer input ≡ output_of answer f.done ++ (line_output answer line ++ output_of answer rest)

@@ -17,6 +17,12 @@ pub record HoldsWholeLines (answer : List ℕ → List ℕ) (input old new : Lis
   pub parts : input ≡ whole ++ rest
   pub filled : IsFilled old new (output_of answer whole) n
 
+-- so it is, something of the input is left, and there is room behind what is filled
+pub record HasRoomLeft (answer : List ℕ → List ℕ) (input old new : List ℕ) (n : ℕ) : Type 0 where
+  pub holds : HoldsWholeLines answer input old new n
+  pub is_some : 0 < length holds.rest
+  pub room : n < length old
+
 -- a line, without its line feed, and what follows it: the rest behind the line feed, or nothing
 pub record IsFirstLine (bytes line rest : List ℕ) : Type 0 where
   pub is_part : IsPartLine line

@@ -1,5 +1,6 @@
 -- The mode that the words and the file of tables make.
 use Rattle.std.specs.Prelude.{◌≡◌, ℕ, List, Option, Some, None, Result, Ok, Err}
+use Rattle.icu_provider.specs.Answer.{Refusal}
 use Rattle.icu_provider.specs.declared.error.DataErrorKind.{DataErrorKind}
 use Rattle.icu_provider.specs.declared.error.DataErrorKind.TheVariants as refusal
 use Rattle.icu_decimal.specs.Loaded.{loaded, loaded_compact}
@@ -56,9 +57,9 @@ start_error refusal.Custom = start.NoData
 start_error refusal.OutOfMemory = start.OutOfMemory
 
 -- the mode of a formatter, or why there is none
-abbrev pub started : {X : Type 0} → (X → Mode) → Result X DataErrorKind → Result Mode StartError
+abbrev pub started : {X : Type 0} → (X → Mode) → Result X Refusal → Result Mode StartError
 started mode_of (Ok formatter) = Ok (mode_of formatter)
-started mode_of (Err kind) = Err (start_error kind)
+started mode_of (Err refusal) = Err (start_error refusal.kind)
 
 unfoldable pub plain_mode : WordsData → TablesData → Result Mode StartError
 plain_mode words tables = started mode.Plain (loaded

@@ -1,8 +1,8 @@
 //! From bytes to bytes, without a reader or a writer.
 
-ghost use Rattle.std.specs.Prelude.{◌≡◌, ◌+◌, ◌<◌, ◌≤◌, ◌++◌, take, drop, length, Err, IfOk, OnOk, OnErr};
+ghost use Rattle.std.specs.Prelude.{◌≡◌, ◌+◌, ◌<◌, ◌≤◌, ◌++◌, take, drop, length, Err, IfErr, IfOk, OnOk, OnErr};
 ghost use Rattle.decimal_lines.specs.Answers.{answer_to};
-ghost use Rattle.decimal_lines.specs.Filled.{HoldsAllThatFit, HoldsWholeLines, IsFilled, IsFirstLine};
+ghost use Rattle.decimal_lines.specs.Filled.{HasRoomLeft, HoldsAllThatFit, HoldsWholeLines, IsFilled, IsFirstLine};
 ghost use Rattle.decimal_lines.specs.Lines.{line_output, output_of};
 
 use crate::line::push_line;
@@ -44,19 +44,28 @@ fn first_line(bytes: &[u8]) -> (&[u8], &[u8])
     }
 }
 
-/// Copies a text to a place in the output; where it ends.
-fn place(output: &mut [u8], at: usize, text: &[u8]) -> usize
-    requires { at + length text.now ≤ length output.old }
-    ensures bytes { output.new ≡ take at output.old ++ text.now
-        ++ drop (at + length text.now) output.old }
-    ensures end { result ≡ at + length text.now }
+/// Copies a text to a place in the output, if there is room for it; where it ends. Nothing but the room is judged here.
+fn place(output: &mut [u8], at: usize, text: &[u8]) -> Result<usize, FillError>
+    requires { at ≤ length output.old }
+    ensures fits { IfOk result (λ end. (end ≡ at + length text.now)
+        × (at + length text.now ≤ length output.old)) }
+    ensures bytes { OnOk result (output.new ≡ take at output.old ++ text.now
+        ++ drop (at + length text.now) output.old) }
+    ensures too_small { IfErr result (λ error. (error ≡ FillError.TooSmall)
+        × (length output.old < at + length text.now)) }
+    ensures unchanged { OnErr result (output.new ≡ output.old) }
 {
+    if text.len() > output.len() - at {
+        return Err(FillError::TooSmall);
+    }
     let end = at + text.len();
     output[at..end].copy_from_slice(text);
-    end
+    Ok(end)
 }
 
-/// Writes the answer to a line at a place in the output, if there is room for it; where it ends.
+/// Writes the answer to a line at a place in the output, if there is room for it; where it ends. A full output is told before
+/// memory is asked for.
+#[tactic(auto, using(crate::proofs::FilledLines::line_some))]
 fn put_line(
     alloc: Global,
     mode: &Mode,
@@ -76,21 +85,23 @@ fn put_line(
     ensures unchanged { OnErr result (output.new ≡ output.old) }
     ensures too_small { result ≡ Err FillError.TooSmall
         → length output.old < at + length (line_output (answer_to mode.now) line.now) }
+    ensures memory { result ≡ Err FillError.OutOfMemory → at < length output.old }
 {
+    if at == output.len() {
+        return Err(FillError::TooSmall);
+    }
     text.clear();
     if push_line(alloc, mode, line, text).is_err() {
         return Err(FillError::OutOfMemory);
     }
-    if text.len() > output.len() - at {
-        return Err(FillError::TooSmall);
-    }
-    Ok(place(output, at, text))
+    place(output, at, text)
 }
 
 /// Formats all lines of the input into the output: for each line the decimal in the mode's form, or an error line, and a
 /// line feed (this project's own).
 ///
-/// What lines are is said at [`run`](crate::run). An output that is too small holds the answers to as many lines as fit.
+/// What lines are is said at [`run`](crate::run). An output that is too small holds the answers to as many lines as fit. Want
+/// of memory comes before the room for the next line is judged, but a full output is told as too small.
 pub fn format_lines(alloc: Global, mode: &Mode, input: &[u8], output: &mut [u8]) -> Filled
     // The output of the whole input was written.
     ensures ok { OnOk result.outcome
@@ -105,6 +116,10 @@ pub fn format_lines(alloc: Global, mode: &Mode, input: &[u8], output: &mut [u8])
         → length output.old < length (output_of (answer_to mode.now) input.now) }
     ensures full { result.outcome ≡ Err FillError.TooSmall
         → HoldsAllThatFit (answer_to mode.now) input.now output.old output.new result.written }
+
+    // Where memory is wanting, a line is left, and so is some room.
+    ensures memory { result.outcome ≡ Err FillError.OutOfMemory
+        → HasRoomLeft (answer_to mode.now) input.now output.old output.new result.written }
 {
     let mut text = Vec::new(alloc);
     let mut written = 0;

@@ -1,9 +1,9 @@
 -- What formatters are made of: the answers of a provider, in the order in which it is asked (ICU4X, the constructors
 -- `try_new_unstable`, `try_new_short_unstable` and `try_new_long_unstable`).
 use Rattle.std.specs.Prelude.{ℕ, List, map, codes, Some, Result, Ok, Err}
+use Rattle.icu_base.specs.Answer.{Refusal}
 use Rattle.icu_base.specs.Identifier.{Identifier}
 use Rattle.icu_base.specs.Rules.{Rule}
-use Rattle.icu_base.specs.declared.provider.error.DataErrorKind.{DataErrorKind}
 use Rattle.icu_decimal_data.specs.CompactTable.{TableEntry}
 use Rattle.icu_decimal_data.specs.Decided.{decided}
 use Rattle.icu_decimal_data.specs.declared.decimal_symbols.DecimalSymbols.{DecimalSymbols}
@@ -17,30 +17,30 @@ use Rattle.icu_decimal_options.specs.declared.preferences.CompactDecimalFormatte
 
 -- what a provider answers by each identifier
 abbrev pub Provider : Type 0 → Type 0
-Provider X = Identifier → Result X DataErrorKind
+Provider X = Identifier → Result X Refusal
 
 -- the next answer, made with what was answered, or the refusal
-abbrev pub and_then : {X Y : Type 0} → Result X DataErrorKind → (X → Result Y DataErrorKind) → Result Y DataErrorKind
+abbrev pub and_then : {X Y : Type 0} → Result X Refusal → (X → Result Y Refusal) → Result Y Refusal
 and_then (Ok x) next = next x
-and_then (Err kind) next = Err kind
+and_then (Err refusal) next = Err refusal
 
 -- the answer by the preferred system in the locale, where one is preferred, or else by another identifier
-abbrev pub preferably : {X : Type 0} → Provider X → DecimalFormatterPreferences → Identifier → Result X DataErrorKind
+abbrev pub preferably : {X : Type 0} → Provider X → DecimalFormatterPreferences → Identifier → Result X Refusal
 preferably provider prefs other =
     decided (map provider (asked (preferred_id prefs.numbering_system prefs.locale_preferences) other))
 
 -- the symbols by the preferred system in the locale, or else by the locale
-abbrev pub symbols_loaded : Provider DecimalSymbols → DecimalFormatterPreferences → Result DecimalSymbols DataErrorKind
+abbrev pub symbols_loaded : Provider DecimalSymbols → DecimalFormatterPreferences → Result DecimalSymbols Refusal
 symbols_loaded symbols prefs = preferably symbols prefs (locale_id prefs.locale_preferences)
 
 -- the digits by the preferred system in the locale, or else by the system that the symbols name, which is asked in the
 -- undetermined locale
-abbrev pub digits_loaded : Provider (List ℕ) → DecimalFormatterPreferences → DecimalSymbols → Result (List ℕ) DataErrorKind
+abbrev pub digits_loaded : Provider (List ℕ) → DecimalFormatterPreferences → DecimalSymbols → Result (List ℕ) Refusal
 digits_loaded digits prefs symbols =
     preferably digits prefs (record { system = Some symbols.strings.numsys; locale = codes "und" })
 
 -- the plain formatter: symbols, then digits, with the options; or the first refusal
-abbrev pub loaded : Provider DecimalSymbols → Provider (List ℕ) → DecimalFormatterPreferences → DecimalFormatterOptions → Result DecimalFormat DataErrorKind
+abbrev pub loaded : Provider DecimalSymbols → Provider (List ℕ) → DecimalFormatterPreferences → DecimalFormatterOptions → Result DecimalFormat Refusal
 loaded symbols digits prefs options =
     and_then (symbols_loaded symbols prefs) (λ s.
     and_then (digits_loaded digits prefs s) (λ d.
@@ -48,7 +48,7 @@ loaded symbols digits prefs options =
 
 -- the compact formatter: the plain one, then plural rules by the locale, then patterns by the preferred system in the
 -- locale, or else by the locale; or the first refusal
-abbrev pub loaded_compact : Provider DecimalSymbols → Provider (List ℕ) → Provider (List Rule) → Provider (List TableEntry) → CompactDecimalFormatterPreferences → CompactDecimalFormatterOptions → Result CompactFormat DataErrorKind
+abbrev pub loaded_compact : Provider DecimalSymbols → Provider (List ℕ) → Provider (List Rule) → Provider (List TableEntry) → CompactDecimalFormatterPreferences → CompactDecimalFormatterOptions → Result CompactFormat Refusal
 loaded_compact symbols digits rules patterns prefs options =
     let plain = plain_preferences prefs in
     let locale = locale_id prefs.locale_preferences in

@@ -6,7 +6,7 @@ ghost use Rattle.fixed_decimal.specs.declared.signs.Sign.{Sign};
 ghost use Rattle.fixed_decimal.specs.Unsigned.{Unsigned};
 ghost use Rattle.icu_decimal.specs.CompactFormat.{CompactFormat};
 ghost use Rattle.icu_decimal.specs.CompactLaws.{OneCompactNumberIsNearest, NearestIsRounded, DisplayedIsOne, NearestKeepsOrder, MagnitudeIsShown, CompactNumberIsItsNearest, IsUnpadded, IsShownAgain, ShownIsGiven};
-ghost use Rattle.icu_decimal.specs.Laws.{AutoAndAlwaysWriteAlike, NoneActsAsAuto};
+ghost use Rattle.icu_decimal.specs.Laws.{AutoAndAlwaysWriteAlike, CompactAutoAndAlwaysWriteAlike, CompactNoneActsAsAuto, NoneActsAsAuto};
 ghost use Rattle.icu_decimal.specs.ReadableLaws.{CompactTextTells, ShownTextTells, TextTellsTheDecimal};
 
 use crate::formatted_decimal::{FormattedDecimal, FormattedUnsignedDecimal};
@@ -18,10 +18,13 @@ pub use icu_decimal_data::laws::kept_means_full;
 pub use icu_decimal_options::laws::{grouping_is_unique, separators_taken_out};
 use icu_decimal_options::options::DecimalFormatterOptions;
 
-/// The strategies `Auto` and `Always` write the same, and so does no strategy.
+/// The strategies `Auto` and `Always` write the same, and so does no strategy: plain numbers, and compact ones by `format` and
+/// `format_with_exponent`.
 pub fn auto_and_always_write_alike()
     ensures always { AutoAndAlwaysWriteAlike }
     ensures none { NoneActsAsAuto }
+    ensures compact_always { CompactAutoAndAlwaysWriteAlike }
+    ensures compact_none { CompactNoneActsAsAuto }
 {}
 
 /// Where a plain formatter is readable, equal texts mean equal decimals: in sign, range and every digit.

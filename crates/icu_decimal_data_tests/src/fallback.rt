@@ -1,6 +1,7 @@
 //! In which order a provider is asked, and which of its answers counts.
 
-ghost use Rattle.std.specs.Prelude.{Err, [], length, unwrap_or, slice_index_or};
+ghost use Rattle.std.specs.Prelude.{[], length, unwrap_or, map, slice_index_or};
+ghost use Rattle.icu_base.specs.Answer.{refused, told};
 ghost use Rattle.icu_base.specs.declared.provider.error.DataErrorKind.TheVariants.{IdentifierNotFound};
 
 use icu_base::{
@@ -17,7 +18,7 @@ impl DataMarker for NumberV1 {
 }
 
 /// A number, or why there is none.
-type Answer = Result<u8, DataErrorKind>;
+type Answer = Result<u8, DataError>;
 
 /// Systems whose names are as long as their places.
 const SYSTEMS: [&str; 3] = ["", "a", "ab"];
@@ -31,8 +32,8 @@ struct Told {
 }
 
 impl DataProvider<NumberV1> for Told {
-    ghost answer = { λ told id. slice_index_or told.answers.now (length (unwrap_or id.system []))
-        (Err IdentifierNotFound) };
+    ghost answer = { λ keeper id. slice_index_or (map told keeper.answers.now)
+        (length (unwrap_or id.system [])) (refused IdentifierNotFound) };
 
     fn load(&self, _alloc: Global, request: &DataRequest<'_>) -> Result<u8, DataError> {
         let digit = if request.silent { 2 } else { 1 };
@@ -40,7 +41,7 @@ impl DataProvider<NumberV1> for Told {
             .set(self.heard.get().wrapping_mul(10).wrapping_add(digit));
         match self.answers.get(request.id.system().unwrap_or("").len()) {
             Some(Ok(number)) => Ok(*number),
-            Some(Err(kind)) => Err(DataError::from(*kind)),
+            Some(Err(error)) => Err(*error),
             None => Err(DataError::from(DataErrorKind::IdentifierNotFound)),
         }
     }
@@ -54,22 +55,40 @@ fn decided(alloc: Global, answers: &'static [Answer]) -> (Answer, u16) {
     };
     let ids = SYSTEMS.map(DataIdentifierBorrowed::for_marker_attributes);
     let count = answers.len().min(ids.len());
-    let answer = match load_with_fallback::<NumberV1, Told>(alloc, &told, ids.split_at(count).0) {
-        Ok(number) => Ok(number),
-        Err(error) => Err(error.kind),
-    };
+    let answer = load_with_fallback::<NumberV1, Told>(alloc, &told, ids.split_at(count).0);
     (answer, told.heard.get())
 }
 
-const MISSING: Answer = Err(DataErrorKind::IdentifierNotFound);
+const MISSING: Answer = Err(DataError {
+    kind: DataErrorKind::IdentifierNotFound,
+    context: "nothing here",
+});
 
-const NO_MARKER: Answer = Err(DataErrorKind::MarkerNotFound);
+const NO_MARKER: Answer = Err(DataError {
+    kind: DataErrorKind::MarkerNotFound,
+    context: "no numbers",
+});
 
-const NO_REQUEST: Answer = Err(DataErrorKind::InvalidRequest);
+const NO_REQUEST: Answer = Err(DataError {
+    kind: DataErrorKind::InvalidRequest,
+    context: "what is that",
+});
 
-const CUSTOM: Answer = Err(DataErrorKind::Custom);
+const CUSTOM: Answer = Err(DataError {
+    kind: DataErrorKind::Custom,
+    context: "closed today",
+});
 
-const NO_MEMORY: Answer = Err(DataErrorKind::OutOfMemory);
+const NO_MEMORY: Answer = Err(DataError {
+    kind: DataErrorKind::OutOfMemory,
+    context: "all is taken",
+});
+
+/// Made by the call itself, and so without a text.
+const NOTHING_ASKED: Answer = Err(DataError {
+    kind: DataErrorKind::InvalidRequest,
+    context: "",
+});
 
 /// Answers in turn, what is decided of them, and what is heard.
 const DECIDED: [(&[Answer], Answer, u16); 14] = [
@@ -80,7 +99,7 @@ const DECIDED: [(&[Answer], Answer, u16); 14] = [
     (&[NO_MEMORY, Ok(7)], NO_MEMORY, 2),
     (&[NO_REQUEST, Ok(7)], NO_REQUEST, 2),
     (&[Ok(7), CUSTOM], Ok(7), 2),
-    (&[], NO_REQUEST, 0),
+    (&[], NOTHING_ASKED, 0),
     (&[Ok(7)], Ok(7), 1),
     (&[MISSING], MISSING, 1),
     (&[CUSTOM], CUSTOM, 1),

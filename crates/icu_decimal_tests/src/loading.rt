@@ -1,8 +1,8 @@
 //! Formatters that are made of what a provider answers: which data they take, and which refusal is answered.
 
-use crate::shelf::{Bare, Refusals, Shelf};
+use crate::shelf::{Bare, KEPT_AWAY, Refusals, Shelf};
 use fixed_decimal::Decimal;
-use icu_base::{DataErrorKind, DataLocale};
+use icu_base::{DataError, DataErrorKind, DataLocale};
 use icu_decimal::options::{
     CompactDecimalFormatterOptions, DecimalFormatterOptions, GroupingStrategy,
 };
@@ -30,6 +30,11 @@ type Asked = (
 
 const NO_REFUSALS: Refusals = [None; 4];
 
+const WANT_OF_MEMORY: DataError = DataError {
+    kind: DataErrorKind::OutOfMemory,
+    context: "",
+};
+
 fn preferences(locale: &str, system: Option<&str>) -> CompactDecimalFormatterPreferences {
     let numbering_system = match system {
         Some(system) => NumberingSystem::try_from_str(system).ok(),
@@ -41,55 +46,48 @@ fn preferences(locale: &str, system: Option<&str>) -> CompactDecimalFormatterPre
     }
 }
 
-fn plain(alloc: Global, shelf: &Shelf, asked: Asked) -> Result<DecimalFormatter, DataErrorKind> {
+fn plain(alloc: Global, shelf: &Shelf, asked: Asked) -> Result<DecimalFormatter, DataError> {
     let (_, locale, system, strategy) = asked;
     let prefs = DecimalFormatterPreferences::from(&preferences(locale, system));
     let options = DecimalFormatterOptions {
         grouping_strategy: strategy,
     };
-    match DecimalFormatter::try_new_unstable(alloc, shelf, prefs, options) {
-        Ok(formatter) => Ok(formatter),
-        Err(error) => Err(error.kind),
-    }
+    DecimalFormatter::try_new_unstable(alloc, shelf, prefs, options)
 }
 
 fn compact(
     alloc: Global,
     shelf: &Shelf,
     asked: Asked,
-) -> Result<CompactDecimalFormatter, DataErrorKind> {
+) -> Result<CompactDecimalFormatter, DataError> {
     let (style, locale, system, strategy) = asked;
     let prefs = preferences(locale, system);
     let options = match strategy {
         Some(strategy) => CompactDecimalFormatterOptions::from(strategy),
         None => CompactDecimalFormatterOptions::default(),
     };
-    let made = match style {
+    match style {
         Style::Long => {
             CompactDecimalFormatter::try_new_long_unstable(alloc, shelf, prefs, options)
         }
         _ => CompactDecimalFormatter::try_new_short_unstable(alloc, shelf, prefs, options),
-    };
-    match made {
-        Ok(formatter) => Ok(formatter),
-        Err(error) => Err(error.kind),
     }
 }
 
-/// The text of a decimal; want of memory is told as the provider's is.
+/// The text of a decimal; want of memory is told as that of a provider without a text.
 fn text_of(
     alloc: Global,
     shelf: &Shelf,
     asked: Asked,
     decimal: &Decimal,
-) -> Result<String, DataErrorKind> {
+) -> Result<String, DataError> {
     let written = match asked.0 {
         Style::Plain => plain(alloc, shelf, asked)?.format_to_string(alloc, decimal),
         _ => compact(alloc, shelf, asked)?.format_to_string(alloc, decimal),
     };
     match written {
         Ok(text) => Ok(text),
-        Err(_) => Err(DataErrorKind::OutOfMemory),
+        Err(_) => Err(WANT_OF_MEMORY),
     }
 }
 
@@ -100,16 +98,16 @@ fn writes_once(
     asked: Asked,
     number: &str,
     want: &str,
-) -> Result<bool, DataErrorKind> {
+) -> Result<bool, DataError> {
     match (
         Shelf::made(alloc, refusals),
         Decimal::try_from_str(alloc, number),
     ) {
         (Some(shelf), Ok(decimal)) => match text_of(alloc, &shelf, asked, &decimal) {
             Ok(text) => Ok(text.as_str() == want),
-            Err(kind) => Err(kind),
+            Err(error) => Err(error),
         },
-        _ => Err(DataErrorKind::OutOfMemory),
+        _ => Err(WANT_OF_MEMORY),
     }
 }
 
@@ -120,9 +118,14 @@ fn writes(
     asked: Asked,
     number: &str,
     want: &str,
-) -> Result<bool, DataErrorKind> {
+) -> Result<bool, DataError> {
     match writes_once(alloc, refusals, asked, number, want) {
-        Err(DataErrorKind::OutOfMemory) => writes_once(alloc, refusals, asked, number, want),
+        Err(
+            DataError {
+                kind: DataErrorKind::OutOfMemory,
+                ..
+            },
+        ) => writes_once(alloc, refusals, asked, number, want),
         answered => answered,
     }
 }
@@ -213,31 +216,36 @@ fn writes_with_data_rules_patterns_and_options(rt: HostRuntime) {
     }
 }
 
-/// What is asked for, and why it isn't made.
-const REFUSED: [(Style, &str, Option<&str>, DataErrorKind); 9] = [
-    (Style::Plain, "xx", None, DataErrorKind::IdentifierNotFound),
+const NOT_FOUND: DataError = DataError {
+    kind: DataErrorKind::IdentifierNotFound,
+    context: "",
+};
+
+/// What is asked for, and why it isn't made, with the provider's text.
+const REFUSED: [(Style, &str, Option<&str>, DataError); 9] = [
+    (Style::Plain, "xx", None, NOT_FOUND),
     (
         Style::Plain,
         "xx",
         Some("latn"),
-        DataErrorKind::IdentifierNotFound,
+        NOT_FOUND,
     ),
-    (Style::Plain, "en", Some("nosymb"), DataErrorKind::Custom),
-    (Style::Plain, "en", Some("nodigits"), DataErrorKind::Custom),
-    (Style::Short, "en", Some("nodigits"), DataErrorKind::Custom),
-    (Style::Short, "en", Some("nopatt"), DataErrorKind::Custom),
+    (Style::Plain, "en", Some("nosymb"), KEPT_AWAY),
+    (Style::Plain, "en", Some("nodigits"), KEPT_AWAY),
+    (Style::Short, "en", Some("nodigits"), KEPT_AWAY),
+    (Style::Short, "en", Some("nopatt"), KEPT_AWAY),
     (
         Style::Short,
         "ar-EG",
         None,
-        DataErrorKind::IdentifierNotFound,
+        NOT_FOUND,
     ),
-    (Style::Long, "en", Some("nosymb"), DataErrorKind::Custom),
+    (Style::Long, "en", Some("nosymb"), KEPT_AWAY),
     (
         Style::Long,
         "th",
         Some("thai"),
-        DataErrorKind::IdentifierNotFound,
+        NOT_FOUND,
     ),
 ];
 
@@ -260,16 +268,23 @@ const KINDS: [DataErrorKind; 5] = [
     DataErrorKind::OutOfMemory,
 ];
 
-/// Whether a refusal of the symbols, the digits, the rules and the patterns each is answered, whatever is refused after
-/// it.
+/// Whether a refusal of the symbols, the digits, the rules and the patterns each is answered with its text, whatever is
+/// refused after it.
 fn is_answered(alloc: Global, style: Style, kind: DataErrorKind, other: DataErrorKind) -> bool {
     let asked = (style, "en", None, None);
-    let first = Some(kind);
-    let later = Some(other);
-    writes(alloc, [first, later, later, later], asked, "1", "") == Err(kind)
-        && writes(alloc, [None, first, later, later], asked, "1", "") == Err(kind)
-        && writes(alloc, [None, None, first, later], asked, "1", "") == Err(kind)
-        && writes(alloc, [None, None, None, first], asked, "1", "") == Err(kind)
+    let error = DataError {
+        kind,
+        context: "the first",
+    };
+    let first = Some(error);
+    let later = Some(DataError {
+        kind: other,
+        context: "a later one",
+    });
+    writes(alloc, [first, later, later, later], asked, "1", "") == Err(error)
+        && writes(alloc, [None, first, later, later], asked, "1", "") == Err(error)
+        && writes(alloc, [None, None, first, later], asked, "1", "") == Err(error)
+        && writes(alloc, [None, None, None, first], asked, "1", "") == Err(error)
 }
 
 #[test]
@@ -287,9 +302,9 @@ fn answers_the_first_refusal(rt: HostRuntime) {
 }
 
 /// Whether a formatter is made of hardly anything, or why it isn't.
-fn is_made_once(alloc: Global, style: Style) -> Result<bool, DataErrorKind> {
+fn is_made_once(alloc: Global, style: Style) -> Result<bool, DataError> {
     let Some(bare) = Bare::made(alloc) else {
-        return Err(DataErrorKind::OutOfMemory);
+        return Err(WANT_OF_MEMORY);
     };
     match style {
         Style::Plain => {
@@ -297,14 +312,14 @@ fn is_made_once(alloc: Global, style: Style) -> Result<bool, DataErrorKind> {
             let options = DecimalFormatterOptions::default();
             match DecimalFormatter::try_new_unstable(alloc, &bare, prefs, options) {
                 Ok(_) => Ok(true),
-                Err(error) => Err(error.kind),
+                Err(error) => Err(error),
             }
         }
         _ => is_compact_made(alloc, &bare, style),
     }
 }
 
-fn is_compact_made(alloc: Global, bare: &Bare, style: Style) -> Result<bool, DataErrorKind> {
+fn is_compact_made(alloc: Global, bare: &Bare, style: Style) -> Result<bool, DataError> {
     let prefs = CompactDecimalFormatterPreferences::default();
     let options = CompactDecimalFormatterOptions::default();
     let made = match style {
@@ -313,14 +328,14 @@ fn is_compact_made(alloc: Global, bare: &Bare, style: Style) -> Result<bool, Dat
     };
     match made {
         Ok(_) => Ok(true),
-        Err(error) => Err(error.kind),
+        Err(error) => Err(error),
     }
 }
 
 /// The same, asked once more where memory was wanting.
 fn is_made(alloc: Global, style: Style) -> bool {
     match is_made_once(alloc, style) {
-        Err(DataErrorKind::OutOfMemory) => is_made_once(alloc, style) == Ok(true),
+        Err(WANT_OF_MEMORY) => is_made_once(alloc, style) == Ok(true),
         answered => answered == Ok(true),
     }
 }

@@ -1,6 +1,7 @@
 //! A provider of the reader's own, as README shows it, and formatters made from it.
 
-ghost use Rattle.std.specs.Prelude.{Ok, Err, Some, None, codes, if◌then◌else◌};
+ghost use Rattle.std.specs.Prelude.{Ok, Some, None, codes, if◌then◌else◌};
+ghost use Rattle.icu_base.specs.Answer.{refused};
 ghost use Rattle.icu_base.specs.Identifier.{same_identifier};
 ghost use Rattle.icu_base.specs.declared.provider.error.DataErrorKind.TheVariants.{IdentifierNotFound};
 
@@ -28,7 +29,7 @@ struct OneLocale {
 
 impl DataProvider<DecimalSymbolsV1> for OneLocale {
     ghost answer = { λ own id. if same_identifier id (record { system = None; locale = own.locale })
-        then Ok own.symbols else Err IdentifierNotFound };
+        then Ok own.symbols else refused IdentifierNotFound };
 
     fn load(&self, alloc: Global, request: &DataRequest<'_>) -> Result<DecimalSymbols, DataError> {
         if request.id != DataIdentifierBorrowed::for_locale(&self.locale) {
@@ -45,7 +46,7 @@ impl DataProvider<DecimalDigitsV1> for OneLocale {
         if same_identifier id (record {
           system = Some own.symbols.strings.numsys;
           locale = codes "und";
-        }) then Ok own.digits else Err IdentifierNotFound };
+        }) then Ok own.digits else refused IdentifierNotFound };
 
     fn load(&self, _alloc: Global, request: &DataRequest<'_>) -> Result<[char; 10], DataError> {
         if request.id != DataIdentifierBorrowed::for_marker_attributes(self.symbols.numsys()) {

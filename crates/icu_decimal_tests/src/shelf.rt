@@ -1,8 +1,8 @@
 //! A provider that copies what it keeps, each thing by its identifier.
 
-ghost use Rattle.std.specs.Prelude.{◌≡◌, Ok, Err, find, option_map, unwrap_or};
+ghost use Rattle.std.specs.Prelude.{◌≡◌, Ok, find, option_map, unwrap_or};
 ghost use Rattle.std.specs.Option.{option_copied};
-ghost use Rattle.icu_base.specs.Answer.{Answers};
+ghost use Rattle.icu_base.specs.Answer.{Answers, refused, told};
 ghost use Rattle.icu_base.specs.Identifier.{identifier_of, same_identifier};
 ghost use Rattle.icu_base.specs.declared.provider.error.DataErrorKind.TheVariants.{IdentifierNotFound};
 
@@ -24,7 +24,7 @@ use std::collections::BTreeMap;
 struct Entry<T> {
     system: Option<&'static str>,
     locale: &'static str,
-    answer: Result<T, DataErrorKind>,
+    answer: Result<T, DataError>,
 }
 
 impl<T> Entry<T> {
@@ -54,22 +54,23 @@ fn entry_for<'a, T>(
 }
 
 /// The answer of the first entry for the identifier.
+#[tactic(auto, using(icu_provider::specs::Answer::told_answers))]
 fn look_up<T: Kept>(
     alloc: Global,
     entries: &[Entry<T>],
     id: &DataIdentifierBorrowed<'_>,
 ) -> Result<T, DataError>
     ensures { Answers result
-        (unwrap_or (option_map (λ e. e.answer)
+        (unwrap_or (option_map (λ e. told e.answer)
         (find (λ e. same_identifier (record {
           system = option_map (λ s. s.now) e.system;
           locale = e.locale.now;
-        }) (identifier_of id.now)) entries.now)) (Err IdentifierNotFound)) }
+        }) (identifier_of id.now)) entries.now)) (refused IdentifierNotFound)) }
 {
     match entry_for(entries, id) {
         Some(entry) => match &entry.answer {
             Ok(kept) => kept.copied(alloc),
-            Err(kind) => Err(DataError::from(*kind)),
+            Err(error) => Err(*error),
         },
         None => Err(DataErrorKind::IdentifierNotFound.into()),
     }
@@ -87,11 +88,11 @@ pub(super) struct Shelf {
 
 impl DataProvider<DecimalSymbolsV1> for Shelf {
     ghost answer = { λ shelf id.
-        unwrap_or (option_map (λ e. e.answer)
+        unwrap_or (option_map (λ e. told e.answer)
         (find (λ e. same_identifier (record {
           system = option_map (λ s. s.now) e.system;
           locale = e.locale.now;
-        }) id) shelf.symbols.items)) (Err IdentifierNotFound) };
+        }) id) shelf.symbols.items)) (refused IdentifierNotFound) };
 
     fn load(&self, alloc: Global, request: &DataRequest<'_>) -> Result<DecimalSymbols, DataError> {
         look_up(alloc, &self.symbols, &request.id)
@@ -100,11 +101,11 @@ impl DataProvider<DecimalSymbolsV1> for Shelf {
 
 impl DataProvider<DecimalDigitsV1> for Shelf {
     ghost answer = { λ shelf id.
-        unwrap_or (option_map (λ e. e.answer)
+        unwrap_or (option_map (λ e. told e.answer)
         (find (λ e. same_identifier (record {
           system = option_map (λ s. s.now) e.system;
           locale = e.locale.now;
-        }) id) shelf.digits.items)) (Err IdentifierNotFound) };
+        }) id) shelf.digits.items)) (refused IdentifierNotFound) };
 
     fn load(&self, alloc: Global, request: &DataRequest<'_>) -> Result<[char; 10], DataError> {
         look_up(alloc, &self.digits, &request.id)
@@ -113,11 +114,11 @@ impl DataProvider<DecimalDigitsV1> for Shelf {
 
 impl DataProvider<PluralsCardinalV1> for Shelf {
     ghost answer = { λ shelf id.
-        unwrap_or (option_map (λ e. e.answer)
+        unwrap_or (option_map (λ e. told e.answer)
         (find (λ e. same_identifier (record {
           system = option_map (λ s. s.now) e.system;
           locale = e.locale.now;
-        }) id) shelf.rules.items)) (Err IdentifierNotFound) };
+        }) id) shelf.rules.items)) (refused IdentifierNotFound) };
 
     fn load(&self, alloc: Global, request: &DataRequest<'_>) -> Result<PluralRules, DataError> {
         look_up(alloc, &self.rules, &request.id)
@@ -126,11 +127,11 @@ impl DataProvider<PluralsCardinalV1> for Shelf {
 
 impl DataProvider<DecimalCompactShortV1> for Shelf {
     ghost answer = { λ shelf id.
-        unwrap_or (option_map (λ e. e.answer)
+        unwrap_or (option_map (λ e. told e.answer)
         (find (λ e. same_identifier (record {
           system = option_map (λ s. s.now) e.system;
           locale = e.locale.now;
-        }) id) shelf.short.items)) (Err IdentifierNotFound) };
+        }) id) shelf.short.items)) (refused IdentifierNotFound) };
 
     fn load(&self, alloc: Global, request: &DataRequest<'_>) -> Result<Table, DataError> {
         look_up(alloc, &self.short, &request.id)
@@ -139,11 +140,11 @@ impl DataProvider<DecimalCompactShortV1> for Shelf {
 
 impl DataProvider<DecimalCompactLongV1> for Shelf {
     ghost answer = { λ shelf id.
-        unwrap_or (option_map (λ e. e.answer)
+        unwrap_or (option_map (λ e. told e.answer)
         (find (λ e. same_identifier (record {
           system = option_map (λ s. s.now) e.system;
           locale = e.locale.now;
-        }) id) shelf.long.items)) (Err IdentifierNotFound) };
+        }) id) shelf.long.items)) (refused IdentifierNotFound) };
 
     fn load(&self, alloc: Global, request: &DataRequest<'_>) -> Result<Table, DataError> {
         look_up(alloc, &self.long, &request.id)
@@ -151,12 +152,18 @@ impl DataProvider<DecimalCompactLongV1> for Shelf {
 }
 
 /// What is answered by English and by the rest, kind by kind: the symbols, the digits, the rules and the patterns.
-pub(super) type Refusals = [Option<DataErrorKind>; 4];
+pub(super) type Refusals = [Option<DataError>; 4];
 
 const ENGLISH_TEXTS: Texts = (".", ",", "latn");
 
 /// A row: a system, a locale, and what is answered by them.
-type Row<T> = (Option<&'static str>, &'static str, Result<T, DataErrorKind>);
+type Row<T> = (Option<&'static str>, &'static str, Result<T, DataError>);
+
+/// A refusal of the provider's own, with its text.
+pub(super) const KEPT_AWAY: DataError = DataError {
+    kind: DataErrorKind::Custom,
+    context: "kept away",
+};
 
 const SYMBOLS: [Row<Texts>; 6] = [
     (None, "en", Ok(ENGLISH_TEXTS)),
@@ -164,7 +171,7 @@ const SYMBOLS: [Row<Texts>; 6] = [
     (None, "th", Ok(ENGLISH_TEXTS)),
     (None, "ar-EG", Ok(("٫", "٬", "arab"))),
     (Some("latn"), "ar-EG", Ok(ENGLISH_TEXTS)),
-    (Some("nosymb"), "en", Err(DataErrorKind::Custom)),
+    (Some("nosymb"), "en", Err(KEPT_AWAY)),
 ];
 
 const ARABIC: [char; 10] = ['٠', '١', '٢', '٣', '٤', '٥', '٦', '٧', '٨', '٩'];
@@ -178,13 +185,13 @@ const DIGITS: [Row<[char; 10]>; 7] = [
     (Some("arab"), "en", Ok(ARABIC)),
     (Some("thai"), "ar-EG", Ok(THAI)),
     (Some("thai"), "th", Ok(THAI)),
-    (Some("nodigits"), "en", Err(DataErrorKind::Custom)),
+    (Some("nodigits"), "en", Err(KEPT_AWAY)),
 ];
 
 const SHORT: [Row<Thousands>; 3] = [
     (None, "en", Ok(("K", "K"))),
     (Some("arab"), "en", Ok(("k", "k"))),
-    (Some("nopatt"), "en", Err(DataErrorKind::Custom)),
+    (Some("nopatt"), "en", Err(KEPT_AWAY)),
 ];
 
 const LONG: [Row<Thousands>; 1] = [(None, "en", Ok((" thousand", " thousands")))];
@@ -193,14 +200,14 @@ const ENGLISH_RULES: &[(PluralCategory, &str)] = &[(PluralCategory::One, "i = 1 
 
 const RULES: [Row<&[(PluralCategory, &str)]>; 2] = [
     (None, "en", Ok(ENGLISH_RULES)),
-    (Some("arab"), "en", Err(DataErrorKind::Custom)),
+    (Some("arab"), "en", Err(KEPT_AWAY)),
 ];
 
 /// The entries of rows, or refusals of all of them; none where memory is wanting.
 fn entries_of<T: Kept>(
     alloc: Global,
     rows: &[Row<T::Row>],
-    refusal: Option<DataErrorKind>,
+    refusal: Option<DataError>,
 ) -> Option<Vec<Entry<T>>> {
     let mut entries = Vec::new(alloc);
     for (system, locale, row) in rows {
@@ -222,12 +229,12 @@ fn entries_of<T: Kept>(
 /// What is answered of a row; none where memory is wanting.
 fn answer_of<T: Kept>(
     alloc: Global,
-    row: &Result<T::Row, DataErrorKind>,
-    refusal: Option<DataErrorKind>,
-) -> Option<Result<T, DataErrorKind>> {
+    row: &Result<T::Row, DataError>,
+    refusal: Option<DataError>,
+) -> Option<Result<T, DataError>> {
     match (refusal, row) {
-        (Some(kind), _) => Some(Err(kind)),
-        (None, Err(kind)) => Some(Err(*kind)),
+        (Some(error), _) => Some(Err(error)),
+        (None, Err(error)) => Some(Err(*error)),
         (None, Ok(row)) => match T::made(alloc, *row) {
             Some(kept) => Some(Ok(kept)),
             None => None,

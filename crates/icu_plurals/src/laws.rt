@@ -5,6 +5,7 @@ ghost use Rattle.icu_plurals.specs.ConditionLaws.{TurnedRangesAreEmpty};
 
 pub use plural_conditions::laws::{
     conditions_are_unique, each_text_is_judged_once, first_faults_are_unique,
+    reading_is_what_is_spelled,
 };
 
 /// A range whose first value is greater than its last holds nothing.

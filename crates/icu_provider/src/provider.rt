@@ -1,9 +1,8 @@
 //! Who answers with data.
 
 ghost use Rattle.std.specs.Prelude.{Result};
-ghost use Rattle.icu_provider.specs.Answer.{Answers};
+ghost use Rattle.icu_provider.specs.Answer.{Answers, Refusal};
 ghost use Rattle.icu_provider.specs.Identifier.{Identifier, identifier_of};
-ghost use Rattle.icu_provider.specs.declared.error.DataErrorKind.{DataErrorKind};
 
 use crate::error::DataError;
 use crate::identifier::DataRequest;
@@ -21,9 +20,10 @@ pub trait DataMarker {
 /// same. Memory may be wanting at any call.
 pub trait DataProvider<M: DataMarker> {
     /// What the provider answers by each identifier, where memory suffices.
-    ghost answer: { Self → Identifier → Result M.DataStruct DataErrorKind };
+    ghost answer: { Self → Identifier → Result M.DataStruct Refusal };
 
-    /// The data by the identifier of the request, or the kind of the refusal.
+    /// The data by the identifier of the request, or the refusal with its text; `OutOfMemory`, without a text, also where
+    /// memory is wanting.
     fn load(&self, alloc: Global, request: &DataRequest<'_>) -> Result<M::DataStruct, DataError>
         ensures { Answers result (answer self.now (identifier_of request.now.id)) };
 }

@@ -1,25 +1,25 @@
 -- What tables answer as a provider.
-use Rattle.std.specs.Prelude.{ℕ, List, Option, Some, None, Result, Ok, Err}
+use Rattle.std.specs.Prelude.{ℕ, List, Option, Some, None, Result, Ok}
+use Rattle.icu_provider.specs.Answer.{Refusal, refused}
 use Rattle.icu_provider.specs.Identifier.{Identifier}
-use Rattle.icu_provider.specs.declared.error.DataErrorKind.{DataErrorKind}
 use Rattle.icu_provider.specs.declared.error.DataErrorKind.TheVariants.{IdentifierNotFound, MarkerNotFound}
 use Rattle.icu_tables.specs.Digits.{SystemDigits, first_digits}
 use Rattle.icu_tables.specs.Named.{Filed, first_filed}
 
-abbrev pub or_not_found : {A : Type 0} → Option A → Result A DataErrorKind
-or_not_found None = Err IdentifierNotFound
+abbrev pub or_not_found : {A : Type 0} → Option A → Result A Refusal
+or_not_found None = refused IdentifierNotFound
 or_not_found (Some x) = Ok x
 
 -- the first entry with the identifier
-abbrev pub filed_answer : {A : Type 0} → List (Filed A) → Identifier → Result A DataErrorKind
+abbrev pub filed_answer : {A : Type 0} → List (Filed A) → Identifier → Result A Refusal
 filed_answer entries id = or_not_found (first_filed id entries)
 
 -- the same under a key that may be absent: without the key there is no such data at all, whatever is asked
-abbrev pub optional_answer : {A : Type 0} → Option (List (Filed A)) → Identifier → Result A DataErrorKind
-optional_answer None id = Err MarkerNotFound
+abbrev pub optional_answer : {A : Type 0} → Option (List (Filed A)) → Identifier → Result A Refusal
+optional_answer None id = refused MarkerNotFound
 optional_answer (Some entries) id = filed_answer entries id
 
 -- digits are told by their numbering system alone, in whatever locale
-abbrev pub system_answer : List SystemDigits → Option (List ℕ) → Result (List ℕ) DataErrorKind
-system_answer entries None = Err IdentifierNotFound
+abbrev pub system_answer : List SystemDigits → Option (List ℕ) → Result (List ℕ) Refusal
+system_answer entries None = refused IdentifierNotFound
 system_answer entries (Some system) = or_not_found (first_digits system entries)

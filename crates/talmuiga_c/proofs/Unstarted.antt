@@ -27,6 +27,7 @@ unstarted mode input old = record {
   };
   too_small = λ e. absurd (omega arith);
   full = λ e. absurd (omega arith);
+  memory = λ e. inl refl;
   known = inr (inl refl);
 }
 

@@ -1,6 +1,7 @@
 //! Rules from a provider of data: what it is asked by, and what it answers.
 
-ghost use Rattle.std.specs.Prelude.{Ok, Err, ◌&&◌, if◌then◌else◌, codes, bytes_eq, is_none};
+ghost use Rattle.std.specs.Prelude.{Ok, ◌&&◌, if◌then◌else◌, codes, bytes_eq, is_none};
+ghost use Rattle.icu_provider.specs.Answer.{told};
 
 use super::plural::{FRENCH, operands_of, rules_of};
 use icu_plurals::{PluralCategory, PluralRules, PluralRulesPreferences, PluralsCardinalV1};
@@ -9,19 +10,19 @@ use std::alloc::Global;
 use std::cell::Cell;
 use std::process::Abort;
 
-/// Has rules for French alone, asked without a numbering system; refuses all others by its kind. It counts how often it
+/// Has rules for French alone, asked without a numbering system; refuses all others by its error. It counts how often it
 /// is asked, and how often it isn't asked to be silent.
 #[derive(Drop)]
 struct FrenchRules {
     rules: PluralRules,
-    refusal: DataErrorKind,
+    refusal: DataError,
     asked: Cell<usize>,
     aloud: Cell<usize>,
 }
 
 impl DataProvider<PluralsCardinalV1> for FrenchRules {
     ghost answer = { λ s id. if is_none id.system && bytes_eq id.locale (codes "fr") then Ok s.rules
-        else Err s.refusal };
+        else told (Err s.refusal) };
 
     fn load(&self, alloc: Global, request: &DataRequest<'_>) -> Result<PluralRules, DataError> {
         self.asked.set(self.asked.get().wrapping_add(1));
@@ -29,7 +30,7 @@ impl DataProvider<PluralsCardinalV1> for FrenchRules {
             self.aloud.set(self.aloud.get().wrapping_add(1));
         }
         if request.id.system().is_some() || request.id.locale() != "fr" {
-            return Err(self.refusal.into());
+            return Err(self.refusal);
         }
         match self.rules.copy(alloc) {
             Ok(rules) => Ok(rules),
@@ -38,11 +39,17 @@ impl DataProvider<PluralsCardinalV1> for FrenchRules {
     }
 }
 
+/// How all but French is refused.
+const NOT_FRENCH: DataError = DataError {
+    kind: DataErrorKind::IdentifierNotFound,
+    context: "not French",
+};
+
 fn french_rules(
     rt: &impl Abort,
     alloc: Global,
     rules: &[(PluralCategory, &str)],
-    refusal: DataErrorKind,
+    refusal: DataError,
 ) -> FrenchRules {
     FrenchRules {
         rules: rules_of(rt, alloc, rules),
@@ -63,14 +70,10 @@ fn loaded(
     alloc: Global,
     provider: &FrenchRules,
     locale: &str,
-) -> Result<PluralRules, DataErrorKind> {
+) -> Result<PluralRules, DataError> {
     match PluralRules::try_new_cardinal_unstable(alloc, provider, preferences(locale)) {
         Ok(rules) => Ok(rules),
-        Err(_) => PluralRules::try_new_cardinal_unstable(
-            alloc,
-            provider,
-            preferences(locale),
-        ).map_err(|error| error.kind),
+        Err(_) => PluralRules::try_new_cardinal_unstable(alloc, provider, preferences(locale)),
     }
 }
 
@@ -82,7 +85,7 @@ fn gives(
     number: &str,
     category: PluralCategory,
 ) -> bool {
-    let provider = french_rules(rt, alloc, rules, DataErrorKind::IdentifierNotFound);
+    let provider = french_rules(rt, alloc, rules, NOT_FRENCH);
     match loaded(alloc, &provider, "fr") {
         Ok(rules) => rules.category_for(operands_of(rt, alloc, number, 0)) == category,
         Err(_) => false,
@@ -107,12 +110,19 @@ fn answers_the_rules_of_the_provider(rt: HostRuntime) {
     }
 }
 
-/// Whether a locale is refused by the provider's own kind.
-fn is_refused(rt: &impl Abort, alloc: Global, locale: &str, kind: DataErrorKind) -> bool {
-    let provider = french_rules(rt, alloc, ALWAYS_TWO, kind);
+/// Whether a locale is refused by the provider's own error, kind and context.
+fn is_refused(
+    rt: &impl Abort,
+    alloc: Global,
+    locale: &str,
+    kind: DataErrorKind,
+    context: &'static str,
+) -> bool {
+    let error = DataError { kind, context };
+    let provider = french_rules(rt, alloc, ALWAYS_TWO, error);
     match loaded(alloc, &provider, locale) {
         Ok(_) => false,
-        Err(refusal) => refusal == kind,
+        Err(refusal) => refusal == error,
     }
 }
 
@@ -125,13 +135,14 @@ fn answers_the_refusal_of_the_provider(rt: HostRuntime) {
         DataErrorKind::Custom,
         DataErrorKind::OutOfMemory,
     ] {
-        assert!(rt; is_refused(&rt, rt.alloc(), "fr-CA", kind), "{kind}");
+        assert!(rt; is_refused(&rt, rt.alloc(), "fr-CA", kind, ""), "{kind}");
+        assert!(rt; is_refused(&rt, rt.alloc(), "fr-CA", kind, "not French"), "{kind}");
     }
 }
 
 /// Whether the provider is asked once for a locale, and aloud.
 fn is_asked_once(rt: &impl Abort, alloc: Global, locale: &str) -> bool {
-    let provider = french_rules(rt, alloc, ALWAYS_TWO, DataErrorKind::IdentifierNotFound);
+    let provider = french_rules(rt, alloc, ALWAYS_TWO, NOT_FRENCH);
     let found = PluralRules::try_new_cardinal_unstable(
         alloc,
         &provider,

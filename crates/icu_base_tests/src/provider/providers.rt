@@ -1,4 +1,5 @@
-ghost use Rattle.std.specs.Prelude.{Ok, Err, if◌then◌else◌, nat_eq, length, is_some};
+ghost use Rattle.std.specs.Prelude.{Ok, if◌then◌else◌, nat_eq, length, is_some};
+ghost use Rattle.icu_provider.specs.Answer.{refused};
 ghost use Rattle.icu_provider.specs.declared.error.DataErrorKind.TheVariants.{IdentifierNotFound, Custom};
 
 use icu_provider::{
@@ -17,8 +18,8 @@ impl DataMarker for LengthV1 {
 struct Lengths;
 
 impl DataProvider<LengthV1> for Lengths {
-    ghost answer = { λ _ id. if is_some id.system then Err Custom
-        else (if nat_eq (length id.locale) 2 then Err IdentifierNotFound
+    ghost answer = { λ _ id. if is_some id.system then refused Custom
+        else (if nat_eq (length id.locale) 2 then refused IdentifierNotFound
         else Ok (length id.locale)) };
 
     fn load(&self, _alloc: Global, request: &DataRequest<'_>) -> Result<usize, DataError> {
