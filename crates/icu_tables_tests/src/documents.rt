@@ -1,7 +1,8 @@
 //! Documents that are refused, and what tables answer.
 
 use icu_base::{
-    DataErrorKind, DataIdentifierBorrowed, DataLocale, DataProvider, DataRequest, PluralsCardinalV1,
+    DataError, DataErrorKind, DataIdentifierBorrowed, DataLocale, DataProvider, DataRequest,
+    PluralsCardinalV1,
 };
 use icu_decimal_data::{
     CompactPatterns, DecimalCompactLongV1, DecimalCompactShortV1, DecimalDigitsV1, DecimalSymbolsV1,
@@ -251,37 +252,37 @@ fn told(
     tables: &Tables,
     asked: Asked,
     request: &DataRequest<'_>,
-) -> Result<char, DataErrorKind> {
+) -> Result<char, DataError> {
     match asked {
         Asked::Symbols => {
             match <Tables as DataProvider<DecimalSymbolsV1>>::load(tables, alloc, request) {
                 Ok(symbols) => Ok(symbols.decimal_separator().chars().next().unwrap_or(' ')),
-                Err(error) => Err(error.kind),
+                Err(error) => Err(error),
             }
         }
         Asked::Digits => {
             match <Tables as DataProvider<DecimalDigitsV1>>::load(tables, alloc, request) {
                 Ok(digits) if digits == LATIN => Ok('0'),
                 Ok(_) => Ok('9'),
-                Err(error) => Err(error.kind),
+                Err(error) => Err(error),
             }
         }
         Asked::Rules => {
             match <Tables as DataProvider<PluralsCardinalV1>>::load(tables, alloc, request) {
                 Ok(_) => Ok('r'),
-                Err(error) => Err(error.kind),
+                Err(error) => Err(error),
             }
         }
         Asked::Short => {
             match <Tables as DataProvider<DecimalCompactShortV1>>::load(tables, alloc, request) {
                 Ok(table) => Ok(first_character(&table)),
-                Err(error) => Err(error.kind),
+                Err(error) => Err(error),
             }
         }
         Asked::Long => {
             match <Tables as DataProvider<DecimalCompactLongV1>>::load(tables, alloc, request) {
                 Ok(table) => Ok(first_character(&table)),
-                Err(error) => Err(error.kind),
+                Err(error) => Err(error),
             }
         }
     }
@@ -293,9 +294,9 @@ fn answer_once(
     text: &str,
     asked: Asked,
     (locale, system): (&str, &str),
-) -> Result<char, DataErrorKind> {
+) -> Result<char, DataError> {
     let Ok(tables) = Tables::from_json(alloc, text) else {
-        return Err(DataErrorKind::OutOfMemory);
+        return Err(DataErrorKind::OutOfMemory.into());
     };
     let locale = DataLocale::try_from_str(locale).unwrap_or_default();
     let id = if system.is_empty() {
@@ -312,57 +313,42 @@ pub(crate) fn answer(
     text: &str,
     asked: Asked,
     id: (&str, &str),
-) -> Result<char, DataErrorKind> {
+) -> Result<char, DataError> {
     match answer_once(alloc, text, asked, id) {
-        Err(DataErrorKind::OutOfMemory) => answer_once(alloc, text, asked, id),
+        Err(error) if error.kind == DataErrorKind::OutOfMemory => {
+            answer_once(alloc, text, asked, id)
+        }
         told => told,
     }
 }
 
-const ANSWERED: [(Asked, (&str, &str), Result<char, DataErrorKind>); 15] = [
+/// Refusals of the tables, which have no context.
+const MISSING: Result<char, DataError> = Err(DataError {
+    kind: DataErrorKind::IdentifierNotFound,
+    context: "",
+});
+
+const NO_MARKER: Result<char, DataError> = Err(DataError {
+    kind: DataErrorKind::MarkerNotFound,
+    context: "",
+});
+
+const ANSWERED: [(Asked, (&str, &str), Result<char, DataError>); 15] = [
     (Asked::Short, ("en", ""), Ok('K')),
     (Asked::Short, ("en", "arab"), Ok('k')),
-    (
-        Asked::Short,
-        ("en", "latn"),
-        Err(DataErrorKind::IdentifierNotFound),
-    ),
+    (Asked::Short, ("en", "latn"), MISSING),
     (Asked::Long, ("ja", ""), Ok('万')),
     (Asked::Long, ("ja", "arab"), Ok('W')),
-    (
-        Asked::Long,
-        ("en", ""),
-        Err(DataErrorKind::IdentifierNotFound),
-    ),
+    (Asked::Long, ("en", ""), MISSING),
     (Asked::Symbols, ("en", ""), Ok('.')),
     (Asked::Symbols, ("en", "arab"), Ok(';')),
-    (
-        Asked::Symbols,
-        ("en", "latn"),
-        Err(DataErrorKind::IdentifierNotFound),
-    ),
-    (
-        Asked::Symbols,
-        ("und", ""),
-        Err(DataErrorKind::IdentifierNotFound),
-    ),
+    (Asked::Symbols, ("en", "latn"), MISSING),
+    (Asked::Symbols, ("und", ""), MISSING),
     (Asked::Digits, ("fr", "latn"), Ok('0')),
-    (
-        Asked::Digits,
-        ("en", ""),
-        Err(DataErrorKind::IdentifierNotFound),
-    ),
-    (
-        Asked::Digits,
-        ("en", "arab"),
-        Err(DataErrorKind::IdentifierNotFound),
-    ),
+    (Asked::Digits, ("en", ""), MISSING),
+    (Asked::Digits, ("en", "arab"), MISSING),
     (Asked::Rules, ("en", ""), Ok('r')),
-    (
-        Asked::Rules,
-        ("en", "latn"),
-        Err(DataErrorKind::IdentifierNotFound),
-    ),
+    (Asked::Rules, ("en", "latn"), MISSING),
 ];
 
 #[test]
@@ -379,7 +365,7 @@ const WITHOUT_RULES: &str = "{\"symbols\":[],\"digits\":[]}";
 fn absent_keys_are_other_refusals(rt: HostRuntime) {
     for asked in [Asked::Rules, Asked::Short, Asked::Long] {
         let answer = answer(rt.alloc(), WITHOUT_RULES, asked, ("en", ""));
-        assert!(rt; answer == Err(DataErrorKind::MarkerNotFound), "{asked:?}");
+        assert!(rt; answer == NO_MARKER, "{asked:?}");
     }
 }
 

@@ -3,6 +3,7 @@ use super::{GROUP, is_annotated};
 use crate::{EventWriter, OutOfMemory, Part, PartsText, WriteFault, Writeable};
 use std::alloc::{AllocError, Global};
 use std::fmt;
+use std::str;
 
 /// A value of one part around a text, to show how a crate above writes its own.
 #[derive(Clone, Copy, Drop)]
@@ -145,6 +146,30 @@ fn writes_a_text_in_each_way(rt: HostRuntime) {
     for text in TEXTS {
         assert!(rt; is_itself(rt.alloc(), text), "{text}");
     }
+}
+
+/// So many letters, made once more where memory was refused.
+fn letters(alloc: Global, count: usize) -> Result<Vec<u8>, AllocError> {
+    match Vec::from_elem(alloc, b'x', count) {
+        Ok(letters) => Ok(letters),
+        Err(_) => Vec::from_elem(alloc, b'x', count),
+    }
+}
+
+/// Whether a text of so many letters is written in each way, alone and in a part.
+fn writes_letters(alloc: Global, count: usize) -> bool {
+    match letters(alloc, count) {
+        Ok(letters) => {
+            let text = str::from_utf8(&letters).unwrap_or_default();
+            !text.is_empty() && is_itself(alloc, text) && is_grouped(alloc, text)
+        }
+        Err(_) => false,
+    }
+}
+
+#[test]
+fn writes_a_long_text_in_each_way(rt: HostRuntime) {
+    assert!(rt; writes_letters(rt.alloc(), 200000));
 }
 
 /// Whether a sink with this limit holds this text, and failed where the limit is less than all four events: open, two
