@@ -4,4 +4,6 @@
 #[cfg(test)]
 mod lines;
 #[cfg(test)]
+mod styles;
+#[cfg(test)]
 mod words;

@@ -16,6 +16,8 @@ mod scaling;
 #[cfg(test)]
 mod significands;
 #[cfg(test)]
+mod styles;
+#[cfg(test)]
 mod texts;
 #[cfg(test)]
 mod whole_numbers;

@@ -5,3 +5,5 @@
 mod documents;
 #[cfg(test)]
 mod large;
+#[cfg(test)]
+mod styles;

@@ -103,8 +103,8 @@ fn is_made(made: Result<String, AllocError>, want: &str) -> bool {
 
 /// Whether a value is displayed with these characters, unpadded, under a width, a fill, a precision and the alternate form.
 fn is_styled<T: fmt::Display>(alloc: Global, value: &T, want: &str) -> bool {
-    is_made(format!(in alloc; "{value:>9}"), want)
-        && is_made(format!(in alloc; "{value:*^9}"), want)
+    is_made(format!(in alloc; "{value:>80}"), want)
+        && is_made(format!(in alloc; "{value:*^80}"), want)
         && is_made(format!(in alloc; "{value:.0}"), want)
         && is_made(format!(in alloc; "{value:#}"), want)
 }
@@ -195,4 +195,12 @@ fn stops_at_the_fault_of_the_sink(rt: HostRuntime) {
 fn tells_its_errors(rt: HostRuntime) {
     assert!(rt; is_displayed(rt.alloc(), &WriteFault, "the sink could not take the text"));
     assert!(rt; is_displayed(rt.alloc(), &OutOfMemory, "out of memory"));
+    assert!(rt;
+        is_displayed_unpadded(
+            rt.alloc(),
+            &WriteFault,
+            "the sink could not take the text"
+        )
+    );
+    assert!(rt; is_displayed_unpadded(rt.alloc(), &OutOfMemory, "out of memory"));
 }
