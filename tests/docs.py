@@ -9,11 +9,12 @@ usage: tests/docs.py [--write]
   both pages are made from them. --write makes them anew.
 - Each block of Rust code of README.md stands so in a source of the crates; the example at the head of each library
   stands in the program crates/examples.
+- The text in crates/sample_tables is that of tables/sample.json, byte for byte.
 - Each command that README.md shows behind `$` gives the output below it, and each row of its table of locales is what
   the program writes. They need crates/decfmt/out/decfmt and crates/tour/out/tour, as `rt run` and `rt ci` build them.
 
-The last line is 'N passed, M failed', one for each page's links, each page that is made, each block and example, each command and
-each row.
+The last line is 'N passed, M failed', one for each page's links, each page that is made, each block and example, the text of
+the tables, each command and each row.
 """
 import glob
 import os
@@ -241,6 +242,20 @@ def judge_examples():
             judge(any(program[at:at + len(lines)] == lines for at in places), f"{path}: crates/examples hasn't its example")
 
 
+def read_exactly(path):
+    """The text of a file, the ends of its lines as they are."""
+    with open(path, encoding="utf-8", newline="") as file:
+        return file.read()
+
+
+def judge_sample():
+    """The constant that tests read has the bytes of the file."""
+    source = read_exactly("crates/sample_tables/src/lib.rt")
+    literal = re.search(r'^pub const SAMPLE: &str = "((?:[^"\\]|\\["\\])*)";$', source, flags=re.M)
+    text = re.sub(r"\\(.)", r"\1", literal.group(1)) if literal else None
+    judge(text == read_exactly("tables/sample.json"), "crates/sample_tables: isn't the text of tables/sample.json")
+
+
 def output_of(command):
     """Standard output and standard error of a command, as a terminal shows them."""
     done = subprocess.run(["bash", "-c", command], stdout=subprocess.PIPE, stderr=subprocess.STDOUT, timeout=60)
@@ -279,6 +294,7 @@ def main():
     page = read("README.md")
     judge_code(page)
     judge_examples()
+    judge_sample()
     judge_commands(page)
     judge_locales(page)
     print(f"{counts[True]} passed, {counts[False]} failed")

@@ -4,6 +4,6 @@
 #[cfg(test)]
 mod lines;
 #[cfg(test)]
-mod tables;
+mod styles;
 #[cfg(test)]
 mod words;

@@ -6,6 +6,8 @@
 #[cfg(test)]
 mod fixtures;
 #[cfg(test)]
+mod large;
+#[cfg(test)]
 mod numbers;
 #[cfg(test)]
 mod rounding;
@@ -13,6 +15,8 @@ mod rounding;
 mod scaling;
 #[cfg(test)]
 mod significands;
+#[cfg(test)]
+mod styles;
 #[cfg(test)]
 mod texts;
 #[cfg(test)]

@@ -8,7 +8,7 @@ use std::process::Abort;
 use std::str;
 
 /// Rounds, once more where memory was refused.
-fn rounded(number: UnsignedDecimal, power: i16) -> Result<UnsignedDecimal, DecimalError> {
+pub(crate) fn rounded(number: UnsignedDecimal, power: i16) -> Result<UnsignedDecimal, DecimalError> {
     match number.rounded(power) {
         Ok(number) => Ok(number),
         Err((number, DecimalError::OutOfMemory)) => match number.rounded(power) {
@@ -117,7 +117,7 @@ fn refuses_a_carry_past_the_limit(rt: HostRuntime) {
 }
 
 /// Rounds with a sign, once more where memory was refused.
-fn rounded_signed(decimal: Decimal, power: i16) -> Result<Decimal, DecimalError> {
+pub(crate) fn rounded_signed(decimal: Decimal, power: i16) -> Result<Decimal, DecimalError> {
     match decimal.rounded(power) {
         Ok(decimal) => Ok(decimal),
         Err((decimal, DecimalError::OutOfMemory)) => match decimal.rounded(power) {

@@ -7,7 +7,7 @@ use std::ops::RangeInclusive;
 use std::process::Abort;
 
 /// Scales, once more where memory was refused.
-fn scaled(number: UnsignedDecimal, power: i16) -> Result<UnsignedDecimal, DecimalError> {
+pub(crate) fn scaled(number: UnsignedDecimal, power: i16) -> Result<UnsignedDecimal, DecimalError> {
     match number.multiplied_pow10(power) {
         Ok(number) => Ok(number),
         Err((number, DecimalError::OutOfMemory)) => match number.multiplied_pow10(power) {

@@ -7,7 +7,7 @@ use std::process::Abort;
 use std::str;
 
 /// The significand, asked for once more where memory was refused; `Syntax` where it may not be asked for.
-fn significand(
+pub(crate) fn significand(
     alloc: Global,
     number: &UnsignedDecimal,
     power: i16,

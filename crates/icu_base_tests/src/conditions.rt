@@ -3,7 +3,8 @@ use plural_conditions::condition::Item::{Range, Value};
 use plural_conditions::condition::Operand::{I, N, V};
 use plural_conditions::condition::{Alternative, Item, Operand, Relation};
 use plural_conditions::{Condition, RulesError, first_fault, read_condition};
-use std::alloc::Global;
+use std::alloc::{AllocError, Global};
+use std::str;
 
 const FAULTS: &[(&str, Option<usize>)] = &[
     ("", None),
@@ -99,4 +100,66 @@ fn reads_conditions_as_they_are_spelled(rt: HostRuntime) {
     for (text, want) in CONDITIONS {
         assert!(rt; is_read_as(rt.alloc(), text, want), "{text}");
     }
+}
+
+/// A relation so many times, with this between each and the next.
+fn joined_once(alloc: Global, joint: &[u8], count: usize) -> Result<Vec<u8>, AllocError> {
+    let mut text = Vec::new(alloc);
+    for index in 0..count {
+        if index > 0 {
+            text.extend_from_slice(joint)?;
+        }
+        text.extend_from_slice(b"n % 10 != 3..5, 9")?;
+    }
+    Ok(text)
+}
+
+/// The same, made once more where memory was refused.
+fn joined(alloc: Global, joint: &[u8], count: usize) -> Result<Vec<u8>, AllocError> {
+    match joined_once(alloc, joint, count) {
+        Ok(text) => Ok(text),
+        Err(_) => joined_once(alloc, joint, count),
+    }
+}
+
+/// The relation as it is read.
+const JOINED: Wanted = (N, Some(10), true, &[Range(3, 5), Value(9)]);
+
+/// Whether a condition has so many alternatives, each of so many times the relation.
+fn has_relations(condition: &Condition, alternatives: usize, relations: usize) -> bool {
+    condition.alternatives.len() == alternatives
+        && condition.alternatives.iter().all(|alternative| {
+            alternative.relations.len() == relations
+                && alternative
+                    .relations
+                    .iter()
+                    .all(|relation| is_relation(relation, &JOINED))
+        })
+}
+
+/// Whether a text is read as so many alternatives of so many relations, and so is its copy.
+fn reads_relations(alloc: Global, text: &[u8], alternatives: usize, relations: usize) -> bool {
+    let text = str::from_utf8(text).unwrap_or_default();
+    let Some(condition) = condition_of(alloc, text) else {
+        return false;
+    };
+    let Some(copy) = copy_of(alloc, &condition) else {
+        return false;
+    };
+    has_relations(&condition, alternatives, relations)
+        && has_relations(&copy, alternatives, relations)
+}
+
+/// Whether a thousand relations with this between them are read so.
+fn reads_joined(alloc: Global, joint: &[u8], alternatives: usize, relations: usize) -> bool {
+    match joined(alloc, joint, 1000) {
+        Ok(text) => reads_relations(alloc, &text, alternatives, relations),
+        Err(_) => false,
+    }
+}
+
+#[test]
+fn reads_and_copies_a_thousand_relations(rt: HostRuntime) {
+    assert!(rt; reads_joined(rt.alloc(), b" and ", 1, 1000));
+    assert!(rt; reads_joined(rt.alloc(), b" or ", 1000, 1));
 }

@@ -12,3 +12,5 @@ mod pattern;
 mod plurals;
 #[cfg(test)]
 mod provider;
+#[cfg(test)]
+mod styles;

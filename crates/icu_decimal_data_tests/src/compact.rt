@@ -1,6 +1,6 @@
 //! Which types a compact table keeps, what refuses a map, and which tables are equal.
 
-use crate::packed::read_again;
+use crate::packed::{is_copied_and_packed, read_again};
 use crate::tables::{
     LONG_BANGLA, LONG_ENGLISH, LONG_JAPANESE, Row, SHORT_ENGLISH, Table, copy_of, french_table,
     table_of, table_of_literal, table_without_place,
@@ -173,10 +173,15 @@ fn table_of_size(alloc: Global, size: usize) -> Result<Table, CompactError> {
     }
 }
 
-/// Whether a literal of this many bytes is kept: beside it the table's byte string has 62, and it is read again.
+/// Whether a literal of this many bytes is kept: beside it the table's byte string has 62, and it is read again, copied
+/// and packed.
 fn keeps_bytes(alloc: Global, size: usize) -> bool {
     match table_of_size(alloc, size) {
-        Ok(table) => has_types(&table, &[3]) && read_again(&table) == size.checked_add(62),
+        Ok(table) => {
+            has_types(&table, &[3])
+                && read_again(&table) == size.checked_add(62)
+                && is_copied_and_packed(alloc, &table)
+        }
         Err(_) => false,
     }
 }

@@ -1,11 +1,12 @@
 //! In which order a provider is asked, and which of its answers counts.
 
-ghost use Rattle.std.specs.Prelude.{[], length, unwrap_or, map, slice_index_or};
+ghost use Rattle.std.specs.Prelude.{Ok, [], if◌then◌else◌, bytes_eq, codes, length, unwrap_or, map, slice_index_or};
 ghost use Rattle.icu_base.specs.Answer.{refused, told};
 ghost use Rattle.icu_base.specs.declared.provider.error.DataErrorKind.TheVariants.{IdentifierNotFound};
 
 use icu_base::{
-    DataError, DataErrorKind, DataIdentifierBorrowed, DataMarker, DataProvider, DataRequest,
+    DataError, DataErrorKind, DataIdentifierBorrowed, DataLocale, DataMarker, DataProvider,
+    DataRequest,
 };
 use icu_decimal_data::load_with_fallback;
 use std::alloc::Global;
@@ -120,4 +121,35 @@ fn all_but_the_last_are_asked_silently_and_none_after_the_one_that_counts(rt: Ho
     for (answers, _, want) in DECIDED {
         assert!(rt; decided(rt.alloc(), answers).1 == want, "{answers:?}");
     }
+}
+
+/// Has a number for one locale alone.
+#[derive(Drop)]
+struct Numbers;
+
+impl DataProvider<NumberV1> for Numbers {
+    ghost answer = { λ _ id. if bytes_eq id.locale (codes "L") then Ok 7
+        else refused IdentifierNotFound };
+
+    fn load(&self, _alloc: Global, request: &DataRequest<'_>) -> Result<u8, DataError> {
+        if request.id.locale() == "L" {
+            Ok(7)
+        } else {
+            Err(DataErrorKind::IdentifierNotFound.into())
+        }
+    }
+}
+
+/// What is found by ten identifiers, of which the last alone has a number.
+fn found_by_the_last(alloc: Global) -> Result<u8, DataError> {
+    let known = DataLocale::try_from_str("L").unwrap_or_default();
+    let unknown = DataLocale::default();
+    let mut ids = [DataIdentifierBorrowed::for_locale(&unknown); 10];
+    ids[9] = DataIdentifierBorrowed::for_locale(&known);
+    load_with_fallback::<NumberV1, Numbers>(alloc, &Numbers, &ids)
+}
+
+#[test]
+fn the_last_of_ten_identifiers_answers(rt: HostRuntime) {
+    assert!(rt; found_by_the_last(rt.alloc()) == Ok(7));
 }

@@ -22,6 +22,8 @@ mod preferences;
 #[cfg(test)]
 mod readable;
 #[cfg(test)]
+mod styles;
+#[cfg(test)]
 mod symbol_bytes;
 #[cfg(test)]
 mod symbols;

@@ -5,7 +5,9 @@ ghost use Rattle.std.specs.Prelude.{◌<◌};
 
 use crate::symbol_bytes::refused_allocation;
 use crate::table_bytes::{JAPANESE, ONE_ENTRY};
-use crate::tables::{Elements, LONG_JAPANESE, Map, Row, Table, made, pattern, table_of};
+use crate::tables::{
+    Elements, LONG_JAPANESE, Map, Row, Table, copy_of, made, pattern, table_of,
+};
 use icu_base::{Pattern, PatternError, PluralElements, SinglePlaceholder};
 use icu_decimal_data::{CompactError, CompactPatterns, CompactView, EntryView};
 use std::alloc::Global;
@@ -73,6 +75,27 @@ fn all_types() -> [Row; 256] {
 #[test]
 fn a_table_of_every_type_is_read_again(rt: HostRuntime) {
     assert!(rt; len_of_rows(rt.alloc(), &all_types()) == Some(15108));
+}
+
+/// Whether a table equals its copy, and the copy is packed as the table's bytes.
+pub(crate) fn is_copied_and_packed(alloc: Global, table: &Table) -> bool {
+    match copy_of(alloc, table) {
+        Ok(copy) => copy == *table && has_bytes(alloc, &copy, table.as_bytes()),
+        Err(_) => false,
+    }
+}
+
+/// Whether the table of the rows is.
+fn rows_are_copied_and_packed(alloc: Global, rows: &[Row]) -> bool {
+    match table_of(alloc, rows, None) {
+        Ok(table) => is_copied_and_packed(alloc, &table),
+        Err(_) => false,
+    }
+}
+
+#[test]
+fn a_table_of_every_type_is_copied_and_packed(rt: HostRuntime) {
+    assert!(rt; rows_are_copied_and_packed(rt.alloc(), &all_types()));
 }
 
 #[test]

@@ -2,6 +2,7 @@
 
 use icu_decimal_data::{
     DecimalSymbolStrsBuilder, DecimalSymbols, DecimalSymbolsStrs, GroupingSizes, SymbolsError,
+    SymbolsView,
 };
 use std::alloc::Global;
 use std::str;
@@ -304,4 +305,66 @@ fn other_texts_are_other_symbols(rt: HostRuntime) {
     for texts in OTHERS {
         assert!(rt; are_arabic(rt.alloc(), texts) == Some(false));
     }
+}
+
+/// Seven texts of 255 bytes together.
+const FULL: Texts = [
+    "aaaaaaaaaaaaaaaaaaaaaaaaaaaaaaaaaaaaaaaaa",
+    "bbbbbbbbbbbbbbbbbbbbbbbbbbbbbbbbbbbbbbbbb",
+    "ccccccccccccccccccccccccccccccccccccccccc",
+    "ddddddddddddddddddddddddddddddddddddddddd",
+    "eeeeeeeeeeeeeeeeeeeeeeeeeeeeeeeeeeeeeeeee",
+    "ffffffffffffffffffffffffffffffffffffffffff",
+    "abcdefgh",
+];
+
+/// Whether the first call builds them or is refused for want of memory, and then the second builds them.
+fn builds_alone(alloc: Global) -> bool {
+    match builder(FULL).build(alloc) {
+        Ok(symbols) => holds_texts(&symbols, FULL),
+        Err(SymbolsError::OutOfMemory) => match builder(FULL).build(alloc) {
+            Ok(symbols) => holds_texts(&symbols, FULL),
+            Err(_) => false,
+        },
+        Err(_) => false,
+    }
+}
+
+// It calls nothing else, so that each allocation of the builder is refused in some run.
+#[test]
+fn builds_255_bytes(rt: HostRuntime) {
+    assert!(rt; builds_alone(rt.alloc()));
+}
+
+/// Whether bytes are read as symbols with the last of the six texts and the system.
+fn is_read_again(bytes: &[u8]) -> bool {
+    match SymbolsView::parse(bytes) {
+        Ok(view) => view.grouping_separator() == FULL[5] && view.numsys() == FULL[6],
+        Err(_) => false,
+    }
+}
+
+/// Whether symbols have a copy with the same texts, whose bytes are read again.
+fn is_copied(alloc: Global, symbols: &DecimalSymbols) -> bool {
+    match copied(alloc, symbols) {
+        Ok(copy) => {
+            copy == *symbols
+                && shows_texts(&copy, FULL)
+                && is_read_again(copy.strings.as_bytes())
+        }
+        Err(_) => false,
+    }
+}
+
+/// Whether 255 bytes are copied and read again.
+fn copies_all(alloc: Global) -> bool {
+    match symbols_of(alloc, FULL, SIZES) {
+        Ok(symbols) => is_copied(alloc, &symbols),
+        Err(_) => false,
+    }
+}
+
+#[test]
+fn copies_255_bytes(rt: HostRuntime) {
+    assert!(rt; copies_all(rt.alloc()));
 }

@@ -146,7 +146,7 @@ fn a_full_sink_holds_a_beginning_of_a_compact_number(rt: HostRuntime) {
 }
 
 /// The operands that any formatter answers, asked for once more where memory was refused.
-fn operands<F: AbstractFormatter>(
+pub(crate) fn operands<F: AbstractFormatter>(
     alloc: Global,
     formatter: &F,
     number: &UnsignedDecimal,
@@ -175,7 +175,7 @@ fn compact_operands(
 }
 
 /// Whether a plural condition holds of operands.
-fn holds(alloc: Global, condition: &str, operands: Option<PluralOperands>) -> bool {
+pub(crate) fn holds(alloc: Global, condition: &str, operands: Option<PluralOperands>) -> bool {
     let rules = match PluralRules::from_rules(alloc, &[(PluralCategory::One, condition)]) {
         Ok(rules) => Ok(rules),
         Err(_) => PluralRules::from_rules(alloc, &[(PluralCategory::One, condition)]),

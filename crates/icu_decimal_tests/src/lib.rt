@@ -21,6 +21,8 @@ mod kept;
 #[cfg(test)]
 mod languages;
 #[cfg(test)]
+mod large;
+#[cfg(test)]
 mod loading;
 #[cfg(test)]
 mod making;

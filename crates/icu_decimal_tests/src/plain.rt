@@ -31,7 +31,12 @@ const UNGROUPED: GroupingSizes = GroupingSizes {
 };
 
 /// Whether the formatter writes a decimal so; asked once more where memory was refused.
-fn is_written(alloc: Global, formatter: &DecimalFormatter, decimal: &Decimal, want: &str) -> bool {
+pub(crate) fn is_written(
+    alloc: Global,
+    formatter: &DecimalFormatter,
+    decimal: &Decimal,
+    want: &str,
+) -> bool {
     match formatter.format_to_string(alloc, decimal) {
         Ok(shown) => shown.as_str() == want,
         Err(_) => match formatter.format_to_string(alloc, decimal) {
@@ -237,7 +242,7 @@ fn are_same(
 }
 
 /// Whether a formatter writes as its copy; asked for once more where memory was refused.
-fn is_copied(rt: &impl Abort, alloc: Global, formatter: &DecimalFormatter) -> bool {
+pub(crate) fn is_copied(rt: &impl Abort, alloc: Global, formatter: &DecimalFormatter) -> bool {
     match formatter.copy(alloc) {
         Ok(copy) => are_same(rt, alloc, formatter, &copy),
         Err(_) => match formatter.copy(alloc) {

@@ -1,10 +1,11 @@
-//! Formatted values under a width, a fill, a precision and other options: the same characters, unpadded.
+//! Formatted values and errors under a width, a fill, a precision and other options: the same characters, unpadded.
 
 use crate::fixtures::{english, read};
 use crate::languages::Language;
 use crate::making::compact;
 use fixed_decimal::Decimal;
 use icu_decimal::CompactDecimalFormatter;
+use icu_decimal::error::FormatError;
 use icu_decimal::options::GroupingStrategy;
 use std::alloc::{AllocError, Global};
 use std::fmt::Display;
@@ -86,4 +87,17 @@ fn styles_compact_numbers(rt: &impl Abort, alloc: Global) -> bool {
 fn displays_numbers_under_every_style(rt: HostRuntime) {
     assert!(rt; styles_plain_numbers(&rt, rt.alloc()));
     assert!(rt; styles_compact_numbers(&rt, rt.alloc()));
+}
+
+const ERRORS: [(FormatError, &str); 3] = [
+    (FormatError::Overflow, "the compact number is too large"),
+    (FormatError::OutOfMemory, "out of memory"),
+    (FormatError::Sink, "the sink could not take the text"),
+];
+
+#[test]
+fn displays_errors_under_every_style(rt: HostRuntime) {
+    for (error, want) in ERRORS {
+        assert!(rt; is_styled(rt.alloc(), &error, want), "{want}");
+    }
 }

@@ -1,7 +1,8 @@
 //! Documents that are refused, and what tables answer.
 
 use icu_base::{
-    DataErrorKind, DataIdentifierBorrowed, DataLocale, DataProvider, DataRequest, PluralsCardinalV1,
+    DataError, DataErrorKind, DataIdentifierBorrowed, DataLocale, DataProvider, DataRequest,
+    PluralsCardinalV1,
 };
 use icu_decimal_data::{
     CompactPatterns, DecimalCompactLongV1, DecimalCompactShortV1, DecimalDigitsV1, DecimalSymbolsV1,
@@ -20,7 +21,7 @@ fn refusal_once(alloc: Global, text: &str) -> Option<TableError> {
 }
 
 /// The same, asked once more where memory was wanting.
-fn refusal(alloc: Global, text: &str) -> Option<TableError> {
+pub(crate) fn refusal(alloc: Global, text: &str) -> Option<TableError> {
     match refusal_once(alloc, text) {
         Some(TableError::OutOfMemory) => refusal_once(alloc, text),
         told => told,
@@ -37,7 +38,7 @@ const NESTED: &str = "[[[[[[[[[[[[[[[[[[[[[[[[[[[[[[[[[[[[[[[[[[[[[[[[[[\
 ]]]]]]]]]]]]]]]]]]]]]]]]]]]]]]]]]]]]]]]]]]]]]]]]]]\
 ]]]]]]]]]]]]]]]]]]]]]]]]]]]]]]]]]]]]]]]]]]]]]]]]]]";
 
-const REFUSED: [(&str, TableError); 23] = [
+const REFUSED: [(&str, TableError); 26] = [
     ("{\"symbols\":[]", TableError::NotJson),
     ("", TableError::NotJson),
     (NESTED, TableError::NotJson),
@@ -111,6 +112,34 @@ const REFUSED: [(&str, TableError); 23] = [
             key: Key::Symbols,
             index: 0,
             fault: EntryFault::BadSymbolsNumberingSystem,
+        },
+    ),
+    (
+        "{\"symbols\":[{\"locale\":\"en\",\"minus\":[\"-\",\"\"],\"plus\":[\"+\",\"\"],\"decimal\":\".\",\"group\":\"\
+xxxxxxxxxxxxxxxxxxxxxxxxxxxxxxxxxxxxxxxxxxxxxxxxxxxxxxxxxxxxxxxx\
+xxxxxxxxxxxxxxxxxxxxxxxxxxxxxxxxxxxxxxxxxxxxxxxxxxxxxxxxxxxxxxxx\
+xxxxxxxxxxxxxxxxxxxxxxxxxxxxxxxxxxxxxxxxxxxxxxxxxxxxxxxxxxxxxxxx\
+xxxxxxxxxxxxxxxxxxxxxxxxxxxxxxxxxxxxxxxxxxxxxxxxxxxxxxxxxxxxxxxx\",\"numsys\":\"latn\",\"sizes\":[3,3,1]}],\"digits\":[]}",
+        TableError::Entry {
+            key: Key::Symbols,
+            index: 0,
+            fault: EntryFault::SymbolsTooLarge,
+        },
+    ),
+    (
+        "{\"symbols\":[],\"digits\":[],\"short\":[{\"locale\":\"en\",\"system\":\"la\",\"patterns\":[]}]}",
+        TableError::Entry {
+            key: Key::Short,
+            index: 0,
+            fault: EntryFault::BadNumberingSystem,
+        },
+    ),
+    (
+        "{\"symbols\":[],\"digits\":[],\"short\":[{\"locale\":\"en\",\"patterns\":[[16,0,{\"other\":\"{0}K\"}]]}]}",
+        TableError::Entry {
+            key: Key::Short,
+            index: 0,
+            fault: EntryFault::TooManyZeros,
         },
     ),
     (
@@ -188,14 +217,16 @@ const TABLES: &str = "{\"symbols\":[\
 {\"locale\":\"en\",\"system\":\"arab\",\"minus\":[\"-\",\"\"],\"plus\":[\"+\",\"\"],\"decimal\":\";\",\"group\":\",\",\"numsys\":\"arab\",\"sizes\":[3,3,1]}],\
 \"digits\":[[\"latn\",\"0123456789\"],[\"latn\",\"9876543210\"]],\
 \"rules\":[{\"locale\":\"en\",\"rules\":[[\"one\",\"i = 1 and v = 0\"]]}],\
-\"short\":[{\"locale\":\"en\",\"patterns\":[[3,3,{\"other\":\"{0}K\"}],[4,3,{\"other\":\"{0}K\"}],[6,6,{\"other\":\"{0}M\"}]]}],\
-\"long\":[{\"locale\":\"ja\",\"zero\":{\"other\":\"{0}\"},\"patterns\":[[3,0,{\"other\":\"{0}\"}],[4,4,{\"other\":\"{0}万\"}]]}]}";
+\"short\":[{\"locale\":\"en\",\"patterns\":[[3,3,{\"other\":\"{0}K\"}],[4,3,{\"other\":\"{0}K\"}],[6,6,{\"other\":\"{0}M\"}]]},\
+{\"locale\":\"en\",\"system\":\"arab\",\"patterns\":[[3,3,{\"other\":\"{0}k\"}]]}],\
+\"long\":[{\"locale\":\"ja\",\"system\":\"arab\",\"patterns\":[[4,4,{\"other\":\"{0}W\"}]]},\
+{\"locale\":\"ja\",\"zero\":{\"other\":\"{0}\"},\"patterns\":[[3,0,{\"other\":\"{0}\"}],[4,4,{\"other\":\"{0}万\"}]]}]}";
 
 const LATIN: [char; 10] = ['0', '1', '2', '3', '4', '5', '6', '7', '8', '9'];
 
 /// What is asked for.
 #[derive(Clone, Copy, Debug, PartialEq, Eq)]
-enum Asked {
+pub(crate) enum Asked {
     Symbols,
     Digits,
     Rules,
@@ -221,37 +252,37 @@ fn told(
     tables: &Tables,
     asked: Asked,
     request: &DataRequest<'_>,
-) -> Result<char, DataErrorKind> {
+) -> Result<char, DataError> {
     match asked {
         Asked::Symbols => {
             match <Tables as DataProvider<DecimalSymbolsV1>>::load(tables, alloc, request) {
                 Ok(symbols) => Ok(symbols.decimal_separator().chars().next().unwrap_or(' ')),
-                Err(error) => Err(error.kind),
+                Err(error) => Err(error),
             }
         }
         Asked::Digits => {
             match <Tables as DataProvider<DecimalDigitsV1>>::load(tables, alloc, request) {
                 Ok(digits) if digits == LATIN => Ok('0'),
                 Ok(_) => Ok('9'),
-                Err(error) => Err(error.kind),
+                Err(error) => Err(error),
             }
         }
         Asked::Rules => {
             match <Tables as DataProvider<PluralsCardinalV1>>::load(tables, alloc, request) {
                 Ok(_) => Ok('r'),
-                Err(error) => Err(error.kind),
+                Err(error) => Err(error),
             }
         }
         Asked::Short => {
             match <Tables as DataProvider<DecimalCompactShortV1>>::load(tables, alloc, request) {
                 Ok(table) => Ok(first_character(&table)),
-                Err(error) => Err(error.kind),
+                Err(error) => Err(error),
             }
         }
         Asked::Long => {
             match <Tables as DataProvider<DecimalCompactLongV1>>::load(tables, alloc, request) {
                 Ok(table) => Ok(first_character(&table)),
-                Err(error) => Err(error.kind),
+                Err(error) => Err(error),
             }
         }
     }
@@ -263,9 +294,9 @@ fn answer_once(
     text: &str,
     asked: Asked,
     (locale, system): (&str, &str),
-) -> Result<char, DataErrorKind> {
+) -> Result<char, DataError> {
     let Ok(tables) = Tables::from_json(alloc, text) else {
-        return Err(DataErrorKind::OutOfMemory);
+        return Err(DataErrorKind::OutOfMemory.into());
     };
     let locale = DataLocale::try_from_str(locale).unwrap_or_default();
     let id = if system.is_empty() {
@@ -277,55 +308,47 @@ fn answer_once(
 }
 
 /// The same, asked once more where memory was wanting.
-fn answer(
+pub(crate) fn answer(
     alloc: Global,
     text: &str,
     asked: Asked,
     id: (&str, &str),
-) -> Result<char, DataErrorKind> {
+) -> Result<char, DataError> {
     match answer_once(alloc, text, asked, id) {
-        Err(DataErrorKind::OutOfMemory) => answer_once(alloc, text, asked, id),
+        Err(error) if error.kind == DataErrorKind::OutOfMemory => {
+            answer_once(alloc, text, asked, id)
+        }
         told => told,
     }
 }
 
-const ANSWERED: [(Asked, (&str, &str), Result<char, DataErrorKind>); 12] = [
+/// Refusals of the tables, which have no context.
+const MISSING: Result<char, DataError> = Err(DataError {
+    kind: DataErrorKind::IdentifierNotFound,
+    context: "",
+});
+
+const NO_MARKER: Result<char, DataError> = Err(DataError {
+    kind: DataErrorKind::MarkerNotFound,
+    context: "",
+});
+
+const ANSWERED: [(Asked, (&str, &str), Result<char, DataError>); 15] = [
     (Asked::Short, ("en", ""), Ok('K')),
+    (Asked::Short, ("en", "arab"), Ok('k')),
+    (Asked::Short, ("en", "latn"), MISSING),
     (Asked::Long, ("ja", ""), Ok('万')),
-    (
-        Asked::Long,
-        ("en", ""),
-        Err(DataErrorKind::IdentifierNotFound),
-    ),
+    (Asked::Long, ("ja", "arab"), Ok('W')),
+    (Asked::Long, ("en", ""), MISSING),
     (Asked::Symbols, ("en", ""), Ok('.')),
     (Asked::Symbols, ("en", "arab"), Ok(';')),
-    (
-        Asked::Symbols,
-        ("en", "latn"),
-        Err(DataErrorKind::IdentifierNotFound),
-    ),
-    (
-        Asked::Symbols,
-        ("und", ""),
-        Err(DataErrorKind::IdentifierNotFound),
-    ),
+    (Asked::Symbols, ("en", "latn"), MISSING),
+    (Asked::Symbols, ("und", ""), MISSING),
     (Asked::Digits, ("fr", "latn"), Ok('0')),
-    (
-        Asked::Digits,
-        ("en", ""),
-        Err(DataErrorKind::IdentifierNotFound),
-    ),
-    (
-        Asked::Digits,
-        ("en", "arab"),
-        Err(DataErrorKind::IdentifierNotFound),
-    ),
+    (Asked::Digits, ("en", ""), MISSING),
+    (Asked::Digits, ("en", "arab"), MISSING),
     (Asked::Rules, ("en", ""), Ok('r')),
-    (
-        Asked::Rules,
-        ("en", "latn"),
-        Err(DataErrorKind::IdentifierNotFound),
-    ),
+    (Asked::Rules, ("en", "latn"), MISSING),
 ];
 
 #[test]
@@ -340,8 +363,10 @@ const WITHOUT_RULES: &str = "{\"symbols\":[],\"digits\":[]}";
 
 #[test]
 fn absent_keys_are_other_refusals(rt: HostRuntime) {
-    let rules = answer(rt.alloc(), WITHOUT_RULES, Asked::Rules, ("en", ""));
-    assert!(rt; rules == Err(DataErrorKind::MarkerNotFound));
+    for asked in [Asked::Rules, Asked::Short, Asked::Long] {
+        let answer = answer(rt.alloc(), WITHOUT_RULES, asked, ("en", ""));
+        assert!(rt; answer == NO_MARKER, "{asked:?}");
+    }
 }
 
 /// How many entries the table of a text keeps, or why there is none.
@@ -356,7 +381,7 @@ fn entries_once(alloc: Global, text: &str) -> Result<usize, TableError> {
 }
 
 /// The same, asked once more where memory was wanting.
-fn entries(alloc: Global, text: &str) -> Result<usize, TableError> {
+pub(crate) fn entries(alloc: Global, text: &str) -> Result<usize, TableError> {
     match entries_once(alloc, text) {
         Err(TableError::OutOfMemory) => entries_once(alloc, text),
         told => told,

@@ -3,3 +3,7 @@
 
 #[cfg(test)]
 mod documents;
+#[cfg(test)]
+mod large;
+#[cfg(test)]
+mod styles;

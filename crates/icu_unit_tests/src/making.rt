@@ -9,17 +9,8 @@ use icu_decimal::preferences::{CompactDecimalFormatterPreferences, DecimalFormat
 use icu_decimal::{AbstractFormatter, CompactDecimalFormatter, DecimalFormatter};
 use icu_tables::Tables;
 use icu_unit::UnitFormatter;
+use sample_tables::SAMPLE;
 use std::alloc::Global;
-
-/// English with short patterns, French with long ones.
-const TABLES: &str = "{\"symbols\":[\
-{\"locale\":\"en\",\"minus\":[\"-\",\"\"],\"plus\":[\"+\",\"\"],\"decimal\":\".\",\"group\":\",\",\"numsys\":\"latn\",\"sizes\":[3,3,1]},\
-{\"locale\":\"fr\",\"minus\":[\"-\",\"\"],\"plus\":[\"+\",\"\"],\"decimal\":\",\",\"group\":\"\u{202f}\",\"numsys\":\"latn\",\"sizes\":[3,3,1]}],\
-\"digits\":[[\"latn\",\"0123456789\"]],\
-\"rules\":[{\"locale\":\"en\",\"rules\":[[\"one\",\"i = 1 and v = 0\"]]},\
-{\"locale\":\"fr\",\"rules\":[[\"one\",\"i = 0,1\"],[\"many\",\"e = 0 and i != 0 and i % 1000000 = 0 and v = 0 or e != 0..5\"]]}],\
-\"short\":[{\"locale\":\"en\",\"patterns\":[[3,3,{\"other\":\"{0}K\"}],[6,6,{\"other\":\"{0}M\"}],[9,9,{\"other\":\"{0}B\"}],[12,12,{\"other\":\"{0}T\"}]]}],\
-\"long\":[{\"locale\":\"fr\",\"patterns\":[[3,3,{\"explicit_one\":\"mille\",\"other\":\"{0} mille\"}],[4,3,{\"other\":\"{0} mille\"}],[6,6,{\"one\":\"{0} million\",\"other\":\"{0} millions\"}]]}]}";
 
 /// The language of numbers, rules and units.
 #[derive(Clone, Copy, PartialEq, Eq)]
@@ -142,7 +133,7 @@ pub(crate) fn plain(
     alloc: Global,
     unit: (Language, Name),
 ) -> Option<UnitFormatter<DecimalFormatter>> {
-    match Tables::from_json(alloc, TABLES) {
+    match Tables::from_json(alloc, SAMPLE) {
         Ok(tables) => plain_by(alloc, &tables, unit),
         Err(_) => None,
     }
@@ -153,7 +144,7 @@ pub(crate) fn compact(
     alloc: Global,
     unit: (Language, Name),
 ) -> Option<UnitFormatter<CompactDecimalFormatter>> {
-    match Tables::from_json(alloc, TABLES) {
+    match Tables::from_json(alloc, SAMPLE) {
         Ok(tables) => compact_by(alloc, &tables, unit),
         Err(_) => None,
     }

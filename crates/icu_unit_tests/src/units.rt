@@ -20,15 +20,22 @@ const MINUS: &[(usize, usize, Part)] = &[(0, 1, MINUS_SIGN)];
 
 const PLUS: &[(usize, usize, Part)] = &[(0, 1, PLUS_SIGN)];
 
-const WRITTEN: [(Unit, &str, &str, &[(usize, usize, Part)]); 8] = [
+const WRITTEN: [(Unit, &str, &str, &[(usize, usize, Part)]); 10] = [
     (PLAIN_METRES, "-1", "-1 meter", MINUS),
     (PLAIN_METRES, "+1", "+1 meter", PLUS),
     (PLAIN_METRES, "1.0", "1.0 meters", &[]),
     (PLAIN_METRES, "1234", "1,234 meters", &[]),
+    (
+        PLAIN_METRES,
+        "-1234567890123456.5",
+        "-1,234,567,890,123,456.5 meters",
+        MINUS,
+    ),
     (SHORT_METRES, "1000", "1K meters", &[]),
     (SHORT_METRES, "999500", "1M meters", &[]),
     (SHORT_METRES, "-1", "-1 meter", MINUS),
     (SHORT_METRES, "0.996", "1 meter", &[]),
+    (SHORT_METRES, "-1111111111111111", "-1111T meters", MINUS),
 ];
 
 #[test]

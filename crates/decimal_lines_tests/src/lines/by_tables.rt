@@ -2,8 +2,8 @@
 //! plain ones in other numbering systems.
 
 use super::runs_by;
-use crate::tables::TABLES;
 use decimal_lines::{Mode, StartError, Words, parse_words};
+use sample_tables::SAMPLE;
 use std::alloc::Global;
 
 /// The mode of these words and tables, made once more where memory was refused.
@@ -16,7 +16,7 @@ fn made(alloc: Global, words: &Words<'_>, file: &[u8]) -> Result<Mode, StartErro
 
 /// Whether the output of an input by what these words ask for is this.
 fn answers_asked(alloc: Global, words: &Words<'_>, input: &str, want: &str) -> bool {
-    match made(alloc, words, TABLES.as_bytes()) {
+    match made(alloc, words, SAMPLE.as_bytes()) {
         Ok(mode) => runs_by(alloc, &mode, input.as_bytes(), usize::MAX, want.as_bytes()),
         Err(_) => false,
     }
@@ -149,7 +149,7 @@ const WITHOUT_DATA: [&[&str]; 3] = [
 fn refuses_words_without_data(rt: HostRuntime) {
     for words in WITHOUT_DATA {
         assert!(rt;
-            refuses(rt.alloc(), words, TABLES.as_bytes(), StartError::NoData),
+            refuses(rt.alloc(), words, SAMPLE.as_bytes(), StartError::NoData),
             "{}",
             words.len()
         );

@@ -1,12 +1,12 @@
 //! Lines in a compact mode, against what ICU4X and UTS 35 give for short English.
 
 use super::slow::Full;
-use super::{english, nines, runs_by, runs_slowly};
+use super::{english, many, nines, runs_by, runs_slowly};
 use decimal_lines::{Mode, RunError};
 use icu_base::{Pattern, PluralElements, PluralRules, SinglePlaceholder};
 use icu_decimal::provider::CompactPatterns;
 use icu_decimal::{CompactDecimalFormatter, DecimalFormatter};
-use std::alloc::Global;
+use std::alloc::{AllocError, Global};
 use std::collections::BTreeMap;
 
 /// An exponent, which is its type too, and the text that follows a number.
@@ -187,4 +187,59 @@ fn keeps_whole_lines_where_reading_fails(rt: HostRuntime) {
             "after {good}"
         );
     }
+}
+
+/// Whether a line so many times is answered so.
+fn answers_many(alloc: Global, line: &[u8], answer: &[u8], count: usize) -> bool {
+    match (many(alloc, line, count), many(alloc, answer, count)) {
+        (Ok(input), Ok(want)) => answers(alloc, &input, &want),
+        _ => false,
+    }
+}
+
+#[test]
+fn cuts_lines_across_blocks(rt: HostRuntime) {
+    assert!(rt; answers_many(rt.alloc(), b"-1234567.8\r\n", b"-1.2M\n", 20000));
+}
+
+/// So many ones, in groups of three where they are asked for, and a text behind them.
+fn ones_once(
+    alloc: Global,
+    count: usize,
+    grouped: bool,
+    behind: &[u8],
+) -> Result<Vec<u8>, AllocError> {
+    let mut ones = Vec::new(alloc);
+    for left in (0..count).rev() {
+        ones.push(b'1')?;
+        if grouped && left > 0 && left % 3 == 0 {
+            ones.push(b',')?;
+        }
+    }
+    ones.extend_from_slice(behind)?;
+    Ok(ones)
+}
+
+/// The same, made once more where memory was refused.
+fn ones(alloc: Global, count: usize, grouped: bool, behind: &[u8]) -> Result<Vec<u8>, AllocError> {
+    match ones_once(alloc, count, grouped, behind) {
+        Ok(ones) => Ok(ones),
+        Err(_) => ones_once(alloc, count, grouped, behind),
+    }
+}
+
+/// Whether as many ones as there may be are answered in trillions.
+fn answers_ones(alloc: Global) -> bool {
+    match (
+        ones(alloc, 32768, false, b"\n"),
+        ones(alloc, 32756, true, b"T\n"),
+    ) {
+        (Ok(line), Ok(want)) => answers(alloc, &line, &want),
+        _ => false,
+    }
+}
+
+#[test]
+fn answers_a_long_line(rt: HostRuntime) {
+    assert!(rt; answers_ones(rt.alloc()));
 }

@@ -1,8 +1,8 @@
 //! Lines of bytes in an output of limited size.
 
-use super::english;
+use super::{english, many};
 use decimal_lines::{FillError, Filled, format_lines};
-use std::alloc::Global;
+use std::alloc::{AllocError, Global};
 
 const LINES: &[u8] = b"5\n6\r\n1234";
 
@@ -71,4 +71,38 @@ fn fills_nothing(alloc: Global) -> bool {
 #[test]
 fn fills_no_room_with_no_lines(rt: HostRuntime) {
     assert!(rt; fills_nothing(rt.alloc()));
+}
+
+/// So many bytes of room, made once more where memory was refused.
+fn room_of(alloc: Global, count: usize) -> Result<Vec<u8>, AllocError> {
+    match Vec::from_elem(alloc, b'x', count) {
+        Ok(room) => Ok(room),
+        Err(_) => Vec::from_elem(alloc, b'x', count),
+    }
+}
+
+/// Whether a room that is just large enough is filled with all answers.
+fn fills_all(alloc: Global, input: &[u8], want: &[u8]) -> bool {
+    let Ok(mut room) = room_of(alloc, want.len()) else {
+        return false;
+    };
+    match fill(alloc, input, &mut room) {
+        Some(filled) => {
+            filled.outcome == Ok(()) && filled.written == want.len() && room.as_slice() == want
+        }
+        None => false,
+    }
+}
+
+/// Whether a line so many times is answered so in room for all answers.
+fn fills_with_many(alloc: Global, line: &[u8], answer: &[u8], count: usize) -> bool {
+    match (many(alloc, line, count), many(alloc, answer, count)) {
+        (Ok(input), Ok(want)) => fills_all(alloc, &input, &want),
+        _ => false,
+    }
+}
+
+#[test]
+fn fills_a_large_room(rt: HostRuntime) {
+    assert!(rt; fills_with_many(rt.alloc(), b"-1234567.8\r\n", b"-1,234,567.8\n", 20000));
 }

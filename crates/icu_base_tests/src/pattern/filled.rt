@@ -121,8 +121,8 @@ fn is_made(made: Result<String, AllocError>, want: &str) -> bool {
 
 /// Whether a value is displayed with these characters, unpadded, under a width, a fill, a precision and the alternate form.
 fn is_styled<T: fmt::Display>(alloc: Global, value: &T, want: &str) -> bool {
-    is_made(format!(in alloc; "{value:>9}"), want)
-        && is_made(format!(in alloc; "{value:*^9}"), want)
+    is_made(format!(in alloc; "{value:>80}"), want)
+        && is_made(format!(in alloc; "{value:*^80}"), want)
         && is_made(format!(in alloc; "{value:.0}"), want)
         && is_made(format!(in alloc; "{value:#}"), want)
 }

@@ -4,8 +4,9 @@ use super::{is_displayed, is_lent, judged, pattern_of};
 use icu_pattern::{
     NoPlaceholder, Pattern, PatternBackend, PatternError, PatternRef, SinglePlaceholder,
 };
-use std::alloc::Global;
+use std::alloc::{AllocError, Global};
 use std::process::Abort;
+use std::str;
 
 /// A literal, and the places where its characters begin and where it ends.
 struct Literal {
@@ -178,6 +179,32 @@ fn are_different<P: PatternBackend>(
 fn equal_by_place_and_by_literal(rt: HostRuntime) {
     assert!(rt; are_different::<SinglePlaceholder>(&rt, rt.alloc(), &PLACED));
     assert!(rt; are_different::<NoPlaceholder>(&rt, rt.alloc(), &UNPLACED));
+}
+
+/// So many letters, made once more where memory was refused.
+fn letters(alloc: Global, count: usize) -> Result<Vec<u8>, AllocError> {
+    match Vec::from_elem(alloc, b'K', count) {
+        Ok(letters) => Ok(letters),
+        Err(_) => Vec::from_elem(alloc, b'K', count),
+    }
+}
+
+/// Whether a literal of so many letters is accepted with a place at its end, kept, lent and copied.
+fn accepts_letters(rt: &impl Abort, alloc: Global, count: usize) -> bool {
+    match letters(alloc, count) {
+        Ok(letters) => {
+            let literal = str::from_utf8(&letters).unwrap_or_default();
+            judges::<SinglePlaceholder>(alloc, Some(count), literal, true)
+                && judges_lent::<SinglePlaceholder>(Some(count), literal, true)
+                && has_a_copy::<SinglePlaceholder>(rt, alloc, Some(count), literal)
+        }
+        Err(_) => false,
+    }
+}
+
+#[test]
+fn accepts_and_copies_long_literals(rt: HostRuntime) {
+    assert!(rt; accepts_letters(&rt, rt.alloc(), 65535));
 }
 
 #[test]

@@ -1,6 +1,6 @@
 //! Rules from a provider of data: what it is asked by, and what it answers.
 
-ghost use Rattle.std.specs.Prelude.{Ok, ◌&&◌, if◌then◌else◌, codes, bytes_eq, is_none};
+ghost use Rattle.std.specs.Prelude.{Ok, Err, ◌&&◌, if◌then◌else◌, codes, bytes_eq, is_none};
 ghost use Rattle.icu_provider.specs.Answer.{told};
 
 use super::plural::{FRENCH, operands_of, rules_of};

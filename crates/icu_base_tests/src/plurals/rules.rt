@@ -1,9 +1,10 @@
 //! Texts of conditions: which are refused and where, and what the others mean.
 use super::plural::{category_by, judged, operands_of, rules_of};
-use icu_plurals::PluralCategory::{One, Other, Two};
+use icu_plurals::PluralCategory::{Few, Many, One, Other, Two, Zero};
 use icu_plurals::{PluralCategory, PluralRules, RulesError};
-use std::alloc::Global;
+use std::alloc::{AllocError, Global};
 use std::process::Abort;
+use std::str;
 
 const REFUSED: &[(&str, usize)] = &[
     ("i = ", 4),
@@ -179,4 +180,50 @@ fn takes_the_first_rule_that_holds(rt: HostRuntime) {
         );
     }
     assert!(rt; gives(&rt, rt.alloc(), &[], "1", Other));
+}
+
+/// The condition that a number isn't nine, so many times.
+fn not_nine_once(alloc: Global, count: usize) -> Result<Vec<u8>, AllocError> {
+    let mut text = Vec::new(alloc);
+    for _ in 0..count {
+        text.extend_from_slice(b"n != 9 and ")?;
+    }
+    text.extend_from_slice(b"n != 9")?;
+    Ok(text)
+}
+
+/// The same, made once more where memory was refused.
+fn not_nine(alloc: Global, count: usize) -> Result<Vec<u8>, AllocError> {
+    match not_nine_once(alloc, count) {
+        Ok(text) => Ok(text),
+        Err(_) => not_nine_once(alloc, count),
+    }
+}
+
+/// Whether five rules with a condition of so many relations, and their copy, give a number this category.
+fn gives_by_long_rules(
+    rt: &impl Abort,
+    alloc: Global,
+    relations: usize,
+    number: &str,
+    category: PluralCategory,
+) -> bool {
+    match not_nine(alloc, relations) {
+        Ok(bytes) => {
+            let long = str::from_utf8(&bytes).unwrap_or_default();
+            let rules = [(Zero, long), (One, long), (Two, long), (Few, long), (Many, long)];
+            gives(rt, alloc, &rules, number, category)
+        }
+        Err(_) => false,
+    }
+}
+
+#[test]
+fn takes_long_rules_of_every_category(rt: HostRuntime) {
+    for (number, category) in [("5", Zero), ("9", Other)] {
+        assert!(rt;
+            gives_by_long_rules(&rt, rt.alloc(), 250, number, category),
+            "{number}"
+        );
+    }
 }

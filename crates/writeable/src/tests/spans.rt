@@ -1,7 +1,8 @@
 //! The spans of worked texts.
 use super::{GROUP, INTEGER, is_annotated, sink_with};
-use crate::Part;
-use std::alloc::Global;
+use crate::{OutOfMemory, Part, PartsText};
+use std::alloc::{AllocError, Global};
+use std::str;
 
 struct Case {
     marked: &'static str,
@@ -83,4 +84,57 @@ fn spans_in_the_order_of_opening(rt: HostRuntime) {
     for case in &CASES {
         assert!(rt; is_marked(rt.alloc(), case), "in {}", case.marked);
     }
+}
+
+/// A digit and a separator in parts of their own, so many times.
+fn many_parts_once(alloc: Global, count: usize) -> Result<Vec<u8>, AllocError> {
+    let mut marked = Vec::new(alloc);
+    for _ in 0..count {
+        marked.extend_from_slice(b"(1)[,)")?;
+    }
+    Ok(marked)
+}
+
+/// The same, made once more where memory was refused.
+fn many_parts(alloc: Global, count: usize) -> Result<Vec<u8>, AllocError> {
+    match many_parts_once(alloc, count) {
+        Ok(marked) => Ok(marked),
+        Err(_) => many_parts_once(alloc, count),
+    }
+}
+
+/// Whether the spans are those of a digit and a separator by turns.
+fn are_by_turns(spans: &[(usize, usize, Part)]) -> bool {
+    spans.iter().enumerate().all(|(place, span)| {
+        let part = if place % 2 == 0 { INTEGER } else { GROUP };
+        *span == (place, place.wrapping_add(1), part)
+    })
+}
+
+/// Whether a sink has so many such spans, asked once more where memory was wanting.
+fn has_parts_by_turns(alloc: Global, sink: &PartsText, count: usize) -> bool {
+    match sink.spans(alloc) {
+        Ok(spans) => spans.len() == count && are_by_turns(spans.as_slice()),
+        Err(OutOfMemory) => match sink.spans(alloc) {
+            Ok(spans) => spans.len() == count && are_by_turns(spans.as_slice()),
+            Err(OutOfMemory) => false,
+        },
+    }
+}
+
+/// Whether so many pairs of parts are told.
+fn tells_many(alloc: Global, count: usize) -> bool {
+    match many_parts(alloc, count) {
+        Ok(marked) => {
+            let text = str::from_utf8(&marked).unwrap_or_default();
+            let (written, sink) = sink_with(alloc, None, text);
+            written == Ok(()) && has_parts_by_turns(alloc, &sink, count.wrapping_mul(2))
+        }
+        Err(_) => false,
+    }
+}
+
+#[test]
+fn tells_many_spans(rt: HostRuntime) {
+    assert!(rt; tells_many(rt.alloc(), 5000));
 }

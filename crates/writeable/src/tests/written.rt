@@ -3,6 +3,7 @@ use super::{GROUP, is_annotated};
 use crate::{EventWriter, OutOfMemory, Part, PartsText, WriteFault, Writeable};
 use std::alloc::{AllocError, Global};
 use std::fmt;
+use std::str;
 
 /// A value of one part around a text, to show how a crate above writes its own.
 #[derive(Clone, Copy, Drop)]
@@ -102,8 +103,8 @@ fn is_made(made: Result<String, AllocError>, want: &str) -> bool {
 
 /// Whether a value is displayed with these characters, unpadded, under a width, a fill, a precision and the alternate form.
 fn is_styled<T: fmt::Display>(alloc: Global, value: &T, want: &str) -> bool {
-    is_made(format!(in alloc; "{value:>9}"), want)
-        && is_made(format!(in alloc; "{value:*^9}"), want)
+    is_made(format!(in alloc; "{value:>80}"), want)
+        && is_made(format!(in alloc; "{value:*^80}"), want)
         && is_made(format!(in alloc; "{value:.0}"), want)
         && is_made(format!(in alloc; "{value:#}"), want)
 }
@@ -147,6 +148,30 @@ fn writes_a_text_in_each_way(rt: HostRuntime) {
     }
 }
 
+/// So many letters, made once more where memory was refused.
+fn letters(alloc: Global, count: usize) -> Result<Vec<u8>, AllocError> {
+    match Vec::from_elem(alloc, b'x', count) {
+        Ok(letters) => Ok(letters),
+        Err(_) => Vec::from_elem(alloc, b'x', count),
+    }
+}
+
+/// Whether a text of so many letters is written in each way, alone and in a part.
+fn writes_letters(alloc: Global, count: usize) -> bool {
+    match letters(alloc, count) {
+        Ok(letters) => {
+            let text = str::from_utf8(&letters).unwrap_or_default();
+            !text.is_empty() && is_itself(alloc, text) && is_grouped(alloc, text)
+        }
+        Err(_) => false,
+    }
+}
+
+#[test]
+fn writes_a_long_text_in_each_way(rt: HostRuntime) {
+    assert!(rt; writes_letters(rt.alloc(), 200000));
+}
+
 /// Whether a sink with this limit holds this text, and failed where the limit is less than all four events: open, two
 /// characters, close.
 fn stops(alloc: Global, limit: usize, text: &str) -> bool {
@@ -170,4 +195,12 @@ fn stops_at_the_fault_of_the_sink(rt: HostRuntime) {
 fn tells_its_errors(rt: HostRuntime) {
     assert!(rt; is_displayed(rt.alloc(), &WriteFault, "the sink could not take the text"));
     assert!(rt; is_displayed(rt.alloc(), &OutOfMemory, "out of memory"));
+    assert!(rt;
+        is_displayed_unpadded(
+            rt.alloc(),
+            &WriteFault,
+            "the sink could not take the text"
+        )
+    );
+    assert!(rt; is_displayed_unpadded(rt.alloc(), &OutOfMemory, "out of memory"));
 }

@@ -1,0 +1,90 @@
+//! Errors and keys under a width, a fill, a precision and the alternate form: the same characters, unpadded.
+
+use icu_tables::{EntryFault, Key, TableError};
+use std::alloc::{AllocError, Global};
+use std::fmt::Display;
+
+/// Whether a text was made, and is this.
+fn is_text(made: Result<String, AllocError>, want: &str) -> bool {
+    match made {
+        Ok(text) => text.as_str() == want,
+        Err(_) => false,
+    }
+}
+
+/// Whether a value is displayed so under each of these options.
+fn is_styled_once<T: Display>(alloc: Global, value: &T, want: &str) -> bool {
+    is_text(format!(in alloc; "{value:>80}"), want)
+        && is_text(format!(in alloc; "{value:*^80}"), want)
+        && is_text(format!(in alloc; "{value:.3}"), want)
+        && is_text(format!(in alloc; "{value:#}"), want)
+}
+
+/// The same, asked once more where memory was refused.
+fn is_styled<T: Display>(alloc: Global, value: &T, want: &str) -> bool {
+    is_styled_once(alloc, value, want) || is_styled_once(alloc, value, want)
+}
+
+const KEYS: [(Key, &str); 3] = [
+    (Key::Document, ""),
+    (Key::Symbols, "symbols"),
+    (Key::ExplicitOne, "explicit_one"),
+];
+
+#[test]
+fn displays_keys_under_every_style(rt: HostRuntime) {
+    for (error, want) in KEYS {
+        assert!(rt; is_styled(rt.alloc(), &error, want), "{want}");
+    }
+}
+
+const FAULTS: [(EntryFault, &str); 10] = [
+    (EntryFault::BadLocale, "bad locale"),
+    (EntryFault::BadNumberingSystem, "bad numbering system"),
+    (EntryFault::BadPlace, "a pattern has more than one place"),
+    (EntryFault::BadRule { rule: 1, byte: 8 }, "rule 1 isn't a condition, by its byte 8"),
+    (EntryFault::SymbolsTooLarge, "the symbols are more than 255 bytes together"),
+    (EntryFault::BadSymbolsNumberingSystem, "the symbols name no numbering system"),
+    (EntryFault::ExponentsFall, "compact exponents fall"),
+    (EntryFault::ExponentAboveType, "a compact exponent is above its type"),
+    (EntryFault::TooManyZeros, "a compact type is more than 15 above its exponent"),
+    (
+        EntryFault::PatternsTooLarge,
+        "the literals of the compact patterns are more than 65535 bytes together",
+    ),
+];
+
+#[test]
+fn displays_faults_under_every_style(rt: HostRuntime) {
+    for (error, want) in FAULTS {
+        assert!(rt; is_styled(rt.alloc(), &error, want), "{want}");
+    }
+}
+
+const ERRORS: [(TableError, &str); 5] = [
+    (TableError::NotJson, "not JSON"),
+    (TableError::Float, "a number that is no 64-bit whole number"),
+    (TableError::Missing(Key::Digits), "`digits` is missing"),
+    (TableError::WrongKind(Key::Sizes), "`sizes` has the wrong kind"),
+    (TableError::OutOfMemory, "out of memory"),
+];
+
+#[test]
+fn displays_errors_under_every_style(rt: HostRuntime) {
+    for (error, want) in ERRORS {
+        assert!(rt; is_styled(rt.alloc(), &error, want), "{want}");
+    }
+}
+
+/// A refusal that has all parts.
+const REFUSED: TableError = TableError::Entry {
+    key: Key::Rules,
+    index: 3,
+    fault: EntryFault::BadRule { rule: 1, byte: 8 },
+};
+
+#[test]
+fn displays_a_refused_entry_under_every_style(rt: HostRuntime) {
+    let want = "entry 3 of `rules`: rule 1 isn't a condition, by its byte 8";
+    assert!(rt; is_styled(rt.alloc(), &REFUSED, want));
+}
