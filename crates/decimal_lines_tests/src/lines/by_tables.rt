@@ -4,7 +4,7 @@
 use super::runs_by;
 use decimal_lines::{Mode, StartError, Words, parse_words};
 use sample_tables::SAMPLE;
-use std::alloc::Global;
+use std::alloc::{AllocError, Global};
 
 /// The mode of these words and tables, made once more where memory was refused.
 fn made(alloc: Global, words: &Words<'_>, file: &[u8]) -> Result<Mode, StartError> {
@@ -14,18 +14,18 @@ fn made(alloc: Global, words: &Words<'_>, file: &[u8]) -> Result<Mode, StartErro
     }
 }
 
-/// Whether the output of an input by what these words ask for is this.
-fn answers_asked(alloc: Global, words: &Words<'_>, input: &str, want: &str) -> bool {
-    match made(alloc, words, SAMPLE.as_bytes()) {
+/// Whether the output of an input by what these words ask for and this file is this.
+fn answers_asked(alloc: Global, words: &Words<'_>, file: &[u8], (input, want): (&str, &str)) -> bool {
+    match made(alloc, words, file) {
         Ok(mode) => runs_by(alloc, &mode, input.as_bytes(), usize::MAX, want.as_bytes()),
         Err(_) => false,
     }
 }
 
 /// The same by the words.
-fn answers(alloc: Global, words: &[&str], input: &str, want: &str) -> bool {
+fn answers(alloc: Global, words: &[&str], file: &[u8], row: (&str, &str)) -> bool {
     match parse_words(words) {
-        Some(words) => answers_asked(alloc, &words, input, want),
+        Some(words) => answers_asked(alloc, &words, file, row),
         None => false,
     }
 }
@@ -118,8 +118,47 @@ const ANSWERED: [(&[&str], &str, &str); 19] = [
 #[test]
 fn answers_by_words_and_tables(rt: HostRuntime) {
     for (words, input, want) in ANSWERED {
-        assert!(rt; answers(rt.alloc(), words, input, want), "at {want}");
+        assert!(rt;
+            answers(rt.alloc(), words, SAMPLE.as_bytes(), (input, want)),
+            "at {want}"
+        );
     }
+}
+
+/// The tables behind a text of so many letters under a key that is ignored.
+fn behind_letters_once(alloc: Global, count: usize) -> Result<Vec<u8>, AllocError> {
+    let mut file = Vec::new(alloc);
+    file.extend_from_slice(b"{\"ignored\":\"")?;
+    for _ in 0..count {
+        file.push(b'a')?;
+    }
+    file.extend_from_slice(b"\",")?;
+    match SAMPLE.as_bytes().split_first() {
+        Some((_, behind_brace)) => file.extend_from_slice(behind_brace)?,
+        None => {}
+    }
+    Ok(file)
+}
+
+/// The same, made once more where memory was refused.
+fn behind_letters(alloc: Global, count: usize) -> Result<Vec<u8>, AllocError> {
+    match behind_letters_once(alloc, count) {
+        Ok(file) => Ok(file),
+        Err(_) => behind_letters_once(alloc, count),
+    }
+}
+
+/// Whether a file with so many letters before its tables answers so.
+fn answers_behind_letters(alloc: Global, count: usize, words: &[&str], row: (&str, &str)) -> bool {
+    match behind_letters(alloc, count) {
+        Ok(file) => answers(alloc, words, &file, row),
+        Err(_) => false,
+    }
+}
+
+#[test]
+fn answers_by_a_large_file(rt: HostRuntime) {
+    assert!(rt; answers_behind_letters(rt.alloc(), 200000, SHORT, ("1650\n", "1.6K\n")));
 }
 
 /// Whether a mode of what these words ask for and this file is refused so.
