@@ -25,7 +25,7 @@ enum {
     TALMUIGA_WORDS_REFUSED = 2,    /* locale, system, style or grouping isn't such a word */
     TALMUIGA_TABLES_REFUSED = 3,   /* the tables aren't UTF-8, or their text is refused */
     TALMUIGA_NO_DATA = 4,          /* the tables don't say what a formatter of the locale needs */
-    TALMUIGA_OUTPUT_TOO_SMALL = 5, /* the output of the whole input is longer than there is room */
+    TALMUIGA_OUTPUT_TOO_SMALL = 5  /* the output of the whole input is longer than there is room */
 };
 
 /* Formats the lines of the input in plain English, as 1,234.5.
@@ -37,7 +37,7 @@ enum {
  *
  * The caller owes, of this function and the next one:
  * - each pointer leads to as many bytes as its length says, no more than PTRDIFF_MAX, and isn't null, whatever the length;
- *   the functions without `_sized`, further down, take null with length 0;
+ *   the functions without `_sized`, further down, take null with length 0, and an output of any length;
  * - neither the output nor *written overlaps any other text of the call, and nothing else reads or writes them meanwhile;
  * - malloc, realloc and free are from one allocator, whose blocks are aligned to each power of two up to 16 that divides
  *   their size;
@@ -58,20 +58,34 @@ uint32_t talmuiga_format_lines_sized(const uint8_t *tables, size_t tables_len, c
                                      const uint8_t *grouping, size_t grouping_len, const uint8_t *input,
                                      size_t input_len, uint8_t *output, size_t output_len, size_t *written);
 
-/* A pointer that isn't null, for a text or an output of length 0. */
-static inline uint8_t *talmuiga_bytes(const void *text) {
-    static uint8_t none;
-    return text ? (uint8_t *)text : &none;
+/* A pointer that isn't null, for a text of length 0. */
+static inline const uint8_t *talmuiga_bytes(const void *text) {
+    static const uint8_t none = 0;
+    return text ? (const uint8_t *)text : &none;
 }
 
-/* talmuiga_format_english_sized, where a pointer with length 0 may be null. */
+/* The same for an output. */
+static inline uint8_t *talmuiga_room(void *output) {
+    static uint8_t none;
+    return output ? (uint8_t *)output : &none;
+}
+
+/* The length of an output, or PTRDIFF_MAX where that is less. */
+static inline size_t talmuiga_room_len(size_t output_len) {
+    const size_t most = (size_t)-1 / 2;
+    return output_len < most ? output_len : most;
+}
+
+/* talmuiga_format_english_sized, where a pointer with length 0 may be null, and the output may be longer than PTRDIFF_MAX,
+ * as SIZE_MAX says: no more than PTRDIFF_MAX bytes of it are used. */
 static inline uint32_t talmuiga_format_english(const char *input, size_t input_len, char *output, size_t output_len,
                                                size_t *written) {
-    return talmuiga_format_english_sized(talmuiga_bytes(input), input_len, talmuiga_bytes(output), output_len, written);
+    return talmuiga_format_english_sized(talmuiga_bytes(input), input_len, talmuiga_room(output),
+                                         talmuiga_room_len(output_len), written);
 }
 
-/* talmuiga_format_lines_sized, where a pointer with length 0 may be null, and the words end in a NUL; a word that is null
- * is the empty text. */
+/* talmuiga_format_lines_sized, where a pointer with length 0 may be null, the output may be longer than PTRDIFF_MAX, as
+ * above, and the words end in a NUL; a word that is null is the empty text. */
 static inline uint32_t talmuiga_format_lines(const char *tables, size_t tables_len, const char *locale,
                                              const char *system, const char *style, const char *grouping,
                                              const char *input, size_t input_len, char *output, size_t output_len,
@@ -80,7 +94,7 @@ static inline uint32_t talmuiga_format_lines(const char *tables, size_t tables_l
         talmuiga_bytes(tables), tables_len, talmuiga_bytes(locale), locale ? strlen(locale) : 0,
         talmuiga_bytes(system), system ? strlen(system) : 0, talmuiga_bytes(style), style ? strlen(style) : 0,
         talmuiga_bytes(grouping), grouping ? strlen(grouping) : 0, talmuiga_bytes(input), input_len,
-        talmuiga_bytes(output), output_len, written);
+        talmuiga_room(output), talmuiga_room_len(output_len), written);
 }
 
 #ifdef __cplusplus

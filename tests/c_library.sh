@@ -1,16 +1,19 @@
 #!/bin/bash
 # Builds the library for C, archive and shared object, and runs the C and the Python example over it: statuses, output,
-# rooms that are too small, and what the exceptions are.
+# rooms that are too small, a thousand lines as `decfmt` writes them, and what the exceptions are.
 # usage: tests/c_library.sh [--build FOLDER | --after-ci]
 # With --build the library alone is made: FOLDER/libtalmuiga.a and, where there is a C compiler, FOLDER/libtalmuiga.so.
 # The archive is crates/talmuiga_c/out/libtalmuiga_c.a, as `rt lib` in crates/talmuiga_c builds it; that is done here where
 # it isn't there or a source is newer. With --after-ci, right after `rt ci`, it is built over the libraries that this proved,
 # and talmuiga_c alone is proved once more; `rt lib` would prove them all.
-# The last line is 'N passed, M failed'; what needs a C compiler or Python is left out without them.
+# The last line is 'N passed, M failed'. What can't be done here, for want of a C or C++ compiler, of Python, of its ctypes or
+# of crates/decfmt/out/decfmt, is told by a line 'skipped: c_library: WHY'. CC and CXX are the compilers with their words,
+# by default cc and c++.
 set -u
 cd "$(dirname "$0")/.." || exit 1
 root=$PWD archive=$PWD/crates/talmuiga_c/out/libtalmuiga_c.a
-compiler=${CC:-cc}
+read -r -a compiler <<<"${CC:-cc}"
+read -r -a cpp_compiler <<<"${CXX:-c++}"
 kit=$(dirname "$(rt doc)")
 # what the toolchain's allocator needs of C
 heap=$kit/c/liblibc_c.a
@@ -24,6 +27,15 @@ judge() {
         failed=$((failed + 1))
         printf 'c_library: %s: wanted\n%s\ngiven\n%s\n' "$1" "$2" "$3"
     fi
+}
+
+# is_there COMMAND: whether there is such a command.
+is_there() {
+    command -v "$1" >/dev/null
+}
+
+skipped() {
+    echo "skipped: c_library: $1"
 }
 
 # The archive over the libraries that `rt ci` has proved, as that calls the compiler for a program.
@@ -47,8 +59,8 @@ build() {
     fi
     cp "$archive" "$1/libtalmuiga.a" || return 1
     (cd "$1" && ar x "$heap" && ar rs libtalmuiga.a ./*.o 2>/dev/null && rm -f ./*.o) || return 1
-    if command -v "$compiler" >/dev/null; then
-        "$compiler" -shared -o "$1/libtalmuiga.so" -Wl,--whole-archive "$1/libtalmuiga.a" -Wl,--no-whole-archive
+    if is_there "${compiler[0]}"; then
+        "${compiler[@]}" -shared -o "$1/libtalmuiga.so" -Wl,--whole-archive "$1/libtalmuiga.a" -Wl,--no-whole-archive
     fi
 }
 
@@ -70,11 +82,46 @@ c() {
         "$(given=$(printf '%b' "$input" | "$folder/format_lines" "$@" 2>&1); echo "$? $given")"
 }
 
+# builds PROGRAM SOURCE: the C program over the archive.
+builds() {
+    "${compiler[@]}" -std=c11 -O2 -Wall -Wextra -Wcast-qual -Werror -pedantic -Iinclude "$2" "$folder/libtalmuiga.a" -o "$folder/$1"
+    judge "C: $2 builds" 0 $?
+}
+
+# reads_header LANGUAGE STANDARD COMPILER..: the header alone.
+reads_header() {
+    echo '#include "talmuiga.h"' |
+        "${@:3}" -x "$1" "-std=$2" -Wall -Wextra -Wcast-qual -Werror -pedantic -Iinclude -fsyntax-only -
+    judge "the header as $2" 0 $?
+}
+
+# A thousand lines: numbers of each length and sign, fractions, padding, carriage returns and lines that are none.
+thousand_lines() {
+    local n
+    for ((n = 1; n <= 1000; n++)); do
+        case $((n % 10)) in
+            0) printf '%s\r\n' $((n * n * n)) ;;
+            1) printf -- '-%s.%s\n' "${n}000" "$n" ;;
+            2) printf '00%s\n' "$n" ;;
+            3) printf '.%s\n' "$n" ;;
+            4) printf '%se3\n' "$n" ;;
+            5) printf '+%s99500\n' "$n" ;;
+            *) printf '%s%s\n' "${n:0:n % 3}" "$((n * 7919 * n))" ;;
+        esac
+    done
+    printf '1234567'
+}
+
+# as_decfmt WORD..: the C example writes of a thousand lines, in one call, what `decfmt` writes of each of them.
+as_decfmt() {
+    crates/decfmt/out/decfmt "$@" <"$folder/lines" >"$folder/wanted" 2>&1 && "$folder/format_lines" "$@" <"$folder/lines" >"$folder/given" 2>&1
+    judge "C: a thousand lines by ${*:2}" '0 1001 lines, the same' \
+        "$? $(wc -l <"$folder/wanted") lines, $(cmp "$folder/wanted" "$folder/given" 2>&1 && echo 'the same')"
+}
+
 sample=tables/sample.json
-if command -v "$compiler" >/dev/null; then
-    "$compiler" -std=c11 -O2 -Wall -Wextra -Werror -pedantic -Iinclude examples/c/format_lines.c "$folder/libtalmuiga.a" \
-        -o "$folder/format_lines"
-    judge 'C: builds' 0 $?
+if is_there "${compiler[0]}"; then
+    builds format_lines examples/c/format_lines.c
     c 'no line' 0 '' ''
     c 'English' 0 '1,000,007\n-987,654.321\nerror: not a decimal\n0.5' '1000007\n-987654.321\r\n1e3\n.5'
     c 'short' 0 '1.6K\n10,000T\n' '1650\n10000000000000000\n' $sample en - short
@@ -84,25 +131,68 @@ if command -v "$compiler" >/dev/null; then
     c 'no UTF-8 in a word' 2 'error: words refused' '5\n' $sample $'\xff' - plain
     c 'refused tables' 3 'error: tables refused' '5\n' tables/hostile.json en - short
     c 'another locale' 4 'error: no data' '5\n' $sample xx - plain
-    "$compiler" -std=c11 -O2 -Wall -Wextra -Werror -pedantic -Iinclude tests/c_library.c "$folder/libtalmuiga.a" -o "$folder/rooms"
-    judge 'C: rooms and null' 0 "$("$folder/rooms" >&2; echo $?)"
-    if command -v "${compiler/cc/c++}" >/dev/null; then
-        echo '#include "talmuiga.h"' | "${compiler/cc/c++}" -x c++ -std=c++11 -Wall -Wextra -Werror -Iinclude -fsyntax-only -
-        judge 'C++: the header' 0 $?
+    c 'a missing file' 1 'error: input or output failed' '5\n' "$folder/none" en - plain
+    c 'a folder for tables' 1 'error: input or output failed' '5\n' "$folder" en - plain
+    judge 'C: a folder as standard input' '1 error: input or output failed' \
+        "$(given=$("$folder/format_lines" <"$folder" 2>&1); echo "$? $given")"
+    judge 'C: a closed standard output' '1 error: input or output failed' \
+        "$(given=$(echo 5 | "$folder/format_lines" 2>&1 >&-); echo "$? $given")"
+    if [ -c /dev/full ]; then
+        judge 'C: a full device' '1 error: input or output failed' \
+            "$(given=$(echo 5 | "$folder/format_lines" 2>&1 >/dev/full); echo "$? $given")"
+    else
+        skipped 'there is no full device'
     fi
+    if [ -x crates/decfmt/out/decfmt ]; then
+        thousand_lines >"$folder/lines"
+        as_decfmt
+        as_decfmt $sample en - plain
+        as_decfmt $sample en - short
+        as_decfmt $sample bn - plain always
+        as_decfmt $sample fr - long
+        as_decfmt $sample ar-EG arab plain min2
+    else
+        skipped "there is no crates/decfmt/out/decfmt: 'rt run' in crates/decfmt builds it"
+    fi
+    builds rooms tests/c_library.c
+    judge 'C: rooms, refusals and null' 0 "$("$folder/rooms" $sample >&2; echo $?)"
+    reads_header c c99 "${compiler[@]}"
 else
-    echo 'c_library: no C compiler here: the C and the Python example are left out'
+    skipped "there is no C compiler ${compiler[0]}"
+fi
+if is_there "${cpp_compiler[0]}"; then
+    reads_header c++ c++98 "${cpp_compiler[@]}"
+    reads_header c++ c++11 "${cpp_compiler[@]}"
+else
+    skipped "there is no C++ compiler ${cpp_compiler[0]}"
 fi
 
-if [ -e "$folder/libtalmuiga.so" ] && command -v python3 >/dev/null; then
-    python3 -c 'import ctypes' 2>/dev/null || { echo 'c_library: no ctypes here: the Python example is left out'; python3() { :; }; }
-    TALMUIGA_LIBRARY=$folder/libtalmuiga.so PYTHONPATH=examples/python PYTHONDONTWRITEBYTECODE=1 PYTHONUTF8=1 \
-        python3 tests/c_library.py >"$folder/said" 2>&1
-    cat "$folder/said"
-    judge 'Python: the example' 0 "$(grep -c '^FAILED' "$folder/said")"
-    judge 'Python: all cases' 'all cases ran' "$(tail -n 1 "$folder/said")"
+# python LIBRARY WORD..: Python with the example and this library.
+python() {
+    TALMUIGA_LIBRARY=$1 PYTHONPATH=examples/python PYTHONDONTWRITEBYTECODE=1 PYTHONUTF8=1 python3 "${@:2}"
+}
+
+if ! is_there python3; then
+    skipped 'there is no python3'
 else
-    echo 'c_library: no Python or no shared object here: the Python example is left out'
+    # What a Python without ctypes says, and one without the library, in the last line.
+    judge 'Python: without ctypes' \
+        'ImportError: talmuiga calls its library by the module ctypes, which this Python was built without' \
+        "$(python "$folder/none" -c 'import sys; sys.modules["ctypes"] = None; import talmuiga' 2>&1 | tail -n 1)"
+    if ! python3 -c 'import ctypes' 2>/dev/null; then
+        skipped 'this Python has no ctypes'
+    else
+        judge 'Python: without the library' "ImportError: talmuiga has no library at $folder/none: \`tests/c_library.sh" \
+            "$(python "$folder/none" -c 'import talmuiga' 2>&1 | tail -n 1 | cut -d ' ' -f 1-8)"
+        if [ -e "$folder/libtalmuiga.so" ]; then
+            python "$folder/libtalmuiga.so" tests/c_library.py >"$folder/said" 2>&1
+            cat "$folder/said"
+            judge 'Python: the example' 0 "$(grep -c '^FAILED' "$folder/said")"
+            judge 'Python: all cases' 'all cases ran' "$(tail -n 1 "$folder/said")"
+        else
+            skipped 'there is no shared object without a C compiler'
+        fi
+    fi
 fi
 echo "$passed passed, $failed failed"
 [ "$failed" -eq 0 ]

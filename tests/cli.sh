@@ -1,6 +1,7 @@
 #!/bin/bash
 # Runs the built program on a table of cases: status, standard output and standard error.
 # usage: tests/cli.sh [PROGRAM]
+# The last line is 'N passed, M failed'. A case that can't be made here is told by a line 'skipped: cli: WHY'.
 program=${1:-$(dirname "$0")/../crates/decfmt/out/decfmt}
 usage='usage: decfmt TABLES LOCALE NU|- plain|short|long [auto|never|always|min2]'
 failed='error: input or output failed'
@@ -12,7 +13,7 @@ folder=$(mktemp -d)
 trap 'rm -rf "$folder"' EXIT
 passed=0 missed=0
 
-# judge NAME STATUS OUTPUT ERROR: the run left these in $status and the files out and err.
+# judge NAME STATUS OUTPUT ERROR: the run left these in $status and the files out and err, which each case makes anew.
 judge() {
     printf '%b' "$3" >"$folder/wanted_out"
     printf '%s' "$4" >"$folder/wanted_err"
@@ -21,10 +22,42 @@ judge() {
         passed=$((passed + 1))
     else
         missed=$((missed + 1))
-        echo "cli: $1: status $status, wanted $2"
+        echo "cli: $1: status ${status:-none}, wanted $2"
         diff "$folder/out" "$folder/wanted_out" | head -5
         diff "$folder/err" "$folder/wanted_err" | head -5
     fi
+    rm -f "$folder/out" "$folder/err" "$folder/status"
+    status=
+}
+
+# same_as COMMAND..: reads all of standard input, and writes 'the same' where it is the command's output, else where not.
+same_as() {
+    cmp - <("$@") 2>&1 && echo 'the same'
+    cat >/dev/null
+}
+
+# times NUMBER LINE: so many of this line.
+times() {
+    yes "$2" | head -n "$1"
+}
+
+# ended WORD..: the program with these words, its standard error in the file err and its status in the file status.
+ended() {
+    timeout 60 "$program" "$@" 2>"$folder/err"
+    echo $? >"$folder/status"
+}
+
+# slow_reader: gives on what it reads, nothing for half a second, and then a block of 4096 bytes every other millisecond.
+slow_reader() {
+    python3 -c '
+import os, time
+time.sleep(0.5)
+block = os.read(0, 4096)
+while block:
+    os.write(1, block)
+    time.sleep(0.002)
+    block = os.read(0, 4096)
+'
 }
 
 # lines NAME INPUT OUTPUT: status 0 and nothing on standard error.
@@ -100,10 +133,17 @@ words 'a path that is no text' $'\xff' en - plain
 ends 'a missing file' 1 "$failed" "$folder/none" en - plain
 ends 'an empty path' 1 "$failed" '' en - plain
 ends 'a folder for tables' 1 "$failed" "$folder" en - plain
-if [ "$(id -u)" != 0 ]; then
-    cp "$sample" "$folder/closed.json"
-    chmod 000 "$folder/closed.json"
-    ends 'an unreadable file' 1 "$failed" "$folder/closed.json" en - plain
+cp "$sample" "$folder/closed.json"
+chmod 000 "$folder/closed.json"
+# root reads each file, but for one that gave up the right to.
+unprivileged=()
+[ "$(id -u)" != 0 ] || unprivileged=(setpriv --bounding-set -dac_override,-dac_read_search)
+if "${unprivileged[@]}" cat "$sample" >/dev/null 2>&1 && ! "${unprivileged[@]}" cat "$folder/closed.json" >/dev/null 2>&1; then
+    echo 5 | "${unprivileged[@]}" timeout 20 "$program" "$folder/closed.json" en - plain >"$folder/out" 2>"$folder/err"
+    status=$?
+    judge 'an unreadable file' 1 '' "$failed"
+else
+    echo 'skipped: cli: no file is unreadable here'
 fi
 
 tables ''
@@ -182,30 +222,33 @@ answers 'bn - long' '35357670\n' '৩.৫ কোটি\n'
 answers 'ja - long' '35357670\n' '3536万\n'
 
 # Many lines, more than a pipe or a block holds.
-yes 1234567 | head -n 200000 | timeout 20 "$program" >"$folder/out" 2>"$folder/err"
-status=$?
-yes 1,234,567 | head -n 200000 >"$folder/many"
-cmp -s "$folder/out" "$folder/many" && : >"$folder/out"
-judge 'many lines' 0 '' ''
+times 200000 1234567 | timeout 20 "$program" 2>"$folder/err" | same_as times 200000 1,234,567 >"$folder/out"
+status=${PIPESTATUS[1]}
+judge 'many lines' 0 'the same\n' ''
 
 # A slow reader: the program waits at a full pipe and loses nothing.
-yes 1234567 | head -n 50000 | { timeout 20 "$program" 2>"$folder/err"; echo $? >"$folder/status"; } | { sleep 0.5; md5sum; } >"$folder/sum"
+times 50000 1234567 | ended | slow_reader | same_as times 50000 1,234,567 >"$folder/out"
 status=$(cat "$folder/status")
-head -n 50000 "$folder/many" | md5sum | cmp -s - "$folder/sum" && : >"$folder/out"
-judge 'a full pipe' 0 '' ''
+judge 'a full pipe' 0 'the same\n' ''
 
-# A reader that goes away.
-: >"$folder/out"
-yes 1234567 | head -n 500000 | { timeout 20 "$program" 2>"$folder/err"; echo $? >"$folder/status"; } | head -n 1 >/dev/null
+# A reader of one byte at a time.
+times 20000 1234567 | ended | dd bs=1 status=none | same_as times 20000 1,234,567 >"$folder/out"
 status=$(cat "$folder/status")
-judge 'a closed reader' 1 '' "$failed"
+judge 'a reader of single bytes' 0 'the same\n' ''
+
+# A reader that goes away after the first line.
+times 500000 1234567 | ended | head -n 1 >"$folder/out"
+status=$(cat "$folder/status")
+judge 'a closed reader' 1 '1,234,567\n' "$failed"
 
 echo 5 | timeout 20 "$program" >&- 2>"$folder/err"
 status=$?
+: >"$folder/out"
 judge 'a closed standard output' 1 '' "$failed"
 
 timeout 20 "$program" </dev/null >&- 2>"$folder/err"
 status=$?
+: >"$folder/out"
 judge 'a closed standard output and no input' 0 '' ''
 
 timeout 20 "$program" <&- >"$folder/out" 2>"$folder/err"
@@ -216,7 +259,9 @@ timeout 20 "$program" <"$folder" >"$folder/out" 2>"$folder/err"
 status=$?
 judge 'a folder as standard input' 1 '' "$failed"
 
-if [ -c /dev/full ]; then
+if [ ! -c /dev/full ]; then
+    echo 'skipped: cli: there is no full device'
+else
     echo 5 | timeout 20 "$program" >/dev/full 2>"$folder/err"
     status=$?
     : >"$folder/out"
@@ -235,20 +280,19 @@ status=$?
 judge 'memory refused' 1 '' "$memory"
 
 # Memory stays flat in the number of lines.
-yes 1234567 | head -n 2000000 | (ulimit -v 10000; exec timeout 20 "$program") 2>"$folder/err" | tail -n 1 >"$folder/out"
-status=${PIPESTATUS[2]}
-judge 'many lines in little memory' 0 '1,234,567\n' ''
+times 2000000 1234567 | (ulimit -v 10000; exec timeout 20 "$program") 2>"$folder/err" | same_as times 2000000 1,234,567 >"$folder/out"
+status=${PIPESTATUS[1]}
+judge 'many lines in little memory' 0 'the same\n' ''
 
 # A reader that goes away before the first line, and one that goes late.
-: >"$folder/out"
-{ sleep 0.3; yes 1234567 | head -n 50000; } | { timeout 20 "$program" 2>"$folder/err"; echo $? >"$folder/status"; } | :
+{ sleep 0.3; times 50000 1234567; } | ended | :
 status=$(cat "$folder/status")
+: >"$folder/out"
 judge 'a reader closed before the first line' 1 '' "$failed"
 
-yes 1234567 | head -n 300000 | { timeout 20 "$program" 2>"$folder/err"; echo $? >"$folder/status"; } | head -n 150000 | md5sum >"$folder/sum"
+times 300000 1234567 | ended | head -n 150000 | same_as times 150000 1,234,567 >"$folder/out"
 status=$(cat "$folder/status")
-yes 1,234,567 | head -n 150000 | md5sum | cmp -s - "$folder/sum" || echo 'another beginning' >"$folder/out"
-judge 'a reader closed late' 1 '' "$failed"
+judge 'a reader closed late' 1 'the same\n' "$failed"
 
 # A terminal as standard input, where a line feed and a sign for the end of file are typed.
 python3 - "$program" >"$folder/out" 2>"$folder/err" <<'END'
@@ -272,17 +316,26 @@ cut=$(LC_ALL=C grep -abo $'[\xc0-\xff]' "$sample" | head -n 1 | cut -d : -f 1)
 head -c $((cut + 1)) "$sample" >"$folder/tables.json"
 ends 'tables that end in the middle of a character' 3 "$refused" "$folder/tables.json" en - plain
 
-# A gigabyte of lines, where 10 MB of address space are allowed.
-long=1234567.$(seq -s '' 1 50)
-yes "$long" | head -c 1000000000 | (ulimit -v 10000; exec timeout 120 "$program") 2>"$folder/err" | tail -n 1 | cut -c 1-20 >"$folder/out"
+# A gigabyte of lines, the last of which is cut, where 10 MB of address space are allowed.
+fraction=$(seq -s '' 1 50)
+long=1234567.$fraction
+bytes=1000000050
+formatted() {
+    times $((bytes / (${#long} + 1))) "1,234,567.$fraction"
+    echo "1,234,567.${fraction:0:bytes % (${#long} + 1) - 8}"
+}
+yes "$long" | head -c "$bytes" | (ulimit -v 10000; exec timeout 120 "$program") 2>"$folder/err" | same_as formatted >"$folder/out"
 status=${PIPESTATUS[2]}
-judge 'a gigabyte in little memory' 0 '1,234,567.1234567891\n' ''
+judge 'a gigabyte in little memory' 0 'the same\n' ''
 
 # The same failures in a compact mode.
-: >"$folder/out"
-yes 1650 | head -n 500000 | { timeout 60 "$program" "$sample" en - short 2>"$folder/err"; echo $? >"$folder/status"; } | head -n 1 >/dev/null
+times 50000 1650 | ended "$sample" en - short | slow_reader | same_as times 50000 1.6K >"$folder/out"
 status=$(cat "$folder/status")
-judge 'short: a closed reader' 1 '' "$failed"
+judge 'short: a full pipe' 0 'the same\n' ''
+
+times 500000 1650 | ended "$sample" en - short | head -n 1 >"$folder/out"
+status=$(cat "$folder/status")
+judge 'short: a closed reader' 1 '1.6K\n' "$failed"
 
 echo 5 | timeout 20 "$program" "$sample" en - short >&- 2>"$folder/err"
 status=$?
@@ -304,9 +357,9 @@ head -c 64000000 /dev/zero | tr '\0' 1 | (ulimit -v 40000; exec timeout 20 "$pro
 status=$?
 judge 'short: memory refused' 1 '' "$memory"
 
-yes 1650 | head -n 500000 | (ulimit -v 40000; exec timeout 60 "$program" "$sample" en - short) 2>"$folder/err" | tail -n 1 >"$folder/out"
-status=${PIPESTATUS[2]}
-judge 'short: many lines in little memory' 0 '1.6K\n' ''
+times 500000 1650 | (ulimit -v 40000; exec timeout 60 "$program" "$sample" en - short) 2>"$folder/err" | same_as times 500000 1.6K >"$folder/out"
+status=${PIPESTATUS[1]}
+judge 'short: many lines in little memory' 0 'the same\n' ''
 
 # Tables of 64 MB, where 40 MB of memory are allowed.
 { printf '{"symbols":"'; head -c 64000000 /dev/zero | tr '\0' 1; printf '"}'; } >"$folder/tables.json"

@@ -4,13 +4,23 @@
 # words. A test holds whichever is refused: the call answers as usual or refuses for want of memory, and answers as usual
 # when it is called again. The program ends with status 1 and 'error: out of memory', and what it wrote is a beginning of
 # its usual output; or it writes its usual output, as where the standard library asks once more.
-# usage: tests/refused_memory.sh [-s STEP] [CRATE|program ..], by default every crate and the program
+# In each run the library that refuses has to be there: it leaves how many calls of malloc and realloc it saw. In a test that
+# takes no memory these are none; but the tests of a crate together make calls that are refused, and the program of the tests
+# lists just as many as the sources have.
+# usage: tests/refused_memory.sh [--write] [-s STEP] [CRATE|program ..], by default every crate and the program
 # With -s STEP of the allocations past the hundredth of a test only one in STEP is refused.
-# The last line is 'N passed, M failed', one for each test and each style. Without a C compiler nothing is refused.
+# With --write the numbers of docs/TESTING.md become those of this run: the program's where it was swept, and those of the
+# crates where all were. It goes with no STEP, and writes nothing where a case failed.
+# The last line is 'N passed, M failed', one for each test, each style and each crate. Without a C compiler nothing is
+# refused, and a line 'skipped: refused_memory: WHY' says so. CC is the compiler with its words, by default cc.
 set -u
 cd "$(dirname "$0")/.." || exit 1
 root=$PWD
-step=1
+step=1 is_writing=
+if [ "${1:-}" = --write ]; then
+    is_writing=yes
+    shift
+fi
 if [ "${1:-}" = -s ]; then
     step=$2
     shift 2
@@ -18,29 +28,69 @@ fi
 passed=0 failed=0
 folder=$(mktemp -d)
 trap 'rm -rf "$folder"' EXIT
-command -v "${CC:-cc}" >/dev/null || { echo 'no C compiler here: skipped'; echo '0 passed, 0 failed'; exit 0; }
-"${CC:-cc}" -O2 -shared -fPIC -o "$folder/refuse.so" tests/refuse_nth.c -ldl || { echo '0 passed, 1 failed'; exit 1; }
+read -r -a compiler <<<"${CC:-cc}"
+if ! command -v "${compiler[0]}" >/dev/null; then
+    echo "skipped: refused_memory: there is no C compiler ${compiler[0]}"
+    echo '0 passed, 0 failed'
+    exit 0
+fi
+if ! "${compiler[@]}" -O2 -shared -fPIC -o "$folder/refuse.so" tests/refuse_nth.c -ldl; then
+    echo "refused_memory: ${compiler[*]} doesn't build tests/refuse_nth.c"
+    echo '0 passed, 1 failed'
+    exit 1
+fi
 
-# refusing N COMMAND..: the command's status with its N-th allocation refused; the file mark stands where it was. The
-# file refused_allocation, where the command runs, has the number, up to the five for which a test tells what it refuses.
+# judge NAME COMMAND..: counts a case, which holds where the command's status is 0.
+judge() {
+    local name=$1
+    shift
+    if "$@"; then
+        passed=$((passed + 1))
+    else
+        failed=$((failed + 1))
+        echo "refused_memory: $name"
+    fi
+}
+
+# refusing N COMMAND..: the command's status with its N-th allocation refused; the file mark stands where it was, and the file
+# calls has how many there were. The file refused_allocation, where the command runs, has the number, up to the five for
+# which a test tells what it refuses.
 refusing() {
     local number=$1
     shift
-    rm -f "$folder/mark"
-    rm -f "$folder/refused_allocation"
+    rm -f "$folder/mark" "$folder/calls" "$folder/refused_allocation"
     [ "$number" -gt 5 ] || echo "$number" >"$folder/refused_allocation"
-    (cd "$folder" && exec timeout 60 env REFUSED="$number" MARK=mark LD_PRELOAD=./refuse.so "$@") >"$folder/out" 2>"$folder/err"
+    (cd "$folder" && exec timeout 60 env REFUSED="$number" MARK=mark CALLS=calls LD_PRELOAD=./refuse.so "$@") >"$folder/out" 2>"$folder/err"
 }
 
-# sweep JUDGE COMMAND..: each allocation in turn; JUDGE STATUS tells whether what the run left holds.
+# was_refusing N: whether the library was there in the run, and refused the N-th of its calls if there was one; leaves their
+# number in $calls, and in $why what is wrong.
+was_refusing() {
+    calls=0 why=
+    if [ ! -e "$folder/calls" ]; then
+        why="the library that refuses wasn't loaded"
+    elif ! read -r calls <"$folder/calls"; then
+        calls=0 why='no number of calls: the process was ended'
+    elif [ -e "$folder/mark" ] && [ "$calls" -lt "$1" ] || [ ! -e "$folder/mark" ] && [ "$calls" -ge "$1" ]; then
+        why="$calls calls were seen"
+    fi
+    [ -z "$why" ]
+}
+
+# sweep JUDGE COMMAND..: each allocation in turn; JUDGE STATUS tells whether what the run left holds. Leaves in $refusals how
+# many were refused, and in $calls how many calls the last run made, in which none was.
 sweep() {
-    local judge=$1 number=1 status is_good=true
+    local holds=$1 number=1 status is_good=true
     shift
     refusals=0
     while :; do
         refusing "$number" "$@" <"$folder/input"
         status=$?
-        if ! "$judge" "$status"; then
+        if ! was_refusing "$number"; then
+            echo "refused_memory: $*: allocation $number: $why"
+            is_good=false
+        fi
+        if ! "$holds" "$status"; then
             echo "refused_memory: $*: status $status with allocation $number refused: $(tail -n 2 "$folder/err" "$folder/out" | tail -c 300)"
             is_good=false
         fi
@@ -67,20 +117,33 @@ program_holds() {
     fi
 }
 
+# is_whole TESTS WANTED CALLS REFUSALS: whether so many tests were wanted, and calls were seen and refused.
+is_whole() {
+    [ "$1" -gt 0 ] && [ "$1" -eq "$2" ] && [ "$3" -gt 0 ] && [ "$4" -gt 0 ]
+}
+
 # The tests of a crate, each by itself.
 sweep_crate() {
-    local program=$root/crates/$1/out/$1_tests name tests=0 total=0
+    local program=$root/crates/$1/out/$1_tests list name tests=0 wanted seen=0 total=0
     if [ ! -x "$program" ]; then
         echo "$1: no tests are built: 'rt test' in crates/$1 builds them"
+        failed=$((failed + 1))
+        return
+    fi
+    if ! list=$("$program" --list); then
+        echo "$1: its tests aren't listed"
         failed=$((failed + 1))
         return
     fi
     : >"$folder/input"
     while read -r name; do
         sweep test_holds "$program" "$name"
-        tests=$((tests + 1)) total=$((total + refusals))
-    done < <("$program" --list | sed -n 's/: test$//p')
-    echo "$1: $tests tests, $total allocations refused"
+        tests=$((tests + 1)) seen=$((seen + calls)) total=$((total + refusals))
+    done < <(sed -n 's/: test$//p' <<<"$list")
+    wanted=$(grep -rh '^ *#\[test\]' "crates/$1/src" | wc -l)
+    echo "$1: $tests tests, $seen calls, $total allocations refused"
+    judge "$1: $tests tests are listed, $wanted stand in its sources, $seen calls, $total refused" \
+        is_whole "$tests" "$wanted" "$seen" "$total"
 }
 
 # The program over lines of each kind.
@@ -93,10 +156,66 @@ sweep_program() {
         "$program" "${words[@]}" <"$folder/input" >"$folder/usual" 2>/dev/null
         wants=0
         sweep program_holds "$program" "${words[@]}"
-        echo "decfmt ${words[*]:1}: $refusals allocations refused, $wants times out of memory"
+        echo "decfmt ${words[*]:1}: $calls calls, $refusals allocations refused, $wants times out of memory"
+        judge "decfmt ${words[*]:1}: $calls calls, $wants times out of memory, $(wc -l <"$folder/usual") lines, wanted 6" \
+            is_whole "$(wc -l <"$folder/usual")" 6 "$calls" "$wants"
     done
 }
 
+# write STEP NAME.. with what a run of these names said: docs/TESTING.md has its numbers, between the comments
+# <!-- refused_memory NAME --> and <!-- end -->.
+write() {
+    python3 - "$@" <<'PYTHON'
+import re
+import sys
+import time
+
+said, names = open(sys.argv[1], encoding="utf-8").read(), sys.argv[2:]
+page = "docs/TESTING.md"
+
+
+def replace(text, name, new):
+    """The text with what stands between the comments of a name replaced."""
+    parts = re.split(rf"(<!-- refused_memory {name} -->).*?(<!-- end -->)", text, flags=re.S)
+    if len(parts) != 4:
+        sys.exit(f"refused_memory: {page} hasn't the comments of {name} just once")
+    return parts[0] + parts[1] + new + parts[2] + parts[3]
+
+
+def number(digits):
+    """A number as the page writes it."""
+    return format(int(digits), ",")
+
+
+with open(page, encoding="utf-8") as file:
+    text = file.read()
+styles = re.findall(r"^decfmt (.*): (\d+) calls, (\d+) allocations refused, (\d+) times out of memory$", said, flags=re.M)
+crates = re.findall(r"^(\w+): (\d+) tests, \d+ calls, (\d+) allocations refused$", said, flags=re.M)
+if styles:
+    told = ", ".join(f"{f'`{words}`' if words else 'without words'} {number(refused)}" for words, _, refused, _ in styles)
+    text = replace(text, "program", told)
+    usual = [str(int(refused) - int(wants)) for _, _, refused, wants in styles]
+    text = replace(text, "usual", f"{', '.join(usual[:-1])} and {usual[-1]}")
+if not names:
+    rows = [*crates, ("decfmt", str(len(styles)), str(sum(int(refused) for _, _, refused, _ in styles)))]
+    tests, refused = (sum(int(row[at]) for row in crates) for at in (1, 2))
+    lines = [f"Last whole sweep, {time.strftime('%d %B %Y').lstrip('0')}; of `decfmt` the lists of words in place of tests:", ""]
+    lines += ["| crate | tests | allocations refused |", "|---|---|---|"]
+    lines += [f"| `{name}` | {number(count)} | {number(total)} |" for name, count, total in rows]
+    lines += [f"| tests together | {number(tests)} | {number(refused)} |"]
+    text = replace(text, "crates", "\n" + "\n".join(lines) + "\n")
+    text = replace(text, "together", f"[{number(refused)} allocations of {number(tests)} tests](#refused-allocations)")
+with open(page, "w", encoding="utf-8") as file:
+    file.write(text)
+PYTHON
+}
+
+if [ "$is_writing" ]; then
+    [ "$step" = 1 ] || { echo 'refused_memory: --write goes with no STEP'; echo '0 passed, 1 failed'; exit 1; }
+    "$root/tests/refused_memory.sh" "$@" | tee "$folder/told"
+    [ "${PIPESTATUS[0]}" = 0 ] && write "$folder/told" "$@"
+    exit
+fi
 if [ $# = 0 ]; then
     for crate in crates/*/; do
         crate=$(basename "$crate")

@@ -1,7 +1,7 @@
 /* Formats standard input, as decfmt does: format_lines [TABLES LOCALE SYSTEM|- plain|short|long [GROUPING]]
  *
- * The status is the call's; what is wrong goes to standard error. The output starts small, and is enlarged until all of it
- * has room. */
+ * The status is the call's, and 1 where a file can't be read or the output can't be written; what is wrong goes to standard
+ * error. The output starts small, and is enlarged until all of it has room. */
 #include "talmuiga.h"
 
 #include <stdio.h>
@@ -13,7 +13,21 @@ static const char *const messages[] = {"",
                                        "error: tables refused",
                                        "error: no data"};
 
-/* All bytes of a file behind its length, or null. */
+/* Tells what is wrong; the status. */
+static int fails(const char *message, int status) {
+    fprintf(stderr, "%s\n", message);
+    return status;
+}
+
+static int memory_fails(void) {
+    return fails(messages[TALMUIGA_OUT_OF_MEMORY], TALMUIGA_OUT_OF_MEMORY);
+}
+
+static int file_fails(void) {
+    return fails("error: input or output failed", 1);
+}
+
+/* All bytes of a file behind its length, or null for want of memory; ferror tells whether they were read to the end. */
 static char *read_all(FILE *file, size_t *len) {
     size_t room = 4096;
     char *text = malloc(room);
@@ -35,29 +49,34 @@ int main(int count, char **words) {
     char *tables = NULL, *input, *output = NULL;
     uint32_t status;
     if (count > 1) {
+        if (count < 5 || count > 6)
+            return fails("usage: format_lines [TABLES LOCALE SYSTEM|- plain|short|long [GROUPING]]", 2);
         FILE *file = fopen(words[1], "rb");
-        if (!file || count < 5 || count > 6)
-            return fputs("usage: format_lines [TABLES LOCALE SYSTEM|- plain|short|long [GROUPING]]\n", stderr), 2;
+        if (!file)
+            return file_fails();
         tables = read_all(file, &tables_len);
+        if (ferror(file))
+            return file_fails();
         fclose(file);
     }
     input = read_all(stdin, &input_len);
+    if (ferror(stdin))
+        return file_fails();
     if (!input || (count > 1 && !tables))
-        return fprintf(stderr, "%s\n", messages[TALMUIGA_OUT_OF_MEMORY]), TALMUIGA_OUT_OF_MEMORY;
+        return memory_fails();
     do {
         free(output);
         output = malloc(room *= 2);
         if (!output)
-            return fprintf(stderr, "%s\n", messages[TALMUIGA_OUT_OF_MEMORY]), TALMUIGA_OUT_OF_MEMORY;
+            return memory_fails();
         status = count > 1 ? talmuiga_format_lines(tables, tables_len, words[2], words[3], words[4],
                                                    count > 5 ? words[5] : NULL, input, input_len, output, room, &written)
                            : talmuiga_format_english(input, input_len, output, room, &written);
     } while (status == TALMUIGA_OUTPUT_TOO_SMALL);
-    fwrite(output, 1, written, stdout);
-    if (status != TALMUIGA_DONE)
-        fprintf(stderr, "%s\n", messages[status]);
+    if (fwrite(output, 1, written, stdout) < written || fflush(stdout))
+        return file_fails();
     free(output);
     free(input);
     free(tables);
-    return (int)status;
+    return status == TALMUIGA_DONE ? 0 : fails(messages[status], (int)status);
 }

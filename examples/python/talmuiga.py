@@ -9,15 +9,26 @@
 The shared library is libtalmuiga.so beside this file, or what the environment's TALMUIGA_LIBRARY names;
 `tests/c_library.sh --build FOLDER` makes it in a folder.
 """
-import ctypes
 import os
+
+try:
+    import ctypes
+except ImportError as error:
+    raise ImportError("talmuiga calls its library by the module ctypes, which this Python was built without") from error
 
 __all__ = ["MemoryRefused", "NoData", "NotFormatted", "TablesRefused", "Tables", "WordsRefused", "format_english"]
 
 OUTPUT_TOO_SMALL = 5
 
 # What a line is answered by where it isn't formatted.
-ERROR_LINES = ("error: not a decimal", "error: too many digits", "error: overflow")
+NOT_A_DECIMAL = "error: not a decimal"
+OVERFLOW = "error: overflow"
+ERROR_LINES = (NOT_A_DECIMAL, "error: too many digits", OVERFLOW)
+
+# A decimal has at most so many integer digits. A compact style shows two digits at least, so that it rounds to a number of
+# more digits only a decimal that has as many and begins with two nines.
+MOST_INTEGER_DIGITS = 32768
+BEGIN_OF_OVERFLOW = "99"
 
 
 class MemoryRefused(MemoryError):
@@ -50,7 +61,12 @@ REFUSALS = {1: MemoryRefused, 2: WordsRefused, 3: TablesRefused, 4: NoData}
 def load():
     """The library, with the types of its two functions."""
     beside = os.path.join(os.path.dirname(os.path.abspath(__file__)), "libtalmuiga.so")
-    library = ctypes.CDLL(os.environ.get("TALMUIGA_LIBRARY", beside))
+    name = os.environ.get("TALMUIGA_LIBRARY", beside)
+    try:
+        library = ctypes.CDLL(name)
+    except OSError as error:
+        made = "`tests/c_library.sh --build FOLDER` makes it, and the environment's TALMUIGA_LIBRARY names it"
+        raise ImportError(f"talmuiga has no library at {name}: {made} ({error})") from error
     text = [ctypes.c_char_p, ctypes.c_size_t]
     ends = [ctypes.c_void_p, ctypes.c_size_t, ctypes.POINTER(ctypes.c_size_t)]
     library.talmuiga_format_english_sized.argtypes = text + ends
@@ -81,18 +97,57 @@ def format_bytes(function, texts, lines):
     return ctypes.string_at(output, written.value).decode()
 
 
+def answers_to(function, texts, decimals):
+    """What the library answers to each decimal.
+
+    An answer has more than one line where a text of the tables has a line feed. The output has then more lines than there
+    are decimals, and each decimal is formatted alone; else it has just as many, and each answer is a line.
+    """
+    lines = "".join(decimal + "\n" for decimal in decimals)
+    output = format_bytes(function, texts, lines.encode(errors="surrogatepass"))
+    count = output.count("\n")
+    if count < len(decimals) or (output and output[-1] != "\n"):
+        raise RuntimeError(f"the library answered {len(decimals)} decimals by {count} lines")
+    if count == len(decimals):
+        return output.split("\n")[:-1]
+    if len(decimals) == 1:
+        return [output[:-1]]
+    return [answer for decimal in decimals for answer in answers_to(function, texts, [decimal])]
+
+
+def is_near_overflow(decimal):
+    """Whether a compact style could round a decimal past the limits."""
+    integer = decimal.lstrip("+-").lstrip("0").partition(".")[0]
+    return len(integer) == MOST_INTEGER_DIGITS and integer.startswith(BEGIN_OF_OVERFLOW)
+
+
+def first_error(decimals, answers):
+    """The place of the first decimal that isn't formatted, and why; or None.
+
+    A text of the tables may read as an error line does. So such an answer is an error only where the decimal says so: one
+    that isn't read has an error line in plain English too, whose texts are no such line, and one that is read can only
+    overflow, near the limits.
+    """
+    places = [index for index, answer in enumerate(answers) if answer in ERROR_LINES]
+    english = answers_to(LIBRARY.talmuiga_format_english_sized, [], [decimals[index] for index in places])
+    for index, in_english in zip(places, english):
+        if in_english in ERROR_LINES:
+            return index, in_english
+        if answers[index] == OVERFLOW and is_near_overflow(decimals[index]):
+            return index, OVERFLOW
+    return None
+
+
 def format_texts(function, texts, decimals):
     """A text for each decimal, in their order."""
-    lines = "\n".join([*decimals, ""])
-    if "\r" in lines or lines.count("\n") > len(decimals):
-        index = next(index for index, decimal in enumerate(decimals) if "\r" in decimal or "\n" in decimal)
-        raise NotFormatted(index, decimals[index], ERROR_LINES[0])
-    output = format_bytes(function, texts, lines.encode())
-    answers = output.split("\n")[:-1]
-    if any(line in output for line in ERROR_LINES):
-        for index, answer in enumerate(answers):
-            if answer in ERROR_LINES:
-                raise NotFormatted(index, decimals[index], answer)
+    for index, decimal in enumerate(decimals):
+        if "\r" in decimal or "\n" in decimal:
+            raise NotFormatted(index, decimal, NOT_A_DECIMAL)
+    answers = answers_to(function, texts, decimals)
+    error = first_error(decimals, answers)
+    if error:
+        index, message = error
+        raise NotFormatted(index, decimals[index], message)
     return answers
 
 
