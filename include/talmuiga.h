@@ -32,8 +32,10 @@ enum {
  *
  * With TALMUIGA_DONE the first *written bytes of the output are the output of the whole input. With
  * TALMUIGA_OUTPUT_TOO_SMALL and TALMUIGA_OUT_OF_MEMORY they are the output of the input's first lines, whole lines or
- * nothing; with TALMUIGA_OUTPUT_TOO_SMALL the next line's finds no room behind them. No other status comes. The bytes of
- * the output behind the first *written stay as they were.
+ * nothing; with TALMUIGA_OUTPUT_TOO_SMALL the next line's finds no room behind them. TALMUIGA_OUT_OF_MEMORY comes before
+ * the room for a line is judged, but behind the first line only where a line and some room are left, so never in place of
+ * TALMUIGA_OUTPUT_TOO_SMALL for an output that is full. No other status comes. The bytes of the output behind the first
+ * *written stay as they were.
  *
  * The caller owes, of this function and the next one:
  * - each pointer leads to as many bytes as its length says, no more than PTRDIFF_MAX, and isn't null, whatever the length;
