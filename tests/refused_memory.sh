@@ -63,18 +63,17 @@ refusing() {
     (cd "$folder" && exec timeout 60 env REFUSED="$number" MARK=mark CALLS=calls LD_PRELOAD=./refuse.so "$@") >"$folder/out" 2>"$folder/err"
 }
 
-# was_refusing N: whether the library was there in the run, and refused the N-th of its calls if there was one; leaves their
-# number in $calls, and in $why what is wrong.
+# was_refusing N: leaves in $calls how many calls the library saw in the run, and in $why what is wrong if it wasn't there, or
+# refused the N-th where there is none, or didn't where there is one.
 was_refusing() {
     calls=0 why=
     if [ ! -e "$folder/calls" ]; then
         why="the library that refuses wasn't loaded"
     elif ! read -r calls <"$folder/calls"; then
-        calls=0 why='no number of calls: the process was ended'
+        calls=0 why='the process was ended'
     elif [ -e "$folder/mark" ] && [ "$calls" -lt "$1" ] || [ ! -e "$folder/mark" ] && [ "$calls" -ge "$1" ]; then
         why="$calls calls were seen"
     fi
-    [ -z "$why" ]
 }
 
 # sweep JUDGE COMMAND..: each allocation in turn; JUDGE STATUS tells whether what the run left holds. Leaves in $refusals how
@@ -86,12 +85,10 @@ sweep() {
     while :; do
         refusing "$number" "$@" <"$folder/input"
         status=$?
-        if ! was_refusing "$number"; then
-            echo "refused_memory: $*: allocation $number: $why"
-            is_good=false
-        fi
-        if ! "$holds" "$status"; then
-            echo "refused_memory: $*: status $status with allocation $number refused: $(tail -n 2 "$folder/err" "$folder/out" | tail -c 300)"
+        was_refusing "$number"
+        "$holds" "$status" || why="${why:+$why, }status $status: $(tail -n 2 "$folder/err" "$folder/out" | tail -c 300)"
+        if [ "$why" ]; then
+            echo "refused_memory: $*: with allocation $number refused: $why"
             is_good=false
         fi
         [ -e "$folder/mark" ] || break
