@@ -91,6 +91,7 @@ module _ (answer : List ℕ → List ℕ) where
 
       -- with room behind it
       pub Fills-room : n < length new → HasRoomLeft answer input old new n
+      unfolding Fills-stops
       Fills-room room = record { holds = Fills-stops; is_some = some; room = omega (arith, Fills-length) }
 
       module _ (line rest : List ℕ) (first : IsFirstLine left line rest) where
