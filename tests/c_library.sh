@@ -95,6 +95,21 @@ reads_header() {
     judge "the header as $2" 0 $?
 }
 
+# calls_from_cpp: a program in C++98 over the archive formats a line.
+calls_from_cpp() {
+    "${cpp_compiler[@]}" -x c++ -std=c++98 -Wall -Wextra -Werror -pedantic -Iinclude - -x none "$folder/libtalmuiga.a" \
+        -o "$folder/calls" <<'END'
+#include "talmuiga.h"
+int main() {
+    char output[8];
+    size_t written;
+    uint32_t status = talmuiga_format_english("1234", 4, output, sizeof output, &written);
+    return status == TALMUIGA_DONE && written == 6 && memcmp(output, "1,234\n", 6) == 0 ? 0 : 1;
+}
+END
+    judge 'C++: a call' 0 "$("$folder/calls" >&2; echo $?)"
+}
+
 # A thousand lines: numbers of each length and sign, fractions, padding, carriage returns and lines that are none.
 thousand_lines() {
     local n
@@ -114,8 +129,9 @@ thousand_lines() {
 
 # as_decfmt WORD..: the C example writes of a thousand lines, in one call, what `decfmt` writes of each of them.
 as_decfmt() {
-    crates/decfmt/out/decfmt "$@" <"$folder/lines" >"$folder/wanted" 2>&1 && "$folder/format_lines" "$@" <"$folder/lines" >"$folder/given" 2>&1
-    judge "C: a thousand lines by ${*:2}" '0 1001 lines, the same' \
+    crates/decfmt/out/decfmt "$@" <"$folder/lines" >"$folder/wanted" 2>&1 &&
+        "$folder/format_lines" "$@" <"$folder/lines" >"$folder/given" 2>&1
+    judge "C: a thousand lines${1:+ by ${*:2}}" '0 1001 lines, the same' \
         "$? $(wc -l <"$folder/wanted") lines, $(cmp "$folder/wanted" "$folder/given" 2>&1 && echo 'the same')"
 }
 
@@ -163,6 +179,7 @@ fi
 if is_there "${cpp_compiler[0]}"; then
     reads_header c++ c++98 "${cpp_compiler[@]}"
     reads_header c++ c++11 "${cpp_compiler[@]}"
+    calls_from_cpp
 else
     skipped "there is no C++ compiler ${cpp_compiler[0]}"
 fi
