@@ -82,9 +82,9 @@ c() {
         "$(given=$(printf '%b' "$input" | "$folder/format_lines" "$@" 2>&1); echo "$? $given")"
 }
 
-# builds PROGRAM SOURCE: the C program over the archive.
+# builds PROGRAM SOURCE [ARCHIVE]: the C program, over the archive.
 builds() {
-    "${compiler[@]}" -std=c11 -O2 -Wall -Wextra -Wcast-qual -Werror -pedantic -Iinclude "$2" "$folder/libtalmuiga.a" -o "$folder/$1"
+    "${compiler[@]}" -std=c11 -O2 -Wall -Wextra -Wcast-qual -Werror -pedantic -Iinclude "${@:2}" -o "$folder/$1"
     judge "C: $2 builds" 0 $?
 }
 
@@ -137,7 +137,7 @@ as_decfmt() {
 
 sample=tables/sample.json
 if is_there "${compiler[0]}"; then
-    builds format_lines examples/c/format_lines.c
+    builds format_lines examples/c/format_lines.c "$folder/libtalmuiga.a"
     c 'no line' 0 '' ''
     c 'English' 0 '1,000,007\n-987,654.321\nerror: not a decimal\n0.5' '1000007\n-987654.321\r\n1e3\n.5'
     c 'short' 0 '1.6K\n10,000T\n' '1650\n10000000000000000\n' $sample en - short
@@ -170,8 +170,10 @@ if is_there "${compiler[0]}"; then
     else
         skipped "there is no crates/decfmt/out/decfmt: 'rt run' in crates/decfmt builds it"
     fi
-    builds rooms tests/c_library.c
+    builds rooms tests/c_library.c "$folder/libtalmuiga.a"
     judge 'C: rooms, refusals and null' 0 "$("$folder/rooms" $sample >&2; echo $?)"
+    builds header tests/c_header.c
+    judge 'C: what the header hands on' 0 "$("$folder/header" >&2; echo $?)"
     reads_header c c99 "${compiler[@]}"
 else
     skipped "there is no C compiler ${compiler[0]}"
