@@ -79,7 +79,8 @@ for error in ("error: overflow", "error: not a decimal", "error: too many digits
     judge(f"overflow beside {error}", f"error: overflow: '{MOST_NINES}' at 1",
           lambda: failure(lambda: short([error], ["1650", MOST_NINES])))
 judge("overflow", f"error: overflow: '-{MOST_NINES}.5' at 0", lambda: failure(lambda: short(["{0}K"], [f"-{MOST_NINES}.5"])))
-judge("a plain number of most nines", [MOST_NINES], lambda: talmuiga.Tables(SAMPLE, "en", grouping="never").format([MOST_NINES]))
+judge("a plain number of most nines", [MOST_NINES],
+      lambda: talmuiga.Tables(SAMPLE, "en", grouping="never").format([MOST_NINES]))
 judge("no text by tables", [], lambda: plain(",", []))
 judge("half a character", "NotFormatted", lambda: talmuiga.format_english(["5", "\udc80"]))
 mixed = [str(number * number - 50000) for number in range(1000)]

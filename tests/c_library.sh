@@ -82,9 +82,9 @@ c() {
         "$(given=$(printf '%b' "$input" | "$folder/format_lines" "$@" 2>&1); echo "$? $given")"
 }
 
-# builds PROGRAM SOURCE: the C program over the archive.
+# builds PROGRAM SOURCE [ARCHIVE]: the C program, over the archive.
 builds() {
-    "${compiler[@]}" -std=c11 -O2 -Wall -Wextra -Wcast-qual -Werror -pedantic -Iinclude "$2" "$folder/libtalmuiga.a" -o "$folder/$1"
+    "${compiler[@]}" -std=c11 -O2 -Wall -Wextra -Wcast-qual -Werror -pedantic -Iinclude "${@:2}" -o "$folder/$1"
     judge "C: $2 builds" 0 $?
 }
 
@@ -93,6 +93,21 @@ reads_header() {
     echo '#include "talmuiga.h"' |
         "${@:3}" -x "$1" "-std=$2" -Wall -Wextra -Wcast-qual -Werror -pedantic -Iinclude -fsyntax-only -
     judge "the header as $2" 0 $?
+}
+
+# calls_from_cpp: a program in C++98 over the archive formats a line.
+calls_from_cpp() {
+    "${cpp_compiler[@]}" -x c++ -std=c++98 -Wall -Wextra -Werror -pedantic -Iinclude - -x none "$folder/libtalmuiga.a" \
+        -o "$folder/calls" <<'END'
+#include "talmuiga.h"
+int main() {
+    char output[8];
+    size_t written;
+    uint32_t status = talmuiga_format_english("1234", 4, output, sizeof output, &written);
+    return status == TALMUIGA_DONE && written == 6 && memcmp(output, "1,234\n", 6) == 0 ? 0 : 1;
+}
+END
+    judge 'C++: a call' 0 "$("$folder/calls" >&2; echo $?)"
 }
 
 # A thousand lines: numbers of each length and sign, fractions, padding, carriage returns and lines that are none.
@@ -114,14 +129,15 @@ thousand_lines() {
 
 # as_decfmt WORD..: the C example writes of a thousand lines, in one call, what `decfmt` writes of each of them.
 as_decfmt() {
-    crates/decfmt/out/decfmt "$@" <"$folder/lines" >"$folder/wanted" 2>&1 && "$folder/format_lines" "$@" <"$folder/lines" >"$folder/given" 2>&1
-    judge "C: a thousand lines by ${*:2}" '0 1001 lines, the same' \
+    crates/decfmt/out/decfmt "$@" <"$folder/lines" >"$folder/wanted" 2>&1 &&
+        "$folder/format_lines" "$@" <"$folder/lines" >"$folder/given" 2>&1
+    judge "C: a thousand lines${1:+ by ${*:2}}" '0 1001 lines, the same' \
         "$? $(wc -l <"$folder/wanted") lines, $(cmp "$folder/wanted" "$folder/given" 2>&1 && echo 'the same')"
 }
 
 sample=tables/sample.json
 if is_there "${compiler[0]}"; then
-    builds format_lines examples/c/format_lines.c
+    builds format_lines examples/c/format_lines.c "$folder/libtalmuiga.a"
     c 'no line' 0 '' ''
     c 'English' 0 '1,000,007\n-987,654.321\nerror: not a decimal\n0.5' '1000007\n-987654.321\r\n1e3\n.5'
     c 'short' 0 '1.6K\n10,000T\n' '1650\n10000000000000000\n' $sample en - short
@@ -154,8 +170,10 @@ if is_there "${compiler[0]}"; then
     else
         skipped "there is no crates/decfmt/out/decfmt: 'rt run' in crates/decfmt builds it"
     fi
-    builds rooms tests/c_library.c
+    builds rooms tests/c_library.c "$folder/libtalmuiga.a"
     judge 'C: rooms, refusals and null' 0 "$("$folder/rooms" $sample >&2; echo $?)"
+    builds header tests/c_header.c
+    judge 'C: what the header hands on' 0 "$("$folder/header" >&2; echo $?)"
     reads_header c c99 "${compiler[@]}"
 else
     skipped "there is no C compiler ${compiler[0]}"
@@ -163,6 +181,7 @@ fi
 if is_there "${cpp_compiler[0]}"; then
     reads_header c++ c++98 "${cpp_compiler[@]}"
     reads_header c++ c++11 "${cpp_compiler[@]}"
+    calls_from_cpp
 else
     skipped "there is no C++ compiler ${cpp_compiler[0]}"
 fi

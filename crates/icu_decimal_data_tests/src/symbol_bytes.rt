@@ -204,3 +204,43 @@ fn each_call_is_one_allocation(rt: HostRuntime) {
         assert_eq!(rt; allocation, refused);
     }
 }
+
+/// Symbols of few bytes, of several bytes a character, and of many bytes.
+const BUILT: [Texts; 5] = [
+    ["", "", "", "", "", "", "latn"],
+    ["-", "", "+", "", ".", ",", "latn"],
+    ["\u{61c}-", "₋", "\u{61c}+", "₊", "٫", "٬", "arab"],
+    ["", "", "", "", "\u{202f}", "", "123"],
+    [
+        "minus ",
+        " below zero",
+        "plus ",
+        " above zero",
+        " point ",
+        " and ",
+        "abcdefgh",
+    ],
+];
+
+/// Which of five builds is refused, counted from 1 on; none is 0.
+fn refused_build(alloc: Global) -> u64 {
+    let mut refused = 0;
+    let mut count = 0;
+    for texts in BUILT {
+        count += 1;
+        if builder(texts).build(alloc).is_err() {
+            refused = count;
+        }
+    }
+    refused
+}
+
+/// Where the run tells which allocation is refused, it is the build of that number that is refused: so none asks for a
+/// second one.
+#[test]
+fn each_build_is_one_allocation(rt: HostRuntime) {
+    let refused = refused_build(rt.alloc());
+    if let Some(allocation) = refused_allocation(&rt) {
+        assert_eq!(rt; allocation, refused);
+    }
+}
