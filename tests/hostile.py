@@ -210,8 +210,8 @@ def significand_of(whole, fraction, table):
     return shown, figures[:cut], figures[cut:].rstrip("0")
 
 
-def answer_of(line, formatter, picked=None):
-    """What a line gives; which pattern was picked is counted."""
+def answer_of(line, formatter, picked):
+    """What a line gives; which slot its pattern has is noted."""
     numeral = numeral_of(line)
     if isinstance(numeral, str):
         return numeral
@@ -224,8 +224,7 @@ def answer_of(line, formatter, picked=None):
         (_, _, elements), whole, fraction = found
         slot = slot_of(elements, formatter.rules, operands_of(whole, fraction))
         pattern = elements[slot]
-        if picked is not None:
-            picked["no entry" if elements is NO_ENTRY[2] else slot] += 1
+        picked.append("no entry" if elements is NO_ENTRY[2] else slot)
     before, place, behind = pattern.partition("{0}")
     text = unsigned_text(whole, fraction, formatter.symbols, formatter.digits, formatter.strategy) if place else ""
     return between_affixes(sign, before + text + behind, formatter.symbols)
@@ -542,7 +541,7 @@ def holds_faulty(program, rng, number, drawn):
     tables = valid_tables(rng)
     words, text = some_words(rng, tables, number), faulty(rng, tables, fault)
     answer = program.run_tables(number, text, words)
-    drawn[fault] += 1
+    drawn.append(fault)
     return belongs_together(answer, [3], 0), (words, text, answer)
 
 
@@ -612,7 +611,7 @@ def holds_lines(program, rng, number, sample, count):
     rng.shuffle(lines)
     ended = [line + rng.choice([b"", b"", b"", b"\r"]) for line in lines]
     given = b"\n".join(ended) + rng.choice([b"", b"\n"])
-    wanted = [answer_of(line[:-1] if line.endswith(b"\r") else line, formatter) for line in ended]
+    wanted = [answer_of(line[:-1] if line.endswith(b"\r") else line, formatter, []) for line in ended]
     if not ended[-1] and not given.endswith(b"\n"):
         wanted.pop()
     if given.endswith(b"\n") and not ended[-1]:
@@ -638,28 +637,28 @@ def tables_by(**more):
 
 
 def shapes(size):
-    """Names, tables (None: no words), words and lines of about so many bytes, one after another."""
+    """Names, statuses, tables (None: no words), words and lines of about so many bytes, one after another."""
     few, plain, short = b"5\n", ["en", "-", "plain"], ["en", "-", "short"]
     no_rules, rule = [{"locale": "en", "rules": []}], ["one", "i = 1"]
     table = [{"locale": "en", "patterns": [[3, 3, {"other": "{0}K"}]]}]
     other = {"locale": "a", "patterns": [[3, 3, {"other": "{0}K"}]]}
-    yield "digits in one line", None, [], b"9" * size
-    yield "line feeds", None, [], b"\n" * size
-    yield "longest numbers", None, [], (b"9" * LIMIT + b"\n") * (size // LIMIT)
-    yield "longest short numbers", tables_by(rules=no_rules, short=table), short, (b"1" * LIMIT + b"\n") * (size // LIMIT)
-    yield "entries", json.dumps({"symbols": [ENTRY] * (size // 110) + [LAST], "digits": DIGITS}).encode(), plain, few
-    yield "unknown keys", tables_by(**{str(key): key for key in range(size // 15)}), plain, few
-    yield "one key again and again", b"{" + b'"x":1,' * (size // 6) + tables_by()[1:], plain, few
-    yield "a long text", tables_by(x="\u00e9" * (size // 6)), plain, few
-    yield "open brackets", b"[" * size, plain, few
-    yield "a long number", b'{"x":' + b"9" * size + b"}", plain, few
+    yield "digits in one line", 0, None, [], b"9" * size
+    yield "line feeds", 0, None, [], b"\n" * size
+    yield "longest numbers", 0, None, [], (b"9" * LIMIT + b"\n") * (size // LIMIT)
+    yield "longest short numbers", 0, tables_by(rules=no_rules, short=table), short, (b"1" * LIMIT + b"\n") * (size // LIMIT)
+    yield "entries", 0, json.dumps({"symbols": [ENTRY] * (size // 110) + [LAST], "digits": DIGITS}).encode(), plain, few
+    yield "unknown keys", 0, tables_by(**{str(key): key for key in range(size // 15)}), plain, few
+    yield "one key again and again", 0, b"{" + b'"x":1,' * (size // 6) + tables_by()[1:], plain, few
+    yield "a long text", 0, tables_by(x="\u00e9" * (size // 6)), plain, few
+    yield "open brackets", 3, b"[" * size, plain, few
+    yield "a long number", 3, b'{"x":' + b"9" * size + b"}", plain, few
     condition = " and ".join(["i = 1"] * (size // 10))
-    yield "a long condition", tables_by(rules=[{"locale": "en", "rules": [["one", condition]]}], short=table), short, few
-    yield "many rules", tables_by(rules=[{"locale": "en", "rules": [rule] * (size // 16)}], short=table), short, few
-    yield "many compact tables", tables_by(rules=no_rules, short=[other] * (size // 60) + table), short, few
+    yield "a long condition", 0, tables_by(rules=[{"locale": "en", "rules": [["one", condition]]}], short=table), short, few
+    yield "many rules", 0, tables_by(rules=[{"locale": "en", "rules": [rule] * (size // 16)}], short=table), short, few
+    yield "many compact tables", 0, tables_by(rules=no_rules, short=[other] * (size // 60) + table), short, few
 
 
-def seconds_of(program, text, words, given):
+def seconds_of(program, status, text, words, given):
     """The processor seconds of a run whose lines come from a file, in whole blocks; infinite where it doesn't end well."""
     paths = [os.path.join(program.folder, name) for name in ["shape.json", "shape.txt"]]
     for path, content in zip(paths, [text, given]):
@@ -674,13 +673,13 @@ def seconds_of(program, text, words, given):
             return math.inf
     after = resource.getrusage(resource.RUSAGE_CHILDREN)
     seconds = after.ru_utime + after.ru_stime - before.ru_utime - before.ru_stime
-    return seconds if ended.returncode in (0, 3) else math.inf
+    return seconds if ended.returncode == status else math.inf
 
 
 def is_linear(program, inputs):
     """Whether inputs take no more than three times as much processor time as they are longer than the first."""
     seconds = [min(seconds_of(program, *each[1:]) for _ in range(times)) for each, times in zip(inputs, [3, 2, 2, 2])]
-    lengths = [len(text or b"") + len(given) for _, text, _, given in inputs]
+    lengths = [len(text or b"") + len(given) for _, _, text, _, given in inputs]
     most = [3 * length / lengths[0] * seconds[0] + 0.05 for length in lengths]
     holds = all(took <= bound for took, bound in zip(seconds, most))
     shown = ", ".join(f"{length / 2**20:.2f} MiB {took:.3f} s" for length, took in zip(lengths, seconds))
@@ -709,12 +708,12 @@ def holds_all(name, holds, count, seed):
     return missed == 0
 
 
-def are_all_met(name, counts, kinds, are_many=True):
-    """Whether each of these kinds has come, which few cases needn't show."""
-    met = [kind for kind in kinds if counts[kind]]
-    rarest = min(kinds, key=lambda kind: counts[kind])
-    print(f"hostile: {name}: {len(met)} of {len(kinds)}, the rarest {counts[rarest]} times", flush=True)
-    return len(met) == len(kinds) or not are_many
+def are_all_met(name, noted, kinds, are_many=True):
+    """Whether each of these kinds was noted, which few cases needn't show."""
+    counts = collections.Counter(noted)
+    met, rarest = sum(counts[kind] > 0 for kind in kinds), min(counts[kind] for kind in kinds)
+    print(f"hostile: {name}: {met} of {len(kinds)}, the rarest {rarest} times", flush=True)
+    return met == len(kinds) or not are_many
 
 
 def main():
@@ -725,7 +724,7 @@ def main():
         sample = json.load(file)
     with tempfile.TemporaryDirectory() as folder:
         program = Program(path, folder)
-        third, batch, picked, drawn = (tables + 2) // 3, 160, collections.Counter(), collections.Counter()
+        third, batch, picked, drawn = (tables + 2) // 3, 160, [], []
         results = [
             holds_all("valid tables", lambda rng, number: holds_valid(program, rng, number, picked), third, seed),
             are_all_met("slots picked, and no entry", picked, [*SLOTS, "no entry"], third >= 200),
