@@ -3,15 +3,18 @@
 
 usage: tests/hostile.py [TABLES [LINES [SEED [PROGRAM]]]], by default 600 tables and 6000 lines by seed 1
 
-Tables are valid (the status and the lines are known), valid but for one fault that has a name (status 3), and damaged in
-some bytes (status 0, 3 or 4, and 3 where Python doesn't read them as JSON). Every run has to end by itself, with a status,
-standard output and standard error that belong together. The last part takes inputs of one shape in two sizes, and
-compares their processor times. The same words give the same cases. The last line is 'N passed, M failed', one for each
-kind of input.
+Tables are valid (the status and the lines are known, in each style), valid but for one fault that has a name (status 3),
+and damaged in some bytes (status 0, 3 or 4, and 3 where Python doesn't read them as JSON). Named faults come in turn, so
+that each is drawn; so do the words of valid tables, and the locales and words of the sample tables. Every run has to end
+by itself, with a status, standard output and standard error that belong together. The last part takes inputs of one shape
+in four sizes, and compares their processor times. The same words give the same cases. The last line is
+'N passed, M failed', one for each kind of input.
 """
+import collections
 import concurrent.futures
 import copy
 import json
+import math
 import os
 import random
 import re
@@ -28,13 +31,18 @@ ERRORS = {0: "", 2: USAGE, 3: "error: tables refused\n", 4: "error: no data\n"}
 NO_DECIMAL, TOO_LONG, OVERFLOW = "error: not a decimal", "error: too many digits", "error: overflow"
 LIMIT = 32768
 NUMBERS = ["5", "-1234567.25", "+0012", "-0", ".5", "1e3", "999999"]
-LOCALES = ["en", "fr", "A1-", "z" * 63]
+CARRIES = ["999500", "999499", "9949", "9950", "99950", "-99949", "1650", "+1750", "0.0995", "0.00994", ".0945", "9.95",
+           "0999500", "00099.5", "-999999.5", "0", "1", "1.0", "+1.50", "1000", "0001000", "1000000", "-2000000",
+           "1" + 18 * "0"]
+LOCALES = ["en", "en", "en", "fr", "A1-", "z" * 63]
 SYSTEMS = ["latn", "abc", "00000000"]
 LETTERS = list("aZ0 .,{}'\"\\/\u00e9\u202f\u0966\u4e07\U0001d7d8\x00\x1f\x7f\ufeff")
 STYLES = ["plain", "short", "long"]
 STRATEGIES = ["auto", "never", "always", "min2"]
+GROUPINGS = [[], *([strategy] for strategy in STRATEGIES)]
 CATEGORIES = ["zero", "one", "two", "few", "many", "other"]
 ELEMENTS = ["explicit_zero", "explicit_one", "zero", "one", "two", "few", "many"]
+SLOTS = [*ELEMENTS, "other"]
 
 
 # How the program is run.
@@ -54,12 +62,12 @@ class Program:
             return None, b"", b""
         return ended.returncode, ended.stdout, ended.stderr
 
-    def run_tables(self, number, text, words):
-        """The same with these bytes as tables, on a few numbers."""
+    def run_tables(self, number, text, words, lines=NUMBERS):
+        """The same with these bytes as tables, on these lines."""
         path = os.path.join(self.folder, f"{number}.json")
         with open(path, "wb") as file:
             file.write(text)
-        answer = self.run([path, *words], "".join(f"{line}\n" for line in NUMBERS).encode())
+        answer = self.run([path, *words], "".join(f"{line}\n" for line in lines).encode())
         os.unlink(path)
         return answer
 
@@ -72,7 +80,62 @@ def belongs_together(answer, statuses, count):
     return output.count(b"\n") >= count and output.endswith(b"\n") if status == 0 else not output
 
 
-# The model of a line.
+# The model of plural rules: docs/FORMATS.md, conditions of plural rules, what a condition means, operands of a number.
+
+
+def relation_of(text):
+    """The operand, the modulus or None, whether the list is denied, and the list as ranges; one space between tokens."""
+    operand, modulus, sign, items = re.fullmatch(r"([nivwftce]) (?:% ([0-9]+) )?(!?=) (.+)", text).groups()
+    ends = [item.split("..") for item in items.replace(" ", "").split(",")]
+    return operand, modulus and int(modulus), sign == "!=", [(int(each[0]), int(each[-1])) for each in ends]
+
+
+def condition_of(text):
+    """The alternatives of a condition, each a list of relations; what stands behind the first `@` isn't read."""
+    tokens = " ".join(re.findall(r"[a-z]+|[0-9]+|!=|\.\.|[%=,]", text.split("@")[0]))
+    return [[relation_of(each) for each in part.split(" and ")] for part in tokens.split(" or ")] if tokens else []
+
+
+def operands_of(whole, fraction):
+    """The operands of these digits, of which the first eighteen of the fraction are seen; the integer is kept whole."""
+    seen = fraction[:18]
+    bare = seen.rstrip("0")
+    return {"i": int(whole), "v": len(seen), "w": len(bare), "f": int(seen or "0"), "t": int(bare or "0"), "c": 0, "e": 0}
+
+
+def relation_holds(relation, operands):
+    """Whether a relation holds of operands."""
+    operand, modulus, is_denied, ranges = relation
+    number = operands["i" if operand == "n" else operand]
+    if operand in "ni":
+        number = number % 10**18 % modulus if modulus else number if number < 10**18 else None
+    elif modulus:
+        number %= modulus
+    if number is None or operand == "n" and operands["t"] != 0:
+        return is_denied
+    return any(low <= number <= high for low, high in ranges) != is_denied
+
+
+def category_of(rules, operands):
+    """The category of the first rule that holds."""
+    for category, alternatives in rules:
+        if not alternatives or any(all(relation_holds(each, operands) for each in part) for part in alternatives):
+            return category
+    return "other"
+
+
+def slot_of(elements, rules, operands):
+    """Which pattern a number picks: the one for exactly this number, that of its category, or that for all others."""
+    exact = ["explicit_zero", "explicit_one"][operands["i"]] if operands["i"] < 2 and operands["v"] == 0 else None
+    category = category_of(rules, operands)
+    return exact if exact in elements else category if category in elements else "other"
+
+
+# The model of a line: docs/FORMATS.md, decimals as text, compact tables, compact numbers.
+
+Formatter = collections.namedtuple("Formatter", "symbols digits strategy rules table", defaults=(None, None))
+# below the first type: the exponent is 0, and the pattern the place alone
+NO_ENTRY = [None, 0, {"other": "{0}"}]
 
 
 def numeral_of(line):
@@ -112,15 +175,6 @@ def between_affixes(sign, text, symbols):
     return before + text + behind
 
 
-def plain_answer(line, symbols, digits, strategy):
-    """What a line gives in the plain style."""
-    numeral = numeral_of(line)
-    if isinstance(numeral, str):
-        return numeral
-    sign, whole, fraction = numeral
-    return between_affixes(sign, unsigned_text(whole, fraction, symbols, digits, strategy), symbols)
-
-
 def rounded_half_even(number, power):
     """The multiple of ten to the power nearest to the number."""
     step = 10**power
@@ -128,33 +182,52 @@ def rounded_half_even(number, power):
     return (quotient + (2 * rest > step or 2 * rest == step and quotient % 2 == 1)) * step
 
 
-def entry_at(magnitude, types):
-    """The greatest type not above the magnitude, which is its exponent too; 0 without one."""
-    return max((each for each in types if each <= magnitude), default=0)
+def magnitude_of(number, scale):
+    """The power of the first digit that isn't zero of a number with so many fraction digits; 0 for zero."""
+    return len(str(number)) - 1 - scale if number else 0
 
 
-def short_answer(line, symbols, digits, strategy, types):
-    """What a line gives by patterns whose exponents are their types, all `{0}` and one letter."""
+def entry_at(table, magnitude):
+    """The last entry whose type isn't above the magnitude."""
+    return next((each for each in reversed(table) if each[0] <= magnitude), NO_ENTRY)
+
+
+def significand_of(whole, fraction, table):
+    """The entry that shows a number, and the digits of its significand before and behind the point; None on overflow."""
+    number, scale = int(whole + fraction), len(fraction)
+    magnitude = magnitude_of(number, scale)
+    entry = entry_at(table, magnitude)
+    power = entry[1] if magnitude > entry[1] else magnitude - 1
+    if power > -scale:
+        number = rounded_half_even(number, power + scale)
+    reached = magnitude_of(number, scale)
+    if reached >= LIMIT:
+        return None
+    shown = entry_at(table, reached)
+    upper = max(len(whole) - 1, reached) if shown is entry else reached
+    figures = str(number).rjust(max(upper, shown[1]) + 1 + scale, "0")
+    cut = len(figures) - scale - shown[1]
+    return shown, figures[:cut], figures[cut:].rstrip("0")
+
+
+def answer_of(line, formatter, picked):
+    """What a line gives; which slot its pattern has is noted."""
     numeral = numeral_of(line)
     if isinstance(numeral, str):
         return numeral
     sign, whole, fraction = numeral
-    number, scale = int(whole + fraction), len(fraction)
-    magnitude = len(str(number)) - 1 - scale if number else 0
-    exponent = entry_at(magnitude, types)
-    power = exponent if magnitude > exponent else magnitude - 1
-    if power > -scale:
-        number = rounded_half_even(number, power + scale)
-    reached = len(str(number)) - 1 - scale if number else 0
-    if reached >= LIMIT:
-        return OVERFLOW
-    shown = entry_at(reached, types)
-    upper = reached if shown != exponent else max(len(whole) - 1, reached)
-    figures = str(number).rjust(max(upper, shown) + 1 + scale, "0")
-    cut = len(figures) - scale - shown
-    before, behind = figures[:cut], figures[cut:].rstrip("0")
-    text = unsigned_text(before, behind, symbols, digits, strategy) + types.get(shown, "")
-    return between_affixes(sign, text, symbols)
+    pattern = "{0}"
+    if formatter.table is not None:
+        found = significand_of(whole, fraction, formatter.table)
+        if found is None:
+            return OVERFLOW
+        (_, _, elements), whole, fraction = found
+        slot = slot_of(elements, formatter.rules, operands_of(whole, fraction))
+        pattern = elements[slot]
+        picked.append("no entry" if elements is NO_ENTRY[2] else slot)
+    before, place, behind = pattern.partition("{0}")
+    text = unsigned_text(whole, fraction, formatter.symbols, formatter.digits, formatter.strategy) if place else ""
+    return between_affixes(sign, before + text + behind, formatter.symbols)
 
 
 # The model of tables.
@@ -171,9 +244,22 @@ def entry_asked(tables, key, locale, system):
     return (system and first_entry(entries, locale, system)) or first_entry(entries, locale, None)
 
 
-def data_of(tables, words):
-    """The symbols and the digits that these words ask for, or None where something is missing."""
+def kept_rows(entry):
+    """The rows of a compact table that are kept: first without those of numbers that aren't shortened, then all changes."""
+    rows, kept = entry["patterns"], []
+    while rows and rows[0][2] == entry.get("zero"):
+        rows = rows[1:]
+    for place, row in enumerate(rows):
+        before = {key: text for key, text in rows[place - 1][2].items() if key != "explicit_one"}
+        if place == 0 or row[2] != before:
+            kept.append(row)
+    return kept
+
+
+def formatter_of(tables, words):
+    """What these words ask for, or None where something is missing; compact numbers have `min2` by default."""
     locale, system, style = words[0], None if words[1] == "-" else words[1], words[2]
+    strategy = words[3] if len(words) > 3 else "auto" if style == "plain" else "min2"
     symbols = entry_asked(tables, "symbols", locale, system)
     if symbols is None:
         return None
@@ -181,11 +267,13 @@ def data_of(tables, words):
     digits = systems.get(system, systems.get(symbols["numsys"]))
     if digits is None:
         return None
-    if style != "plain" and not (
-        first_entry(tables.get("rules", []), locale, None) and entry_asked(tables, style, locale, system)
-    ):
+    if style == "plain":
+        return Formatter(symbols, digits, strategy)
+    rules, patterns = first_entry(tables.get("rules", []), locale, None), entry_asked(tables, style, locale, system)
+    if rules is None or patterns is None:
         return None
-    return symbols, digits
+    read = [(category, condition_of(text)) for category, text in rules["rules"]]
+    return Formatter(symbols, digits, strategy, read, kept_rows(patterns))
 
 
 # Valid tables.
@@ -199,18 +287,40 @@ def a_text(rng, longest=3):
 def a_pattern(rng):
     """A text with at most one place."""
     text = a_text(rng).replace("{", "(")
-    return text if rng.random() < 0.2 else text + "{0}" + a_text(rng).replace("{", "(")
+    return text if rng.random() < 0.1 else text + "{0}" + a_text(rng).replace("{", "(")
+
+
+def a_relation(rng):
+    """The tokens of a relation as languages have them: small values, and the last digits of a number."""
+    operand = rng.choice("nnniiiiivvwffttce")
+    modulus = rng.choice([None, None, None, 10, 10, 100, 100, 1000, 1000000, 7]) if operand in "nift" else None
+    highest = {"v": 2, "w": 2, "c": 6, "e": 6}.get(operand, {10: 9, 7: 6, 1000000: 1}.get(modulus, 20))
+    items = []
+    for _ in range(rng.choice([1, 1, 1, 2, 3])):
+        low = rng.randint(0, highest)
+        items += [",", str(low)] if rng.random() < 0.6 else [",", str(low), "..", str(rng.randint(max(0, low - 1), highest))]
+    return [operand, *(["%", str(modulus)] if modulus else []), rng.choice(["=", "=", "!="]), *items[1:]]
+
+
+def a_likely_condition(rng):
+    """A condition that some numbers meet and others don't; between its tokens spaces, tabs or nothing."""
+    tokens = a_relation(rng)
+    for _ in range(rng.choice([0, 0, 1, 1, 2])):
+        tokens += [rng.choice([" and ", " and ", " or "]), *a_relation(rng)]
+    return rng.choice([" ", " ", "", "\t"]).join(tokens) + rng.choice(["", "", " @integer 1, 21", "@x"])
 
 
 def a_condition(rng):
     """A condition of a plural rule."""
+    if rng.random() < 0.8:
+        return a_likely_condition(rng)
     relations = []
     for _ in range(rng.randint(1, 4)):
         modulus = f" % {rng.randint(1, 10 ** rng.randint(1, 17))}" if rng.random() < 0.4 else ""
         items = [str(rng.randint(0, 20)) + (f"..{rng.randint(0, 9)}" if rng.random() < 0.3 else "") for _ in range(3)]
         relations.append(f"{rng.choice('nivwftce')}{modulus} {rng.choice(['=', '!='])} {','.join(items)}")
         relations.append(rng.choice([" and ", " or "]))
-    return rng.choice(["", "\t"]) + "".join(relations[:-1]) + rng.choice(["", " @integer 1"])
+    return rng.choice(["", "\t"]) + "".join(relations[:-1]) + rng.choice(["", " @integer 1"]) if rng.random() < 0.9 else ""
 
 
 def with_system(rng, entry):
@@ -229,35 +339,56 @@ def some_symbols(rng):
 
 def some_elements(rng):
     """One pattern for each of some categories."""
-    keys = ["other"] + [key for key in ELEMENTS if rng.random() < 0.2]
+    keys = ["other"] + [key for key in ELEMENTS if rng.random() < 0.5]
     return {key: a_pattern(rng) for key in keys}
 
 
-def some_patterns(rng):
-    """Compact patterns of a locale: rising types, and exponents that don't fall."""
-    rows, exponent = [], 0
-    for row in sorted(rng.sample(range(30), rng.randint(0, 6))):
+def some_types(rng):
+    """Types and their exponents: in thousands, in ten thousands, as lakhs and crores, or any that rise and don't fall."""
+    shape = rng.randrange(4)
+    if shape < 3:
+        exponents = [0, 0, 0] + [
+            [power // 3 * 3 for power in range(3, 15)],
+            [0] + [power // 4 * 4 for power in range(4, 16)],
+            [3, 3, 5, 5] + [7] * 8,
+        ][shape]
+        return [(row, exponent) for row, exponent in enumerate(exponents) if row >= 3 and rng.random() < 0.8]
+    types, exponent = [], 0
+    for row in sorted(rng.sample(range(30), rng.randint(0, 6)) + [0] * rng.randint(0, 1)):
         exponent = rng.randint(max(exponent, row - 15), row)
-        rows.append([row, exponent, some_elements(rng)])
+        types.append((row, exponent))
+    return sorted(dict(types).items())
+
+
+def some_patterns(rng):
+    """Compact patterns of a locale. Types have patterns of their own, or mostly those of the type before."""
+    rows, are_own = [], rng.random() < 0.6
+    for row, exponent in some_types(rng):
+        elements = some_elements(rng)
+        if rows and not are_own and (rows[-1][1] == exponent or rng.random() < 0.1):
+            elements = {key: text for key, text in rows[-1][2].items() if key != "explicit_one" or rng.random() < 0.2}
+        rows.append([row, exponent, elements])
     entry = with_system(rng, {"locale": rng.choice(LOCALES), "patterns": rows})
-    return entry | ({"zero": some_elements(rng)} if rng.random() < 0.2 else {})
+    if rng.random() < 0.3:
+        entry["zero"] = dict(rows[0][2]) if rows and rng.random() < 0.7 else some_elements(rng)
+    return entry
 
 
 def some_rules(rng):
     """Plural rules of a locale."""
-    count = rng.randint(0, 3)
+    count = rng.randint(0, 4)
     return {"locale": rng.choice(LOCALES), "rules": [[rng.choice(CATEGORIES), a_condition(rng)] for _ in range(count)]}
 
 
 def valid_tables(rng):
     """Tables that aren't refused."""
     tables = {
-        "symbols": [some_symbols(rng) for _ in range(rng.randint(1, 6))],
+        "symbols": [some_symbols(rng) for _ in range(rng.choice([1, 3, 5, 7]))],
         "digits": [[rng.choice(SYSTEMS), "".join(rng.choice(LETTERS) for _ in range(10))] for _ in range(5)],
     }
     for key, make in [("rules", some_rules), ("short", some_patterns), ("long", some_patterns)]:
-        if rng.random() < 0.9:
-            tables[key] = [make(rng) for _ in range(rng.randint(1, 5))]
+        if rng.random() < 0.95:
+            tables[key] = [make(rng) for _ in range(rng.choice([1, 4, 6, 8]))]
     if rng.random() < 0.3:
         tables[a_text(rng) + "?"] = rng.choice([None, True, [], {"": -1}, 2**64 - 1, -(2**63)])
     return tables
@@ -271,13 +402,26 @@ def written(rng, tables):
     return json.dumps(ordered, ensure_ascii=rng.random() < 0.5, indent=rng.choice([None, 1])).encode()
 
 
-def some_words(rng, tables):
-    """The words behind the path, mostly of a locale that the tables have."""
-    strategy = [rng.choice(STRATEGIES)] if rng.random() < 0.5 else []
-    style = rng.choice(STYLES)
-    has = [each["locale"] for key in ["symbols", "rules", style] for each in tables.get(key, [])]
-    locale = max(set(has), key=lambda each: (has.count(each), each)) if rng.random() < 0.8 else rng.choice(LOCALES)
-    return [locale, rng.choice(["-", *SYSTEMS]), style, *strategy]
+def some_words(rng, tables, number):
+    """The words behind the path: style and grouping in turn, mostly a locale and a system for which the tables have data."""
+    style, grouping = STYLES[number % 3], GROUPINGS[number // 3 % 5]
+    words = [[locale, system, style, *grouping] for locale in LOCALES for system in ["-", *SYSTEMS]]
+    served = [each for each in words if formatter_of(tables, each)]
+    return rng.choice(served if served and rng.random() < 0.9 else words)
+
+
+def a_number(rng):
+    """A decimal: few digits and zeros, digits near a carry or a tie, or many; its point anywhere, or none."""
+    digits = rng.choice([
+        str(rng.randint(0, 130)) + "0" * rng.randint(0, 16),
+        "9" * rng.randint(1, 6) + rng.choice(["4", "5", "6", "49", "50", "51", "4999", "5001"]) + "0" * rng.randint(0, 12),
+        str(rng.randint(1, 999)) + "5" + "0" * rng.randint(0, 12),
+        "".join(rng.choice("0123456789") for _ in range(rng.randint(1, 24))),
+    ])
+    place = rng.randint(0, len(digits))
+    written = rng.choice([digits, digits, digits[:place] + "." + digits[place:], "0." + "0" * rng.randint(0, 20) + digits])
+    padding = "0" * rng.randint(1, 7) if rng.random() < 0.15 else ""
+    return rng.choice(["", "", "", "-", "+"]) + padding + written + ("0" if written.endswith(".") else "")
 
 
 # Faults of tables. Each is put into valid ones, at a place that `first` of them has.
@@ -335,9 +479,11 @@ BYTE_FAULTS = [
 ]
 
 
-def faulty(rng, tables):
-    """The bytes of these tables with one fault."""
-    fault = rng.randrange(len(FAULTS) + len(BYTE_FAULTS))
+NAMED_FAULTS = len(FAULTS) + len(BYTE_FAULTS)
+
+
+def faulty(rng, tables, fault):
+    """The bytes of these tables with the fault of this number."""
     if fault < len(FAULTS):
         tables = copy.deepcopy(tables)
         FAULTS[fault](tables)
@@ -376,31 +522,33 @@ def is_read_by_python(text):
 # Kinds of input. Each answers whether a case of its own holds, and what to show where it doesn't.
 
 
-def holds_valid(program, rng, number):
-    """Valid tables: 0 or 4, and in the plain style the lines."""
+def holds_valid(program, rng, number, picked):
+    """Valid tables: 4, or 0 and the lines."""
     tables = valid_tables(rng)
-    words, text = some_words(rng, tables), written(rng, tables)
-    data = data_of(tables, words)
-    answer = program.run_tables(number, text, words)
-    holds = belongs_together(answer, [4] if data is None else [0], len(NUMBERS))
-    if holds and data is not None and words[2] == "plain":
-        lines = [plain_answer(line.encode(), *data, words[3] if len(words) > 3 else "auto") for line in NUMBERS]
-        holds = answer[1].decode() == "".join(f"{line}\n" for line in lines)
-    return holds, (words, text, answer)
+    words, text = some_words(rng, tables, number), written(rng, tables)
+    lines = NUMBERS + CARRIES + [a_number(rng) for _ in range(40)]
+    formatter = formatter_of(tables, words)
+    answer = program.run_tables(number, text, words, lines)
+    if formatter is None:
+        return belongs_together(answer, [4], 0), (words, text, answer)
+    wanted = "".join(f"{answer_of(line.encode(), formatter, picked)}\n" for line in lines)
+    return answer == (0, wanted.encode(), b""), (words, text, answer)
 
 
-def holds_faulty(program, rng, number):
-    """Tables with one fault: 3."""
+def holds_faulty(program, rng, number, drawn):
+    """Tables with one fault, each in its turn: 3."""
+    fault = number % NAMED_FAULTS
     tables = valid_tables(rng)
-    words, text = some_words(rng, tables), faulty(rng, tables)
+    words, text = some_words(rng, tables, number), faulty(rng, tables, fault)
     answer = program.run_tables(number, text, words)
+    drawn.append(fault)
     return belongs_together(answer, [3], 0), (words, text, answer)
 
 
 def holds_damaged(program, rng, number):
     """Tables with damaged bytes: 0, 3 or 4, and 3 where they are no JSON."""
     tables = valid_tables(rng)
-    words, text = some_words(rng, tables), damaged(rng, written(rng, tables))
+    words, text = some_words(rng, tables, number), damaged(rng, written(rng, tables))
     answer = program.run_tables(number, text, words)
     statuses = [0, 3, 4] if is_read_by_python(text) else [3]
     return belongs_together(answer, statuses, len(NUMBERS)), (words, text, answer)
@@ -429,6 +577,8 @@ def holds_words(program, rng, number):
 
 def a_line(rng):
     """A line without its end: a decimal, nearly one, or bytes."""
+    if rng.random() < 0.4:
+        return a_number(rng).encode()
     digits = "".join(rng.choice("0123456789099") for _ in range(rng.choice([1, 2, 3, 4, 6, 7, 8, 13, 20, 40])))
     place = rng.randint(0, len(digits))
     line = rng.choice(["", "", "-", "+"]) + rng.choice([digits, digits[:place] + "." + digits[place:]])
@@ -446,31 +596,22 @@ def a_long_line(rng):
     return (rng.choice(["", "-"]) + rng.choice(["", ".", "5."]) + digits + rng.choice(["", "", "", "x"])).encode()
 
 
-FORMS = [([], "en"), (["en", "-", "plain", "min2"], "en"), (["bn", "-", "plain"], "bn"), (["ar-EG", "-", "plain"], "ar-EG"),
-         (["fr", "-", "plain", "never"], "fr"), (["en", "-", "short"], "en"), (["en", "-", "short", "always"], "en")]
-SHORT = {3: "K", 6: "M", 9: "B", 12: "T"}
-
-
-def line_answer(sample, words, line):
-    """What a line gives by the sample tables."""
-    tables_words = words or ["en", "-", "plain"]
-    symbols, digits = data_of(sample, tables_words)
-    style, default = tables_words[2], "auto" if tables_words[2] == "plain" else "min2"
-    strategy = tables_words[3] if len(tables_words) > 3 else default
-    line = line[:-1] if line.endswith(b"\r") else line
-    if style == "short":
-        return short_answer(line, symbols, digits, strategy, SHORT)
-    return plain_answer(line, symbols, digits, strategy)
+PLAIN = ["bn - plain", "ar-EG - plain", "ar-EG latn plain", "es-MX - plain", "es-MX beng plain", "th - plain",
+         "ja thai plain", "fr - plain"]
+COMPACT = ["en - short", "en beng short", "en - long", "fr - long", "bn - long", "ja - long", "fr arab long"]
+FORMS = [[]] + [form.split() + grouping for grouping in GROUPINGS for form in ["en - plain", *COMPACT]]
+FORMS += [form.split() + GROUPINGS[place % 5] for place, form in enumerate(PLAIN)]
 
 
 def holds_lines(program, rng, number, sample, count):
-    """So many lines at once: each has its answer."""
-    words = FORMS[number % len(FORMS)][0]
+    """So many lines at once by the sample tables: each has its answer."""
+    words = FORMS[number % len(FORMS)]
+    formatter = formatter_of(sample, words or ["en", "-", "plain"])
     lines = [a_line(rng) for _ in range(count)] + [a_long_line(rng)]
     rng.shuffle(lines)
     ended = [line + rng.choice([b"", b"", b"", b"\r"]) for line in lines]
     given = b"\n".join(ended) + rng.choice([b"", b"\n"])
-    wanted = [line_answer(sample, words, line) for line in ended]
+    wanted = [answer_of(line[:-1] if line.endswith(b"\r") else line, formatter, []) for line in ended]
     if not ended[-1] and not given.endswith(b"\n"):
         wanted.pop()
     if given.endswith(b"\n") and not ended[-1]:
@@ -487,56 +628,62 @@ LAST = ENTRY | {"locale": "en"}
 DIGITS = [["latn", "0123456789"]]
 
 
-def tables_by(size, **more):
+SIZES = [2**18, 2**20, 2**22, 2**24]
+
+
+def tables_by(**more):
     """Tables with symbols of `en`, and more."""
     return json.dumps({"symbols": [LAST], "digits": DIGITS} | more).encode()
 
 
 def shapes(size):
-    """Names, tables (None: no words), words and lines of about so many bytes."""
+    """Names, statuses, tables (None: no words), words and lines of about so many bytes, one after another."""
     few, plain, short = b"5\n", ["en", "-", "plain"], ["en", "-", "short"]
-    rules = [{"locale": "en", "rules": [["one", " and ".join(["i = 1"] * (size // 10))]]}]
+    no_rules, rule = [{"locale": "en", "rules": []}], ["one", "i = 1"]
     table = [{"locale": "en", "patterns": [[3, 3, {"other": "{0}K"}]]}]
-    return [
-        ("digits in one line", None, [], b"9" * size),
-        ("line feeds", None, [], b"\n" * size),
-        ("longest numbers", None, [], (b"9" * LIMIT + b"\n") * (size // LIMIT)),
-        ("longest short numbers", tables_by(size, rules=[{"locale": "en", "rules": []}], short=table), short,
-         (b"1" * LIMIT + b"\n") * (size // LIMIT)),
-        ("entries", json.dumps({"symbols": [ENTRY] * (size // 110) + [LAST], "digits": DIGITS}).encode(), plain, few),
-        ("unknown keys", tables_by(size, **{str(key): key for key in range(size // 15)}), plain, few),
-        ("one key again and again", b"{" + b'"x":1,' * (size // 6) + tables_by(size)[1:], plain, few),
-        ("a long text", tables_by(size, x="\u00e9" * (size // 6)), plain, few),
-        ("open brackets", b"[" * size, plain, few),
-        ("a long number", b'{"x":' + b"9" * size + b"}", plain, few),
-        ("a long condition", tables_by(size, rules=rules, short=table), short, few),
-        ("many rules", tables_by(size, rules=[{"locale": "en", "rules": [["one", "i = 1"]] * (size // 16)}], short=table),
-         short, few),
-        ("many compact tables", tables_by(size, rules=[{"locale": "en", "rules": []}], short=[
-            {"locale": "a", "patterns": [[3, 3, {"other": "{0}K"}]]}] * (size // 60) + table), short, few),
-    ]
+    other = {"locale": "a", "patterns": [[3, 3, {"other": "{0}K"}]]}
+    yield "digits in one line", 0, None, [], b"9" * size
+    yield "line feeds", 0, None, [], b"\n" * size
+    yield "longest numbers", 0, None, [], (b"9" * LIMIT + b"\n") * (size // LIMIT)
+    yield "longest short numbers", 0, tables_by(rules=no_rules, short=table), short, (b"1" * LIMIT + b"\n") * (size // LIMIT)
+    yield "entries", 0, json.dumps({"symbols": [ENTRY] * (size // 110) + [LAST], "digits": DIGITS}).encode(), plain, few
+    yield "unknown keys", 0, tables_by(**{str(key): key for key in range(size // 15)}), plain, few
+    yield "one key again and again", 0, b"{" + b'"x":1,' * (size // 6) + tables_by()[1:], plain, few
+    yield "a long text", 0, tables_by(x="\u00e9" * (size // 6)), plain, few
+    yield "open brackets", 3, b"[" * size, plain, few
+    yield "a long number", 3, b'{"x":' + b"9" * size + b"}", plain, few
+    condition = " and ".join(["i = 1"] * (size // 10))
+    yield "a long condition", 0, tables_by(rules=[{"locale": "en", "rules": [["one", condition]]}], short=table), short, few
+    yield "many rules", 0, tables_by(rules=[{"locale": "en", "rules": [rule] * (size // 16)}], short=table), short, few
+    yield "many compact tables", 0, tables_by(rules=no_rules, short=[other] * (size // 60) + table), short, few
 
 
-def seconds_of(program, text, words, given):
-    """The processor seconds of a run."""
-    before = resource.getrusage(resource.RUSAGE_CHILDREN)
-    if text is None:
-        program.run(words, given)
-    else:
-        path = os.path.join(program.folder, "shape.json")
+def seconds_of(program, status, text, words, given):
+    """The processor seconds of a run whose lines come from a file, in whole blocks; infinite where it doesn't end well."""
+    paths = [os.path.join(program.folder, name) for name in ["shape.json", "shape.txt"]]
+    for path, content in zip(paths, [text, given]):
         with open(path, "wb") as file:
-            file.write(text)
-        program.run([path, *words], given)
+            file.write(content or b"")
+    before = resource.getrusage(resource.RUSAGE_CHILDREN)
+    with open(paths[1], "rb") as lines:
+        command = [program.path, *([] if text is None else [paths[0], *words])]
+        try:
+            ended = subprocess.run(command, stdin=lines, stdout=subprocess.DEVNULL, stderr=subprocess.DEVNULL, timeout=30)
+        except subprocess.TimeoutExpired:
+            return math.inf
     after = resource.getrusage(resource.RUSAGE_CHILDREN)
-    return after.ru_utime + after.ru_stime - before.ru_utime - before.ru_stime
+    seconds = after.ru_utime + after.ru_stime - before.ru_utime - before.ru_stime
+    return seconds if ended.returncode == status else math.inf
 
 
-def is_linear(program, small, large, times):
-    """Whether the larger input takes at most `times` the processor time of the smaller, three times that being allowed."""
-    least = min(seconds_of(program, *small[1:]) for _ in range(3))
-    most = min(seconds_of(program, *large[1:]) for _ in range(2))
-    holds = most <= 3 * times * least + 0.05
-    print(f"hostile: {small[0]}: {least:.3f} s, {times} times as long {most:.3f} s{'' if holds else ': NOT LINEAR'}")
+def is_linear(program, inputs):
+    """Whether inputs take no more than three times as much processor time as they are longer than the first."""
+    seconds = [min(seconds_of(program, *each[1:]) for _ in range(times)) for each, times in zip(inputs, [3, 2, 2, 2])]
+    lengths = [len(text or b"") + len(given) for _, _, text, _, given in inputs]
+    most = [3 * length / lengths[0] * seconds[0] + 0.05 for length in lengths]
+    holds = all(took <= bound for took, bound in zip(seconds, most))
+    shown = ", ".join(f"{length / 2**20:.2f} MiB {took:.3f} s" for length, took in zip(lengths, seconds))
+    print(f"hostile: {inputs[0][0]}: {shown}{'' if holds else ': NOT LINEAR'}", flush=True)
     return holds
 
 
@@ -561,6 +708,14 @@ def holds_all(name, holds, count, seed):
     return missed == 0
 
 
+def are_all_met(name, noted, kinds, are_many=True):
+    """Whether each of these kinds was noted, which few cases needn't show."""
+    counts = collections.Counter(noted)
+    met, rarest = sum(counts[kind] > 0 for kind in kinds), min(counts[kind] for kind in kinds)
+    print(f"hostile: {name}: {met} of {len(kinds)}, the rarest {rarest} times", flush=True)
+    return met == len(kinds) or not are_many
+
+
 def main():
     words = sys.argv[1:] + [None] * 4
     tables, lines, seed = int(words[0] or 600), int(words[1] or 6000), int(words[2] or 1)
@@ -569,17 +724,20 @@ def main():
         sample = json.load(file)
     with tempfile.TemporaryDirectory() as folder:
         program = Program(path, folder)
-        third, batch = (tables + 2) // 3, 500
+        third, batch, picked, drawn = (tables + 2) // 3, 160, [], []
         results = [
-            holds_all("valid tables", lambda rng, number: holds_valid(program, rng, number), third, seed),
-            holds_all("tables with one fault", lambda rng, number: holds_faulty(program, rng, number), third, seed),
+            holds_all("valid tables", lambda rng, number: holds_valid(program, rng, number, picked), third, seed),
+            are_all_met("slots picked, and no entry", picked, [*SLOTS, "no entry"], third >= 200),
+            holds_all("tables with one fault", lambda rng, number: holds_faulty(program, rng, number, drawn),
+                      max(third, NAMED_FAULTS), seed),
+            are_all_met("named faults drawn", drawn, range(NAMED_FAULTS)),
             holds_all("damaged tables", lambda rng, number: holds_damaged(program, rng, number), third, seed),
             holds_all("words", lambda rng, number: holds_words(program, rng, number), (tables + 9) // 10, seed),
             holds_all(f"{batch + 1} lines at a time", lambda rng, number: holds_lines(program, rng, number, sample, batch),
-                      (lines + batch - 1) // batch, seed),
+                      max((lines + batch - 1) // batch, len(FORMS)), seed),
         ]
-        for small, large in zip(shapes(2**18), shapes(2**21)):
-            results.append(is_linear(program, small, large, 8))
+        for inputs in zip(*(shapes(size) for size in SIZES)):
+            results.append(is_linear(program, inputs))
     print(f"{sum(results)} passed, {len(results) - sum(results)} failed")
     return 0 if all(results) else 1
 
