@@ -5,9 +5,7 @@ ghost use Rattle.std.specs.Prelude.{◌<◌};
 
 use crate::symbol_bytes::refused_allocation;
 use crate::table_bytes::{JAPANESE, ONE_ENTRY};
-use crate::tables::{
-    Elements, LONG_JAPANESE, Map, Row, Table, copy_of, made, pattern, table_of,
-};
+use crate::tables::{Elements, LONG_JAPANESE, Map, Row, Table, copy_of, made, pattern, table_of};
 use icu_base::{Pattern, PatternError, PluralElements, SinglePlaceholder};
 use icu_decimal_data::{CompactError, CompactPatterns, CompactView, EntryView};
 use std::alloc::Global;

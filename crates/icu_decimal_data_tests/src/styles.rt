@@ -26,8 +26,14 @@ fn is_styled<T: Display>(alloc: Global, value: &T, want: &str) -> bool {
 }
 
 const TABLES: [(CompactError, &str); 5] = [
-    (CompactError::ExponentsFall, "Compact exponents should be nondecreasing"),
-    (CompactError::ExponentAboveType, "a compact exponent is above its type"),
+    (
+        CompactError::ExponentsFall,
+        "Compact exponents should be nondecreasing",
+    ),
+    (
+        CompactError::ExponentAboveType,
+        "a compact exponent is above its type",
+    ),
     (CompactError::TooManyZeros, "Pattern has too many zeros"),
     (
         CompactError::TooLarge,
@@ -44,8 +50,14 @@ fn displays_errors_of_tables_under_every_style(rt: HostRuntime) {
 }
 
 const SYMBOLS: [(SymbolsError, &str); 3] = [
-    (SymbolsError::TooLarge, "the symbols are more than 255 bytes together"),
-    (SymbolsError::BadNumberingSystem, "the symbols name no numbering system"),
+    (
+        SymbolsError::TooLarge,
+        "the symbols are more than 255 bytes together",
+    ),
+    (
+        SymbolsError::BadNumberingSystem,
+        "the symbols name no numbering system",
+    ),
     (SymbolsError::OutOfMemory, "out of memory"),
 ];
 

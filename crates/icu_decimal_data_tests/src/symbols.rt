@@ -348,9 +348,7 @@ fn is_read_again(bytes: &[u8]) -> bool {
 fn is_copied(alloc: Global, symbols: &DecimalSymbols) -> bool {
     match copied(alloc, symbols) {
         Ok(copy) => {
-            copy == *symbols
-                && shows_texts(&copy, FULL)
-                && is_read_again(copy.strings.as_bytes())
+            copy == *symbols && shows_texts(&copy, FULL) && is_read_again(copy.strings.as_bytes())
         }
         Err(_) => false,
     }

@@ -224,29 +224,14 @@ const NOT_FOUND: DataError = DataError {
 /// What is asked for, and why it isn't made, with the provider's text.
 const REFUSED: [(Style, &str, Option<&str>, DataError); 9] = [
     (Style::Plain, "xx", None, NOT_FOUND),
-    (
-        Style::Plain,
-        "xx",
-        Some("latn"),
-        NOT_FOUND,
-    ),
+    (Style::Plain, "xx", Some("latn"), NOT_FOUND),
     (Style::Plain, "en", Some("nosymb"), KEPT_AWAY),
     (Style::Plain, "en", Some("nodigits"), KEPT_AWAY),
     (Style::Short, "en", Some("nodigits"), KEPT_AWAY),
     (Style::Short, "en", Some("nopatt"), KEPT_AWAY),
-    (
-        Style::Short,
-        "ar-EG",
-        None,
-        NOT_FOUND,
-    ),
+    (Style::Short, "ar-EG", None, NOT_FOUND),
     (Style::Long, "en", Some("nosymb"), KEPT_AWAY),
-    (
-        Style::Long,
-        "th",
-        Some("thai"),
-        NOT_FOUND,
-    ),
+    (Style::Long, "th", Some("thai"), NOT_FOUND),
 ];
 
 #[test]

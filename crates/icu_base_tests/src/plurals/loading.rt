@@ -66,11 +66,7 @@ fn preferences(locale: &str) -> PluralRulesPreferences {
 }
 
 /// The rules for a locale, asked for again where memory was wanting.
-fn loaded(
-    alloc: Global,
-    provider: &FrenchRules,
-    locale: &str,
-) -> Result<PluralRules, DataError> {
+fn loaded(alloc: Global, provider: &FrenchRules, locale: &str) -> Result<PluralRules, DataError> {
     match PluralRules::try_new_cardinal_unstable(alloc, provider, preferences(locale)) {
         Ok(rules) => Ok(rules),
         Err(_) => PluralRules::try_new_cardinal_unstable(alloc, provider, preferences(locale)),
@@ -136,7 +132,10 @@ fn answers_the_refusal_of_the_provider(rt: HostRuntime) {
         DataErrorKind::OutOfMemory,
     ] {
         assert!(rt; is_refused(&rt, rt.alloc(), "fr-CA", kind, ""), "{kind}");
-        assert!(rt; is_refused(&rt, rt.alloc(), "fr-CA", kind, "not French"), "{kind}");
+        assert!(rt;
+            is_refused(&rt, rt.alloc(), "fr-CA", kind, "not French"),
+            "{kind}"
+        );
     }
 }
 
