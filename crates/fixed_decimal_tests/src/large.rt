@@ -221,12 +221,5 @@ fn scales_in_place(alloc: Global) -> bool {
 #[test]
 fn scales_to_all_digits(rt: HostRuntime) {
     assert!(rt; scales_in_place(rt.alloc()));
-    assert!(rt;
-        is_ones(
-            rt.alloc(),
-            &scaled_ones(rt.alloc(), MOST, -32768),
-            0,
-            MOST
-        )
-    );
+    assert!(rt; is_ones(rt.alloc(), &scaled_ones(rt.alloc(), MOST, -32768), 0, MOST));
 }

@@ -8,7 +8,10 @@ use std::process::Abort;
 use std::str;
 
 /// Rounds, once more where memory was refused.
-pub(crate) fn rounded(number: UnsignedDecimal, power: i16) -> Result<UnsignedDecimal, DecimalError> {
+pub(crate) fn rounded(
+    number: UnsignedDecimal,
+    power: i16,
+) -> Result<UnsignedDecimal, DecimalError> {
     match number.rounded(power) {
         Ok(number) => Ok(number),
         Err((number, DecimalError::OutOfMemory)) => match number.rounded(power) {

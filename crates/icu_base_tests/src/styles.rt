@@ -28,7 +28,10 @@ fn is_styled<T: Display>(alloc: Global, value: &T, want: &str) -> bool {
 }
 
 const PATTERNS: [(PatternError, &str); 2] = [
-    (PatternError::BadPlace, "the place does not fit the literal of the pattern"),
+    (
+        PatternError::BadPlace,
+        "the place does not fit the literal of the pattern",
+    ),
     (PatternError::OutOfMemory, "out of memory"),
 ];
 
@@ -40,7 +43,10 @@ fn displays_errors_of_patterns_under_every_style(rt: HostRuntime) {
 }
 
 const RULES: [(RulesError, &str); 2] = [
-    (RulesError::BadRule { rule: 1, byte: 8 }, "rule 1 isn't a condition, by its byte 8"),
+    (
+        RulesError::BadRule { rule: 1, byte: 8 },
+        "rule 1 isn't a condition, by its byte 8",
+    ),
     (RulesError::OutOfMemory, "out of memory"),
 ];
 
@@ -52,7 +58,10 @@ fn displays_errors_of_rules_under_every_style(rt: HostRuntime) {
 }
 
 const KINDS: [(DataErrorKind, &str); 5] = [
-    (DataErrorKind::IdentifierNotFound, "no data by this identifier"),
+    (
+        DataErrorKind::IdentifierNotFound,
+        "no data by this identifier",
+    ),
     (DataErrorKind::MarkerNotFound, "no data of this marker"),
     (DataErrorKind::InvalidRequest, "not a request for data"),
     (DataErrorKind::Custom, "the provider failed"),

@@ -222,13 +222,11 @@ fn push_type(text: &mut Vec<u8>, log10_type: usize) -> Result<(), AllocError> {
     push_number(text, log10_type)?;
     text.push(b',')?;
     push_number(text, log10_type)?;
-    text.extend_from_slice(
-        if log10_type % 2 == 0 {
-            b",{\"other\":\"a\"}]"
-        } else {
-            b",{\"other\":\"b\"}]"
-        },
-    )
+    text.extend_from_slice(if log10_type % 2 == 0 {
+        b",{\"other\":\"a\"}]"
+    } else {
+        b",{\"other\":\"b\"}]"
+    })
 }
 
 /// The patterns of every type.

@@ -42,12 +42,27 @@ const FAULTS: [(EntryFault, &str); 10] = [
     (EntryFault::BadLocale, "bad locale"),
     (EntryFault::BadNumberingSystem, "bad numbering system"),
     (EntryFault::BadPlace, "a pattern has more than one place"),
-    (EntryFault::BadRule { rule: 1, byte: 8 }, "rule 1 isn't a condition, by its byte 8"),
-    (EntryFault::SymbolsTooLarge, "the symbols are more than 255 bytes together"),
-    (EntryFault::BadSymbolsNumberingSystem, "the symbols name no numbering system"),
+    (
+        EntryFault::BadRule { rule: 1, byte: 8 },
+        "rule 1 isn't a condition, by its byte 8",
+    ),
+    (
+        EntryFault::SymbolsTooLarge,
+        "the symbols are more than 255 bytes together",
+    ),
+    (
+        EntryFault::BadSymbolsNumberingSystem,
+        "the symbols name no numbering system",
+    ),
     (EntryFault::ExponentsFall, "compact exponents fall"),
-    (EntryFault::ExponentAboveType, "a compact exponent is above its type"),
-    (EntryFault::TooManyZeros, "a compact type is more than 15 above its exponent"),
+    (
+        EntryFault::ExponentAboveType,
+        "a compact exponent is above its type",
+    ),
+    (
+        EntryFault::TooManyZeros,
+        "a compact type is more than 15 above its exponent",
+    ),
     (
         EntryFault::PatternsTooLarge,
         "the literals of the compact patterns are more than 65535 bytes together",
@@ -65,7 +80,10 @@ const ERRORS: [(TableError, &str); 5] = [
     (TableError::NotJson, "not JSON"),
     (TableError::Float, "a number that is no 64-bit whole number"),
     (TableError::Missing(Key::Digits), "`digits` is missing"),
-    (TableError::WrongKind(Key::Sizes), "`sizes` has the wrong kind"),
+    (
+        TableError::WrongKind(Key::Sizes),
+        "`sizes` has the wrong kind",
+    ),
     (TableError::OutOfMemory, "out of memory"),
 ];
 

@@ -6,7 +6,8 @@ use icu_tables::Tables;
 use std::alloc::{AllocError, Global};
 use std::str;
 
-const BEFORE_GROUP: &[u8] = b"{\"symbols\":[{\"locale\":\"en\",\"minus\":[\"-\",\"\"],\"plus\":[\"+\",\"\"],\"decimal\":\".\",\"group\":\"";
+const BEFORE_GROUP: &[u8] =
+    b"{\"symbols\":[{\"locale\":\"en\",\"minus\":[\"-\",\"\"],\"plus\":[\"+\",\"\"],\"decimal\":\".\",\"group\":\"";
 
 const BEFORE_SHORT: &[u8] = b"\",\"numsys\":\"latn\",\"sizes\":[3,3,1]}],\
 \"digits\":[[\"latn\",\"0123456789\"]],\
@@ -39,13 +40,11 @@ fn push_types(text: &mut Vec<u8>) -> Result<(), AllocError> {
         push_number(text, log10_type)?;
         text.push(b',')?;
         push_number(text, log10_type)?;
-        text.extend_from_slice(
-            if log10_type % 2 == 0 {
-                b",{\"many\":\"{0} even\",\"other\":\"{0}e\"}]"
-            } else {
-                b",{\"many\":\"{0} odd\",\"other\":\"{0}o\"}]"
-            },
-        )?;
+        text.extend_from_slice(if log10_type % 2 == 0 {
+            b",{\"many\":\"{0} even\",\"other\":\"{0}e\"}]"
+        } else {
+            b",{\"many\":\"{0} odd\",\"other\":\"{0}o\"}]"
+        })?;
     }
     Ok(())
 }

@@ -93,10 +93,7 @@ const PLAIN: [(&str, Shown, Marked); 6] = [
     (
         "en",
         ("-5", EXCEPT_ZERO),
-        (
-            "-5",
-            &[(0, 1, parts::MINUS_SIGN), (1, 2, parts::INTEGER)],
-        ),
+        ("-5", &[(0, 1, parts::MINUS_SIGN), (1, 2, parts::INTEGER)]),
     ),
     ("en", ("-0", EXCEPT_ZERO), ("0", &[(0, 1, parts::INTEGER)])),
     ("en", ("+0", EXCEPT_ZERO), ("0", &[(0, 1, parts::INTEGER)])),
@@ -176,9 +173,7 @@ fn marks_given_once(alloc: Global, want: Marked) -> bool {
         compact(alloc, SHORT_ENGLISH),
         Decimal::try_from_str(alloc, "2.5"),
     ) {
-        (Some(formatter), Ok(decimal)) => {
-            marks_given_decimal(alloc, &formatter, &decimal, want)
-        }
+        (Some(formatter), Ok(decimal)) => { marks_given_decimal(alloc, &formatter, &decimal, want) }
         _ => false,
     }
 }

@@ -30,7 +30,12 @@ fn sink(alloc: Global, limit: Option<usize>) -> PartsText {
 }
 
 /// Whether a sink holds this text and these parts.
-pub(crate) fn holds(alloc: Global, sink: &PartsText, text: &str, parts: &[(usize, usize, Part)]) -> bool {
+pub(crate) fn holds(
+    alloc: Global,
+    sink: &PartsText,
+    text: &str,
+    parts: &[(usize, usize, Part)],
+) -> bool {
     match sink.spans(alloc) {
         Ok(spans) => sink.text() == text && spans.as_slice() == parts,
         Err(_) => false,

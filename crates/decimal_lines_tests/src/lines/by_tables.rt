@@ -15,7 +15,12 @@ fn made(alloc: Global, words: &Words<'_>, file: &[u8]) -> Result<Mode, StartErro
 }
 
 /// Whether the output of an input by what these words ask for and this file is this.
-fn answers_asked(alloc: Global, words: &Words<'_>, file: &[u8], (input, want): (&str, &str)) -> bool {
+fn answers_asked(
+    alloc: Global,
+    words: &Words<'_>,
+    file: &[u8],
+    (input, want): (&str, &str),
+) -> bool {
     match made(alloc, words, file) {
         Ok(mode) => runs_by(alloc, &mode, input.as_bytes(), usize::MAX, want.as_bytes()),
         Err(_) => false,

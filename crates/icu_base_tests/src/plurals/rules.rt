@@ -211,7 +211,13 @@ fn gives_by_long_rules(
     match not_nine(alloc, relations) {
         Ok(bytes) => {
             let long = str::from_utf8(&bytes).unwrap_or_default();
-            let rules = [(Zero, long), (One, long), (Two, long), (Few, long), (Many, long)];
+            let rules = [
+                (Zero, long),
+                (One, long),
+                (Two, long),
+                (Few, long),
+                (Many, long),
+            ];
             gives(rt, alloc, &rules, number, category)
         }
         Err(_) => false,

@@ -2,8 +2,7 @@
 use super::{GROUP, is_annotated};
 use crate::{EventWriter, OutOfMemory, Part, PartsText, WriteFault, Writeable};
 use std::alloc::{AllocError, Global};
-use std::fmt;
-use std::str;
+use std::{fmt, str};
 
 /// A value of one part around a text, to show how a crate above writes its own.
 #[derive(Clone, Copy, Drop)]
@@ -195,12 +194,6 @@ fn stops_at_the_fault_of_the_sink(rt: HostRuntime) {
 fn tells_its_errors(rt: HostRuntime) {
     assert!(rt; is_displayed(rt.alloc(), &WriteFault, "the sink could not take the text"));
     assert!(rt; is_displayed(rt.alloc(), &OutOfMemory, "out of memory"));
-    assert!(rt;
-        is_displayed_unpadded(
-            rt.alloc(),
-            &WriteFault,
-            "the sink could not take the text"
-        )
-    );
+    assert!(rt; is_displayed_unpadded(rt.alloc(), &WriteFault, "the sink could not take the text"));
     assert!(rt; is_displayed_unpadded(rt.alloc(), &OutOfMemory, "out of memory"));
 }
