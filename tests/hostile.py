@@ -285,9 +285,9 @@ def a_text(rng, longest=3):
 
 
 def a_pattern(rng):
-    """A text with at most one place."""
-    text = a_text(rng).replace("{", "(")
-    return text if rng.random() < 0.1 else text + "{0}" + a_text(rng).replace("{", "(")
+    """A text with at most one place; other braces are literal."""
+    text = a_text(rng) + (a_text(rng) if rng.random() < 0.1 else "{0}" + a_text(rng))
+    return text if text.count("{0}") < 2 else "{0}"
 
 
 def a_relation(rng):
@@ -555,10 +555,11 @@ def holds_damaged(program, rng, number):
 
 
 def some_wrong_words(rng):
-    """Words, mostly wrong ones."""
+    """Words, all at random or right ones with a few at random."""
     pools = [[SAMPLE.encode()], [b"en", b"", b"e_n", b"x" * 64, b"\xff", b"fr"], [b"-", b"latn", b"la", b"Latn", b"\xc3"]]
     pools += [[b"plain", b"short", b"Plain", b""], [b"auto", b"min3", b"\xff\xfe"]]
-    words = [rng.choice(pool) for pool in pools][: rng.choice([5, 5, 4, 4, 3, 2, 1])]
+    share = rng.choice([0.3, 1])
+    words = [rng.choice(pool) if rng.random() < share else pool[0] for pool in pools][: rng.choice([5, 5, 4, 4, 3, 2, 1])]
     return words + [b"auto"] * rng.choice([0, 0, 0, 1])
 
 
