@@ -9,14 +9,16 @@ usage: tests/docs.py [--write]
   both pages are made from them. --write makes them anew.
 - Each block of Rust code of README.md stands so in a source of the crates; the example at the head of each library
   stands in the program crates/examples.
-- The text in crates/sample_tables is that of tables/sample.json, byte for byte.
+- The text in crates/sample_tables is that of tables/sample.json, byte for byte; the languages of icu_decimal_tests, whose
+  tables are maps in code, have the patterns and plural rules of that file.
 - Each command that README.md shows behind `$` gives the output below it, and each row of its table of locales is what
   the program writes. They need crates/decfmt/out/decfmt and crates/tour/out/tour, as `rt run` and `rt ci` build them.
 
 The last line is 'N passed, M failed', one for each page's links, each page that is made, each block and example, the text of
-the tables, each command and each row.
+the tables, each language, each command and each row.
 """
 import glob
+import json
 import os
 import re
 import subprocess
@@ -26,6 +28,14 @@ ROOT = os.path.dirname(os.path.dirname(os.path.abspath(__file__)))
 PROGRAM = "crates/decfmt/out/decfmt"
 PAGES = ["README.md", "CONTRIBUTING.md", "docs/*.md", "tables/README.md", "crates/*/README.md"]
 CIRCLES = ("must-fail", "edits")
+# The languages of icu_decimal_tests that are in tables/sample.json: style, locale, and the name of their plural rules.
+LANGUAGES = {
+    "SHORT_ENGLISH": ("short", "en", "ENGLISH_RULES"),
+    "LONG_ENGLISH": ("long", "en", "ENGLISH_RULES"),
+    "LONG_FRENCH": ("long", "fr", "FRENCH_RULES"),
+    "LONG_BANGLA": ("long", "bn", None),
+    "LONG_JAPANESE": ("long", "ja", None),
+}
 LOCALES_HEADER = "| locale | plain | short | long |"
 LOCALES_NUMBER = "1234567.8"
 LOCALES_TABLES = "tables/six_locales.json"
@@ -256,6 +266,29 @@ def judge_sample():
     judge(text == read_exactly("tables/sample.json"), "crates/sample_tables: isn't the text of tables/sample.json")
 
 
+def elements_of(exactly_one, one, other):
+    """The elements of a row of icu_decimal_tests, as tables have them."""
+    elements = {"explicit_one": exactly_one, "one": one and "{0}" + one, "other": "{0}" + other}
+    return {name: text for name, text in elements.items() if text is not None}
+
+
+def judge_languages():
+    """The languages of icu_decimal_tests, whose tables are maps in code, say what tables/sample.json says of them."""
+    text = read("crates/icu_decimal_tests/src/languages.rt")
+    sample = json.loads(read("tables/sample.json"))
+    optional = r'(?:None|Some\("([^"]*)"\))'
+    for name, (style, locale, rules) in LANGUAGES.items():
+        constant = re.search(rf"const {name}_ROWS: .*?= \[(.*?)^\];", text, flags=re.M | re.S)[1]
+        rows = re.findall(rf'\((\d+), (\d+), {optional}, {optional}, "([^"]*)"\)', constant)
+        told = [[int(row[0]), int(row[1]), elements_of(row[2] or None, row[3] or None, row[4])] for row in rows]
+        constant = re.search(rf"const {rules}: .*?= \[(.*?)\];", text, flags=re.S)[1] if rules else ""
+        conditions = re.findall(r'PluralCategory::(\w+),\s*"([^"]*)"', constant)
+        wanted = [entry["patterns"] for entry in sample[style] if entry["locale"] == locale]
+        wanted += [[tuple(rule) for rule in entry["rules"]] for entry in sample["rules"] if entry["locale"] == locale]
+        given = [told, [(category.lower(), condition) for category, condition in conditions]]
+        judge(given == wanted, f"crates/icu_decimal_tests: {name}: isn't what tables/sample.json has")
+
+
 def output_of(command):
     """Standard output and standard error of a command, as a terminal shows them."""
     done = subprocess.run(["bash", "-c", command], stdout=subprocess.PIPE, stderr=subprocess.STDOUT, timeout=60)
@@ -295,6 +328,7 @@ def main():
     judge_code(page)
     judge_examples()
     judge_sample()
+    judge_languages()
     judge_commands(page)
     judge_locales(page)
     print(f"{counts[True]} passed, {counts[False]} failed")

@@ -6,9 +6,8 @@
 # usage: tests/edits.sh [CRATE ..]
 # Without words the edits of all crates are tried whose hash isn't the one of edits.lock; with words those of these crates.
 # They are tried on a copy, over the libraries that `rt ci`, `rt all check` or `rt check` left in out/.
-# Where all edits of a crate are refused, its line of edits.lock is written.
-# The last line is 'N passed, M failed': one for each edit that is tried, and without words one for each crate, which fails
-# where its line was not yet the one of today, so that whoever changes a crate commits its line with it.
+# Where all edits of a crate are refused, its line of edits.lock is written, and is to be committed.
+# The last line is 'N passed, M failed': one for each edit that is tried, and one for each crate that is as in edits.lock.
 set -u
 export LC_ALL=C
 cd "$(dirname "$0")/.." || exit 1
@@ -72,7 +71,6 @@ copy_for() {
     local part crate
     mkdir -p "$folder/copy"
     cp "$root/crates.txt" "$root/HANDLES" "$folder/copy"
-    git init -q "$folder/copy"
     for crate in "$root"/crates/*/; do
         crate=crates/$(basename "$crate")
         mkdir -p "$folder/copy/$crate"
@@ -113,8 +111,6 @@ for path in crates/*/edits/; do
     elif [ "$(locked "$crate")" = "$(cat "$folder/$crate.hash")" ]; then
         passed=$((passed + 1))
     else
-        echo "edits: $crate: edits.lock isn't of today"
-        failed=$((failed + 1))
         crates+=("$crate")
     fi
 done
