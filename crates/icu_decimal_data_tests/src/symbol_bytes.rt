@@ -205,29 +205,30 @@ fn each_call_is_one_allocation(rt: HostRuntime) {
     }
 }
 
-/// Symbols of few bytes, of several bytes a character, and of many bytes.
-const BUILT: [Texts; 5] = [
-    ["", "", "", "", "", "", "latn"],
-    ["-", "", "+", "", ".", ",", "latn"],
-    ["\u{61c}-", "₋", "\u{61c}+", "₊", "٫", "٬", "arab"],
-    ["", "", "", "", "\u{202f}", "", "123"],
-    [
-        "minus ",
-        " below zero",
-        "plus ",
-        " above zero",
-        " point ",
-        " and ",
-        "abcdefgh",
-    ],
+/// Counted from 1 on: symbols of few bytes, of several bytes a character, and of many bytes.
+const BUILT: [(u64, Texts); 5] = [
+    (1, ["", "", "", "", "", "", "latn"]),
+    (2, ["-", "", "+", "", ".", ",", "latn"]),
+    (3, ["\u{61c}-", "₋", "\u{61c}+", "₊", "٫", "٬", "arab"]),
+    (4, ["", "", "", "", "\u{202f}", "", "123"]),
+    (
+        5,
+        [
+            "minus ",
+            " below zero",
+            "plus ",
+            " above zero",
+            " point ",
+            " and ",
+            "abcdefgh",
+        ],
+    ),
 ];
 
-/// Which of five builds is refused, counted from 1 on; none is 0.
+/// Which of these builds is refused; none is 0.
 fn refused_build(alloc: Global) -> u64 {
     let mut refused = 0;
-    let mut count = 0;
-    for texts in BUILT {
-        count += 1;
+    for (count, texts) in BUILT {
         if builder(texts).build(alloc).is_err() {
             refused = count;
         }

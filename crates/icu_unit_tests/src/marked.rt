@@ -7,17 +7,6 @@ use icu_base::{Part, PartsText, Writeable};
 use icu_decimal::{CompactDecimalFormatter, parts};
 use std::alloc::Global;
 
-/// Whether a value is written as this text with these parts.
-fn is_marked<T: Writeable>(
-    alloc: Global,
-    value: &T,
-    text: &str,
-    spans: &[(usize, usize, Part)],
-) -> bool {
-    let mut sink = PartsText::new(alloc);
-    value.write_to_parts(&mut sink).is_ok() && holds(alloc, &sink, text, spans)
-}
-
 /// A number and which sign it shows.
 type Shown = (&'static str, SignDisplay);
 
@@ -34,7 +23,9 @@ fn marks_plain_once(
     match (plain(alloc, locale), Decimal::try_from_str(alloc, number)) {
         (Some(formatter), Ok(decimal)) => {
             let shown = decimal.with_sign_display(display);
-            is_marked(alloc, &formatter.format(&shown), text, spans)
+            let mut sink = PartsText::new(alloc);
+            let is_written = formatter.format(&shown).write_to_parts(&mut sink).is_ok();
+            is_written && holds(alloc, &sink, text, spans)
         }
         _ => false,
     }
@@ -114,7 +105,10 @@ fn marks_decimal(
     (text, spans): Marked,
 ) -> bool {
     match formatter.format(alloc, decimal) {
-        Ok(value) => is_marked(alloc, &value, text, spans),
+        Ok(value) => {
+            let mut sink = PartsText::new(alloc);
+            value.write_to_parts(&mut sink).is_ok() && holds(alloc, &sink, text, spans)
+        }
         Err(_) => false,
     }
 }
@@ -162,7 +156,10 @@ fn marks_given_decimal(
     (text, spans): Marked,
 ) -> bool {
     match formatter.format_with_exponent(significand, 3) {
-        Ok(value) => is_marked(alloc, &value, text, spans),
+        Ok(value) => {
+            let mut sink = PartsText::new(alloc);
+            value.write_to_parts(&mut sink).is_ok() && holds(alloc, &sink, text, spans)
+        }
         Err(_) => false,
     }
 }
