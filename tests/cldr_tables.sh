@@ -21,11 +21,12 @@ judge() {
     fi
 }
 
-# makes NAME WORD..: the tables of these words end with status 0, in the files NAME.json and NAME.err.
+# makes NAME WORD..: the tables of these words, with all that is left out, end with status 0, in the files NAME.json and
+# NAME.err.
 makes() {
     made=$1
     shift
-    python3 "$tool" "$@" >"$folder/$made.json" 2>"$folder/$made.err"
+    python3 "$tool" --verbose "$@" >"$folder/$made.json" 2>"$folder/$made.err"
     judge "$made: status $?" [ $? = 0 ]
     awk -v folder="$folder/$made" '/^"[a-z]*":\[$/ {split($0, words, "\""); key = words[2]; next}
         key {sub(/,$/, ""); print >(folder "." key)}' "$folder/$made.json"
@@ -77,7 +78,7 @@ digits_lines=(
 draft='qaa_BB: symbols[latn]/group: a draft, unconfirmed: what is inherited stands'
 
 # All modern locales: each locale's own, its parents', aliases, quotes and zeros.
-makes modern "$release"
+makes modern "$release" --names none
 tells "${digits_lines[@]}" "$draft"
 counts symbols 15
 counts digits 4
@@ -245,12 +246,12 @@ counts long 2
 # The other forms of a release: the folder common itself, an archive, JSON packages.
 python3 -m zipfile -c "$folder/core.zip" "$release/common"
 for form in "$release/common" "$folder/core.zip"; do
-    python3 "$tool" -o "$folder/other.json" "$form" 2>"$folder/err"
+    python3 "$tool" --verbose --names none -o "$folder/other.json" "$form" 2>"$folder/err"
     judge "$form: status $?" [ $? = 0 ]
     judge "$form: other tables" cmp "$folder/other.json" "$folder/modern.json"
     judge "$form: other lines" cmp "$folder/err" "$folder/modern.err"
 done
-makes json "$release/json"
+makes json "$release/json" --names none
 tells
 counts symbols 4
 judge 'the version of the packages' grep -qF '"cldr":"0.1.0"' "$folder/json.json"

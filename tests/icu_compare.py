@@ -290,7 +290,7 @@ def print_table(versions, jobs, lines, kinds):
 
 def compare(formatters, release, names, versions):
     """Compares all, and answers how many formatters had a difference of no known kind, of how many."""
-    tables = json.loads(cldr.written(cldr.make_tables(release, names)))
+    tables = json.loads(cldr.written(cldr.make_tables(release, cldr.chosen(release, names))))
     jobs = [Job(it["locale"], it.get("system", "-"), style) for it in tables["symbols"] for style in STYLES]
     lines = numbers()
     ours = formatters.decfmt_all(formatters.write("tables.json", tables), jobs, lines)

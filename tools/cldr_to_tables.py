@@ -3,10 +3,13 @@
 
 The release is read as the LDML XML of core.zip (the archive, its folder or its folder common/), or as a folder with
 the JSON packages cldr-core and cldr-numbers-full. What the format of tables can't express is left out, with one line
-on standard error each: locale, key and reason.
+on standard error for each kind; with --verbose one for each: locale, key and reason.
 
-Exit status: 0 done, 1 the output couldn't be written, 2 wrong words, 3 not a CLDR release, 4 a locale that the
-release doesn't have.
+Beside the release's locales the tables have the names by which these are known elsewhere, such as zh-TW, no-NO and iw.
+With --which the program tells what a name means, and makes no tables.
+
+Exit status: 0 done, 1 the output couldn't be written, 2 wrong words, 3 not a CLDR release, 4 a name that means no
+locale of the release.
 """
 import argparse
 import collections
@@ -19,9 +22,12 @@ import sys
 import zipfile
 from xml.etree import ElementTree
 
+import cldr_names
+
 CATEGORIES = ("zero", "one", "two", "few", "many", "other")
 EXPLICIT = {"0": "explicit_zero", "1": "explicit_one"}
 STYLES = ("short", "long")
+LEVELS = ("modern", "moderate", "basic")
 USED = {"defaultNumberingSystem", "otherNumberingSystems", "minimumGroupingDigits", "symbols", "decimalFormats"}
 USED_SYMBOLS = {"decimal", "group", "minusSign", "plusSign"}
 DISTINGUISHING = ("numberSystem", "type", "count", "alt")
@@ -32,13 +38,22 @@ SYMBOLS_BYTES = 255
 PATTERNS_BYTES = 65535
 MOST_ZEROS = 16
 
+# kinds of what isn't in the tables as CLDR has it
+DRAFT = "drafts below contributed, for which what is inherited stands"
+NEGATIVE = "compact patterns with a negative subpattern, for which the sign stands before the positive one"
+COMPACT = "compact patterns left out"
+PLAIN = "plain patterns with a text or a sign left out"
+RULE = "plural rules left out"
+SYSTEM = "numbering systems left out"
+ENTRY = "symbols or compact patterns left out as a whole"
+
 
 class NotARelease(Exception):
     """The folder or archive has no CLDR release in a form that is known here."""
 
 
 class UnknownLocale(Exception):
-    """The release has no such locale."""
+    """The release has no such locale; the text says of each name what it means."""
 
 
 class Inexpressible(Exception):
@@ -49,19 +64,29 @@ UNREADABLE = (NotARelease, Inexpressible, OSError, ElementTree.ParseError, zipfi
 
 
 class Reports:
-    """What goes to standard error: lines on what was left out, each once, and progress if it is a terminal."""
+    """What goes to standard error: what was left out, each once or counted by kinds, and progress if it is a terminal."""
 
-    def __init__(self, stream):
+    def __init__(self, stream, is_verbose=False):
         self.stream = stream
-        self.said = set()
+        self.is_verbose = is_verbose
+        self.said = {}
 
-    def left_out(self, locale, key, reason):
-        """Tells that a key of a locale isn't in the tables as CLDR has it."""
+    def left_out(self, kind, locale, key, reason):
+        """Tells that a key of a locale isn't in the tables as CLDR has it; at once, or counted at the end."""
         line = f"{locale}: {key}: {reason}"
         if line not in self.said:
-            self.said.add(line)
-            self.clear()
-            print(line, file=self.stream)
+            self.said[line] = (kind, locale)
+            if self.is_verbose:
+                self.clear()
+                print(line, file=self.stream)
+
+    def sum_up(self):
+        """Tells how many of each kind were left out, if they weren't told one by one."""
+        counts = collections.Counter(kind for kind, _ in self.said.values())
+        for kind, count in counts.items() if not self.is_verbose else ():
+            locales = len({locale for other, locale in self.said.values() if other == kind})
+            text = f"{count} in {locales} locale{'s' * (locales > 1)}: {kind} (--verbose names each)"
+            print(text, file=self.stream)
 
     def progress(self, done, count, locale):
         """Shows on a terminal alone how far the work is."""
@@ -173,8 +198,20 @@ class Release:
                     types.add(dict(path[-1][1:]).get("type", "1"))
         for name in sorted(types):
             if not re.fullmatch("10*", name):
-                self.reports.left_out(locale, f"decimalFormats/pattern[{name}]", "its type is no power of ten")
+                self.reports.left_out(COMPACT, locale, f"decimalFormats/pattern[{name}]", "its type is no power of ten")
         return sorted(len(name) - 1 for name in types if re.fullmatch("10+", name))
+
+    def covered(self, level):
+        """The locales of a level of coverage or a better one, or `all`."""
+        if level == "all":
+            return self.locales
+        taken = LEVELS[: LEVELS.index(level) + 1]
+        return [locale for locale in self.locales if self.level(locale) in taken]
+
+    @functools.cached_property
+    def names(self):
+        """What names mean by this release."""
+        return cldr_names.Names(self.locales, self.facts())
 
     def rules_of(self, locale):
         """The cardinal rules of the locale, or of what is left when subtags are taken off its end, unless a parent is
@@ -218,7 +255,7 @@ class LdmlRelease(Release):
         tree = Tree({}, {})
 
         def uncertain(path, draft):
-            self.reports.left_out(locale, shown(path), f"a draft, {draft}: what is inherited stands")
+            self.reports.left_out(DRAFT, locale, shown(path), f"a draft, {draft}: what is inherited stands")
 
         for element in self.parse("main", f"{locale}.xml").iterfind("numbers/*"):
             if element.tag in USED:
@@ -274,20 +311,61 @@ class LdmlRelease(Release):
         systems = self.parse("supplemental", "numberingSystems.xml").iter("numberingSystem")
         return {system.get("id"): system.get("digits") for system in systems if system.get("type") == "numeric"}
 
-    def modern(self):
-        """The locales whose coverage is modern; one without a level has that of the locale without the last subtag."""
+    @functools.cached_property
+    def levels(self):
+        """The levels of coverage that are listed."""
         levels = {}
         for line in below(self.folder, "properties", "coverageLevels.txt").read_bytes().decode().splitlines():
             fields = [field.strip() for field in line.split("#")[0].split(";")]
             if len(fields) > 1:
                 levels[fields[0]] = fields[1]
-        return [locale for locale in self.locales if self.level(locale, levels) == "modern"]
+        return levels
 
-    def level(self, locale, levels):
-        """The coverage level of a locale; a parent that is named as root isn't looked past."""
-        while locale not in levels and locale != "root":
-            locale = "root" if self.parents.get(locale) == "root" else truncated(locale)
-        return levels.get(locale)
+    def level(self, locale):
+        """The level of coverage of a locale; one without a level has that of another locale."""
+        while locale not in self.levels and locale != "root":
+            locale = self.measured_by(locale)
+        return self.levels.get(locale)
+
+    def measured_by(self, locale):
+        """The locale whose level a locale has that isn't listed: that without its last subtag. A language alone has the
+        level of the parent that is named for it if its file is empty, as that of `nb` is, whose parent is `no`. A
+        script that isn't likely has that of the language if its file has compact patterns, as that of `sr_Latn` has."""
+        parent = self.parents.get(locale)
+        if parent == "root":
+            return truncated(locale) if self.has_patterns(locale) else "root"
+        return parent if parent and "_" not in locale and self.is_empty(locale) else truncated(locale)
+
+    def is_empty(self, locale):
+        """Tells whether a locale's file has nothing but its name."""
+        return all(element.tag == "identity" for element in self.parse("main", f"{locale}.xml"))
+
+    def has_patterns(self, locale):
+        """Tells whether a locale's own file has compact patterns of both styles."""
+        lengths = self.parse("main", f"{locale}.xml").iterfind("numbers/decimalFormats/decimalFormatLength")
+        return set(STYLES) <= {length.get("type") for length in lengths if length.find("decimalFormat/pattern") is not None}
+
+    def facts(self):
+        """What the release says of names (UTS 35 Part 1, Likely Subtags, and its data on territories and aliases)."""
+        subtags = self.parse("supplemental", "likelySubtags.xml").iter("likelySubtag")
+        metadata = self.parse("supplemental", "supplementalMetadata.xml")
+        languages, scripts, regions = (
+            {alias.get("type"): alias.get("replacement") for alias in metadata.iter(f"{kind}Alias")}
+            for kind in ("language", "script", "territory")
+        )
+        likely = {entry.get("from"): entry.get("to") for entry in subtags}
+        return cldr_names.Facts(likely, languages, scripts, regions, self.parents, self.spoken())
+
+    def spoken(self):
+        """Each language with each territory of which the release says that it is spoken there."""
+        data = self.parse("supplemental", "supplementalData.xml")
+        pairs = set()
+        for territory in data.iter("territory"):
+            for language in territory.findall("languagePopulation"):
+                pairs.add((language.get("type"), territory.get("type")))
+        for language in data.iterfind("languageData/language"):
+            pairs.update((language.get("type"), region) for region in language.get("territories", "").split())
+        return pairs
 
     def version(self):
         """The release's version, if its DTD tells it."""
@@ -359,10 +437,44 @@ class JsonRelease(Release):
         systems = self.load("cldr-core", "supplemental", "numberingSystems.json")["supplemental"]["numberingSystems"]
         return {name: system["_digits"] for name, system in systems.items() if system["_type"] == "numeric"}
 
-    def modern(self):
-        """The locales that the packages list as modern."""
+    @functools.cached_property
+    def levels(self):
+        """The levels of coverage that the packages list."""
+        if below(self.folder, "cldr-core", "coverageLevels.json").exists():
+            listed = self.load("cldr-core", "coverageLevels.json")["effectiveCoverageLevels"]
+            return {self.internal(name): level for name, level in listed.items()}
         listed = self.load("cldr-core", "availableLocales.json")["availableLocales"]["modern"]
-        return sorted({self.internal(name) for name in listed}.intersection(self.locales) - {"root"})
+        return {self.internal(name): "modern" for name in listed}
+
+    def level(self, locale):
+        """The level of coverage of a locale."""
+        return self.levels.get(locale) if locale != "root" else None
+
+    def facts(self):
+        """What the packages say of names."""
+        likely = self.load("cldr-core", "supplemental", "likelySubtags.json")["supplemental"]["likelySubtags"]
+        parents = self.load("cldr-core", "supplemental", "parentLocales.json")["supplemental"]["parentLocales"]
+        parents = parents["parentLocale"]
+        aliases = self.load("cldr-core", "supplemental", "aliases.json")["supplemental"]["metadata"]["alias"]
+        languages, scripts, regions = (
+            {self.internal(name): alias["_replacement"] for name, alias in aliases[f"{kind}Alias"].items()}
+            for kind in ("language", "script", "territory")
+        )
+        likely, parents = (
+            {self.internal(name): self.internal(other) for name, other in pairs.items()} for pairs in (likely, parents)
+        )
+        return cldr_names.Facts(likely, languages, scripts, regions, parents, self.spoken())
+
+    def spoken(self):
+        """Each language with each territory of which the packages say that it is spoken there."""
+        pairs = set()
+        territories = self.load("cldr-core", "supplemental", "territoryInfo.json")["supplemental"]["territoryInfo"]
+        for region, info in territories.items():
+            pairs.update((self.internal(language), region) for language in info.get("languagePopulation", ()))
+        data = self.load("cldr-core", "supplemental", "languageData.json")["supplemental"]["languageData"]
+        for language, info in data.items():
+            pairs.update((language.partition("-alt-")[0], region) for region in info.get("_territories", ()))
+        return pairs
 
     def version(self):
         """The version of the package."""
@@ -548,7 +660,7 @@ def conditions(release, locale):
             if category not in CATEGORIES:
                 raise Inexpressible("no such category")
         except Inexpressible as refused:
-            release.reports.left_out(locale, f"plural rule {category}", refused)
+            release.reports.left_out(RULE, locale, f"plural rule {category}", refused)
             continue
         if category != "other":
             rules.append((category, condition))
@@ -575,7 +687,8 @@ def systems_of(release, locale, digits):
         if system in digits and system not in systems:
             systems.append(system)
         elif system is not None and system not in digits:
-            release.reports.left_out(locale, f"{kind} numbering system {system}", "its digits aren't in tables")
+            key = f"{kind} numbering system {system}"
+            release.reports.left_out(SYSTEM, locale, key, "its digits aren't in tables")
     return systems
 
 
@@ -613,7 +726,7 @@ def signs_of(release, locale, system, pattern):
     before, number, after = around_number(positive)
     if before or after:
         text = "text around a plain number is left out"
-        release.reports.left_out(locale, shown(plain_path(system)), f"{pattern!r}: {text}")
+        release.reports.left_out(PLAIN, locale, shown(plain_path(system)), f"{pattern!r}: {text}")
         negative = None
     try:
         return grouping(number or ""), *affixes(negative, minus, plus)
@@ -621,7 +734,7 @@ def signs_of(release, locale, system, pattern):
         if negative is None:
             raise
         reason = f"{pattern!r}: {refused}; the sign stands before numbers"
-        release.reports.left_out(locale, shown(plain_path(system)), reason)
+        release.reports.left_out(PLAIN, locale, shown(plain_path(system)), reason)
         return grouping(number or ""), *affixes(None, minus, plus)
 
 
@@ -651,10 +764,10 @@ class CompactReader:
         self.style = style
         self.rules = rules
 
-    def left_out(self, power, count, reason):
+    def left_out(self, power, count, reason, kind=COMPACT):
         """Tells what isn't in the tables."""
         key = f"decimalFormats[{self.system}]/{self.style}/1{'0' * power}" + (f"-{count}" if count else "")
-        self.release.reports.left_out(self.locale, key, reason)
+        self.release.reports.left_out(kind, self.locale, key, reason)
 
     def pattern(self, power, *counts):
         """The pattern that is found with one of the counts, and the count that it was found with."""
@@ -686,7 +799,8 @@ class CompactReader:
             self.left_out(power, count, f"{pattern!r}: {refused}")
             return None
         if negative is not None:
-            self.left_out(power, count, f"{pattern!r}: a negative subpattern; the sign stands before the positive one")
+            reason = f"{pattern!r}: a negative subpattern; the sign stands before the positive one"
+            self.left_out(power, count, reason, NEGATIVE)
         # `0` alone: such numbers aren't shortened
         exponent = 0 if (zeros, text) == (1, PLACE) else power + 1 - zeros
         return (exponent if zeros else None), text
@@ -774,36 +888,43 @@ class TablesMaker:
                 usable[system] = digits
             else:
                 reason = "its name isn't 3 to 8 small letters and digits, or its digits aren't ten"
-                self.release.reports.left_out("root", f"numbering system {system}", reason)
+                self.release.reports.left_out(SYSTEM, "root", f"numbering system {system}", reason)
         return usable
 
-    def add(self, locale):
-        """Adds all entries of a locale."""
+    def add(self, tag, locale):
+        """Adds all entries of a locale under a name."""
+        for key, entries in self.entries(locale).items():
+            self.tables[key].extend({"locale": tag, **entry} for entry in entries)
+
+    @functools.lru_cache(maxsize=None)
+    def entries(self, locale):
+        """The entries of a locale by their keys, without `locale`, as every name of it has them."""
         rules = conditions(self.release, locale)
         systems = systems_of(self.release, locale, self.digits)
-        self.add_symbols(locale, systems)
-        self.tables["rules"].append({"locale": named(locale), "rules": rules})
-        for style in STYLES:
-            self.add_compact(locale, systems, style, rules)
+        entries = {"symbols": self.symbols(locale, systems), "rules": [{"rules": rules}]}
+        return {**entries, **{style: self.compact(locale, systems, style, rules) for style in STYLES}}
 
     def try_entry(self, locale, key, make):
         """What `make` answers, or None with a line where it can't be expressed."""
         try:
             return make()
         except Inexpressible as refused:
-            self.release.reports.left_out(locale, key, refused)
+            self.release.reports.left_out(ENTRY, locale, key, refused)
             return None
 
-    def add_symbols(self, locale, systems):
-        """Adds the symbols of the default system, and those of the others under their names."""
+    def symbols(self, locale, systems):
+        """The symbols of the default system, and those of the others under their names."""
+        entries = []
         for system in systems:
             entry = self.try_entry(locale, f"symbols[{system}]", lambda: symbols_entry(self.release, locale, system))
             if entry:
                 which = {} if system == systems[0] else {"system": system}
-                self.tables["symbols"].append({"locale": named(locale), **which, **entry})
+                entries.append({**which, **entry})
+        return entries
 
-    def add_compact(self, locale, systems, style, rules):
-        """Adds the compact patterns of the default system, and of the others where they differ from these."""
+    def compact(self, locale, systems, style, rules):
+        """The compact patterns of the default system, and of the others where they differ from these."""
+        entries = []
         default = None
         for system in systems:
             formats = formats_of(self.release, locale, system)
@@ -811,33 +932,74 @@ class TablesMaker:
             patterns = self.try_entry(locale, f"decimalFormats[{system}]/{style}", reader.table)
             if patterns is not None and patterns != default:
                 which = {} if system == systems[0] else {"system": system}
-                self.tables[style].append({"locale": named(locale), **which, "patterns": patterns})
+                entries.append({**which, "patterns": patterns})
             if system == systems[0]:
                 default = patterns
+        return entries
+
+
+# What a name means, in words.
+
+
+def told(release, name):
+    """Whether a name means a locale of the release, and a line that says which, and what decfmt takes for it."""
+    question = cldr_names.asked(name)
+    locale = release.names.meant(question.name)
+    if locale is None:
+        near = release.names.near(question.name)
+        told_near = f"the nearest are {', '.join(map(named, near))}" if near else "none is near"
+        return False, f"{name}: no locale of the release; {told_near}"
+    if question.system and question.system not in release.digits():
+        return False, f"{name}: the release has no digits of a numbering system {question.system}"
+    level = release.level(locale)
+    coverage = level if level in LEVELS else "all"
+    words = f"{written_for(release, question.name, locale, coverage)} {question.system or '-'}"
+    where = "" if coverage == LEVELS[0] else f", in tables with --coverage {coverage}"
+    return True, f"{name}: the locale {named(locale)}; write {words} (LOCALE and NU of decfmt){where}"
+
+
+def written_for(release, name, locale, coverage):
+    """The name as tables of a coverage have it, in its usual letters, or else that of its locale."""
+    tag = named(cldr_names.in_usual_letters(name))
+    return tag if tag in map(named, release.names.added(release.covered(coverage))) else named(locale)
 
 
 # The program.
 
 
-def chosen(release, names):
-    """The locales to make tables of: those that are named, or all modern ones."""
-    if not names:
-        return release.modern()
-    known = {named(locale).lower(): locale for locale in release.locales}
-    wanted = {name: known.get(named(name).lower()) for name in names}
-    for name, locale in wanted.items():
+def chosen(release, words, coverage="modern", names="none"):
+    """What the tables are made of, as names with the locale of each: those that are asked for; else the locales of a
+    coverage, and their usual names, all or none."""
+    if words:
+        return asked_for(release, words)
+    locales = release.covered(coverage)
+    added = release.names.added(locales, names == "all") if names != "none" else {}
+    return [(named(locale), locale) for locale in locales] + [(named(name), added[name]) for name in sorted(added)]
+
+
+def asked_for(release, words):
+    """The names of the command, each with its locale."""
+    found, unknown = {}, []
+    for word in words:
+        question = cldr_names.asked(word)
+        locale = release.names.meant(question.name) if question.is_tag else None
         if locale is None:
-            raise UnknownLocale(f"{name}: the release has no such locale")
-    return sorted(set(wanted.values()))
+            unknown.append(f"error: {word}: the release has no such locale\n{told(release, word)[1]}")
+        else:
+            is_own = named(question.name).lower() == named(locale).lower()
+            tag = named(locale) if is_own else named(cldr_names.in_usual_letters(question.name))
+            found[tag] = locale
+    if unknown:
+        raise UnknownLocale("\n".join(unknown))
+    return sorted(found.items(), key=lambda pair: (pair[1], pair[0]))
 
 
-def make_tables(release, names):
-    """The tables of the named locales, or of all modern ones."""
-    locales = chosen(release, names)
+def make_tables(release, pairs):
+    """The tables of locales under their names."""
     maker = TablesMaker(release)
-    for index, locale in enumerate(locales):
-        release.reports.progress(index, len(locales), locale)
-        maker.add(locale)
+    for index, (tag, locale) in enumerate(pairs):
+        release.reports.progress(index, len(pairs), tag)
+        maker.add(tag, locale)
     release.reports.clear()
     return {"cldr": release.version() or "unknown", **maker.tables}
 
@@ -858,19 +1020,46 @@ def read_words(words):
     """The words of the command."""
     parser = argparse.ArgumentParser(description=__doc__, formatter_class=argparse.RawDescriptionHelpFormatter)
     parser.add_argument("release", metavar="RELEASE", help="core.zip, or the folder of a release")
-    parser.add_argument("locales", metavar="LOCALE", nargs="*", help="as de or pt-AO; none: all modern locales")
+    parser.add_argument("locales", metavar="LOCALE", nargs="*", help="as de, pt-AO or zh-TW: these alone")
     parser.add_argument("-o", "--output", metavar="FILE", help="where the tables go; standard output if left out")
-    return parser.parse_args(words)
+    parser.add_argument("--coverage", choices=(*LEVELS, "all"), help="the locales covered so well, or all; else modern")
+    parser.add_argument("--names", choices=("none", "usual", "all"), help="which names locales have too; else the usual")
+    parser.add_argument("--which", metavar="NAME", action="append", help="tells which locale NAME means; no tables")
+    parser.add_argument("--verbose", action="store_true", help="names each thing that isn't in the tables as in CLDR")
+    options = parser.parse_args(words)
+    if options.locales and (options.coverage or options.names):
+        parser.error("--coverage and --names are for tables without a LOCALE")
+    if options.which and (options.locales or options.coverage or options.names or options.output):
+        parser.error("--which stands alone")
+    return options
+
+
+def tell_which(release, names):
+    """Tells what names mean, and answers the exit status."""
+    answers = [told(release, name) for name in names]
+    for _, line in answers:
+        print(line)
+    return 0 if all(is_known for is_known, _ in answers) else 4
+
+
+def made(release, options):
+    """The text of the tables that are asked for."""
+    pairs = chosen(release, options.locales, options.coverage or "modern", options.names or "usual")
+    text = written(make_tables(release, pairs))
+    release.reports.sum_up()
+    return text
 
 
 def main(words):
-    """Makes tables, and answers the exit status."""
+    """Makes tables, or tells what names mean, and answers the exit status."""
     options = read_words(words)
-    reports = Reports(sys.stderr)
     try:
-        text = written(make_tables(open_release(options.release, reports), options.locales))
+        release = open_release(options.release, Reports(sys.stderr, options.verbose))
+        if options.which:
+            return tell_which(release, options.which)
+        text = made(release, options)
     except UnknownLocale as refused:
-        print(f"error: {refused}", file=sys.stderr)
+        print(refused, file=sys.stderr)
         return 4
     except UNREADABLE as refused:
         print(f"error: not a CLDR release: {refused}", file=sys.stderr)
