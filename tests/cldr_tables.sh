@@ -53,6 +53,39 @@ tells() {
     judge "$made: standard error" diff "$folder/wanted" "$folder/$made.err"
 }
 
+# listed NAME..: the tables made last have symbols and rules for these names, and for no others; `names` then has them.
+listed() {
+    names=("$@")
+    printf '%s\n' "$@" | sort >"$folder/wanted"
+    for key in symbols rules; do
+        grep -o '^{"locale":"[^"]*"' "$folder/$made.$key" | cut -d'"' -f4 | sort -u >"$folder/out"
+        judge "$made: names of $key" diff "$folder/wanted" "$folder/out"
+    done
+}
+
+# is_named LOCALE NAME..: in the tables made last each name has just the entries of the locale.
+is_named() {
+    local locale=$1 name
+    shift
+    for name in "$@"; do
+        for key in symbols rules short long; do
+            judge "$made: $key of $name" diff <(grep -F "{\"locale\":\"$locale\"," "$folder/$made.$key") \
+                <(sed -n "s/^{\"locale\":\"$name\",/{\"locale\":\"$locale\",/p" "$folder/$made.$key")
+        done
+    done
+}
+
+# means ANSWER NAME..: in the release of names each name is answered so, with status 0 if it means a locale.
+means() {
+    local answer=$1 name status=0
+    [[ $answer = 'the locale '* ]] || status=4
+    shift
+    for name in "$@"; do
+        ends $status "$folder/known" --which "$name"
+        judge "$name means" diff <(printf '%s\n' "$name: $answer") "$folder/out"
+    done
+}
+
 # ends STATUS WORD..: the tool ends with this status.
 ends() {
     local wanted=$1 status
@@ -268,6 +301,117 @@ has long \
     '{"locale":"qaa","system":"arab","patterns":[[3,3,{"other":"{0} x"}]]}'
 answers 'qaa arab long' '1000\n' '١ x\n'
 
+# Names. The release of the folder names: qba in several regions, qbb in two scripts, qbf that is qba by another name.
+cp -r "$release/common" "$folder/known"
+cp -r "$release/names/." "$folder/known"
+makes locales "$folder/known" --names none
+# what isn't listed is as well covered as the language, if it has patterns of its own, or as its parent, if it is empty
+listed qba qba-AA qba-BB qbb qbb-Cyrl qbb-Cyrl-AA qbb-Latn qbb-Latn-AA qbf
+locales=("${names[@]}")
+usual=(
+    # a region by the data on territories, by languages, whose parent is named, that is likely, by a script
+    qba-EE qba-FF qba-GG qbb-AA qbb-CC qbb-EE qbf-AA
+    # two scripts, and regions with each
+    qbb-Cyrl-CC qbb-Cyrl-EE qbb-Latn-CC qbb-Latn-EE
+    # aliases, alone and, if they have two letters, with regions
+    xq xqa xs qba-old xq-AA xq-BB xq-EE xq-FF xq-GG xs-AA xs-CC xs-EE
+    # old regions: one, the likely one of several, the first of several
+    qba-XA qbb-XA qba-XB qbb-XB qba-XC
+)
+makes names "$folder/known"
+listed "${locales[@]}" "${usual[@]}"
+is_named qba qba-EE qba-FF xq xqa xq-EE xq-FF
+is_named qba-AA xq-AA qba-XA qba-XB
+is_named qba-BB qba-GG xq-BB xq-GG qba-XC
+is_named qbb-Latn qbb-EE qbb-Latn-CC qbb-Latn-EE
+is_named qbb-Latn-AA qbb-AA qbb-XA qbb-XB
+is_named qbb-Cyrl qbb-CC qbb-Cyrl-CC qbb-Cyrl-EE xs xs-CC xs-EE
+is_named qbb-Cyrl-AA xs-AA
+is_named qbf qbf-AA qba-old
+has symbols \
+    '{"locale":"qba-EE","minus":["-",""],"plus":["+",""],"decimal":",","group":",","numsys":"latn","sizes":[3,3,1]}' \
+    '{"locale":"xq-GG","minus":["-",""],"plus":["+",""],"decimal":"·","group":",","numsys":"latn","sizes":[3,3,1]}' \
+    '{"locale":"qbf-AA","minus":["-",""],"plus":["+",""],"decimal":",","group":",","numsys":"latn","sizes":[3,3,1]}'
+has long '{"locale":"xs-EE","patterns":[[3,3,{"other":"{0} lots"}],[4,3,{"other":"{0}K"}],[6,6,{"other":"{0}M"}]]}'
+answers 'qba-XC - plain' '1.5\n' '1·5\n'
+answers 'qbb-EE - plain' '1.5\n' '1_5\n'
+answers 'xs - short' '1500\n' '1~5L\n'
+makes all_names "$folder/known" --names all
+listed "${locales[@]}" "${usual[@]}" qba-Latn qba-Latn-{AA,BB,EE,FF,GG} qbf-Latn{,-AA} xqa-{AA,BB,EE,FF,GG} und-BB
+is_named qba-BB qba-Latn-BB qba-Latn-GG xqa-GG und-BB
+# levels of coverage, with names
+makes moderate "$folder/known" --coverage moderate
+listed "${locales[@]}" "${usual[@]}" qbc qbc-AA
+makes basic "$folder/known" --coverage basic
+listed "${locales[@]}" "${usual[@]}" qbc qbc-AA qbd qbd-AA
+makes every "$folder/known" --coverage all --names none
+counts rules "$(find "$folder/known/main" -name '*.xml' | wc -l)"
+has rules '{"locale":"und","rules":[]}' '{"locale":"qbb-Arab","rules":[]}' '{"locale":"qbe","rules":[]}'
+judge 'usual names are the default' cmp "$folder/names.json" <(python3 "$tool" "$folder/known" --names usual 2>/dev/null)
+judge 'modern is the default' cmp "$folder/names.json" <(python3 "$tool" "$folder/known" --coverage modern 2>/dev/null)
+
+# Names of the command: own locales as they are written, others as tags.
+makes words "$folder/known" XQ_gg qba-latn-ff QBB qbb_CYRL_ee qba-AA
+listed qbb qba-AA xq-GG qba-Latn-FF qbb-Cyrl-EE
+has symbols '{"locale":"xq-GG","minus":["-",""],"plus":["+",""],"decimal":"·","group":",","numsys":"latn","sizes":[3,3,1]}'
+is_named qba-AA qba-Latn-FF
+
+# The JSON packages.
+makes json_names "$release/json"
+listed qaa qaa-BB qaa-{AA,EE,FF,GG} xq xq-{AA,BB,EE,FF,GG} qaa-XB
+is_named qaa qaa-AA qaa-EE qaa-FF xq xq-AA xq-EE xq-FF
+is_named qaa-BB qaa-GG xq-BB xq-GG qaa-XB
+makes json_moderate "$release/json" --coverage moderate --names none
+counts rules 3
+has rules '{"locale":"qad","rules":[]}'
+makes json_basic "$release/json" --coverage basic --names none
+counts rules 4
+has rules '{"locale":"qad","rules":[]}' '{"locale":"qac","rules":[]}'
+makes json_every "$release/json" --coverage all --names none
+counts rules 6
+has rules '{"locale":"qae","rules":[]}' '{"locale":"und","rules":[]}'
+
+# What a name means.
+means 'the locale qba-BB; write qba-BB - (LOCALE and NU of decfmt)' qba-BB qba_BB QBA-bb qba_BB.UTF-8 qba_BB@euro und-BB     xqa-BB qba-Latn-BB qba-BB-rozaj qba-BB-u-co-phonebk
+means 'the locale qba-BB; write qba-BB deva (LOCALE and NU of decfmt)' qba-BB-u-nu-deva qba_bb_u_co_phonebk_NU_DEVA
+means 'the locale qba-BB; write xq-GG - (LOCALE and NU of decfmt)' xq-GG XQ_gg.utf8
+means 'the locale qba; write xq - (LOCALE and NU of decfmt)' xq
+means 'the locale qba; write qba-EE - (LOCALE and NU of decfmt)' qba_EE
+means 'the locale qbb-Cyrl-AA; write qbb-Cyrl-AA - (LOCALE and NU of decfmt)' qbb_AA@cyrillic qbb-Qabx-AA
+means 'the locale qbb-Latn-AA; write qbb-XB - (LOCALE and NU of decfmt)' qbb-XB
+means 'the locale qbc; write qbc - (LOCALE and NU of decfmt), in tables with --coverage moderate' qbc
+means 'the locale qbd; write qbd-AA - (LOCALE and NU of decfmt), in tables with --coverage basic' qbd_AA.UTF-8
+means 'the locale qbe; write qbe - (LOCALE and NU of decfmt), in tables with --coverage all' qbe
+means 'the locale qaf-ZZ-u-va-posix; write qaf-ZZ-u-va-posix - (LOCALE and NU of decfmt), in tables with --coverage all'     qaf-ZZ-u-va-posix qaf_ZZ_POSIX
+means 'the locale und; write und - (LOCALE and NU of decfmt), in tables with --coverage all' und root
+means 'no locale of the release; the nearest: qba, qba-AA, qba-BB' qba-DD qba-Arab
+means 'no locale of the release; the nearest: qbb, qbb-Arab, qbb-Cyrl, qbb-Latn, qbb-Cyrl-AA' qbb-Copt-u-nu-latn qbb-Deva
+means 'no locale of the release; none is near' zz
+means 'no locale of the release; the nearest: qaf-ZZ-u-va-posix' C POSIX C.UTF-8
+means 'the release has no digits of a numbering system roman' qba-u-nu-roman
+
+# What was left out, by kinds; how far it is, on a terminal alone.
+python3 "$tool" "$release" -o "$folder/out" qac 2>"$folder/err"
+judge 'kinds of what is left out' diff - "$folder/err" <<'END'
+3 in 2 locales: numbering systems left out (--verbose names each)
+3 in 1 locale: plural rules left out (--verbose names each)
+1 in 1 locale: plain patterns with a text or a sign left out (--verbose names each)
+16 in 1 locale: compact patterns left out (--verbose names each)
+1 in 1 locale: compact patterns with a negative subpattern, for which the sign stands before the positive one (--verbose names each)
+END
+python3 "$tool" "$release" -o "$folder/out" qad qaa-BB 2>"$folder/err"
+judge 'entries and drafts left out' diff - "$folder/err" <<END
+3 in 2 locales: numbering systems left out (--verbose names each)
+1 in 1 locale: drafts below contributed, for which what is inherited stands (--verbose names each)
+2 in 1 locale: plain patterns with a text or a sign left out (--verbose names each)
+4 in 1 locale: symbols or compact patterns left out as a whole (--verbose names each)
+END
+python3 -c 'import pty, sys; sys.exit(pty.spawn(sys.argv[1:]) and 1)' \
+    python3 "$tool" "$release" -o "$folder/out" qaa qab >"$folder/err" </dev/null
+judge 'progress on a terminal' diff <(tr '\r\033' '<~' <"$folder/err") - <<'END'
+<~[K0/2 qaa<~[K1/2 qab<~[K2 in 1 locale: numbering systems left out (--verbose names each)<
+END
+
 # Statuses.
 ends 0 --help
 judge 'help' grep -q 'usage: cldr_to_tables.py' "$folder/out"
@@ -285,6 +429,23 @@ printf 'PK\003\004' >"$folder/broken.zip"
 ends 3 "$folder/broken.zip"
 ends 4 "$release" qaa qaz
 judge 'an unknown locale' grep -qx 'error: qaz: the release has no such locale' "$folder/err"
+judge 'what is near to it' grep -qx 'qaz: no locale of the release; the nearest: .*' "$folder/err"
+ends 4 "$folder/known" qba_BB.UTF-8
+judge 'another spelling' diff - "$folder/err" <<END
+error: qba_BB.UTF-8: the release has no such locale
+qba_BB.UTF-8: the locale qba-BB; write qba-BB - (LOCALE and NU of decfmt)
+END
+ends 4 "$folder/known" --which qba --which zz
+judge 'two names' diff - "$folder/out" <<END
+qba: the locale qba; write qba - (LOCALE and NU of decfmt)
+zz: no locale of the release; none is near
+END
+ends 2 "$release" --coverage full
+ends 2 "$release" --names some
+ends 2 "$release" qaa --coverage all
+ends 2 "$release" qaa --names all
+ends 2 "$release" qaa --which qaa
+ends 2 "$release" --which qaa -o "$folder/out"
 ends 1 "$release" -o "$folder/none/tables.json"
 ends 1 "$release" -o /dev/full
 

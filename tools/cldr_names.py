@@ -1,6 +1,6 @@
 """What a name of a locale means by a CLDR release, and which names get entries of their own in decfmt's tables.
 
-cldr_to_tables.py reads the release; here nothing is read. Names and locales are written as CLDR's files are: zh_Hant_TW.
+cldr_to_tables.py reads the release; here nothing is read. Names and locales are written as CLDR's files: zh_Hant_TW.
 """
 import collections
 import difflib
@@ -12,8 +12,8 @@ MOST_REPLACED = 8
 MOST_NEAR = 5
 
 Facts = collections.namedtuple("Facts", "likely languages scripts regions parents spoken")
-Facts.__doc__ = """What a release says of names: `likely` subtags; the aliases of `languages`, `scripts` and `regions`, each
-with its replacement; the `parents` that are named; `spoken`, pairs of a language, perhaps with a script, and a region."""
+Facts.__doc__ = """What a release says of names: `likely` subtags; the aliases of `languages`, `scripts` and `regions` with
+their replacements; the `parents` that are named; `spoken`, pairs of a language, perhaps with a script, and a region."""
 
 Asked = collections.namedtuple("Asked", "name system is_tag")
 Asked.__doc__ = "A name without what isn't part of it, the numbering system it asks for, and whether it is a plain tag."
@@ -201,7 +201,7 @@ class Names:
            with each of its regions: hi_Deva, sr_Latn_RU, zh_Hans_US;
         3. each alias of a language alone: iw, tl, cmn, deu, no_nyn; one of two letters also with the regions of its
            language: iw_IL, sh_BA;
-        4. a language with an old code of two letters of a region in which the release has a locale for it: en_UK, my_BU.
+        4. a language with an old code of two letters, where the release has a locale for it in the region: en_UK, my_BU.
 
         With all also scripts where there is no other one (de_Latn_AT), each alias with the regions of its language
         (cmn_CN, deu_AT), and what likely subtags say of an unknown language (und_TW).

@@ -64,7 +64,7 @@ UNREADABLE = (NotARelease, Inexpressible, OSError, ElementTree.ParseError, zipfi
 
 
 class Reports:
-    """What goes to standard error: what was left out, each once or counted by kinds, and progress if it is a terminal."""
+    """What goes to standard error: what was left out, each once or counted by kinds; on a terminal progress too."""
 
     def __init__(self, stream, is_verbose=False):
         self.stream = stream
@@ -343,7 +343,8 @@ class LdmlRelease(Release):
     def has_patterns(self, locale):
         """Tells whether a locale's own file has compact patterns of both styles."""
         lengths = self.parse("main", f"{locale}.xml").iterfind("numbers/decimalFormats/decimalFormatLength")
-        return set(STYLES) <= {length.get("type") for length in lengths if length.find("decimalFormat/pattern") is not None}
+        found = {length.get("type") for length in lengths if length.find("decimalFormat/pattern") is not None}
+        return found.issuperset(STYLES)
 
     def facts(self):
         """What the release says of names (UTS 35 Part 1, Likely Subtags, and its data on territories and aliases)."""
@@ -439,12 +440,12 @@ class JsonRelease(Release):
 
     @functools.cached_property
     def levels(self):
-        """The levels of coverage that the packages list."""
+        """The levels of coverage: modern as the packages list such locales, others if they have a file of levels."""
+        levels = {}
         if below(self.folder, "cldr-core", "coverageLevels.json").exists():
-            listed = self.load("cldr-core", "coverageLevels.json")["effectiveCoverageLevels"]
-            return {self.internal(name): level for name, level in listed.items()}
-        listed = self.load("cldr-core", "availableLocales.json")["availableLocales"]["modern"]
-        return {self.internal(name): "modern" for name in listed}
+            levels = self.load("cldr-core", "coverageLevels.json")["effectiveCoverageLevels"]
+        modern = self.load("cldr-core", "availableLocales.json")["availableLocales"]["modern"]
+        return {self.internal(name): level for name, level in {**levels, **dict.fromkeys(modern, "modern")}.items()}
 
     def level(self, locale):
         """The level of coverage of a locale."""
@@ -457,12 +458,11 @@ class JsonRelease(Release):
         parents = parents["parentLocale"]
         aliases = self.load("cldr-core", "supplemental", "aliases.json")["supplemental"]["metadata"]["alias"]
         languages, scripts, regions = (
-            {self.internal(name): alias["_replacement"] for name, alias in aliases[f"{kind}Alias"].items()}
+            {name.replace("-", "_"): alias["_replacement"] for name, alias in aliases[f"{kind}Alias"].items()}
             for kind in ("language", "script", "territory")
         )
-        likely, parents = (
-            {self.internal(name): self.internal(other) for name, other in pairs.items()} for pairs in (likely, parents)
-        )
+        likely = {name.replace("-", "_"): full.replace("-", "_") for name, full in likely.items()}
+        parents = {self.internal(name): self.internal(parent) for name, parent in parents.items()}
         return cldr_names.Facts(likely, languages, scripts, regions, parents, self.spoken())
 
     def spoken(self):
@@ -947,7 +947,7 @@ def told(release, name):
     locale = release.names.meant(question.name)
     if locale is None:
         near = release.names.near(question.name)
-        told_near = f"the nearest are {', '.join(map(named, near))}" if near else "none is near"
+        told_near = f"the nearest: {', '.join(map(named, near))}" if near else "none is near"
         return False, f"{name}: no locale of the release; {told_near}"
     if question.system and question.system not in release.digits():
         return False, f"{name}: the release has no digits of a numbering system {question.system}"
@@ -1023,10 +1023,10 @@ def read_words(words):
     parser.add_argument("locales", metavar="LOCALE", nargs="*", help="as de, pt-AO or zh-TW: these alone")
     parser.add_argument("-o", "--output", metavar="FILE", help="where the tables go; standard output if left out")
     parser.add_argument("--coverage", choices=(*LEVELS, "all"), help="the locales covered so well, or all; else modern")
-    parser.add_argument("--names", choices=("none", "usual", "all"), help="which names locales have too; else the usual")
+    parser.add_argument("--names", choices=("none", "usual", "all"), help="which further names; else the usual ones")
     parser.add_argument("--which", metavar="NAME", action="append", help="tells which locale NAME means; no tables")
     parser.add_argument("--verbose", action="store_true", help="names each thing that isn't in the tables as in CLDR")
-    options = parser.parse_args(words)
+    options = parser.parse_intermixed_args(words)
     if options.locales and (options.coverage or options.names):
         parser.error("--coverage and --names are for tables without a LOCALE")
     if options.which and (options.locales or options.coverage or options.names or options.output):
