@@ -322,7 +322,11 @@ makes names "$folder/known"
 listed "${locales[@]}" "${usual[@]}"
 is_named qba qba-EE qba-FF xq xqa xq-EE xq-FF
 is_named qba-AA xq-AA qba-XA qba-XB
-is_named qba-BB qba-GG xq-BB xq-GG qba-XC
+is_named qba-BB xq-BB qba-XC
+is_named qba-GG xq-GG
+# the parent that is named, but the plural rules of what is left without a subtag
+has symbols '{"locale":"qba-GG","minus":["-",""],"plus":["+",""],"decimal":"·","group":",","numsys":"latn","sizes":[3,3,1]}'
+has rules '{"locale":"qba-BB","rules":[["two","n = 2"]]}' '{"locale":"qba-GG","rules":[["one","n = 1"]]}'
 is_named qbb-Latn qbb-EE qbb-Latn-CC qbb-Latn-EE
 is_named qbb-Latn-AA qbb-AA qbb-XA qbb-XB
 is_named qbb-Cyrl qbb-CC qbb-Cyrl-CC qbb-Cyrl-EE xs xs-CC xs-EE
@@ -337,8 +341,9 @@ answers 'qba-XC - plain' '1.5\n' '1·5\n'
 answers 'qbb-EE - plain' '1.5\n' '1_5\n'
 answers 'xs - short' '1500\n' '1~5L\n'
 makes all_names "$folder/known" --names all
-listed "${locales[@]}" "${usual[@]}" qba-Latn qba-Latn-{AA,BB,EE,FF,GG} qbf-Latn{,-AA} xqa-{AA,BB,EE,FF,GG} und-BB
-is_named qba-BB qba-Latn-BB qba-Latn-GG xqa-GG und-BB
+listed "${locales[@]}" "${usual[@]}" qba-Latn qba-Latn-{AA,BB,EE,FF,GG} qbf-Latn{,-AA} xqa-{AA,BB,EE,FF,GG}
+is_named qba-BB qba-Latn-BB
+is_named qba-GG qba-Latn-GG xqa-GG
 # levels of coverage, with names
 makes moderate "$folder/known" --coverage moderate
 listed "${locales[@]}" "${usual[@]}" qbc qbc-AA
@@ -372,7 +377,8 @@ counts rules 6
 has rules '{"locale":"qae","rules":[]}' '{"locale":"und","rules":[]}'
 
 # What a name means.
-means 'the locale qba-BB; write qba-BB - (LOCALE and NU of decfmt)' qba-BB qba_BB QBA-bb qba_BB.UTF-8 qba_BB@euro und-BB     xqa-BB qba-Latn-BB qba-BB-rozaj qba-BB-u-co-phonebk
+means 'the locale qba-BB; write qba-BB - (LOCALE and NU of decfmt)' qba-BB qba_BB QBA-bb qba_BB.UTF-8 qba_BB@euro und-BB \
+    xqa-BB qba-Latn-BB qba-BB-rozaj qba-BB-u-co-phonebk
 means 'the locale qba-BB; write qba-BB deva (LOCALE and NU of decfmt)' qba-BB-u-nu-deva qba_bb_u_co_phonebk_NU_DEVA
 means 'the locale qba-BB; write xq-GG - (LOCALE and NU of decfmt)' xq-GG XQ_gg.utf8
 means 'the locale qba; write xq - (LOCALE and NU of decfmt)' xq
@@ -382,9 +388,11 @@ means 'the locale qbb-Latn-AA; write qbb-XB - (LOCALE and NU of decfmt)' qbb-XB
 means 'the locale qbc; write qbc - (LOCALE and NU of decfmt), in tables with --coverage moderate' qbc
 means 'the locale qbd; write qbd-AA - (LOCALE and NU of decfmt), in tables with --coverage basic' qbd_AA.UTF-8
 means 'the locale qbe; write qbe - (LOCALE and NU of decfmt), in tables with --coverage all' qbe
-means 'the locale qaf-ZZ-u-va-posix; write qaf-ZZ-u-va-posix - (LOCALE and NU of decfmt), in tables with --coverage all'     qaf-ZZ-u-va-posix qaf_ZZ_POSIX
+means 'the locale qaf-ZZ-u-va-posix; write qaf-ZZ-u-va-posix - (LOCALE and NU of decfmt), in tables with --coverage all' \
+    qaf-ZZ-u-va-posix qaf_ZZ_POSIX
 means 'the locale und; write und - (LOCALE and NU of decfmt), in tables with --coverage all' und root
-means 'no locale of the release; the nearest: qba, qba-AA, qba-BB' qba-DD qba-Arab
+means 'no locale of the release; the nearest: qba, qba-AA, qba-BB' qba-DD qba-Arab qba-Arab-DD
+means 'no locale of the release; the nearest: qba, qba-AA, qba-BB' qba-Arab-GG qba-Qabx
 means 'no locale of the release; the nearest: qbb, qbb-Arab, qbb-Cyrl, qbb-Latn, qbb-Cyrl-AA' qbb-Copt-u-nu-latn qbb-Deva
 means 'no locale of the release; none is near' zz
 means 'no locale of the release; the nearest: qaf-ZZ-u-va-posix' C POSIX C.UTF-8

@@ -1,6 +1,8 @@
-// Formats decimals by ICU, for tests/icu_compare.py: every written fraction digit of a plain number, ICU's own rounding
-// of a short or long one. A line `= LOCALE SYSTEM STYLE` chooses the formatter, `-` the locale's own system; each other
-// line is a decimal, and is answered by a line. With the word --version it prints the versions of ICU and of its CLDR data.
+// Formats decimals by ICU, for tests/icu_compare.py and tests/icu_names.py: every written fraction digit of a plain
+// number, ICU's own rounding of a short or long one. A line `= LOCALE SYSTEM STYLE` chooses the formatter, `-` the
+// locale's own system; each other line is a decimal, and is answered by a line. What ICU has no data for is root's.
+// With the word --version it prints the versions of ICU and of its CLDR data, with --available the locales that it has;
+// with --likely each line is a name, and is answered by the canonical one with likely subtags.
 #include <cstdio>
 #include <iostream>
 #include <map>
@@ -64,12 +66,33 @@ static std::string formatted(Choice &choice, const std::string &decimal, UErrorC
     return text;
 }
 
+static int print_available() {
+    for (int index = 0; index < uloc_countAvailable(); index++) {
+        puts(uloc_getAvailable(index));
+    }
+    return 0;
+}
+
+static int print_likely() {
+    UErrorCode status = U_ZERO_ERROR;
+    std::string line;
+    while (std::getline(std::cin, line)) {
+        Locale locale = Locale::forLanguageTag(line, status);
+        locale.canonicalize(status);
+        locale.addLikelySubtags(status);
+        std::cout << locale.getBaseName() << '\n';
+    }
+    return U_FAILURE(status);
+}
+
 int main(int count, char **words) {
-    if (count > 1 && std::string(words[1]) == "--version") {
-        return print_versions();
+    std::string word = count > 1 ? words[1] : "";
+    if (word != "") {
+        return word == "--version" ? print_versions() : word == "--available" ? print_available() : print_likely();
     }
     std::ios::sync_with_stdio(false);
     UErrorCode status = U_ZERO_ERROR;
+    Locale::setDefault(Locale::getRoot(), status);
     Choice choice;
     std::string line;
     while (std::getline(std::cin, line)) {

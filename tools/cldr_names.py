@@ -12,8 +12,8 @@ MOST_REPLACED = 8
 MOST_NEAR = 5
 
 Facts = collections.namedtuple("Facts", "likely languages scripts regions parents spoken")
-Facts.__doc__ = """What a release says of names: `likely` subtags; the aliases of `languages`, `scripts` and `regions` with
-their replacements; the `parents` that are named; `spoken`, pairs of a language, perhaps with a script, and a region."""
+Facts.__doc__ = """What a release says of names: `likely` subtags; the aliases of `languages`, `scripts` and `regions`; the
+`parents` that are named; `spoken`, pairs of a language, perhaps with a script, and a region."""
 
 Asked = collections.namedtuple("Asked", "name system is_tag")
 Asked.__doc__ = "A name without what isn't part of it, the numbering system it asks for, and whether it is a plain tag."
@@ -133,29 +133,38 @@ class Names:
         return None
 
     def meant(self, name):
-        """The locale of the release that a name means, or None.
+        """The locale of the release that a name means, or None."""
+        return self.found(name)[0]
+
+    def ruled(self, name):
+        """The locale whose plural rules a name has."""
+        return self.found(name)[1]
+
+    def found(self, name):
+        """The locale that a name means, and that whose plural rules it has.
 
         One that the release has by this name, or by the canonical one, stands. Else it is the locale with the same
         language, script and region after likely subtags are added; else, for a region without a locale, the parent that
         the release names, or the language in that script. A script that the release doesn't have for a language has no
-        locale: its parent is root (UTS 35 Part 1, Likely Subtags; Parent Locales).
+        locale: its parent is root. Plural rules have no such parents: they are those of the name less subtags (UTS 35
+        Part 1, Likely Subtags; Parent Locales).
         """
         if name.lower() == "und":
-            return "root"
+            return "root", "root"
         fields = self.canonical(name)
         for exact in (in_usual_letters(name), joined(*fields[:3], *fields.variants), joined(*fields[:3])):
             if exact.lower() in self.own:
-                return self.own[exact.lower()]
+                return (self.own[exact.lower()],) * 2
         full = self.maximized(fields)
         if full is None:
-            return None if fields.script else self.own.get(fields.language)
+            return (None if fields.script else self.own.get(fields.language),) * 2
         if full in self.by_likely:
-            return self.by_likely[full]
+            return (self.by_likely[full],) * 2
         for form in (joined(*full), joined(full[0], full[2])):
-            if form in self.facts.parents and form.lower() not in self.own:
+            if form in self.facts.parents and self.maximized(fields_of(form)) == full:
                 parent = self.facts.parents[form]
-                return None if parent == "root" else self.own.get(parent.lower())
-        return self.of_script(*full[:2])
+                return None if parent == "root" else self.own.get(parent.lower()), form
+        return (self.of_script(*full[:2]),) * 2
 
     def of_script(self, language, script):
         """The locale of a language in a script, or None."""
@@ -201,22 +210,21 @@ class Names:
            with each of its regions: hi_Deva, sr_Latn_RU, zh_Hans_US;
         3. each alias of a language alone: iw, tl, cmn, deu, no_nyn; one of two letters also with the regions of its
            language: iw_IL, sh_BA;
-        4. a language with an old code of two letters, where the release has a locale for it in the region: en_UK, my_BU.
+        4. a language with an old code of two letters of a region for which the release has a locale of it: en_UK.
 
-        With all also scripts where there is no other one (de_Latn_AT), each alias with the regions of its language
-        (cmn_CN, deu_AT), and what likely subtags say of an unknown language (und_TW).
+        With all also scripts where there is no other one (de_Latn_AT), and each alias with the regions of its language
+        (cmn_CN, deu_AT).
 
         A name that a locale of the release has isn't added: it stands for this locale alone, chosen or not. Nor is one
-        that means a locale that isn't chosen, or none.
+        that means a locale that isn't chosen, or none, nor one without a language (und_TW), though likely subtags have
+        it.
         """
         chosen = set(chosen)
         forms = self.by_region(self.in_scripts(chosen), with_all) | self.by_alias(with_all) | self.by_old_region()
-        if with_all:
-            forms.update(name for name in self.facts.likely if name.startswith("und_"))
         found = {}
         for name in sorted(forms):
             locale = self.meant(name)
-            if name.lower() not in self.own and locale in chosen and locale != "root":
+            if name.lower() not in self.own and locale in chosen and not name.startswith("und"):
                 found[name] = locale
         return found
 
@@ -230,7 +238,7 @@ class Names:
             forms.add(joined(language, region))
             forms.update(joined(language, script) for script in scripts)
             forms.update(joined(language, script, region) for script in scripts)
-        return {form for form in forms if not form.startswith("und")}
+        return forms
 
     def by_alias(self, with_all):
         """Aliases of languages, alone and with the regions of the language that they mean."""
@@ -243,7 +251,7 @@ class Names:
             forms.add(alias)
             if "_" not in alias and (with_all or len(alias) == 2):
                 forms.update(joined(alias, region) for region in regions[language])
-        return {form for form in forms if not form.startswith(("und", "i_default"))}
+        return forms
 
     def by_old_region(self):
         """Languages with the old code of a region, where the release has a locale for the language in the new one."""

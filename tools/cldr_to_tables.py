@@ -893,13 +893,15 @@ class TablesMaker:
 
     def add(self, tag, locale):
         """Adds all entries of a locale under a name."""
-        for key, entries in self.entries(locale).items():
+        ruled = locale if tag == named(locale) else self.release.names.ruled(tag)
+        for key, entries in self.entries(locale, ruled).items():
             self.tables[key].extend({"locale": tag, **entry} for entry in entries)
 
     @functools.lru_cache(maxsize=None)
-    def entries(self, locale):
-        """The entries of a locale by their keys, without `locale`, as every name of it has them."""
-        rules = conditions(self.release, locale)
+    def entries(self, locale, ruled):
+        """The entries of a locale with the plural rules of another by their keys, without `locale`: they are read once,
+        and stand under every name."""
+        rules = conditions(self.release, ruled)
         systems = systems_of(self.release, locale, self.digits)
         entries = {"symbols": self.symbols(locale, systems), "rules": [{"rules": rules}]}
         return {**entries, **{style: self.compact(locale, systems, style, rules) for style in STYLES}}
