@@ -384,6 +384,7 @@ means 'the locale qba-BB; write xq-GG - (LOCALE and NU of decfmt)' xq-GG XQ_gg.u
 means 'the locale qba; write xq - (LOCALE and NU of decfmt)' xq
 means 'the locale qba; write qba-EE - (LOCALE and NU of decfmt)' qba_EE
 means 'the locale qbb-Cyrl-AA; write qbb-Cyrl-AA - (LOCALE and NU of decfmt)' qbb_AA@cyrillic qbb-Qabx-AA
+means 'the locale qbb-Latn-AA; write qbb-Latn-AA - (LOCALE and NU of decfmt)' qbb-Latn-AA xs-Latn-AA XS_LATN_XA
 means 'the locale qbb-Latn-AA; write qbb-XB - (LOCALE and NU of decfmt)' qbb-XB
 means 'the locale qbc; write qbc - (LOCALE and NU of decfmt), in tables with --coverage moderate' qbc
 means 'the locale qbd; write qbd-AA - (LOCALE and NU of decfmt), in tables with --coverage basic' qbd_AA.UTF-8
