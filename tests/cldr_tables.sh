@@ -1,6 +1,6 @@
 #!/bin/bash
 # Makes tables of a small release, written for the purpose, and compares their entries, what is told on standard error,
-# statuses, and what decfmt writes with them.
+# what names mean, statuses, and what decfmt writes with them.
 # usage: tests/cldr_tables.sh [PROGRAM]
 program=${1:-$(dirname "$0")/../crates/decfmt/out/decfmt}
 tool=$(dirname "$0")/../tools/cldr_to_tables.py
@@ -313,8 +313,8 @@ usual=(
     qba-EE qba-FF qba-GG qbb-AA qbb-CC qbb-EE qbf-AA
     # two scripts, and regions with each
     qbb-Cyrl-CC qbb-Cyrl-EE qbb-Latn-CC qbb-Latn-EE
-    # aliases, alone and, if they have two letters, with regions
-    xq xqa xs qba-old xq-AA xq-BB xq-EE xq-FF xq-GG xs-AA xs-CC xs-EE
+    # aliases, the longest first, alone and, if they have two letters, with regions
+    xq xqa xs qba-old xq-new xq-AA xq-BB xq-EE xq-FF xq-GG xs-AA xs-CC xs-EE
     # old regions: one, the likely one of several, the first of several
     qba-XA qbb-XA qba-XB qbb-XB qba-XC
 )
@@ -329,7 +329,7 @@ has symbols '{"locale":"qba-GG","minus":["-",""],"plus":["+",""],"decimal":"·",
 has rules '{"locale":"qba-BB","rules":[["two","n = 2"]]}' '{"locale":"qba-GG","rules":[["one","n = 1"]]}'
 is_named qbb-Latn qbb-EE qbb-Latn-CC qbb-Latn-EE
 is_named qbb-Latn-AA qbb-AA qbb-XA qbb-XB
-is_named qbb-Cyrl qbb-CC qbb-Cyrl-CC qbb-Cyrl-EE xs xs-CC xs-EE
+is_named qbb-Cyrl qbb-CC qbb-Cyrl-CC qbb-Cyrl-EE xs xs-CC xs-EE xq-new
 is_named qbb-Cyrl-AA xs-AA
 is_named qbf qbf-AA qba-old
 has symbols \

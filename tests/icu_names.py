@@ -67,8 +67,8 @@ class Meanings:
         self.full = dict(zip(tags, self.likely(tags)))
         bare = sorted({full[0] for full in self.full.values()} - {""})
         self.script = {language: full[1] for language, full in zip(bare, self.likely(bare))}
-        self.covered = {self.full[cldr.named(locale)]: locale for locale in covered if "POSIX" not in locale}
-        self.in_script = {(full[0], full[1]) for full in self.covered}
+        self.covered = {self.full[cldr.named(locale)] for locale in covered}
+        self.in_script = {full[:2] for full in self.covered}
 
     def likely(self, tags):
         """Language, script and region of each tag."""
@@ -82,10 +82,8 @@ class Meanings:
 
     def is_covered(self, tag):
         """Tells whether a name means a modern locale by ICU: one with this full form, or a language in this script."""
-        language, script, _ = self.full[tag]
-        if tag.startswith("und"):
-            return False
-        return self.full[tag] in self.covered or (language, script) in self.in_script
+        full = self.full[tag]
+        return not tag.startswith("und") and (full in self.covered or full[:2] in self.in_script)
 
 
 def compare(formatters, tables, meanings, release, names, lines):

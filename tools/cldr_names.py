@@ -12,7 +12,7 @@ MOST_REPLACED = 8
 MOST_NEAR = 5
 
 Facts = collections.namedtuple("Facts", "likely languages scripts regions parents spoken")
-Facts.__doc__ = """What a release says of names: `likely` subtags; the aliases of `languages`, `scripts` and `regions`; the
+Facts.__doc__ = """What a release says of names: `likely` subtags; aliases of `languages`, `scripts` and `regions`; the
 `parents` that are named; `spoken`, pairs of a language, perhaps with a script, and a region."""
 
 Asked = collections.namedtuple("Asked", "name system is_tag")

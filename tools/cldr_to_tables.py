@@ -443,7 +443,7 @@ class JsonRelease(Release):
         """The levels of coverage: modern as the packages list such locales, others if they have a file of levels."""
         levels = {}
         if below(self.folder, "cldr-core", "coverageLevels.json").exists():
-            levels = self.load("cldr-core", "coverageLevels.json")["effectiveCoverageLevels"]
+            levels = self.load("cldr-core", "coverageLevels.json").get("effectiveCoverageLevels", {})
         modern = self.load("cldr-core", "availableLocales.json")["availableLocales"]["modern"]
         return {self.internal(name): level for name, level in {**levels, **dict.fromkeys(modern, "modern")}.items()}
 
