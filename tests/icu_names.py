@@ -119,7 +119,7 @@ def kind_of(found, is_same_data, kinds, entries):
         return LOOKED_UP
     if by_form == by_locale and not is_same_data and entries[job.locale] == entries[locale]:
         return DATA if theirs == by_form else f"{LOOKED_UP}; {DATA}"
-    return kinds.kind_of(Difference(job._replace(locale=locale), number, ours, by_form)) or OTHER
+    return kinds.kind_of(Difference(job, number, ours, by_form)) or OTHER
 
 
 def entries_by_name(tables):
@@ -163,6 +163,7 @@ def judge(formatters, release, versions, meanings, names):
     asked = sorted(set(names).intersection(dict(pairs)))
     lines = icu_compare.numbers()[::STEP]
     kinds = icu_compare.Kinds(formatters, release, tables)
+    kinds.names.update(pairs)
     is_same_data = icu_compare.same_version(versions[1], release.version())
     by_kind = collections.defaultdict(list)
     entries = entries_by_name(tables)
