@@ -1,8 +1,9 @@
 /* Lines of decimals to lines of text, in the form of a locale: the formatter of the program decfmt as a library.
  *
  * The input is lines of decimals, the output has one line for each: the decimal as the locale writes it, or one of
- * "error: not a decimal", "error: too many digits" and "error: overflow". A line ends in a line feed, one carriage return
- * before it is dropped, and the last line may end without. Texts are bytes with a length, without a NUL at the end;
+ * "error: not a decimal", "error: too many digits" and "error: overflow". Where a text of the tables has a line feed, so
+ * has an answer with that text, which is then of several lines. A line ends in a line feed, one carriage return before it
+ * is dropped, and the last line may end without. Texts are bytes with a length, without a NUL at the end;
  * only the words of talmuiga_format_lines, at the end of this file, end in one.
  *
  * What a call promises of its output is proved of the code that the library is built of. What its caller owes is below,
