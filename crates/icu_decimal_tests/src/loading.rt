@@ -120,12 +120,7 @@ fn writes(
     want: &str,
 ) -> Result<bool, DataError> {
     match writes_once(alloc, refusals, asked, number, want) {
-        Err(
-            DataError {
-                kind: DataErrorKind::OutOfMemory,
-                ..
-            },
-        ) => writes_once(alloc, refusals, asked, number, want),
+        Err(WANT_OF_MEMORY) => writes_once(alloc, refusals, asked, number, want),
         answered => answered,
     }
 }
