@@ -15,6 +15,9 @@
 #include <stdint.h>
 #include <string.h>
 
+/* The version of the project that this header is of. */
+#define TALMUIGA_VERSION "0.1.0"
+
 #ifdef __cplusplus
 extern "C" {
 #endif

@@ -424,6 +424,8 @@ END
 # Statuses.
 ends 0 --help
 judge 'help' grep -q 'usage: cldr_to_tables.py' "$folder/out"
+ends 0 --version
+judge 'version' diff <(echo "cldr_to_tables.py $(cat "$(dirname "$0")/../VERSION")") "$folder/out"
 ends 2
 ends 2 --none "$release"
 mkdir "$folder/empty"

@@ -3,19 +3,20 @@
 
 usage: tests/docs.py [--write]
 
-- Each relative link of README.md, CONTRIBUTING.md, docs/, tables/ and the crates' pages has its target, a heading too;
+- Each relative link of README.md, CONTRIBUTING.md, CHANGELOG.md, docs/, tables/ and the crates' pages has its target, a heading too;
   the name of a call, a definition or an edit that is a link stands in the file that the link leads to.
 - docs/EDITS.md names each must-fail edit, and docs/MAP.md each file of specs/ and proofs/, just as the files say:
   both pages are made from them. --write makes them anew.
 - Each block of Rust code of README.md stands so in a source of the crates; the example at the head of each library
   stands in the program crates/examples.
+- The version of include/talmuiga.h is that of VERSION, and CHANGELOG.md begins with it.
 - The text in crates/sample_tables is that of tables/sample.json, byte for byte; the languages of icu_decimal_tests, whose
   tables are maps in code, have the patterns and plural rules of that file.
 - Each command that README.md shows behind `$` gives the output below it, and each row of its table of locales is what
   the program writes. They need crates/decfmt/out/decfmt and crates/tour/out/tour, as `rt run` and `rt ci` build them.
 
-The last line is 'N passed, M failed', one for each page's links, each page that is made, each block and example, the text of
-the tables, each language, each command and each row.
+The last line is 'N passed, M failed', one for each page's links, each page that is made, each block and example, each place
+of the version, the text of the tables, each language, each command and each row.
 """
 import glob
 import json
@@ -26,7 +27,7 @@ import sys
 
 ROOT = os.path.dirname(os.path.dirname(os.path.abspath(__file__)))
 PROGRAM = "crates/decfmt/out/decfmt"
-PAGES = ["README.md", "CONTRIBUTING.md", "docs/*.md", "tables/README.md", "crates/*/README.md"]
+PAGES = ["README.md", "CONTRIBUTING.md", "CHANGELOG.md", "docs/*.md", "tables/README.md", "crates/*/README.md"]
 CIRCLES = ("must-fail", "edits")
 # The languages of icu_decimal_tests that are in tables/sample.json: style, locale, and the name of their plural rules.
 LANGUAGES = {
@@ -252,6 +253,15 @@ def judge_examples():
             judge(any(program[at:at + len(lines)] == lines for at in places), f"{path}: crates/examples hasn't its example")
 
 
+def judge_version():
+    """The header and the newest entry of the changes have the version of the file VERSION."""
+    version = read("VERSION").strip()
+    told = re.findall(r'^#define TALMUIGA_VERSION "(.*)"$', read("include/talmuiga.h"), flags=re.M)
+    judge(told == [version], f"include/talmuiga.h: isn't of version {version}:", str(told))
+    newest = re.search(r"^## (\S+)", read("CHANGELOG.md"), flags=re.M)
+    judge(newest and newest[1] == version, f"CHANGELOG.md: doesn't begin with {version}")
+
+
 def read_exactly(path):
     """The text of a file, the ends of its lines as they are."""
     with open(path, encoding="utf-8", newline="") as file:
@@ -327,6 +337,7 @@ def main():
     page = read("README.md")
     judge_code(page)
     judge_examples()
+    judge_version()
     judge_sample()
     judge_languages()
     judge_commands(page)

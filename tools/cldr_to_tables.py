@@ -1018,6 +1018,15 @@ def written(tables):
     return "{" + ",\n".join(parts) + "}\n"
 
 
+class TellVersion(argparse.Action):
+    """Tells the version of the project, and ends."""
+
+    def __call__(self, parser, *_):
+        version = pathlib.Path(__file__).resolve().parent.parent / "VERSION"
+        print(parser.prog, version.read_text().strip())
+        parser.exit()
+
+
 def read_words(words):
     """The words of the command."""
     parser = argparse.ArgumentParser(description=__doc__, formatter_class=argparse.RawDescriptionHelpFormatter)
@@ -1028,6 +1037,7 @@ def read_words(words):
     parser.add_argument("--names", choices=("none", "usual", "all"), help="which further names; else the usual ones")
     parser.add_argument("--which", metavar="NAME", action="append", help="tells which locale NAME means; no tables")
     parser.add_argument("--verbose", action="store_true", help="names each thing that isn't in the tables as in CLDR")
+    parser.add_argument("--version", action=TellVersion, nargs=0, help="tells the version of this program, and ends")
     options = parser.parse_intermixed_args(words)
     if options.locales and (options.coverage or options.names):
         parser.error("--coverage and --names are for tables without a LOCALE")
