@@ -3,20 +3,21 @@
 
 usage: tests/docs.py [--write]
 
-- Each relative link of README.md, CONTRIBUTING.md, CHANGELOG.md, docs/, tables/ and the crates' pages has its target, a heading too;
-  the name of a call, a definition or an edit that is a link stands in the file that the link leads to.
+- Each relative link of README.md, CONTRIBUTING.md, CHANGELOG.md, docs/, tables/ and the crates' pages has its target, a
+  heading too; the name of a call, a definition or an edit that is a link stands in the file that the link leads to.
 - docs/EDITS.md names each must-fail edit, and docs/MAP.md each file of specs/ and proofs/, just as the files say:
   both pages are made from them. --write makes them anew.
 - Each block of Rust code of README.md stands so in a source of the crates; the example at the head of each library
   stands in the program crates/examples.
 - The version of include/talmuiga.h is that of VERSION, and CHANGELOG.md begins with it.
+- README.md names the packages of tests/packages.txt, and the logic of the toolchain as `rt version` prints it.
 - The text in crates/sample_tables is that of tables/sample.json, byte for byte; the languages of icu_decimal_tests, whose
   tables are maps in code, have the patterns and plural rules of that file.
 - Each command that README.md shows behind `$` gives the output below it, and each row of its table of locales is what
   the program writes. They need crates/decfmt/out/decfmt and crates/tour/out/tour, as `rt run` and `rt ci` build them.
 
 The last line is 'N passed, M failed', one for each page's links, each page that is made, each block and example, each place
-of the version, the text of the tables, each language, each command and each row.
+of the version, the packages, the toolchain, the text of the tables, each language, each command and each row.
 """
 import glob
 import json
@@ -262,6 +263,16 @@ def judge_version():
     judge(newest and newest[1] == version, f"CHANGELOG.md: doesn't begin with {version}")
 
 
+def judge_needs(page):
+    """The page has the command that installs what the gate needs, and the toolchain that the repository is proved by."""
+    packages = re.findall(r"^([^#\s]+)", read("tests/packages.txt"), flags=re.M)
+    command = f"\nsudo apt-get install {' '.join(packages)}\n"
+    judge(command in page, "README.md: isn't there:", command.strip())
+    logic = subprocess.run(["rt", "version"], stdout=subprocess.PIPE, timeout=60).stdout.decode().strip().partition("logic ")[2]
+    told = set(re.findall(r"`logic (\w+)`", page))
+    judge(logic and told == {logic}, f"README.md: the toolchain's logic is {logic}:", str(told))
+
+
 def read_exactly(path):
     """The text of a file, the ends of its lines as they are."""
     with open(path, encoding="utf-8", newline="") as file:
@@ -338,6 +349,7 @@ def main():
     judge_code(page)
     judge_examples()
     judge_version()
+    judge_needs(page)
     judge_sample()
     judge_languages()
     judge_commands(page)
