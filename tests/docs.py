@@ -11,6 +11,8 @@ usage: tests/docs.py [--write]
   stands in the program crates/examples.
 - The version of include/talmuiga.h is that of VERSION, and CHANGELOG.md begins with it.
 - README.md names the packages of tests/packages.txt, and the logic of the toolchain as `rt version` prints it.
+- docs/decfmt.1, as `man` shows it, has the words, the statuses with their texts, the error lines and the examples of
+  crates/decfmt/README.md, and no other error line; its version is that of VERSION.
 - The text in crates/sample_tables is that of tables/sample.json, byte for byte; the languages of icu_decimal_tests, whose
   tables are maps in code, have the patterns and plural rules of that file.
 - Each command that README.md shows behind `$` gives the output below it, and each row of its table of locales is what
@@ -23,6 +25,7 @@ import glob
 import json
 import os
 import re
+import shutil
 import subprocess
 import sys
 
@@ -273,6 +276,40 @@ def judge_needs(page):
     judge(logic and told == {logic}, f"README.md: the toolchain's logic is {logic}:", str(told))
 
 
+def shown_by_man(path):
+    """The lines of a manual page on a very wide terminal, each without the spaces around and doubled in it."""
+    how = {"env": {**os.environ, "MANWIDTH": "2000", "MAN_KEEP_FORMATTING": "", "LC_ALL": "C.UTF-8"}, "timeout": 60}
+    done = subprocess.run(["man", "--warnings", path], stdout=subprocess.PIPE, stderr=subprocess.PIPE, **how)
+    judge(done.returncode == 0 and not done.stderr, f"{path}: man says", done.stderr.decode())
+    text = done.stdout.decode().translate(str.maketrans("‐−’\u00a0", "--' "))
+    return [" ".join(line.split()) for line in text.splitlines()]
+
+
+def judge_manual():
+    """The manual page says of the program's words, statuses and error lines what the program's page does."""
+    if not shutil.which("man"):
+        print("skipped: docs: there is no man")
+        return
+    path, page = "docs/decfmt.1", read("crates/decfmt/README.md")
+    lines = shown_by_man(path)
+    text = " ".join(line for line in lines if line)
+    words = re.search(r"Else the words are `([^`]+)`", page)[1]
+    judge(f"decfmt {words}" in lines, f"{path}: hasn't the usage: decfmt", words)
+    for word in words.replace("[", "").replace("]", "").split():
+        judge(any(line == word or line.startswith(word + " ") for line in lines), f"{path}: hasn't the word", word)
+    for status, when, told in re.findall(r"^\| (\d) \| (.*) \| (.*) \|$", page, flags=re.M):
+        line = f"{status} {when}: {told.strip('`')}"
+        judge(line in lines, f"{path}: hasn't the status", line)
+    wanted = set(re.findall(r"`(error: [^`]+)`", page))
+    given = set(re.findall(r"(error: [\w ]+)$", "\n".join(lines), flags=re.M))
+    judge(given == wanted, f"{path}: other error lines:", str(given ^ wanted))
+    for shown in re.findall(r"(?:^    .*\n)+", page, flags=re.M):
+        example = " ".join(shown.split())
+        judge(example in text, f"{path}: hasn't the example", example)
+    version = read("VERSION").strip()
+    judge(f'"decfmt {version}"' in read(path).split("\n", 1)[0], f"{path}: isn't of version", version)
+
+
 def read_exactly(path):
     """The text of a file, the ends of its lines as they are."""
     with open(path, encoding="utf-8", newline="") as file:
@@ -350,6 +387,7 @@ def main():
     judge_examples()
     judge_version()
     judge_needs(page)
+    judge_manual()
     judge_sample()
     judge_languages()
     judge_commands(page)
