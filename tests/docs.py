@@ -7,16 +7,16 @@ usage: tests/docs.py [--write]
   heading too; the name of a call, a definition or an edit that is a link stands in the file that the link leads to.
 - docs/EDITS.md names each must-fail edit, and docs/MAP.md each file of specs/ and proofs/, just as the files say:
   both pages are made from them. --write makes them anew.
-- Each block of Rust code of README.md stands so in a source of the crates; the example at the head of each library
-  stands in the program crates/examples.
+- Each block of Rust code of README.md and of the pages of icu_provider and tour stands so in a source of the crates; the
+  example at the head of each library stands in the program crates/examples.
 - The version of include/talmuiga.h is that of VERSION, and CHANGELOG.md begins with it.
 - README.md names the packages of tests/packages.txt, and the logic of the toolchain as `rt version` prints it.
 - docs/decfmt.1, as `man` shows it, has the words, the statuses with their texts, the error lines and the examples of
   crates/decfmt/README.md, and no other error line; its version is that of VERSION.
 - The text in crates/sample_tables is that of tables/sample.json, byte for byte; the languages of icu_decimal_tests, whose
   tables are maps in code, have the patterns and plural rules of that file.
-- Each command that README.md shows behind `$` gives the output below it, and each row of its table of locales is what
-  the program writes. They need crates/decfmt/out/decfmt and crates/tour/out/tour, as `rt run` and `rt ci` build them.
+- Each command that README.md and the page of tour show behind `$` gives the output below it, and each row of README's
+  table of locales is what the program writes. They need crates/decfmt/out/decfmt and crates/tour/out/tour, as `rt run` and `rt ci` build them.
 
 The last line is 'N passed, M failed', one for each page's links, each page that is made, each block and example, each place
 of the version, the packages, the toolchain, the text of the tables, each language, each command and each row.
@@ -32,6 +32,7 @@ import sys
 ROOT = os.path.dirname(os.path.dirname(os.path.abspath(__file__)))
 PROGRAM = "crates/decfmt/out/decfmt"
 PAGES = ["README.md", "CONTRIBUTING.md", "CHANGELOG.md", "docs/*.md", "tables/README.md", "crates/*/README.md"]
+SHOWING = ["README.md", "crates/icu_provider/README.md", "crates/tour/README.md"]
 CIRCLES = ("must-fail", "edits")
 # The languages of icu_decimal_tests that are in tables/sample.json: style, locale, and the name of their plural rules.
 LANGUAGES = {
@@ -238,13 +239,14 @@ def judge_page(page, text, is_writing):
     judge(os.path.exists(page) and read(page) == text, f"{page}: isn't what `tests/docs.py --write` makes")
 
 
-# What README.md shows
+# What README.md and other pages show
 
-def judge_code(page):
+def judge_code():
     """Each block of Rust stands in a source of the crates."""
     sources = [read(path) for path in found("crates/*/src/**/*.rt")]
-    for block in re.findall(r"^```rust\n(.*?)^```$", page, flags=re.M | re.S):
-        judge(any(block in source for source in sources), "README.md: no source has", block.splitlines()[0])
+    for page in SHOWING:
+        for block in re.findall(r"^```rust\n(.*?)^```$", read(page), flags=re.M | re.S):
+            judge(any(block in source for source in sources), f"{page}: no source has", block.splitlines()[0])
 
 
 def judge_examples():
@@ -269,8 +271,8 @@ def judge_version():
 def judge_needs(page):
     """The page has the command that installs what the gate needs, and the toolchain that the repository is proved by."""
     packages = re.findall(r"^([^#\s]+)", read("tests/packages.txt"), flags=re.M)
-    command = f"\nsudo apt-get install {' '.join(packages)}\n"
-    judge(command in page, "README.md: isn't there:", command.strip())
+    command = f"`sudo apt-get install {' '.join(packages)}`"
+    judge(command in page, "README.md: isn't there:", command)
     logic = subprocess.run(["rt", "version"], stdout=subprocess.PIPE, timeout=60).stdout.decode().strip().partition("logic ")[2]
     told = set(re.findall(r"`logic (\w+)`", page))
     judge(logic and told == {logic}, f"README.md: the toolchain's logic is {logic}:", str(told))
@@ -353,13 +355,20 @@ def output_of(command):
     return done.stdout.decode("utf-8", "replace")
 
 
-def judge_commands(page):
-    """Each command behind `$` gives the lines below it."""
-    for block in re.findall(r"^```text\n(\$ .*?)^```$", page, flags=re.M | re.S):
+def commands_of(page):
+    """The commands of a page that stand behind `$`, each with the lines below it."""
+    for block in re.findall(r"^```text\n(\$ .*?)^```$", read(page), flags=re.M | re.S):
         for shown in re.split(r"^\$ ", block, flags=re.M)[1:]:
             command, _, wanted = shown.partition("\n")
+            yield command, wanted.strip("\n")
+
+
+def judge_commands():
+    """Each command behind `$` gives the lines below it."""
+    for page in SHOWING:
+        for command, wanted in commands_of(page):
             given = output_of(command)
-            judge(given.strip("\n") == wanted.strip("\n"), f"README.md: {command}:", given)
+            judge(given.strip("\n") == wanted, f"{page}: {command}:", given)
 
 
 def judge_locales(page):
@@ -383,14 +392,14 @@ def main():
     judge_page("docs/MAP.md", map_page(), is_writing)
     judge_links()
     page = read("README.md")
-    judge_code(page)
+    judge_code()
     judge_examples()
     judge_version()
     judge_needs(page)
     judge_manual()
     judge_sample()
     judge_languages()
-    judge_commands(page)
+    judge_commands()
     judge_locales(page)
     print(f"{counts[True]} passed, {counts[False]} failed")
     return 0 if counts[False] == 0 else 1
