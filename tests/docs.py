@@ -15,19 +15,28 @@ usage: tests/docs.py [--write]
   crates/decfmt/README.md, and no other error line; its version is that of VERSION.
 - The text in crates/sample_tables is that of tables/sample.json, byte for byte; the languages of icu_decimal_tests, whose
   tables are maps in code, have the patterns and plural rules of that file.
-- Each command that README.md and the page of tour show behind `$` gives the output below it, and each row of README's
-  table of locales is what the program writes. They need crates/decfmt/out/decfmt and crates/tour/out/tour, as `rt run` and `rt ci` build them.
+- Each command that README.md and the page of tour show behind `$` gives the output below it, also on a terminal at which
+  nobody types; those of README that build the program and run it have their input from a pipe or a file. Each row of
+  README's table of locales is what the program writes. This needs crates/decfmt/out/decfmt and crates/tour/out/tour, as
+  `rt run` and `rt ci` build them.
 
 The last line is 'N passed, M failed', one for each page's links, each page that is made, each block and example, each place
-of the version, the packages, the toolchain, the text of the tables, each language, each command and each row.
+of the version, the packages, the toolchain, each status, word and example of the manual page, the text of the tables, each
+language, each command, twice, and each row. Without `man` a line 'skipped: docs: WHY' stands for the manual page.
 """
+import fcntl
 import glob
 import json
 import os
+import pty
 import re
+import select
 import shutil
+import signal
 import subprocess
 import sys
+import termios
+import time
 
 ROOT = os.path.dirname(os.path.dirname(os.path.abspath(__file__)))
 PROGRAM = "crates/decfmt/out/decfmt"
@@ -355,6 +364,24 @@ def output_of(command):
     return done.stdout.decode("utf-8", "replace")
 
 
+def typed(command):
+    """What a command shows on a terminal at which nobody types, or none where it hasn't ended in a minute."""
+    screen, terminal = pty.openpty()
+    how = {"stdin": terminal, "stdout": terminal, "stderr": terminal, "start_new_session": True}
+    process = subprocess.Popen(["bash", "-c", command], preexec_fn=lambda: fcntl.ioctl(0, termios.TIOCSCTTY, 0), **how)
+    os.close(terminal)
+    shown, end = b"", time.monotonic() + 60
+    while select.select([screen], [], [], max(0, end - time.monotonic()))[0]:
+        try:
+            shown += os.read(screen, 65536)
+        except OSError:  # the last process has closed the terminal
+            break
+    else:
+        os.killpg(process.pid, signal.SIGKILL)
+    os.close(screen)
+    return shown.decode("utf-8", "replace").replace("\r\n", "\n") if process.wait() >= 0 else None
+
+
 def commands_of(page):
     """The commands of a page that stand behind `$`, each with the lines below it."""
     for block in re.findall(r"^```text\n(\$ .*?)^```$", read(page), flags=re.M | re.S):
@@ -363,12 +390,22 @@ def commands_of(page):
             yield command, wanted.strip("\n")
 
 
+def shell_lines(page):
+    """The lines of a page's blocks of shell."""
+    return "".join(re.findall(r"^```sh\n(.*?)^```$", read(page), flags=re.M | re.S)).splitlines()
+
+
 def judge_commands():
-    """Each command behind `$` gives the lines below it."""
+    """Each command behind `$` gives the lines below it, on a terminal too, at which nobody types; and those that build the
+    program and run it, which aren't tried here, have their input from elsewhere."""
     for page in SHOWING:
         for command, wanted in commands_of(page):
             given = output_of(command)
             judge(given.strip("\n") == wanted, f"{page}: {command}:", given)
+            given = typed(command)
+            judge(given is not None and given.strip("\n") == wanted, f"{page}: on a terminal: {command}:", given or "waits")
+    for line in re.findall(r"^.*\brt (?:run|try)\b.*$", "\n".join(shell_lines("README.md")), flags=re.M):
+        judge(re.search(r"[|<].*\brt ", line), "README.md: waits for input on a terminal:", line)
 
 
 def judge_locales(page):
