@@ -10,6 +10,7 @@ usage: tests/docs.py [--write]
 - Each block of Rust code of README.md and of the pages of icu_provider and tour stands so in a source of the crates; the
   example at the head of each library stands in the program crates/examples.
 - The version of include/talmuiga.h is that of VERSION, and CHANGELOG.md begins with it.
+- The pictures of docs/pictures are what tools/pictures.py draws, and the numbers around 999,500 are shown as one of them says.
 - README.md names the packages of tests/packages.txt, and the logic of the toolchain as `rt version` prints it.
 - docs/decfmt.1, as `man` shows it, has the words, the statuses with their texts, the error lines and the examples of
   crates/decfmt/README.md, and no other error line; its version is that of VERSION.
@@ -21,8 +22,8 @@ usage: tests/docs.py [--write]
   `rt run` and `rt ci` build them.
 
 The last line is 'N passed, M failed', one for each page's links, each page that is made, each block and example, each place
-of the version, the packages, the toolchain, each status, word and example of the manual page, the text of the tables, each
-language, each command, twice, and each row. Without `man` a line 'skipped: docs: WHY' stands for the manual page.
+of the version, each picture, the packages, the toolchain, each status, word and example of the manual page, the text of the
+tables, each language, each command, twice, and each row. Without `man` a line 'skipped: docs: WHY' stands for the manual page.
 """
 import fcntl
 import glob
@@ -39,6 +40,10 @@ import termios
 import time
 
 ROOT = os.path.dirname(os.path.dirname(os.path.abspath(__file__)))
+sys.dont_write_bytecode = True
+sys.path.insert(0, os.path.join(ROOT, "tools"))
+import pictures  # noqa
+
 PROGRAM = "crates/decfmt/out/decfmt"
 PAGES = ["README.md", "CONTRIBUTING.md", "CHANGELOG.md", "docs/*.md", "tables/README.md", "crates/*/README.md"]
 SHOWING = ["README.md", "crates/icu_provider/README.md", "crates/tour/README.md"]
@@ -277,6 +282,17 @@ def judge_version():
     judge(newest and newest[1] == version, f"CHANGELOG.md: doesn't begin with {version}")
 
 
+def judge_pictures():
+    """The pictures are as they are drawn, and the program shows the numbers of one of them as it says."""
+    others = pictures.stale()
+    for name in pictures.PICTURES:
+        path = f"{pictures.FOLDER}/{name}.svg"
+        judge(path not in others, f"{path}: isn't what tools/pictures.py draws")
+    numbers = "\\n".join(str(number) for number, _ in pictures.SHOWN)
+    given = output_of(f"printf '{numbers}\\n' | {PROGRAM} tables/sample.json en - short").split()
+    judge(given == [text for _, text in pictures.SHOWN], f"{pictures.FOLDER}/showable.svg:", str(given))
+
+
 def judge_needs(page):
     """The page has the command that installs what the gate needs, and the toolchain that the repository is proved by."""
     packages = re.findall(r"^([^#\s]+)", read("tests/packages.txt"), flags=re.M)
@@ -432,6 +448,7 @@ def main():
     judge_code()
     judge_examples()
     judge_version()
+    judge_pictures()
     judge_needs(page)
     judge_manual()
     judge_sample()
