@@ -305,7 +305,7 @@ def judge_needs(page):
 
 def shown_by_man(path):
     """The lines of a manual page on a very wide terminal, each without the spaces around and doubled in it."""
-    how = {"env": {**os.environ, "MANWIDTH": "2000", "MAN_KEEP_FORMATTING": "", "LC_ALL": "C.UTF-8"}, "timeout": 60}
+    how = {"env": {**os.environ, "MANWIDTH": "2000", "LC_ALL": "C.UTF-8"}, "timeout": 60}
     done = subprocess.run(["man", "--warnings", path], stdout=subprocess.PIPE, stderr=subprocess.PIPE, **how)
     judge(done.returncode == 0 and not done.stderr, f"{path}: man says", done.stderr.decode())
     text = done.stdout.decode().translate(str.maketrans("‐−’\u00a0", "--' "))
