@@ -5,8 +5,8 @@ usage: tests/docs.py [--write]
 
 - Each relative link of README.md, CONTRIBUTING.md, CHANGELOG.md, docs/, tables/ and the crates' pages has its target, a
   heading too; the name of a call, a definition or an edit that is a link stands in the file that the link leads to.
-- docs/EDITS.md names each must-fail edit, and docs/MAP.md each file of specs/ and proofs/, just as the files say:
-  both pages are made from them. --write makes them anew.
+- docs/EDITS.md names each must-fail edit with what refuses it, and docs/MAP.md each file of specs/ and proofs/, just as the
+  files say: both pages are made from them. --write makes them anew.
 - Each block of Rust code of README.md and of the pages of icu_provider and tour stands so in a source of the crates; the
   example at the head of each library stands in the program crates/examples.
 - The version of include/talmuiga.h is that of VERSION, and CHANGELOG.md begins with it.
@@ -39,6 +39,8 @@ import sys
 import termios
 import time
 
+import edits
+
 ROOT = os.path.dirname(os.path.dirname(os.path.abspath(__file__)))
 sys.dont_write_bytecode = True
 sys.path.insert(0, os.path.join(ROOT, "tools"))
@@ -47,7 +49,6 @@ import pictures  # noqa
 PROGRAM = "crates/decfmt/out/decfmt"
 PAGES = ["README.md", "CONTRIBUTING.md", "CHANGELOG.md", "docs/*.md", "tables/README.md", "crates/*/README.md"]
 SHOWING = ["README.md", "crates/icu_provider/README.md", "crates/tour/README.md"]
-CIRCLES = ("must-fail", "edits")
 # The languages of icu_decimal_tests that are in tables/sample.json: style, locale, and the name of their plural rules.
 LANGUAGES = {
     "SHORT_ENGLISH": ("short", "en", "ENGLISH_RULES"),
@@ -127,31 +128,45 @@ def judge_links():
 
 # Pages that are made
 
+def guard(edit):
+    """What an edit's file says of what refuses it."""
+    if edit.circle == edits.CONTROLS:
+        return f"fragile: {edit.fragile}" if edit.fragile else "proved"
+    goals = [f"`{clause}` of `{function}`" for function, clause in edit.refused]
+    tests = [f"test `{test}` of [`{crate}`](../crates/{crate})" for crate, test in edit.shown]
+    return ", ".join(goals + tests) or "a goal with a written answer"
+
+
 def edits_page():
-    """The must-fail edits by crate, by the file that they change and by their circle."""
+    """The must-fail edits and controls by crate, with their circle and with what refuses them."""
     lines = [
         "# Must-fail edits",
         "",
         "Each edit changes one meaning of a call, mostly in one place, and the prover has to refuse it. Its name says the",
-        "wrong behaviour. Those of the inner circle, in `must-fail/`, guard what README.md and the first link of each promise",
-        "of PROVED.md name: every run of the gate tries them, and `rt must-fail NAME` tries those of a crate. Those of the",
-        "outer circle, in `edits/`, are tried by `tests/edits.sh NAME`, and by the gate where the crate, or what it stands",
-        "on, is another than `edits.lock` has. `tests/docs.py --write` makes this page.",
+        "wrong behaviour. Those of the inner circle, in `must-fail/`, guard README's promise, those that PROVED.md has in short,",
+        "and the first link of each promise there: every run of the gate tries them, and `rt must-fail NAME` tries those of a",
+        "crate. Those of the outer circle stand in `edits/`. `tests/edits.sh NAME` tries both circles of a crate, and the controls",
+        "in `edits/controls/`, which change no meaning and have to be proved. `edits.lock` has the state of each circle in which",
+        "it was seen so; the gate tries those without a line, and fails by a line of another state.",
+        "",
+        "The last column is what the edit's file names, and what is looked for: a goal that the prover leaves open, by its",
+        "name and function, or a test that fails on the edited program. A goal with a written answer fails too where the",
+        "answer no longer fits, so it is no evidence by itself: an edit of the inner circle names a test there.",
+        "`tests/docs.py --write` makes this page.",
         "",
     ]
-    for crate in sorted({path.split("/")[1] for path in found("crates/*/must-fail") + found("crates/*/edits")}):
-        by_file = {}
-        for folder in CIRCLES:
-            for path in found(f"crates/{crate}/{folder}/*.edit"):
-                changed = re.search(r"^file: (.*)$", read(path), flags=re.M).group(1)
-                by_file.setdefault(changed, {}).setdefault(folder, []).append(path)
-        lines += [f"## `{crate}`", "", "| file that is changed | inner edits | outer edits |", "|---|---|---|"]
-        for changed in sorted(by_file):
-            cells = [
-                ", ".join(f"[`{os.path.basename(path)[:-5]}`](../{path})" for path in by_file[changed].get(folder, []))
-                for folder in CIRCLES
-            ]
-            lines.append(f"| [`{changed}`](../crates/{crate}/{changed}) | {' | '.join(cells)} |")
+    circles = {edits.INNER: "inner", edits.OUTER: "outer", edits.CONTROLS: "control"}
+    for crate in sorted(edits.USES):
+        rows = edits.edits_of(crate)
+        if not rows:
+            continue
+        lines += [f"## `{crate}`", "", "| edit | circle | file that is changed | what refuses it |", "|---|---|---|---|"]
+        for edit in rows:
+            path, changed = os.path.relpath(edit.path, ROOT), edit.pairs[0][0] if edit.pairs else ""
+            lines.append(
+                f"| [`{edit.name}`](../{path}) | {circles[edit.circle]} | [`{changed}`](../crates/{crate}/{changed}) |"
+                f" {guard(edit)} |"
+            )
         lines.append("")
     return "\n".join(lines)
 

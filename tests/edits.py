@@ -1,0 +1,396 @@
+#!/usr/bin/env python3
+"""Tries the must-fail edits of crates by what refuses each of them; tests/edits.sh has the usage.
+
+An edit is a file of lines `file: PATH`, `old: TEXT`, `new: TEXT`, as `rt` reads it, with lines that `rt` passes over:
+
+    refused: FUNCTION CLAUSE    this goal has to be among those that the prover leaves open. FUNCTION is the path in the
+                                crate, as in `rounding::rounds_up`, and CLAUSE the name of the goal. A goal with a written
+                                answer in proofs/ is no evidence, since an answer that no longer fits fails too.
+    shown: CRATE TEST           this test of the crate has to fail on the edited program, unproved (`rt try --test`).
+
+Each edit of the inner circle, must-fail/, has one of the two at least. One of the outer circle, edits/, that has none is
+refused at some goal, as `rt ci` sees those of the inner circle refused. A control, edits/controls/, changes no meaning:
+it has to be proved, or says by a line `fragile: WHY` that the written answers don't survive it.
+
+What a check said is kept in crates/NAME/out/edits, under the hash of all that it read.
+"""
+import concurrent.futures
+import dataclasses
+import glob
+import hashlib
+import os
+import re
+import shutil
+import subprocess
+import sys
+import tempfile
+
+ROOT = os.path.dirname(os.path.dirname(os.path.abspath(__file__)))
+LOCK = os.path.join(ROOT, "edits.lock")
+PARTS = ("src", "specs", "proofs")
+INNER, OUTER, CONTROLS = "must-fail", "edits", "edits/controls"
+# The head of a function's body, which `rt fmt` ends by a brace below the beginning of this line.
+BODY = re.compile(r'( *)(\{|(pub(\([a-z]+\))? )?(const )?(unsafe )?(extern "C" )?fn .*\{|\) ?(-> .*)?\{)')
+# What the prover says of a place, of a written answer that names what the edit took away, and of a goal that is open.
+PLACE = re.compile(r"(note: )?\S+:\d+:\d+:")
+MISSING_NAME = re.compile(r"(\./)?proofs/.*(has no field|is not in scope|has no `|was not admitted)")
+UNREAD = re.compile(r"(\./)?(src|specs)/\S+:\d+:\d+: error(\[\S+\])?: (?!`)")
+OPEN_GOAL = re.compile(r"note: (?:\./)?src/(\S+)\.rt:\d+:\d+: it is not proved that .*?\(`([^`]+)`\)")
+
+
+@dataclasses.dataclass
+class Edit:
+    crate: str
+    circle: str
+    path: str
+    pairs: list = dataclasses.field(default_factory=list)
+    refused: list = dataclasses.field(default_factory=list)
+    shown: list = dataclasses.field(default_factory=list)
+    fragile: str = ""
+
+    @property
+    def name(self):
+        return os.path.splitext(os.path.basename(self.path))[0]
+
+
+def read(path):
+    with open(path, encoding="utf-8") as file:
+        return file.read()
+
+
+def read_edit(crate, circle, path):
+    """The edit of a file."""
+    edit, file, old = Edit(crate, circle, path), "", ""
+    for line in read(path).split("\n"):
+        key, _, text = line.partition(":")
+        text = text.removeprefix(" ")
+        if key == "file":
+            file = text.strip()
+        elif key == "old":
+            old = text
+        elif key == "new":
+            edit.pairs.append((file, old, text))
+        elif key in ("refused", "shown"):
+            getattr(edit, key).append(tuple(text.split()))
+        elif key == "fragile":
+            edit.fragile = text
+    return edit
+
+
+def edits_of(crate, *circles):
+    """The edits of some circles of a crate, of all where none is named."""
+    found = []
+    for circle in circles or (INNER, OUTER, CONTROLS):
+        for path in sorted(glob.glob(os.path.join(ROOT, "crates", crate, circle, "*.edit"))):
+            found.append(read_edit(crate, circle, path))
+    return found
+
+
+# Crates
+
+def read_crates():
+    """For each crate the words behind its name in crates.txt, and whether it is a static library."""
+    uses, static = {}, set()
+    for line in read(os.path.join(ROOT, "crates.txt")).splitlines():
+        head, colon, tail = line.partition("#")[0].partition(":")
+        if colon:
+            name = head.split()[0]
+            uses[name] = tail.split()
+            if "staticlib" in head.split():
+                static.add(name)
+    return uses, static
+
+
+USES, STATIC = read_crates()
+
+
+def below(crate):
+    """The repository's crates below a crate, each behind those that it uses."""
+    found = []
+    for name in USES[crate]:
+        if name in USES:
+            found += [it for it in [*below(name), name] if it not in found]
+    return found
+
+
+def said_by(*words):
+    return subprocess.run(words, capture_output=True, text=True, check=True).stdout.strip()
+
+
+def words_of_check(crate, kit):
+    """How `rt` calls the prover for a crate over the libraries in out/rlib."""
+    def library(name):
+        return os.path.join(ROOT, "crates", name, "out", "rlib")
+
+    source = "src/main.rt" if os.path.exists(os.path.join(ROOT, "crates", crate, "src/main.rt")) else "src/lib.rt"
+    words = [f"{kit}/bin/rattle", "check", "--crate-name", crate, source]
+    for name in ["std", *[it for it in USES[crate] if it not in USES]]:
+        words += ["--extern", f"{name}={kit}/rlibs/{name}.rlib"]
+    words += ["-L", f"dependency={kit}/rlibs"]
+    for name in [it for it in USES[crate] if it in USES]:
+        words += ["--extern", f"{name}={library(name)}/{name}.rlib"]
+    for name in below(crate):
+        words += ["-L", f"dependency={library(name)}"]
+    words += ["--antt-project", f"{kit}/rattle/logic/antt-project.json", "--logic-built", f"{kit}/logic_built"]
+    words += ["--links", f"{crate}=", *(["--crate-type", "staticlib"] if crate in STATIC else []), "--jobs", "1"]
+    return words
+
+
+# Hashes
+
+def contracts(text):
+    """The lines of a source without those of comments and of the bodies of functions."""
+    end = None
+    for line in text.splitlines():
+        if line.lstrip(" ").startswith("//"):
+            continue
+        if end is not None and line != end:
+            continue
+        head = BODY.fullmatch(line) if end is None else None
+        end = head[1] + "}" if head else None
+        yield line
+
+
+def files_of(*folders):
+    """The files below some folders of the repository, in the order of their paths, without the controls."""
+    found = [path for folder in folders for path in glob.glob(f"{folder}/**", root_dir=ROOT, recursive=True)]
+    return sorted(path for path in found if os.path.isfile(os.path.join(ROOT, path)) and f"/{CONTROLS}/" not in path)
+
+
+def add(into, paths):
+    """Adds files to a hash, each by its own hash and its path."""
+    for path in paths:
+        with open(os.path.join(ROOT, path), "rb") as file:
+            into.update(f"{hashlib.sha256(file.read()).hexdigest()}  {path}\n".encode())
+
+
+def add_contracts(into, crate):
+    """Adds what a crate's proofs are read with: the contracts and definitions of the crates below it."""
+    for name in sorted(below(crate)):
+        add(into, files_of(f"crates/{name}/specs"))
+        text = "".join(read(os.path.join(ROOT, path)) for path in files_of(f"crates/{name}/src"))
+        into.update("".join(f"{line}\n" for line in contracts(text)).encode())
+
+
+def hash_of(crate, circle, logic):
+    """The hash of all that a circle of a crate's edits stands on, also of the tests that show some of them."""
+    into = hashlib.sha256(f"{logic}\n".encode())
+    add(into, files_of(*[f"crates/{crate}/{part}" for part in PARTS], f"crates/{crate}/{circle}"))
+    if circle == INNER:
+        add(into, [os.path.relpath(edit.path, ROOT) for edit in edits_of(crate, CONTROLS)])
+    add_contracts(into, crate)
+    tests = {tests for edit in edits_of(crate, circle) for tests, _ in edit.shown}
+    add(into, files_of(*[f"crates/{name}/src" for name in sorted(tests)]))
+    return into.hexdigest()
+
+
+# Checks
+
+def apply(edit, folder):
+    """Changes the files of a crate in a folder, or answers why that can't be."""
+    if not edit.pairs:
+        return "it has no 'old:' and 'new:' pair"
+    for file, old, new in edit.pairs:
+        path = os.path.join(folder, file)
+        text = read(path) if os.path.exists(path) else ""
+        if not old or text.count(old) != 1:
+            return f"an 'old:' text is in {file} {text.count(old) if old else 'no'} times, and not once"
+        with open(path, "w", encoding="utf-8") as target:
+            target.write(text.replace(old, new))
+    return None
+
+
+def once(crate, key, ask):
+    """What was said under a key, asked for where nothing is kept of it."""
+    path = os.path.join(ROOT, "crates", crate, "out", "edits", key.hexdigest())
+    if os.path.exists(path):
+        return read(path)
+    said = ask()
+    os.makedirs(os.path.dirname(path), exist_ok=True)
+    with open(path, "w", encoding="utf-8") as file:
+        file.write(said)
+    return said
+
+
+def ran(words, folder):
+    """What a command says in a folder, with its status as the last line."""
+    ended = subprocess.run(words, cwd=folder, stdin=subprocess.DEVNULL, stdout=subprocess.PIPE, stderr=subprocess.STDOUT,
+                           encoding="utf-8", errors="replace")
+    return f"{ended.stdout.rstrip()}\n{ended.returncode}"
+
+
+def copy_crate(crate, to):
+    for part in PARTS:
+        if os.path.isdir(os.path.join(ROOT, "crates", crate, part)):
+            shutil.copytree(os.path.join(ROOT, "crates", crate, part), os.path.join(to, part))
+
+
+def add_room(into, room, *parts):
+    """Adds the files of a changed copy of a crate to a hash."""
+    for path in sorted(path for part in parts for path in glob.glob(f"{part}/**", root_dir=room, recursive=True)):
+        if os.path.isfile(os.path.join(room, path)):
+            into.update(f"{path}\n{read(os.path.join(room, path))}\n".encode())
+
+
+def check(edit, kit, contracts_below, kept):
+    """What the prover says of the edited crate."""
+    with tempfile.TemporaryDirectory(prefix="rt-edit-") as room:
+        copy_crate(edit.crate, room)
+        why = apply(edit, room)
+        if why:
+            return f"unread: {why}"
+        key = contracts_below.copy()
+        add_room(key, room, *PARTS)
+        return once(edit.crate, key, lambda: ran([*words_of_check(edit.crate, kit), "--incremental", kept], room))
+
+
+def why_not_refused(said):
+    """Why what the prover said isn't a refusal at a goal, or nothing."""
+    lines = said.split("\n")
+    if lines[-1] == "0":
+        return "the crate is still proved"
+    if lines[-1] != "1" or not lines[-2].startswith("logic=not-proved"):
+        return f"it didn't reach the prover: {lines[0][:200]}"
+    unread = [line for line in lines if UNREAD.match(line)]
+    if unread:
+        return f"the prover can't read the edited text: {unread[0][:200]}"
+    told = [line for line in lines if PLACE.match(line) and (": error" in line or line.startswith("note: "))]
+    if told and all(MISSING_NAME.match(line) for line in told):
+        return f"only a proof names what the edit took away: {told[0][:200]}"
+    return None
+
+
+def why_not_by(edit, said, function, clause):
+    """Why a goal isn't among those that are open, or why that would be no evidence; else nothing."""
+    path = function.replace("::", "/")
+    answers = os.path.join(ROOT, "crates", edit.crate, "proofs", path, "Answers.antt")
+    if os.path.exists(answers) and re.search(rf"^(pub )?{re.escape(clause)}( .*)?[:=]", read(answers), flags=re.M):
+        return f"{clause} of {function} has a written answer, so that its failing shows nothing: name a test"
+    goals = {goal for module, goal in OPEN_GOAL.findall(said) if f"{path}/".startswith(f"{module}/") or module in ("lib", "main")}
+    own = re.search(rf"^fn {edit.crate}::{re.escape(function)}: (no proof: expected|not proved)", said, flags=re.M)
+    if not own or clause not in goals:
+        return f"{clause} of {function} isn't among the open goals: {', '.join(sorted(goals)) or 'none there'}"
+    return None
+
+
+# Tests
+
+def failed_tests(edit, tests):
+    """The tests of a crate that fail on the edited program, unproved, or what kept them from running."""
+    with tempfile.TemporaryDirectory(prefix="rt-edit-") as room:
+        for file in ("crates.txt", "HANDLES"):
+            shutil.copy(os.path.join(ROOT, file), room)
+        for name in USES:
+            copy_crate(name, os.path.join(room, "crates", name))
+        why = apply(edit, os.path.join(room, "crates", edit.crate))
+        if why:
+            return set(), why
+        key = hashlib.sha256(f"tests of {tests}\n".encode())
+        for name in [*below(tests), tests]:
+            add_room(key, os.path.join(room, "crates", name), "src", "specs")
+        said = once(edit.crate, key, lambda: ran(["rt", "try", "--test"], os.path.join(room, "crates", tests)))
+    failed = set(re.findall(r"^test (\S+) \.\.\. FAILED", said, flags=re.M))
+    is_run = re.search(r"^test result: ", said, flags=re.M)
+    return failed, None if is_run else f"the tests didn't run: {said[:200]}"
+
+
+def why_not_shown(edit, tests, test):
+    failed, why = failed_tests(edit, tests)
+    if why or test in failed:
+        return why
+    return f"{test} of {tests} doesn't fail on the edited program; these do: {', '.join(sorted(failed)) or 'none'}"
+
+
+# Verdicts
+
+def faults_of(edit, said):
+    """Why an edit isn't what its circle asks for."""
+    if said.startswith("unread: "):
+        return [said]
+    if edit.circle == CONTROLS:
+        is_proved = said.endswith("\n0")
+        if is_proved == bool(edit.fragile):
+            return [f"it is {'proved' if is_proved else 'not proved'}, and has {'a' if edit.fragile else 'no'} line 'fragile:'"]
+        return []
+    found = [why_not_refused(said)]
+    if edit.circle == INNER and not (edit.refused or edit.shown):
+        found.append("it names neither a clause that refuses it nor a test that shows it")
+    found += [why_not_by(edit, said, *words) if len(words) == 2 else f"refused: {words}" for words in edit.refused]
+    found += [why_not_shown(edit, *words) if len(words) == 2 else f"shown: {words}" for words in edit.shown]
+    return [why for why in found if why]
+
+
+def try_circle(crate, circle, kit, logic):
+    """The faults of each edit of a circle, in the order of the edits; the inner circle has the controls with it."""
+    tried = edits_of(crate, *((INNER, CONTROLS) if circle == INNER else (OUTER,)))
+    contracts_below = hashlib.sha256(f"{logic}\n{crate}\n".encode())
+    add_contracts(contracts_below, crate)
+    incremental = os.path.join(ROOT, "crates", crate, "out", "incremental")
+    with tempfile.TemporaryDirectory() as kept:
+        if os.path.isdir(incremental):
+            shutil.copytree(incremental, kept, dirs_exist_ok=True)
+        return [(edit, faults_of(edit, check(edit, kit, contracts_below, kept))) for edit in tried]
+
+
+def read_lock():
+    """The hash of each circle of edits.lock, by the path of its folder."""
+    lines = read(LOCK).splitlines() if os.path.exists(LOCK) else []
+    return dict(line.split() for line in lines)
+
+
+def write_lock(locked):
+    with open(LOCK, "w", encoding="utf-8") as file:
+        file.writelines(f"{path} {locked[path]}\n" for path in sorted(locked))
+
+
+def try_all(circles, kit, logic):
+    """Tries circles side by side, tells what is wrong, and yields for each how many of its edits are right and wrong."""
+    lanes = int(os.environ.get("EDITS_JOBS", len(os.sched_getaffinity(0))))
+    with concurrent.futures.ThreadPoolExecutor(lanes) as pool:
+        results = pool.map(lambda it: try_circle(*it, kit, logic), circles)
+        for (crate, circle), tried in zip(circles, results):
+            for edit, faults in tried:
+                for why in faults:
+                    print(f"edits: {os.path.relpath(edit.path, ROOT)}: {why}")
+            right = sum(not faults for _, faults in tried)
+            print(f"edits: {crate}/{circle}: {right} of {len(tried)} are as they have to be", flush=True)
+            yield crate, circle, right, len(tried) - right
+
+
+def main(words):
+    is_gate = "--gate" in words
+    asked = [word for word in words if word != "--gate"]
+    if any(word.startswith("-") for word in asked) or (is_gate and asked):
+        print("usage: tests/edits.sh [--gate | CRATE .. | CRATE/must-fail .. | CRATE/edits ..]", file=sys.stderr)
+        return 2
+    logic = re.search(r"logic .*", said_by("rt", "version"))[0]
+    locked = read_lock()
+    hashes = {(crate, circle): hash_of(crate, circle, logic)
+              for crate in USES for circle in (INNER, OUTER) if edits_of(crate, circle)}
+    paths = {f"{crate}/{circle}": (crate, circle) for crate, circle in hashes}
+    current = [paths[path] for path in paths if locked.get(path) == hashes[paths[path]]]
+    passed, failed = 0 if asked else len(current), 0
+    for word in [word for word in asked if not any(word in (path, crate) for path, (crate, _) in paths.items())]:
+        print(f"edits: {word}: no such edits")
+        failed += 1
+    for path in [path for path in locked if is_gate and (path not in paths or paths[path] not in current)]:
+        print(f"edits: {path}: its line of edits.lock is of another state: run tests/edits.sh, and commit edits.lock")
+        failed += 1
+    tried = [it for it in hashes if ("/".join(it) in asked or it[0] in asked if asked else it not in current)]
+    tried.sort(key=lambda it: -len(edits_of(*it)))
+    if not is_gate:
+        locked = {path: locked[path] for path in locked if path in paths}
+        write_lock(locked)
+    for crate, circle, right, wrong in try_all(tried, os.path.dirname(said_by("rt", "doc")), logic):
+        passed, failed = passed + right, failed + wrong
+        if wrong == 0 and not is_gate:
+            # at once, so that what an interrupted run has seen stays
+            locked[f"{crate}/{circle}"] = hashes[crate, circle]
+            write_lock(locked)
+    print(f"{passed} passed, {failed} failed")
+    return 1 if failed else 0
+
+
+if __name__ == "__main__":
+    os.chdir(ROOT)
+    sys.exit(main(sys.argv[1:]))
