@@ -338,9 +338,11 @@ def read_lock():
     return dict(line.split() for line in lines)
 
 
-def write_lock(locked):
+def write_lock(known, path=None, value=None):
+    """Writes the lines of the folders that there are, and that of one which was just tried."""
+    locked = {it: line for it, line in read_lock().items() if it in known} | ({path: value} if path else {})
     with open(LOCK, "w", encoding="utf-8") as file:
-        file.writelines(f"{path} {locked[path]}\n" for path in sorted(locked))
+        file.writelines(f"{it} {locked[it]}\n" for it in sorted(locked))
 
 
 def try_all(circles, kit, logic):
@@ -379,14 +381,12 @@ def main(words):
     tried = [it for it in hashes if ("/".join(it) in asked or it[0] in asked if asked else it not in current)]
     tried.sort(key=lambda it: -len(edits_of(*it)))
     if not is_gate:
-        locked = {path: locked[path] for path in locked if path in paths}
-        write_lock(locked)
+        write_lock(paths)
     for crate, circle, right, wrong in try_all(tried, os.path.dirname(said_by("rt", "doc")), logic):
         passed, failed = passed + right, failed + wrong
         if wrong == 0 and not is_gate:
             # at once, so that what an interrupted run has seen stays
-            locked[f"{crate}/{circle}"] = hashes[crate, circle]
-            write_lock(locked)
+            write_lock(paths, f"{crate}/{circle}", hashes[crate, circle])
     print(f"{passed} passed, {failed} failed")
     return 1 if failed else 0
 

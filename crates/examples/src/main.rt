@@ -154,6 +154,16 @@ fn of_icu_tables(rt: &HostRuntime) -> Option<()> {
     println!(rt; "{text}").ok()
 }
 
+/// What tables are refused by: the key, the entry of its list and the fault.
+fn of_refused_tables(rt: &HostRuntime) -> Option<()> {
+    let text = "{\"symbols\":[],\"digits\":[],\"rules\":[],\
+\"short\":[{\"locale\":\"en\",\"patterns\":[[3,4,{\"other\":\"{0}K\"}]]}]}";
+    match Tables::from_json(rt.alloc(), text) {
+        Ok(_) => None,
+        Err(error) => println!(rt; "{error}").ok(),
+    }
+}
+
 fn of_icu_unit(rt: &HostRuntime) -> Option<()> {
     let symbols = DecimalSymbols::new_en_for_testing(rt.alloc()).ok()?;
     let formatter = DecimalFormatter::from_parts(
@@ -197,6 +207,7 @@ fn print_all(rt: &HostRuntime) -> Option<()> {
     of_icu_decimal_readable(rt)?;
     of_icu_decimal(rt)?;
     of_icu_tables(rt)?;
+    of_refused_tables(rt)?;
     of_icu_unit(rt)?;
     of_decimal_lines(rt)
 }
