@@ -17,13 +17,15 @@ usage: tests/docs.py [--write]
 - The text in crates/sample_tables is that of tables/sample.json, byte for byte; the languages of icu_decimal_tests, whose
   tables are maps in code, have the patterns and plural rules of that file.
 - Each command that README.md and the page of tour show behind `$` gives the output below it, also on a terminal at which
-  nobody types; those of README that build the program and run it have their input from a pipe or a file. Each row of
-  README's table of locales is what the program writes. This needs crates/decfmt/out/decfmt and crates/tour/out/tour, as
-  `rt run` and `rt ci` build them.
+  nobody types; those of README that build the program and run it have their input from a pipe or a file. README's first
+  command, which builds the program unproved, writes what stands below it, and its commands by a release of CLDR, where
+  Debian's package of it is there, write what README quotes. Each row of README's table of locales is what the program
+  writes. This needs crates/decfmt/out/decfmt and crates/tour/out/tour, as `rt run` and `rt ci` build them.
 
 The last line is 'N passed, M failed', one for each page's links, each page that is made, each block and example, each place
 of the version, each picture, the packages, the toolchain, each status, word and example of the manual page, the text of the
-tables, each language, each command, twice, and each row. Without `man` a line 'skipped: docs: WHY' stands for the manual page.
+tables, each language, each command, twice, the first command, those by a release, and each row. Without `man` a line
+'skipped: docs: WHY' stands for the manual page.
 """
 import fcntl
 import glob
@@ -36,6 +38,7 @@ import shutil
 import signal
 import subprocess
 import sys
+import tempfile
 import termios
 import time
 
@@ -57,6 +60,10 @@ LANGUAGES = {
     "LONG_BANGLA": ("long", "bn", None),
     "LONG_JAPANESE": ("long", "ja", None),
 }
+# Where Debian's package unicode-cldr-core has a release of CLDR.
+RELEASE = "/usr/share/unicode/cldr"
+# The command that builds the program unproved, and what it writes.
+FIRST_COMMAND = re.compile(r"^```sh\n([^\n]*\brt try\b[^\n]*)\n```$.*?^```text\n(.*?)^```$", flags=re.M | re.S)
 LOCALES_HEADER = "| locale | plain | short | long |"
 LOCALES_NUMBER = "1234567.8"
 LOCALES_TABLES = "tables/six_locales.json"
@@ -395,13 +402,13 @@ def output_of(command):
     return done.stdout.decode("utf-8", "replace")
 
 
-def typed(command):
-    """What a command shows on a terminal at which nobody types, or none where it hasn't ended in a minute."""
+def typed(command, minutes=1):
+    """What a command shows on a terminal at which nobody types, or none where it hasn't ended in some minutes."""
     screen, terminal = pty.openpty()
     how = {"stdin": terminal, "stdout": terminal, "stderr": terminal, "start_new_session": True}
     process = subprocess.Popen(["bash", "-c", command], preexec_fn=lambda: fcntl.ioctl(0, termios.TIOCSCTTY, 0), **how)
     os.close(terminal)
-    shown, end = b"", time.monotonic() + 60
+    shown, end = b"", time.monotonic() + 60 * minutes
     while select.select([screen], [], [], max(0, end - time.monotonic()))[0]:
         try:
             shown += os.read(screen, 65536)
@@ -439,6 +446,26 @@ def judge_commands():
         judge(re.search(r"[|<].*\brt ", line), "README.md: waits for input on a terminal:", line)
 
 
+def judge_first_command(page):
+    """README's first command builds the program unproved, and writes the lines of the block of text below it."""
+    command, wanted = FIRST_COMMAND.search(page).groups()
+    given = typed(command, minutes=20)
+    judge(given is not None and wanted in given, f"README.md: on a terminal: {command}:", given or "waits")
+
+
+def judge_release(page):
+    """README's commands by a release of CLDR, where it is there, write what README quotes."""
+    lines = [line for line in shell_lines("README.md") if RELEASE in line or "cldr.json" in line]
+    if not os.path.isdir(RELEASE) or not os.path.exists(PROGRAM):
+        return
+    with tempfile.TemporaryDirectory() as folder:
+        script = "\n".join(lines).replace("cldr.json", os.path.join(folder, "cldr.json"))
+        done = subprocess.run(["bash", "-ec", script], stdout=subprocess.PIPE, stderr=subprocess.PIPE, timeout=600)
+    told = done.stdout.decode("utf-8", "replace").splitlines()
+    well = done.returncode == 0 and told and all(f"`{line}`" in page for line in told)
+    judge(well, "README.md: by a release of CLDR:", "\n".join(told))
+
+
 def judge_locales(page):
     """Each row of the table of locales is what the program writes of the number by the tables of the six locales."""
     rows = page.split(LOCALES_HEADER + "\n|---|---|---|---|\n")[1].split("\n\n")[0].splitlines()
@@ -469,6 +496,8 @@ def main():
     judge_sample()
     judge_languages()
     judge_commands()
+    judge_first_command(page)
+    judge_release(page)
     judge_locales(page)
     print(f"{counts[True]} passed, {counts[False]} failed")
     return 0 if counts[False] == 0 else 1
