@@ -1,6 +1,7 @@
 #!/usr/bin/env python3
 """Runs the gate and prints, after its own output, a table of what each crate cost: functions proved, tests, edits, and
-the processor minutes of each. Counts are read from the gate's output, minutes from the prover's processes. Below it stand
+the processor minutes of each. Counts are read from the gate's output, minutes from the prover's processes on the processors
+that this script is bound to, so that taskset tells a run from others beside it. Below it stand
 the minutes from begin to end, the longest chain of tasks that wait for one another, what the same tasks take on four
 processors that do nothing else, and how much of this machine's processors its host gave to others meanwhile.
 
@@ -19,10 +20,12 @@ TICKS = os.sysconf("SC_CLK_TCK")
 
 
 def task_of(pid):
-    """The crate and the task that a process works for, if it is the prover."""
+    """The crate and the task that a process works for, if it is the prover, on the processors of this script."""
     with open(f"/proc/{pid}/cmdline", "rb") as file:
         words = file.read().decode(errors="replace").split("\0")
     if not words[0].endswith("/rattle") or "--crate-name" not in words:
+        return None
+    if os.sched_getaffinity(int(pid)) != os.sched_getaffinity(0):
         return None
     crate = words[words.index("--crate-name") + 1]
     if "/rt-edit-" in os.readlink(f"/proc/{pid}/cwd"):

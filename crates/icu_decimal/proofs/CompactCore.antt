@@ -15,7 +15,7 @@ use Rattle.icu_decimal_data.specs.CompactTable.{TableEntry, IsCompactTable, type
 use Rattle.icu_decimal.specs.CompactNumber.{rounding_place, rounding_place_for, ShowsPastLimits}
 use Rattle.icu_decimal.specs.RoundedAt.{IsRoundedAt, RoundsPast}
 use Rattle.icu_decimal.specs.Displayed.{are_same_entry, IsDisplayed}
-use Rattle.icu_decimal.proofs.NearestLaws.{nearest_to_itself, itself_nearest, rounded_zero, rounded_within, nearest_compact_from_rounded, nearest_compact_same}
+use Rattle.icu_decimal.specs.NearestLemmas.{nearest_to_itself, itself_nearest, rounded_zero, rounded_within, nearest_compact_from_rounded, nearest_compact_same}
 use Rattle.icu_decimal.proofs.EntrySteps.{entry_has, entry_reached}
 use Rattle.icu_decimal.proofs.ChangedEntries.{same_entry-itself}
 

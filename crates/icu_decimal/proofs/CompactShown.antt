@@ -1,40 +1,62 @@
 -- What a compact formatter shows of a number is one, and `format` puts a sign around it.
-use Rattle.std.proofs.Common.{◌≡◌, List, Option, refl, sym, ap, ap₂, subst, ◌∙◌}
+use Rattle.std.proofs.Common.{◌≡◌, ℕ, List, Option, refl, sym, ap, ap₂, subst, ◌∙◌}
 use Rattle.fixed_decimal.specs.declared.signs.Sign.{Sign}
 use Rattle.fixed_decimal.specs.declared.signs.Sign.TheVariants.{None}
 use Rattle.fixed_decimal.specs.Unsigned.{Unsigned}
 use Rattle.icu_base.specs.Events.{Event, without_parts}
-use Rattle.icu_base.specs.Operands.{Operands, operands_of}
+use Rattle.icu_base.specs.Patterns.{PatternText}
 use Rattle.icu_decimal_data.specs.CompactTable.{TableEntry, exponent_of}
-use Rattle.icu_decimal.specs.CompactFormat.{CompactFormat, FormattedCompact, IsCompactFormat, filled_events, significand_of, compact_shown, signed_compact_shown}
+use Rattle.icu_decimal.specs.CompactFormat.{CompactFormat, FilledNumber, FormattedCompact, IsCompactFormat, IsCompacted, filled_events, filled_shown, pattern_of, significand_of, compact_shown, signed_compact_shown}
 use Rattle.icu_decimal.specs.Decimal.{signed_events}
+use Rattle.icu_decimal.specs.Displayed.{IsDisplayed}
+use Rattle.icu_decimal.specs.Formatted.{FormattedNumber}
 use Rattle.icu_decimal.specs.Shown.{IsCompactShown, Shown, ShowsCompact}
 use Rattle.icu_decimal.specs.Signed.{Signed, affixes_for}
 use Rattle.icu_decimal.proofs.DisplayedOnce.{displayed_is_one}
 
+-- the parts of a compact number, each as it was made, are one
+pub compacted_of : (format : CompactFormat) (u : Unsigned) (y : ℕ) (entry : Option TableEntry) (significand : Unsigned) (pattern : PatternText) (number : FormattedNumber) (exponent : ℕ)
+    → IsDisplayed format.table u y entry significand → exponent ≡ exponent_of entry → pattern ≡ pattern_of format entry significand
+    → number ≡ record { format = format.decimal; number = significand } → IsCompacted format u (record { filled = record { pattern = pattern; number = number }; exponent = exponent })
+compacted_of format u y entry significand pattern number exponent displayed exponent_is pattern_is number_is =
+    subst (λ (w : FormattedNumber). IsCompacted format u (record { filled = record { pattern = pattern; number = w }; exponent = exponent })) (sym number_is) (record {
+      shown = y;
+      entry = entry;
+      displayed = displayed;
+      exponent_is = exponent_is;
+      filled_is = ap in_pattern pattern_is;
+    })
+  where
+    in_pattern : PatternText → FilledNumber
+    in_pattern p = record { pattern = p; number = record { format = format.decimal; number = significand } }
+
 -- what an entry and a significand show
 abbrev shown_by : CompactFormat → Option TableEntry → Unsigned → Shown
-shown_by format entry significand = record { events = without_parts (filled_events format entry significand); operands = operands_of significand (exponent_of entry) }
+shown_by format entry significand = record {
+  significand = significand;
+  exponent = exponent_of entry;
+  events = without_parts (filled_events format entry significand);
+}
 
 -- the entry and the significand give all that is shown
-is_shown_by : (format : CompactFormat) (u : Unsigned) (n : Shown) (h : IsCompactShown format u n) → n ≡ shown_by format h.is_format.entry h.significand
+is_shown_by : (format : CompactFormat) (u : Unsigned) (n : Shown) (h : IsCompactShown format u n) → n ≡ shown_by format h.entry n.significand
 is_shown_by format u n h =
-    let make : List Event → Operands → Shown = λ es o. record { events = es; operands = o } in
-    ap₂ make h.is_format.events_are (h.operands_are ∙ ap (operands_of h.significand) h.is_format.exponent_is)
+    let make : ℕ → List Event → Shown = λ e es. record { significand = n.significand; exponent = e; events = es } in
+    ap₂ make h.exponent_is h.events_are
 
 -- one thing is shown of a number
 pub compact_shown_is_one : (format : CompactFormat) (u : Unsigned) (n m : Shown) → IsCompactShown format u n → IsCompactShown format u m → m ≡ n
 compact_shown_is_one format u n m h k =
-    let one = displayed_is_one format.table u k.is_format.shown h.is_format.shown k.is_format.entry h.is_format.entry k.significand h.significand k.is_format.displayed h.is_format.displayed in
+    let one = displayed_is_one format.table u k.shown h.shown k.entry h.entry m.significand n.significand k.displayed h.displayed in
     is_shown_by format u m k ∙ ap₂ (shown_by format) one.1 one.2 ∙ sym (is_shown_by format u n h)
 
--- a formatted compact number without a sign is what is shown, with its operands
-pub shows_compact : (format : CompactFormat) (u : Unsigned) (r : FormattedCompact) → IsCompactFormat format None u (significand_of r) r.exponent (compact_shown r)
-    → ShowsCompact format u (record { events = compact_shown r; operands = operands_of (significand_of r) r.exponent })
-shows_compact format u r h =
-    let n : Shown = record { events = compact_shown r; operands = operands_of (significand_of r) r.exponent } in
-    let is : IsCompactShown format u n = record { significand = significand_of r; exponent = r.exponent; is_format = h; operands_are = refl } in
-    record { is_shown = is; alone = λ m k. compact_shown_is_one format u n m is k }
+-- a formatted compact number without a sign, as it is shown
+abbrev pub shown_of : FormattedCompact → Shown
+shown_of r = record { significand = significand_of r; exponent = r.exponent; events = compact_shown r }
+
+-- it is what is shown
+pub shows_compact : (format : CompactFormat) (u : Unsigned) (r : FormattedCompact) → IsCompactFormat format None u (significand_of r) r.exponent (compact_shown r) → ShowsCompact format u (shown_of r)
+shows_compact format u r h = record { is_shown = h; alone = λ m k. compact_shown_is_one format u (shown_of r) m h k }
 
 -- with a sign around it, it is what `format` writes
 pub signed_compact : (format : CompactFormat) (sign : Sign) (u : Unsigned) (r : Signed FormattedCompact) (v : FormattedCompact)

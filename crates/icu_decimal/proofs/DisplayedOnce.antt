@@ -13,7 +13,7 @@ use Rattle.fixed_decimal.proofs.Rounds.{finest_large}
 use Rattle.icu_decimal_data.specs.CompactTable.{TableEntry, exponent_of}
 use Rattle.icu_decimal.specs.Displayed.{displayed_entry, displayed_high}
 use Rattle.icu_decimal.specs.CompactLaws.{DisplayedIsOne}
-use Rattle.icu_decimal.proofs.NearestLaws.{nearest_compact_same}
+use Rattle.icu_decimal.specs.NearestLemmas.{nearest_compact_same}
 
 -- what is equal after a multiplication was equal before
 cancelled : (a b c : ℕ) → 0 < c → a * c ≡ b * c → a ≡ b

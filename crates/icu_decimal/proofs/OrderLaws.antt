@@ -1,14 +1,9 @@
 -- The nearest compact numbers keep the order of sizes, and lose no size but zero.
-use Rattle.std.proofs.Common.{ℕ, ◌^◌, ◌<◌, ◌≤◌, arith}
+use Rattle.std.proofs.Common.{ℕ, ◌^◌}
 use Rattle.fixed_decimal.specs.Size.{magnitude}
-use Rattle.fixed_decimal.specs.Nearest.{IsNearest}
 use Rattle.icu_decimal.specs.CompactNumber.{rounding_place_for, IsCompactNumber}
 use Rattle.icu_decimal.specs.CompactLaws.{NearestKeepsOrder, MagnitudeIsShown, CompactNumberIsItsNearest}
-use Rattle.icu_decimal.proofs.NearestLaws.{nearest_to_itself, itself_nearest, nearest_within}
-
--- were the nearest of the smaller larger, the two nearest would be nearer the other way round
-in_order : (Allowed : ℕ → Type 0) (u v x x' y y' : ℕ) → x < x' → IsNearest Allowed u x y → IsNearest Allowed v x' y' → y ≤ y'
-in_order Allowed u v x x' y y' h n n' = omega (arith, n.nearest y' n'.allowed, n'.nearest y n.allowed)
+use Rattle.icu_decimal.specs.NearestLemmas.{in_order, nearest_to_itself, itself_nearest, nearest_within}
 
 -- the same of compact numbers
 pub nearest_keeps_order : NearestKeepsOrder

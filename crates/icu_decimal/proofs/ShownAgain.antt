@@ -23,7 +23,7 @@ use Rattle.icu_decimal.specs.Part.{in_decimal_part}
 use Rattle.writeable.proofs.LawLemmas.{characters-without_parts}
 use Rattle.icu_decimal.proofs.CompactCore.{exponent_le_magnitude}
 use Rattle.icu_decimal.proofs.DisplayedOnce.{displayed_is_one}
-use Rattle.icu_decimal.proofs.NearestLaws.{nearest_to_itself, itself_nearest, nearest_within, zero_is_compact}
+use Rattle.icu_decimal.specs.NearestLemmas.{nearest_to_itself, itself_nearest, nearest_within, zero_is_compact}
 use Rattle.icu_decimal.proofs.PowerPlaces.{place_is}
 
 -- a nearest compact number has no lower magnitude

@@ -2,6 +2,7 @@
 use Rattle.std.proofs.Common.{◌≡◌, ℕ, suc, ◌*◌, ◌^◌, ◌-ℤ◌, pos, true, false, nat_le, refl, arith, sym, ap, ap₂, ◌∙◌, List, [], ◌∷◌, Option, Some, None, if◌then◌else◌, inl}
 use Rattle.std.specs.Int.{int_max}
 use Rattle.std.specs.Option.{option_or}
+use Rattle.std.specs.Str.{encode_utf8_all}
 use Rattle.fixed_decimal.specs.declared.signs.Sign.{Sign}
 use Rattle.fixed_decimal.specs.Size.{magnitude, magnitude_power, size}
 use Rattle.fixed_decimal.specs.Unsigned.{Unsigned, high}
@@ -12,10 +13,11 @@ use Rattle.icu_decimal.specs.CompactLaws.{IsUnpadded}
 use Rattle.icu_decimal.specs.Decimal.{signed_events}
 use Rattle.icu_decimal.specs.Displayed.{displayed_entry}
 use Rattle.icu_decimal_readable.specs.Readable.{IsEntryOf}
-use Rattle.icu_decimal.specs.ReadableLaws.{ShownTextTells}
+use Rattle.icu_decimal.specs.ReadableLaws.{EqualCompactTextsTell, EqualShownTextsTell, ShownTextTells}
 use Rattle.icu_decimal.proofs.CompactTold.{compact_tells}
 use Rattle.icu_decimal.proofs.DisplayedOnce.{same_scaled, trimmed_told}
 use Rattle.icu_decimal.proofs.ShownAgain.{high_unpadded, magnitude_shown}
+use Rattle.icu_decimal.proofs.TextsTold.{same_characters}
 
 -- the entry of a magnitude stands in the table
 entry_in : (table : List TableEntry) (m : ℕ) → IsEntryOf table (entry_for table m)
@@ -63,3 +65,19 @@ shown_tells f s t c d x y m n es fs readable unpadded_c unpadded_d first second 
     written : {a b : Sign} {e e' : Option TableEntry} {u v : Unsigned} → a ≡ b → e ≡ e' → u ≡ v
         → characters (signed_events f.decimal.symbols a (without_parts (filled_events f e u))) ≡ characters (signed_events f.decimal.symbols b (without_parts (filled_events f e' v)))
     written p q r = λ i. characters (signed_events f.decimal.symbols (p i) (without_parts (filled_events f (q i) (r i))))
+
+-- equal texts of `format` are of equal signs, significands and exponents
+pub equal_compact_texts_tell : EqualCompactTextsTell
+equal_compact_texts_tell f s t c d x y m n es fs one other readable first second text_is other_is same =
+    let told = compact_tells f s t first.entry second.entry x y es fs readable
+    (shown_in f s c x m es first) (shown_in f t d y n fs second) first.displayed.is_decimal second.displayed.is_decimal
+    (inl first.events_are) (inl second.events_are) (same_characters es fs one other text_is other_is same) in
+    (told.0, told.1, first.exponent_is ∙ told.2 ∙ sym second.exponent_is)
+
+-- and texts of unpadded decimals are equal exactly where signs and shown numbers are
+pub equal_shown_texts_tell : EqualShownTextsTell
+equal_shown_texts_tell f s t c d x y m n es fs one other readable unpadded_c unpadded_d first second text_is other_is =
+    let told = shown_tells f s t c d x y m n es fs readable unpadded_c unpadded_d first second in (
+      λ same. told.0 (same_characters es fs one other text_is other_is same),
+      λ same. text_is ∙ ap encode_utf8_all (told.1 same) ∙ sym other_is,
+    )

@@ -1,11 +1,12 @@
 -- What a readable text tells.
 use Rattle.std.proofs.Common.{◌≡◌, ℕ, sym, ap, ap₂, ◌∙◌, List, ◌++◌, map}
 use Rattle.std.specs.Str.{chars}
+use Rattle.std.proofs.lemmas.Str.{encodes_same}
 use Rattle.fixed_decimal.specs.Unsigned.{Unsigned, IsUnsigned, fraction}
-use Rattle.icu_base.specs.Events.{characters}
-use Rattle.icu_decimal.specs.Decimal.{DecimalFormat, unsigned_events}
+use Rattle.icu_base.specs.Events.{Event, characters, text_of}
+use Rattle.icu_decimal.specs.Decimal.{DecimalFormat, decimal_events, unsigned_events}
 use Rattle.icu_decimal_readable.specs.Readable.{Surroundings, affixes, IsFreeOfDigits, IsReadable}
-use Rattle.icu_decimal.specs.ReadableLaws.{TextTellsTheDecimal}
+use Rattle.icu_decimal.specs.ReadableLaws.{EqualTextsTellTheDecimal, TextTellsTheDecimal}
 use Rattle.icu_decimal.proofs.CharactersShown.{digit_characters, groups_of, characters-unsigned, characters-signed}
 use Rattle.icu_decimal.proofs.DigitsTold.{IsDigitOf, IsOther, characters_tell, fraction_below, unsigned_same, groups_tell, group_characters, fraction_characters}
 use Rattle.icu_decimal.proofs.Runs.{Every, every_of_all, number_tells}
@@ -44,3 +45,12 @@ text_tells f s t c d h hc hd e =
     (are_others f (affixes f.symbols.strings s) (h.affixes_free s)) (are_others f (affixes f.symbols.strings t) (h.affixes_free t)) hc hd
     (sym (characters-signed f s (unsigned_events f c)) ∙ e ∙ characters-signed f t (unsigned_events f d)) in
     (h.sign_told s t told.0, told.1)
+
+-- equal texts have equal characters: UTF-8 spells no two lists of characters alike
+pub same_characters : (es fs : List Event) (one other : List ℕ) → one ≡ text_of es → other ≡ text_of fs → one ≡ other → characters es ≡ characters fs
+same_characters es fs one other first second same = encodes_same (characters es) (characters fs) (sym first ∙ same ∙ second)
+
+-- so are those that `format_to_string` answers
+pub equal_texts_tell : EqualTextsTellTheDecimal
+equal_texts_tell f s t c d one other h hc hd first second same =
+    text_tells f s t c d h hc hd (same_characters (decimal_events f s c) (decimal_events f t d) one other first second same)

@@ -21,7 +21,7 @@ use Rattle.icu_decimal.specs.CompactLaws.{IsUnpadded, IsWrittenAlone, IsGivenAli
 use Rattle.icu_decimal.specs.CompactNumber.{rounding_place, rounding_place_for, IsNearestCompact}
 use Rattle.icu_decimal.specs.Decimal.{DecimalFormat, signed_events}
 use Rattle.icu_decimal.specs.Displayed.{IsDisplayed}
-use Rattle.icu_decimal.proofs.NearestLaws.{nearest_compact_from_rounded}
+use Rattle.icu_decimal.specs.NearestLemmas.{nearest_compact_from_rounded}
 use Rattle.icu_decimal.proofs.ShownAgain.{shown_again, shown_is_given}
 use Rattle.icu_decimal.proofs.WorkedNearest.{kilo}
 

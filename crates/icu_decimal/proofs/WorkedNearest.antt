@@ -14,7 +14,7 @@ use Rattle.icu_base.specs.Elements.{only_other}
 use Rattle.icu_decimal_data.specs.CompactTable.{TableEntry, entry_for}
 use Rattle.icu_decimal.specs.CompactNumber.{rounding_place, rounding_place_for, IsCompactNumber, IsNearestCompact}
 use Rattle.icu_decimal.specs.Displayed.{IsDisplayed}
-use Rattle.icu_decimal.proofs.NearestLaws.{nearest_to_itself, nearest_compact_from_rounded}
+use Rattle.icu_decimal.specs.NearestLemmas.{nearest_to_itself, nearest_compact_from_rounded}
 
 -- `0K` from a thousand on
 abbrev pub kilo : TableEntry

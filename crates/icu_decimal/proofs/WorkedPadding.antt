@@ -15,7 +15,7 @@ use Rattle.icu_decimal.specs.CompactLaws.{IsUnpadded, IsShownAgain}
 use Rattle.icu_decimal.specs.CompactNumber.{rounding_place_for, IsCompactNumber, IsNearestCompact}
 use Rattle.icu_decimal.specs.Decimal.{DecimalFormat, signed_events}
 use Rattle.icu_decimal.specs.Displayed.{displayed_high, IsDisplayed}
-use Rattle.icu_decimal.proofs.NearestLaws.{nearest_to_itself, ten_is_compact}
+use Rattle.icu_decimal.specs.NearestLemmas.{nearest_to_itself, ten_is_compact}
 
 abbrev no_entries : List TableEntry
 no_entries = []

@@ -12,7 +12,7 @@ use Rattle.icu_decimal_data.specs.Faithful.{pattern_for}
 use Rattle.icu_decimal.specs.Decimal.{DecimalFormat, signed_events, unsigned_events}
 use Rattle.icu_decimal.specs.Displayed.{IsDisplayed}
 use Rattle.icu_decimal.specs.Formatted.{FormattedNumber, unsigned_shown}
-use Rattle.icu_decimal.specs.Signed.{Signed, affixed_events}
+use Rattle.icu_decimal.specs.Signed.{Signed, affixed_events, affixes_for}
 
 -- all that a compact formatter writes with: what its numbers are written with, plural rules, and a compact table
 pub record CompactFormat : Type 0 where
@@ -58,6 +58,20 @@ pub record FilledNumber : Type 0 where
   pub pattern : PatternText
   pub number : FormattedNumber
 
+-- a significand in the pattern of an entry
+abbrev pub filled_by : CompactFormat → Option TableEntry → Unsigned → FilledNumber
+filled_by format entry significand = record {
+  pattern = pattern_of format entry significand;
+  number = record { format = format.decimal; number = significand };
+}
+
+-- what `format_with_exponent` answers: the digits as they are given, in their pattern, and the affixes of the sign
+abbrev pub given_value : CompactFormat → Sign → Unsigned → ℕ → Signed FilledNumber
+given_value format sign significand exponent = record {
+  affixes = affixes_for format.decimal.symbols sign;
+  value = filled_by format (entry_for format.table (place (magnitude_with significand exponent))) significand;
+}
+
 -- its events
 abbrev pub filled_shown : FilledNumber → List Event
 filled_shown f = interpolated f.pattern (unsigned_shown f.number)
@@ -82,3 +96,12 @@ compact_shown f = without_parts (filled_shown f.filled)
 -- the events of a compact number with a sign
 abbrev pub signed_compact_shown : Signed FormattedCompact → List Event
 signed_compact_shown f = affixed_events f.affixes (compact_shown f.value)
+
+-- What `format` makes of the decimal d without its sign: the displayed significand in the pattern of the displayed entry,
+-- and that entry's exponent.
+pub record IsCompacted (format : CompactFormat) (d : Unsigned) (number : FormattedCompact) : Type 0 where
+  pub shown : ℕ
+  pub entry : Option TableEntry
+  pub displayed : IsDisplayed format.table d shown entry (significand_of number)
+  pub exponent_is : number.exponent ≡ exponent_of entry
+  pub filled_is : number.filled ≡ filled_by format entry (significand_of number)

@@ -18,4 +18,7 @@ pub mod Loaded
 pub mod Readable
 pub mod ReadableLaws
 pub mod Shown
+pub mod ShownLaws
+pub mod NearestLemmas
+pub mod KeptLaws
 pub mod WritesSuch

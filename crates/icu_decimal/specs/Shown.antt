@@ -1,28 +1,35 @@
 -- What a formatter shows of a number, apart from its sign.
-use Rattle.std.specs.Prelude.{◌≡◌, ℕ, List}
+use Rattle.std.specs.Prelude.{◌≡◌, ℕ, ◌*◌, ◌^◌, List}
 use Rattle.fixed_decimal.specs.declared.signs.Sign.TheVariants.{None as NoSign}
+use Rattle.fixed_decimal.specs.Size.{size}
 use Rattle.fixed_decimal.specs.Unsigned.{Unsigned}
 use Rattle.icu_base.specs.Events.{Event}
 use Rattle.icu_base.specs.Operands.{Operands, operands_of}
 use Rattle.icu_decimal.specs.CompactFormat.{CompactFormat, IsCompactFormat}
 use Rattle.icu_decimal.specs.Decimal.{DecimalFormat, unsigned_events}
 
--- a number as it is shown, without its sign: its events, and the operands by which plural rules choose for it
+-- a number as it is shown, without its sign: a significand, in its digits and range, times ten to an exponent; and the
+-- events that are written of it
 pub record Shown : Type 0 where
+  pub significand : Unsigned
+  pub exponent : ℕ
   pub events : List Event
-  pub operands : Operands
+
+-- the operands by which plural rules choose for it
+abbrev pub operands_shown : Shown → Operands
+operands_shown n = operands_of n.significand n.exponent
+
+-- how large it is
+abbrev pub size_shown : Shown → ℕ
+size_shown n = size n.significand * 10 ^ n.exponent
 
 -- what a plain formatter shows of a number: its digits as they are given
 abbrev pub plain_shown : DecimalFormat → Unsigned → Shown
-plain_shown format u = record { events = unsigned_events format u; operands = operands_of u 0 }
+plain_shown format u = record { significand = u; exponent = 0; events = unsigned_events format u }
 
--- what a compact formatter's `format` writes inside the sign, with the operands of the significand and the exponent that
--- it writes
-pub record IsCompactShown (format : CompactFormat) (u : Unsigned) (shown : Shown) : Type 0 where
-  pub significand : Unsigned
-  pub exponent : ℕ
-  pub is_format : IsCompactFormat format NoSign u significand exponent shown.events
-  pub operands_are : shown.operands ≡ operands_of significand exponent
+-- a significand, an exponent and events are those of a compact formatter's `format`, inside the sign
+abbrev pub IsCompactShown : CompactFormat → Unsigned → Shown → Type 0
+IsCompactShown format u shown = IsCompactFormat format NoSign u shown.significand shown.exponent shown.events
 
 -- a compact formatter shows this of a number, and nothing else
 pub record ShowsCompact (format : CompactFormat) (u : Unsigned) (shown : Shown) : Type 0 where

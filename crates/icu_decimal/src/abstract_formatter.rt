@@ -1,9 +1,11 @@
 //! One interface over both formatters (ICU4X `AbstractFormatter`).
 
-ghost use Rattle.std.specs.Prelude.{◌≡◌, ◌≢◌, ◌↔◌, IfOk, IfErr, IsErrOf};
-ghost use Rattle.fixed_decimal.specs.Unsigned.{Unsigned};
+ghost use Rattle.std.specs.Prelude.{◌≡◌, ◌≢◌, ◌↔◌, ◌≤◌, IfOk, IfErr, IsErrOf};
+ghost use Rattle.fixed_decimal.specs.Size.{size};
+ghost use Rattle.fixed_decimal.specs.Unsigned.{IsUnsigned, Unsigned};
 ghost use Rattle.icu_decimal_data.specs.declared.decimal_symbols.DecimalSymbols.{DecimalSymbols};
-ghost use Rattle.icu_decimal.specs.Shown.{Shown};
+ghost use Rattle.icu_decimal.specs.Shown.{Shown, operands_shown, size_shown};
+ghost use Rattle.icu_decimal.specs.ShownLaws.{IsAtTheLimit, IsShownNear};
 ghost use Rattle.icu_decimal.specs.Signed.{affixes_for};
 ghost use Rattle.icu_decimal.specs.WritesSuch.{KeepsLimitSuch, WritesSuch};
 
@@ -22,9 +24,12 @@ pub trait Sealed {}
 /// A formatter of numbers, plain or compact, on which formatters of units, currencies or ranges stand (ICU4X
 /// `AbstractFormatter`).
 ///
-/// It shows one thing of a number: events, and plural operands that go with them. `write_unsigned` writes these events,
-/// `plural_operands` answers these operands, and `format_sign` puts a sign around whatever is written of them. What is
-/// promised here holds of every formatter, so a caller that is generic in it needs to know no more.
+/// It shows one number of a number: a significand times ten to an exponent, and the events that are written of it.
+/// `write_unsigned` writes these events, `plural_operands` answers the operands of that significand and exponent,
+/// `write_shown` does both, and `format_sign` puts a sign around whatever is written of them. What is promised here holds
+/// of every formatter, so a caller that is generic in it needs to know no more.
+///
+/// The laws say which number may be shown. Sizes are counted in whole units below every power that a decimal writes.
 pub trait AbstractFormatter: Sealed {
     /// What is shown of a number: `shows f u n` where the formatter `f` shows `n` of the number `u`.
     ghost shows: { Self → Unsigned → Shown → Type 0 };
@@ -67,12 +72,50 @@ pub trait AbstractFormatter: Sealed {
         value: &UnsignedDecimal,
     ) -> Result<PluralOperands, FormatError>
         ensures shown { IfOk result (λ o. (n : Shown) × shows self.now value.now n
-            × (n.operands ≡ o)) }
+            × (operands_shown n ≡ o)) }
         ensures overflow { IsErrOf result FormatError.Overflow ↔ overflows self.now value.now }
         ensures no_sink { IfErr result (λ e. e ≢ FormatError.Sink) };
 
+    /// Writes what is shown of a number, without a sign, as `write_unsigned` does, and answers its plural operands, as
+    /// `plural_operands` does: the number is rounded once.
+    fn write_shown<S: PartsWrite>(
+        &self,
+        alloc: Global,
+        value: &UnsignedDecimal,
+        sink: &mut S,
+    ) -> Result<PluralOperands, FormatError>
+        ensures written { WritesSuch S.events S.failures sink.old result
+            (shows self.now value.now) (λ n. n.events) sink.new }
+        ensures limited { KeepsLimitSuch S.events S.limit S.refusals sink.old result
+            (shows self.now value.now) (λ n. n.events) sink.new }
+        ensures shown { IfOk result (λ o. (n : Shown) × shows self.now value.now n
+            × (operands_shown n ≡ o)) }
+        ensures overflow { IsErrOf result FormatError.Overflow ↔ overflows self.now value.now };
+
     /// One thing is shown of a number.
     ghost one_shown: { (f : Self) (u : Unsigned) (n m : Shown) → shows f u n → shows f u m → n ≡ m };
+
+    /// The significand of what is shown of a decimal is one.
+    ghost decimal: { (f : Self) (u : Unsigned) (n : Shown) → IsUnsigned u → shows f u n → IsUnsigned n.significand };
+
+    /// 0 is shown as 0, and nothing else is; any other number as a size from the power of ten of its magnitude up to the
+    /// next power of ten, both included.
+    ghost near: { (f : Self) (u : Unsigned) (n : Shown) → shows f u n → IsShownNear (size u) (size_shown n) };
+
+    /// Of two numbers the one that isn't larger never shows the larger size.
+    ghost in_order: { (f : Self) (u v : Unsigned) (n m : Shown) → shows f u n → shows f v m → size u ≤ size v →
+        size_shown n ≤ size_shown m };
+
+    /// A number that is as large as a shown size shows that size.
+    ghost again: { (f : Self) (u v : Unsigned) (n m : Shown) → shows f u n → shows f v m → size v ≡ size_shown n →
+        size_shown m ≡ size_shown n };
+
+    /// And it overflows only where the number overflows of which that size is shown.
+    ghost again_within: { (f : Self) (u v : Unsigned) (n : Shown) → shows f u n → size v ≡ size_shown n → overflows f v →
+        overflows f u };
+
+    /// A number overflows only where the next power of ten above it is past the limits.
+    ghost overflow_at_the_limit: { (f : Self) (u : Unsigned) → overflows f u → IsAtTheLimit (size u) };
 }
 
 impl Sealed for DecimalFormatter {}
@@ -81,8 +124,9 @@ impl AbstractFormatter for DecimalFormatter {
     ghost use Rattle.std.specs.Prelude.{◌≡◌, ◌≢◌, ◌↔◌, Ok, IfOk, IfErr, IsErrOf};
     ghost use Rattle.std.proofs.Common.{◌∙◌, sym};
     ghost use Rattle.icu_base.specs.Operands.{operands_of};
-    ghost use Rattle.icu_decimal.specs.Shown.{Shown, plain_shown};
+    ghost use Rattle.icu_decimal.specs.Shown.{Shown, operands_shown, plain_shown};
     ghost use Rattle.icu_decimal.specs.WritesSuch.{KeepsLimitSuch, WritesSuch};
+    ghost use Rattle.icu_decimal.specs.KeptLaws.{plain_again, plain_in_order, plain_is_decimal, plain_near};
 
     ghost shows = { λ f u n. n ≡ plain_shown f u };
 
@@ -91,6 +135,18 @@ impl AbstractFormatter for DecimalFormatter {
     ghost symbols = { λ f. f.symbols };
 
     ghost one_shown = { λ f u n m h k. h ∙ sym k };
+
+    ghost decimal = { plain_is_decimal };
+
+    ghost near = { plain_near };
+
+    ghost in_order = { plain_in_order };
+
+    ghost again = { plain_again };
+
+    ghost again_within = { λ f u v n h same past. past };
+
+    ghost overflow_at_the_limit = { λ f u past. absurd past };
 
     /// It takes no memory but the sink's, and fails only as the sink does.
     fn write_unsigned<S: PartsWrite>(
@@ -127,13 +183,40 @@ impl AbstractFormatter for DecimalFormatter {
         value: &UnsignedDecimal,
     ) -> Result<PluralOperands, FormatError>
         ensures shown { IfOk result (λ o. (n : Shown) × (n ≡ plain_shown self.now value.now)
-            × (n.operands ≡ o)) }
+            × (operands_shown n ≡ o)) }
         ensures overflow { IsErrOf result FormatError.Overflow ↔ ⊥ }
         ensures no_sink { IfErr result (λ e. e ≢ FormatError.Sink) }
         ensures operands { result ≡ Ok (operands_of value.now 0) }
     {
         let _ = alloc;
         Ok(PluralOperands::from_significand_and_exponent(value, 0))
+    }
+
+    /// It takes no memory but the sink's, and fails only as the sink does.
+    fn write_shown<S: PartsWrite>(
+        &self,
+        alloc: Global,
+        value: &UnsignedDecimal,
+        sink: &mut S,
+    ) -> Result<PluralOperands, FormatError>
+        ensures written { WritesSuch S.events S.failures sink.old result (λ n.
+            n ≡ plain_shown self.now value.now) (λ n. n.events) sink.new }
+        ensures limited { KeepsLimitSuch S.events S.limit S.refusals sink.old result (λ n.
+            n ≡ plain_shown self.now value.now) (λ n. n.events) sink.new }
+        ensures shown { IfOk result (λ o. (n : Shown) × (n ≡ plain_shown self.now value.now)
+            × (operands_shown n ≡ o)) }
+        ensures overflow { IsErrOf result FormatError.Overflow ↔ ⊥ }
+        ensures only_sink { IfErr result (λ e. e ≡ FormatError.Sink) }
+        ensures operands { IfOk result (λ o. o ≡ operands_of value.now 0) }
+    {
+        let _ = alloc;
+        match self
+            .format_unsigned(Cow::Borrowed(value))
+            .write_to_parts(sink)
+        {
+            Ok(()) => Ok(PluralOperands::from_significand_and_exponent(value, 0)),
+            Err(_) => Err(FormatError::Sink),
+        }
     }
 }
 
@@ -143,6 +226,7 @@ impl AbstractFormatter for CompactDecimalFormatter {
     ghost use Rattle.fixed_decimal.specs.Size.{size};
     ghost use Rattle.icu_decimal.specs.CompactNumber.{ShowsPastLimits};
     ghost use Rattle.icu_decimal.specs.Shown.{ShowsCompact};
+    ghost use Rattle.icu_decimal.specs.KeptLaws.{compact_again, compact_again_within, compact_at_the_limit, compact_in_order, compact_is_decimal, compact_near};
 
     ghost shows = { ShowsCompact };
 
@@ -151,6 +235,18 @@ impl AbstractFormatter for CompactDecimalFormatter {
     ghost symbols = { λ f. f.decimal.symbols };
 
     ghost one_shown = { λ f u n m h k. k.alone n h.is_shown };
+
+    ghost decimal = { compact_is_decimal };
+
+    ghost near = { compact_near };
+
+    ghost in_order = { compact_in_order };
+
+    ghost again = { compact_again };
+
+    ghost again_within = { compact_again_within };
+
+    ghost overflow_at_the_limit = { compact_at_the_limit };
 
     fn write_unsigned<S: PartsWrite>(
         &self,
@@ -176,5 +272,18 @@ impl AbstractFormatter for CompactDecimalFormatter {
     ) -> Result<PluralOperands, FormatError> {
         let shown = self.format_unsigned(alloc, value)?;
         Ok(shown.plural_operands())
+    }
+
+    fn write_shown<S: PartsWrite>(
+        &self,
+        alloc: Global,
+        value: &UnsignedDecimal,
+        sink: &mut S,
+    ) -> Result<PluralOperands, FormatError> {
+        let compact = self.format_unsigned(alloc, value)?;
+        match compact.write_to_parts(sink) {
+            Ok(()) => Ok(compact.plural_operands()),
+            Err(_) => Err(FormatError::Sink),
+        }
     }
 }

@@ -9,11 +9,12 @@ ghost use Rattle.icu_base.specs.Events.{Event, text_of};
 ghost use Rattle.icu_base.specs.Operands.{operands_of};
 ghost use Rattle.icu_base.specs.Refs.{text_of_ref};
 ghost use Rattle.icu_base.specs.Rules.{category_of};
-ghost use Rattle.icu_decimal_data.specs.CompactTable.{IsIndex, entry_at, exponent_for};
+ghost use Rattle.icu_decimal_data.specs.CompactTable.{IsCompactTable, IsIndex, entry_at, exponent_for};
 ghost use Rattle.icu_decimal.specs.CompactNumber.{ShowsPastLimits};
-ghost use Rattle.icu_decimal.specs.CompactFormat.{IsCompactFormat, pattern_of, exponent_needed, magnitude_with, given_events, given_shown, significand_of, compact_shown, signed_compact_shown};
+ghost use Rattle.icu_decimal.specs.CompactFormat.{IsCompactFormat, IsCompacted, pattern_of, exponent_needed, magnitude_with, given_events, given_shown, given_value, significand_of, compact_shown, signed_compact_shown};
 ghost use Rattle.icu_decimal.specs.PatternGiven.{pattern_or_alone};
 ghost use Rattle.icu_decimal.specs.Readable.{IsReadableCompact};
+ghost use Rattle.icu_decimal.specs.Signed.{affixes_for};
 
 use crate::compact_rounding::{exponent_or_zero, nearest_compact};
 use crate::cow::Cow;
@@ -24,6 +25,7 @@ use crate::formatted_sign::FormattedSign;
 use fixed_decimal::{Decimal, UnsignedDecimal};
 use icu_base::{PatternRef, PluralOperands, PluralRules, SinglePlaceholder, Writeable};
 use icu_decimal_data::CompactPatterns;
+use icu_decimal_data::laws::entries_are_a_compact_table;
 use std::alloc::Global;
 use std::marker::Model;
 
@@ -32,7 +34,7 @@ use std::marker::Model;
 pub struct CompactDecimalFormatter {
     pub(crate) decimal_formatter: DecimalFormatter,
     plural_rules: PluralRules,
-    patterns: CompactPatterns<SinglePlaceholder>,
+    pub(crate) patterns: CompactPatterns<SinglePlaceholder>,
 }
 
 impl Model for CompactDecimalFormatter {
@@ -54,12 +56,14 @@ impl CompactDecimalFormatter {
         plural_rules: PluralRules,
         patterns: CompactPatterns<SinglePlaceholder>,
     ) -> Self
-        ensures { result ≡ record {
+        ensures parts { result ≡ record {
           decimal = decimal_formatter;
           rules = plural_rules;
           table = patterns;
         } }
+        ensures table { IsCompactTable result.table }
     {
+        entries_are_a_compact_table(&patterns);
         CompactDecimalFormatter {
             decimal_formatter,
             plural_rules,
@@ -85,6 +89,9 @@ impl CompactDecimalFormatter {
         ensures nearest { IfOk result (λ r.
             IsCompactFormat self.now value.now.sign value.now.absolute
             (significand_of r.value) r.value.exponent (signed_compact_shown r)) }
+        ensures affixes { IfOk result (λ r.
+            r.affixes ≡ affixes_for self.now.decimal.symbols value.now.sign) }
+        ensures value { IfOk result (λ r. IsCompacted self.now value.now.absolute r.value) }
         ensures overflow { IsErrOf result FormatError.Overflow
             ↔ ShowsPastLimits self.now.table (size value.now.absolute) }
         ensures no_sink { IfErr result (λ e. e ≢ FormatError.Sink) }
@@ -102,6 +109,7 @@ impl CompactDecimalFormatter {
         ensures nearest { IfOk result (λ r.
             IsCompactFormat self.now NoSign value.now (significand_of r) r.exponent
             (compact_shown r)) }
+        ensures value { IfOk result (λ r. IsCompacted self.now value.now r) }
         ensures overflow { IsErrOf result FormatError.Overflow
             ↔ ShowsPastLimits self.now.table (size value.now) }
         ensures no_sink { IfErr result (λ e. e ≢ FormatError.Sink) }
@@ -148,6 +156,8 @@ impl CompactDecimalFormatter {
         ensures given { IfOk result (λ r.
             given_shown r ≡ given_events self.now significand.now.sign significand.now.absolute
             exponent) }
+        ensures value { IfOk result (λ r.
+            r ≡ given_value self.now significand.now.sign significand.now.absolute exponent) }
         ensures refused { IfErr result (λ e.
             e ≡ record {
               actual = exponent;

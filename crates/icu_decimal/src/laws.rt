@@ -7,14 +7,16 @@ ghost use Rattle.fixed_decimal.specs.Unsigned.{Unsigned};
 ghost use Rattle.icu_decimal.specs.CompactFormat.{CompactFormat};
 ghost use Rattle.icu_decimal.specs.CompactLaws.{OneCompactNumberIsNearest, NearestIsRounded, DisplayedIsOne, NearestKeepsOrder, MagnitudeIsShown, CompactNumberIsItsNearest, IsUnpadded, IsShownAgain, ShownIsGiven};
 ghost use Rattle.icu_decimal.specs.Laws.{AutoAndAlwaysWriteAlike, CompactAutoAndAlwaysWriteAlike, CompactNoneActsAsAuto, NoneActsAsAuto};
-ghost use Rattle.icu_decimal.specs.ReadableLaws.{CompactTextTells, ShownTextTells, TextTellsTheDecimal};
+ghost use Rattle.icu_decimal.specs.ReadableLaws.{CompactTextTells, EqualCompactTextsTell, EqualShownTextsTell, EqualTextsTellTheDecimal, ShownTextTells, TextTellsTheDecimal};
+ghost use Rattle.icu_decimal_data.specs.CompactTable.{IsCompactTable};
 
+use crate::compact_formatter::CompactDecimalFormatter;
 use crate::formatted_decimal::{FormattedDecimal, FormattedUnsignedDecimal};
 use crate::formatted_sign::FormattedSign;
 use fixed_decimal::UnsignedDecimal;
 use icu_base::Writeable;
 use icu_decimal_data::DecimalSymbols;
-pub use icu_decimal_data::laws::kept_means_full;
+pub use icu_decimal_data::laws::{entries_are_a_compact_table, kept_means_full};
 pub use icu_decimal_options::laws::{grouping_is_unique, separators_taken_out};
 use icu_decimal_options::options::DecimalFormatterOptions;
 
@@ -27,16 +29,27 @@ pub fn auto_and_always_write_alike()
     ensures compact_none { CompactNoneActsAsAuto }
 {}
 
-/// Where a plain formatter is readable, equal texts mean equal decimals: in sign, range and every digit.
+/// Where a plain formatter is readable, equal texts mean equal decimals: in sign, range and every digit. Texts are
+/// compared as lists of characters, and as `format_to_string` answers them.
 pub fn text_tells_the_decimal()
-    ensures { TextTellsTheDecimal }
+    ensures characters { TextTellsTheDecimal }
+    ensures texts { EqualTextsTellTheDecimal }
 {}
 
 /// Where a compact formatter is readable, equal texts mean equal signs, significands and exponents, whichever of `format`
-/// and `format_with_exponent` wrote them.
+/// and `format_with_exponent` wrote them; the same of two texts that `format_to_string` answers.
 pub fn compact_text_tells()
-    ensures { CompactTextTells }
+    ensures characters { CompactTextTells }
+    ensures texts { EqualCompactTextsTell }
 {}
+
+/// The entries of a formatter's table are a compact table, as `given` of [`shown_again`] asks: types rise, exponents don't
+/// fall, none is above its type and none is more than 15 below it.
+pub fn table_is_compact(formatter: &CompactDecimalFormatter)
+    ensures { IsCompactTable formatter.now.table }
+{
+    entries_are_a_compact_table(&formatter.patterns);
+}
 
 /// Values with a sign that are equal write equal events, where equal values inside do.
 pub fn equal_signed_values_write_equal_events<T: Writeable + PartialEq>()
@@ -87,10 +100,11 @@ pub fn smaller_never_shows_larger()
 /// with the exponent that was shown, whatever the padding, and writes the same characters.
 ///
 /// Where the formatter is readable, two decimals without leading padding are written in the same characters exactly where
-/// their signs and the numbers that are shown are the same.
+/// their signs and the numbers that are shown are the same; and so are the texts that `format_to_string` answers.
 pub fn shown_again()
     ensures again { (format : CompactFormat) (sign : Sign) (d again : Unsigned) → IsUnpadded d
         → IsUnpadded again → IsShownAgain format sign d again }
     ensures given { ShownIsGiven }
     ensures readable { ShownTextTells }
+    ensures texts { EqualShownTextsTell }
 {}

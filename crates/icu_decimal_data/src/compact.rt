@@ -124,6 +124,13 @@ impl<P: PatternBackend> CompactPatterns<P> {
         }
     }
 
+    /// The entries are a compact table: this does nothing, and its contract is a law.
+    pub(crate) fn is_compact_table(&self)
+        ensures { IsCompactTable self.now }
+    {
+        let _ = &self.bytes;
+    }
+
     /// The type of an entry.
     pub fn log10_type(&self, index: usize) -> u8
         requires { index < length self.now }

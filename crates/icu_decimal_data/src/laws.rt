@@ -1,7 +1,7 @@
 //! What holds of all symbols and compact tables. The functions do nothing: each is its contract.
 
 ghost use Rattle.std.specs.Prelude.{◌≡◌, ◌↔◌, List, IsOk, IsTrue};
-ghost use Rattle.icu_decimal_data.specs.CompactTable.{TableEntry};
+ghost use Rattle.icu_decimal_data.specs.CompactTable.{IsCompactTable, TableEntry};
 ghost use Rattle.icu_decimal_data.specs.Faithful.{KeptMeansFull};
 ghost use Rattle.icu_decimal_data.specs.PackedTable.{IsPackable, PackableIsMade};
 ghost use Rattle.icu_decimal_data.specs.TableBytes.{table_bytes};
@@ -23,6 +23,14 @@ pub fn kept_means_full()
 {
     exactly_is_the_number();
     magnitude_is_the_greatest_power();
+}
+
+/// The entries of every table are a compact table: types rise, exponents don't fall, none is above its type and none is
+/// more than 15 below it.
+pub fn entries_are_a_compact_table<P: PatternBackend>(table: &CompactPatterns<P>)
+    ensures { IsCompactTable table.now }
+{
+    table.is_compact_table();
 }
 
 /// Two tables are equal exactly where their entries are the same.

@@ -1,5 +1,5 @@
 use Rattle.icu_decimal.proofs.ShownAgain.{shown_again, shown_is_given}
-use Rattle.icu_decimal.proofs.ShownTold.{shown_tells}
+use Rattle.icu_decimal.proofs.ShownTold.{equal_shown_texts_tell, shown_tells}
 use Rattle.icu_decimal.proofs.WorkedAgain.{million_written, ten_given}
 use Rattle.icu_decimal.proofs.WorkedPadding.{padding_is_needed}
 use Rattle.icu_decimal.proofs.laws.shown_again.Goals as goal
@@ -11,4 +11,4 @@ returns c =
     let written = million_written in
     let given = ten_given in
     let needed = padding_is_needed in
-    record { again = shown_again; given = shown_is_given; readable = shown_tells }
+    record { again = shown_again; given = shown_is_given; readable = shown_tells; texts = equal_shown_texts_tell }

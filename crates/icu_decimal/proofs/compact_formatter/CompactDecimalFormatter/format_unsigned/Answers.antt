@@ -1,6 +1,6 @@
--- Goals that a search finds; it is not tried longer where one is false.
 use Rattle.std.proofs.Common.{arith, rules}
 use Rattle.std.proofs.lemmas.Grind.{common_steps}
+use Rattle.icu_decimal.proofs.CompactShown.{compacted_of}
 use Rattle.icu_decimal.proofs.compact_formatter.CompactDecimalFormatter.format_unsigned.Goals as goal
 
 pub returns-in_err-compacted-clause-nearest : goal.returns-in_err-compacted-clause-nearest
@@ -17,3 +17,8 @@ returns-clause-overflow c = grind (arith, common_steps)
 
 pub returns-clause-no_sink : goal.returns-clause-no_sink
 returns-clause-no_sink c = search rules
+
+pub returns-clause-value : goal.returns-clause-value
+returns-clause-value c =
+    rw (← c.self.view_is)
+    (compacted_of _ _ _ _ _ _ c.format_unsigned-number.result _ c.in_ok-compacted.ensures.displayed.1 c.in_ok-compacted.ensures.exponent (rw (← c.self.view_is) at c.pattern_of-pattern.ensures) c.format_unsigned-number.ensures)
