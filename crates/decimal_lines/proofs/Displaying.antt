@@ -23,7 +23,7 @@ use Rattle.icu_decimal.specs.Displayed.{are_same_entry, displayed_entry, display
 use Rattle.icu_decimal.specs.RoundedAt.{IsRoundedAt}
 use Rattle.icu_decimal.proofs.CompactCore.{exponent_le_magnitude, magnitude_within, past_limits_from_rounded}
 use Rattle.icu_decimal.proofs.DisplayedOnce.{trimmed_told}
-use Rattle.icu_decimal.proofs.NearestLaws.{itself_nearest, nearest_compact_from_rounded, nearest_compact_same}
+use Rattle.icu_decimal.specs.NearestLemmas.{itself_nearest, nearest_compact_from_rounded, nearest_compact_same}
 use Rattle.decimal_lines.specs.Computed.{nearest_number, decimal_of, count_up_to, significand_shown}
 use Rattle.decimal_lines.specs.Compact.{IsCompactAnswer, text_by, text_shown, compact_text, compact_answer}
 use Rattle.decimal_lines.proofs.Computing.{rounded-nearest, decimal-unsigned, decimal-size, decimal-count, decimal-trimmed}

@@ -8,3 +8,4 @@ pub mod LineLaws
 pub mod Parts
 pub mod Returns
 pub mod Runs
+pub mod EachLine

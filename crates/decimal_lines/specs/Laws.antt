@@ -1,8 +1,8 @@
 -- What the computed definitions mean.
-use Rattle.std.specs.Prelude.{◌≡◌, ℕ, List}
+use Rattle.std.specs.Prelude.{◌≡◌, ℕ, List, [], ◌∷◌}
 use Rattle.decimal_lines.specs.declared.mode.Mode.{Mode}
 use Rattle.decimal_lines.specs.Answers.{HasTable, IsAnswer, answer_to}
-use Rattle.decimal_lines.specs.Lines.{IsLines, lines_of}
+use Rattle.decimal_lines.specs.Lines.{IsLines, ended, lines_of, output_of, without_return}
 
 -- each text has an answer in a mode, and `answer_to` is it; the entries of a compact mode have to be a compact table, as
 -- those of every formatter are
@@ -20,3 +20,22 @@ InputHasLines = (input : List ℕ) → IsLines input (lines_of input)
 -- and no other one
 abbrev pub LinesAreUnique : Type 0
 LinesAreUnique = (input : List ℕ) (lines : List (List ℕ)) → IsLines input lines → lines ≡ lines_of input
+
+-- for each line one answer, in their order: to the line without one carriage return at its end
+abbrev pub AreAnswers : Mode → List (List ℕ) → List (List ℕ) → Type 0
+AreAnswers mode [] [] = Unit {0}
+AreAnswers mode [] (answer ∷ answers) = ⊥
+AreAnswers mode (line ∷ lines) [] = ⊥
+AreAnswers mode (line ∷ lines) (answer ∷ answers) = IsAnswer mode (without_return line) answer × AreAnswers mode lines answers
+
+-- the output has an answer for each line of the input, each followed by a line feed, and nothing else
+pub record AnswersEachLine (mode : Mode) (input output : List ℕ) : Type 0 where
+  pub lines : List (List ℕ)
+  pub answers : List (List ℕ)
+  pub are_lines : IsLines input lines
+  pub are_answers : AreAnswers mode lines answers
+  pub spelled : output ≡ ended answers
+
+-- what `run` writes of an input in a mode is such an output
+abbrev pub OutputAnswersEachLine : Mode → Type 0
+OutputAnswersEachLine mode = (input : List ℕ) → AnswersEachLine mode input (output_of (answer_to mode) input)

@@ -1,6 +1,10 @@
 //! What the computed definitions mean: each gives the one value that a relation allows.
 
-ghost use Rattle.decimal_lines.specs.Laws.{AnswerIsAnAnswer, AnswerIsUnique, InputHasLines, LinesAreUnique};
+ghost use Rattle.decimal_lines.specs.Answers.{HasTable};
+ghost use Rattle.decimal_lines.specs.Laws.{AnswerIsAnAnswer, AnswerIsUnique, InputHasLines, LinesAreUnique, OutputAnswersEachLine};
+
+use crate::mode::Mode;
+use icu_decimal::laws::table_is_compact;
 
 /// A text has one answer in each mode whose entries are a compact table; with any entries it has no other one.
 pub fn texts_have_one_answer()
@@ -13,3 +17,21 @@ pub fn inputs_have_one_list_of_lines()
     ensures exists { InputHasLines }
     ensures unique { LinesAreUnique }
 {}
+
+/// The entries of a compact mode are a compact table, as `exists` of [`texts_have_one_answer`] asks.
+pub fn mode_has_table(mode: &Mode)
+    ensures { HasTable mode.now }
+{
+    match mode {
+        Mode::Plain(_) => {}
+        Mode::Compact(formatter) => table_is_compact(formatter),
+    }
+}
+
+/// What `run` writes of an input has one answer for each line and nothing else: for a decimal its text in the mode. In a
+/// compact mode that is the text of the compact number that is nearest to the decimal among those of all magnitudes.
+pub fn each_line_is_answered(mode: &Mode)
+    ensures { OutputAnswersEachLine mode.now }
+{
+    mode_has_table(mode);
+}

@@ -1,6 +1,7 @@
 //! The mode that the words and the file of tables make.
 
-ghost use Rattle.std.specs.Prelude.{◌≡◌};
+ghost use Rattle.std.specs.Prelude.{◌≡◌, IfOk};
+ghost use Rattle.decimal_lines.specs.Answers.{HasTable};
 ghost use Rattle.decimal_lines.specs.Making.{Starts, compact_options, compact_preferences, long_mode, mode_by, mode_of, plain_mode, plain_options, plain_preferences, short_mode, start_error};
 
 use crate::mode::{Mode, StartError};
@@ -68,7 +69,8 @@ fn start_error(error: DataError) -> StartError
 /// Plain numbers.
 #[tactic(auto, unfolding(crate::specs::Making::plain_mode))]
 fn plain_mode(alloc: Global, tables: &Tables, words: &Words<'_>) -> Result<Mode, StartError>
-    ensures { Starts result (plain_mode words.now tables.now) }
+    ensures mode { Starts result (plain_mode words.now tables.now) }
+    ensures table { IfOk result (λ mode. HasTable mode) }
 {
     let options = plain_options(words.grouping);
     match DecimalFormatter::try_new_unstable(alloc, tables, plain_preferences(words), options) {
@@ -80,7 +82,8 @@ fn plain_mode(alloc: Global, tables: &Tables, words: &Words<'_>) -> Result<Mode,
 /// Numbers shortened by the short patterns.
 #[tactic(auto, unfolding(crate::specs::Making::short_mode))]
 fn short_mode(alloc: Global, tables: &Tables, words: &Words<'_>) -> Result<Mode, StartError>
-    ensures { Starts result (short_mode words.now tables.now) }
+    ensures mode { Starts result (short_mode words.now tables.now) }
+    ensures table { IfOk result (λ mode. HasTable mode) }
 {
     let options = compact_options(words.grouping);
     match CompactDecimalFormatter::try_new_short_unstable(
@@ -97,7 +100,8 @@ fn short_mode(alloc: Global, tables: &Tables, words: &Words<'_>) -> Result<Mode,
 /// Numbers shortened by the long patterns.
 #[tactic(auto, unfolding(crate::specs::Making::long_mode))]
 fn long_mode(alloc: Global, tables: &Tables, words: &Words<'_>) -> Result<Mode, StartError>
-    ensures { Starts result (long_mode words.now tables.now) }
+    ensures mode { Starts result (long_mode words.now tables.now) }
+    ensures table { IfOk result (λ mode. HasTable mode) }
 {
     let options = compact_options(words.grouping);
     match CompactDecimalFormatter::try_new_long_unstable(
@@ -114,7 +118,8 @@ fn long_mode(alloc: Global, tables: &Tables, words: &Words<'_>) -> Result<Mode, 
 /// The mode of the style that is asked for.
 #[tactic(auto, unfolding(crate::specs::Making::mode_by))]
 fn mode_by(alloc: Global, tables: &Tables, words: &Words<'_>) -> Result<Mode, StartError>
-    ensures { Starts result (mode_by words.now tables.now) }
+    ensures mode { Starts result (mode_by words.now tables.now) }
+    ensures table { IfOk result (λ mode. HasTable mode) }
 {
     match words.style {
         Style::Plain => plain_mode(alloc, tables, words),
@@ -126,7 +131,8 @@ fn mode_by(alloc: Global, tables: &Tables, words: &Words<'_>) -> Result<Mode, St
 /// The mode of a text of tables.
 #[tactic(auto, unfolding(crate::specs::Making::mode_of))]
 fn mode_of(alloc: Global, words: &Words<'_>, text: &str) -> Result<Mode, StartError>
-    ensures { Starts result (mode_of words.now text.now) }
+    ensures mode { Starts result (mode_of words.now text.now) }
+    ensures table { IfOk result (λ mode. HasTable mode) }
 {
     match Tables::from_json(alloc, text) {
         Ok(tables) => mode_by(alloc, &tables, words),
@@ -136,7 +142,7 @@ fn mode_of(alloc: Global, words: &Words<'_>, text: &str) -> Result<Mode, StartEr
 }
 
 impl Mode {
-    ghost use Rattle.std.specs.Prelude.{◌≡◌, Err};
+    ghost use Rattle.std.specs.Prelude.{◌≡◌, Err, IfOk};
     ghost use Rattle.std.specs.Str.{IsUtf8};
     ghost use Rattle.decimal_lines.specs.Making.{Starts, mode_of};
 
@@ -147,6 +153,7 @@ impl Mode {
     pub fn make(alloc: Global, words: &Words<'_>, file: &[u8]) -> Result<Mode, StartError>
         ensures text { IsUtf8 file.now → Starts result (mode_of words.now file.now) }
         ensures no_text { ¬ (IsUtf8 file.now) → result ≡ Err StartError.Tables }
+        ensures table { IfOk result (λ mode. HasTable mode) }
     {
         let Ok(text) = str::from_utf8(file) else {
             return Err(StartError::Tables);

@@ -23,4 +23,5 @@ pub mod CompactTold
 pub mod ShownTold
 pub mod WorkedReadable
 pub mod WorkedEnglish
+pub mod WorkedCarry
 pub mod CompactShown

@@ -48,26 +48,26 @@ table_valid = record {
     two R h (suc i) (suc j) d below inside = absurd (omega arith)
 
 -- 999500, the million that is shown, and the 10 of `10L`
-abbrev number : Unsigned
+abbrev pub number : Unsigned
 number = record { digits = 9 ∷ 9 ∷ 9 ∷ 5 ∷ 0 ∷ 0 ∷ []; scale = 0 }
 
-abbrev million : Unsigned
+abbrev pub million : Unsigned
 million = record { digits = 1 ∷ 0 ∷ 0 ∷ 0 ∷ 0 ∷ 0 ∷ 0 ∷ []; scale = 0 }
 
 abbrev significand : Unsigned
 significand = record { digits = 1 ∷ 0 ∷ []; scale = 0 }
 
 -- their sizes
-whole : finest - 0 ≡ finest
+pub whole : finest - 0 ≡ finest
 whole = omega arith
 
-number_is : size number ≡ 999 * 10 ^ (finest + 3) + 5 * 10 ^ (finest + 2)
+pub number_is : size number ≡ 999 * 10 ^ (finest + 3) + 5 * 10 ^ (finest + 2)
 number_is = ap (λ f. weighed f (9 ∷ 9 ∷ 9 ∷ 5 ∷ 0 ∷ 0 ∷ [])) whole ∙ digits finest
   where
     digits : (f : ℕ) → weighed f (9 ∷ 9 ∷ 9 ∷ 5 ∷ 0 ∷ 0 ∷ []) ≡ 999 * 10 ^ (f + 3) + 5 * 10 ^ (f + 2)
     digits f = omega (arith, pow-add 10 f 5, pow-add 10 f 4, pow-add 10 f 3, pow-add 10 f 2)
 
-million_is : size million ≡ 10 ^ (finest + 6)
+pub million_is : size million ≡ 10 ^ (finest + 6)
 million_is = ap (λ f. weighed f (1 ∷ 0 ∷ 0 ∷ 0 ∷ 0 ∷ 0 ∷ 0 ∷ [])) whole ∙ digits finest
   where
     digits : (f : ℕ) → weighed f (1 ∷ 0 ∷ 0 ∷ 0 ∷ 0 ∷ 0 ∷ 0 ∷ []) ≡ 10 ^ (f + 6)
@@ -80,7 +80,7 @@ significand_scaled = ap (λ f. weighed f (1 ∷ 0 ∷ []) * 10 ^ 5) whole ∙ di
     digits f = omega (arith, pow-add 10 f 1, pow-add 10 f 6)
 
 -- and magnitudes
-number_magnitude : magnitude (size number) ≡ finest + 5
+pub number_magnitude : magnitude (size number) ≡ finest + 5
 number_magnitude =
     let next : 10 ^ (finest + 5 + 1) ≡ 10 ^ (finest + 6) = same_power (finest + 5 + 1) (finest + 6) (omega arith) in
     ap magnitude number_is
@@ -88,13 +88,13 @@ number_magnitude =
     (omega (arith, pow-add 10 finest 5, pow-add 10 finest 3, pow-add 10 finest 2))
     (omega (arith, pow-add 10 finest 6, pow-add 10 finest 3, pow-add 10 finest 2, ten_pos finest))
 
-million_magnitude : magnitude (size million) ≡ finest + 6
+pub million_magnitude : magnitude (size million) ≡ finest + 6
 million_magnitude = ap magnitude million_is ∙ magnitude-ten (finest + 6)
 
 number_power : pos (finest + 5) -ℤ pos finest ≡ pos 5
 number_power = omega (arith, ints)
 
-million_power : pos (finest + 6) -ℤ pos finest ≡ pos 6
+pub million_power : pos (finest + 6) -ℤ pos finest ≡ pos 6
 million_power = omega (arith, ints)
 
 -- numbers of hundreds of thousands are rounded to thousands
@@ -111,7 +111,7 @@ unfolding entry_for finest
 lakh_there = refl
 
 -- just between 999000 and a million, and a million is the even one
-number_rounded : IsNearest (IsMultiple (10 ^ (finest + 3))) (10 ^ (finest + 3)) (999 * 10 ^ (finest + 3) + 5 * 10 ^ (finest + 2)) (10 ^ (finest + 6))
+pub number_rounded : IsNearest (IsMultiple (10 ^ (finest + 3))) (10 ^ (finest + 3)) (999 * 10 ^ (finest + 3) + 5 * 10 ^ (finest + 2)) (10 ^ (finest + 6))
 number_rounded =
     let half : 2 * (5 * 10 ^ (finest + 2)) ≡ 10 ^ (finest + 3) = omega (arith, pow-add 10 finest 3, pow-add 10 finest 2) in
     let top : 1000 * 10 ^ (finest + 3) ≡ 10 ^ (finest + 6) = omega (arith, pow-add 10 finest 6, pow-add 10 finest 3) in
@@ -135,10 +135,10 @@ number_displayed = record {
     two : AreDigits (1 ∷ 0 ∷ [])
     two = All-cons (λ d. d < 10) 1 (0 ∷ []) (omega arith) (All-cons (λ d. d < 10) 0 [] (omega arith) (All-nil (λ d. d < 10)))
 
-number_unpadded : IsUnpadded number
+pub number_unpadded : IsUnpadded number
 number_unpadded = rw (number_magnitude, number_power) refl
 
-million_unpadded : IsUnpadded million
+pub million_unpadded : IsUnpadded million
 million_unpadded = rw (million_magnitude, million_power) refl
 
 -- with this table, any symbols, digits, options and rules, and any sign

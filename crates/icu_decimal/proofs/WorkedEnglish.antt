@@ -14,14 +14,14 @@ use Rattle.icu_decimal.specs.Readable.{IsReadableCompact}
 use Rattle.icu_decimal.proofs.WorkedReadable.{texts, digits, has_none_of, neither, none_of, sign_told, english_readable}
 
 -- an exponent, and the literal that follows a number: the one pattern of an entry whose type is its exponent
-record Row : Type 0 where
-  exponent : ℕ
-  literal : List ℕ
+pub record Row : Type 0 where
+  pub exponent : ℕ
+  pub literal : List ℕ
 
-abbrev row_pattern : Row → PatternText
+abbrev pub row_pattern : Row → PatternText
 row_pattern r = record { place = Some 0; literal = r.literal }
 
-abbrev row_entry : Row → TableEntry
+abbrev pub row_entry : Row → TableEntry
 row_entry r = record { log10_type = r.exponent; exponent = r.exponent; elements = only_other (row_pattern r) }
 
 -- numbers without an entry stand in the pattern of this row
@@ -156,7 +156,7 @@ rows_readable rows frees tells = record {
       (sign_told s t (ap₂ of before (nothing_after s ∙ sym (nothing_after t))), k.3 ∙ ap (λ (r : Row). r.exponent) rows_same ∙ sym l.3);
 }
 
-abbrev with_table : List Row → CompactFormat
+abbrev pub with_table : List Row → CompactFormat
 with_table rows = record {
   decimal = record { symbols = english_symbols; digits = digits; options = record { grouping_strategy = None } };
   rules = [];
@@ -164,7 +164,7 @@ with_table rows = record {
 }
 
 -- `15K`, `1M`
-abbrev short_rows : List Row
+abbrev pub short_rows : List Row
 short_rows =
     record { exponent = 3; literal = codes "K" } ∷ record { exponent = 6; literal = codes "M" }
     ∷ record { exponent = 9; literal = codes "B" } ∷ record { exponent = 12; literal = codes "T" } ∷ []

@@ -1,8 +1,9 @@
 //! Formatters that are made of what a provider answers.
 
-ghost use Rattle.std.specs.Prelude.{map, option_map};
+ghost use Rattle.std.specs.Prelude.{IfOk, map, option_map};
 ghost use Rattle.icu_base.specs.Answer.{Answers};
 ghost use Rattle.icu_base.specs.Identifier.{identifier_of};
+ghost use Rattle.icu_decimal_data.specs.CompactTable.{IsCompactTable};
 ghost use Rattle.icu_decimal_data.specs.Decided.{decided};
 ghost use Rattle.icu_decimal.specs.Loaded.{loaded, loaded_compact};
 ghost use Rattle.icu_decimal_options.specs.Preferences.{asked};
@@ -95,12 +96,13 @@ impl CompactDecimalFormatter {
         prefs: CompactDecimalFormatterPreferences,
         options: CompactDecimalFormatterOptions,
     ) -> Result<Self, DataError>
-        ensures { Answers result
+        ensures answers { Answers result
             (loaded_compact (⟦<D as DataProvider<DecimalSymbolsV1>>⟧.answer provider.now)
             (⟦<D as DataProvider<DecimalDigitsV1>>⟧.answer provider.now)
             (⟦<D as DataProvider<PluralsCardinalV1>>⟧.answer provider.now)
             (⟦<D as DataProvider<DecimalCompactShortV1>>⟧.answer provider.now)
             prefs options) }
+        ensures table { IfOk result (λ f. IsCompactTable f.table) }
     {
         load_compact::<DecimalCompactShortV1, D>(alloc, provider, &prefs, options)
     }
@@ -117,12 +119,13 @@ impl CompactDecimalFormatter {
         prefs: CompactDecimalFormatterPreferences,
         options: CompactDecimalFormatterOptions,
     ) -> Result<Self, DataError>
-        ensures { Answers result
+        ensures answers { Answers result
             (loaded_compact (⟦<D as DataProvider<DecimalSymbolsV1>>⟧.answer provider.now)
             (⟦<D as DataProvider<DecimalDigitsV1>>⟧.answer provider.now)
             (⟦<D as DataProvider<PluralsCardinalV1>>⟧.answer provider.now)
             (⟦<D as DataProvider<DecimalCompactLongV1>>⟧.answer provider.now)
             prefs options) }
+        ensures table { IfOk result (λ f. IsCompactTable f.table) }
     {
         load_compact::<DecimalCompactLongV1, D>(alloc, provider, &prefs, options)
     }
@@ -141,12 +144,13 @@ fn load_compact<
     prefs: &CompactDecimalFormatterPreferences,
     options: CompactDecimalFormatterOptions,
 ) -> Result<CompactDecimalFormatter, DataError>
-    ensures { Answers result
+    ensures answers { Answers result
         (loaded_compact (⟦<D as DataProvider<DecimalSymbolsV1>>⟧.answer provider.now)
         (⟦<D as DataProvider<DecimalDigitsV1>>⟧.answer provider.now)
         (⟦<D as DataProvider<PluralsCardinalV1>>⟧.answer provider.now)
         (⟦<D as DataProvider<M>>⟧.answer provider.now)
         prefs.now options) }
+    ensures table { IfOk result (λ f. IsCompactTable f.table) }
 {
     let plain = DecimalFormatterPreferences::from(prefs);
     let formatter = DecimalFormatter::try_new_unstable::<D>(

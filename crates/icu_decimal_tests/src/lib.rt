@@ -40,3 +40,5 @@ mod readable;
 mod shelf;
 #[cfg(test)]
 mod styles;
+#[cfg(test)]
+mod told;

@@ -80,17 +80,16 @@ impl<F: AbstractFormatter> UnitFormatter<F> {
             ↔ F.overflows self.now.formatter value.now.absolute }
     {
         let mut number = PartsText::new(alloc);
-        match self
+        let operands = match self
             .formatter
-            .write_unsigned(alloc, &value.absolute, &mut number)
+            .write_shown(alloc, &value.absolute, &mut number)
         {
-            Ok(()) => {}
+            Ok(operands) => operands,
             Err(FormatError::Overflow) => return Err(FormatError::Overflow),
             Err(FormatError::OutOfMemory | FormatError::Sink) => {
                 return Err(FormatError::OutOfMemory);
             }
-        }
-        let operands = self.formatter.plural_operands(alloc, &value.absolute)?;
+        };
         let pattern = self.elements.get(operands, &self.rules);
         let text = pattern.interpolate(number.text());
         match write_signed(&self.formatter, text, value.sign, sink) {

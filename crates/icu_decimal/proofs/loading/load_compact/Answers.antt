@@ -2,14 +2,26 @@
 use Rattle.std.proofs.Common.{rules}
 use Rattle.icu_decimal.proofs.loading.load_compact.Goals as goal
 
-pub returns-in_err-formatter : goal.returns-in_err-formatter
-returns-in_err-formatter g c = search rules
+pub returns-in_err-formatter-clause-answers : goal.returns-in_err-formatter-clause-answers
+returns-in_err-formatter-clause-answers g c = search rules
 
-pub returns-in_err-rules : goal.returns-in_err-rules
-returns-in_err-rules g c = search rules
+pub returns-in_err-formatter-clause-table : goal.returns-in_err-formatter-clause-table
+returns-in_err-formatter-clause-table g c = search rules
 
-pub returns-in_err-patterns : goal.returns-in_err-patterns
-returns-in_err-patterns g c = search rules
+pub returns-in_err-rules-clause-answers : goal.returns-in_err-rules-clause-answers
+returns-in_err-rules-clause-answers g c = search rules
 
-pub returns : goal.returns
-returns g c = search rules
+pub returns-in_err-rules-clause-table : goal.returns-in_err-rules-clause-table
+returns-in_err-rules-clause-table g c = search rules
+
+pub returns-in_err-patterns-clause-answers : goal.returns-in_err-patterns-clause-answers
+returns-in_err-patterns-clause-answers g c = search rules
+
+pub returns-in_err-patterns-clause-table : goal.returns-in_err-patterns-clause-table
+returns-in_err-patterns-clause-table g c = search rules
+
+pub returns-clause-answers : goal.returns-clause-answers
+returns-clause-answers g c = search rules
+
+pub returns-clause-table : goal.returns-clause-table
+returns-clause-table g c = search rules

@@ -2,5 +2,8 @@
 use Rattle.std.proofs.Common.{rules}
 use Rattle.icu_decimal.proofs.compact_formatter.CompactDecimalFormatter.try_new_long_unstable.Goals as goal
 
-pub returns : goal.returns
-returns g c = search rules
+pub returns-clause-answers : goal.returns-clause-answers
+returns-clause-answers g c = search rules
+
+pub returns-clause-table : goal.returns-clause-table
+returns-clause-table g c = search rules

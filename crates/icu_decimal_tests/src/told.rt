@@ -1,0 +1,129 @@
+//! From two equal texts to what they tell: callers of the laws, proved by public clauses alone.
+
+ghost use Rattle.std.specs.Prelude.{◌≡◌, ◌↔◌, IfSome, IsTrue};
+ghost use Rattle.fixed_decimal.specs.Size.{size};
+ghost use Rattle.icu_decimal.specs.CompactLaws.{IsUnpadded};
+ghost use Rattle.icu_decimal_tests.specs.OneSize.{ShowOneSize};
+
+use crate::fixtures::{english, read};
+use crate::languages::Language;
+use crate::making::compact;
+use fixed_decimal::{Decimal, UnsignedDecimal};
+use icu_decimal::laws::{
+    compact_text_tells, nearest_is_unique, shown_again, text_tells_the_decimal,
+};
+use icu_decimal::options::GroupingStrategy;
+use icu_decimal::{CompactDecimalFormatter, DecimalFormatter};
+use std::alloc::Global;
+
+/// Whether two decimals have one text: then they are one. None where the formatter isn't readable or memory is wanting.
+fn have_one_text(
+    alloc: Global,
+    formatter: &DecimalFormatter,
+    one: &Decimal,
+    other: &Decimal,
+) -> Option<bool>
+    ensures { IfSome result (λ same. IsTrue same →
+        (one.now.sign ≡ other.now.sign) × (one.now.absolute ≡ other.now.absolute)) }
+{
+    text_tells_the_decimal();
+    let _ = one.absolute.is_zero();
+    let _ = other.absolute.is_zero();
+    if !formatter.is_readable() {
+        return None;
+    }
+    let Ok(first) = formatter.format_to_string(alloc, one) else {
+        return None;
+    };
+    let Ok(second) = formatter.format_to_string(alloc, other) else {
+        return None;
+    };
+    Some(first == second)
+}
+
+/// Whether two decimals have one compact text: then they have one sign, and one nearest compact number. None where the
+/// formatter isn't readable, a number is too large or memory is wanting.
+fn have_one_compact_text(
+    alloc: Global,
+    formatter: &CompactDecimalFormatter,
+    one: &Decimal,
+    other: &Decimal,
+) -> Option<bool>
+    ensures { IfSome result (λ same. IsTrue same → (one.now.sign ≡ other.now.sign)
+        × ShowOneSize formatter.now (size one.now.absolute) (size other.now.absolute)) }
+{
+    compact_text_tells();
+    if !formatter.is_readable() {
+        return None;
+    }
+    let Ok(first) = formatter.format_to_string(alloc, one) else {
+        return None;
+    };
+    let Ok(second) = formatter.format_to_string(alloc, other) else {
+        return None;
+    };
+    Some(first == second)
+}
+
+/// Whether a number has no leading padding.
+fn is_unpadded(number: &UnsignedDecimal) -> bool
+    ensures { IsTrue result → IsUnpadded number.now }
+{
+    let written = *number.magnitude_range().end();
+    let first = number.nonzero_magnitude_start();
+    if first > 0 {
+        return written == first;
+    }
+    written == 0
+}
+
+/// Whether two decimals without leading padding have one compact text: just where they have one sign, and one nearest
+/// compact number. None where one has such padding, the formatter isn't readable, a number is too large or memory is
+/// wanting.
+fn show_one_number(
+    alloc: Global,
+    formatter: &CompactDecimalFormatter,
+    one: &Decimal,
+    other: &Decimal,
+) -> Option<bool>
+    ensures { IfSome result (λ same. IsTrue same ↔ ((one.now.sign ≡ other.now.sign)
+        × ShowOneSize formatter.now (size one.now.absolute) (size other.now.absolute))) }
+{
+    shown_again();
+    nearest_is_unique();
+    if !formatter.is_readable() || !is_unpadded(&one.absolute) || !is_unpadded(&other.absolute) {
+        return None;
+    }
+    let Ok(first) = formatter.format_to_string(alloc, one) else {
+        return None;
+    };
+    let Ok(second) = formatter.format_to_string(alloc, other) else {
+        return None;
+    };
+    Some(first == second)
+}
+
+/// Two numbers, and whether they have one text, plain and in short English.
+const PAIRS: [(&str, &str, bool, bool); 7] = [
+    ("1234", "1234", true, true),
+    ("1234", "-1234", false, false),
+    ("1.5", "1.50", false, true),
+    ("0999500", "999500", false, true),
+    ("999500", "1000000", false, true),
+    ("999499", "999500", false, false),
+    ("1250", "1150", false, true),
+];
+
+#[test]
+fn equal_texts_are_of_one_decimal(rt: HostRuntime) {
+    let formatter = english(&rt, rt.alloc());
+    for (one, other, same, _) in PAIRS {
+        let first = read(&rt, rt.alloc(), one);
+        let second = read(&rt, rt.alloc(), other);
+        let told = match have_one_text(rt.alloc(), &formatter, &first, &second) {
+            Some(told) => Some(told),
+            None => have_one_text(rt.alloc(), &formatter, &first, &second),
+        };
+        assert!(rt; told == Some(same), "{one} and {other}");
+    }
+}
