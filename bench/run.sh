@@ -128,3 +128,7 @@ echo "start-up with $(stat -c %s build/tables.json) bytes of tables: $((${best[s
 # Library callers in four locales.
 echo
 ./locales.sh "$runs"
+
+# Units over short English.
+echo
+./units.sh

@@ -7,7 +7,9 @@ mod failing;
 mod filling;
 mod slow;
 
-use decimal_lines::laws::{inputs_have_one_list_of_lines, texts_have_one_answer};
+use decimal_lines::laws::{
+    each_line_is_answered, inputs_have_one_list_of_lines, mode_has_table, texts_have_one_answer,
+};
 use decimal_lines::{Mode, RunError, StartError, run};
 use slow::{Full, SlowReader, SlowWriter};
 use std::alloc::{AllocError, Global};
@@ -384,7 +386,13 @@ fn runs_again_after_want_of_memory(rt: HostRuntime) {
 }
 
 #[test]
-fn states_the_laws() {
+fn states_the_laws(rt: HostRuntime) {
     texts_have_one_answer();
     inputs_have_one_list_of_lines();
+    let mode = english(rt.alloc());
+    assert!(rt; mode.is_ok());
+    if let Ok(mode) = &mode {
+        mode_has_table(mode);
+        each_line_is_answered(mode);
+    }
 }

@@ -1,12 +1,12 @@
 -- What a compact formatter shows of a number is one, and `format` puts a sign around it.
-use Rattle.std.proofs.Common.{◌≡◌, ℕ, List, Option, refl, sym, ap, ap₂, subst, ◌∙◌}
+use Rattle.std.proofs.Common.{◌≡◌, ℕ, List, Option, sym, ap, ap₂, subst, ◌∙◌}
 use Rattle.fixed_decimal.specs.declared.signs.Sign.{Sign}
 use Rattle.fixed_decimal.specs.declared.signs.Sign.TheVariants.{None}
 use Rattle.fixed_decimal.specs.Unsigned.{Unsigned}
 use Rattle.icu_base.specs.Events.{Event, without_parts}
 use Rattle.icu_base.specs.Patterns.{PatternText}
 use Rattle.icu_decimal_data.specs.CompactTable.{TableEntry, exponent_of}
-use Rattle.icu_decimal.specs.CompactFormat.{CompactFormat, FilledNumber, FormattedCompact, IsCompactFormat, IsCompacted, filled_events, filled_shown, pattern_of, significand_of, compact_shown, signed_compact_shown}
+use Rattle.icu_decimal.specs.CompactFormat.{CompactFormat, FilledNumber, FormattedCompact, IsCompactFormat, IsCompacted, filled_events, pattern_of, significand_of, compact_shown, signed_compact_shown}
 use Rattle.icu_decimal.specs.Decimal.{signed_events}
 use Rattle.icu_decimal.specs.Displayed.{IsDisplayed}
 use Rattle.icu_decimal.specs.Formatted.{FormattedNumber}

@@ -1,5 +1,5 @@
 -- The nearest compact numbers keep the order of sizes, and lose no size but zero.
-use Rattle.std.proofs.Common.{ℕ, ◌^◌}
+use Rattle.std.proofs.Common.{◌^◌}
 use Rattle.fixed_decimal.specs.Size.{magnitude}
 use Rattle.icu_decimal.specs.CompactNumber.{rounding_place_for, IsCompactNumber}
 use Rattle.icu_decimal.specs.CompactLaws.{NearestKeepsOrder, MagnitudeIsShown, CompactNumberIsItsNearest}

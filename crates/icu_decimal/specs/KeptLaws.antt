@@ -1,6 +1,6 @@
 -- The laws of `AbstractFormatter`, proved of both formatters. They stand here and not in proofs/ because its impls cite them.
 -- A plain formatter shows the number itself; of a compact one the shown size is the nearest compact number.
-use Rattle.std.proofs.Common.{◌≡◌, ℕ, ◌+◌, ◌*◌, ◌^◌, ◌<◌, ◌≤◌, arith, inl, inr, pos, sym, ap, subst, ◌∙◌}
+use Rattle.std.proofs.Common.{◌≡◌, ℕ, ◌*◌, ◌^◌, ◌≤◌, arith, inl, inr, pos, sym, ap, subst, ◌∙◌}
 use Rattle.std.proofs.lemmas.Bool.{cases_eq, cases_lt}
 use Rattle.fixed_decimal.specs.Size.{magnitude, place, size}
 use Rattle.fixed_decimal.specs.Unsigned.{IsUnsigned, Unsigned}
@@ -58,10 +58,13 @@ nearest_to_zero format x y n none =
 
 nearest_near : (format : CompactFormat) (x y : ℕ) → IsNearestCompact format.table x y → IsShownNear x y
 nearest_near format x y n = record {
-  zero = (nearest_to_zero format x y n, λ none. elim (cases_eq x 0) [
-    | inl e ↦ e
-    | inr some ↦ absurd (omega (arith, (nearest_within format.table x (omega arith) y n).0, ten_pos (magnitude x)))
-  ]);
+  zero = (
+    nearest_to_zero format x y n,
+    λ none. elim (cases_eq x 0) [
+      | inl e ↦ e
+      | inr some ↦ absurd (omega (arith, (nearest_within format.table x (omega arith) y n).0, ten_pos (magnitude x)))
+    ],
+  );
   within = λ some. nearest_within format.table x some y n;
 }
 

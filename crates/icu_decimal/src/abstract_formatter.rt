@@ -209,14 +209,8 @@ impl AbstractFormatter for DecimalFormatter {
         ensures only_sink { IfErr result (λ e. e ≡ FormatError.Sink) }
         ensures operands { IfOk result (λ o. o ≡ operands_of value.now 0) }
     {
-        let _ = alloc;
-        match self
-            .format_unsigned(Cow::Borrowed(value))
-            .write_to_parts(sink)
-        {
-            Ok(()) => Ok(PluralOperands::from_significand_and_exponent(value, 0)),
-            Err(_) => Err(FormatError::Sink),
-        }
+        self.write_unsigned(alloc, value, sink)?;
+        self.plural_operands(alloc, value)
     }
 }
 

@@ -34,5 +34,5 @@ pub shown_same : (f : CompactFormat) (s t : Sign) (c d x y : Unsigned) (m n : �
 shown_same f s t c d x y m n es fs once first second both =
     let one = once f.table (size c) in
     let other = once f.table (size d) in
-    one.1.1 first.shown first.displayed.nearest ∙ sym (one.1.1 both.shown both.of_one)
-    ∙ other.1.1 both.shown both.of_other ∙ sym (other.1.1 second.shown second.displayed.nearest)
+    one.2 first.shown first.displayed.nearest ∙ sym (one.2 both.shown both.of_one)
+    ∙ other.2 both.shown both.of_other ∙ sym (other.2 second.shown second.displayed.nearest)

@@ -39,6 +39,8 @@ mod readable;
 #[cfg(test)]
 mod shelf;
 #[cfg(test)]
+mod shown;
+#[cfg(test)]
 mod styles;
 #[cfg(test)]
 mod told;

@@ -127,3 +127,46 @@ fn equal_texts_are_of_one_decimal(rt: HostRuntime) {
         assert!(rt; told == Some(same), "{one} and {other}");
     }
 }
+
+#[test]
+fn equal_compact_texts_show_one_number(rt: HostRuntime) {
+    let formatter = compact(
+        &rt,
+        rt.alloc(),
+        Language::ShortEnglish,
+        GroupingStrategy::Min2,
+    );
+    for (one, other, _, same) in PAIRS {
+        let first = read(&rt, rt.alloc(), one);
+        let second = read(&rt, rt.alloc(), other);
+        let told = match have_one_compact_text(rt.alloc(), &formatter, &first, &second) {
+            Some(told) => Some(told),
+            None => have_one_compact_text(rt.alloc(), &formatter, &first, &second),
+        };
+        assert!(rt; told == Some(same), "{one} and {other}");
+    }
+}
+
+#[test]
+fn one_number_is_shown_where_texts_are_equal(rt: HostRuntime) {
+    let formatter = compact(
+        &rt,
+        rt.alloc(),
+        Language::ShortEnglish,
+        GroupingStrategy::Min2,
+    );
+    for (one, other, _, same) in PAIRS {
+        let first = read(&rt, rt.alloc(), one);
+        let second = read(&rt, rt.alloc(), other);
+        let told = match show_one_number(rt.alloc(), &formatter, &first, &second) {
+            Some(told) => Some(told),
+            None => show_one_number(rt.alloc(), &formatter, &first, &second),
+        };
+        let wanted = if one.starts_with('0') {
+            None
+        } else {
+            Some(same)
+        };
+        assert!(rt; told == wanted, "{one} and {other}");
+    }
+}

@@ -1,0 +1,143 @@
+//! What is shown of a number, written and told by one call, by callers that know no more of a formatter.
+
+use crate::fixtures::{english, is_annotated, nines, read, scaled};
+use crate::interface::holds;
+use crate::languages::Language;
+use crate::making::compact;
+use fixed_decimal::UnsignedDecimal;
+use icu_base::{Part, PartsText, PluralOperands};
+use icu_decimal::error::FormatError;
+use icu_decimal::options::GroupingStrategy;
+use icu_decimal::{AbstractFormatter, parts};
+use std::alloc::Global;
+
+/// The text of a number in a sink with this limit, or without one, its parts, and a condition that holds of its operands or
+/// why there are none.
+type Wanted<'a> = (
+    Option<usize>,
+    &'a str,
+    &'a [(usize, usize, Part)],
+    Result<&'a str, FormatError>,
+);
+
+/// Whether operands meet the condition that is wanted, or the refusal is the one that is.
+fn are_told(
+    alloc: Global,
+    told: Result<PluralOperands, FormatError>,
+    wanted: Result<&str, FormatError>,
+) -> bool {
+    match (told, wanted) {
+        (Ok(operands), Ok(condition)) => holds(alloc, condition, Some(operands)),
+        (Err(error), Err(wanted)) => error == wanted,
+        _ => false,
+    }
+}
+
+/// Whether any formatter writes a number so and tells its operands.
+fn is_shown_once<F: AbstractFormatter>(
+    alloc: Global,
+    formatter: &F,
+    number: &UnsignedDecimal,
+    (limit, text, parts, wanted): Wanted<'_>,
+) -> bool {
+    let mut sink = match limit {
+        Some(limit) => PartsText::with_limit(alloc, limit),
+        None => PartsText::new(alloc),
+    };
+    let told = formatter.write_shown(alloc, number, &mut sink);
+    are_told(alloc, told, wanted) && is_annotated(alloc, &sink, text, parts)
+}
+
+/// The same, once more where a refused allocation stood in the way.
+fn is_shown<F: AbstractFormatter>(
+    alloc: Global,
+    formatter: &F,
+    number: &UnsignedDecimal,
+    wanted: Wanted<'_>,
+) -> bool {
+    is_shown_once(alloc, formatter, number, wanted)
+        || is_shown_once(alloc, formatter, number, wanted)
+}
+
+const ONE_DIGIT: &[(usize, usize, Part)] = &[(0, 1, parts::INTEGER)];
+
+/// 1.20 with its parts.
+const THREE_DIGITS: &[(usize, usize, Part)] = &[
+    (0, 1, parts::INTEGER),
+    (1, 2, parts::DECIMAL),
+    (2, 4, parts::FRACTION),
+];
+
+const PLAIN: [(&str, Wanted<'static>); 3] = [
+    ("7", (None, "7", ONE_DIGIT, Ok("i = 7 and v = 0 and c = 0"))),
+    (
+        "-1.20",
+        (
+            None,
+            "1.20",
+            THREE_DIGITS,
+            Ok("i = 1 and v = 2 and f = 20 and c = 0"),
+        ),
+    ),
+    ("1.20", (Some(0), "", &[], Err(FormatError::Sink))),
+];
+
+#[test]
+fn a_plain_formatter_tells_the_number_that_it_writes(rt: HostRuntime) {
+    let formatter = english(&rt, rt.alloc());
+    for (text, wanted) in PLAIN {
+        let number = read(&rt, rt.alloc(), text).absolute;
+        assert!(rt; is_shown(rt.alloc(), &formatter, &number, wanted), "{text}");
+    }
+}
+
+/// UTS 35, Part 3, Plural Operand Meanings: `c` is the exponent, and the other operands are those of the whole number.
+const SHORT: [(&str, Wanted<'static>); 6] = [
+    ("0", (None, "0", &[], Ok("i = 0 and c = 0"))),
+    ("999", (None, "999", &[], Ok("i = 999 and c = 0"))),
+    (
+        "-1250",
+        (None, "1.2K", &[], Ok("i = 1200 and v = 0 and c = 3")),
+    ),
+    (
+        "999500",
+        (None, "1M", &[], Ok("i = 1000000 and v = 0 and c = 6")),
+    ),
+    ("2500", (Some(2), "2.", &[], Err(FormatError::Sink))),
+    ("2500", (Some(0), "", &[], Err(FormatError::Sink))),
+];
+
+#[test]
+fn a_compact_formatter_tells_the_number_that_it_writes(rt: HostRuntime) {
+    let formatter = compact(
+        &rt,
+        rt.alloc(),
+        Language::ShortEnglish,
+        GroupingStrategy::Min2,
+    );
+    for (text, wanted) in SHORT {
+        let number = read(&rt, rt.alloc(), text).absolute;
+        assert!(rt; is_shown(rt.alloc(), &formatter, &number, wanted), "{text}");
+    }
+}
+
+#[test]
+fn what_is_shown_of_a_large_number_is_told(rt: HostRuntime) {
+    let formatter = compact(
+        &rt,
+        rt.alloc(),
+        Language::ShortEnglish,
+        GroupingStrategy::Min2,
+    );
+    let number = nines(&rt, rt.alloc(), 32768).absolute;
+    let wanted: Wanted<'_> = (None, "", &[], Err(FormatError::Overflow));
+    assert!(rt; is_shown(rt.alloc(), &formatter, &number, wanted));
+    let number = scaled(&rt, rt.alloc(), "1", 17).absolute;
+    let wanted: Wanted<'_> = (
+        None,
+        "100,000T",
+        &[],
+        Ok("n = 100000000000000000 and c = 12"),
+    );
+    assert!(rt; is_shown(rt.alloc(), &formatter, &number, wanted));
+}
