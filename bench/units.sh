@@ -54,15 +54,25 @@ fn short_english(alloc: Global, file: &[u8]) -> Option<CompactDecimalFormatter> 
     CompactDecimalFormatter::try_new_short_unstable(alloc, &tables, preferences, options).ok()
 }
 
-/// The patterns of a unit with one word for all numbers.
-fn metres(alloc: Global) -> Option<PluralElements<Pattern<SinglePlaceholder>>> {
-    Some(PluralElements::new(Pattern::try_new(alloc, Some(0), " m").ok()?))
+/// The patterns of a unit with one word for all numbers, or with a word of its own for one.
+fn metres(alloc: Global, has_one: bool) -> Option<PluralElements<Pattern<SinglePlaceholder>>> {
+    if !has_one {
+        return Some(PluralElements::new(Pattern::try_new(alloc, Some(0), " m").ok()?));
+    }
+    let one = Pattern::try_new(alloc, Some(0), " meter").ok()?;
+    let other = Pattern::try_new(alloc, Some(0), " meters").ok()?;
+    Some(PluralElements::new(other).with_one_value(Some(one)))
 }
 
 /// Metres over short English.
-fn with_unit(alloc: Global, file: &[u8]) -> Option<UnitFormatter<CompactDecimalFormatter>> {
+fn with_unit(
+    alloc: Global,
+    file: &[u8],
+    has_one: bool,
+) -> Option<UnitFormatter<CompactDecimalFormatter>> {
     let rules = PluralRules::from_rules(alloc, &[(PluralCategory::One, "i = 1 and v = 0")]).ok()?;
-    Some(UnitFormatter::new(short_english(alloc, file)?, rules, metres(alloc)?))
+    let elements = metres(alloc, has_one)?;
+    Some(UnitFormatter::new(short_english(alloc, file)?, rules, elements))
 }
 
 /// Writes a line's number alone.
@@ -98,8 +108,8 @@ fn write_numbers(rt: &HostRuntime, file: &[u8], input: &[u8]) -> Option<()> {
 }
 
 /// Writes all numbers with the unit.
-fn write_units(rt: &HostRuntime, file: &[u8], input: &[u8]) -> Option<()> {
-    let formatter = with_unit(rt.alloc(), file)?;
+fn write_units(rt: &HostRuntime, file: &[u8], input: &[u8], has_one: bool) -> Option<()> {
+    let formatter = with_unit(rt.alloc(), file, has_one)?;
     for line in input.split(|byte| *byte == b'\n') {
         if !line.is_empty() {
             write_unit(rt, &formatter, line)?;
@@ -108,14 +118,14 @@ fn write_units(rt: &HostRuntime, file: &[u8], input: &[u8]) -> Option<()> {
     Some(())
 }
 
-/// Does what the words ask: tables, an input, and a third word where a unit is wanted.
+/// Does what the words ask: tables, an input, a third word where a unit is wanted, and a fourth where one has its own.
 fn write_asked(rt: &HostRuntime) -> Option<()> {
     let mut words = env::args(rt).ok()?.skip(1);
     let (tables, input) = (words.next()?, words.next()?);
     let file = fs::read(rt, &tables).ok()?;
     let lines = fs::read(rt, &input).ok()?;
     match words.next() {
-        Some(_) => write_units(rt, &file, &lines),
+        Some(_) => write_units(rt, &file, &lines, words.next().is_some()),
         None => write_numbers(rt, &file, &lines),
     }
 }
@@ -143,6 +153,11 @@ each() { echo "$((($(counted 20000 "$@") - $(counted 10000 "$@")) / 10000))"; }
 command -v valgrind >/dev/null || { echo 'no valgrind here'; exit 0; }
 number=$(each)
 unit=$(each unit)
+plural=$(each unit plural)
 printf '| %s | %s | %s |\n' 'mixed lines' 'instructions a line' 'of the number' --- --- ---
 printf '| %s | %s | %s |\n' 'short English' "$number" 1.00
-printf '| %s | %s | %s |\n' 'units over short English' "$unit" "$(awk -v a="$unit" -v b="$number" 'BEGIN {printf "%.2f", a / b}')"
+# row WHAT INSTRUCTIONS
+row() { printf '| %s | %s | %s |\n' "$1" "$2" "$(awk -v a="$2" -v b="$number" 'BEGIN {printf "%.2f", a / b}')"; }
+
+row 'units over short English, one pattern' "$unit"
+row 'units over short English, with a word for one' "$plural"

@@ -23,6 +23,10 @@ operands_shown n = operands_of n.significand n.exponent
 abbrev pub size_shown : Shown → ℕ
 size_shown n = size n.significand * 10 ^ n.exponent
 
+-- what is written of it in a frame, which is a function of its operands and its events
+abbrev pub framed_shown : (Operands → List Event → List Event) → Shown → List Event
+framed_shown framed n = framed (operands_shown n) n.events
+
 -- what a plain formatter shows of a number: its digits as they are given
 abbrev pub plain_shown : DecimalFormat → Unsigned → Shown
 plain_shown format u = record { significand = u; exponent = 0; events = unsigned_events format u }

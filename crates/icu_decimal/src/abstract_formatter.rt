@@ -4,16 +4,19 @@ ghost use Rattle.std.specs.Prelude.{◌≡◌, ◌≢◌, ◌↔◌, ◌≤◌, 
 ghost use Rattle.fixed_decimal.specs.Size.{size};
 ghost use Rattle.fixed_decimal.specs.Unsigned.{IsUnsigned, Unsigned};
 ghost use Rattle.icu_decimal_data.specs.declared.decimal_symbols.DecimalSymbols.{DecimalSymbols};
-ghost use Rattle.icu_decimal.specs.Shown.{Shown, operands_shown, size_shown};
+ghost use Rattle.icu_decimal.specs.Shown.{Shown, framed_shown, operands_shown, size_shown};
 ghost use Rattle.icu_decimal.specs.ShownLaws.{IsAtTheLimit, IsShownNear};
 ghost use Rattle.icu_decimal.specs.Signed.{affixes_for};
 ghost use Rattle.icu_decimal.specs.WritesSuch.{KeepsLimitSuch, WritesSuch};
+ghost use Rattle.icu_base.specs.Events.{text_of};
+ghost use Rattle.std.specs.String.{string_bytes};
 
 use crate::compact_formatter::CompactDecimalFormatter;
 use crate::cow::Cow;
 use crate::decimal_formatter::DecimalFormatter;
 use crate::error::FormatError;
 use crate::formatted_sign::FormattedSign;
+use crate::frame::{Frame, Framed};
 use fixed_decimal::{Sign, UnsignedDecimal};
 use icu_base::{PartsWrite, PluralOperands, Writeable};
 use std::alloc::Global;
@@ -92,6 +95,38 @@ pub trait AbstractFormatter: Sealed {
             × (operands_shown n ≡ o)) }
         ensures overflow { IsErrOf result FormatError.Overflow ↔ overflows self.now value.now };
 
+    /// Writes what is shown of a number in a frame, which may ask its plural operands: the number is rounded once, and
+    /// written straight to its place.
+    ///
+    /// `Overflow` exactly where what is shown is too large, and `Sink` only where the sink failed in this call: it then
+    /// holds a beginning of the events besides. After the other refusals the sink is as it was.
+    fn write_framed<S: PartsWrite, T: Frame>(
+        &self,
+        alloc: Global,
+        value: &UnsignedDecimal,
+        frame: &T,
+        sink: &mut S,
+    ) -> Result<(), FormatError>
+        ensures written { WritesSuch S.events S.failures sink.old result (shows self.now value.now)
+            (framed_shown (T.framed frame.now)) sink.new }
+        ensures limited { KeepsLimitSuch S.events S.limit S.refusals sink.old result
+            (shows self.now value.now) (framed_shown (T.framed frame.now)) sink.new }
+        ensures overflow { IsErrOf result FormatError.Overflow ↔ overflows self.now value.now };
+
+    /// The text of what is shown of a number in a frame: its characters, without parts.
+    ///
+    /// `Overflow` exactly where what is shown is too large; `Sink` is never answered.
+    fn framed_to_string<T: Frame>(
+        &self,
+        alloc: Global,
+        value: &UnsignedDecimal,
+        frame: &T,
+    ) -> Result<String, FormatError>
+        ensures text { IfOk result (λ t. (n : Shown) × shows self.now value.now n
+            × (string_bytes t ≡ text_of (framed_shown (T.framed frame.now) n))) }
+        ensures overflow { IsErrOf result FormatError.Overflow ↔ overflows self.now value.now }
+        ensures no_sink { IfErr result (λ e. e ≢ FormatError.Sink) };
+
     /// One thing is shown of a number.
     ghost one_shown: { (f : Self) (u : Unsigned) (n m : Shown) → shows f u n → shows f u m → n ≡ m };
 
@@ -123,8 +158,10 @@ impl Sealed for DecimalFormatter {}
 impl AbstractFormatter for DecimalFormatter {
     ghost use Rattle.std.specs.Prelude.{◌≡◌, ◌≢◌, ◌↔◌, Ok, IfOk, IfErr, IsErrOf};
     ghost use Rattle.std.proofs.Common.{◌∙◌, sym};
+    ghost use Rattle.std.specs.String.{string_bytes};
+    ghost use Rattle.icu_base.specs.Events.{text_of};
     ghost use Rattle.icu_base.specs.Operands.{operands_of};
-    ghost use Rattle.icu_decimal.specs.Shown.{Shown, operands_shown, plain_shown};
+    ghost use Rattle.icu_decimal.specs.Shown.{Shown, framed_shown, operands_shown, plain_shown};
     ghost use Rattle.icu_decimal.specs.WritesSuch.{KeepsLimitSuch, WritesSuch};
     ghost use Rattle.icu_decimal.specs.KeptLaws.{plain_again, plain_in_order, plain_is_decimal, plain_near};
 
@@ -212,6 +249,52 @@ impl AbstractFormatter for DecimalFormatter {
         self.write_unsigned(alloc, value, sink)?;
         self.plural_operands(alloc, value)
     }
+
+    /// It takes no memory but the sink's, and fails only as the sink does.
+    fn write_framed<S: PartsWrite, T: Frame>(
+        &self,
+        alloc: Global,
+        value: &UnsignedDecimal,
+        frame: &T,
+        sink: &mut S,
+    ) -> Result<(), FormatError>
+        ensures written { WritesSuch S.events S.failures sink.old result (λ n.
+            n ≡ plain_shown self.now value.now) (framed_shown (T.framed frame.now)) sink.new }
+        ensures limited { KeepsLimitSuch S.events S.limit S.refusals sink.old result (λ n.
+            n ≡ plain_shown self.now value.now) (framed_shown (T.framed frame.now)) sink.new }
+        ensures overflow { IsErrOf result FormatError.Overflow ↔ ⊥ }
+        ensures only_sink { IfErr result (λ e. e ≡ FormatError.Sink) }
+    {
+        let _ = alloc;
+        let framed = Framed {
+            frame,
+            number: self.format_unsigned(Cow::Borrowed(value)),
+        };
+        match framed.write_to_parts(sink) {
+            Ok(()) => Ok(()),
+            Err(_) => Err(FormatError::Sink),
+        }
+    }
+
+    /// It is refused for want of memory alone.
+    fn framed_to_string<T: Frame>(
+        &self,
+        alloc: Global,
+        value: &UnsignedDecimal,
+        frame: &T,
+    ) -> Result<String, FormatError>
+        ensures text { IfOk result (λ t. (n : Shown) × (n ≡ plain_shown self.now value.now)
+            × (string_bytes t ≡ text_of (framed_shown (T.framed frame.now) n))) }
+        ensures overflow { IsErrOf result FormatError.Overflow ↔ ⊥ }
+        ensures no_sink { IfErr result (λ e. e ≢ FormatError.Sink) }
+        ensures memory { IfErr result (λ e. e ≡ FormatError.OutOfMemory) }
+    {
+        let number = self.format_unsigned(Cow::Borrowed(value));
+        match (Framed { frame, number }).write_to_string(alloc) {
+            Ok(text) => Ok(text),
+            Err(_) => Err(FormatError::OutOfMemory),
+        }
+    }
 }
 
 impl Sealed for CompactDecimalFormatter {}
@@ -278,6 +361,41 @@ impl AbstractFormatter for CompactDecimalFormatter {
         match compact.write_to_parts(sink) {
             Ok(()) => Ok(compact.plural_operands()),
             Err(_) => Err(FormatError::Sink),
+        }
+    }
+
+    fn write_framed<S: PartsWrite, T: Frame>(
+        &self,
+        alloc: Global,
+        value: &UnsignedDecimal,
+        frame: &T,
+        sink: &mut S,
+    ) -> Result<(), FormatError> {
+        let compacted = self.format_unsigned(alloc, value)?;
+        let framed = Framed {
+            frame,
+            number: compacted,
+        };
+        match framed.write_to_parts(sink) {
+            Ok(()) => Ok(()),
+            Err(_) => Err(FormatError::Sink),
+        }
+    }
+
+    fn framed_to_string<T: Frame>(
+        &self,
+        alloc: Global,
+        value: &UnsignedDecimal,
+        frame: &T,
+    ) -> Result<String, FormatError> {
+        let rounded = self.format_unsigned(alloc, value)?;
+        let framed = Framed {
+            frame,
+            number: rounded,
+        };
+        match framed.write_to_string(alloc) {
+            Ok(text) => Ok(text),
+            Err(_) => Err(FormatError::OutOfMemory),
         }
     }
 }

@@ -113,14 +113,14 @@ fn a_carry_takes_what_stands_at_the_magnitude_reached(rt: HostRuntime) {
 #[test]
 fn what_is_shown_is_shown_again(rt: HostRuntime) {
     for row in &ROWS {
-        assert!(rt; writes_shown(&rt, rt.alloc(), row), "{}", row.2);
+        assert!(rt; writes_shown(&rt, rt.alloc(), row), "{}", row.1);
     }
 }
 
 #[test]
 fn what_is_shown_is_given_alike(rt: HostRuntime) {
     for row in &ROWS {
-        assert!(rt; gives_shown(&rt, rt.alloc(), row), "{}", row.4);
+        assert!(rt; gives_shown(&rt, rt.alloc(), row), "{}", row.1);
     }
 }
 
@@ -153,7 +153,7 @@ const PADDED: [(&str, &str); 4] = [
 
 #[test]
 fn padding_is_kept_where_the_entry_stays(rt: HostRuntime) {
-    for (text, want) in PADDED {
+    for &(text, want) in &PADDED {
         assert!(rt;
             writes(&rt, rt.alloc(), Language::ShortEnglish, text, want),
             "{text}"

@@ -39,7 +39,7 @@ pub(crate) fn is_value(
 }
 
 /// Whether the formatter writes a decimal as this text; asked once more where memory was refused.
-fn is_text(
+pub(crate) fn is_text(
     alloc: Global,
     formatter: &CompactDecimalFormatter,
     decimal: &Decimal,
@@ -107,7 +107,7 @@ const ENGLISH_ROWS: [(&str, &str); 17] = [
 
 #[test]
 fn shows_short_english(rt: HostRuntime) {
-    for row in ENGLISH_ROWS {
+    for &row in &ENGLISH_ROWS {
         let options = options_of(Some(GroupingStrategy::Min2));
         assert!(rt;
             shows(&rt, rt.alloc(), Language::ShortEnglish, options, row),
@@ -131,7 +131,7 @@ const SMALL: [(&str, &str); 9] = [
 
 #[test]
 fn shows_small_numbers_with_two_digits(rt: HostRuntime) {
-    for row in SMALL {
+    for &row in &SMALL {
         let options = options_of(Some(GroupingStrategy::Min2));
         assert!(rt;
             shows(&rt, rt.alloc(), Language::ShortEnglish, options, row),
@@ -152,7 +152,7 @@ const OTHERS: [(Language, &str, &str); 6] = [
 
 #[test]
 fn shows_other_languages(rt: HostRuntime) {
-    for (language, text, want) in OTHERS {
+    for &(language, text, want) in &OTHERS {
         let options = options_of(Some(GroupingStrategy::Min2));
         assert!(rt;
             shows(&rt, rt.alloc(), language, options, (text, want)),
@@ -175,7 +175,7 @@ const JAPANESE: [(&str, &str); 7] = [
 
 #[test]
 fn shows_a_table_with_a_skipped_type(rt: HostRuntime) {
-    for row in JAPANESE {
+    for &row in &JAPANESE {
         assert!(rt;
             shows(
                 &rt,
@@ -239,7 +239,7 @@ const GROUPED: [(Language, Option<GroupingStrategy>, &str, &str); 8] = [
 
 #[test]
 fn test_grouping(rt: HostRuntime) {
-    for (language, strategy, fifteen, sixteen) in GROUPED {
+    for &(language, strategy, fifteen, sixteen) in &GROUPED {
         let options = options_of(strategy);
         let row = ("1000000000000000", fifteen);
         assert!(rt; shows(&rt, rt.alloc(), language, options, row), "{fifteen}");
@@ -257,7 +257,7 @@ const BELOW_THEIR_TYPES: [(Language, &str, &str); 4] = [
 
 #[test]
 fn shows_tables_whose_exponents_are_below_their_types(rt: HostRuntime) {
-    for (language, text, want) in BELOW_THEIR_TYPES {
+    for &(language, text, want) in &BELOW_THEIR_TYPES {
         let options = options_of(Some(GroupingStrategy::Min2));
         assert!(rt;
             shows(&rt, rt.alloc(), language, options, (text, want)),

@@ -135,18 +135,24 @@ fn grouped_nines(alloc: Global, count: usize) -> Result<Vec<u8>, AllocError> {
     Ok(grouped)
 }
 
+/// The same, once more where memory was refused.
+fn nines(rt: &impl Abort, alloc: Global, count: usize) -> Vec<u8> {
+    match grouped_nines(alloc, count) {
+        Ok(nines) => nines,
+        Err(_) => match grouped_nines(alloc, count) {
+            Ok(nines) => nines,
+            Err(_) => panic!(rt; "memory was refused"),
+        },
+    }
+}
+
 /// Whether a number that just has room, with this behind its nines, is written as the nines in groups.
 fn writes_the_greatest(rt: &impl Abort, alloc: Global, behind: &[u8]) -> bool {
     let formatter = without_patterns(rt, alloc);
     let given = bytes(rt, alloc, b"", (b'9', 32768), behind);
     let greatest = decimal(rt, alloc, &given);
-    match grouped_nines(alloc, 32768) {
-        Ok(want) => want.len() == 43690 && is_written(alloc, &formatter, &greatest, &want),
-        Err(_) => match grouped_nines(alloc, 32768) {
-            Ok(want) => want.len() == 43690 && is_written(alloc, &formatter, &greatest, &want),
-            Err(_) => false,
-        },
-    }
+    let want = nines(rt, alloc, 32768);
+    want.len() == 43690 && is_written(alloc, &formatter, &greatest, &want)
 }
 
 /// Whether the nines with a half behind them, which round up to a power that no decimal has, overflow.

@@ -10,6 +10,11 @@ use icu_decimal::{CompactDecimalFormatter, FormattedSign, InterpolatedDecimal, p
 use std::alloc::Global;
 use std::process::Abort;
 
+/// Whether a given number is displayed so.
+fn is_value(alloc: Global, value: &FormattedSign<'_, InterpolatedDecimal<'_>>, want: &str) -> bool {
+    is_displayed(alloc, value, want)
+}
+
 /// Whether a significand with an exponent, or its refusal, is written so.
 fn is_given(
     alloc: Global,
@@ -19,7 +24,7 @@ fn is_given(
     want: &str,
 ) -> bool {
     match formatter.format_with_exponent(significand, exponent) {
-        Ok(value) => is_displayed(alloc, &value, want),
+        Ok(value) => is_value(alloc, &value, want),
         Err(error) => is_displayed(alloc, &error, want),
     }
 }
@@ -33,7 +38,7 @@ pub(crate) fn is_accepted(
     want: &str,
 ) -> bool {
     match formatter.format_with_exponent(significand, exponent) {
-        Ok(value) => is_displayed(alloc, &value, want),
+        Ok(value) => is_value(alloc, &value, want),
         Err(_) => false,
     }
 }
@@ -80,7 +85,7 @@ const GIVEN: [(Language, &str, u8, &str); 9] = [
 
 #[test]
 fn writes_given_exponents(rt: HostRuntime) {
-    for (language, text, exponent, want) in GIVEN {
+    for &(language, text, exponent, want) in &GIVEN {
         assert!(rt;
             gives(&rt, rt.alloc(), language, (text, exponent), want),
             "{want}"
@@ -174,7 +179,7 @@ const EXPONENTS: [(Language, i16, u8); 10] = [
 
 #[test]
 fn tells_the_exponent_of_a_magnitude(rt: HostRuntime) {
-    for (language, magnitude, exponent) in EXPONENTS {
+    for &(language, magnitude, exponent) in &EXPONENTS {
         assert!(rt;
             tells(&rt, rt.alloc(), language, magnitude, exponent),
             "{magnitude}"

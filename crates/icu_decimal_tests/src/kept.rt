@@ -91,21 +91,40 @@ impl Kept for PluralRules {
     }
 }
 
+type Elements = PluralElements<Pattern<SinglePlaceholder>>;
+
+/// The patterns of texts that stand after one thousand and after other numbers of thousands; none where memory is wanting.
+fn elements_of(alloc: Global, one: &str, other: &str) -> Option<Elements> {
+    match Pattern::try_new(alloc, Some(0), other) {
+        Ok(other) => match Pattern::try_new(alloc, Some(0), one) {
+            Ok(one) => Some(PluralElements::new(other).with_one_value(Some(one))),
+            Err(_) => None,
+        },
+        Err(_) => None,
+    }
+}
+
+/// The map of thousands alone; none where memory is wanting.
+fn map_of(alloc: Global, one: &str, other: &str) -> Option<BTreeMap<u8, (u8, Elements)>> {
+    match elements_of(alloc, one, other) {
+        Some(elements) => {
+            let mut map = BTreeMap::new(alloc);
+            match map.insert(3, (3, elements)) {
+                Ok(_) => Some(map),
+                Err(_) => None,
+            }
+        }
+        None => None,
+    }
+}
+
 impl Kept for Table {
     type Row = Thousands;
 
     fn made(alloc: Global, (one, other): Thousands) -> Option<Table> {
-        let (Ok(one), Ok(other)) = (
-            Pattern::try_new(alloc, Some(0), one),
-            Pattern::try_new(alloc, Some(0), other),
-        ) else {
-            return None;
-        };
-        let elements = PluralElements::new(other).with_one_value(Some(one));
-        let mut map = BTreeMap::new(alloc);
-        match map.insert(3, (3, elements)) {
-            Ok(_) => CompactPatterns::new(alloc, map, None).ok(),
-            Err(_) => None,
+        match map_of(alloc, one, other) {
+            Some(map) => CompactPatterns::new(alloc, map, None).ok(),
+            None => None,
         }
     }
 

@@ -1,6 +1,8 @@
 //! Numbers of as many digits as there may be, plain and compact: each call that wants memory gives its usual answer.
 
-use crate::fixtures::{ENGLISH, LATIN, english, is_displayed, nines, symbols};
+use crate::compact::is_text;
+use crate::fixtures::{ENGLISH, LATIN, english, nines, symbols};
+use crate::given::is_accepted;
 use crate::interface::{holds, operands};
 use crate::languages::Language;
 use crate::making::compact;
@@ -89,22 +91,6 @@ fn writes_all_digits_of_a_plain_number(rt: HostRuntime) {
     assert!(rt; writes_plain(&rt, rt.alloc()));
 }
 
-/// Whether a text is made of a compact number, asked for once more where memory was refused.
-fn is_text(
-    alloc: Global,
-    formatter: &CompactDecimalFormatter,
-    decimal: &Decimal,
-    want: &str,
-) -> bool {
-    match formatter.format_to_string(alloc, decimal) {
-        Ok(text) => text.as_str() == want,
-        Err(_) => match formatter.format_to_string(alloc, decimal) {
-            Ok(text) => text.as_str() == want,
-            Err(_) => false,
-        },
-    }
-}
-
 /// Whether so many ones are written in trillions.
 fn writes_compactly(rt: &impl Abort, alloc: Global, count: usize) -> bool {
     let want = digits(rt, alloc, (b'1', count.saturating_sub(12)), true, b"T");
@@ -120,25 +106,12 @@ fn writes_long_compact_numbers(rt: HostRuntime) {
     }
 }
 
-/// Whether a significand is accepted with the exponent of trillions, and both are written so.
-fn is_given(
-    alloc: Global,
-    formatter: &CompactDecimalFormatter,
-    significand: &Decimal,
-    want: &str,
-) -> bool {
-    match formatter.format_with_exponent(significand, 12) {
-        Ok(value) => is_displayed(alloc, &value, want),
-        Err(_) => false,
-    }
-}
-
-/// Whether all ones are accepted as trillions.
+/// Whether all ones are accepted with the exponent of trillions, and both are written so.
 fn gives(rt: &impl Abort, alloc: Global) -> bool {
     let want = digits(rt, alloc, (b'1', MOST), true, b"T");
     let want = str::from_utf8(&want).unwrap_or_default();
     let significand = ones(rt, alloc, MOST);
-    is_given(alloc, &short_english(rt, alloc), &significand, want)
+    is_accepted(alloc, &short_english(rt, alloc), &significand, 12, want)
 }
 
 #[test]

@@ -11,6 +11,8 @@ mod ends;
 #[cfg(test)]
 mod fixtures;
 #[cfg(test)]
+mod framed;
+#[cfg(test)]
 mod full;
 #[cfg(test)]
 mod given;

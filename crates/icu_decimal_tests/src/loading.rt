@@ -1,6 +1,6 @@
 //! Formatters that are made of what a provider answers: which data they take, and which refusal is answered.
 
-use crate::shelf::{Bare, KEPT_AWAY, Refusals, Shelf};
+use crate::shelf::{Bare, KEPT_AWAY, Refusals, Shelf, WANT_OF_MEMORY};
 use fixed_decimal::Decimal;
 use icu_base::{DataError, DataErrorKind, DataLocale};
 use icu_decimal::options::{
@@ -29,11 +29,6 @@ type Asked = (
 );
 
 const NO_REFUSALS: Refusals = [None; 4];
-
-const WANT_OF_MEMORY: DataError = DataError {
-    kind: DataErrorKind::OutOfMemory,
-    context: "",
-};
 
 fn preferences(locale: &str, system: Option<&str>) -> CompactDecimalFormatterPreferences {
     let numbering_system = match system {
@@ -152,7 +147,7 @@ const RESOLVED: [(&str, Option<&str>, &str, &str); 9] = [
 
 #[test]
 fn test_numbering_resolution_fallback(rt: HostRuntime) {
-    for (locale, system, number, want) in RESOLVED {
+    for &(locale, system, number, want) in &RESOLVED {
         assert!(rt;
             writes_plain(rt.alloc(), locale, system, number, want),
             "{locale} {system:?}"
@@ -203,7 +198,7 @@ const WRITTEN: [(Asked, &str, &str); 12] = [
 
 #[test]
 fn writes_with_data_rules_patterns_and_options(rt: HostRuntime) {
-    for (asked, number, want) in WRITTEN {
+    for &(asked, number, want) in &WRITTEN {
         assert!(rt;
             writes(rt.alloc(), NO_REFUSALS, asked, number, want) == Ok(true),
             "{want}"
@@ -231,7 +226,7 @@ const REFUSED: [(Style, &str, Option<&str>, DataError); 9] = [
 
 #[test]
 fn refuses_what_the_provider_refuses(rt: HostRuntime) {
-    for (style, locale, system, want) in REFUSED {
+    for &(style, locale, system, want) in &REFUSED {
         let asked = (style, locale, system, None);
         assert!(rt;
             writes(rt.alloc(), NO_REFUSALS, asked, "1", "") == Err(want),
@@ -269,7 +264,7 @@ fn is_answered(alloc: Global, style: Style, kind: DataErrorKind, other: DataErro
 
 #[test]
 fn answers_the_first_refusal(rt: HostRuntime) {
-    for kind in KINDS {
+    for &kind in &KINDS {
         assert!(rt;
             is_answered(rt.alloc(), Style::Short, kind, DataErrorKind::Custom),
             "{kind:?}"

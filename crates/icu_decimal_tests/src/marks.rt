@@ -125,7 +125,7 @@ const BEGINNINGS: [(usize, &str); 15] = [
 
 #[test]
 fn leaves_a_beginning_in_a_full_sink(rt: HostRuntime) {
-    for (limit, want) in BEGINNINGS {
+    for &(limit, want) in &BEGINNINGS {
         assert!(rt; leaves(&rt, rt.alloc(), limit, want), "{limit}");
     }
 }

@@ -221,7 +221,7 @@ const GROUPED: [((u8, u8, u8), GroupingStrategy, [&str; 4]); 10] = [
 
 #[test]
 fn test_grouper(rt: HostRuntime) {
-    for (sizes, strategy, wanted) in GROUPED {
+    for &(sizes, strategy, wanted) in &GROUPED {
         assert!(rt;
             are_grouped(rt.alloc(), sizes, strategy, wanted),
             "{wanted:?}"

@@ -103,7 +103,7 @@ const GROUPED: [(GroupingSizes, GroupingStrategy, [&str; 4]); 12] = [
 
 #[test]
 fn groups_by_sizes_and_strategies(rt: HostRuntime) {
-    for (sizes, strategy, wanted) in GROUPED {
+    for &(sizes, strategy, wanted) in &GROUPED {
         assert!(rt;
             are_shown(&rt, rt.alloc(), sizes, strategy, wanted),
             "{}",
@@ -133,7 +133,7 @@ const SIGNED: [(&str, &str); 6] = [
 
 #[test]
 fn writes_signs_padding_and_fractions(rt: HostRuntime) {
-    for row in SIGNED {
+    for &row in &SIGNED {
         assert!(rt;
             writes(&rt, rt.alloc(), GroupingStrategy::Auto, row),
             "{}",
@@ -193,7 +193,7 @@ fn writes_with(
 
 #[test]
 fn writes_other_digits_and_separators(rt: HostRuntime) {
-    for (symbols, text, want) in OTHERS {
+    for &(symbols, text, want) in &OTHERS {
         assert!(rt; writes_with(&rt, rt.alloc(), symbols, text, want), "{text}");
     }
 }

@@ -73,7 +73,7 @@ const READABLE: [Numbers; 4] = [
 
 #[test]
 fn readable_numbers(rt: HostRuntime) {
-    for numbers in READABLE {
+    for &numbers in &READABLE {
         assert!(rt;
             is_readable(rt.alloc(), numbers) == Some(true),
             "{numbers:?}"
@@ -93,7 +93,7 @@ const HIDDEN: [Numbers; 6] = [
 
 #[test]
 fn hidden_numbers(rt: HostRuntime) {
-    for numbers in HIDDEN {
+    for &numbers in &HIDDEN {
         assert!(rt;
             is_readable(rt.alloc(), numbers) == Some(false),
             "{numbers:?}"
@@ -103,12 +103,12 @@ fn hidden_numbers(rt: HostRuntime) {
 
 /// The text of a number; none where memory is wanting.
 fn text_once(alloc: Global, numbers: Numbers, number: &str) -> Option<String> {
-    match (
-        formatter(alloc, numbers),
-        Decimal::try_from_str(alloc, number),
-    ) {
-        (Some(formatter), Ok(decimal)) => formatter.format_to_string(alloc, &decimal).ok(),
-        _ => None,
+    match formatter(alloc, numbers) {
+        Some(formatter) => match Decimal::try_from_str(alloc, number) {
+            Ok(decimal) => formatter.format_to_string(alloc, &decimal).ok(),
+            Err(_) => None,
+        },
+        None => None,
     }
 }
 
@@ -142,7 +142,7 @@ const SHARED: [(Numbers, &str, &str); 5] = [
 
 #[test]
 fn hidden_numbers_share_a_text(rt: HostRuntime) {
-    for (numbers, first, second) in SHARED {
+    for &(numbers, first, second) in &SHARED {
         assert!(rt;
             share(rt.alloc(), numbers, first, second),
             "{first} {second}"
@@ -165,7 +165,7 @@ const READABLE_LANGUAGES: [(Language, &str); 5] = [
 
 #[test]
 fn readable_compact_numbers(rt: HostRuntime) {
-    for (language, name) in READABLE_LANGUAGES {
+    for &(language, name) in &READABLE_LANGUAGES {
         assert!(rt; is_compact_readable(&rt, rt.alloc(), language), "{name}");
     }
 }
@@ -215,7 +215,7 @@ const HIDDEN_COMPACT: [Hidden; 6] = [
 
 #[test]
 fn hidden_compact_numbers_share_a_text(rt: HostRuntime) {
-    for (formatter, numbers, text) in HIDDEN_COMPACT {
+    for &(formatter, numbers, text) in &HIDDEN_COMPACT {
         assert!(rt;
             is_compact_hidden(&rt, rt.alloc(), formatter, numbers, text),
             "{text}"

@@ -165,6 +165,12 @@ pub(super) const KEPT_AWAY: DataError = DataError {
     context: "kept away",
 };
 
+/// Memory was wanting for what is kept: no refusal of a row, nor one that is asked for, is this one.
+pub(super) const WANT_OF_MEMORY: DataError = DataError {
+    kind: DataErrorKind::OutOfMemory,
+    context: "",
+};
+
 const SYMBOLS: [Row<Texts>; 6] = [
     (None, "en", Ok(ENGLISH_TEXTS)),
     (None, "es-MX", Ok(ENGLISH_TEXTS)),
@@ -211,34 +217,38 @@ fn entries_of<T: Kept>(
 ) -> Option<Vec<Entry<T>>> {
     let mut entries = Vec::new(alloc);
     for (system, locale, row) in rows {
-        let Some(answer) = answer_of(alloc, row, refusal) else {
-            return None;
-        };
         let entry = Entry {
             system: *system,
             locale: *locale,
-            answer,
+            answer: answer_of(alloc, row, refusal),
         };
-        if entries.push(entry).is_err() {
+        if is_wanting(&entry.answer) || entries.push(entry).is_err() {
             return None;
         }
     }
     Some(entries)
 }
 
-/// What is answered of a row; none where memory is wanting.
+/// What is answered of a row, with a refusal of its own where memory is wanting.
 fn answer_of<T: Kept>(
     alloc: Global,
     row: &Result<T::Row, DataError>,
     refusal: Option<DataError>,
-) -> Option<Result<T, DataError>> {
-    match (refusal, row) {
-        (Some(error), _) => Some(Err(error)),
-        (None, Err(error)) => Some(Err(*error)),
-        (None, Ok(row)) => match T::made(alloc, *row) {
-            Some(kept) => Some(Ok(kept)),
-            None => None,
+) -> Result<T, DataError> {
+    match refusal {
+        Some(error) => Err(error),
+        None => match row {
+            Err(error) => Err(*error),
+            Ok(row) => T::made(alloc, *row).ok_or(WANT_OF_MEMORY),
         },
+    }
+}
+
+/// Whether an answer is that refusal.
+fn is_wanting<T>(answer: &Result<T, DataError>) -> bool {
+    match answer {
+        Ok(_) => false,
+        Err(error) => *error == WANT_OF_MEMORY,
     }
 }
 

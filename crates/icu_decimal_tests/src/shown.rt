@@ -10,6 +10,7 @@ use icu_decimal::error::FormatError;
 use icu_decimal::options::GroupingStrategy;
 use icu_decimal::{AbstractFormatter, parts};
 use std::alloc::Global;
+use std::process::Abort;
 
 /// The text of a number in a sink with this limit, or without one, its parts, and a condition that holds of its operands or
 /// why there are none.
@@ -26,10 +27,12 @@ fn are_told(
     told: Result<PluralOperands, FormatError>,
     wanted: Result<&str, FormatError>,
 ) -> bool {
-    match (told, wanted) {
-        (Ok(operands), Ok(condition)) => holds(alloc, condition, Some(operands)),
-        (Err(error), Err(wanted)) => error == wanted,
-        _ => false,
+    match told {
+        Ok(operands) => match wanted {
+            Ok(condition) => holds(alloc, condition, Some(operands)),
+            Err(_) => false,
+        },
+        Err(error) => wanted == Err(error),
     }
 }
 
@@ -59,6 +62,24 @@ fn is_shown<F: AbstractFormatter>(
         || is_shown_once(alloc, formatter, number, wanted)
 }
 
+/// Whether the plain English formatter writes the number of a text so and tells its operands.
+fn is_plain(rt: &impl Abort, alloc: Global, text: &str, wanted: Wanted<'_>) -> bool {
+    let formatter = english(rt, alloc);
+    let decimal = read(rt, alloc, text);
+    is_shown(alloc, &formatter, &decimal.absolute, wanted)
+}
+
+/// Whether the compact formatter of short English does.
+fn is_compact(
+    rt: &impl Abort,
+    alloc: Global,
+    number: &UnsignedDecimal,
+    wanted: Wanted<'_>,
+) -> bool {
+    let formatter = compact(rt, alloc, Language::ShortEnglish, GroupingStrategy::Min2);
+    is_shown(alloc, &formatter, number, wanted)
+}
+
 const ONE_DIGIT: &[(usize, usize, Part)] = &[(0, 1, parts::INTEGER)];
 
 /// 1.20 with its parts.
@@ -84,10 +105,8 @@ const PLAIN: [(&str, Wanted<'static>); 3] = [
 
 #[test]
 fn a_plain_formatter_tells_the_number_that_it_writes(rt: HostRuntime) {
-    let formatter = english(&rt, rt.alloc());
-    for (text, wanted) in PLAIN {
-        let number = read(&rt, rt.alloc(), text).absolute;
-        assert!(rt; is_shown(rt.alloc(), &formatter, &number, wanted), "{text}");
+    for &(text, wanted) in &PLAIN {
+        assert!(rt; is_plain(&rt, rt.alloc(), text, wanted), "{text}");
     }
 }
 
@@ -107,37 +126,35 @@ const SHORT: [(&str, Wanted<'static>); 6] = [
     ("2500", (Some(0), "", &[], Err(FormatError::Sink))),
 ];
 
+fn is_short(rt: &impl Abort, alloc: Global, text: &str, wanted: Wanted<'_>) -> bool {
+    let decimal = read(rt, alloc, text);
+    is_compact(rt, alloc, &decimal.absolute, wanted)
+}
+
 #[test]
 fn a_compact_formatter_tells_the_number_that_it_writes(rt: HostRuntime) {
-    let formatter = compact(
-        &rt,
-        rt.alloc(),
-        Language::ShortEnglish,
-        GroupingStrategy::Min2,
-    );
-    for (text, wanted) in SHORT {
-        let number = read(&rt, rt.alloc(), text).absolute;
-        assert!(rt; is_shown(rt.alloc(), &formatter, &number, wanted), "{text}");
+    for &(text, wanted) in &SHORT {
+        assert!(rt; is_short(&rt, rt.alloc(), text, wanted), "{text}");
     }
+}
+
+/// Whether so many nines overflow, and nothing is written.
+fn overflows(rt: &impl Abort, alloc: Global, count: usize) -> bool {
+    let decimal = nines(rt, alloc, count);
+    let wanted: Wanted<'_> = (None, "", &[], Err(FormatError::Overflow));
+    is_compact(rt, alloc, &decimal.absolute, wanted)
+}
+
+/// Whether ten to the seventeenth is written in trillions.
+fn writes_trillions(rt: &impl Abort, alloc: Global) -> bool {
+    let decimal = scaled(rt, alloc, "1", 17);
+    let told = Ok("n = 100000000000000000 and c = 12");
+    let wanted: Wanted<'_> = (None, "100,000T", &[], told);
+    is_compact(rt, alloc, &decimal.absolute, wanted)
 }
 
 #[test]
 fn what_is_shown_of_a_large_number_is_told(rt: HostRuntime) {
-    let formatter = compact(
-        &rt,
-        rt.alloc(),
-        Language::ShortEnglish,
-        GroupingStrategy::Min2,
-    );
-    let number = nines(&rt, rt.alloc(), 32768).absolute;
-    let wanted: Wanted<'_> = (None, "", &[], Err(FormatError::Overflow));
-    assert!(rt; is_shown(rt.alloc(), &formatter, &number, wanted));
-    let number = scaled(&rt, rt.alloc(), "1", 17).absolute;
-    let wanted: Wanted<'_> = (
-        None,
-        "100,000T",
-        &[],
-        Ok("n = 100000000000000000 and c = 12"),
-    );
-    assert!(rt; is_shown(rt.alloc(), &formatter, &number, wanted));
+    assert!(rt; overflows(&rt, rt.alloc(), 32768));
+    assert!(rt; writes_trillions(&rt, rt.alloc()));
 }

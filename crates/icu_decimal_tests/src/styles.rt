@@ -97,7 +97,7 @@ const ERRORS: [(FormatError, &str); 3] = [
 
 #[test]
 fn displays_errors_under_every_style(rt: HostRuntime) {
-    for (error, want) in ERRORS {
+    for &(error, want) in &ERRORS {
         assert!(rt; is_styled(rt.alloc(), &error, want), "{want}");
     }
 }

@@ -117,7 +117,7 @@ const PAIRS: [(&str, &str, bool, bool); 7] = [
 #[test]
 fn equal_texts_are_of_one_decimal(rt: HostRuntime) {
     let formatter = english(&rt, rt.alloc());
-    for (one, other, same, _) in PAIRS {
+    for &(one, other, same, _) in &PAIRS {
         let first = read(&rt, rt.alloc(), one);
         let second = read(&rt, rt.alloc(), other);
         let told = match have_one_text(rt.alloc(), &formatter, &first, &second) {
@@ -136,7 +136,7 @@ fn equal_compact_texts_show_one_number(rt: HostRuntime) {
         Language::ShortEnglish,
         GroupingStrategy::Min2,
     );
-    for (one, other, _, same) in PAIRS {
+    for &(one, other, _, same) in &PAIRS {
         let first = read(&rt, rt.alloc(), one);
         let second = read(&rt, rt.alloc(), other);
         let told = match have_one_compact_text(rt.alloc(), &formatter, &first, &second) {
@@ -155,7 +155,7 @@ fn one_number_is_shown_where_texts_are_equal(rt: HostRuntime) {
         Language::ShortEnglish,
         GroupingStrategy::Min2,
     );
-    for (one, other, _, same) in PAIRS {
+    for &(one, other, _, same) in &PAIRS {
         let first = read(&rt, rt.alloc(), one);
         let second = read(&rt, rt.alloc(), other);
         let told = match show_one_number(rt.alloc(), &formatter, &first, &second) {

@@ -1,18 +1,17 @@
 //! A unit over any formatter of numbers (UTS 35 Part 2, Unit Elements).
 
 ghost use Rattle.std.specs.Prelude.{◌≡◌, ◌↔◌, IsErrOf};
-ghost use Rattle.icu_base.specs.Sink.{KeepsLimit, Writes};
 ghost use Rattle.icu_decimal.specs.Decimal.{signed_events};
 ghost use Rattle.icu_decimal.specs.WritesSuch.{KeepsLimitSuch, WritesSuch};
-ghost use Rattle.icu_unit.specs.Unit.{unit_events};
+ghost use Rattle.icu_unit.specs.Unit.{unit_events, unit_pattern};
 
 use fixed_decimal::{Decimal, Sign};
 use icu_base::{
-    PartsText, PartsWrite, Pattern, PluralElements, PluralRules, SinglePlaceholder, WriteFault,
+    EventWriter, PartsWrite, Pattern, PluralElements, PluralRules, SinglePlaceholder, WriteFault,
     Writeable,
 };
-use icu_decimal::AbstractFormatter;
 use icu_decimal::error::FormatError;
+use icu_decimal::{AbstractFormatter, Characters, Frame, ShownNumber};
 use std::alloc::Global;
 use std::marker::Model;
 
@@ -59,9 +58,9 @@ impl<F: AbstractFormatter> UnitFormatter<F> {
 
     /// Writes the number with its unit: characters, and the parts of the sign alone.
     ///
-    /// The number is first written into a sink of the call's own. So after `Overflow` and `OutOfMemory` the caller's sink
-    /// is as it was; and `Sink` is answered only where that sink failed in this call, and it then holds a beginning of
-    /// the events besides. `Overflow` exactly where the formatter overflows.
+    /// The number is rounded once, before anything is written. So after `Overflow` and `OutOfMemory` the sink is as it was;
+    /// and `Sink` is answered only where the sink failed in this call, and it then holds a beginning of the events
+    /// besides. `Overflow` exactly where the formatter overflows.
     pub fn write<S: PartsWrite>(
         &self,
         alloc: Global,
@@ -79,37 +78,58 @@ impl<F: AbstractFormatter> UnitFormatter<F> {
         ensures overflow { IsErrOf result FormatError.Overflow
             ↔ F.overflows self.now.formatter value.now.absolute }
     {
-        let mut number = PartsText::new(alloc);
-        let operands = match self
-            .formatter
-            .write_shown(alloc, &value.absolute, &mut number)
-        {
-            Ok(operands) => operands,
-            Err(FormatError::Overflow) => return Err(FormatError::Overflow),
-            Err(FormatError::OutOfMemory | FormatError::Sink) => {
-                return Err(FormatError::OutOfMemory);
-            }
+        let frame = UnitFrame {
+            unit: self,
+            sign: value.sign,
         };
-        let pattern = self.elements.get(operands, &self.rules);
-        let text = pattern.interpolate(number.text());
-        match write_signed(&self.formatter, text, value.sign, sink) {
-            Ok(()) => Ok(()),
-            Err(_) => Err(FormatError::Sink),
+        self.formatter
+            .write_framed(alloc, &value.absolute, &frame, sink)
+    }
+
+    /// The pattern that a number picks. Where there is one alone, its operands aren't asked for.
+    fn pattern_for<N: ShownNumber>(&self, number: &N) -> &Pattern<SinglePlaceholder>
+        ensures { result.now ≡ unit_pattern self.now.rules self.now.elements
+            (N.operands number.now) }
+    {
+        match self.elements.sole() {
+            Some(pattern) => pattern,
+            None => self.elements.get(number.plural_operands(), &self.rules),
         }
     }
 }
 
+/// The unit around a number, and the affixes of a sign around both.
+#[derive(Drop)]
+struct UnitFrame<'a, F> {
+    unit: &'a UnitFormatter<F>,
+    sign: Sign,
+}
+
+impl<F: AbstractFormatter> Frame for UnitFrame<'_, F> {
+    ghost use Rattle.icu_unit.specs.Unit.{unit_framed};
+
+    ghost framed = { λ f. unit_framed (F.symbols f.unit.now.formatter) f.unit.now.rules f.unit.now.elements f.sign };
+
+    fn write_framed<N: ShownNumber, K: EventWriter>(
+        &self,
+        number: &N,
+        out: &mut K,
+    ) -> Result<(), WriteFault> {
+        let unit = self.unit;
+        let text = unit.pattern_for(number).interpolate(Characters::of(number));
+        write_signed(&unit.formatter, text, self.sign, out)
+    }
+}
+
 /// Writes a value with the affixes of a sign around it.
-fn write_signed<F: AbstractFormatter, W: Writeable + Drop, S: PartsWrite>(
+fn write_signed<F: AbstractFormatter, W: Writeable + Drop, K: EventWriter>(
     formatter: &F,
     value: W,
     sign: Sign,
-    sink: &mut S,
+    out: &mut K,
 ) -> Result<(), WriteFault>
-    ensures writes { Writes S.events S.failures sink.old result
-        (signed_events (F.symbols formatter.now) sign (W.events value)) sink.new }
-    ensures limited { KeepsLimit S.events S.limit S.refusals sink.old result
-        (signed_events (F.symbols formatter.now) sign (W.events value)) sink.new }
+    ensures { K.wrote out.old result
+        (signed_events (F.symbols formatter.now) sign (W.events value)) out.new }
 {
-    formatter.format_sign(value, sign).write_to_parts(sink)
+    formatter.format_sign(value, sign).write_events(out)
 }

@@ -1,0 +1,103 @@
+//! What stands around a number that is shown: a unit, a currency, a sign.
+
+ghost use Rattle.std.specs.Prelude.{◌≡◌, List};
+ghost use Rattle.icu_base.specs.Events.{Event};
+ghost use Rattle.icu_base.specs.Operands.{Operands};
+
+use crate::abstract_formatter::Sealed;
+use crate::formatted_compact::FormattedUnsignedCompactDecimal;
+use crate::formatted_decimal::FormattedUnsignedDecimal;
+use icu_base::{EventWriter, PluralOperands, WriteFault, Writeable};
+
+/// A number as a formatter shows it, without its sign: it writes its events, and tells its plural operands.
+pub trait ShownNumber: Writeable + Sealed {
+    /// The plural operands of the number.
+    ghost operands: { Self → Operands };
+
+    /// The plural operands of the number. It takes no memory.
+    fn plural_operands(&self) -> PluralOperands
+        ensures { result ≡ operands self.now };
+}
+
+/// What stands around a number, and may hang on its plural operands: with [`AbstractFormatter::write_framed`] units,
+/// currencies and messages stand on every formatter of numbers (this project's own).
+///
+/// [`AbstractFormatter::write_framed`]: crate::AbstractFormatter::write_framed
+pub trait Frame {
+    /// The events of a number in the frame: a function of its plural operands and of its own events.
+    ghost framed: { Self → Operands → List Event → List Event };
+
+    /// Writes a number in the frame. Its operands are worked out where they are asked for.
+    fn write_framed<N: ShownNumber, K: EventWriter>(
+        &self,
+        number: &N,
+        out: &mut K,
+    ) -> Result<(), WriteFault>
+        ensures { K.wrote out.old result
+            (framed self.now (N.operands number.now) (N.events number.now)) out.new };
+}
+
+/// The characters of a value, without its parts, as of a number inside of another text.
+#[derive(Drop)]
+pub struct Characters<'a, T> {
+    value: &'a T,
+}
+
+impl<'a, T: Writeable> Characters<'a, T> {
+    /// The characters of this value.
+    pub fn of(value: &'a T) -> Self
+        ensures { result.value.now ≡ value.now }
+    {
+        Characters { value }
+    }
+}
+
+impl<T: Writeable> Writeable for Characters<'_, T> {
+    ghost use Rattle.icu_base.specs.Events.{without_parts};
+
+    ghost events = { λ c. without_parts (T.events c.value.now) };
+
+    fn write_events<K: EventWriter>(&self, out: &mut K) -> Result<(), WriteFault> {
+        self.value.write_characters(out)
+    }
+}
+
+/// A number in a frame.
+#[derive(Drop)]
+pub(crate) struct Framed<'a, T, N> {
+    pub(crate) frame: &'a T,
+    pub(crate) number: N,
+}
+
+impl<T: Frame, N: ShownNumber> Writeable for Framed<'_, T, N> {
+    ghost events = { λ f. T.framed f.frame.now (N.operands f.number) (N.events f.number) };
+
+    fn write_events<K: EventWriter>(&self, out: &mut K) -> Result<(), WriteFault> {
+        self.frame.write_framed(&self.number, out)
+    }
+}
+
+impl Sealed for FormattedUnsignedDecimal<'_> {}
+
+impl ShownNumber for FormattedUnsignedDecimal<'_> {
+    ghost use Rattle.icu_base.specs.Operands.{operands_of};
+
+    ghost operands = { λ f. operands_of f.number 0 };
+
+    fn plural_operands(&self) -> PluralOperands {
+        PluralOperands::from_significand_and_exponent(self.value.get(), 0)
+    }
+}
+
+impl Sealed for FormattedUnsignedCompactDecimal<'_> {}
+
+impl ShownNumber for FormattedUnsignedCompactDecimal<'_> {
+    ghost use Rattle.icu_base.specs.Operands.{operands_of};
+    ghost use Rattle.icu_decimal.specs.CompactFormat.{significand_of};
+
+    ghost operands = { λ f. operands_of (significand_of f) f.exponent };
+
+    fn plural_operands(&self) -> PluralOperands {
+        FormattedUnsignedCompactDecimal::plural_operands(self)
+    }
+}
