@@ -2,7 +2,7 @@
 #![tactic(auto)]
 
 use decimal_lines::{Mode, format_lines};
-use fixed_decimal::Decimal;
+use fixed_decimal::{Decimal, Sign};
 use icu_decimal::options::{CompactDecimalFormatterOptions, DecimalFormatterOptions};
 use icu_decimal::preferences::CompactDecimalFormatterPreferences;
 use icu_decimal::{CompactDecimalFormatter, DecimalFormatter};
@@ -10,6 +10,8 @@ use icu_decimal_data::{DecimalSymbols, SymbolsView};
 use icu_decimal_options::{GroupingStrategy, check};
 use icu_decimal_readable::are_numbers_readable;
 use icu_decimal_symbols::{DecimalSymbolStrsBuilder, GroupingSizes};
+use icu_dimension::CurrencyFormatter;
+use icu_dimension_data::{AffixTexts, CldrPattern, rounded_to};
 use icu_pattern::{Pattern, SinglePlaceholder};
 use icu_plurals::{PluralCategory, PluralElements, PluralOperands, PluralRules};
 use icu_provider::{DataIdentifierBorrowed, DataLocale};
@@ -164,6 +166,42 @@ fn of_refused_tables(rt: &HostRuntime) -> Option<()> {
     }
 }
 
+fn of_icu_dimension_data(rt: &HostRuntime) -> Option<()> {
+    let texts = AffixTexts {
+        minus_sign: "-",
+        plus_sign: "+",
+        percent_sign: "%",
+        currency: "$",
+    };
+    let accounting = CldrPattern::parse(rt.alloc(), "¤#,##0.00;(¤#,##0.00)").ok()?;
+    let patterns = accounting.resolve(rt.alloc(), &texts).ok()?;
+    let loss = patterns.for_sign(Sign::Negative).interpolate("1,234.50");
+    let text = loss.write_to_string(rt.alloc()).ok()?;
+    println!(rt; "{text}").ok()
+}
+
+fn of_icu_dimension(rt: &HostRuntime) -> Option<()> {
+    let symbols = DecimalSymbols::new_en_for_testing(rt.alloc()).ok()?;
+    let formatter = DecimalFormatter::from_parts(
+        symbols,
+        ASCII_DIGITS,
+        DecimalFormatterOptions::default(),
+    );
+    let texts = AffixTexts {
+        minus_sign: "-",
+        plus_sign: "+",
+        percent_sign: "%",
+        currency: "CHF",
+    };
+    let pattern = CldrPattern::parse(rt.alloc(), "¤#,##0.00").ok()?;
+    let patterns = pattern.resolve(rt.alloc(), &texts).ok()?;
+    let francs = CurrencyFormatter::new(formatter, patterns);
+    let decimal = Decimal::try_from_str(rt.alloc(), "-1234.5").ok()?;
+    let amount = rounded_to(decimal, 2).ok()?;
+    let text = francs.write_to_string(rt.alloc(), &amount).ok()?;
+    println!(rt; "{text}").ok()
+}
+
 fn of_icu_unit(rt: &HostRuntime) -> Option<()> {
     let symbols = DecimalSymbols::new_en_for_testing(rt.alloc()).ok()?;
     let formatter = DecimalFormatter::from_parts(
@@ -208,6 +246,8 @@ fn print_all(rt: &HostRuntime) -> Option<()> {
     of_icu_decimal(rt)?;
     of_icu_tables(rt)?;
     of_refused_tables(rt)?;
+    of_icu_dimension_data(rt)?;
+    of_icu_dimension(rt)?;
     of_icu_unit(rt)?;
     of_decimal_lines(rt)
 }

@@ -1,4 +1,4 @@
-//! Decimals in English: plain with the bytes of each part, and short.
+//! Decimals in English: plain with the bytes of each part, short, and as amounts of money.
 #![tactic(auto)]
 
 use fixed_decimal::Decimal;
@@ -8,6 +8,8 @@ use icu_base::{
 use icu_decimal::options::{CompactDecimalFormatterOptions, DecimalFormatterOptions};
 use icu_decimal::provider::{CompactPatterns, DecimalSymbols};
 use icu_decimal::{CompactDecimalFormatter, DecimalFormatter};
+use icu_dimension::CurrencyFormatter;
+use icu_dimension_data::{AffixTexts, CldrPattern, rounded_to};
 use std::alloc::Global;
 use std::collections::BTreeMap;
 use std::process::ExitCode;
@@ -51,12 +53,42 @@ fn print_short(rt: &HostRuntime, formatter: &CompactDecimalFormatter, number: &s
     println!(rt; "{number} is {text}").ok()
 }
 
+/// Amounts in dollars, by the standard pattern.
+fn dollars(alloc: Global) -> Option<CurrencyFormatter<DecimalFormatter>> {
+    let texts = AffixTexts {
+        minus_sign: "-",
+        plus_sign: "+",
+        percent_sign: "%",
+        currency: "$",
+    };
+    let pattern = CldrPattern::parse(alloc, "¤#,##0.00").ok()?;
+    let patterns = pattern.resolve(alloc, &texts).ok()?;
+    let formatter = english(alloc, DecimalFormatterOptions::default())?;
+    Some(CurrencyFormatter::new(formatter, patterns))
+}
+
+/// Writes an amount of money, rounded to cents.
+fn print_amount(
+    rt: &HostRuntime,
+    formatter: &CurrencyFormatter<DecimalFormatter>,
+    number: &str,
+) -> Option<()> {
+    let decimal = Decimal::try_from_str(rt.alloc(), number).ok()?;
+    let amount = rounded_to(decimal, 2).ok()?;
+    let text = formatter.write_to_string(rt.alloc(), &amount).ok()?;
+    println!(rt; "{number} is {text}").ok()
+}
+
 /// Writes what the page shows; none where memory or standard output is wanting.
 fn print_all(rt: &HostRuntime) -> Option<()> {
     print_plain(rt, "-987654.321")?;
     let formatter = short_english(rt.alloc())?;
     for number in ["999500", "15127", "-13132", "0.2222"] {
         print_short(rt, &formatter, number)?;
+    }
+    let money = dollars(rt.alloc())?;
+    for number in ["1234.5", "-0.125"] {
+        print_amount(rt, &money, number)?;
     }
     Some(())
 }

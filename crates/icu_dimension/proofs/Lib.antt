@@ -1,0 +1,2 @@
+pub mod Hundred
+pub mod PointMoved

@@ -1,0 +1,6 @@
+pub mod GivenNames
+pub mod Money
+pub mod Names
+pub mod Percent
+pub mod PercentLaws
+pub mod Units

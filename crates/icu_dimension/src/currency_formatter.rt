@@ -1,0 +1,95 @@
+//! Amounts of money with the symbol of their currency (ICU4X, `CurrencyFormatter`).
+
+ghost use Rattle.std.specs.Prelude.{◌≡◌, ◌↔◌, IfOk, IsErrOf, IfErr, ◌≢◌};
+ghost use Rattle.std.specs.String.{string_bytes};
+ghost use Rattle.icu_base.specs.Events.{text_of};
+ghost use Rattle.icu_decimal.specs.Shown.{Shown};
+ghost use Rattle.icu_decimal.specs.WritesSuch.{KeepsLimitSuch, WritesSuch};
+ghost use Rattle.icu_dimension.specs.Money.{money_events};
+
+use crate::frame::SignFrame;
+use fixed_decimal::Decimal;
+use icu_base::PartsWrite;
+use icu_decimal::AbstractFormatter;
+use icu_decimal::error::FormatError;
+use icu_dimension_data::SignedPatterns;
+use std::alloc::Global;
+use std::marker::Model;
+
+/// Writes amounts of money with the symbol of their currency, as `-$1,234.50` or `($1,234.50)`: the number in the pattern
+/// of its sign.
+///
+/// The patterns are those of the currency's symbol, short or narrow, in the locale's standard or accounting pattern
+/// ([`CldrPattern::resolve`]); the formatter of numbers has the locale's separators of money where it has such. How many
+/// digits an amount has isn't changed: it is rounded before ([`rounded_to`]).
+///
+/// [`CldrPattern::resolve`]: icu_dimension_data::CldrPattern::resolve
+/// [`rounded_to`]: icu_dimension_data::rounded_to
+#[derive(Drop)]
+pub struct CurrencyFormatter<F> {
+    formatter: F,
+    patterns: SignedPatterns,
+}
+
+impl<F> Model for CurrencyFormatter<F> {
+    ghost use Rattle.icu_dimension.specs.Money.{SignedFormat};
+
+    ghost Value = { SignedFormat F };
+
+    ghost view = { λ f. record { formatter = f.formatter; patterns = f.patterns } };
+}
+
+impl<F: AbstractFormatter> CurrencyFormatter<F> {
+    /// The formatter of amounts in these patterns.
+    pub fn new(formatter: F, patterns: SignedPatterns) -> Self
+        ensures { result ≡ record { formatter = formatter; patterns = patterns } }
+    {
+        CurrencyFormatter {
+            formatter,
+            patterns,
+        }
+    }
+
+    /// Writes an amount: the parts of the number, and those of the sign and of the symbol.
+    ///
+    /// After `Overflow` and `OutOfMemory` the sink is as it was; `Sink` is answered only where the sink failed in this call,
+    /// and it then holds a beginning of the events besides. `Overflow` exactly where the formatter overflows.
+    pub fn write<S: PartsWrite>(
+        &self,
+        alloc: Global,
+        value: &Decimal,
+        sink: &mut S,
+    ) -> Result<(), FormatError>
+        ensures written { WritesSuch S.events S.failures sink.old result
+            (F.shows self.now.formatter value.now.absolute)
+            (money_events self.now.patterns value.now.sign) sink.new }
+        ensures limited { KeepsLimitSuch S.events S.limit S.refusals sink.old result
+            (F.shows self.now.formatter value.now.absolute)
+            (money_events self.now.patterns value.now.sign) sink.new }
+        ensures overflow { IsErrOf result FormatError.Overflow
+            ↔ F.overflows self.now.formatter value.now.absolute }
+    {
+        let frame = SignFrame {
+            patterns: &self.patterns,
+            sign: value.sign,
+        };
+        self.formatter
+            .write_framed(alloc, &value.absolute, &frame, sink)
+    }
+
+    /// The characters that `write` writes, as a text. `Sink` is never answered.
+    pub fn write_to_string(&self, alloc: Global, value: &Decimal) -> Result<String, FormatError>
+        ensures text { IfOk result (λ t. (n : Shown) × F.shows self.now.formatter value.now.absolute n
+            × (string_bytes t ≡ text_of (money_events self.now.patterns value.now.sign n))) }
+        ensures overflow { IsErrOf result FormatError.Overflow
+            ↔ F.overflows self.now.formatter value.now.absolute }
+        ensures no_sink { IfErr result (λ e. e ≢ FormatError.Sink) }
+    {
+        let frame = SignFrame {
+            patterns: &self.patterns,
+            sign: value.sign,
+        };
+        self.formatter
+            .framed_to_string(alloc, &value.absolute, &frame)
+    }
+}

@@ -1,0 +1,42 @@
+//! Money, percents and units over any formatter of numbers.
+//!
+//! ```
+//! let symbols = DecimalSymbols::new_en_for_testing(rt.alloc()).ok()?;
+//! let formatter = DecimalFormatter::from_parts(
+//!     symbols,
+//!     ASCII_DIGITS,
+//!     DecimalFormatterOptions::default(),
+//! );
+//! let texts = AffixTexts {
+//!     minus_sign: "-",
+//!     plus_sign: "+",
+//!     percent_sign: "%",
+//!     currency: "CHF",
+//! };
+//! let pattern = CldrPattern::parse(rt.alloc(), "¤#,##0.00").ok()?;
+//! let patterns = pattern.resolve(rt.alloc(), &texts).ok()?;
+//! let francs = CurrencyFormatter::new(formatter, patterns);
+//! let decimal = Decimal::try_from_str(rt.alloc(), "-1234.5").ok()?;
+//! let amount = rounded_to(decimal, 2).ok()?;
+//! let text = francs.write_to_string(rt.alloc(), &amount).ok()?;
+//! println!(rt; "{text}").ok()
+//! ```
+//!
+//! prints `-CHF 1,234.50`, with U+00A0 behind the symbol.
+#![tactic(auto)]
+
+mod currency_formatter;
+mod frame;
+mod hundredfold;
+pub mod laws;
+mod long_currency_formatter;
+mod name_pattern;
+mod percent_formatter;
+mod units_formatter;
+
+pub use currency_formatter::CurrencyFormatter;
+pub use icu_dimension_data::parts;
+pub use long_currency_formatter::LongCurrencyFormatter;
+pub use name_pattern::{NamePattern, NameTexts};
+pub use percent_formatter::PercentFormatter;
+pub use units_formatter::UnitsFormatter;

@@ -1,0 +1,134 @@
+//! Amounts of money with the name of their currency (ICU4X, `LongCurrencyFormatter`).
+
+ghost use Rattle.std.specs.Prelude.{◌≡◌, ◌↔◌, IsErrOf, IfOk, IfErr, ◌≢◌};
+ghost use Rattle.std.specs.String.{string_bytes};
+ghost use Rattle.icu_base.specs.Events.{text_of};
+ghost use Rattle.icu_decimal.specs.Shown.{Shown};
+ghost use Rattle.icu_decimal.specs.WritesSuch.{KeepsLimitSuch, WritesSuch};
+ghost use Rattle.icu_dimension.specs.Names.{names_events, name_for};
+
+use crate::frame::Lent;
+use crate::name_pattern::NamePattern;
+use fixed_decimal::{Decimal, Sign};
+use icu_base::{EventWriter, PartsWrite, PluralElements, PluralRules, WriteFault};
+use icu_decimal::error::FormatError;
+use icu_decimal::{AbstractFormatter, Frame, ShownNumber};
+use std::alloc::Global;
+use std::marker::Model;
+
+/// Writes amounts of money with the name of their currency, as `1.00 US dollars`: the number and its sign with the name that
+/// the number's plural operands pick.
+#[derive(Drop)]
+pub struct LongCurrencyFormatter<F> {
+    formatter: F,
+    rules: PluralRules,
+    elements: PluralElements<NamePattern>,
+}
+
+impl<F> Model for LongCurrencyFormatter<F> {
+    ghost use Rattle.icu_dimension.specs.Names.{NamesFormat};
+
+    ghost Value = { NamesFormat F };
+
+    ghost view = { λ f. record {
+      formatter = f.formatter;
+      rules = f.rules;
+      elements = f.elements;
+    } };
+}
+
+impl<F: AbstractFormatter> LongCurrencyFormatter<F> {
+    /// The formatter of amounts with this name: its elements are what stands around a number, by the plural category of
+    /// the number as it is shown.
+    pub fn new(formatter: F, rules: PluralRules, elements: PluralElements<NamePattern>) -> Self
+        ensures { result ≡ record { formatter = formatter; rules = rules; elements = elements } }
+    {
+        LongCurrencyFormatter {
+            formatter,
+            rules,
+            elements,
+        }
+    }
+
+    /// Writes the amount: the parts of the number, of its sign and of the name.
+    ///
+    /// After `Overflow` and `OutOfMemory` the sink is as it was; `Sink` is answered only where the sink failed in this call,
+    /// and it then holds a beginning of the events besides. `Overflow` exactly where the formatter overflows.
+    pub fn write<S: PartsWrite>(
+        &self,
+        alloc: Global,
+        value: &Decimal,
+        sink: &mut S,
+    ) -> Result<(), FormatError>
+        ensures written { WritesSuch S.events S.failures sink.old result
+            (F.shows self.now.formatter value.now.absolute)
+            (names_events (F.symbols self.now.formatter) self.now.rules self.now.elements
+            value.now.sign) sink.new }
+        ensures limited { KeepsLimitSuch S.events S.limit S.refusals sink.old result
+            (F.shows self.now.formatter value.now.absolute)
+            (names_events (F.symbols self.now.formatter) self.now.rules self.now.elements
+            value.now.sign) sink.new }
+        ensures overflow { IsErrOf result FormatError.Overflow
+            ↔ F.overflows self.now.formatter value.now.absolute }
+    {
+        let frame = NamesFrame {
+            money: self,
+            sign: value.sign,
+        };
+        self.formatter
+            .write_framed(alloc, &value.absolute, &frame, sink)
+    }
+
+    /// The characters that `write` writes, as a text. `Sink` is never answered.
+    pub fn write_to_string(&self, alloc: Global, value: &Decimal) -> Result<String, FormatError>
+        ensures text { IfOk result (λ t. (n : Shown) × F.shows self.now.formatter value.now.absolute n
+            × (string_bytes t ≡ text_of (names_events (F.symbols self.now.formatter) self.now.rules self.now.elements
+            value.now.sign n))) }
+        ensures overflow { IsErrOf result FormatError.Overflow
+            ↔ F.overflows self.now.formatter value.now.absolute }
+        ensures no_sink { IfErr result (λ e. e ≢ FormatError.Sink) }
+    {
+        let frame = NamesFrame {
+            money: self,
+            sign: value.sign,
+        };
+        self.formatter
+            .framed_to_string(alloc, &value.absolute, &frame)
+    }
+
+    /// What stands around a number. Where there is one alone, its operands aren't asked for.
+    fn pattern_for<N: ShownNumber>(&self, number: &N) -> &NamePattern
+        ensures { result.now ≡ name_for self.now.rules self.now.elements
+            (N.operands number.now) }
+    {
+        match self.elements.sole() {
+            Some(pattern) => pattern,
+            None => self.elements.get(number.plural_operands(), &self.rules),
+        }
+    }
+}
+
+/// A number and its sign with the name of a currency.
+#[derive(Drop)]
+struct NamesFrame<'a, F> {
+    money: &'a LongCurrencyFormatter<F>,
+    sign: Sign,
+}
+
+impl<F: AbstractFormatter> Frame for NamesFrame<'_, F> {
+    ghost use Rattle.icu_dimension.specs.Names.{names_framed};
+
+    ghost framed = { λ f. names_framed (F.symbols f.money.now.formatter) f.money.now.rules f.money.now.elements f.sign };
+
+    fn write_framed<N: ShownNumber, K: EventWriter>(
+        &self,
+        number: &N,
+        out: &mut K,
+    ) -> Result<(), WriteFault> {
+        let money = self.money;
+        let signed = money
+            .formatter
+            .format_sign(Lent { value: number }, self.sign);
+        money.pattern_for(number).write_with(&signed, out)
+    }
+}

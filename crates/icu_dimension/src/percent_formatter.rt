@@ -1,0 +1,96 @@
+//! Percents (ICU4X, `PercentFormatter`).
+
+ghost use Rattle.std.specs.Prelude.{◌≡◌, OnOk, IsErrOf, IfOk, IfErr, ◌≢◌};
+ghost use Rattle.std.specs.String.{string_bytes};
+ghost use Rattle.fixed_decimal.specs.Unsigned.{IsWithinLimits};
+ghost use Rattle.icu_base.specs.Events.{text_of};
+ghost use Rattle.icu_decimal.specs.Shown.{Shown};
+ghost use Rattle.icu_decimal.specs.WritesSuch.{KeepsLimitSuch, WritesSuch};
+ghost use Rattle.icu_dimension.specs.Money.{money_events};
+ghost use Rattle.icu_dimension.specs.Percent.{IsTooLarge, hundredfold};
+
+use crate::frame::SignFrame;
+use crate::hundredfold::hundredfold;
+use fixed_decimal::Decimal;
+use icu_base::PartsWrite;
+use icu_decimal::AbstractFormatter;
+use icu_decimal::error::FormatError;
+use icu_dimension_data::SignedPatterns;
+use std::alloc::Global;
+use std::marker::Model;
+
+/// Writes numbers as percents, as `12.34%` of 0.1234: a hundred times the number in the percent pattern of its sign.
+#[derive(Drop)]
+pub struct PercentFormatter<F> {
+    formatter: F,
+    patterns: SignedPatterns,
+}
+
+impl<F> Model for PercentFormatter<F> {
+    ghost use Rattle.icu_dimension.specs.Money.{SignedFormat};
+
+    ghost Value = { SignedFormat F };
+
+    ghost view = { λ f. record { formatter = f.formatter; patterns = f.patterns } };
+}
+
+impl<F: AbstractFormatter> PercentFormatter<F> {
+    /// The formatter of percents in these patterns, those of the locale's percent pattern.
+    pub fn new(formatter: F, patterns: SignedPatterns) -> Self
+        ensures { result ≡ record { formatter = formatter; patterns = patterns } }
+    {
+        PercentFormatter {
+            formatter,
+            patterns,
+        }
+    }
+
+    /// Writes a hundred times the number, exactly and without further zeros at its front, as a percent: the parts of the
+    /// number, and those of the sign and of the percent sign.
+    ///
+    /// `Overflow` where a hundred times the number has more than 32768 digits at power 0 and above, or the formatter
+    /// overflows by it. After it and after `OutOfMemory` the sink is as it was; `Sink` is answered only where the sink failed
+    /// in this call, and it then holds a beginning of the events besides.
+    pub fn write<S: PartsWrite>(
+        &self,
+        alloc: Global,
+        value: &Decimal,
+        sink: &mut S,
+    ) -> Result<(), FormatError>
+        ensures written { WritesSuch S.events S.failures sink.old result
+            (F.shows self.now.formatter (hundredfold value.now.absolute))
+            (money_events self.now.patterns value.now.sign) sink.new }
+        ensures limited { KeepsLimitSuch S.events S.limit S.refusals sink.old result
+            (F.shows self.now.formatter (hundredfold value.now.absolute))
+            (money_events self.now.patterns value.now.sign) sink.new }
+        ensures overflow { IsErrOf result FormatError.Overflow
+            → IsTooLarge F.overflows self.now.formatter value.now.absolute }
+        ensures within { OnOk result (¬ (IsTooLarge F.overflows self.now.formatter value.now.absolute)) }
+    {
+        let hundredfold = hundredfold(alloc, &value.absolute)?;
+        let frame = SignFrame {
+            patterns: &self.patterns,
+            sign: value.sign,
+        };
+        self.formatter
+            .write_framed(alloc, &hundredfold, &frame, sink)
+    }
+
+    /// The characters that `write` writes, as a text. `Sink` is never answered.
+    pub fn write_to_string(&self, alloc: Global, value: &Decimal) -> Result<String, FormatError>
+        ensures text { IfOk result (λ t. (n : Shown) × F.shows self.now.formatter (hundredfold value.now.absolute) n
+            × (string_bytes t ≡ text_of (money_events self.now.patterns value.now.sign n))) }
+        ensures overflow { IsErrOf result FormatError.Overflow
+            → IsTooLarge F.overflows self.now.formatter value.now.absolute }
+        ensures within { OnOk result
+            (¬ (IsTooLarge F.overflows self.now.formatter value.now.absolute)) }
+        ensures no_sink { IfErr result (λ e. e ≢ FormatError.Sink) }
+    {
+        let hundredfold = hundredfold(alloc, &value.absolute)?;
+        let frame = SignFrame {
+            patterns: &self.patterns,
+            sign: value.sign,
+        };
+        self.formatter.framed_to_string(alloc, &hundredfold, &frame)
+    }
+}

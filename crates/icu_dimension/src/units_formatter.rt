@@ -1,0 +1,146 @@
+//! Numbers with a unit, the sign beside the number (ICU4X, `UnitsFormatter`).
+
+ghost use Rattle.std.specs.Prelude.{◌≡◌, ◌↔◌, IsErrOf, IfOk, IfErr, ◌≢◌};
+ghost use Rattle.std.specs.String.{string_bytes};
+ghost use Rattle.icu_base.specs.Events.{text_of};
+ghost use Rattle.icu_decimal.specs.Shown.{Shown};
+ghost use Rattle.icu_decimal.specs.WritesSuch.{KeepsLimitSuch, WritesSuch};
+ghost use Rattle.icu_dimension.specs.Units.{units_events, units_pattern};
+
+use crate::frame::Lent;
+use fixed_decimal::{Decimal, Sign};
+use icu_base::{
+    EventWriter, PartsWrite, Pattern, PluralElements, PluralRules, SinglePlaceholder, WriteFault,
+    Writeable,
+};
+use icu_decimal::error::FormatError;
+use icu_decimal::{AbstractFormatter, Frame, ShownNumber};
+use std::alloc::Global;
+use std::marker::Model;
+
+/// Writes numbers with a unit, as `-1 kilometer` or `ɣleti -1`: the pattern that the number's plural operands pick, with
+/// the number and its sign in its place.
+///
+/// The pattern is that of CLDR for a unit and a width. `UnitFormatter` of `icu_unit` writes the sign around the whole:
+/// both are the same where the literal stands behind the number alone.
+#[derive(Drop)]
+pub struct UnitsFormatter<F> {
+    formatter: F,
+    rules: PluralRules,
+    elements: PluralElements<Pattern<SinglePlaceholder>>,
+}
+
+impl<F> Model for UnitsFormatter<F> {
+    ghost use Rattle.icu_dimension.specs.Units.{UnitsFormat};
+
+    ghost Value = { UnitsFormat F };
+
+    ghost view = { λ f. record {
+      formatter = f.formatter;
+      rules = f.rules;
+      elements = f.elements;
+    } };
+}
+
+impl<F: AbstractFormatter> UnitsFormatter<F> {
+    /// The formatter of numbers with this unit: its elements are the patterns of the unit, by the plural category of the
+    /// number as it is shown.
+    pub fn new(
+        formatter: F,
+        rules: PluralRules,
+        elements: PluralElements<Pattern<SinglePlaceholder>>,
+    ) -> Self
+        ensures { result ≡ record { formatter = formatter; rules = rules; elements = elements } }
+    {
+        UnitsFormatter {
+            formatter,
+            rules,
+            elements,
+        }
+    }
+
+    /// Writes the number with its unit: the parts of the number and of its sign. A pattern without a place is its literal.
+    ///
+    /// After `Overflow` and `OutOfMemory` the sink is as it was; `Sink` is answered only where the sink failed in this call,
+    /// and it then holds a beginning of the events besides. `Overflow` exactly where the formatter overflows.
+    pub fn write<S: PartsWrite>(
+        &self,
+        alloc: Global,
+        value: &Decimal,
+        sink: &mut S,
+    ) -> Result<(), FormatError>
+        ensures written { WritesSuch S.events S.failures sink.old result
+            (F.shows self.now.formatter value.now.absolute)
+            (units_events (F.symbols self.now.formatter) self.now.rules self.now.elements
+            value.now.sign) sink.new }
+        ensures limited { KeepsLimitSuch S.events S.limit S.refusals sink.old result
+            (F.shows self.now.formatter value.now.absolute)
+            (units_events (F.symbols self.now.formatter) self.now.rules self.now.elements
+            value.now.sign) sink.new }
+        ensures overflow { IsErrOf result FormatError.Overflow
+            ↔ F.overflows self.now.formatter value.now.absolute }
+    {
+        let frame = UnitsFrame {
+            units: self,
+            sign: value.sign,
+        };
+        self.formatter
+            .write_framed(alloc, &value.absolute, &frame, sink)
+    }
+
+    /// The characters that `write` writes, as a text. `Sink` is never answered.
+    pub fn write_to_string(&self, alloc: Global, value: &Decimal) -> Result<String, FormatError>
+        ensures text { IfOk result (λ t. (n : Shown) × F.shows self.now.formatter value.now.absolute n
+            × (string_bytes t ≡ text_of (units_events (F.symbols self.now.formatter) self.now.rules self.now.elements
+            value.now.sign n))) }
+        ensures overflow { IsErrOf result FormatError.Overflow
+            ↔ F.overflows self.now.formatter value.now.absolute }
+        ensures no_sink { IfErr result (λ e. e ≢ FormatError.Sink) }
+    {
+        let frame = UnitsFrame {
+            units: self,
+            sign: value.sign,
+        };
+        self.formatter
+            .framed_to_string(alloc, &value.absolute, &frame)
+    }
+
+    /// The pattern that a number picks. Where there is one alone, its operands aren't asked for.
+    fn pattern_for<N: ShownNumber>(&self, number: &N) -> &Pattern<SinglePlaceholder>
+        ensures { result.now ≡ units_pattern self.now.rules self.now.elements
+            (N.operands number.now) }
+    {
+        match self.elements.sole() {
+            Some(pattern) => pattern,
+            None => self.elements.get(number.plural_operands(), &self.rules),
+        }
+    }
+}
+
+/// A number and its sign in the pattern of a unit.
+#[derive(Drop)]
+struct UnitsFrame<'a, F> {
+    units: &'a UnitsFormatter<F>,
+    sign: Sign,
+}
+
+impl<F: AbstractFormatter> Frame for UnitsFrame<'_, F> {
+    ghost use Rattle.icu_dimension.specs.Units.{units_framed};
+
+    ghost framed = { λ f. units_framed (F.symbols f.units.now.formatter) f.units.now.rules f.units.now.elements f.sign };
+
+    fn write_framed<N: ShownNumber, K: EventWriter>(
+        &self,
+        number: &N,
+        out: &mut K,
+    ) -> Result<(), WriteFault> {
+        let units = self.units;
+        let signed = units
+            .formatter
+            .format_sign(Lent { value: number }, self.sign);
+        units
+            .pattern_for(number)
+            .interpolate(signed)
+            .write_events(out)
+    }
+}

@@ -1,0 +1,4 @@
+pub mod Affixes
+pub mod Characters
+pub mod Codes
+pub mod Left

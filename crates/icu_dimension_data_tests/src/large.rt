@@ -1,0 +1,70 @@
+//! Patterns and symbols that are long.
+
+use crate::making::{is_text, patterns_of};
+use fixed_decimal::Sign;
+use icu_dimension_data::AffixTexts;
+use std::alloc::{AllocError, Global};
+
+const COUNT: usize = 20_000;
+
+/// So many letters, with a text before them and one after them.
+fn letters(alloc: Global, before: &str, after: &str) -> Result<String, AllocError> {
+    let mut text = String::from_str(alloc, before)?;
+    for _ in 0..COUNT {
+        text.push('x')?;
+    }
+    text.push_str(after)?;
+    Ok(text)
+}
+
+/// The same, asked for once more where memory was refused.
+fn long_text(alloc: Global, before: &str, after: &str) -> Result<String, AllocError> {
+    match letters(alloc, before, after) {
+        Ok(text) => Ok(text),
+        Err(_) => letters(alloc, before, after),
+    }
+}
+
+/// Whether 12 in a long pattern with a symbol is this text.
+fn writes(alloc: Global, pattern: &str, currency: &str, want: &str) -> bool {
+    let texts = AffixTexts {
+        minus_sign: "-",
+        plus_sign: "+",
+        percent_sign: "%",
+        currency,
+    };
+    match patterns_of(alloc, pattern, &texts) {
+        Some(patterns) => is_text(
+            alloc,
+            &patterns.for_sign(Sign::Positive).interpolate("12"),
+            want,
+        ),
+        None => false,
+    }
+}
+
+fn writes_a_long_literal(alloc: Global) -> bool {
+    match long_text(alloc, "¤#0'1", "'") {
+        Ok(pattern) => match long_text(alloc, "+$121", "") {
+            Ok(want) => writes(alloc, &pattern, "$", &want),
+            Err(_) => false,
+        },
+        Err(_) => false,
+    }
+}
+
+fn writes_a_long_symbol(alloc: Global) -> bool {
+    match long_text(alloc, "", "") {
+        Ok(symbol) => match long_text(alloc, "+", "\u{a0}12") {
+            Ok(want) => writes(alloc, "¤#0", &symbol, &want),
+            Err(_) => false,
+        },
+        Err(_) => false,
+    }
+}
+
+#[test]
+fn long_patterns_and_symbols_are_written(rt: HostRuntime) {
+    assert!(rt; writes_a_long_literal(rt.alloc()));
+    assert!(rt; writes_a_long_symbol(rt.alloc()));
+}

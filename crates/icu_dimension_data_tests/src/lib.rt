@@ -1,0 +1,15 @@
+//! The tests of the public calls of icu_dimension_data; the library itself offers nothing.
+#![tactic(auto)]
+
+#[cfg(test)]
+mod currencies;
+#[cfg(test)]
+mod faults;
+#[cfg(test)]
+mod large;
+#[cfg(test)]
+mod making;
+#[cfg(test)]
+mod marked;
+#[cfg(test)]
+mod patterns;

@@ -1,0 +1,21 @@
+//! The tests of icu_dimension's public calls; the library itself offers nothing.
+#![tactic(auto)]
+
+#[cfg(test)]
+mod instances;
+#[cfg(test)]
+mod large;
+#[cfg(test)]
+mod making;
+#[cfg(test)]
+mod money;
+#[cfg(test)]
+mod names;
+#[cfg(test)]
+mod percents;
+#[cfg(test)]
+mod sinks;
+#[cfg(test)]
+mod units;
+#[cfg(test)]
+mod writing;

@@ -1,0 +1,99 @@
+//! Formatters of numbers and what stands around them. None is answered where memory is wanting.
+
+use fixed_decimal::Decimal;
+use icu_base::{ASCII_DIGITS, PluralCategory, PluralRules};
+use icu_decimal::options::{CompactDecimalFormatterOptions, DecimalFormatterOptions};
+use icu_decimal::{CompactDecimalFormatter, DecimalFormatter};
+use icu_decimal_data::{DecimalSymbolStrsBuilder, DecimalSymbols, GroupingSizes};
+use icu_dimension_data::{AffixTexts, CldrPattern, SignedPatterns};
+use std::alloc::Global;
+
+/// How the numbers of a language are written: its separators, and its minus sign.
+#[derive(Clone, Copy)]
+pub(crate) struct Numbers {
+    pub(crate) decimal: &'static str,
+    pub(crate) group: &'static str,
+    pub(crate) minus: &'static str,
+}
+
+pub(crate) const ENGLISH: Numbers = Numbers {
+    decimal: ".",
+    group: ",",
+    minus: "-",
+};
+
+pub(crate) const GERMAN: Numbers = Numbers {
+    decimal: ",",
+    group: ".",
+    minus: "-",
+};
+
+pub(crate) const SWISS: Numbers = Numbers {
+    decimal: ".",
+    group: "’",
+    minus: "-",
+};
+
+pub(crate) const FRENCH: Numbers = Numbers {
+    decimal: ",",
+    group: "\u{202f}",
+    minus: "-",
+};
+
+pub(crate) const BASQUE: Numbers = Numbers {
+    decimal: ",",
+    group: ".",
+    minus: "\u{2212}",
+};
+
+/// The plain formatter of a language.
+pub(crate) fn plain(alloc: Global, numbers: Numbers) -> Option<DecimalFormatter> {
+    let builder = DecimalSymbolStrsBuilder {
+        minus_sign_prefix: numbers.minus,
+        minus_sign_suffix: "",
+        plus_sign_prefix: "+",
+        plus_sign_suffix: "",
+        decimal_separator: numbers.decimal,
+        grouping_separator: numbers.group,
+        numsys: "latn",
+    };
+    match builder.build(alloc) {
+        Ok(strings) => Some(DecimalFormatter::from_parts(
+            DecimalSymbols {
+                strings,
+                grouping_sizes: GroupingSizes {
+                    primary: 3,
+                    secondary: 3,
+                    min_grouping: 1,
+                },
+            },
+            ASCII_DIGITS,
+            DecimalFormatterOptions::default(),
+        )),
+        Err(_) => None,
+    }
+}
+
+/// The patterns of a language for a currency, or for percents where the symbol is empty.
+pub(crate) fn patterns(
+    alloc: Global,
+    numbers: Numbers,
+    pattern: &str,
+    currency: &str,
+) -> Option<SignedPatterns> {
+    let texts = AffixTexts {
+        minus_sign: numbers.minus,
+        plus_sign: "+",
+        percent_sign: "%",
+        currency,
+    };
+    match CldrPattern::parse(alloc, pattern) {
+        Ok(pattern) => pattern.resolve(alloc, &texts).ok(),
+        Err(_) => None,
+    }
+}
+
+/// The decimal of a text.
+pub(crate) fn decimal(alloc: Global, text: &str) -> Option<Decimal> {
+    Decimal::try_from_str(alloc, text).ok()
+}

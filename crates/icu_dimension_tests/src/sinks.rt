@@ -1,0 +1,107 @@
+//! Sinks that are full after a number of events: they hold a beginning, and the call says so.
+
+use crate::making::{ENGLISH, decimal};
+use crate::money::{Money, money_of};
+use crate::names::{Currency, long_of};
+use crate::percents::{ENGLISH_PERCENT, percent_of};
+use crate::units::{Unit, units_of};
+use crate::writing::{NumberWriter, writes};
+use icu_decimal::error::FormatError;
+use std::alloc::Global;
+
+const DOLLARS: Money = (ENGLISH, "¤#0", "$", 0);
+
+/// Which formatter writes.
+#[derive(Clone, Copy)]
+enum Kind {
+    Money,
+    Percent,
+    Months,
+    Yen,
+}
+
+/// Whether a sink with this limit ends so.
+fn ends<W: NumberWriter>(
+    alloc: Global,
+    formatter: &W,
+    number: &str,
+    limit: usize,
+    text: &str,
+    all: usize,
+) -> bool {
+    let answer = if limit < all {
+        Err(FormatError::Sink)
+    } else {
+        Ok(())
+    };
+    match decimal(alloc, number) {
+        Some(number) => writes(alloc, formatter, &number, Some(limit), (answer, text, None)),
+        None => false,
+    }
+}
+
+fn ends_so(alloc: Global, kind: Kind, limit: usize, text: &str, all: usize) -> bool {
+    match kind {
+        Kind::Money => match money_of(alloc, DOLLARS) {
+            Some(money) => ends(alloc, &money, "-1", limit, text, all),
+            None => false,
+        },
+        Kind::Percent => match percent_of(alloc, ENGLISH_PERCENT) {
+            Some(percent) => ends(alloc, &percent, "0.01", limit, text, all),
+            None => false,
+        },
+        Kind::Months => match units_of(alloc, Unit::EweMonths) {
+            Some(months) => ends(alloc, &months, "-1", limit, text, all),
+            None => false,
+        },
+        Kind::Yen => match long_of(alloc, Currency::JapaneseYen) {
+            Some(yen) => ends(alloc, &yen, "1", limit, text, all),
+            None => false,
+        },
+    }
+}
+
+/// The texts after so many events: a part is opened, its characters follow, and it is closed. An affix of a sign that is
+/// empty has a part too, in the formatter's own numbers.
+const BEGINNINGS: [(Kind, &[&str]); 4] = [
+    (
+        Kind::Money,
+        &["", "", "-", "-", "-", "-$", "-$", "-$", "-$1", "-$1"],
+    ),
+    (Kind::Percent, &["", "", "1", "1", "1", "1%", "1%"]),
+    (
+        Kind::Months,
+        &[
+            "",
+            "ɣ",
+            "ɣl",
+            "ɣle",
+            "ɣlet",
+            "ɣleti",
+            "ɣleti ",
+            "ɣleti ",
+            "ɣleti -",
+            "ɣleti -",
+            "ɣleti -",
+            "ɣleti -1",
+            "ɣleti -1",
+            "ɣleti -1",
+            "ɣleti -1",
+        ],
+    ),
+    (Kind::Yen, &["", "", "1", "1", "1", "1円", "1円"]),
+];
+
+#[test]
+fn a_full_sink_holds_a_beginning(rt: HostRuntime) {
+    for (kind, texts) in BEGINNINGS {
+        let all = texts.len() - 1;
+        for (limit, text) in texts.iter().enumerate() {
+            assert!(rt;
+                ends_so(rt.alloc(), kind, limit, text, all)
+                    || ends_so(rt.alloc(), kind, limit, text, all),
+                "{text} with limit {limit}"
+            );
+        }
+    }
+}
