@@ -16,13 +16,13 @@ use Rattle.decimal_lines.specs.Answers.{HasTable, IsShown, IsAnswer, is_within_l
 use Rattle.decimal_lines.proofs.Displaying.{compact-is, compact-only}
 use Rattle.fixed_decimal.proofs.Readings.{reading-reads, reading-spells, reading-nothing, nothing-reading, reads_nothing}
 
-is_within-limits : (d : Unsigned) → IsWithinLimits d → is_within_limits d ≡ true
+pub is_within-limits : (d : Unsigned) → IsWithinLimits d → is_within_limits d ≡ true
 is_within-limits d w =
     let high : nat_le (length d.digits) (d.scale + 32768) ≡ true = grind (arith, nat_tests, w.high_limit) in
     let low : nat_le d.scale 32768 ≡ true = grind (arith, nat_tests, w.low_limit) in
     rw (high, low) refl
 
-limits-is_within : (d : Unsigned) → is_within_limits d ≡ true → IsWithinLimits d
+pub limits-is_within : (d : Unsigned) → is_within_limits d ≡ true → IsWithinLimits d
 limits-is_within d e = go (nat_le (length d.digits) (d.scale + 32768)) (nat_le d.scale 32768) refl refl e
   where
     go : (a b : Bool) → nat_le (length d.digits) (d.scale + 32768) ≡ a → nat_le d.scale 32768 ≡ b → (a && b) ≡ true → IsWithinLimits d

@@ -32,10 +32,10 @@ number-rounded : (table : List TableEntry) (x : ℕ) → IsRoundedAt (rounding_p
 unfolding nearest_number
 number-rounded table x = rounded-nearest (10 ^ rounding_place_for table (magnitude x)) x (ten_pos (rounding_place_for table (magnitude x)))
 
-number-nearest : (table : List TableEntry) (x : ℕ) → IsNearestCompact table x (nearest_number table x)
+pub number-nearest : (table : List TableEntry) (x : ℕ) → IsNearestCompact table x (nearest_number table x)
 number-nearest table x = nearest_compact_from_rounded table x (nearest_number table x) (number-rounded table x)
 
-number-only : (table : List TableEntry) (x y : ℕ) → IsNearestCompact table x y → y ≡ nearest_number table x
+pub number-only : (table : List TableEntry) (x y : ℕ) → IsNearestCompact table x y → y ≡ nearest_number table x
 number-only table x y n = nearest_compact_same table x (nearest_number table x) y (number-nearest table x) n
 
 -- multiples of multiples
@@ -122,7 +122,7 @@ decimal-told u is trimmed =
     multiple_rest (k, e) = ap (λ n. n % 10 ^ (finest - 32768)) e ∙ mul-mod_left k (10 ^ (finest - 32768))
 
 -- whatever is displayed, its significand is the computed one
-displayed-told : (table : List TableEntry) (d : Unsigned) (y : ℕ) (entry : Option TableEntry) (s : Unsigned) → IsDisplayed table d y entry s → significand_shown table d y ≡ s
+pub displayed-told : (table : List TableEntry) (d : Unsigned) (y : ℕ) (entry : Option TableEntry) (s : Unsigned) → IsDisplayed table d y entry s → significand_shown table d y ≡ s
 unfolding significand_shown
 displayed-told table d y entry s h =
     let left : y / 10 ^ exponent_of (displayed_entry table y) ≡ size s =
@@ -191,7 +191,7 @@ compact_text-told format sign d s exponent events w =
     ∙ ap (text_by format sign (displayed_entry format.table w.shown)) (displayed-told format.table d w.shown w.entry s w.displayed)
     ∙ ap (λ o. text_by format sign o s) (sym w.displayed.entry_is) ∙ ap text_of (sym w.events_are)
 
-past-number : (table : List TableEntry) (x : ℕ) → ShowsPastLimits table x → ten_to (pos 32768) ≤ nearest_number table x
+pub past-number : (table : List TableEntry) (x : ℕ) → ShowsPastLimits table x → ten_to (pos 32768) ≤ nearest_number table x
 past-number table x (y, near, large) = rw (number-only table x y near) at large
 
 module _ (format : CompactFormat) (sign : Sign) (d : Unsigned) where

@@ -9,3 +9,7 @@ pub mod Parts
 pub mod Returns
 pub mod Runs
 pub mod EachLine
+pub mod Apart
+pub mod OneText
+pub mod Consumed
+pub mod Judged

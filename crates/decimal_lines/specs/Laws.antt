@@ -1,8 +1,10 @@
 -- What the computed definitions mean.
-use Rattle.std.specs.Prelude.{◌≡◌, ℕ, List, [], ◌∷◌}
+use Rattle.std.specs.Prelude.{◌≡◌, ℕ, All, List, [], ◌∷◌, ◌++◌}
+use Rattle.std.specs.List.{flat_map}
 use Rattle.decimal_lines.specs.declared.mode.Mode.{Mode}
 use Rattle.decimal_lines.specs.Answers.{HasTable, IsAnswer, answer_to}
 use Rattle.decimal_lines.specs.Lines.{IsLines, ended, lines_of, output_of, without_return}
+use Rattle.decimal_lines.specs.Written.{AreWholeLines}
 
 -- each text has an answer in a mode, and `answer_to` is it; the entries of a compact mode have to be a compact table, as
 -- those of every formatter are
@@ -39,3 +41,14 @@ pub record AnswersEachLine (mode : Mode) (input output : List ℕ) : Type 0 wher
 -- what `run` writes of an input in a mode is such an output
 abbrev pub OutputAnswersEachLine : Mode → Type 0
 OutputAnswersEachLine mode = (input : List ℕ) → AnswersEachLine mode input (output_of (answer_to mode) input)
+
+-- Where the first of two inputs is empty or ends in a line feed, the output of the one behind the other is the output of the
+-- first and then that of the second.
+abbrev pub TwoAreAnsweredApart : Type 0
+TwoAreAnsweredApart = (mode : Mode) (first second : List ℕ) → AreWholeLines first →
+    output_of (answer_to mode) (first ++ second) ≡ output_of (answer_to mode) first ++ output_of (answer_to mode) second
+
+-- So it is of any number of pieces that are each empty or end in a line feed, with whatever behind them.
+abbrev pub PiecesAreAnsweredApart : Type 0
+PiecesAreAnsweredApart = (mode : Mode) (pieces : List (List ℕ)) (last : List ℕ) → All AreWholeLines pieces →
+    output_of (answer_to mode) (flat_map (λ piece. piece) pieces ++ last) ≡ flat_map (output_of (answer_to mode)) pieces ++ output_of (answer_to mode) last

@@ -8,3 +8,6 @@ pub mod Filled
 pub mod Laws
 pub mod Words
 pub mod Making
+pub mod Alone
+pub mod Progress
+pub mod Judging

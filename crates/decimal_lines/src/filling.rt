@@ -32,7 +32,7 @@ pub struct Filled {
 }
 
 /// The first line of some bytes, without its line feed, and what follows.
-fn first_line(bytes: &[u8]) -> (&[u8], &[u8])
+pub(crate) fn first_line(bytes: &[u8]) -> (&[u8], &[u8])
     ensures { IsFirstLine bytes.now result.0.now result.1.now }
 {
     match memchr(b'\n', bytes) {
@@ -45,7 +45,7 @@ fn first_line(bytes: &[u8]) -> (&[u8], &[u8])
 }
 
 /// Copies a text to a place in the output, if there is room for it; where it ends. Nothing but the room is judged here.
-fn place(output: &mut [u8], at: usize, text: &[u8]) -> Result<usize, FillError>
+pub(crate) fn place(output: &mut [u8], at: usize, text: &[u8]) -> Result<usize, FillError>
     requires { at ≤ length output.old }
     ensures fits { IfOk result (λ end. (end ≡ at + length text.now)
         × (at + length text.now ≤ length output.old)) }

@@ -1,7 +1,7 @@
 //! What the computed definitions mean: each gives the one value that a relation allows.
 
 ghost use Rattle.decimal_lines.specs.Answers.{HasTable};
-ghost use Rattle.decimal_lines.specs.Laws.{AnswerIsAnAnswer, AnswerIsUnique, InputHasLines, LinesAreUnique, OutputAnswersEachLine};
+ghost use Rattle.decimal_lines.specs.Laws.{AnswerIsAnAnswer, AnswerIsUnique, InputHasLines, LinesAreUnique, OutputAnswersEachLine, PiecesAreAnsweredApart, TwoAreAnsweredApart};
 
 use crate::mode::Mode;
 use icu_decimal::laws::table_is_compact;
@@ -35,3 +35,12 @@ pub fn each_line_is_answered(mode: &Mode)
 {
     mode_has_table(mode);
 }
+
+/// Lines are answered apart: the output of two inputs, one behind the other, is that of the first and then that of the
+/// second, in every mode, where the first is empty or ends in a line feed. So an input may be cut behind any line feeds,
+/// and its pieces be run apart, in whatever order and on whatever machines: their outputs, put together in the order of
+/// the pieces, are the output of the whole.
+pub fn lines_are_answered_apart()
+    ensures two { TwoAreAnsweredApart }
+    ensures pieces { PiecesAreAnsweredApart }
+{}

@@ -11,17 +11,25 @@
 //! prints `1,000,007` and `error: not a decimal`.
 #![tactic(auto)]
 
+mod alone;
 mod blocks;
 mod filling;
+mod judging;
 pub mod laws;
 mod line;
 mod making;
+mod marked;
 mod mode;
 mod piece;
+mod progress;
 mod running;
 mod words;
 
+pub use alone::{TextError, format_text};
 pub use filling::{FillError, Filled, format_lines};
+pub use judging::{TablesFault, judge_tables};
+pub use marked::format_parts;
 pub use mode::{Mode, StartError};
+pub use progress::{Progress, format_some};
 pub use running::{RunError, run};
 pub use words::{Style, Words, parse_words};

@@ -27,7 +27,7 @@ fn without_return(line: &[u8]) -> &[u8]
 
 /// Appends the plain text of a decimal; without memory some bytes of it may stand there.
 #[tactic(auto, unfolding(crate::specs::Plain::plain_text))]
-fn push_plain(
+pub(crate) fn push_plain(
     formatter: &DecimalFormatter,
     decimal: &Decimal,
     out: &mut Vec<u8>,

@@ -2,7 +2,11 @@
 #![tactic(auto)]
 
 #[cfg(test)]
+mod faults;
+#[cfg(test)]
 mod lines;
+#[cfg(test)]
+mod one;
 #[cfg(test)]
 mod styles;
 #[cfg(test)]

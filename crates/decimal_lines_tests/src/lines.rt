@@ -1,10 +1,12 @@
 //! Rows of text against their output. Values live in functions that answer whether they hold; what was refused memory is
 //! asked once more.
 
+mod apart;
 mod by_tables;
 mod compact;
 mod failing;
 mod filling;
+mod progress;
 mod slow;
 
 use decimal_lines::laws::{

@@ -1,0 +1,73 @@
+-- What a mode shows of one text, which is no line: its events, or why there are none.
+use Rattle.std.specs.Prelude.{◌≡◌, ℕ, ◌<◌, ◌≤◌, ◌⊎◌, List, ◌++◌, length, nat_le, Option, Some, None, Result, Ok, Err, if◌then◌else◌, pos}
+use Rattle.icu_base.specs.Events.{Event, text_of, without_parts}
+use Rattle.fixed_decimal.specs.declared.signs.Sign.{Sign}
+use Rattle.fixed_decimal.specs.Reading.{reading}
+use Rattle.fixed_decimal.specs.Size.{size, ten_to}
+use Rattle.fixed_decimal.specs.Unsigned.{Unsigned}
+use Rattle.icu_decimal_data.specs.CompactTable.{TableEntry}
+use Rattle.icu_decimal.specs.CompactFormat.{CompactFormat, filled_events}
+use Rattle.icu_decimal.specs.Decimal.{decimal_events, signed_events}
+use Rattle.icu_decimal.specs.Displayed.{displayed_entry}
+use Rattle.decimal_lines.specs.Answers.{is_within_limits}
+use Rattle.decimal_lines.specs.Computed.{nearest_number, significand_shown}
+use Rattle.decimal_lines.specs.Filled.{IsFilled}
+use Rattle.decimal_lines.specs.declared.alone.TextError.{TextError}
+use Rattle.decimal_lines.specs.declared.alone.TextError.TheVariants.{NotDecimal, TooManyDigits, Overflow, OutOfMemory}
+use Rattle.decimal_lines.specs.declared.mode.Mode.{Mode}
+use Rattle.decimal_lines.specs.declared.mode.Mode.TheVariants.{Plain, Compact}
+
+-- a number that is read, within the limits, or why it isn't
+abbrev pub within_or : Option (Sign × Unsigned) → Result (Sign × Unsigned) TextError
+within_or None = Err NotDecimal
+within_or (Some (sign, d)) = if is_within_limits d then Ok (sign, d) else Err TooManyDigits
+
+-- the decimal that a text reads as
+unfoldable pub decimal_read : List ℕ → Result (Sign × Unsigned) TextError
+decimal_read text = within_or (reading text)
+
+-- the events of a significand in the pattern of an entry, with the affixes of the sign
+abbrev pub events_by : CompactFormat → Sign → Option TableEntry → Unsigned → List Event
+events_by format sign entry significand = signed_events format.decimal.symbols sign (without_parts (filled_events format entry significand))
+
+-- those by which d is displayed as the size y
+abbrev pub events_shown : CompactFormat → Sign → Unsigned → ℕ → List Event
+events_shown format sign d y = events_by format sign (displayed_entry format.table y) (significand_shown format.table d y)
+
+-- those of the compact number that is nearest to d, or that it is ten to the power 32768 or more
+unfoldable pub compact_events : CompactFormat → Sign → Unsigned → Result (List Event) TextError
+compact_events format sign d =
+    if nat_le (ten_to (pos 32768)) (nearest_number format.table (size d)) then Err Overflow else Ok (events_shown format sign d (nearest_number format.table (size d)))
+
+-- what a mode shows of a decimal
+abbrev pub mode_events : Mode → Sign → Unsigned → Result (List Event) TextError
+mode_events (Plain format) sign d = Ok (decimal_events format sign d)
+mode_events (Compact format) sign d = compact_events format sign d
+
+abbrev pub read_events : Mode → Result (Sign × Unsigned) TextError → Result (List Event) TextError
+read_events mode (Ok (sign, d)) = mode_events mode sign d
+read_events mode (Err error) = Err error
+
+-- what a mode shows of a text
+unfoldable pub events_of : Mode → List ℕ → Result (List Event) TextError
+events_of mode text = read_events mode (decimal_read text)
+
+-- why nothing is shown; want of memory may come whatever there is to show
+abbrev pub IsRefusal : {X : Type 0} → Result X TextError → TextError → Type 0
+IsRefusal shown error = (error ≡ OutOfMemory) ⊎ (shown ≡ Err error)
+
+-- a buffer grows by the text of what is shown
+abbrev pub AppendsShown : Result (List Event) TextError → List ℕ → List ℕ → Type 0
+AppendsShown (Ok events) old new = new ≡ old ++ text_of events
+AppendsShown (Err error) old new = ⊥
+
+-- an output holds a text of n bytes at its front where that has room, and else what it held
+pub record HoldsIfRoom (old new text : List ℕ) (n : ℕ) : Type 0 where
+  pub count : n ≡ length text
+  pub fits : n ≤ length old → IsFilled old new text n
+  pub too_long : length old < n → new ≡ old
+
+-- the text of what is shown
+abbrev pub HoldsShown : Result (List Event) TextError → List ℕ → List ℕ → ℕ → Type 0
+HoldsShown (Ok events) old new n = HoldsIfRoom old new (text_of events) n
+HoldsShown (Err error) old new n = ⊥

@@ -1,0 +1,128 @@
+//! One text, which is no line: its characters, or its characters and parts.
+
+ghost use Rattle.std.specs.Prelude.{◌≡◌, Ok, length, IfErr, IfOk, OnOk, OnErr};
+ghost use Rattle.decimal_lines.specs.Alone.{AppendsShown, HoldsIfRoom, HoldsShown, IsRefusal, compact_events, decimal_read, events_of, mode_events};
+
+use crate::line::push_plain;
+use crate::mode::Mode;
+use fixed_decimal::{Decimal, DecimalError};
+use icu_base::Writeable;
+use icu_decimal::CompactDecimalFormatter;
+use icu_decimal::error::FormatError;
+use std::alloc::Global;
+use thiserror::Error;
+
+/// Why a text has no formatted number.
+#[derive(Clone, Copy, Debug, PartialEq, Eq, Error)]
+pub enum TextError {
+    /// The text isn't a decimal.
+    #[error("not a decimal")]
+    NotDecimal,
+    /// It has a digit at a power of ten past the limits.
+    #[error("too many digits")]
+    TooManyDigits,
+    /// Its nearest compact number is ten to the power 32768 or more.
+    #[error("overflow")]
+    Overflow,
+    /// An allocation was refused.
+    #[error("out of memory")]
+    OutOfMemory,
+}
+
+/// How much room a text is given beyond its own length; one that is longer asks for more.
+const ROOM: usize = 64;
+
+/// The decimal that a text reads as.
+pub(crate) fn read(alloc: Global, text: &[u8]) -> Result<Decimal, TextError>
+    ensures ok { IfOk result (λ d. decimal_read text.now ≡ Ok (d.sign, d.absolute)) }
+    ensures refused { IfErr result (λ error. IsRefusal (decimal_read text.now) error) }
+{
+    match Decimal::try_from_utf8(alloc, text) {
+        Ok(decimal) => Ok(decimal),
+        Err(DecimalError::Syntax) => Err(TextError::NotDecimal),
+        Err(DecimalError::Limit) => Err(TextError::TooManyDigits),
+        Err(DecimalError::OutOfMemory) => Err(TextError::OutOfMemory),
+    }
+}
+
+/// Appends the compact text of a decimal; without memory some bytes of it may stand there.
+fn push_compact(
+    alloc: Global,
+    formatter: &CompactDecimalFormatter,
+    decimal: &Decimal,
+    out: &mut Vec<u8>,
+) -> Result<(), TextError>
+    ensures ok { OnOk result (AppendsShown
+        (compact_events formatter.now decimal.now.sign decimal.now.absolute)
+        out.old.items out.new.items) }
+    ensures refused { IfErr result (λ error. IsRefusal
+        (compact_events formatter.now decimal.now.sign decimal.now.absolute) error) }
+{
+    match formatter.format(alloc, decimal) {
+        Ok(formatted) => match formatted.write_events(out) {
+            Ok(()) => Ok(()),
+            Err(_) => Err(TextError::OutOfMemory),
+        },
+        Err(FormatError::Overflow) => Err(TextError::Overflow),
+        Err(FormatError::OutOfMemory | FormatError::Sink) => Err(TextError::OutOfMemory),
+    }
+}
+
+/// Appends what the mode shows of a decimal; without memory some bytes of it may stand there.
+#[tactic(auto, unfolding(crate::specs::Plain::plain_text))]
+fn push_shown(
+    alloc: Global,
+    mode: &Mode,
+    decimal: &Decimal,
+    out: &mut Vec<u8>,
+) -> Result<(), TextError>
+    ensures ok { OnOk result (AppendsShown
+        (mode_events mode.now decimal.now.sign decimal.now.absolute)
+        out.old.items out.new.items) }
+    ensures refused { IfErr result (λ error. IsRefusal
+        (mode_events mode.now decimal.now.sign decimal.now.absolute) error) }
+{
+    match mode {
+        Mode::Plain(formatter) => match push_plain(formatter, decimal, out) {
+            Ok(()) => Ok(()),
+            Err(_) => Err(TextError::OutOfMemory),
+        },
+        Mode::Compact(formatter) => push_compact(alloc, formatter, decimal, out),
+    }
+}
+
+/// Copies a text to the front of the output, where that has room for it.
+fn put_front(output: &mut [u8], text: &[u8])
+    ensures { HoldsIfRoom output.old output.new text.now (length text.now) }
+{
+    if text.len() <= output.len() {
+        output[..text.len()].copy_from_slice(text);
+    }
+}
+
+/// Writes what the mode shows of a text to the front of the output, if there is room for it; how many bytes it has, whether
+/// or not it was written (this project's own).
+///
+/// The text is a decimal and nothing else: a line feed or a carriage return in it is refused.
+#[tactic(auto, unfolding(crate::specs::Alone::events_of))]
+pub fn format_text(
+    alloc: Global,
+    mode: &Mode,
+    text: &[u8],
+    output: &mut [u8],
+) -> Result<usize, TextError>
+    // Where the text has room, the output holds it, and else what it held.
+    ensures ok { IfOk result (λ n. HoldsShown (events_of mode.now text.now) output.old output.new n) }
+
+    // The text is refused, or memory is.
+    ensures refused { IfErr result (λ error. IsRefusal (events_of mode.now text.now) error) }
+    ensures unchanged { OnErr result (output.new ≡ output.old) }
+{
+    let decimal = read(alloc, text)?;
+    let Ok(mut shown) = Vec::with_capacity(alloc, text.len().saturating_add(ROOM)) else {
+        return Err(TextError::OutOfMemory);
+    };
+    push_shown(alloc, mode, &decimal, &mut shown)?;
+    put_front(output, &shown);
+    Ok(shown.len())
+}

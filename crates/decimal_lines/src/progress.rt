@@ -1,0 +1,94 @@
+//! An input that is answered piece by piece, each in an output of limited size.
+
+ghost use Rattle.std.specs.Prelude.{◌≡◌, ◌<◌, ◌⊎◌, Err, length, OnErr, OnOk};
+ghost use Rattle.decimal_lines.specs.Answers.{answer_to};
+ghost use Rattle.decimal_lines.specs.Lines.{line_output};
+ghost use Rattle.decimal_lines.specs.Progress.{AnswersFirst, NextNeeds};
+
+use crate::filling::{FillError, first_line, place};
+use crate::line::push_line;
+use crate::mode::Mode;
+use std::alloc::{AllocError, Global};
+
+/// How far an input is answered (this project's own).
+#[derive(Clone, Copy, Debug, PartialEq, Eq)]
+pub struct Progress {
+    /// How many bytes of the input are answered, from its front; they end at a line's end.
+    pub consumed: usize,
+    /// How many bytes of the output are written, from its front: the answers to these.
+    pub written: usize,
+    /// How long the answer is that found no room, with its line feed; else 0.
+    pub needed: usize,
+    /// Whether the whole input is answered, or why not.
+    pub outcome: Result<(), FillError>,
+}
+
+/// Makes a buffer hold the answer to a line.
+fn answer_line(
+    alloc: Global,
+    mode: &Mode,
+    line: &[u8],
+    text: &mut Vec<u8>,
+) -> Result<(), AllocError>
+    ensures { OnOk result (text.new.items ≡ line_output (answer_to mode.now) line.now) }
+{
+    text.clear();
+    push_line(alloc, mode, line, text)
+}
+
+/// How far an input is answered that isn't answered whole.
+fn stopped(consumed: usize, written: usize, needed: usize, error: FillError) -> Progress
+    ensures { result ≡ record { consumed = consumed; written = written; needed = needed; outcome = Err error } }
+{
+    Progress {
+        consumed,
+        written,
+        needed,
+        outcome: Err(error),
+    }
+}
+
+/// Formats as many lines of the input into the output as have room; how far that is, and how much room the next line needs
+/// (this project's own).
+///
+/// A caller goes on behind the bytes that are consumed, with any output that holds one line. What lines and answers are is
+/// said at [`run`](crate::run). Want of memory comes before the room for a line is judged.
+pub fn format_some(alloc: Global, mode: &Mode, input: &[u8], output: &mut [u8]) -> Progress
+    // Whatever the outcome, what was written is the output of what is consumed.
+    ensures holds { AnswersFirst (answer_to mode.now) input.now output.old output.new
+        result.consumed result.written }
+
+    // All of the input is consumed, or a line is left.
+    ensures ok { OnOk result.outcome (result.consumed ≡ length input.now) }
+    ensures err { OnErr result.outcome (result.consumed < length input.now) }
+
+    // The next line's answer is so long and finds no room.
+    ensures too_small { result.outcome ≡ Err FillError.TooSmall
+        → NextNeeds (answer_to mode.now) input.now output.old result.consumed result.written
+        result.needed }
+
+    // Otherwise none is needed.
+    ensures unneeded { (result.outcome ≡ Err FillError.TooSmall) ⊎ (result.needed ≡ 0) }
+{
+    let mut text = Vec::new(alloc);
+    let mut written = 0;
+    let mut left = input;
+    while !left.is_empty() {
+        let (line, rest) = first_line(left);
+        let consumed = input.len() - left.len();
+        let Ok(()) = answer_line(alloc, mode, line, &mut text) else {
+            return stopped(consumed, written, 0, FillError::OutOfMemory);
+        };
+        match place(output, written, &text) {
+            Ok(end) => written = end,
+            Err(error) => return stopped(consumed, written, text.len(), error),
+        }
+        left = rest;
+    }
+    Progress {
+        consumed: input.len(),
+        written,
+        needed: 0,
+        outcome: Ok(()),
+    }
+}

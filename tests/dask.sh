@@ -1,0 +1,111 @@
+#!/bin/bash
+# Formats a column of partitioned CSV files on a cluster of Dask: a scheduler and three workers on the loopback, one of which
+# is killed while it works. The output has to be whole, and equal to that of one process. It installs nothing: where Dask
+# (Debian's python3-dask and python3-distributed) or the library for C isn't there, it says so. It isn't part of the gate.
+# usage: tests/dask.sh [LIBRARY], by default lib/libtalmuiga.so as tests/c_library.sh --build lib makes it
+set -u
+cd "$(dirname "$0")/.." || exit 1
+library=$(realpath -m "${1:-lib/libtalmuiga.so}")
+python=${PYTHON:-/usr/bin/python3}
+# skip WHY
+skip() { printf 'skipped: dask: %s\n0 passed, 0 failed\n' "$1"; exit 0; }
+"$python" -c 'import dask, distributed' 2>/dev/null || skip "no Dask for $python"
+[ -e "$library" ] || skip "no $library"
+export TALMUIGA_LIBRARY=$library PYTHONPATH=$PWD/examples/python:$PWD/examples/dask
+folder=$(mktemp -d)
+began=()
+finish() {
+    kill -9 "${began[@]}" 2>/dev/null
+    wait 2>/dev/null
+    rm -rf "$folder"
+}
+trap finish EXIT
+
+passed=0
+failed=0
+# judge WHAT COMMAND..
+judge() {
+    local what=$1
+    shift
+    if "$@"; then
+        passed=$((passed + 1))
+    else
+        failed=$((failed + 1))
+        echo "dask: $what"
+    fi
+}
+
+# Sixty files of 20,000 rows, of which a hundredth has no number.
+"$python" - "$folder" <<'PYTHON'
+import csv
+import os
+import random
+import sys
+
+folder = sys.argv[1]
+chance = random.Random(52)
+os.mkdir(f"{folder}/in")
+for part in range(60):
+    with open(f"{folder}/in/part-{part:03}.csv", "w", newline="") as file:
+        writer = csv.writer(file, lineterminator="\n")
+        writer.writerow(["name", "price", "note"])
+        for row in range(20000):
+            price = "n/a" if row % 100 == 7 else f"{chance.randrange(-10**9, 10**9) / 100:.2f}"
+            writer.writerow([f"row {row}", price, 'with a "quote", and a comma'])
+PYTHON
+
+words=(tables/six_locales.json de plain price)
+# by one process
+from=${EPOCHREALTIME/./}
+"$python" - "$folder" "${words[@]}" <<'PYTHON'
+import glob
+import os
+import sys
+
+from format_column import format_file
+
+folder, tables, locale, style, column = sys.argv[1:]
+os.mkdir(f"{folder}/one")
+for name in sorted(glob.glob(f"{folder}/in/*.csv")):
+    format_file(name, f"{folder}/one/{os.path.basename(name)}", tables, locale, style, column)
+PYTHON
+
+one=$(((${EPOCHREALTIME/./} - from) / 1000))
+
+"$python" -m distributed.cli.dask_scheduler --host 127.0.0.1 --port 0 --dashboard-address 127.0.0.1:0 \
+    --scheduler-file "$folder/scheduler.json" >"$folder/scheduler.log" 2>&1 &
+began+=($!)
+for _ in $(seq 100); do
+    [ -s "$folder/scheduler.json" ] && break
+    sleep 0.2
+done
+for number in 1 2 3; do
+    "$python" -m distributed.cli.dask_worker --scheduler-file "$folder/scheduler.json" --nworkers 1 --nthreads 1 --no-nanny \
+        --no-dashboard --local-directory "$folder" >"$folder/worker$number.log" 2>&1 &
+    began+=($!)
+done
+address=$("$python" -c 'import json, sys; print(json.load(open(sys.argv[1]))["address"])' "$folder/scheduler.json")
+from=${EPOCHREALTIME/./}
+"$python" examples/dask/format_column.py "$address" "${words[@]}" "$folder/many" "$folder"/in/*.csv >"$folder/said" 2>&1 &
+run=$!
+# one worker dies as soon as a few files are done
+for _ in $(seq 600); do
+    [ "$(find "$folder/many" -name 'part-*.csv' 2>/dev/null | wc -l)" -ge 3 ] && break
+    sleep 0.05
+done
+done_before=$(find "$folder/many" -name 'part-*.csv' 2>/dev/null | wc -l)
+kill -9 "${began[1]}"
+disown "${began[1]}"
+wait "$run"
+status=$?
+echo "one process: $one ms; three workers, of which one was killed after $done_before files: $(((${EPOCHREALTIME/./} - from) / 1000)) ms"
+judge "the run failed: $(tail -n 3 "$folder/said")" [ "$status" = 0 ]
+judge "the worker was killed after $done_before files, so not while it worked" [ "$done_before" -lt 60 ]
+judge "it said $(tail -n 1 "$folder/said")" [ "$(tail -n 1 "$folder/said")" = '60 files, 1200000 rows' ]
+# what the killed worker left of a file
+rm -f "$folder"/many/.[!.]*
+judge 'the output is another than that of one process' diff -rq "$folder/one" "$folder/many"
+judge 'no number was formatted' grep -Eq '^row [0-9]+,"-?[0-9.]+\.[0-9]{3},[0-9]{2}",' "$folder/many/part-000.csv"
+judge 'what is no number did not stay' [ "$(grep -c ',n/a,' "$folder/many/part-059.csv")" = 200 ]
+echo "$passed passed, $failed failed"
+[ "$failed" -eq 0 ]
