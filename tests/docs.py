@@ -16,6 +16,7 @@ usage: tests/docs.py [--write]
   crates/decfmt/README.md, and no other error line; its version is that of VERSION.
 - The text in crates/sample_tables is that of tables/sample.json, byte for byte; the languages of icu_decimal_tests, whose
   tables are maps in code, have the patterns and plural rules of that file.
+- crates.txt has each crate under a heading, and the page of each crate says in a line `Tests: ..` where its tests stand.
 - Each command that README.md and the page of tour show behind `$` gives the output below it, also on a terminal at which
   nobody types; those of README that build the program and run it have their input from a pipe or a file. README's first
   command, which builds the program unproved, writes what stands below it, and its commands by a release of CLDR, where
@@ -24,7 +25,7 @@ usage: tests/docs.py [--write]
 
 The last line is 'N passed, M failed', one for each page's links, each page that is made, each block and example, each place
 of the version, each picture, the packages, the toolchain, each status, word and example of the manual page, the text of the
-tables, each language, each command, twice, the first command, those by a release, and each row. Without `man` a line
+tables, the headings, each crate's page, each language, each command, twice, the first command, those by a release, and each row. Without `man` a line
 'skipped: docs: WHY' stands for the manual page.
 """
 import fcntl
@@ -373,6 +374,26 @@ def judge_sample():
     judge(text == read_exactly("tables/sample.json"), "crates/sample_tables: isn't the text of tables/sample.json")
 
 
+def judge_signs():
+    """crates.txt stands under headings, and the page of each crate that isn't tests says in a line where its tests stand."""
+    heading, crates = None, {}
+    for line in read("crates.txt").splitlines():
+        if line.startswith("# "):
+            heading = line[2:]
+        elif line:
+            crates[line.split(":")[0].split()[0]] = heading
+    judge(None not in crates.values(), "crates.txt: a crate stands before the first heading")
+    tests = [name for name in crates if name.endswith("_tests")]
+    judge(all(crates[name] == "Tests." for name in tests), "crates.txt: a crate of tests stands under another heading")
+    for name in crates:
+        page = f"crates/{name}/README.md"
+        if not os.path.exists(page):
+            judge(False, f"{page}: isn't there")
+        elif name not in tests:
+            told = re.findall(r"^Tests: .*\.$", read(page), flags=re.M)
+            judge(len(told) == 1, f"{page}: no line 'Tests: ..'")
+
+
 def elements_of(exactly_one, one, other):
     """The elements of a row of icu_decimal_tests, as tables have them."""
     elements = {"explicit_one": exactly_one, "one": one and "{0}" + one, "other": "{0}" + other}
@@ -494,6 +515,7 @@ def main():
     judge_needs(page)
     judge_manual()
     judge_sample()
+    judge_signs()
     judge_languages()
     judge_commands()
     judge_first_command(page)

@@ -64,7 +64,7 @@ const KEPT: [(&[Row], Option<&str>, &[u8]); 14] = [
 
 #[test]
 fn keeps_the_types_that_change(rt: HostRuntime) {
-    for (rows, zero_magnitude, types) in KEPT {
+    for &(rows, zero_magnitude, types) in &KEPT {
         assert!(rt; keeps(rt.alloc(), rows, zero_magnitude, types));
     }
 }
@@ -146,7 +146,7 @@ fn is_refused(
 
 #[test]
 fn refuses_other_maps(rt: HostRuntime) {
-    for (rows, zero_magnitude, error) in REFUSED {
+    for &(rows, zero_magnitude, error) in &REFUSED {
         assert!(rt;
             is_refused(rt.alloc(), rows, zero_magnitude, error),
             "{error}"
@@ -218,7 +218,7 @@ const COMPARED: [(Row, bool); 6] = [
 
 #[test]
 fn compares_types_exponents_and_patterns(rt: HostRuntime) {
-    for (row, want) in COMPARED {
+    for &(row, want) in &COMPARED {
         assert!(rt; are_equal(rt.alloc(), (4, 3, Some("x"), "K"), row) == Some(want));
     }
 }
@@ -268,7 +268,7 @@ const TOLD: [(CompactError, &str); 2] = [
 
 #[test]
 fn tells_its_errors(rt: HostRuntime) {
-    for (error, want) in TOLD {
+    for &(error, want) in &TOLD {
         assert!(rt; is_told(rt.alloc(), error, want), "{want}");
     }
 }

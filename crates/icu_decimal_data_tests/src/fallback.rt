@@ -111,14 +111,14 @@ const DECIDED: [(&[Answer], Answer, u16); 14] = [
 
 #[test]
 fn the_first_answer_that_is_found_or_fails_otherwise_counts(rt: HostRuntime) {
-    for (answers, want, _) in DECIDED {
+    for &(answers, want, _) in &DECIDED {
         assert!(rt; decided(rt.alloc(), answers).0 == want, "{answers:?}");
     }
 }
 
 #[test]
 fn all_but_the_last_are_asked_silently_and_none_after_the_one_that_counts(rt: HostRuntime) {
-    for (answers, _, want) in DECIDED {
+    for &(answers, _, want) in &DECIDED {
         assert!(rt; decided(rt.alloc(), answers).1 == want, "{answers:?}");
     }
 }

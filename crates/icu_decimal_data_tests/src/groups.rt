@@ -84,7 +84,7 @@ fn are_separators(
 
 #[test]
 fn checks_each_magnitude(rt: HostRuntime) {
-    for (upper, sizes, strategy, separators) in SEPARATED {
+    for &(upper, sizes, strategy, separators) in &SEPARATED {
         assert!(rt;
             are_separators(upper, sizes, strategy, separators),
             "{upper} {strategy:?} {separators:?}"
@@ -97,7 +97,7 @@ const BEYOND: [(i16, i16, bool); 4] = [(3, 6, true), (2, 3, false), (6, -3, fals
 
 #[test]
 fn checks_magnitudes_beyond_the_number(rt: HostRuntime) {
-    for (upper, magnitude, want) in BEYOND {
+    for &(upper, magnitude, want) in &BEYOND {
         assert!(rt;
             check(upper, magnitude, GroupingStrategy::Auto, ENGLISH) == want,
             "{upper} {magnitude}"
@@ -122,7 +122,7 @@ const LONGEST: [(GroupingSizes, GroupingStrategy, usize); 11] = [
 
 #[test]
 fn tells_how_many_digits_stay_together(rt: HostRuntime) {
-    for (sizes, strategy, want) in LONGEST {
+    for &(sizes, strategy, want) in &LONGEST {
         assert!(rt;
             longest_ungrouped(strategy, sizes) == want,
             "{want} {strategy:?}"
@@ -141,7 +141,7 @@ const BEFORE_THE_LAST: [(GroupingSizes, usize); 5] = [
 
 #[test]
 fn takes_the_primary_size_where_no_other_is(rt: HostRuntime) {
-    for (sizes, want) in BEFORE_THE_LAST {
+    for &(sizes, want) in &BEFORE_THE_LAST {
         assert!(rt; secondary_size(sizes) == want, "{want}");
     }
 }

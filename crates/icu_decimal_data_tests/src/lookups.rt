@@ -36,7 +36,7 @@ const FOUND: [(i32, Option<usize>, u8); 11] = [
 
 #[test]
 fn finds_the_entry_of_a_magnitude(rt: HostRuntime) {
-    for (magnitude, index, exponent) in FOUND {
+    for &(magnitude, index, exponent) in &FOUND {
         assert!(rt;
             finds(rt.alloc(), magnitude, index, exponent),
             "at magnitude {magnitude}"
@@ -79,7 +79,7 @@ const SLOTS: [((usize, u8), Option<(Option<usize>, &str)>); 5] = [
 
 #[test]
 fn answers_the_pattern_in_each_slot(rt: HostRuntime) {
-    for (at, want) in SLOTS {
+    for &(at, want) in &SLOTS {
         assert!(rt; has_slot(rt.alloc(), at, want));
     }
 }
@@ -146,7 +146,7 @@ const PICKED: [(usize, &str, &str); 9] = [
 
 #[test]
 fn picks_by_the_number(rt: HostRuntime) {
-    for row in PICKED {
+    for &row in &PICKED {
         assert!(rt;
             picks_in_french(rt.alloc(), row),
             "{} at entry {}",
@@ -208,7 +208,7 @@ const PICKED_AT_MAGNITUDES: [(i16, &str, &str); 8] = [
 
 #[test]
 fn picks_by_the_number_in_a_view(rt: HostRuntime) {
-    for row in PICKED_AT_MAGNITUDES {
+    for &row in &PICKED_AT_MAGNITUDES {
         assert!(rt;
             picks_in_french_bytes(rt.alloc(), row),
             "{} at magnitude {}",

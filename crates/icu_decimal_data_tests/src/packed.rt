@@ -102,21 +102,65 @@ fn each_slot_has_its_own_literal(rt: HostRuntime) {
     assert!(rt; len_of_rows(rt.alloc(), &[(3, 3, Some(""), "")]) == Some(62));
 }
 
-/// The pattern of a slot, made again; none where the slot is absent.
-fn slot_of(
+/// The pattern of a slot, made again; `BadPlace` where the slot is absent.
+fn pattern_of(
     alloc: Global,
     entry: EntryView<'_, SinglePlaceholder>,
     slot: u8,
-) -> Result<Option<Pattern<SinglePlaceholder>>, PatternError>
+) -> Result<Pattern<SinglePlaceholder>, PatternError>
     requires { slot < 8 }
 {
     match entry.slot(slot) {
-        Some(shown) => match pattern(alloc, shown.place(), shown.literal()) {
-            Ok(pattern) => Ok(Some(pattern)),
-            Err(error) => Err(error),
-        },
-        None => Ok(None),
+        Some(shown) => pattern(alloc, shown.place(), shown.literal()),
+        None => Err(PatternError::BadPlace),
     }
+}
+
+/// Patterns with one in a slot but the last.
+fn with_pattern(
+    elements: Elements<SinglePlaceholder>,
+    slot: u8,
+    pattern: Pattern<SinglePlaceholder>,
+) -> Elements<SinglePlaceholder> {
+    match slot {
+        0 => elements.with_explicit_zero_value(Some(pattern)),
+        1 => elements.with_explicit_one_value(Some(pattern)),
+        2 => elements.with_zero_value(Some(pattern)),
+        3 => elements.with_one_value(Some(pattern)),
+        4 => elements.with_two_value(Some(pattern)),
+        5 => elements.with_few_value(Some(pattern)),
+        _ => elements.with_many_value(Some(pattern)),
+    }
+}
+
+/// Patterns with that of an entry's slot, made again, if it has one there.
+fn with_slot(
+    alloc: Global,
+    elements: Elements<SinglePlaceholder>,
+    entry: EntryView<'_, SinglePlaceholder>,
+    slot: u8,
+) -> Result<Elements<SinglePlaceholder>, PatternError>
+    requires { slot < 8 }
+{
+    if entry.slot(slot).is_none() {
+        return Ok(elements);
+    }
+    match pattern_of(alloc, entry, slot) {
+        Ok(pattern) => Ok(with_pattern(elements, slot, pattern)),
+        Err(error) => Err(error),
+    }
+}
+
+/// Patterns with those of an entry's slots but the last.
+fn with_slots(
+    alloc: Global,
+    mut elements: Elements<SinglePlaceholder>,
+    entry: EntryView<'_, SinglePlaceholder>,
+) -> Result<Elements<SinglePlaceholder>, PatternError> {
+    for slot in 0..7 {
+        elements = with_slot(alloc, elements, entry, slot)?;
+    }
+    Ok(elements)
 }
 
 /// The patterns of an entry, made again.
@@ -124,19 +168,10 @@ fn elements_of(
     alloc: Global,
     entry: EntryView<'_, SinglePlaceholder>,
 ) -> Result<Elements<SinglePlaceholder>, PatternError> {
-    let Some(other) = slot_of(alloc, entry, 7)? else {
-        return Err(PatternError::BadPlace);
-    };
-    Ok(
-        PluralElements::new(other)
-            .with_explicit_zero_value(slot_of(alloc, entry, 0)?)
-            .with_explicit_one_value(slot_of(alloc, entry, 1)?)
-            .with_zero_value(slot_of(alloc, entry, 2)?)
-            .with_one_value(slot_of(alloc, entry, 3)?)
-            .with_two_value(slot_of(alloc, entry, 4)?)
-            .with_few_value(slot_of(alloc, entry, 5)?)
-            .with_many_value(slot_of(alloc, entry, 6)?),
-    )
+    match pattern_of(alloc, entry, 7) {
+        Ok(other) => with_slots(alloc, PluralElements::new(other), entry),
+        Err(error) => Err(error),
+    }
 }
 
 /// The map with an entry; none where memory was wanting.

@@ -36,7 +36,7 @@ fn is_asked_first(system: Option<&str>, want: Option<(Option<&str>, &str)>) -> b
 
 #[test]
 fn asks_first_by_the_preferred_system(rt: HostRuntime) {
-    for (system, want) in PREFERRED {
+    for &(system, want) in &PREFERRED {
         assert!(rt; is_asked_first(system, want), "{system:?}");
     }
 }

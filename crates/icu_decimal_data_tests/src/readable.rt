@@ -22,7 +22,7 @@ const DIGITS: [([char; 10], bool); 2] = [(LATIN, true), (REPEATED, false)];
 
 #[test]
 fn symbols_tell_their_numbers(rt: HostRuntime) {
-    for (digits, want) in DIGITS {
+    for &(digits, want) in &DIGITS {
         assert!(rt; are_told(rt.alloc(), digits) == Some(want), "{want}");
     }
 }
@@ -45,7 +45,7 @@ const HIDDEN: [Row; 3] = [
 #[test]
 fn compact_tables_tell_their_numbers(rt: HostRuntime) {
     assert!(rt; are_compact_told(rt.alloc(), &LONG_ENGLISH) == Some(true));
-    for row in HIDDEN {
+    for &row in &HIDDEN {
         assert!(rt;
             are_compact_told(rt.alloc(), &[row]) == Some(false),
             "{}",

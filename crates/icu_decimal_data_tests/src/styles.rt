@@ -44,7 +44,7 @@ const TABLES: [(CompactError, &str); 5] = [
 
 #[test]
 fn displays_errors_of_tables_under_every_style(rt: HostRuntime) {
-    for (error, want) in TABLES {
+    for &(error, want) in &TABLES {
         assert!(rt; is_styled(rt.alloc(), &error, want), "{want}");
     }
 }
@@ -63,7 +63,7 @@ const SYMBOLS: [(SymbolsError, &str); 3] = [
 
 #[test]
 fn displays_errors_of_symbols_under_every_style(rt: HostRuntime) {
-    for (error, want) in SYMBOLS {
+    for &(error, want) in &SYMBOLS {
         assert!(rt; is_styled(rt.alloc(), &error, want), "{want}");
     }
 }

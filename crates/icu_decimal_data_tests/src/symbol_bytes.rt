@@ -58,7 +58,7 @@ const PACKED: [(Texts, &[u8]); 5] = [
 
 #[test]
 fn lengths_then_texts(rt: HostRuntime) {
-    for (texts, bytes) in PACKED {
+    for &(texts, bytes) in &PACKED {
         assert!(rt; is_packed(rt.alloc(), texts, bytes), "{}", texts[6]);
         assert!(rt; is_read(texts, bytes), "{}", texts[6]);
     }
@@ -83,7 +83,7 @@ const DAMAGED: [(&[u8], usize); 9] = [
 
 #[test]
 fn each_test_tells_its_byte(rt: HostRuntime) {
-    for (bytes, byte) in DAMAGED {
+    for &(bytes, byte) in &DAMAGED {
         assert!(rt; damage(bytes) == Some(byte), "{byte}");
     }
 }
@@ -110,7 +110,7 @@ const DAMAGED_TWICE: [(&[u8], usize); 8] = [
 
 #[test]
 fn the_first_test_that_fails_counts(rt: HostRuntime) {
-    for (bytes, byte) in DAMAGED_TWICE {
+    for &(bytes, byte) in &DAMAGED_TWICE {
         assert!(rt; damage(bytes) == Some(byte), "{byte}");
     }
 }
@@ -228,7 +228,7 @@ const BUILT: [(u64, Texts); 5] = [
 /// Which of these builds is refused; none is 0.
 fn refused_build(alloc: Global) -> u64 {
     let mut refused = 0;
-    for (count, texts) in BUILT {
+    for &(count, texts) in &BUILT {
         if builder(texts).build(alloc).is_err() {
             refused = count;
         }

@@ -143,7 +143,7 @@ const HELD: [Texts; 3] = [
 
 #[test]
 fn holds_and_gives_back_the_seven_texts(rt: HostRuntime) {
-    for texts in HELD {
+    for &texts in &HELD {
         assert!(rt; holds_and_gives_back(rt.alloc(), texts), "{}", texts[6]);
     }
 }
@@ -175,7 +175,7 @@ const REFUSED: [(usize, &str, Option<SymbolsError>); 10] = [
 
 #[test]
 fn refuses_more_than_255_bytes_and_then_bad_systems(rt: HostRuntime) {
-    for (len, numsys, want) in REFUSED {
+    for &(len, numsys, want) in &REFUSED {
         assert!(rt;
             refusal(rt.alloc(), len, numsys) == want,
             "{len} bytes and {numsys}"
@@ -199,7 +199,7 @@ const TOO_LARGE: [Texts; 7] = [
 
 #[test]
 fn each_text_counts_to_the_255_bytes(rt: HostRuntime) {
-    for texts in TOO_LARGE {
+    for &texts in &TOO_LARGE {
         assert!(rt; is_too_large(rt.alloc(), texts));
     }
 }
@@ -276,7 +276,7 @@ const COMPARED: [(Texts, GroupingSizes, bool); 5] = [
 
 #[test]
 fn equal_where_texts_and_sizes_are(rt: HostRuntime) {
-    for (texts, sizes, want) in COMPARED {
+    for &(texts, sizes, want) in &COMPARED {
         assert!(rt; is_arabic_copied(rt.alloc(), texts, sizes) == Some(want));
     }
 }
@@ -302,7 +302,7 @@ const OTHERS: [Texts; 7] = [
 #[test]
 fn other_texts_are_other_symbols(rt: HostRuntime) {
     assert!(rt; are_arabic(rt.alloc(), ARABIC) == Some(true));
-    for texts in OTHERS {
+    for &texts in &OTHERS {
         assert!(rt; are_arabic(rt.alloc(), texts) == Some(false));
     }
 }

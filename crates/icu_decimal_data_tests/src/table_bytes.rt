@@ -58,7 +58,7 @@ const CHANGED: [(usize, u8, usize); 8] = [
 
 #[test]
 fn each_fault_tells_its_byte(rt: HostRuntime) {
-    for (index, value, byte) in CHANGED {
+    for &(index, value, byte) in &CHANGED {
         let mut bytes = JAPANESE;
         if index < bytes.len() {
             bytes[index] = value;
@@ -81,7 +81,7 @@ const CHANGED_ENTRY: [(usize, u8, usize); 5] = [
 
 #[test]
 fn each_fault_of_one_entry_tells_its_byte(rt: HostRuntime) {
-    for (index, value, byte) in CHANGED_ENTRY {
+    for &(index, value, byte) in &CHANGED_ENTRY {
         let mut bytes = ONE_ENTRY;
         if index < bytes.len() {
             bytes[index] = value;
@@ -194,7 +194,7 @@ fn has_entry(magnitude: i16, expected: Option<(u8, u8)>) -> bool {
 
 #[test]
 fn a_magnitude_has_the_last_entry_not_above_it(rt: HostRuntime) {
-    for (magnitude, expected) in LOOKED_UP {
+    for &(magnitude, expected) in &LOOKED_UP {
         assert!(rt; has_entry(magnitude, expected), "{magnitude}");
     }
 }

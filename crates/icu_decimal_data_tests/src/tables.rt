@@ -148,6 +148,15 @@ pub(crate) fn copy_of(alloc: Global, table: &Table) -> Result<Table, CompactErro
     }
 }
 
+/// The map of the type 3 with these patterns; none where memory was wanting.
+fn map_of_elements<P: PatternBackend>(alloc: Global, elements: Elements<P>) -> Option<Map<P>> {
+    let mut map = BTreeMap::new(alloc);
+    match map.insert(3, (3, elements)) {
+        Ok(_) => Some(map),
+        Err(_) => None,
+    }
+}
+
 /// The map of one type, 3, with this exponent.
 fn map_of_one<P: PatternBackend>(
     alloc: Global,
@@ -155,13 +164,7 @@ fn map_of_one<P: PatternBackend>(
     literal: &str,
 ) -> Option<Map<P>> {
     match pattern(alloc, place, literal) {
-        Ok(pattern) => {
-            let mut map = BTreeMap::new(alloc);
-            match map.insert(3, (3, PluralElements::new(pattern))) {
-                Ok(_) => Some(map),
-                Err(_) => None,
-            }
-        }
+        Ok(pattern) => map_of_elements(alloc, PluralElements::new(pattern)),
         Err(_) => None,
     }
 }

@@ -178,7 +178,7 @@ xxxxxxxxxxxxxxxxxxxxxxxxxxxxxxxxxxxxxxxxxxxxxxxxxxxxxxxxxxxxxxxx\",\"numsys\":\"
 
 #[test]
 fn documents_are_refused_by_name(rt: HostRuntime) {
-    for (text, wanted) in REFUSED {
+    for &(text, wanted) in &REFUSED {
         assert!(rt; refusal(rt.alloc(), text) == Some(wanted), "{text}");
     }
 }
@@ -205,7 +205,7 @@ fn is_named(alloc: Global, key: Key, want: &str) -> bool {
 
 #[test]
 fn keys_are_named_as_documents_spell_them(rt: HostRuntime) {
-    for (key, want) in KEYS {
+    for &(key, want) in &KEYS {
         assert!(rt; is_named(rt.alloc(), key, want), "{want}");
     }
 }
@@ -353,7 +353,7 @@ const ANSWERED: [(Asked, (&str, &str), Result<char, DataError>); 15] = [
 
 #[test]
 fn the_first_matching_entry_answers(rt: HostRuntime) {
-    for (asked, id, wanted) in ANSWERED {
+    for &(asked, id, wanted) in &ANSWERED {
         assert!(rt; answer(rt.alloc(), TABLES, asked, id) == wanted, "{id:?}");
     }
 }
@@ -412,7 +412,7 @@ const TABLE_VALUES: [(&str, Result<usize, TableError>); 6] = [
 
 #[test]
 fn values_make_tables(rt: HostRuntime) {
-    for (text, wanted) in TABLE_VALUES {
+    for &(text, wanted) in &TABLE_VALUES {
         assert!(rt; entries(rt.alloc(), text) == wanted, "{text}");
     }
 }

@@ -73,7 +73,7 @@ const FULL: [(Asked, Around, usize, char); 3] = [
 
 #[test]
 fn as_many_bytes_as_there_may_be_are_kept(rt: HostRuntime) {
-    for (asked, given, letters, want) in FULL {
+    for &(asked, given, letters, want) in &FULL {
         assert!(rt;
             answers_letters(rt.alloc(), asked, given, letters, want),
             "{asked:?}"
@@ -101,7 +101,7 @@ const TOO_LARGE: [(Around, usize, Key, EntryFault); 3] = [
 
 #[test]
 fn one_byte_more_is_refused_by_name(rt: HostRuntime) {
-    for (given, letters, key, fault) in TOO_LARGE {
+    for &(given, letters, key, fault) in &TOO_LARGE {
         let want = TableError::Entry {
             key,
             index: 0,
@@ -211,7 +211,7 @@ const LAST: [(Asked, (&str, &str), char); 5] = [
 
 #[test]
 fn the_last_of_fifty_locales_answers(rt: HostRuntime) {
-    for (asked, id, want) in LAST {
+    for &(asked, id, want) in &LAST {
         assert!(rt; answers_of_fifty(rt.alloc(), asked, id, want), "{asked:?}");
     }
 }

@@ -33,7 +33,7 @@ const KEYS: [(Key, &str); 3] = [
 
 #[test]
 fn displays_keys_under_every_style(rt: HostRuntime) {
-    for (error, want) in KEYS {
+    for &(error, want) in &KEYS {
         assert!(rt; is_styled(rt.alloc(), &error, want), "{want}");
     }
 }
@@ -71,7 +71,7 @@ const FAULTS: [(EntryFault, &str); 10] = [
 
 #[test]
 fn displays_faults_under_every_style(rt: HostRuntime) {
-    for (error, want) in FAULTS {
+    for &(error, want) in &FAULTS {
         assert!(rt; is_styled(rt.alloc(), &error, want), "{want}");
     }
 }
@@ -89,7 +89,7 @@ const ERRORS: [(TableError, &str); 5] = [
 
 #[test]
 fn displays_errors_under_every_style(rt: HostRuntime) {
-    for (error, want) in ERRORS {
+    for &(error, want) in &ERRORS {
         assert!(rt; is_styled(rt.alloc(), &error, want), "{want}");
     }
 }

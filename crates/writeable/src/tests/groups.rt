@@ -49,7 +49,7 @@ const ROWS: [(usize, (usize, usize), &str, &str); 29] = [
 
 #[test]
 fn groups_by_sizes_and_separators(rt: HostRuntime) {
-    for (count, (primary, secondary), separator, marked) in ROWS {
+    for &(count, (primary, secondary), separator, marked) in &ROWS {
         let grouping = Grouping {
             primary,
             secondary,

@@ -129,7 +129,7 @@ fn is_grouped(alloc: Global, text: &str) -> bool {
 
 #[test]
 fn writes_a_value_in_each_way(rt: HostRuntime) {
-    for text in TEXTS {
+    for &text in &TEXTS {
         assert!(rt; is_grouped(rt.alloc(), text), "{text}");
     }
 }
@@ -142,7 +142,7 @@ fn is_itself(alloc: Global, text: &str) -> bool {
 
 #[test]
 fn writes_a_text_in_each_way(rt: HostRuntime) {
-    for text in TEXTS {
+    for &text in &TEXTS {
         assert!(rt; is_itself(rt.alloc(), text), "{text}");
     }
 }
