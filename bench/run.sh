@@ -132,3 +132,7 @@ echo
 # Units over short English.
 echo
 ./units.sh
+
+# Money over plain English.
+echo
+./money.sh "$runs"

@@ -4,7 +4,7 @@
 usage: tests/docs.py [--write]
 
 - Each relative link of README.md, CONTRIBUTING.md, CHANGELOG.md, docs/, tables/ and the crates' pages has its target, a
-  heading too; the name of a call, a definition or an edit that is a link stands in the file that the link leads to.
+  heading too; each reference is one of the page, and each of these is used; the name of a call, a definition or an edit that is a link stands in the file that the link leads to.
 - docs/EDITS.md names each must-fail edit with what refuses it, and docs/MAP.md each file of specs/ and proofs/, just as the
   files say: both pages are made from them. --write makes them anew.
 - Each block of Rust code of README.md and of the pages of icu_provider and tour stands so in a source of the crates; the
@@ -17,6 +17,7 @@ usage: tests/docs.py [--write]
 - The text in crates/sample_tables is that of tables/sample.json, byte for byte; the languages of icu_decimal_tests, whose
   tables are maps in code, have the patterns and plural rules of that file.
 - crates.txt has each crate under a heading, and the page of each crate says in a line `Tests: ..` where its tests stand.
+- No line of specs/ and proofs/ is wider than 160 columns, and none of a clause than 100.
 - Each command that README.md and the page of tour show behind `$` gives the output below it, also on a terminal at which
   nobody types; those of README that build the program and run it have their input from a pipe or a file. README's first
   command, which builds the program unproved, writes what stands below it, and its commands by a release of CLDR, where
@@ -25,7 +26,7 @@ usage: tests/docs.py [--write]
 
 The last line is 'N passed, M failed', one for each page's links, each page that is made, each block and example, each place
 of the version, each picture, the packages, the toolchain, each status, word and example of the manual page, the text of the
-tables, the headings, each crate's page, each language, each command, twice, the first command, those by a release, and each row. Without `man` a line
+tables, the headings, each crate's page, the widths of each crate, each language, each command, twice, the first command, those by a release, and each row. Without `man` a line
 'skipped: docs: WHY' stands for the manual page.
 """
 import fcntl
@@ -96,16 +97,37 @@ def without_code(text):
     return re.sub(r"`[^`\n]*`", "", re.sub(r"^```.*?^```$", "", text, flags=re.M | re.S))
 
 
+REFERENCE = re.compile(r"^\[([^\]]+)\]: (\S+)$", flags=re.M)
+
+
+def placed(page):
+    """A page's text with the target of each reference in its place, and the references that have none or are none's."""
+    text = read(page)
+    targets, used, missing = dict(REFERENCE.findall(text)), set(), []
+
+    def place(reference):
+        name = reference[2] or reference[1]
+        if name in targets:
+            used.add(name)
+            return f"[{reference[1]}]({targets[name]})"
+        if reference[2] or (targets and name.startswith("`")):
+            missing.append(name)
+        return reference[0]
+
+    text = re.sub(r"\[([^\[\]]+)\](?:\[([^\[\]]+)\])?(?!\()", place, REFERENCE.sub("", text))
+    return text, missing + sorted(targets.keys() - used)
+
+
 def anchors(text):
     """The names of the headings of a page, as a browser of repositories makes them."""
     headings = re.findall(r"^#+ (.*)$", re.sub(r"^```.*?^```$", "", text, flags=re.M | re.S), flags=re.M)
     return {re.sub(r"[^\w\- ]", "", heading.lower()).replace(" ", "-") for heading in headings}
 
 
-def broken_links(page):
+def broken_links(page, text):
     """The relative links of a page that have no target."""
     broken = []
-    for target in re.findall(r"\]\(([^)\s]+)\)", without_code(read(page))):
+    for target in re.findall(r"\]\(([^)\s]+)\)", without_code(text)):
         if re.match(r"[a-z]+:", target):
             continue
         path, _, anchor = target.partition("#")
@@ -115,22 +137,23 @@ def broken_links(page):
     return broken
 
 
-def names_elsewhere(page):
+def names_elsewhere(page, text):
     """The linked names of calls, definitions and edits that don't stand in the file that the link leads to."""
     wrong = []
-    for names, target in re.findall(r"\[(`[^\]]+`)\]\(([^)#\s]+\.(?:rt|antt|edit))\)", read(page)):
+    for names, target in re.findall(r"\[(`[^\]]+`)\]\(([^)#\s]+\.(?:rt|antt|edit))\)", text):
         path = os.path.normpath(os.path.join(os.path.dirname(page), target))
-        text = read(path) + path.replace("/", " ").replace(".", " ") if os.path.exists(path) else ""
+        there = read(path) + path.replace("/", " ").replace(".", " ") if os.path.exists(path) else ""
         for name in re.findall(r"`([^`]+)`", names):
             word = re.split(r"::|/", re.sub(r"<.*|\.rt$|\.antt$", "", name))[-1]
-            if not re.search(rf"(?<!\w){re.escape(word)}(?!\w)", text):
+            if not re.search(rf"(?<!\w){re.escape(word)}(?!\w)", there):
                 wrong.append(f"{name} in {target}")
     return wrong
 
 
 def judge_links():
     for page in [page for pattern in PAGES for page in found(pattern)]:
-        broken = broken_links(page) + names_elsewhere(page)
+        text, unplaced = placed(page)
+        broken = unplaced + broken_links(page, text) + names_elsewhere(page, text)
         judge(not broken, f"{page}: no target:", ", ".join(broken))
 
 
@@ -394,6 +417,21 @@ def judge_signs():
             judge(len(told) == 1, f"{page}: no line 'Tests: ..'")
 
 
+def is_code(line):
+    """Whether a line of a source is neither a comment, an attribute nor an import, and has no text in it."""
+    return not line.lstrip().startswith(("//", "#", "\\", "ghost use")) and '"' not in line
+
+
+def judge_widths():
+    """Lines that are wider than a page."""
+    for crate in edits.USES:
+        lines = [(path, line, 160) for path in found(f"crates/{crate}/specs/**/*.antt") + found(f"crates/{crate}/proofs/**/*.antt")
+                 for line in read(path).splitlines()]
+        lines += [(path, line, 100) for path in found(f"crates/{crate}/src/**/*.rt") for line in filter(is_code, read(path).splitlines())]
+        wide = [f"{path}: {line.strip()[:60]}" for path, line, columns in lines if len(line) > columns]
+        judge(not wide, f"crates/{crate}: {len(wide)} lines are too wide:", "; ".join(wide[:5]))
+
+
 def elements_of(exactly_one, one, other):
     """The elements of a row of icu_decimal_tests, as tables have them."""
     elements = {"explicit_one": exactly_one, "one": one and "{0}" + one, "other": "{0}" + other}
@@ -516,6 +554,7 @@ def main():
     judge_manual()
     judge_sample()
     judge_signs()
+    judge_widths()
     judge_languages()
     judge_commands()
     judge_first_command(page)

@@ -35,6 +35,10 @@ BODY = re.compile(r'( *)(\{|(pub(\([a-z]+\))? )?(const )?(unsafe )?(extern "C" )
 PLACE = re.compile(r"(note: )?\S+:\d+:\d+:")
 MISSING_NAME = re.compile(r"(\./)?proofs/.*(has no field|is not in scope|has no `|was not admitted)")
 UNREAD = re.compile(r"(\./)?(src|specs)/\S+:\d+:\d+: error(\[\S+\])?: (?!`)")
+# An import of a definition or a proof, and the words of a file: texts and characters whole.
+IMPORT = re.compile(r"use ([\w.]+)\.\{([^}]*)\}")
+WORD = re.compile(r"""\"(?:\\.|[^"\\])*"|'(?:\\.|[^'\\])'|[()\[\]{},;]|[^\s()\[\]{},;"]+|\"""")
+CLOSING = (")", "]", "}")
 OPEN_GOAL = re.compile(r"note: (?:\./)?src/(\S+)\.rt:\d+:\d+: it is not proved that .*?\(`([^`]+)`\)")
 
 
@@ -138,12 +142,32 @@ def words_of_check(crate, kit):
 
 # Hashes
 
-def contracts(text):
-    """The lines of a source without those of comments and of the bodies of functions."""
+def said_in(path):
+    """The lines of a file; of a source, a definition or a proof without those of comments."""
+    comment = {".rt": "//", ".antt": "--"}.get(os.path.splitext(path)[1])
+    return [line for line in read(os.path.join(ROOT, path)).splitlines() if not comment or not line.lstrip(" ").startswith(comment)]
+
+
+def words_of(lines):
+    """The words of lines, whatever their layout: without what a broken list has more than one in a line."""
+    words = WORD.findall(" ".join(map(str.strip, lines)))
+    return " ".join(it for it, after in zip(words, [*words[1:], ""]) if not (it in (",", ";") and after in CLOSING))
+
+
+def spelled(path):
+    """What a file says, whatever its layout: its words, and of a definition or a proof what it imports."""
+    lines = said_in(path)
+    if not path.endswith(".antt"):
+        return words_of(lines)
+    text = "\n".join(lines)
+    imports = sorted(f"{module}.{item.strip()}" for module, items in IMPORT.findall(text) for item in items.split(","))
+    return " ".join(imports + [words_of(IMPORT.sub("", text).splitlines())])
+
+
+def contracts(lines):
+    """The lines of a source without the bodies of functions."""
     end = None
-    for line in text.splitlines():
-        if line.lstrip(" ").startswith("//"):
-            continue
+    for line in lines:
         if end is not None and line != end:
             continue
         head = BODY.fullmatch(line) if end is None else None
@@ -158,18 +182,17 @@ def files_of(*folders):
 
 
 def add(into, paths):
-    """Adds files to a hash, each by its own hash and its path."""
+    """Adds files to a hash, each by its path and what it says."""
     for path in paths:
-        with open(os.path.join(ROOT, path), "rb") as file:
-            into.update(f"{hashlib.sha256(file.read()).hexdigest()}  {path}\n".encode())
+        into.update(f"{path}\n{spelled(path)}\n".encode())
 
 
 def add_contracts(into, crate):
     """Adds what a crate's proofs are read with: the contracts and definitions of the crates below it."""
     for name in sorted(below(crate)):
         add(into, files_of(f"crates/{name}/specs"))
-        text = "".join(read(os.path.join(ROOT, path)) for path in files_of(f"crates/{name}/src"))
-        into.update("".join(f"{line}\n" for line in contracts(text)).encode())
+        for path in files_of(f"crates/{name}/src"):
+            into.update(f"{words_of(contracts(said_in(path)))}\n".encode())
 
 
 def hash_of(crate, circle, logic):

@@ -1,5 +1,28 @@
 -- The answer to a text, by what the text reads as.
-use Rattle.std.proofs.Common.{◌≡◌, ℕ, ◌+◌, ◌<◌, Bool, true, false, List, [], ◌∷◌, length, length-append, Option, Some, None, refl, sym, ap, ◌∙◌, arith, inl, inr}
+use Rattle.std.proofs.Common.{
+  ◌≡◌,
+  ℕ,
+  ◌+◌,
+  ◌<◌,
+  Bool,
+  true,
+  false,
+  List,
+  [],
+  ◌∷◌,
+  length,
+  length-append,
+  Option,
+  Some,
+  None,
+  refl,
+  sym,
+  ap,
+  ◌∙◌,
+  arith,
+  inl,
+  inr,
+}
 use Rattle.std.specs.Prelude.{◌++◌, Result, Ok, Err, is_ok, OnOk, codes, ◌&&◌, nat_le, if◌then◌else◌}
 use Rattle.std.specs.Str.{IsUtf8}
 use Rattle.std.proofs.lemmas.Bool.{false≢true}
@@ -91,11 +114,19 @@ module _ (mode : Mode) (text : List ℕ) where
   pub answer_to-is : HasTable mode → IsAnswer mode text (answer_to mode text)
   answer_to-is has = go (reading text) refl
     where
-      limited : (s : Sign) (d : Unsigned) → reading text ≡ Some (s, d) → (b : Bool) → is_within_limits d ≡ b → IsAnswer mode text (answer_to mode text)
+      limited : (s : Sign) (d : Unsigned) → reading text ≡ Some (s, d) → (b : Bool) → is_within_limits d ≡ b →
+          IsAnswer mode text (answer_to mode text)
       limited s d e true f =
           let r = reading-spells text s d e in
           let w = limits-is_within d f in
-          inl (record { sign = s; absolute = d; reads = r; within = w; shown = rw (answer_to-within s d r w) (shown_by-is mode has s d (reads-unsigned text s d r w)) })
+          inl (record {
+            sign = s;
+            absolute = d;
+            reads = r;
+            within = w;
+            shown =
+                rw (answer_to-within s d r w) (shown_by-is mode has s d (reads-unsigned text s d r w));
+          })
       limited s d e false f =
           let past : ReadsPastLimits text = (s, d, reading-spells text s d e, λ w. absurd (false≢true (sym f ∙ is_within-limits d w))) in
           inr (inr (past, answer_to-past past))
@@ -108,7 +139,8 @@ module _ (mode : Mode) (text : List ℕ) where
 
   -- the computed answer is the only one
   pub answer_to-only : (answer : List ℕ) → IsAnswer mode text answer → answer ≡ answer_to mode text
-  answer_to-only answer (inl shows) = shown_by-only mode shows.sign shows.absolute answer shows.shown ∙ sym (answer_to-within shows.sign shows.absolute shows.reads shows.within)
+  answer_to-only answer (inl shows) = shown_by-only mode shows.sign shows.absolute answer shows.shown
+      ∙ sym (answer_to-within shows.sign shows.absolute shows.reads shows.within)
   answer_to-only answer (inr (inl (none, e))) = e ∙ sym (answer_to-nothing none)
   answer_to-only answer (inr (inr (past, e))) = e ∙ sym (answer_to-past past)
 

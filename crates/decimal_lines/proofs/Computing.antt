@@ -1,5 +1,35 @@
 -- The computed compact number and decimal are what the relations ask for.
-use Rattle.std.proofs.Common.{◌≡◌, ℕ, suc, zero, ◌+◌, ◌-◌, ◌*◌, ◌/◌, ◌%◌, ◌^◌, ◌<◌, ◌≤◌, inl, inr, List, length, get_or, refl, sym, ap, ◌∙◌, arith, Bool, true, false, nat_lt, zero-add, add-zero, negsuc}
+use Rattle.std.proofs.Common.{
+  ◌≡◌,
+  ℕ,
+  suc,
+  zero,
+  ◌+◌,
+  ◌-◌,
+  ◌*◌,
+  ◌/◌,
+  ◌%◌,
+  ◌^◌,
+  ◌<◌,
+  ◌≤◌,
+  inl,
+  inr,
+  List,
+  length,
+  get_or,
+  refl,
+  sym,
+  ap,
+  ◌∙◌,
+  arith,
+  Bool,
+  true,
+  false,
+  nat_lt,
+  zero-add,
+  add-zero,
+  negsuc,
+}
 use Rattle.std.specs.Prelude.{◌==◌, if◌then◌else◌}
 use Rattle.std.proofs.lemmas.Bool.Decides.{nat_tests}
 use Rattle.std.proofs.lemmas.Int.{ints}
@@ -37,7 +67,8 @@ rounded-nearest u x some = go (nat_lt (2 * (x % u)) u) (nat_lt u (2 * (x % u))) 
         tie_cases (suc zero) e half = rw split at (nearest_tie_odd u (x / u) (x % u) (x / u / 2 + 1) half (omega arith))
         tie_cases (suc (suc b)) e half = absurd (omega (arith, mod-lt (x / u) {m = 2} (omega arith)))
 
-    go : (a b : Bool) → nat_lt (2 * (x % u)) u ≡ a → nat_lt u (2 * (x % u)) ≡ b → IsNearest (IsMultiple u) u x ((if a then (x / u) else (if b then (x / u + 1) else (x / u + x / u % 2))) * u)
+    go : (a b : Bool) → nat_lt (2 * (x % u)) u ≡ a → nat_lt u (2 * (x % u)) ≡ b →
+        IsNearest (IsMultiple u) u x ((if a then (x / u) else (if b then (x / u + 1) else (x / u + x / u % 2))) * u)
     go true b p q = rw split at (nearest_below u (x / u) (x % u) (grind (arith, nat_tests)))
     go false true p q = rw split at (nearest_above u (x / u) (x % u) (omega arith) (grind (arith, nat_tests)))
     go false false p q = tie (x / u % 2) refl (grind (arith, nat_tests))
@@ -63,7 +94,8 @@ length-digits_from x e (suc n) = ap suc (length-digits_from x e n)
 pub digits_from-digits : (x e n : ℕ) → AreDigits (digits_from x e n)
 unfolding digits_from
 digits_from-digits x e zero = All-nil (λ d. d < 10)
-digits_from-digits x e (suc n) = All-cons (λ d. d < 10) (x / 10 ^ (e + n) % 10) (digits_from x e n) (mod-lt (x / 10 ^ (e + n)) (omega arith)) (digits_from-digits x e n)
+digits_from-digits x e (suc n) = All-cons (λ d. d < 10) (x / 10 ^ (e + n) % 10) (digits_from x e n) (mod-lt (x / 10 ^ (e + n)) (omega arith))
+    (digits_from-digits x e n)
 
 -- the digits weigh what lies between the two places
 weighed-between : (x e n : ℕ) → weighed e (digits_from x e n) + x % 10 ^ e ≡ x % 10 ^ (e + n)
@@ -96,7 +128,8 @@ unfolding scale_up_to
 scale-enough x zero h = h
 scale-enough x (suc n) h = go (x % 10 ^ (finest - n) == 0) refl (scale-enough x n)
   where
-    go : (b : Bool) → (x % 10 ^ (finest - n) == 0) ≡ b → (x % 10 ^ (finest - n) ≡ 0 → x % 10 ^ (finest - scale_up_to x n) ≡ 0) → x % 10 ^ (finest - (if b then scale_up_to x n else suc n)) ≡ 0
+    go : (b : Bool) → (x % 10 ^ (finest - n) == 0) ≡ b → (x % 10 ^ (finest - n) ≡ 0 → x % 10 ^ (finest - scale_up_to x n) ≡ 0) →
+        x % 10 ^ (finest - (if b then scale_up_to x n else suc n)) ≡ 0
     go true e fewer = fewer (grind (arith, nat_tests))
     go false e fewer = h
 
@@ -106,7 +139,8 @@ unfolding scale_up_to
 scale-least x zero k e = absurd (omega arith)
 scale-least x (suc n) k e = go (x % 10 ^ (finest - n) == 0) refl (scale-least x n k) e
   where
-    go : (b : Bool) → (x % 10 ^ (finest - n) == 0) ≡ b → (scale_up_to x n ≡ suc k → ¬ (x % 10 ^ (finest - k) ≡ 0)) → (if b then scale_up_to x n else suc n) ≡ suc k → ¬ (x % 10 ^ (finest - k) ≡ 0)
+    go : (b : Bool) → (x % 10 ^ (finest - n) == 0) ≡ b → (scale_up_to x n ≡ suc k → ¬ (x % 10 ^ (finest - k) ≡ 0)) →
+        (if b then scale_up_to x n else suc n) ≡ suc k → ¬ (x % 10 ^ (finest - k) ≡ 0)
     go true t fewer e = fewer e
     go false t fewer e =
         let same : n ≡ k = omega arith in
@@ -168,7 +202,8 @@ module _ (count x : ℕ) (some : 0 < count) (few : count ≤ 32768) (whole : x %
       go zero e = inl (omega (arith, ints))
       go (suc k) e =
           let is_low : low (decimal_of count x) ≡ negsuc k = omega (arith, ints) in
-          let up : 10 ^ (finest - k) ≡ 10 * 10 ^ (finest - suc k) = ap (λ n. 10 ^ n) (omega (arith, scale_within, finest_large)) ∙ ten_more (finest - suc k) in
+          let up : 10 ^ (finest - k) ≡ 10 * 10 ^ (finest - suc k) =
+          ap (λ n. 10 ^ n) (omega (arith, scale_within, finest_large)) ∙ ten_more (finest - suc k) in
           let rest : x % 10 ^ (finest - suc k) ≡ 0 = ap (λ n. x % 10 ^ (finest - n)) (sym e) ∙ scale_whole in
           inr (λ z.
           let none : x / 10 ^ (finest - suc k) % 10 ≡ 0 = sym (last_is k e) ∙ ap (digit_at (decimal_of count x)) (sym is_low) ∙ z in

@@ -1,5 +1,25 @@
 -- How much of an input is answered while lines are written.
-use Rattle.std.proofs.Common.{◌≡◌, ℕ, ◌+◌, ◌-◌, ◌<◌, ◌⊎◌, List, ◌++◌, drop, take, length, length-append, [], refl, ap, ◌∙◌, arith, inl, inr}
+use Rattle.std.proofs.Common.{
+  ◌≡◌,
+  ℕ,
+  ◌+◌,
+  ◌-◌,
+  ◌<◌,
+  ◌⊎◌,
+  List,
+  ◌++◌,
+  drop,
+  take,
+  length,
+  length-append,
+  [],
+  refl,
+  ap,
+  ◌∙◌,
+  arith,
+  inl,
+  inr,
+}
 use Rattle.std.proofs.Math.Seq.{drop-append_seam, take-append_seam}
 use Rattle.decimal_lines.specs.Filled.{IsFirstLine}
 use Rattle.decimal_lines.specs.Lines.{line_output}
@@ -28,12 +48,14 @@ module _ (answer : List ℕ → List ℕ) (input left old new : List ℕ) (n : �
     filled = rw consumed f.filled;
   }
     where
-      whole : AreWholeLines f.done ⊎ (left ≡ []) → AreWholeLines (take (length input - length left) input) ⊎ (length input - length left ≡ length input)
+      whole : AreWholeLines f.done ⊎ (left ≡ []) → AreWholeLines (take (length input - length left) input)
+          ⊎ (length input - length left ≡ length input)
       whole (inl h) = inl (rw consumed h)
       whole (inr none) = inr (omega (arith, ap (λ (k : List ℕ). length k) none))
 
   -- and the next line's finds no room
-  pub Fills-needs : 0 < length left → (line rest : List ℕ) → IsFirstLine left line rest → length new < n + length (line_output answer line) → NextNeeds answer input old (length input - length left) n (length (line_output answer line))
+  pub Fills-needs : 0 < length left → (line rest : List ℕ) → IsFirstLine left line rest → length new < n + length (line_output answer line) →
+      NextNeeds answer input old (length input - length left) n (length (line_output answer line))
   Fills-needs some line rest first no_room = record {
     line = line;
     rest = rest;

@@ -1,5 +1,39 @@
 -- What is computed of a decimal in compact form is what is displayed of it, and the only such text.
-use Rattle.std.proofs.Common.{◌≡◌, ℕ, suc, zero, ◌+◌, ◌-◌, ◌*◌, ◌/◌, ◌%◌, ◌^◌, ◌<◌, ◌≤◌, ⊎_elim, inl, inr, List, refl, sym, ap, ◌∙◌, arith, Bool, true, false, Option, nat_lt, mul_assoc, ℤ, pos, negsuc, ◌+ℤ◌, ◌-ℤ◌, ◌≤ℤ◌}
+use Rattle.std.proofs.Common.{
+  ◌≡◌,
+  ℕ,
+  suc,
+  zero,
+  ◌+◌,
+  ◌-◌,
+  ◌*◌,
+  ◌/◌,
+  ◌%◌,
+  ◌^◌,
+  ◌<◌,
+  ◌≤◌,
+  ⊎_elim,
+  inl,
+  inr,
+  List,
+  refl,
+  sym,
+  ap,
+  ◌∙◌,
+  arith,
+  Bool,
+  true,
+  false,
+  Option,
+  nat_lt,
+  mul_assoc,
+  ℤ,
+  pos,
+  negsuc,
+  ◌+ℤ◌,
+  ◌-ℤ◌,
+  ◌≤ℤ◌,
+}
 use Rattle.std.specs.Prelude.{if◌then◌else◌, nat_le, codes}
 use Rattle.std.proofs.lemmas.Bool.{cases_Bool, cases_lt}
 use Rattle.std.proofs.lemmas.Bool.Decides.{nat_tests}
@@ -25,7 +59,7 @@ use Rattle.icu_decimal.proofs.CompactCore.{exponent_le_magnitude, magnitude_with
 use Rattle.icu_decimal.proofs.DisplayedOnce.{trimmed_told}
 use Rattle.icu_decimal.specs.NearestLemmas.{itself_nearest, nearest_compact_from_rounded, nearest_compact_same}
 use Rattle.decimal_lines.specs.Computed.{nearest_number, decimal_of, count_up_to, significand_shown}
-use Rattle.decimal_lines.specs.Compact.{IsCompactAnswer, text_by, text_shown, compact_text, compact_answer}
+use Rattle.decimal_lines.specs.Compact.{IsCompactAnswer, events_by, events_shown, compact_text, compact_answer}
 use Rattle.decimal_lines.proofs.Computing.{rounded-nearest, decimal-unsigned, decimal-size, decimal-count, decimal-trimmed}
 
 number-rounded : (table : List TableEntry) (x : ℕ) → IsRoundedAt (rounding_place_for table (magnitude x)) x (nearest_number table x)
@@ -35,7 +69,7 @@ number-rounded table x = rounded-nearest (10 ^ rounding_place_for table (magnitu
 pub number-nearest : (table : List TableEntry) (x : ℕ) → IsNearestCompact table x (nearest_number table x)
 number-nearest table x = nearest_compact_from_rounded table x (nearest_number table x) (number-rounded table x)
 
-pub number-only : (table : List TableEntry) (x y : ℕ) → IsNearestCompact table x y → y ≡ nearest_number table x
+number-only : (table : List TableEntry) (x y : ℕ) → IsNearestCompact table x y → y ≡ nearest_number table x
 number-only table x y n = nearest_compact_same table x (nearest_number table x) y (number-nearest table x) n
 
 -- multiples of multiples
@@ -66,14 +100,16 @@ place_above e m h = go (nat_lt (e + finest) m)
     go false = omega (arith, finest_large)
 
 -- a compact number has no such power over the exponent of its entry either
-compact-multiple : (table : List TableEntry) (y : ℕ) → IsCompactTable table → IsCompactNumber table y → IsMultiple (10 ^ (finest - 32768)) y → IsMultiple (10 ^ (finest - 32768 + exponent_for table (magnitude y))) y
+compact-multiple : (table : List TableEntry) (y : ℕ) → IsCompactTable table → IsCompactNumber table y → IsMultiple (10 ^ (finest - 32768)) y →
+    IsMultiple (10 ^ (finest - 32768 + exponent_for table (magnitude y))) y
 compact-multiple table y t compact h = elim (exponent_le_magnitude table (magnitude y) t) [
   | inl none ↦
       let same : finest - 32768 + exponent_for table (magnitude y) ≡ finest - 32768 = omega arith in
       rw same h
   | inr above ↦
       IsMultiple-trans (10 ^ (finest - 32768 + exponent_for table (magnitude y))) (10 ^ rounding_place_for table (magnitude y)) y
-      (ten_multiple (finest - 32768 + exponent_for table (magnitude y)) (rounding_place_for table (magnitude y)) (place_above (exponent_for table (magnitude y)) (magnitude y) above)) compact
+      (ten_multiple (finest - 32768 + exponent_for table (magnitude y)) (rounding_place_for table (magnitude y))
+      (place_above (exponent_for table (magnitude y)) (magnitude y) above)) compact
 ]
 
 -- so the exponent leaves a whole number of units
@@ -84,13 +120,16 @@ quotient_of g e y (k, is) =
     (ap (λ n. n * 10 ^ e) left ∙ sym split, ap (λ n. n % 10 ^ g) left ∙ mul-mod_left k (10 ^ g))
 
 -- the greatest power that is written of a significand
-high-least : (table : List TableEntry) (d : Unsigned) (y : ℕ) → (pos 0 ≤ℤ displayed_high table d y) × ((magnitude_power y -ℤ pos (exponent_of (displayed_entry table y))) ≤ℤ displayed_high table d y)
+high-least : (table : List TableEntry) (d : Unsigned) (y : ℕ) →
+    (pos 0 ≤ℤ displayed_high table d y) × ((magnitude_power y -ℤ pos (exponent_of (displayed_entry table y))) ≤ℤ displayed_high table d y)
 high-least table d y =
     let e : ℕ = exponent_of (displayed_entry table y) in
-    ⊎_elim (λ same. rw same (omega (arith, ints, clamps), omega (arith, ints, clamps))) (λ other. rw other (omega (arith, ints, clamps), omega (arith, ints, clamps)))
+    ⊎_elim (λ same. rw same (omega (arith, ints, clamps), omega (arith, ints, clamps)))
+    (λ other. rw other (omega (arith, ints, clamps), omega (arith, ints, clamps)))
     (cases_Bool (are_same_entry (displayed_entry table y) (entry_for table (magnitude (size d)))))
 
-high-most : (table : List TableEntry) (d : Unsigned) (y : ℕ) → high d ≤ℤ pos 32767 → magnitude_power y ≤ℤ pos 32767 → displayed_high table d y ≤ℤ pos 32767
+high-most : (table : List TableEntry) (d : Unsigned) (y : ℕ) → high d ≤ℤ pos 32767 → magnitude_power y ≤ℤ pos 32767 →
+    displayed_high table d y ≤ℤ pos 32767
 high-most table d y h m =
     ⊎_elim (λ same. rw same (omega (arith, ints, clamps))) (λ other. rw other (omega (arith, ints, clamps)))
     (cases_Bool (are_same_entry (displayed_entry table y) (entry_for table (magnitude (size d)))))
@@ -122,11 +161,13 @@ decimal-told u is trimmed =
     multiple_rest (k, e) = ap (λ n. n % 10 ^ (finest - 32768)) e ∙ mul-mod_left k (10 ^ (finest - 32768))
 
 -- whatever is displayed, its significand is the computed one
-pub displayed-told : (table : List TableEntry) (d : Unsigned) (y : ℕ) (entry : Option TableEntry) (s : Unsigned) → IsDisplayed table d y entry s → significand_shown table d y ≡ s
+displayed-told : (table : List TableEntry) (d : Unsigned) (y : ℕ) (entry : Option TableEntry) (s : Unsigned) → IsDisplayed table d y entry s →
+    significand_shown table d y ≡ s
 unfolding significand_shown
 displayed-told table d y entry s h =
     let left : y / 10 ^ exponent_of (displayed_entry table y) ≡ size s =
-    ap (λ o. y / 10 ^ exponent_of o) (sym h.entry_is) ∙ ap (λ n. n / 10 ^ exponent_of entry) (sym h.scaled) ∙ mul-div_cancel (size s) (ten_pos (exponent_of entry)) in
+    ap (λ o. y / 10 ^ exponent_of o) (sym h.entry_is) ∙ ap (λ n. n / 10 ^ exponent_of entry) (sym h.scaled)
+    ∙ mul-div_cancel (size s) (ten_pos (exponent_of entry)) in
     let some : 0 < integer_count s = omega (arith, h.is_decimal.integer_some) in
     let count : count_up_to (displayed_high table d y) ≡ integer_count s = ap count_up_to (sym h.high_is) ∙ count-high (integer_count s) some in
     ap (λ n. decimal_of n (y / 10 ^ exponent_of (displayed_entry table y))) count
@@ -135,7 +176,8 @@ displayed-told table d y entry s h =
 -- within the limits the computed significand is displayed
 module _ (table : List TableEntry) (d : Unsigned) (is : IsUnsigned d) (t : IsCompactTable table) (within : ¬ (ShowsPastLimits table (size d))) where
   module _ (y : ℕ) (rounded : IsRoundedAt (rounding_place_for table (magnitude (size d))) (size d) y) where
-    exact : (y / 10 ^ exponent_of (displayed_entry table y) * 10 ^ exponent_of (displayed_entry table y) ≡ y) × (y / 10 ^ exponent_of (displayed_entry table y) % 10 ^ (finest - 32768) ≡ 0)
+    exact : (y / 10 ^ exponent_of (displayed_entry table y) * 10 ^ exponent_of (displayed_entry table y) ≡ y)
+        × (y / 10 ^ exponent_of (displayed_entry table y) % 10 ^ (finest - 32768) ≡ 0)
     exact =
         let near = nearest_compact_from_rounded table (size d) y rounded in
         let units = rounded-multiple (finest - 32768) (rounding_place_for table (magnitude (size d))) (size d) y (size-multiple d is.low_limit) rounded in
@@ -143,7 +185,8 @@ module _ (table : List TableEntry) (d : Unsigned) (is : IsUnsigned d) (t : IsCom
 
     top_most : displayed_high table d y ≤ℤ pos 32767
     top_most =
-        let low = magnitude_within (rounding_place_for table (magnitude (size d))) (size d) y rounded (λ past. within (past_limits_from_rounded table (size d) past)) in
+        let low = magnitude_within (rounding_place_for table (magnitude (size d))) (size d) y rounded
+        (λ past. within (past_limits_from_rounded table (size d) past)) in
         high-most table d y (omega (arith, ints, is.high_limit, is.integer_some)) (omega (arith, ints))
 
     fits : (s e count : ℕ) → s * 10 ^ e ≡ y → magnitude y + 1 ≤ finest + count + e → s < 10 ^ (finest + count)
@@ -168,7 +211,8 @@ module _ (table : List TableEntry) (d : Unsigned) (is : IsUnsigned d) (t : IsCom
         let counted = count_is (displayed_high table d y) least.0 in
         let some : 0 < count_up_to (displayed_high table d y) = omega (arith, ints, least.0) in
         let few : count_up_to (displayed_high table d y) ≤ 32768 = omega (arith, ints) in
-        let reach : magnitude y + 1 ≤ finest + count_up_to (displayed_high table d y) + exponent_of (displayed_entry table y) = omega (arith, ints, least.1) in
+        let reach : magnitude y + 1 ≤ finest + count_up_to (displayed_high table d y) + exponent_of (displayed_entry table y) =
+        omega (arith, ints, least.1) in
         let below = fits s e count exact.0 reach in
         record {
           nearest = nearest_compact_from_rounded table (size d) y rounded;
@@ -179,17 +223,24 @@ module _ (table : List TableEntry) (d : Unsigned) (is : IsUnsigned d) (t : IsCom
           high_is = ap (λ n. pos n -ℤ pos 1) (decimal-count count s some few exact.1 below) ∙ omega (arith, ints);
         }
 
-  pub number-displayed : IsDisplayed table d (nearest_number table (size d)) (displayed_entry table (nearest_number table (size d))) (significand_shown table d (nearest_number table (size d)))
+  pub number-displayed : IsDisplayed table d (nearest_number table (size d)) (displayed_entry table (nearest_number table (size d)))
+      (significand_shown table d (nearest_number table (size d)))
   number-displayed = shown-displayed (nearest_number table (size d)) (number-rounded table (size d))
 
--- whatever is written, its text is the computed one
-compact_text-told : (format : CompactFormat) (sign : Sign) (d s : Unsigned) (exponent : ℕ) (events : List Event) → IsCompactFormat format sign d s exponent events → compact_text format sign d ≡ text_of events
-unfolding compact_text
-compact_text-told format sign d s exponent events w =
+-- what is written of a decimal is what is computed
+pub events-told : (format : CompactFormat) (sign : Sign) (d s : Unsigned) (exponent : ℕ) (events : List Event) →
+    IsCompactFormat format sign d s exponent events → events_shown format sign d (nearest_number format.table (size d)) ≡ events
+events-told format sign d s exponent events w =
     let near = number-only format.table (size d) w.shown w.displayed.nearest in
-    ap (text_shown format sign d) (sym near)
-    ∙ ap (text_by format sign (displayed_entry format.table w.shown)) (displayed-told format.table d w.shown w.entry s w.displayed)
-    ∙ ap (λ o. text_by format sign o s) (sym w.displayed.entry_is) ∙ ap text_of (sym w.events_are)
+    ap (events_shown format sign d) (sym near)
+    ∙ ap (events_by format sign (displayed_entry format.table w.shown)) (displayed-told format.table d w.shown w.entry s w.displayed)
+    ∙ ap (λ o. events_by format sign o s) (sym w.displayed.entry_is) ∙ sym w.events_are
+
+-- so its text is the computed one
+compact_text-told : (format : CompactFormat) (sign : Sign) (d s : Unsigned) (exponent : ℕ) (events : List Event) →
+    IsCompactFormat format sign d s exponent events → compact_text format sign d ≡ text_of events
+unfolding compact_text
+compact_text-told format sign d s exponent events w = ap text_of (events-told format sign d s exponent events w)
 
 pub past-number : (table : List TableEntry) (x : ℕ) → ShowsPastLimits table x → ten_to (pos 32768) ≤ nearest_number table x
 past-number table x (y, near, large) = rw (number-only table x y near) at large
@@ -199,7 +250,8 @@ module _ (format : CompactFormat) (sign : Sign) (d : Unsigned) where
   unfolding compact_answer
   answer-within within = go (nat_le (ten_to (pos 32768)) (nearest_number format.table (size d))) refl
     where
-      go : (b : Bool) → nat_le (ten_to (pos 32768)) (nearest_number format.table (size d)) ≡ b → (if b then codes "error: overflow" else compact_text format sign d) ≡ compact_text format sign d
+      go : (b : Bool) → nat_le (ten_to (pos 32768)) (nearest_number format.table (size d)) ≡ b →
+          (if b then codes "error: overflow" else compact_text format sign d) ≡ compact_text format sign d
       go true e = absurd (within (nearest_number format.table (size d), number-nearest format.table (size d), grind (arith, nat_tests)))
       go false e = refl
 
@@ -208,12 +260,14 @@ module _ (format : CompactFormat) (sign : Sign) (d : Unsigned) where
   unfolding compact_answer
   answer-past past = go (nat_le (ten_to (pos 32768)) (nearest_number format.table (size d))) refl
     where
-      go : (b : Bool) → nat_le (ten_to (pos 32768)) (nearest_number format.table (size d)) ≡ b → (if b then codes "error: overflow" else compact_text format sign d) ≡ codes "error: overflow"
+      go : (b : Bool) → nat_le (ten_to (pos 32768)) (nearest_number format.table (size d)) ≡ b →
+          (if b then codes "error: overflow" else compact_text format sign d) ≡ codes "error: overflow"
       go true e = refl
       go false e = let large = past-number format.table (size d) past in absurd (grind (arith, nat_tests))
 
   -- what is written within the limits is the answer
-  pub answer-written : (s : Unsigned) (exponent : ℕ) (events : List Event) → IsCompactFormat format sign d s exponent events → ¬ (ShowsPastLimits format.table (size d)) → compact_answer format sign d ≡ text_of events
+  pub answer-written : (s : Unsigned) (exponent : ℕ) (events : List Event) → IsCompactFormat format sign d s exponent events →
+      ¬ (ShowsPastLimits format.table (size d)) → compact_answer format sign d ≡ text_of events
   answer-written s exponent events w within = answer-within within ∙ compact_text-told format sign d s exponent events w
 
   -- the computed compact answer is the only one
@@ -228,12 +282,15 @@ module _ (format : CompactFormat) (sign : Sign) (d : Unsigned) where
       y_is : ℕ
       y_is = nearest_number format.table (size d)
 
-      go : (b : Bool) → nat_le (ten_to (pos 32768)) (nearest_number format.table (size d)) ≡ b → IsCompactAnswer format sign d (compact_answer format sign d)
+      go : (b : Bool) → nat_le (ten_to (pos 32768)) (nearest_number format.table (size d)) ≡ b →
+          IsCompactAnswer format sign d (compact_answer format sign d)
       go true e =
-          let past : ShowsPastLimits format.table (size d) = (nearest_number format.table (size d), number-nearest format.table (size d), grind (arith, nat_tests)) in
+          let past : ShowsPastLimits format.table (size d) =
+          (nearest_number format.table (size d), number-nearest format.table (size d), grind (arith, nat_tests)) in
           inr (past, answer-past past)
       go false e =
-          let within : ¬ (ShowsPastLimits format.table (size d)) = λ past. let large = past-number format.table (size d) past in absurd (grind (arith, nat_tests)) in
+          let within : ¬ (ShowsPastLimits format.table (size d)) = λ past. let large = past-number format.table (size d) past in
+          absurd (grind (arith, nat_tests)) in
           let w : IsCompactFormat format sign d (significand_shown format.table d y_is) (exponent_of (displayed_entry format.table y_is)) _ = record {
             shown = y_is;
             entry = displayed_entry format.table y_is;

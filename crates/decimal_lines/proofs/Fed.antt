@@ -29,7 +29,8 @@ module _ (answer : List ℕ → List ℕ) where
   }
 
   -- the rest of a line and its end
-  pub Feeds-line : (w w' : Option (List ℕ)) (held more : List ℕ) → IsPartLine held → IsPartLine more → Appends w w' (line_output answer (held ++ more)) → Feeds answer w w' held (more ++ 10 ∷ []) []
+  pub Feeds-line : (w w' : Option (List ℕ)) (held more : List ℕ) → IsPartLine held → IsPartLine more →
+      Appends w w' (line_output answer (held ++ more)) → Feeds answer w w' held (more ++ 10 ∷ []) []
   Feeds-line w w' held more h k p = record {
     whole = (held ++ more) ++ 10 ∷ [];
     are_whole = inr (held ++ more, refl);
@@ -39,27 +40,34 @@ module _ (answer : List ℕ → List ℕ) where
   }
 
   -- some bytes and then others add what both do
-  pub Feeds-then : (w w1 w2 : Option (List ℕ)) (p a p1 b p2 : List ℕ) → Feeds answer w w1 p a p1 → Feeds answer w1 w2 p1 b p2 → Feeds answer w w2 p (a ++ b) p2
+  pub Feeds-then : (w w1 w2 : Option (List ℕ)) (p a p1 b p2 : List ℕ) → Feeds answer w w1 p a p1 → Feeds answer w1 w2 p1 b p2 →
+      Feeds answer w w2 p (a ++ b) p2
   Feeds-then w w1 w2 p a p1 b p2 f s = record {
     whole = f.whole ++ s.whole;
     are_whole = AreWholeLines-append f.whole s.whole f.are_whole s.are_whole;
-    parts = sym (append_assoc p a b) ∙ ap (λ (k : List ℕ). k ++ b) f.parts ∙ append_assoc f.whole p1 b ∙ ap (λ (k : List ℕ). f.whole ++ k) s.parts ∙ sym (append_assoc f.whole s.whole p2);
+    parts = sym (append_assoc p a b) ∙ ap (λ (k : List ℕ). k ++ b) f.parts ∙ append_assoc f.whole p1 b ∙ ap (λ (k : List ℕ). f.whole ++ k) s.parts
+        ∙ sym (append_assoc f.whole s.whole p2);
     is_part = s.is_part;
-    appends = rw (output_of-append answer f.whole s.whole f.are_whole) (Appends-then w w1 w2 (output_of answer f.whole) (output_of answer s.whole) f.appends s.appends);
+    appends = rw (output_of-append answer f.whole s.whole f.are_whole)
+        (Appends-then w w1 w2 (output_of answer f.whole) (output_of answer s.whole) f.appends s.appends);
   }
 
   -- some bytes and then a break are a break
-  pub Feeds-breaks : (w w1 w2 : Option (List ℕ)) (p a p1 b : List ℕ) → Feeds answer w w1 p a p1 → Breaks answer w1 w2 (p1 ++ b) → Breaks answer w w2 (p ++ (a ++ b))
+  pub Feeds-breaks : (w w1 w2 : Option (List ℕ)) (p a p1 b : List ℕ) → Feeds answer w w1 p a p1 → Breaks answer w1 w2 (p1 ++ b) →
+      Breaks answer w w2 (p ++ (a ++ b))
   Feeds-breaks w w1 w2 p a p1 b f s = record {
     whole = f.whole ++ s.whole;
     after = s.after;
     are_whole = AreWholeLines-append f.whole s.whole f.are_whole s.are_whole;
-    parts = sym (append_assoc p a b) ∙ ap (λ (k : List ℕ). k ++ b) f.parts ∙ append_assoc f.whole p1 b ∙ ap (λ (k : List ℕ). f.whole ++ k) s.parts ∙ sym (append_assoc f.whole s.whole s.after);
-    appends = rw (output_of-append answer f.whole s.whole f.are_whole) (AppendsProperBeginning-then w w1 w2 (output_of answer f.whole) (output_of answer s.whole) f.appends s.appends);
+    parts = sym (append_assoc p a b) ∙ ap (λ (k : List ℕ). k ++ b) f.parts ∙ append_assoc f.whole p1 b ∙ ap (λ (k : List ℕ). f.whole ++ k) s.parts
+        ∙ sym (append_assoc f.whole s.whole s.after);
+    appends = rw (output_of-append answer f.whole s.whole f.are_whole)
+        (AppendsProperBeginning-then w w1 w2 (output_of answer f.whole) (output_of answer s.whole) f.appends s.appends);
   }
 
   -- what was gathered is written
-  pub Feeds-written : (w w' : Option (List ℕ)) (p a p' out : List ℕ) → Feeds answer (Some []) (Some out) p a p' → Appends w w' out → Feeds answer w w' p a p'
+  pub Feeds-written : (w w' : Option (List ℕ)) (p a p' out : List ℕ) → Feeds answer (Some []) (Some out) p a p' → Appends w w' out →
+      Feeds answer w w' p a p'
   Feeds-written w w' p a p' out f q = record {
     whole = f.whole;
     are_whole = f.are_whole;
@@ -69,7 +77,8 @@ module _ (answer : List ℕ → List ℕ) where
   }
 
   -- or not all of it
-  pub Feeds-unwritten : (w w' : Option (List ℕ)) (p a p' out : List ℕ) → Feeds answer (Some []) (Some out) p a p' → AppendsProperBeginning w w' out → Breaks answer w w' (p ++ a)
+  pub Feeds-unwritten : (w w' : Option (List ℕ)) (p a p' out : List ℕ) → Feeds answer (Some []) (Some out) p a p' → AppendsProperBeginning w w' out →
+      Breaks answer w w' (p ++ a)
   Feeds-unwritten w w' p a p' out f q = record {
     whole = f.whole;
     after = p';

@@ -1,5 +1,29 @@
 -- What an output holds after some lines were written into it.
-use Rattle.std.proofs.Common.{◌≡◌, ℕ, ◌+◌, ◌<◌, ◌≤◌, ◌⊎◌, List, [], ◌∷◌, ◌++◌, drop, take, length, length-append, length-drop, refl, sym, ap, ◌∙◌, append_assoc, arith, inl, inr}
+use Rattle.std.proofs.Common.{
+  ◌≡◌,
+  ℕ,
+  ◌+◌,
+  ◌<◌,
+  ◌≤◌,
+  ◌⊎◌,
+  List,
+  [],
+  ◌∷◌,
+  ◌++◌,
+  drop,
+  take,
+  length,
+  length-append,
+  length-drop,
+  refl,
+  sym,
+  ap,
+  ◌∙◌,
+  append_assoc,
+  arith,
+  inl,
+  inr,
+}
 use Rattle.std.proofs.Math.Seq.{take-append_seam}
 use Rattle.std.proofs.lemmas.List.{append-nil}
 use Rattle.std.proofs.lemmas.Slice.{drop-append-drop}
@@ -18,8 +42,10 @@ filled-then : (old new new' text more : List ℕ) (n : ℕ) → IsFilled old new
     → n + length more ≤ length old → new' ≡ take n new ++ more ++ drop (n + length more) new → IsFilled old new' (text ++ more) (n + length more)
 filled-then old new new' text more n f fits e =
     let count : length text ≡ n = sym f.count in
-    let front : take n new ≡ text = ap (λ (k : List ℕ). take n k) f.bytes ∙ ap (λ k. take k (text ++ drop n old)) f.count ∙ take-append_seam text (drop n old) in
-    let back : drop (n + length more) new ≡ drop (n + length more) old = ap (λ (k : List ℕ). drop (n + length more) k) f.bytes ∙ drop-append-drop n old text (n + length more) (omega arith) count in
+    let front : take n new ≡ text = ap (λ (k : List ℕ). take n k) f.bytes ∙ ap (λ k. take k (text ++ drop n old)) f.count
+    ∙ take-append_seam text (drop n old) in
+    let back : drop (n + length more) new ≡ drop (n + length more) old =
+    ap (λ (k : List ℕ). drop (n + length more) k) f.bytes ∙ drop-append-drop n old text (n + length more) (omega arith) count in
     record {
       bytes = e ∙ rw (front, back) refl;
       count = omega (arith, f.count, length-append text more);
@@ -28,7 +54,8 @@ filled-then old new new' text more n f fits e =
 
 -- what isn't longer than before
 pub filled-length : (old new text : List ℕ) (n : ℕ) → IsFilled old new text n → length new ≡ length old
-filled-length old new text n f = ap (λ (k : List ℕ). length k) f.bytes ∙ omega (arith, length-append text (drop n old), f.count, f.within, length-drop n old)
+filled-length old new text n f = ap (λ (k : List ℕ). length k) f.bytes
+    ∙ omega (arith, length-append text (drop n old), f.count, f.within, length-drop n old)
 
 -- The lines up to a place of the input were written; the place is behind a line's end, or nothing is left.
 pub record Fills (answer : List ℕ → List ℕ) (input left old new : List ℕ) (n : ℕ) : Type 0 where
@@ -39,21 +66,24 @@ pub record Fills (answer : List ℕ → List ℕ) (input left old new : List ℕ
 
 module _ (answer : List ℕ → List ℕ) where
   -- the output of what is left begins with that of its first line
-  first_output : (left line rest : List ℕ) → 0 < length left → IsFirstLine left line rest → output_of answer left ≡ line_output answer line ++ output_of answer rest
+  first_output : (left line rest : List ℕ) → 0 < length left → IsFirstLine left line rest →
+      output_of answer left ≡ line_output answer line ++ output_of answer rest
   first_output left line rest some first = go first.parts
     where
       last : (l : List ℕ) → 0 < length l → IsPartLine l → output_of answer l ≡ line_output answer l
       last [] some is = absurd (omega arith)
       last (b ∷ bs) some is = output_of-last answer b bs is
 
-      go : (left ≡ (line ++ 10 ∷ []) ++ rest) ⊎ ((left ≡ line) × (rest ≡ [])) → output_of answer left ≡ line_output answer line ++ output_of answer rest
+      go : (left ≡ (line ++ 10 ∷ []) ++ rest) ⊎ ((left ≡ line) × (rest ≡ [])) →
+          output_of answer left ≡ line_output answer line ++ output_of answer rest
       go (inl e) =
           ap (output_of answer) e ∙ output_of-append answer (line ++ 10 ∷ []) rest (inr (line, refl))
           ∙ ap (λ (k : List ℕ). k ++ output_of answer rest) (output_of-ended answer line first.is_part)
       go (inr (e, none)) =
           let nothing : output_of answer rest ≡ [] = ap (output_of answer) none ∙ output_of-nothing answer in
           let some_line : 0 < length line = omega (arith, ap (λ (k : List ℕ). length k) e) in
-          ap (output_of answer) e ∙ last line some_line first.is_part ∙ sym (ap (λ (k : List ℕ). line_output answer line ++ k) nothing ∙ append-nil (line_output answer line))
+          ap (output_of answer) e ∙ last line some_line first.is_part
+          ∙ sym (ap (λ (k : List ℕ). line_output answer line ++ k) nothing ∙ append-nil (line_output answer line))
 
   -- before the first line nothing is filled
   pub Fills-nothing : (input old : List ℕ) → Fills answer input input old old 0
@@ -96,7 +126,8 @@ module _ (answer : List ℕ → List ℕ) where
 
       module _ (line rest : List ℕ) (first : IsFirstLine left line rest) where
         outputs : output_of answer input ≡ output_of answer f.done ++ (line_output answer line ++ output_of answer rest)
-        outputs = ap (output_of answer) f.parts ∙ output_of-append answer f.done left are_whole ∙ ap (λ (k : List ℕ). output_of answer f.done ++ k) (first_output left line rest some first)
+        outputs = ap (output_of answer) f.parts ∙ output_of-append answer f.done left are_whole
+            ∙ ap (λ (k : List ℕ). output_of answer f.done ++ k) (first_output left line rest some first)
 
         -- and the next line's finds no room
         pub Fills-full : length new < n + length (line_output answer line) → HoldsAllThatFit answer input old new n
@@ -115,7 +146,8 @@ module _ (answer : List ℕ → List ℕ) where
 
         pub Fills-longer : length new < n + length (line_output answer line) → length old < length (output_of answer input)
         Fills-longer no_room =
-            let all : length (output_of answer input) ≡ length (output_of answer f.done) + (length (line_output answer line) + length (output_of answer rest)) =
+            let all : length (output_of answer input) ≡ length (output_of answer f.done) +
+            (length (line_output answer line) + length (output_of answer rest)) =
             ap (λ (k : List ℕ). length k) outputs ∙ length-append (output_of answer f.done) (line_output answer line ++ output_of answer rest)
             ∙ ap (λ k. length (output_of answer f.done) + k) (length-append (line_output answer line) (output_of answer rest)) in
             omega (arith, Fills-length, f.filled.count)
@@ -129,10 +161,12 @@ module _ (answer : List ℕ → List ℕ) where
             more : IsFilled old new' (output_of answer f.done ++ line_output answer line) (n + length (line_output answer line))
             more = filled-then old new new' (output_of answer f.done) (line_output answer line) n f.filled (omega (arith, Fills-length)) e
 
-            go : (left ≡ (line ++ 10 ∷ []) ++ rest) ⊎ ((left ≡ line) × (rest ≡ [])) → Fills answer input rest old new' (n + length (line_output answer line))
+            go : (left ≡ (line ++ 10 ∷ []) ++ rest) ⊎ ((left ≡ line) × (rest ≡ [])) →
+                Fills answer input rest old new' (n + length (line_output answer line))
             go (inl parts) =
                 let joined : output_of answer (f.done ++ (line ++ 10 ∷ [])) ≡ output_of answer f.done ++ line_output answer line =
-                output_of-append answer f.done (line ++ 10 ∷ []) are_whole ∙ ap (λ (k : List ℕ). output_of answer f.done ++ k) (output_of-ended answer line first.is_part) in
+                output_of-append answer f.done (line ++ 10 ∷ []) are_whole
+                ∙ ap (λ (k : List ℕ). output_of answer f.done ++ k) (output_of-ended answer line first.is_part) in
                 record {
                   done = f.done ++ (line ++ 10 ∷ []);
                   boundary = inl (AreWholeLines-append f.done (line ++ 10 ∷ []) are_whole (inr (line, refl)));
@@ -142,7 +176,8 @@ module _ (answer : List ℕ → List ℕ) where
             go (inr (same, none)) =
                 let nothing : output_of answer rest ≡ [] = ap (output_of answer) none ∙ output_of-nothing answer in
                 let joined : output_of answer input ≡ output_of answer f.done ++ line_output answer line =
-                outputs ∙ ap (λ (k : List ℕ). output_of answer f.done ++ (line_output answer line ++ k)) nothing ∙ ap (λ (k : List ℕ). output_of answer f.done ++ k) (append-nil (line_output answer line)) in
+                outputs ∙ ap (λ (k : List ℕ). output_of answer f.done ++ (line_output answer line ++ k)) nothing
+                ∙ ap (λ (k : List ℕ). output_of answer f.done ++ k) (append-nil (line_output answer line)) in
                 record {
                   done = input;
                   boundary = inr none;

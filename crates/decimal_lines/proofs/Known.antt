@@ -55,7 +55,8 @@ pub Consumes-none : (a b c : Option (List ℕ)) (x : List ℕ) → Consumes a b 
 Consumes-none a b c x p q = subst (λ (k : List ℕ). Consumes a c k) (append-nil x) (Consumes-then a b c x [] p q)
 
 -- a whole text and then a proper beginning of another are a proper beginning of both
-pub AppendsProperBeginning-then : (a b c : Option (List ℕ)) (x y : List ℕ) → Appends a b x → AppendsProperBeginning b c y → AppendsProperBeginning a c (x ++ y)
+pub AppendsProperBeginning-then : (a b c : Option (List ℕ)) (x y : List ℕ) → Appends a b x → AppendsProperBeginning b c y →
+    AppendsProperBeginning a c (x ++ y)
 AppendsProperBeginning-then a b c x y p (front, q, (rest, e, n)) =
     (x ++ front, Appends-then a b c x front p q, (rest, rw e (sym (append_assoc x front rest)), n))
 

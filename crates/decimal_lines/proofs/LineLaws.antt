@@ -1,5 +1,24 @@
 -- The one list of lines of an input.
-use Rattle.std.proofs.Common.{◌≡◌, ℕ, Bool, true, false, List, [], ◌∷◌, ◌++◌, refl, sym, ap, ◌∙◌, All, append-nil, append_assoc, inl, inr}
+use Rattle.std.proofs.Common.{
+  ◌≡◌,
+  ℕ,
+  Bool,
+  true,
+  false,
+  List,
+  [],
+  ◌∷◌,
+  ◌++◌,
+  refl,
+  sym,
+  ap,
+  ◌∙◌,
+  All,
+  append-nil,
+  append_assoc,
+  inl,
+  inr,
+}
 use Rattle.std.specs.Prelude.{◌==◌, if◌then◌else◌, ◌⊎◌}
 use Rattle.std.specs.List.{flat_map}
 use Rattle.std.proofs.lemmas.Bool.{eqb-true}
@@ -8,7 +27,8 @@ use Rattle.decimal_lines.specs.Lines.{IsPartLine, IsLines, ended, onto_first, li
 use Rattle.decimal_lines.proofs.Parts.{lines_of-ended, lines_of-last}
 
 -- the lines of a spelled input
-lines_of-spelled : (whole last : List (List ℕ)) → (last ≡ []) ⊎ ((b : ℕ) × (bs : List ℕ) × (last ≡ (b ∷ bs) ∷ [])) → All IsPartLine (whole ++ last) → lines_of (ended whole ++ flat_map (λ line. line) last) ≡ whole ++ last
+lines_of-spelled : (whole last : List (List ℕ)) → (last ≡ []) ⊎ ((b : ℕ) × (bs : List ℕ) × (last ≡ (b ∷ bs) ∷ [])) →
+    All IsPartLine (whole ++ last) → lines_of (ended whole ++ flat_map (λ line. line) last) ≡ whole ++ last
 unfolding lines_of
 lines_of-spelled [] last (inl e) h = rw e refl
 lines_of-spelled [] last (inr (b, bs, e)) h =
@@ -17,8 +37,10 @@ lines_of-spelled [] last (inr (b, bs, e)) h =
 lines_of-spelled (w ∷ ws) last one h =
     let part : IsPartLine w = All-head IsPartLine w (ws ++ last) h in
     let rest = ended ws ++ flat_map (λ line. line) last in
-    let spelled : ((w ++ 10 ∷ []) ++ ended ws) ++ flat_map (λ line. line) last ≡ w ++ 10 ∷ rest = append_assoc (w ++ 10 ∷ []) (ended ws) (flat_map (λ line. line) last) ∙ append_assoc w (10 ∷ []) rest in
-    ap lines_of spelled ∙ lines_of-ended w rest part ∙ ap (λ (l : List (List ℕ)). w ∷ l) (lines_of-spelled ws last one (All-tail IsPartLine w (ws ++ last) h))
+    let spelled : ((w ++ 10 ∷ []) ++ ended ws) ++ flat_map (λ line. line) last ≡ w ++ 10 ∷ rest =
+    append_assoc (w ++ 10 ∷ []) (ended ws) (flat_map (λ line. line) last) ∙ append_assoc w (10 ∷ []) rest in
+    ap lines_of spelled ∙ lines_of-ended w rest part ∙ ap (λ (l : List (List ℕ)). w ∷ l)
+    (lines_of-spelled ws last one (All-tail IsPartLine w (ws ++ last) h))
 
 -- an input has one list of lines at most
 pub lines-unique : (input : List ℕ) (lines : List (List ℕ)) → IsLines input lines → lines ≡ lines_of input
@@ -39,7 +61,9 @@ fed bs lines is = record {
 longer : (b : ℕ) (bs : List ℕ) (lines : List (List ℕ)) → (b == 10) ≡ false → IsLines bs lines → IsLines (b ∷ bs) (onto_first b lines)
 longer b bs lines other is = go is.whole is.last is.parts is.spelled is.at_most_one (rw is.parts at is.without_feed)
   where
-    go : (whole last : List (List ℕ)) → lines ≡ whole ++ last → bs ≡ ended whole ++ flat_map (λ line. line) last → (last ≡ []) ⊎ ((c : ℕ) × (cs : List ℕ) × (last ≡ (c ∷ cs) ∷ [])) → All IsPartLine (whole ++ last) → IsLines (b ∷ bs) (onto_first b lines)
+    go : (whole last : List (List ℕ)) → lines ≡ whole ++ last → bs ≡ ended whole ++ flat_map (λ line. line) last →
+        (last ≡ []) ⊎ ((c : ℕ) × (cs : List ℕ) × (last ≡ (c ∷ cs) ∷ [])) → All IsPartLine (whole ++ last) →
+        IsLines (b ∷ bs) (onto_first b lines)
     go [] last e f (inl n) h = record {
       whole = [];
       last = (b ∷ []) ∷ [];

@@ -12,13 +12,13 @@ use Rattle.fixed_decimal.proofs.Readings.{reading-reads, reading-nothing}
 use Rattle.icu_base.specs.Events.{Event}
 use Rattle.icu_decimal.specs.CompactFormat.{CompactFormat, IsCompactFormat}
 use Rattle.icu_decimal.specs.CompactNumber.{ShowsPastLimits}
-use Rattle.icu_decimal.specs.Displayed.{displayed_entry}
-use Rattle.decimal_lines.specs.Alone.{compact_events, decimal_read, events_by, events_shown, within_or}
+use Rattle.decimal_lines.specs.Alone.{compact_events, decimal_read, within_or}
 use Rattle.decimal_lines.specs.Answers.{is_within_limits}
+use Rattle.decimal_lines.specs.Compact.{events_shown}
 use Rattle.decimal_lines.specs.Computed.{nearest_number}
 use Rattle.decimal_lines.specs.declared.alone.TextError.TheVariants.{NotDecimal, TooManyDigits, Overflow}
 use Rattle.decimal_lines.proofs.Answering.{is_within-limits, limits-is_within}
-use Rattle.decimal_lines.proofs.Displaying.{displayed-told, number-nearest, number-only, past-number}
+use Rattle.decimal_lines.proofs.Displaying.{events-told, number-nearest, past-number}
 
 abbrev pair : Sign → Unsigned → Sign × Unsigned
 pair s d = (s, d)
@@ -54,26 +54,18 @@ module _ (format : CompactFormat) (sign : Sign) (d : Unsigned) where
   unfolding compact_events
   compact_events-past past = go (nat_le (ten_to (pos 32768)) (nearest_number format.table (size d))) refl
     where
-      shown : List Event
-      shown = events_shown format sign d (nearest_number format.table (size d))
-
-      go : (b : Bool) → nat_le (ten_to (pos 32768)) (nearest_number format.table (size d)) ≡ b → (if b then Err Overflow else Ok (events_shown format sign d (nearest_number format.table (size d)))) ≡ Err Overflow
+      go : (b : Bool) → nat_le (ten_to (pos 32768)) (nearest_number format.table (size d)) ≡ b →
+          (if b then Err Overflow else Ok (events_shown format sign d (nearest_number format.table (size d)))) ≡ Err Overflow
       go true e = refl
       go false e = let large = past-number format.table (size d) past in absurd (grind (arith, nat_tests))
 
-  -- what is written of a decimal is what is computed
-  events-told : (s : Unsigned) (exponent : ℕ) (events : List Event) → IsCompactFormat format sign d s exponent events → events_shown format sign d (nearest_number format.table (size d)) ≡ events
-  events-told s exponent events w =
-      let near = number-only format.table (size d) w.shown w.displayed.nearest in
-      ap (events_shown format sign d) (sym near)
-      ∙ ap (events_by format sign (displayed_entry format.table w.shown)) (displayed-told format.table d w.shown w.entry s w.displayed)
-      ∙ ap (λ o. events_by format sign o s) (sym w.displayed.entry_is) ∙ sym w.events_are
-
   -- within the limits
-  pub compact_events-written : (s : Unsigned) (exponent : ℕ) (events : List Event) → IsCompactFormat format sign d s exponent events → ¬ (ShowsPastLimits format.table (size d)) → compact_events format sign d ≡ Ok events
+  pub compact_events-written : (s : Unsigned) (exponent : ℕ) (events : List Event) → IsCompactFormat format sign d s exponent events →
+      ¬ (ShowsPastLimits format.table (size d)) → compact_events format sign d ≡ Ok events
   unfolding compact_events
   compact_events-written s exponent events w within = go (nat_le (ten_to (pos 32768)) (nearest_number format.table (size d))) refl
     where
-      go : (b : Bool) → nat_le (ten_to (pos 32768)) (nearest_number format.table (size d)) ≡ b → (if b then Err Overflow else Ok (events_shown format sign d (nearest_number format.table (size d)))) ≡ Ok events
+      go : (b : Bool) → nat_le (ten_to (pos 32768)) (nearest_number format.table (size d)) ≡ b →
+          (if b then Err Overflow else Ok (events_shown format sign d (nearest_number format.table (size d)))) ≡ Ok events
       go true e = absurd (within (nearest_number format.table (size d), number-nearest format.table (size d), grind (arith, nat_tests)))
-      go false e = ap Ok (events-told s exponent events w)
+      go false e = ap Ok (events-told format sign d s exponent events w)

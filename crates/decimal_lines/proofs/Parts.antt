@@ -1,5 +1,33 @@
 -- The lines of bytes that are taken in parts.
-use Rattle.std.proofs.Common.{◌≡◌, ℕ, suc, ◌+◌, ◌<◌, Bool, get_or, take, drop, length-take, true, false, cond, eqb, arith, length, List, [], ◌∷◌, ◌++◌, refl, sym, ap, ◌∙◌, append_assoc, inl, inr}
+use Rattle.std.proofs.Common.{
+  ◌≡◌,
+  ℕ,
+  suc,
+  ◌+◌,
+  ◌<◌,
+  Bool,
+  get_or,
+  take,
+  drop,
+  length-take,
+  true,
+  false,
+  cond,
+  eqb,
+  arith,
+  length,
+  List,
+  [],
+  ◌∷◌,
+  ◌++◌,
+  refl,
+  sym,
+  ap,
+  ◌∙◌,
+  append_assoc,
+  inl,
+  inr,
+}
 use Rattle.std.proofs.lemmas.Bool.{eqb-true}
 use Rattle.std.proofs.lemmas.List.{append-nil, get_or-take, drop_more, take-append-drop}
 use Rattle.memchr.specs.Find.{NoneBefore, Nowhere, Passes, is_byte}
@@ -24,7 +52,8 @@ unfolding lines_of
 has_line [] = ([], [], refl)
 has_line (b ∷ bs) =
     let h = has_line bs in
-    elim (eqb b 10) as (λ t. (l : List ℕ) × (ls : List (List ℕ)) × (cond t ([] ∷ lines_of (bs ++ 10 ∷ [])) (onto_first b (lines_of (bs ++ 10 ∷ []))) ≡ l ∷ ls)) [
+    elim (eqb b 10) as (λ t. (l : List ℕ) × (ls : List (List ℕ))
+    × (cond t ([] ∷ lines_of (bs ++ 10 ∷ [])) (onto_first b (lines_of (bs ++ 10 ∷ []))) ≡ l ∷ ls)) [
       | true ↦ ([], lines_of (bs ++ 10 ∷ []), refl)
       | false ↦ (b ∷ h.0, h.1, ap (onto_first b) h.2)
     ]
@@ -37,7 +66,8 @@ unfolding lines_of
 ended-append [] x = refl
 ended-append (b ∷ bs) x =
     let h = has_line bs in
-    elim (eqb b 10) as (λ t. cond t ([] ∷ lines_of ((bs ++ 10 ∷ []) ++ x)) (onto_first b (lines_of ((bs ++ 10 ∷ []) ++ x))) ≡ cond t ([] ∷ lines_of (bs ++ 10 ∷ [])) (onto_first b (lines_of (bs ++ 10 ∷ []))) ++ lines_of x) [
+    elim (eqb b 10) as (λ t. cond t ([] ∷ lines_of ((bs ++ 10 ∷ []) ++ x)) (onto_first b (lines_of ((bs ++ 10 ∷ []) ++ x)))
+    ≡ cond t ([] ∷ lines_of (bs ++ 10 ∷ [])) (onto_first b (lines_of (bs ++ 10 ∷ []))) ++ lines_of x) [
       | true ↦ ap (λ (k : List (List ℕ)). [] ∷ k) (ended-append bs x)
       | false ↦ ap (onto_first b) (ended-append bs x) ∙ onto_first-append b h.0 h.1 (lines_of x) (lines_of (bs ++ 10 ∷ [])) h.2
     ]
@@ -78,7 +108,8 @@ IsPartLine-push [] b h e = (e, tt)
 IsPartLine-push (c ∷ p) b h e = (h.0, IsPartLine-push p b h.1 e)
 
 -- part of a line, written or not
-pub output_of-part : (answer : List ℕ → List ℕ) (p : List ℕ) → IsPartLine p → (eqb (length p) 0 ≡ false) → output_of answer p ≡ line_output answer p
+pub output_of-part : (answer : List ℕ → List ℕ) (p : List ℕ) → IsPartLine p → (eqb (length p) 0 ≡ false) →
+    output_of answer p ≡ line_output answer p
 output_of-part answer [] h e = absurd cc
 output_of-part answer (b ∷ bs) h e = output_of-last answer b bs h
 
@@ -112,12 +143,14 @@ pub IsPartLine-all : (hay : List ℕ) → Nowhere (Passes (is_byte 10) hay) 0 (l
 IsPartLine-all hay f = IsPartLine-at hay (λ k l. f k (omega arith) l)
 
 -- the line, its end and the rest
-pub line_split : (hay : List ℕ) (n : ℕ) → NoneBefore (Passes (is_byte 10) hay) 0 (length hay) n → Passes (is_byte 10) hay n → hay ≡ (take n hay ++ 10 ∷ []) ++ drop 1 (drop n hay)
+pub line_split : (hay : List ℕ) (n : ℕ) → NoneBefore (Passes (is_byte 10) hay) 0 (length hay) n → Passes (is_byte 10) hay n →
+    hay ≡ (take n hay ++ 10 ∷ []) ++ drop 1 (drop n hay)
 line_split hay n f p =
     let here : get_or hay n 0 ≡ 10 = eqb-true (get_or hay n 0) 10 p in
     let tail : drop n hay ≡ 10 ∷ drop (n + 1) hay = drop_more hay n 0 f.high ∙ ap (λ (x : ℕ). x ∷ drop (n + 1) hay) here in
     let whole : hay ≡ take n hay ++ drop n hay = sym (take-append-drop n hay) in
-    whole ∙ ap (λ (l : List ℕ). take n hay ++ l) tail ∙ sym (append_assoc (take n hay) (10 ∷ []) (drop (n + 1) hay)) ∙ ap (λ (l : List ℕ). (take n hay ++ 10 ∷ []) ++ l) (ap (drop 1) (sym tail))
+    whole ∙ ap (λ (l : List ℕ). take n hay ++ l) tail ∙ sym (append_assoc (take n hay) (10 ∷ []) (drop (n + 1) hay))
+    ∙ ap (λ (l : List ℕ). (take n hay ++ 10 ∷ []) ++ l) (ap (drop 1) (sym tail))
 
 -- a list of length 0 is empty
 pub nothing_of : (l : List ℕ) → length l ≡ 0 → l ≡ []

@@ -12,7 +12,8 @@ without_return-value (b ∷ c ∷ bs) =
     let more : length (b ∷ c ∷ bs) - 1 ≡ suc (length (c ∷ bs) - 1) = omega arith in
     rw more (ap (λ (k : List ℕ). b ∷ k) (without_return-value (c ∷ bs)) ∙ onto (get_or (c ∷ bs) (length (c ∷ bs) - 1) 0 == 13))
   where
-    onto : (t : Bool) → b ∷ (if t then take (length (c ∷ bs) - 1) (c ∷ bs) else c ∷ bs) ≡ (if t then b ∷ take (length (c ∷ bs) - 1) (c ∷ bs) else b ∷ c ∷ bs)
+    onto : (t : Bool) → b ∷ (if t then take (length (c ∷ bs) - 1) (c ∷ bs) else c ∷ bs)
+        ≡ (if t then b ∷ take (length (c ∷ bs) - 1) (c ∷ bs) else b ∷ c ∷ bs)
     onto true = refl
     onto false = refl
 

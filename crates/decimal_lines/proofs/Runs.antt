@@ -6,11 +6,20 @@ use Rattle.std.specs.Io.KnownBytes.{Appends, Keeps, Consumes, IsAtEnd}
 use Rattle.decimal_lines.specs.Lines.{output_of}
 use Rattle.decimal_lines.specs.Written.{AppendsBeginning, AppendsProperBeginning, Feeds, Breaks, StopsBetween}
 use Rattle.decimal_lines.proofs.Parts.{output_of-append}
-use Rattle.decimal_lines.proofs.Known.{Appends-then, AppendsBeginning-then, AppendsBeginning-nothing, Appends-keeps, AppendsProperBeginning-then, AppendsProperBeginning-more, AppendsProperBeginning-is_beginning}
+use Rattle.decimal_lines.proofs.Known.{
+  Appends-then,
+  AppendsBeginning-then,
+  AppendsBeginning-nothing,
+  Appends-keeps,
+  AppendsProperBeginning-then,
+  AppendsProperBeginning-more,
+  AppendsProperBeginning-is_beginning,
+}
 
 module _ (answer : List ℕ → List ℕ) (w : Option (List ℕ)) where
   -- where reading fails, the output is that of the whole lines before
-  pub stops : (r r' w' : Option (List ℕ)) (got held : List ℕ) → Consumes r r' got → Feeds answer w w' [] got held → IfSome r (λ input. StopsBetween answer w w' input r')
+  pub stops : (r r' w' : Option (List ℕ)) (got held : List ℕ) → Consumes r r' got → Feeds answer w w' [] got held →
+      IfSome r (λ input. StopsBetween answer w w' input r')
   stops None r' w' got held p f = tt
   stops (Some input) None w' got held p f = absurd p
   stops (Some input) (Some rest) w' got held p f = record {
@@ -26,11 +35,13 @@ module _ (answer : List ℕ → List ℕ) (w : Option (List ℕ)) where
 
   begun : (w' : Option (List ℕ)) (bytes : List ℕ) → Breaks answer w w' bytes → AppendsProperBeginning w w' (output_of answer bytes)
   begun w' bytes s =
-      let e : output_of answer bytes ≡ output_of answer s.whole ++ output_of answer s.after = ap (output_of answer) s.parts ∙ output_of-append answer s.whole s.after s.are_whole in
+      let e : output_of answer bytes ≡ output_of answer s.whole ++ output_of answer s.after =
+      ap (output_of answer) s.parts ∙ output_of-append answer s.whole s.after s.are_whole in
       rw e (AppendsProperBeginning-more w w' (output_of answer s.whole) (output_of answer s.after) s.appends)
 
   -- where writing fails, something of the output is left
-  pub breaks : (r r' w' : Option (List ℕ)) (got : List ℕ) → Consumes r r' got → Breaks answer w w' got → IfSome r (λ input. AppendsProperBeginning w w' (output_of answer input))
+  pub breaks : (r r' w' : Option (List ℕ)) (got : List ℕ) → Consumes r r' got → Breaks answer w w' got →
+      IfSome r (λ input. AppendsProperBeginning w w' (output_of answer input))
   breaks None r' w' got p s = tt
   breaks (Some input) None w' got p s = absurd p
   breaks (Some input) (Some rest) w' got p s = begun w' input (record {
@@ -42,20 +53,24 @@ module _ (answer : List ℕ → List ℕ) (w : Option (List ℕ)) where
   })
 
   -- a beginning with something left is a beginning
-  pub proper : (r w' : Option (List ℕ)) → IfSome r (λ input. AppendsProperBeginning w w' (output_of answer input)) → IfSome r (λ input. AppendsBeginning w w' (output_of answer input))
+  pub proper : (r w' : Option (List ℕ)) → IfSome r (λ input. AppendsProperBeginning w w' (output_of answer input)) →
+      IfSome r (λ input. AppendsBeginning w w' (output_of answer input))
   proper None w' p = tt
   proper (Some input) w' p = AppendsProperBeginning-is_beginning w w' (output_of answer input) p
 
   -- what was written so far is a beginning
-  pub pauses : (r r' w' : Option (List ℕ)) (got held : List ℕ) → Consumes r r' got → Feeds answer w w' [] got held → IfSome r (λ input. AppendsBeginning w w' (output_of answer input))
+  pub pauses : (r r' w' : Option (List ℕ)) (got held : List ℕ) → Consumes r r' got → Feeds answer w w' [] got held →
+      IfSome r (λ input. AppendsBeginning w w' (output_of answer input))
   pauses None r' w' got held p f = tt
   pauses (Some input) None w' got held p f = absurd p
   pauses (Some input) (Some rest) w' got held p f =
       let parts : input ≡ f.whole ++ (held ++ rest) = p ∙ ap (λ (k : List ℕ). k ++ rest) f.parts ∙ append_assoc f.whole held rest in
-      let e : output_of answer input ≡ output_of answer f.whole ++ output_of answer (held ++ rest) = ap (output_of answer) parts ∙ output_of-append answer f.whole (held ++ rest) f.are_whole in
+      let e : output_of answer input ≡ output_of answer f.whole ++ output_of answer (held ++ rest) =
+      ap (output_of answer) parts ∙ output_of-append answer f.whole (held ++ rest) f.are_whole in
       (output_of answer f.whole, f.appends, (output_of answer (held ++ rest), e))
 
-  pub pauses_kept : (r r' w' w2 : Option (List ℕ)) (got held : List ℕ) → Consumes r r' got → Feeds answer w w' [] got held → Keeps w' w2 → IfSome r (λ input. AppendsBeginning w w2 (output_of answer input))
+  pub pauses_kept : (r r' w' w2 : Option (List ℕ)) (got held : List ℕ) → Consumes r r' got → Feeds answer w w' [] got held → Keeps w' w2 →
+      IfSome r (λ input. AppendsBeginning w w2 (output_of answer input))
   pauses_kept r r' w' w2 got held p f k = pauses r r' w2 got held p (record {
     whole = f.whole;
     are_whole = f.are_whole;
@@ -68,21 +83,24 @@ module _ (answer : List ℕ → List ℕ) (w : Option (List ℕ)) where
     whole_output : output_of answer got ≡ output_of answer f.whole ++ output_of answer held
     whole_output = ap (output_of answer) f.parts ∙ output_of-append answer f.whole held f.are_whole
 
-    pub ends : (r r' w2 : Option (List ℕ)) → Consumes r r' got → IsAtEnd r' → Appends w1 w2 (output_of answer held) → IfSome r (λ input. Appends w w2 (output_of answer input) × (r' ≡ Some []))
+    pub ends : (r r' w2 : Option (List ℕ)) → Consumes r r' got → IsAtEnd r' → Appends w1 w2 (output_of answer held) →
+        IfSome r (λ input. Appends w w2 (output_of answer input) × (r' ≡ Some []))
     ends None r' w2 p q a = tt
     ends (Some input) None w2 p q a = absurd p
     ends (Some input) (Some rest) w2 p q a =
         let e : input ≡ got = p ∙ ap (λ (k : List ℕ). got ++ k) q ∙ append-nil got in
         (rw (e, whole_output) (Appends-then w w1 w2 (output_of answer f.whole) (output_of answer held) f.appends a), ap Some q)
 
-    pub ends_early : (r r' w2 : Option (List ℕ)) → Consumes r r' got → IsAtEnd r' → AppendsProperBeginning w1 w2 (output_of answer held) → IfSome r (λ input. AppendsProperBeginning w w2 (output_of answer input))
+    pub ends_early : (r r' w2 : Option (List ℕ)) → Consumes r r' got → IsAtEnd r' → AppendsProperBeginning w1 w2 (output_of answer held) →
+        IfSome r (λ input. AppendsProperBeginning w w2 (output_of answer input))
     ends_early None r' w2 p q a = tt
     ends_early (Some input) None w2 p q a = absurd p
     ends_early (Some input) (Some rest) w2 p q a =
         let e : input ≡ got = p ∙ ap (λ (k : List ℕ). got ++ k) q ∙ append-nil got in
         rw (e, whole_output) (AppendsProperBeginning-then w w1 w2 (output_of answer f.whole) (output_of answer held) f.appends a)
 
-    pub ends_begun : (r r' w2 : Option (List ℕ)) → Consumes r r' got → IsAtEnd r' → AppendsBeginning w1 w2 (output_of answer held) → IfSome r (λ input. AppendsBeginning w w2 (output_of answer input))
+    pub ends_begun : (r r' w2 : Option (List ℕ)) → Consumes r r' got → IsAtEnd r' → AppendsBeginning w1 w2 (output_of answer held) →
+        IfSome r (λ input. AppendsBeginning w w2 (output_of answer input))
     ends_begun None r' w2 p q a = tt
     ends_begun (Some input) None w2 p q a = absurd p
     ends_begun (Some input) (Some rest) w2 p q a =

@@ -1,16 +1,33 @@
 -- What a mode shows of one text, which is no line: its events, or why there are none.
-use Rattle.std.specs.Prelude.{◌≡◌, ℕ, ◌<◌, ◌≤◌, ◌⊎◌, List, ◌++◌, length, nat_le, Option, Some, None, Result, Ok, Err, if◌then◌else◌, pos}
-use Rattle.icu_base.specs.Events.{Event, text_of, without_parts}
+use Rattle.std.specs.Prelude.{
+  ◌≡◌,
+  ℕ,
+  ◌<◌,
+  ◌≤◌,
+  ◌⊎◌,
+  List,
+  ◌++◌,
+  length,
+  nat_le,
+  Option,
+  Some,
+  None,
+  Result,
+  Ok,
+  Err,
+  if◌then◌else◌,
+  pos,
+}
+use Rattle.icu_base.specs.Events.{Event, text_of}
 use Rattle.fixed_decimal.specs.declared.signs.Sign.{Sign}
 use Rattle.fixed_decimal.specs.Reading.{reading}
 use Rattle.fixed_decimal.specs.Size.{size, ten_to}
 use Rattle.fixed_decimal.specs.Unsigned.{Unsigned}
-use Rattle.icu_decimal_data.specs.CompactTable.{TableEntry}
-use Rattle.icu_decimal.specs.CompactFormat.{CompactFormat, filled_events}
-use Rattle.icu_decimal.specs.Decimal.{decimal_events, signed_events}
-use Rattle.icu_decimal.specs.Displayed.{displayed_entry}
+use Rattle.icu_decimal.specs.CompactFormat.{CompactFormat}
+use Rattle.icu_decimal.specs.Decimal.{decimal_events}
 use Rattle.decimal_lines.specs.Answers.{is_within_limits}
-use Rattle.decimal_lines.specs.Computed.{nearest_number, significand_shown}
+use Rattle.decimal_lines.specs.Compact.{events_shown}
+use Rattle.decimal_lines.specs.Computed.{nearest_number}
 use Rattle.decimal_lines.specs.Filled.{IsFilled}
 use Rattle.decimal_lines.specs.declared.alone.TextError.{TextError}
 use Rattle.decimal_lines.specs.declared.alone.TextError.TheVariants.{NotDecimal, TooManyDigits, Overflow, OutOfMemory}
@@ -26,18 +43,11 @@ within_or (Some (sign, d)) = if is_within_limits d then Ok (sign, d) else Err To
 unfoldable pub decimal_read : List ℕ → Result (Sign × Unsigned) TextError
 decimal_read text = within_or (reading text)
 
--- the events of a significand in the pattern of an entry, with the affixes of the sign
-abbrev pub events_by : CompactFormat → Sign → Option TableEntry → Unsigned → List Event
-events_by format sign entry significand = signed_events format.decimal.symbols sign (without_parts (filled_events format entry significand))
-
--- those by which d is displayed as the size y
-abbrev pub events_shown : CompactFormat → Sign → Unsigned → ℕ → List Event
-events_shown format sign d y = events_by format sign (displayed_entry format.table y) (significand_shown format.table d y)
-
--- those of the compact number that is nearest to d, or that it is ten to the power 32768 or more
+-- the events of the compact number that is nearest to d, or that it is ten to the power 32768 or more
 unfoldable pub compact_events : CompactFormat → Sign → Unsigned → Result (List Event) TextError
 compact_events format sign d =
-    if nat_le (ten_to (pos 32768)) (nearest_number format.table (size d)) then Err Overflow else Ok (events_shown format sign d (nearest_number format.table (size d)))
+    if nat_le (ten_to (pos 32768)) (nearest_number format.table (size d)) then Err Overflow
+    else Ok (events_shown format sign d (nearest_number format.table (size d)))
 
 -- what a mode shows of a decimal
 abbrev pub mode_events : Mode → Sign → Unsigned → Result (List Event) TextError

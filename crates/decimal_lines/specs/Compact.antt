@@ -24,17 +24,17 @@ pub record IsCompactText (format : CompactFormat) (sign : Sign) (d : Unsigned) (
 abbrev pub IsCompactAnswer : CompactFormat → Sign → Unsigned → List ℕ → Type 0
 IsCompactAnswer format sign d answer = IsCompactText format sign d answer ⊎ (ShowsPastLimits format.table (size d) × (answer ≡ codes "error: overflow"))
 
--- the characters of the sign around a significand in the pattern of an entry
-abbrev pub text_by : CompactFormat → Sign → Option TableEntry → Unsigned → List ℕ
-text_by format sign entry significand = text_of (signed_events format.decimal.symbols sign (without_parts (filled_events format entry significand)))
+-- the events of a significand in the pattern of an entry, with the affixes of the sign
+abbrev pub events_by : CompactFormat → Sign → Option TableEntry → Unsigned → List Event
+events_by format sign entry significand = signed_events format.decimal.symbols sign (without_parts (filled_events format entry significand))
 
--- the text by which d is displayed as the size y
-abbrev pub text_shown : CompactFormat → Sign → Unsigned → ℕ → List ℕ
-text_shown format sign d y = text_by format sign (displayed_entry format.table y) (significand_shown format.table d y)
+-- those by which d is displayed as the size y
+abbrev pub events_shown : CompactFormat → Sign → Unsigned → ℕ → List Event
+events_shown format sign d y = events_by format sign (displayed_entry format.table y) (significand_shown format.table d y)
 
 -- the characters that a compact formatter writes for a decimal whose nearest compact number is within the limits
 unfoldable pub compact_text : CompactFormat → Sign → Unsigned → List ℕ
-compact_text format sign d = text_shown format sign d (nearest_number format.table (size d))
+compact_text format sign d = text_of (events_shown format sign d (nearest_number format.table (size d)))
 
 -- the answer to a decimal: that text, or `error: overflow` from ten to the power 32768 on
 unfoldable pub compact_answer : CompactFormat → Sign → Unsigned → List ℕ

@@ -1,6 +1,25 @@
 -- The compact number nearest to a size, and the decimal of a size, computed. What they mean is stated by `IsNearestCompact`
 -- and `IsDisplayed`; these definitions follow no step of the code.
-use Rattle.std.specs.Prelude.{ℕ, zero, suc, ◌+◌, ◌-◌, ◌*◌, ◌^◌, ◌/◌, ◌%◌, ◌==◌, List, [], ◌∷◌, nat_lt, if◌then◌else◌, ℤ, pos, negsuc}
+use Rattle.std.specs.Prelude.{
+  ℕ,
+  zero,
+  suc,
+  ◌+◌,
+  ◌-◌,
+  ◌*◌,
+  ◌^◌,
+  ◌/◌,
+  ◌%◌,
+  ◌==◌,
+  List,
+  [],
+  ◌∷◌,
+  nat_lt,
+  if◌then◌else◌,
+  ℤ,
+  pos,
+  negsuc,
+}
 use Rattle.fixed_decimal.specs.Size.{finest, magnitude}
 use Rattle.fixed_decimal.specs.Unsigned.{Unsigned}
 use Rattle.icu_decimal_data.specs.CompactTable.{TableEntry, exponent_of}

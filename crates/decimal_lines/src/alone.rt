@@ -112,7 +112,8 @@ pub fn format_text(
     output: &mut [u8],
 ) -> Result<usize, TextError>
     // Where the text has room, the output holds it, and else what it held.
-    ensures ok { IfOk result (λ n. HoldsShown (events_of mode.now text.now) output.old output.new n) }
+    ensures ok { IfOk result (λ n.
+        HoldsShown (events_of mode.now text.now) output.old output.new n) }
 
     // The text is refused, or memory is.
     ensures refused { IfErr result (λ error. IsRefusal (events_of mode.now text.now) error) }

@@ -38,7 +38,12 @@ fn answer_line(
 
 /// How far an input is answered that isn't answered whole.
 fn stopped(consumed: usize, written: usize, needed: usize, error: FillError) -> Progress
-    ensures { result ≡ record { consumed = consumed; written = written; needed = needed; outcome = Err error } }
+    ensures { result ≡ record {
+      consumed = consumed;
+      written = written;
+      needed = needed;
+      outcome = Err error;
+    } }
 {
     Progress {
         consumed,

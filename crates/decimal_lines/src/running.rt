@@ -72,14 +72,18 @@ fn run_by<R: Read, W: Write>(
 ) -> Result<(), RunError>
     requires { 0 < length block.old }
     ensures ok { OnOk result (IfSome (R.remaining reader.old) (λ input.
-        Appends (W.contents writer.old) (W.contents writer.new) (output_of (answer_to mode.now) input)
+        Appends (W.contents writer.old) (W.contents writer.new)
+        (output_of (answer_to mode.now) input)
         × (R.remaining reader.new ≡ Some []))) }
     ensures err { OnErr result (IfSome (R.remaining reader.old) (λ input.
-        AppendsBeginning (W.contents writer.old) (W.contents writer.new) (output_of (answer_to mode.now) input))) }
+        AppendsBeginning (W.contents writer.old) (W.contents writer.new)
+        (output_of (answer_to mode.now) input))) }
     ensures read { result ≡ Err RunError.Read → IfSome (R.remaining reader.old) (λ input.
-        StopsBetween (answer_to mode.now) (W.contents writer.old) (W.contents writer.new) input (R.remaining reader.new)) }
+        StopsBetween (answer_to mode.now) (W.contents writer.old) (W.contents writer.new) input
+        (R.remaining reader.new)) }
     ensures write { result ≡ Err RunError.Write → IfSome (R.remaining reader.old) (λ input.
-        AppendsProperBeginning (W.contents writer.old) (W.contents writer.new) (output_of (answer_to mode.now) input)) }
+        AppendsProperBeginning (W.contents writer.old) (W.contents writer.new)
+        (output_of (answer_to mode.now) input)) }
 {
     let mut held = Vec::new(alloc);
     let mut out = Vec::new(alloc);
@@ -121,20 +125,24 @@ pub fn run<R: Read, W: Write>(
 ) -> Result<(), RunError>
     // The output of the whole input was written, and all of it read.
     ensures ok { OnOk result (IfSome (R.remaining reader.old) (λ input.
-        Appends (W.contents writer.old) (W.contents writer.new) (output_of (answer_to mode.now) input)
+        Appends (W.contents writer.old) (W.contents writer.new)
+        (output_of (answer_to mode.now) input)
         × (R.remaining reader.new ≡ Some []))) }
 
     // What was written is a beginning of it;
     ensures err { OnErr result (IfSome (R.remaining reader.old) (λ input.
-        AppendsBeginning (W.contents writer.old) (W.contents writer.new) (output_of (answer_to mode.now) input))) }
+        AppendsBeginning (W.contents writer.old) (W.contents writer.new)
+        (output_of (answer_to mode.now) input))) }
 
     // where reading failed, the output of just the whole lines read so far;
     ensures read { result ≡ Err RunError.Read → IfSome (R.remaining reader.old) (λ input.
-        StopsBetween (answer_to mode.now) (W.contents writer.old) (W.contents writer.new) input (R.remaining reader.new)) }
+        StopsBetween (answer_to mode.now) (W.contents writer.old) (W.contents writer.new) input
+        (R.remaining reader.new)) }
 
     // and where writing failed, something was left to write.
     ensures write { result ≡ Err RunError.Write → IfSome (R.remaining reader.old) (λ input.
-        AppendsProperBeginning (W.contents writer.old) (W.contents writer.new) (output_of (answer_to mode.now) input)) }
+        AppendsProperBeginning (W.contents writer.old) (W.contents writer.new)
+        (output_of (answer_to mode.now) input)) }
 {
     let Ok(mut block) = buffer(alloc, BLOCK_LEN) else {
         return Err(RunError::OutOfMemory);

@@ -51,7 +51,7 @@ fn is_judged(alloc: Global, file: &[u8], want: Result<(), TablesFault>) -> bool 
 
 #[test]
 fn judges_files(rt: HostRuntime) {
-    for (file, want) in FILES {
+    for &(file, want) in &FILES {
         assert!(rt; is_judged(rt.alloc(), file.as_bytes(), want));
     }
 }
@@ -81,7 +81,7 @@ fn is_told_once(alloc: Global, fault: TablesFault, want: &str) -> bool {
 
 #[test]
 fn displays_faults(rt: HostRuntime) {
-    for (fault, want) in TOLD {
+    for &(fault, want) in &TOLD {
         assert!(rt; is_told(rt.alloc(), fault, want), "{want}");
     }
 }

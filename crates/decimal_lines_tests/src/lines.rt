@@ -157,7 +157,7 @@ const ANSWERS: [(&str, &str); 16] = [
 /// The lines of one column of the answers.
 fn column_once(alloc: Global, answers: bool) -> Result<Vec<u8>, AllocError> {
     let mut lines = Vec::new(alloc);
-    for (line, answer) in ANSWERS {
+    for &(line, answer) in &ANSWERS {
         let text = if answers { answer } else { line };
         lines.extend_from_slice(text.as_bytes())?;
         lines.push(b'\n')?;
@@ -203,7 +203,7 @@ const CUT: [(&[u8], &str); 6] = [
 
 #[test]
 fn cuts_lines_and_returns(rt: HostRuntime) {
-    for (input, want) in CUT {
+    for &(input, want) in &CUT {
         assert!(rt; answers(rt.alloc(), input, want.as_bytes()), "at {want}");
     }
 }

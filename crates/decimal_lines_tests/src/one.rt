@@ -105,7 +105,7 @@ fn is_shown(alloc: Global, asked: Asked, text: &[u8], want: Result<&str, TextErr
         return false;
     };
     let mut is_shown = true;
-    for room in ROOMS {
+    for &room in &ROOMS {
         is_shown = is_shown && is_shown_in(alloc, &mode, (text, want), room);
     }
     is_shown
@@ -113,7 +113,7 @@ fn is_shown(alloc: Global, asked: Asked, text: &[u8], want: Result<&str, TextErr
 
 #[test]
 fn shows_one_text(rt: HostRuntime) {
-    for (asked, text, want) in TEXTS {
+    for &(asked, text, want) in &TEXTS {
         assert!(rt; is_shown(rt.alloc(), asked, text, want));
     }
 }
@@ -144,7 +144,7 @@ fn is_so_long(alloc: Global, asked: Asked, count: usize, want: Result<usize, Tex
 
 #[test]
 fn shows_large_texts(rt: HostRuntime) {
-    for (asked, count, want) in NINES {
+    for &(asked, count, want) in &NINES {
         assert!(rt; is_so_long(rt.alloc(), asked, count, want), "{count}");
     }
 }
@@ -209,7 +209,7 @@ fn has_parts(
 
 #[test]
 fn tells_parts(rt: HostRuntime) {
-    for (asked, text, shown, spans) in PARTS {
+    for &(asked, text, shown, spans) in &PARTS {
         assert!(rt;
             has_parts(rt.alloc(), asked, text, (shown, spans)),
             "{shown}"
@@ -242,7 +242,7 @@ const REFUSED: [(Asked, usize, TextError); 3] = [
 
 #[test]
 fn refuses_parts(rt: HostRuntime) {
-    for (asked, count, want) in REFUSED {
+    for &(asked, count, want) in &REFUSED {
         assert!(rt; is_refused(rt.alloc(), asked, count, want), "{count}");
     }
 }

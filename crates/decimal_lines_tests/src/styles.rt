@@ -33,7 +33,7 @@ const STARTS: [(StartError, &str); 3] = [
 
 #[test]
 fn displays_why_there_is_no_mode_under_every_style(rt: HostRuntime) {
-    for (error, want) in STARTS {
+    for &(error, want) in &STARTS {
         assert!(rt; is_styled(rt.alloc(), &error, want), "{want}");
     }
 }
@@ -46,7 +46,7 @@ const RUNS: [(RunError, &str); 3] = [
 
 #[test]
 fn displays_why_a_run_ended_under_every_style(rt: HostRuntime) {
-    for (error, want) in RUNS {
+    for &(error, want) in &RUNS {
         assert!(rt; is_styled(rt.alloc(), &error, want), "{want}");
     }
 }
@@ -58,7 +58,7 @@ const FILLS: [(FillError, &str); 2] = [
 
 #[test]
 fn displays_why_a_room_is_not_filled_under_every_style(rt: HostRuntime) {
-    for (error, want) in FILLS {
+    for &(error, want) in &FILLS {
         assert!(rt; is_styled(rt.alloc(), &error, want), "{want}");
     }
 }

@@ -1,5 +1,6 @@
 -- Rounding decided on digits, and carried to every unit.
-use Rattle.std.proofs.Common.{◌≡◌, ℕ, suc, zero, ◌+◌, ◌*◌, ◌^◌, ◌<◌, ◌≤◌, ◌%◌, ◌/◌, inl, inr, List, [], ◌∷◌, ◌++◌, length, take, drop, get_or, refl, arith, All, zero-add, MatchBool, Bool, true, false, nat_eq, nat_lt}
+use Rattle.std.proofs.Common.{◌≡◌, ℕ, suc, zero, ◌+◌, ◌*◌, ◌^◌, ◌<◌, ◌≤◌, ◌%◌, ◌/◌, inl, inr, List, [], ◌∷◌}
+use Rattle.std.proofs.Common.{◌++◌, length, take, drop, get_or, refl, arith, All, zero-add, MatchBool, Bool, true, false, nat_eq, nat_lt}
 use Rattle.std.proofs.Math.Nat.{mul-le-mul_left}
 use Rattle.std.proofs.lemmas.List.{drop_more, take_more}
 use Rattle.std.proofs.lemmas.List.Elements.{All-drop}
@@ -13,7 +14,8 @@ use Rattle.fixed_decimal.proofs.Weights.{weighed-append, weighed_times, low_belo
 use Rattle.fixed_decimal.proofs.Nearness.{nearest_below, nearest_above, nearest_tie_even, nearest_tie_odd}
 
 -- a finer unit of p parts
-pub up_nearest : (unit q rest p : ℕ) → 0 < p → rest < unit → RoundsUp unit q rest → IsNearest (IsMultiple (unit * p)) (unit * p) (q * (unit * p) + rest * p) ((q + 1) * (unit * p))
+pub up_nearest : (unit q rest p : ℕ) → 0 < p → rest < unit → RoundsUp unit q rest →
+    IsNearest (IsMultiple (unit * p)) (unit * p) (q * (unit * p) + rest * p) ((q + 1) * (unit * p))
 up_nearest unit q rest p some small (inl h) =
     let g : suc unit ≤ 2 * rest = h in
     let s : suc rest ≤ unit = small in
@@ -22,7 +24,8 @@ up_nearest unit q rest p some small (inr (h, (j, e))) =
     nearest_tie_odd (unit * p) q (rest * p) j (rw (← h) (omega arith)) e
 
 -- what is to be rounded down is nearest to the multiple below it
-pub down_nearest : (unit q rest p : ℕ) → 0 < p → RoundsDown unit q rest → IsNearest (IsMultiple (unit * p)) (unit * p) (q * (unit * p) + rest * p) (q * (unit * p))
+pub down_nearest : (unit q rest p : ℕ) → 0 < p → RoundsDown unit q rest →
+    IsNearest (IsMultiple (unit * p)) (unit * p) (q * (unit * p) + rest * p) (q * (unit * p))
 down_nearest unit q rest p some (inl h) =
     let g : suc (2 * rest) ≤ unit = h in
     nearest_below (unit * p) q (rest * p) (omega (arith, mul-le-mul_left p g))
@@ -61,13 +64,15 @@ pub above_at : (q k : ℕ) (ds : List ℕ) → k < length ds → 5 < get_or ds k
 above_at q k ds h s = rw (drop_more ds k 0 h) (first_above q (get_or ds k 0) (drop (k + 1) ds) s)
 
 -- a first digit below five is to be rounded down
-pub below_at : (q k : ℕ) (ds : List ℕ) → k < length ds → AreDigits ds → get_or ds k 0 < 5 → RoundsDown (10 ^ length (drop k ds)) q (weighed 0 (drop k ds))
+pub below_at : (q k : ℕ) (ds : List ℕ) → k < length ds → AreDigits ds → get_or ds k 0 < 5 →
+    RoundsDown (10 ^ length (drop k ds)) q (weighed 0 (drop k ds))
 below_at q k ds h all s =
     let rest : AreDigits (get_or ds k 0 ∷ drop (k + 1) ds) = rw (drop_more ds k 0 h) at (All-drop (λ d. d < 10) k ds all) in
     rw (drop_more ds k 0 h) (first_below q (get_or ds k 0) (drop (k + 1) ds) rest s)
 
 -- a five with a digit behind it is to be rounded up
-pub five_above_at : (q k : ℕ) (ds : List ℕ) → k < length ds → get_or ds k 0 ≡ 5 → ¬ (All (λ d. d ≡ 0) (drop (k + 1) ds)) → RoundsUp (10 ^ length (drop k ds)) q (weighed 0 (drop k ds))
+pub five_above_at : (q k : ℕ) (ds : List ℕ) → k < length ds → get_or ds k 0 ≡ 5 → ¬ (All (λ d. d ≡ 0) (drop (k + 1) ds)) →
+    RoundsUp (10 ^ length (drop k ds)) q (weighed 0 (drop k ds))
 five_above_at q k ds h five other =
     rw (drop_more ds k 0 h, five) (five_above q (drop (k + 1) ds) (not_none (drop (k + 1) ds) other))
   where
@@ -75,20 +80,24 @@ five_above_at q k ds h five other =
     not_none xs some = elim (cases_eq (weighed 0 xs) 0) [ inl e ↦ absurd (some (none_weighed 0 xs e)) | inr e ↦ omega arith ]
 
 -- a five with zeros behind it is just half
-pub half_at : (k : ℕ) (ds : List ℕ) → k < length ds → get_or ds k 0 ≡ 5 → All (λ d. d ≡ 0) (drop (k + 1) ds) → 2 * weighed 0 (drop k ds) ≡ 10 ^ length (drop k ds)
+pub half_at : (k : ℕ) (ds : List ℕ) → k < length ds → get_or ds k 0 ≡ 5 → All (λ d. d ≡ 0) (drop (k + 1) ds) →
+    2 * weighed 0 (drop k ds) ≡ 10 ^ length (drop k ds)
 half_at k ds h five none = rw (drop_more ds k 0 h, five) (five_half (drop (k + 1) ds) none)
 
 -- what the last kept digit decides where the rest is half a unit
-pub last_decides : (unit rest n k : ℕ) (ds : List ℕ) → 2 * rest ≡ unit → n ≡ k + 1 → n ≤ length ds → MatchBool (nat_eq (get_or ds k 0 % 2) 1) (RoundsUp unit (weighed 0 (take n ds)) rest) (RoundsDown unit (weighed 0 (take n ds)) rest)
+pub last_decides : (unit rest n k : ℕ) (ds : List ℕ) → 2 * rest ≡ unit → n ≡ k + 1 → n ≤ length ds →
+    MatchBool (nat_eq (get_or ds k 0 % 2) 1) (RoundsUp unit (weighed 0 (take n ds)) rest) (RoundsDown unit (weighed 0 (take n ds)) rest)
 last_decides unit rest n k ds half e h =
     let inside : k < length ds = omega arith in
     rw (e, take_more ds k 0 inside) (go (nat_eq (get_or ds k 0 % 2) 1) refl)
   where
-    go : (b : Bool) → nat_eq (get_or ds k 0 % 2) 1 ≡ b → MatchBool b (RoundsUp unit (weighed 0 (take k ds ++ get_or ds k 0 ∷ [])) rest) (RoundsDown unit (weighed 0 (take k ds ++ get_or ds k 0 ∷ [])) rest)
+    go : (b : Bool) → nat_eq (get_or ds k 0 % 2) 1 ≡ b →
+        MatchBool b (RoundsUp unit (weighed 0 (take k ds ++ get_or ds k 0 ∷ [])) rest) (RoundsDown unit (weighed 0 (take k ds ++ get_or ds k 0 ∷ [])) rest)
     go true e = inr (half, odd_last (take k ds) (get_or ds k 0) (grind (arith, nat_tests)))
     go false e = inr (half, even_last (take k ds) (get_or ds k 0) (grind (arith, nat_tests)))
 
 -- with no digit kept the number of units is 0, which is even
-pub none_kept : (unit rest n : ℕ) (ds : List ℕ) → 2 * rest ≡ unit → n ≤ 0 → MatchBool (nat_lt 0 n) (RoundsUp unit (weighed 0 (take n ds)) rest) (RoundsDown unit (weighed 0 (take n ds)) rest)
+pub none_kept : (unit rest n : ℕ) (ds : List ℕ) → 2 * rest ≡ unit → n ≤ 0 →
+    MatchBool (nat_lt 0 n) (RoundsUp unit (weighed 0 (take n ds)) rest) (RoundsDown unit (weighed 0 (take n ds)) rest)
 none_kept unit rest zero ds half h = inr (half, (0, refl))
 none_kept unit rest (suc n) ds half h = absurd (omega arith)

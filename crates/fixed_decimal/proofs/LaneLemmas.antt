@@ -1,8 +1,10 @@
 -- From the mask of sixteen lanes to the digits that they begin with.
-use Rattle.std.proofs.Common.{◌≡◌, ℕ, ◌+◌, ◌-◌, ◌*◌, ◌%◌, ◌/◌, ◌^◌, ◌<◌, ◌≤◌, Bool, true, false, not, cond, List, [], ◌∷◌, map, length, get_or, take, drop, Fits, w8, refl, sym, ap, ◌∙◌, arith, zero, suc, replicate, ◌++◌}
+use Rattle.std.proofs.Common.{◌≡◌, ℕ, ◌+◌, ◌-◌, ◌*◌, ◌%◌, ◌/◌, ◌^◌, ◌<◌, ◌≤◌, Bool, true, false, not, cond, List, []}
+use Rattle.std.proofs.Common.{◌∷◌, map, length, get_or, take, drop, Fits, w8, refl, sym, ap, ◌∙◌, arith, zero, suc, replicate, ◌++◌}
 use Rattle.std.proofs.lemmas.Bool.{agree_below, agree_below_at}
 use Rattle.std.proofs.lemmas.Simd.{zip2_splat, zip2_splat_left, map-map, mask_l-mod, leading_from_mask_l, trailing_mask_l, Each1-from_get_or}
-use Rattle.std.proofs.lemmas.List.{length-take-le, drop-drop, drop-replicate, take_all, length-map, drop-map, length-drop, get_or-drop, take-append-le, take-take, take-append-drop, append_assoc}
+use Rattle.std.proofs.lemmas.List.{length-take-le, drop-drop, drop-replicate, take_all, length-map, drop-map, length-drop, get_or-drop, take-append-le}
+use Rattle.std.proofs.lemmas.List.{take-take, take-append-drop, append_assoc}
 use Rattle.std.proofs.lemmas.Slice.{drop-append-drop}
 use Rattle.std.proofs.lemmas.List.Elements.{All-head, All-tail}
 use Rattle.std.proofs.lemmas.List.Sums.{prefix_len-le-length}
@@ -31,7 +33,8 @@ mask_l-drop (suc k) (m ∷ ms) =
     ∙ mask_l-drop k ms
 
 -- the same lanes pass two tests that agree on bytes
-prefix_len-agrees : (p q : ℕ → Bool) → ((x : ℕ) → x < 256 → p x ≡ q x) → (xs : List ℕ) → Each1 (λ x. x < 256) xs → prefix_len p xs ≡ prefix_len q xs
+prefix_len-agrees : (p q : ℕ → Bool) → ((x : ℕ) → x < 256 → p x ≡ q x) → (xs : List ℕ) → Each1 (λ x. x < 256) xs →
+    prefix_len p xs ≡ prefix_len q xs
 prefix_len-agrees p q same [] h = refl
 prefix_len-agrees p q same (x ∷ xs) h = rw (same x h.0, prefix_len-agrees p q same xs h.1) refl
 
@@ -46,16 +49,19 @@ module _ (sub ge : ℕ → ℕ → ℕ) (agree : agree_below (λ x. not (top 7 (
   mask_is : mask % 2 ^ 64 / 2 ^ start ≡ mask_l (map stops (drop start v))
   mask_is =
       let whole : chunk 0 16 v ≡ v = take_all 16 v (omega (arith, long)) in
-      let values : zip2 sub (chunk 0 16 v) (replicate 16 48) ≡ map (λ x. sub x 48) v = ap (λ l. zip2 sub l (replicate 16 48)) whole ∙ zip2_splat sub v 16 48 long in
+      let values : zip2 sub (chunk 0 16 v) (replicate 16 48) ≡ map (λ x. sub x 48) v =
+      ap (λ l. zip2 sub l (replicate 16 48)) whole ∙ zip2_splat sub v 16 48 long in
       let lanes : zip2 ge (replicate 16 10) (zip2 sub (chunk 0 16 v) (replicate 16 48)) ≡ map (λ x. ge 10 (sub x 48)) v =
-      ap (zip2 ge (replicate 16 10)) values ∙ zip2_splat_left ge 10 16 (map (λ x. sub x 48) v) (length-map v (λ x. sub x 48) ∙ long) ∙ map-map (λ y. ge 10 y) (λ x. sub x 48) v in
+      ap (zip2 ge (replicate 16 10)) values ∙ zip2_splat_left ge 10 16 (map (λ x. sub x 48) v) (length-map v (λ x. sub x 48) ∙ long)
+      ∙ map-map (λ y. ge 10 y) (λ x. sub x 48) v in
       ap (λ l. mask_l l % 2 ^ 64 / 2 ^ start) (ap (map (top 7)) lanes ∙ map-map (top 7) (λ x. ge 10 (sub x 48)) v)
       ∙ ap (λ n. n / 2 ^ start) (mask_l-mod (map stops v) 64 (omega (arith, length-map v stops, long)))
       ∙ mask_l-drop start (map stops v)
       ∙ ap mask_l (drop-map stops start v)
 
   digits_are : prefix_len (λ x. not (stops x)) (drop start v) ≡ prefix_len is_ascii_digit (drop start v)
-  digits_are = prefix_len-agrees (λ x. not (stops x)) is_ascii_digit (λ x small. agree_below_at (λ x. not (stops x)) is_ascii_digit 256 x agree small) (drop start v) (Each1-from_get_or (λ x. x < 256) (drop start v) 0 (λ k h. rw (get_or-drop start v k 0) (fits (start + k)).fits))
+  digits_are = prefix_len-agrees (λ x. not (stops x)) is_ascii_digit (λ x small. agree_below_at (λ x. not (stops x)) is_ascii_digit 256 x agree small)
+      (drop start v) (Each1-from_get_or (λ x. x < 256) (drop start v) 0 (λ k h. rw (get_or-drop start v k 0) (fits (start + k)).fits))
 
   -- where no lane behind the start stops, all of them are digits
   pub none_stops : mask % 2 ^ 64 / 2 ^ start ≡ 0 → 16 - start ≡ prefix_len is_ascii_digit (drop start v)
@@ -70,7 +76,8 @@ module _ (sub ge : ℕ → ℕ → ℕ) (agree : agree_below (λ x. not (top 7 (
       ∙ digits_are
 
 -- what is taken from digits gives their values
-pub values_are : (sub : ℕ → ℕ → ℕ) → agree_below (λ x. if is_ascii_digit x then sub x 48 == x - 48 else true) (λ _. true) 256 ≡ true → (v : List ℕ) → length v ≡ 16 → (n : ℕ) → AllPass is_ascii_digit (take n v)
+pub values_are : (sub : ℕ → ℕ → ℕ) → agree_below (λ x. if is_ascii_digit x then sub x 48 == x - 48 else true) (λ _. true) 256 ≡ true →
+    (v : List ℕ) → length v ≡ 16 → (n : ℕ) → AllPass is_ascii_digit (take n v)
     → take n (zip2 sub (chunk 0 16 v) (replicate 16 48)) ≡ digit_values (take n v)
 values_are sub agree v long n digits =
     ap (take n) (ap (λ l. zip2 sub l (replicate 16 48)) (take_all 16 v (omega (arith, long))) ∙ zip2_splat sub v 16 48 long) ∙ go v n digits
@@ -84,17 +91,21 @@ values_are sub agree v long n digits =
     go v zero digits = refl
     go [] (suc n) digits = refl
     go (x ∷ v) (suc n) digits =
-        rw (here x (All-head (λ x. is_ascii_digit x ≡ true) x (take n v) digits), go v n (All-tail (λ x. is_ascii_digit x ≡ true) x (take n v) digits)) refl
+        rw (here x (All-head (λ x. is_ascii_digit x ≡ true) x (take n v) digits), go v n (All-tail (λ x. is_ascii_digit x ≡ true) x (take n v) digits))
+        refl
 
 -- as many bytes of a text's beginning as of its end, written over zeros, are the text and zeros behind it
-pub both_ends : (text zeros first last front result : List ℕ) (n : ℕ) → n ≤ length text → length text ≤ n + n → length text ≤ 16 → zeros ≡ replicate 16 0 → first ≡ take n text → last ≡ drop (length text - n) text
-    → front ≡ first ++ drop (0 + length first) zeros → result ≡ take (length text - n) front ++ (last ++ drop (length text - n + length last) front) → result ≡ text ++ replicate (16 - length text) 0
+pub both_ends : (text zeros first last front result : List ℕ) (n : ℕ) → n ≤ length text → length text ≤ n + n → length text ≤ 16 →
+    zeros ≡ replicate 16 0 → first ≡ take n text → last ≡ drop (length text - n) text
+    → front ≡ first ++ drop (0 + length first) zeros → result ≡ take (length text - n) front ++ (last ++ drop (length text - n + length last) front) →
+    result ≡ text ++ replicate (16 - length text) 0
 both_ends text zeros first last front result n part both short e0 e1 e2 eg er =
     let at : 0 + length first ≡ length first = omega arith in
     let ef : front ≡ first ++ drop (length first) zeros = eg ∙ ap (λ (k : ℕ). first ++ drop k zeros) at in
     let a : length first ≡ n = ap length e1 ∙ length-take-le n text part in
     let b : take (length text - n) front ≡ take (length text - n) text =
-    ap (take (length text - n)) ef ∙ take-append-le (length text - n) first (drop (length first) zeros) (omega (arith, a, both)) ∙ ap (take (length text - n)) e1 ∙ take-take (length text - n) n text (omega (arith, both)) in
+    ap (take (length text - n)) ef ∙ take-append-le (length text - n) first (drop (length first) zeros) (omega (arith, a, both))
+    ∙ ap (take (length text - n)) e1 ∙ take-take (length text - n) n text (omega (arith, both)) in
     let len : length last ≡ length text - (length text - n) = ap length e2 ∙ length-drop (length text - n) text in
     let all : length text - n + length last ≡ length text = omega (arith, len, part) in
     let z : drop (length text - n + length last) front ≡ replicate (16 - length text) 0 =
@@ -111,14 +122,16 @@ both_ends text zeros first last front result n part both short e0 e1 e2 eg er =
     ∙ ap (λ (l : List ℕ). l ++ replicate (16 - length text) 0) (take-append-drop (length text - n) text)
 
 -- zeros behind two texts
-pub both_left : (front back zeros part : List ℕ) → part ≡ drop (length front) zeros → zeros ≡ replicate 16 0 → length front + length back ≤ 16 → drop (length back) part ≡ replicate (16 - (length front + length back)) 0
+pub both_left : (front back zeros part : List ℕ) → part ≡ drop (length front) zeros → zeros ≡ replicate 16 0 → length front + length back ≤ 16 →
+    drop (length back) part ≡ replicate (16 - (length front + length back)) 0
 both_left front back zeros part e f le =
     ap (drop (length back)) (e ∙ ap (drop (length front)) f)
     ∙ drop-drop (length back) (length front) (replicate 16 0)
     ∙ drop-replicate (length front + length back) 16 0
 
 -- zeros behind a text are no digits
-pub padded_digits : (text : List ℕ) (n start : ℕ) → start ≤ length text → prefix_len is_ascii_digit (drop start (text ++ replicate n 0)) ≡ prefix_len is_ascii_digit (drop start text)
+pub padded_digits : (text : List ℕ) (n start : ℕ) → start ≤ length text →
+    prefix_len is_ascii_digit (drop start (text ++ replicate n 0)) ≡ prefix_len is_ascii_digit (drop start text)
 padded_digits text n zero le = go text
   where
     none : (n : ℕ) → prefix_len is_ascii_digit (replicate n 0) ≡ 0
@@ -132,7 +145,8 @@ padded_digits [] n (suc start) le = absurd (omega arith)
 padded_digits (x ∷ text) n (suc start) le = padded_digits text n start (omega arith)
 
 -- digits that end inside a part are all that stand there
-pub part_ends : (n : ℕ) (xs : List ℕ) → prefix_len is_ascii_digit (take n xs) < length (take n xs) → prefix_len is_ascii_digit xs ≡ prefix_len is_ascii_digit (take n xs)
+pub part_ends : (n : ℕ) (xs : List ℕ) → prefix_len is_ascii_digit (take n xs) < length (take n xs) →
+    prefix_len is_ascii_digit xs ≡ prefix_len is_ascii_digit (take n xs)
 part_ends zero xs some = absurd (omega arith)
 part_ends (suc n) [] some = refl
 part_ends (suc n) (x ∷ xs) some = go (is_ascii_digit x) (part_ends n xs) some
@@ -144,18 +158,21 @@ part_ends (suc n) (x ∷ xs) some = go (is_ascii_digit x) (part_ends n xs) some
     go false more some = refl
 
 -- digits that fill a part go on behind it
-pub part_full : (n : ℕ) (xs : List ℕ) → prefix_len is_ascii_digit (take n xs) ≡ n → prefix_len is_ascii_digit xs ≡ n + prefix_len is_ascii_digit (drop n xs)
+pub part_full : (n : ℕ) (xs : List ℕ) → prefix_len is_ascii_digit (take n xs) ≡ n →
+    prefix_len is_ascii_digit xs ≡ n + prefix_len is_ascii_digit (drop n xs)
 part_full zero xs all = omega arith
 part_full (suc n) [] all = absurd (omega arith)
 part_full (suc n) (x ∷ xs) all = go (is_ascii_digit x) (part_full n xs) all
   where
     go : (t : Bool) → (prefix_len is_ascii_digit (take n xs) ≡ n → prefix_len is_ascii_digit xs ≡ n + prefix_len is_ascii_digit (drop n xs))
-        → (if t then 1 + prefix_len is_ascii_digit (take n xs) else 0) ≡ suc n → (if t then 1 + prefix_len is_ascii_digit xs else 0) ≡ suc n + prefix_len is_ascii_digit (drop n xs)
+        → (if t then 1 + prefix_len is_ascii_digit (take n xs) else 0) ≡ suc n →
+        (if t then 1 + prefix_len is_ascii_digit xs else 0) ≡ suc n + prefix_len is_ascii_digit (drop n xs)
     go true more all = omega (arith, more (omega arith))
     go false more all = absurd (omega arith)
 
 -- one more step over sixteen bytes, of which this many are digits
-module _ (text : List ℕ) (count run : ℕ) (inside : count + 16 ≤ length text) (found : run ≡ prefix_len is_ascii_digit (take (count + 16 - count) (drop count text))) where
+module _ (text : List ℕ) (count run : ℕ) (inside : count + 16 ≤ length text)
+    (found : run ≡ prefix_len is_ascii_digit (take (count + 16 - count) (drop count text))) where
   pub step_long : length (take 16 (drop count text)) ≡ 16
   step_long = length-take-le 16 (drop count text) (omega (arith, length-drop count text))
 
@@ -169,11 +186,13 @@ module _ (text : List ℕ) (count run : ℕ) (inside : count + 16 ≤ length tex
   step_within = omega (arith, step_found, step_long, prefix_len-le-length is_ascii_digit (take 16 (drop count text)))
 
   -- with fewer the digits end there
-  pub step_ends : run < 16 → prefix_len is_ascii_digit text ≡ count + prefix_len is_ascii_digit (drop count text) → count + run ≡ prefix_len is_ascii_digit text
+  pub step_ends : run < 16 → prefix_len is_ascii_digit text ≡ count + prefix_len is_ascii_digit (drop count text) →
+      count + run ≡ prefix_len is_ascii_digit text
   step_ends short so_far = omega (arith, so_far, step_found, part_ends 16 (drop count text) (omega (arith, step_found, step_long)))
 
   -- with sixteen they may go on
-  pub step_goes_on : 16 ≤ run → prefix_len is_ascii_digit text ≡ count + prefix_len is_ascii_digit (drop count text) → prefix_len is_ascii_digit text ≡ count + run + prefix_len is_ascii_digit (drop (count + run) text)
+  pub step_goes_on : 16 ≤ run → prefix_len is_ascii_digit text ≡ count + prefix_len is_ascii_digit (drop count text) →
+      prefix_len is_ascii_digit text ≡ count + run + prefix_len is_ascii_digit (drop (count + run) text)
   step_goes_on full so_far =
       let all : run ≡ 16 = omega (arith, step_within) in
       let rest : drop 16 (drop count text) ≡ drop (count + run) text = drop-drop 16 count text ∙ ap (λ (k : ℕ). drop (count + k) text) (sym all) in

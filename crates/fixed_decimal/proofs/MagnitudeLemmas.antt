@@ -1,5 +1,6 @@
 -- The greatest power of ten that a size reaches: laws of the magnitude, on places.
-use Rattle.std.proofs.Common.{◌≡◌, ℕ, zero, suc, ◌+◌, ◌-◌, ◌*◌, ◌^◌, ◌<◌, ◌≤◌, nat_le, ⊎_elim, refl, arith, leb-true, leb-false, ap, ◌∙◌}
+use Rattle.std.proofs.Common.{◌≡◌, ℕ, zero, suc, ◌+◌, ◌-◌, ◌*◌, ◌^◌, ◌<◌, ◌≤◌, nat_le, ⊎_elim, refl, arith, leb-true}
+use Rattle.std.proofs.Common.{leb-false, ap, ◌∙◌}
 use Rattle.std.proofs.Math.Nat.{mul-le-mul_right}
 use Rattle.std.proofs.lemmas.Nat.{pow-add}
 use Rattle.std.proofs.lemmas.Bool.{cases_Bool, cases_order, cases_lt}

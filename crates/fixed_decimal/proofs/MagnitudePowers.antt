@@ -1,5 +1,7 @@
 -- The magnitude_power of a size, and places of powers.
-use Rattle.std.proofs.Common.{◌≡◌, ◌≢◌, ℕ, ◌+◌, ◌-◌, ◌*◌, ◌^◌, ◌<◌, ◌≤◌, ◌⊎◌, inl, inr, List, [], ◌∷◌, ◌++◌, length, drop, get_or, replicate, zero-add, refl, sym, ◌∙◌, ap, arith, ℤ, pos, negsuc, ◌+ℤ◌, ◌-ℤ◌, ◌≤ℤ◌, ◌<ℤ◌}
+use Rattle.std.proofs.Common.{◌≡◌, ◌≢◌, ℕ, ◌+◌, ◌-◌, ◌*◌, ◌^◌, ◌<◌, ◌≤◌, ◌⊎◌, inl, inr, List, [], ◌∷◌}
+use Rattle.std.proofs.Common.{◌++◌, length, drop, get_or, replicate, zero-add, refl, sym, ◌∙◌, ap, arith, ℤ, pos, negsuc, ◌+ℤ◌, ◌-ℤ◌}
+use Rattle.std.proofs.Common.{◌≤ℤ◌, ◌<ℤ◌}
 use Rattle.std.proofs.lemmas.Int.{ints, by_lt_z}
 use Rattle.std.proofs.Math.Nat.{mul-le-mul_left}
 use Rattle.std.proofs.lemmas.Bool.{cases_eq, cases_lt}
@@ -74,13 +76,15 @@ IsMagnitude-at x m k e reached below =
     same (negsuc a) k e = omega (arith, ints)
 
 -- the magnitude_power is the power of the first digit that is not 0
-pub magnitude_first : (ds : List ℕ) (s f : ℕ) (m : ℤ) → AreDigits ds → s ≤ finest → s < length ds → ds ≡ replicate f 0 ++ drop f ds → f < length ds → get_or ds f 0 ≢ 0 → m ≡ (pos (length ds - s) -ℤ pos 1) -ℤ pos f → IsMagnitude (weighed (finest - s) ds) m
+pub magnitude_first : (ds : List ℕ) (s f : ℕ) (m : ℤ) → AreDigits ds → s ≤ finest → s < length ds → ds ≡ replicate f 0 ++ drop f ds →
+    f < length ds → get_or ds f 0 ≢ 0 → m ≡ (pos (length ds - s) -ℤ pos 1) -ℤ pos f → IsMagnitude (weighed (finest - s) ds) m
 magnitude_first ds s f m digits fine some zeros within first e =
     let g = finest - s in
     let d = get_or ds f 0 in
     let rest = drop (f + 1) ds in
     let split : weighed g ds ≡ weighed g (d ∷ rest) =
-    ap (weighed g) zeros ∙ weighed-append g (replicate f 0) (drop f ds) ∙ rw (weighed-replicate_zero (g + length (drop f ds)) f, drop_more ds f 0 within) (zero-add _) in
+    ap (weighed g) zeros ∙ weighed-append g (replicate f 0) (drop f ds)
+    ∙ rw (weighed-replicate_zero (g + length (drop f ds)) f, drop_more ds f 0 within) (zero-add _) in
     let k = g + length rest in
     let at : pos k ≡ pos finest +ℤ m = omega (arith, ints, length-drop (f + 1) ds) in
     let one : 1 ≤ d = omega arith in
@@ -96,10 +100,12 @@ magnitude_none ds s f zeros all =
     inl (ap (weighed (finest - s)) whole ∙ rw (append-nil) (weighed-replicate_zero (finest - s) f), refl)
 
 -- zeros at the end do not count
-pub weighed_trimmed : (ds ys : List ℕ) (s s' z : ℕ) → ds ≡ ys ++ replicate z 0 → s ≡ s' + z → s ≤ finest → weighed (finest - s') ys ≡ weighed (finest - s) ds
+pub weighed_trimmed : (ds ys : List ℕ) (s s' z : ℕ) → ds ≡ ys ++ replicate z 0 → s ≡ s' + z → s ≤ finest →
+    weighed (finest - s') ys ≡ weighed (finest - s) ds
 weighed_trimmed ds ys s s' z e f fine =
     let same : finest - s + z ≡ finest - s' = omega arith in
-    let zeros : weighed (finest - s) (ys ++ replicate z 0) ≡ weighed 0 ys * 10 ^ (finest - s') = rw (zero-add z, same) at (weighed-zeros (finest - s) 0 z ys) in
+    let zeros : weighed (finest - s) (ys ++ replicate z 0) ≡ weighed 0 ys * 10 ^ (finest - s') =
+    rw (zero-add z, same) at (weighed-zeros (finest - s) 0 z ys) in
     weighed_units (finest - s') ys ∙ sym zeros ∙ ap (weighed (finest - s)) (sym e)
 
 -- the place of the magnitude_power

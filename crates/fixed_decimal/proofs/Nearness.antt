@@ -1,5 +1,6 @@
 -- Which multiple of a unit is nearest to q units and a rest.
-use Rattle.std.proofs.Common.{◌≡◌, ◌≢◌, ℕ, suc, ◌+◌, ◌*◌, ◌/◌, ◌%◌, ◌<◌, ◌≤◌, ◌⊎◌, inl, inr, refl, sym, ◌∙◌, ap, arith}
+use Rattle.std.proofs.Common.{◌≡◌, ◌≢◌, ℕ, suc, ◌+◌, ◌*◌, ◌/◌, ◌%◌, ◌<◌, ◌≤◌, ◌⊎◌, inl, inr, refl, sym, ◌∙◌}
+use Rattle.std.proofs.Common.{ap, arith}
 use Rattle.std.proofs.Math.Nat.{mul-le-mul_left}
 use Rattle.std.proofs.lemmas.Bool.{cases_lt, cases_eq, cases_order}
 use Rattle.fixed_decimal.specs.Nearest.{distance, IsMultiple, IsEvenMultiple, IsNearest}
@@ -56,7 +57,8 @@ nearest-unique u x y z some ny nz =
     between : (i j : ℕ) → i < j → (2 * i * u + u + u ≤ 2 * j * u)
     between i j h = let g : suc i ≤ j = h in omega (arith, mul-le-mul_left (2 * u) g)
 
-    apart : IsEvenMultiple u y → IsEvenMultiple u z → y ≢ z → distance x y ≡ distance x z → ((t : ℕ) → IsMultiple u t → distance x y ≤ distance x t) → ⊥
+    apart : IsEvenMultiple u y → IsEvenMultiple u z → y ≢ z → distance x y ≡ distance x z →
+        ((t : ℕ) → IsMultiple u t → distance x y ≤ distance x t) → ⊥
     apart (i, e) (j, f) other same least = elim (cases_lt i j) [
       | inl h ↦ omega (arith, between i j h, least ((2 * i + 1) * u) (2 * i + 1, refl))
       | inr h ↦ elim (cases_eq i j) [

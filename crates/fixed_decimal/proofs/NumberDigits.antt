@@ -1,5 +1,6 @@
 -- The digits of a number, found from the last one on.
-use Rattle.std.proofs.Common.{◌≡◌, ◌≢◌, ℕ, ◌+◌, ◌-◌, ◌*◌, ◌/◌, ◌%◌, ◌^◌, ◌<◌, ◌≤◌, List, [], ◌∷◌, ◌++◌, length, get_or, reverse, refl, ◌∙◌, ap, arith, inl, inr, ℤ, pos, ◌-ℤ◌}
+use Rattle.std.proofs.Common.{◌≡◌, ◌≢◌, ℕ, ◌+◌, ◌-◌, ◌*◌, ◌/◌, ◌%◌, ◌^◌, ◌<◌, ◌≤◌, List, [], ◌∷◌}
+use Rattle.std.proofs.Common.{◌++◌, length, get_or, reverse, refl, ◌∙◌, ap, arith, inl, inr, ℤ, pos, ◌-ℤ◌}
 use Rattle.std.proofs.lemmas.List.{reverse-append, length-reverse, length_push, get_or-reverse}
 use Rattle.std.proofs.lemmas.List.Elements.{All-cons, All-nil, All-push}
 use Rattle.std.proofs.lemmas.Bool.{cases_lt, cases_eq}
@@ -64,7 +65,8 @@ split_number number rest found none is =
     omega (arith, sum)
 
 -- the digits that were split off have the size of the number
-pub split_size : (number rest : ℕ) (found ds : List ℕ) → ds ≡ reverse found → rest ≤ 0 → IsSplit number rest found → weighed (finest - 0) ds ≡ number * 10 ^ (finest + 0)
+pub split_size : (number rest : ℕ) (found ds : List ℕ) → ds ≡ reverse found → rest ≤ 0 → IsSplit number rest found →
+    weighed (finest - 0) ds ≡ number * 10 ^ (finest + 0)
 split_size number rest found ds e none is =
     let same : finest - 0 ≡ finest + 0 = omega arith in
     rw (e, same) (weighed_units (finest + 0) (reverse found) ∙ ap (λ n. n * 10 ^ (finest + 0)) (split_number number rest found none is))
@@ -75,7 +77,8 @@ AreDigits-reverse ds h k d l =
     rw (get_or-reverse ds k d inside) (h (length ds - 1 - k) d (omega arith))
 
 -- the digits that were split off are a decimal
-pub split_valid : (number rest : ℕ) (found ds : List ℕ) → ds ≡ reverse found → length found ≤ 20 → IsSplit number rest found → IsUnsigned (record { digits = ds; scale = 0 })
+pub split_valid : (number rest : ℕ) (found ds : List ℕ) → ds ≡ reverse found → length found ≤ 20 → IsSplit number rest found →
+    IsUnsigned (record { digits = ds; scale = 0 })
 split_valid number rest found ds e few is =
     let l : length ds ≡ length found = ap length e ∙ length-reverse found in
     record {
@@ -86,12 +89,16 @@ split_valid number rest found ds e few is =
     }
 
 -- the greatest power of the digits that were split off
-pub split_high : (number rest : ℕ) (found ds : List ℕ) (m : ℤ) → ds ≡ reverse found → rest ≤ 0 → IsSplit number rest found → m ≡ pos (length ds - 0) -ℤ pos 1 → IsMagnitude (weighed (finest - 0) ds) m
+pub split_high : (number rest : ℕ) (found ds : List ℕ) (m : ℤ) → ds ≡ reverse found → rest ≤ 0 → IsSplit number rest found →
+    m ≡ pos (length ds - 0) -ℤ pos 1 → IsMagnitude (weighed (finest - 0) ds) m
 split_high number rest found ds m e none is at_high =
     let l : length ds ≡ length found = ap length e ∙ length-reverse found in
     let digits : AreDigits ds = rw e (AreDigits-reverse found is.below_ten) in
     elim (cases_eq number 0) [
-      | inl nought ↦ inl (split_size number rest found ds e none is ∙ ap (λ n. n * 10 ^ (finest + 0)) nought ∙ none_at (finest + 0), omega (arith, ints, is.zero_short nought))
+      | inl nought ↦ inl (
+        split_size number rest found ds e none is ∙ ap (λ n. n * 10 ^ (finest + 0)) nought ∙ none_at (finest + 0),
+        omega (arith, ints, is.zero_short nought),
+      )
       | inr other ↦
           let first : get_or ds 0 0 ≢ 0 = rw e (is.first (omega arith) (omega arith)) in
           magnitude_first ds 0 0 m digits (omega arith) (omega (arith, is.some)) refl (omega (arith, is.some)) first (omega (arith, ints))

@@ -1,6 +1,8 @@
 -- A text is a numeral in at most one way, which the digits that it begins with tell.
-use Rattle.std.proofs.Common.{◌≡◌, ◌≢◌, ℕ, ◌+◌, ◌-◌, ◌<◌, ◌≤◌, ◌⊎◌, inl, inr, List, [], ◌∷◌, ◌++◌, length, take, drop, get_or, refl, sym, ◌∙◌, ap, arith, add-zero, length-append, max, true}
-use Rattle.std.proofs.lemmas.List.{append-nil, take_rest, get_or-drop, length-map, take_at, drop_at, drop-drop, drop_all, take_all, length-take, length-drop, get_or-take, drop_more, take-append-drop}
+use Rattle.std.proofs.Common.{◌≡◌, ◌≢◌, ℕ, ◌+◌, ◌-◌, ◌<◌, ◌≤◌, ◌⊎◌, inl, inr, List, [], ◌∷◌, ◌++◌, length, take}
+use Rattle.std.proofs.Common.{drop, get_or, refl, sym, ◌∙◌, ap, arith, add-zero, length-append, max, true}
+use Rattle.std.proofs.lemmas.List.{append-nil, take_rest, get_or-drop, length-map, take_at, drop_at, drop-drop, drop_all, take_all, length-take, length-drop}
+use Rattle.std.proofs.lemmas.List.{get_or-take, drop_more, take-append-drop}
 use Rattle.std.proofs.lemmas.List.Elements.{All-head, All-tail, All-nil, All-cons, All-append, All-map, All-weaker, All-from_get_or}
 use Rattle.std.proofs.lemmas.List.Sums.{prefix_len_passes}
 use Rattle.std.proofs.lemmas.Bool.Decides.{nat_tests}
@@ -16,7 +18,8 @@ use Rattle.fixed_decimal.proofs.Weights.{AreDigits-head, AreDigits-tail}
 pub digit_passes : (d : ℕ) → d < 10 → is_ascii_digit (48 + d) ≡ true
 digit_passes d h = grind (arith, nat_tests)
 
-pub prefix_len-numeral : (before after : List ℕ) → AreDigits before → prefix_len is_ascii_digit (digits_text before ++ fraction_text after) ≡ length before
+pub prefix_len-numeral : (before after : List ℕ) → AreDigits before →
+    prefix_len is_ascii_digit (digits_text before ++ fraction_text after) ≡ length before
 prefix_len-numeral [] [] h = refl
 prefix_len-numeral [] (a ∷ after) h = refl
 prefix_len-numeral (b ∷ before) after h =
@@ -96,9 +99,11 @@ same_numeral Positive Negative n n' h h' e = absurd (different (ap (λ l. get_or
 abbrev pub number_of : List ℕ → List ℕ → Unsigned
 number_of before after = record { digits = integer_of before ++ after; scale = length after }
 
-pub Reads-unique : (text : List ℕ) (s s' : Sign) (n b a : List ℕ) (d : Unsigned) → text ≡ sign_text s ++ n → IsNumeral n b a → Reads text s' d → d ≡ number_of b a
+pub Reads-unique : (text : List ℕ) (s s' : Sign) (n b a : List ℕ) (d : Unsigned) → text ≡ sign_text s ++ n → IsNumeral n b a → Reads text s' d →
+    d ≡ number_of b a
 Reads-unique text s s' n b a d signed is r =
-    let numerals : n ≡ r.numeral = same_numeral s s' n r.numeral (begins_unsigned n b a is) (begins_unsigned r.numeral r.before r.after r.spelled) (sym signed ∙ r.signed) in
+    let numerals : n ≡ r.numeral = same_numeral s s' n r.numeral (begins_unsigned n b a is) (begins_unsigned r.numeral r.before r.after r.spelled)
+    (sym signed ∙ r.signed) in
     let same : (b ≡ r.before) × (a ≡ r.after) = IsNumeral-unique n b a r.before r.after is (rw numerals r.spelled) in
     made d b a (rw (same.0, same.1) r.digits) (rw same.1 r.scale)
   where
@@ -138,7 +143,8 @@ module _ (text : List ℕ) where
   pub tail_passes : (n : ℕ) → prefix_len is_ascii_digit (drop n text) ≡ length (drop n text) → AllPass is_ascii_digit (drop n text)
   tail_passes n all = All-from_get_or (λ x. is_ascii_digit x ≡ true) _ 0 (λ k h. prefix_len_passes is_ascii_digit (drop n text) k 0 (omega arith))
 
-  pub whole_numeral : prefix_len is_ascii_digit text ≡ length text → 0 < length text → IsNumeral text (digit_values (take (prefix_len is_ascii_digit text) text)) (digit_values (drop (prefix_len is_ascii_digit text) text))
+  pub whole_numeral : prefix_len is_ascii_digit text ≡ length text → 0 < length text →
+      IsNumeral text (digit_values (take (prefix_len is_ascii_digit text) text)) (digit_values (drop (prefix_len is_ascii_digit text) text))
   whole_numeral all some =
       let n = prefix_len is_ascii_digit text in
       let none : drop n text ≡ [] = drop_all n text (omega arith) in
@@ -150,7 +156,9 @@ module _ (text : List ℕ) where
         after_digits = All-nil (λ d. d < 10);
       })
 
-  pub pointed_numeral : prefix_len is_ascii_digit text < length text → get_or text (prefix_len is_ascii_digit text) 0 ≡ 46 → 0 < length (drop (prefix_len is_ascii_digit text + 1) text) → AllPass is_ascii_digit (drop (prefix_len is_ascii_digit text + 1) text) → IsNumeral text (digit_values (take (prefix_len is_ascii_digit text) text)) (digit_values (drop (prefix_len is_ascii_digit text + 1) text))
+  pub pointed_numeral : prefix_len is_ascii_digit text < length text → get_or text (prefix_len is_ascii_digit text) 0 ≡ 46 →
+      0 < length (drop (prefix_len is_ascii_digit text + 1) text) → AllPass is_ascii_digit (drop (prefix_len is_ascii_digit text + 1) text) →
+      IsNumeral text (digit_values (take (prefix_len is_ascii_digit text) text)) (digit_values (drop (prefix_len is_ascii_digit text + 1) text))
   pointed_numeral inside point some digits =
       let n = prefix_len is_ascii_digit text in
       record {
@@ -170,10 +178,12 @@ module _ (text : List ℕ) where
         some [] (x ∷ a) h = omega arith
         some (x ∷ b) a h = omega arith
 
-    point_rest : prefix_len is_ascii_digit text < length text → (drop (prefix_len is_ascii_digit text) text ≡ 46 ∷ digits_text after) × (0 < length after)
+    point_rest : prefix_len is_ascii_digit text < length text →
+        (drop (prefix_len is_ascii_digit text) text ≡ 46 ∷ digits_text after) × (0 < length after)
     point_rest inside = cases after (rest_is text before after is)
       where
-        cases : (a : List ℕ) → drop (prefix_len is_ascii_digit text) text ≡ fraction_text a → (drop (prefix_len is_ascii_digit text) text ≡ 46 ∷ digits_text a) × (0 < length a)
+        cases : (a : List ℕ) → drop (prefix_len is_ascii_digit text) text ≡ fraction_text a →
+            (drop (prefix_len is_ascii_digit text) text ≡ 46 ∷ digits_text a) × (0 < length a)
         cases [] e = absurd (omega (arith, ap length e, length-drop (prefix_len is_ascii_digit text) text))
         cases (x ∷ a) e = (e, omega arith)
 
@@ -189,7 +199,8 @@ module _ (text : List ℕ) where
     pub has_fraction : prefix_len is_ascii_digit text < length text → 0 < length (drop (prefix_len is_ascii_digit text + 1) text)
     has_fraction inside = rw (after_is inside) (omega (arith, length-map after (λ d. 48 + d), (point_rest inside).1))
 
-    pub fraction_passes : prefix_len is_ascii_digit text < length text → prefix_len is_ascii_digit (drop (prefix_len is_ascii_digit text + 1) text) ≡ length (drop (prefix_len is_ascii_digit text + 1) text)
+    pub fraction_passes : prefix_len is_ascii_digit text < length text →
+        prefix_len is_ascii_digit (drop (prefix_len is_ascii_digit text + 1) text) ≡ length (drop (prefix_len is_ascii_digit text + 1) text)
     fraction_passes inside = rw (after_is inside) (prefix_len-digits after is.after_digits)
 
 -- the same, as the code names the parts: n is the count of leading digits
@@ -205,12 +216,16 @@ module _ (text : List ℕ) (n : ℕ) (e : n ≡ prefix_len is_ascii_digit text) 
       rw (take_rest, none, e) (front_passes text, All-nil (λ x. is_ascii_digit x ≡ true))
 
   module _ (inside : n < length text) where
-    pub pointed_passes : (m : ℕ) → m ≡ prefix_len is_ascii_digit (take (length text - (n + 1)) (drop (n + 1) text)) → m ≡ length (take (length text - (n + 1)) (drop (n + 1) text)) → AllPass is_ascii_digit (take n text) × AllPass is_ascii_digit (take (length text - (n + 1)) (drop (n + 1) text))
+    pub pointed_passes : (m : ℕ) → m ≡ prefix_len is_ascii_digit (take (length text - (n + 1)) (drop (n + 1) text)) →
+        m ≡ length (take (length text - (n + 1)) (drop (n + 1) text)) →
+        AllPass is_ascii_digit (take n text) × AllPass is_ascii_digit (take (length text - (n + 1)) (drop (n + 1) text))
     pointed_passes m f all =
         let g : prefix_len is_ascii_digit (drop (n + 1) text) ≡ length (drop (n + 1) text) = rw take_rest at (sym f ∙ all) in
         (rw e (front_passes text), rw take_rest (tail_passes text (n + 1) g))
 
-    pub pointed : (m : ℕ) → m ≡ prefix_len is_ascii_digit (take (length text - (n + 1)) (drop (n + 1) text)) → m ≡ length (take (length text - (n + 1)) (drop (n + 1) text)) → get_or text n 0 ≡ 46 → 0 < m → IsNumeral text (digit_values (take n text)) (digit_values (take (length text - (n + 1)) (drop (n + 1) text)))
+    pub pointed : (m : ℕ) → m ≡ prefix_len is_ascii_digit (take (length text - (n + 1)) (drop (n + 1) text)) →
+        m ≡ length (take (length text - (n + 1)) (drop (n + 1) text)) → get_or text n 0 ≡ 46 → 0 < m →
+        IsNumeral text (digit_values (take n text)) (digit_values (take (length text - (n + 1)) (drop (n + 1) text)))
     pointed m f all point some =
         let g : prefix_len is_ascii_digit (drop (n + 1) text) ≡ length (drop (n + 1) text) = rw take_rest at (sym f ∙ all) in
         let l : m ≡ length (drop (n + 1) text) = rw take_rest at all in
@@ -229,7 +244,8 @@ module _ (text : List ℕ) (n : ℕ) (e : n ≡ prefix_len is_ascii_digit text) 
       pub has_fraction_at : 0 < length (take (length text - (n + 1)) (drop (n + 1) text))
       has_fraction_at = rw (take_rest, e) (has_fraction text before after is inside_prefix)
 
-      pub fraction_passes_at : prefix_len is_ascii_digit (take (length text - (n + 1)) (drop (n + 1) text)) ≡ length (take (length text - (n + 1)) (drop (n + 1) text))
+      pub fraction_passes_at : prefix_len is_ascii_digit (take (length text - (n + 1)) (drop (n + 1) text))
+          ≡ length (take (length text - (n + 1)) (drop (n + 1) text))
       fraction_passes_at = rw (take_rest, e) (fraction_passes text before after is inside_prefix)
 
 -- the number is one that the limits allow
@@ -258,12 +274,14 @@ pub Reads-here : (text : List ℕ) (s : Sign) (n b a : List ℕ) → text ≡ si
 Reads-here text s n b a signed is = record { numeral = n; before = b; after = a; signed = signed; spelled = is; digits = refl; scale = refl }
 
 -- past the limits exactly where one of the two lists is too long
-pub past_limits : (text : List ℕ) (s : Sign) (n b a : List ℕ) → text ≡ sign_text s ++ n → IsNumeral n b a → (32768 < length b) ⊎ (32768 < length a) → ReadsPastLimits text
+pub past_limits : (text : List ℕ) (s : Sign) (n b a : List ℕ) → text ≡ sign_text s ++ n → IsNumeral n b a →
+    (32768 < length b) ⊎ (32768 < length a) → ReadsPastLimits text
 past_limits text s n b a signed is (inl h) = (s, number_of b a, Reads-here text s n b a signed is, λ w. absurd (omega (arith, (limits_iff b a w).0)))
 past_limits text s n b a signed is (inr h) = (s, number_of b a, Reads-here text s n b a signed is, λ w. absurd (omega (arith, (limits_iff b a w).1)))
 
 -- a numeral with few digits isn't past the limits
-pub not_past_limits : (text : List ℕ) (s : Sign) (n b a : List ℕ) → text ≡ sign_text s ++ n → IsNumeral n b a → length b ≤ 32768 → length a ≤ 32768 → ¬ (ReadsPastLimits text)
+pub not_past_limits : (text : List ℕ) (s : Sign) (n b a : List ℕ) → text ≡ sign_text s ++ n → IsNumeral n b a → length b ≤ 32768 →
+    length a ≤ 32768 → ¬ (ReadsPastLimits text)
 not_past_limits text s n b a signed is lb la (t, d, r, past) =
     let same : d ≡ number_of b a = Reads-unique text s t n b a d signed is r in
     let valid = number_valid b a is.before_digits is.after_digits lb la in
@@ -274,10 +292,12 @@ pub reads_something : (text : List ℕ) (s : Sign) (n b a : List ℕ) → text �
 reads_something text s n b a signed is none = none s (number_of b a) (Reads-here text s n b a signed is)
 
 -- the same of written digits
-pub text_valid : (before after : List ℕ) → AllPass is_ascii_digit before → AllPass is_ascii_digit after → length before ≤ 32768 → length after ≤ 32768 → IsUnsigned (record { digits = integer_of (digit_values before) ++ digit_values after; scale = length after })
+pub text_valid : (before after : List ℕ) → AllPass is_ascii_digit before → AllPass is_ascii_digit after → length before ≤ 32768 →
+    length after ≤ 32768 → IsUnsigned (record { digits = integer_of (digit_values before) ++ digit_values after; scale = length after })
 text_valid before after hb ha lb la =
     let same : length (digit_values after) ≡ length after = length-map after (λ c. c - 48) in
-    rw same at (number_valid (digit_values before) (digit_values after) (AreDigits-values before hb) (AreDigits-values after ha) (omega (arith, length-map before (λ c. c - 48))) (omega (arith, same)))
+    rw same at (number_valid (digit_values before) (digit_values after) (AreDigits-values before hb) (AreDigits-values after ha)
+    (omega (arith, length-map before (λ c. c - 48))) (omega (arith, same)))
 
 -- the sign is told by the text
 same_sign : (s s' : Sign) (n n' : List ℕ) → BeginsUnsigned n → BeginsUnsigned n' → sign_text s ++ n ≡ sign_text s' ++ n' → s ≡ s'
@@ -300,6 +320,7 @@ same_sign Positive Negative n n' h h' e = absurd (different (ap (λ l. get_or l 
 -- a text spells one sign and one number at most
 pub Reads-one : (text : List ℕ) (s s' : Sign) (d d' : Unsigned) → Reads text s d → Reads text s' d' → (s ≡ s') × (d ≡ d')
 Reads-one text s s' d d' r r' = (
-  same_sign s s' r.numeral r'.numeral (begins_unsigned r.numeral r.before r.after r.spelled) (begins_unsigned r'.numeral r'.before r'.after r'.spelled) (sym r.signed ∙ r'.signed),
+  same_sign s s' r.numeral r'.numeral (begins_unsigned r.numeral r.before r.after r.spelled) (begins_unsigned r'.numeral r'.before r'.after r'.spelled)
+      (sym r.signed ∙ r'.signed),
   Reads-unique text s s r.numeral r.before r.after d r.signed r.spelled r ∙ sym (Reads-unique text s s' r.numeral r.before r.after d' r.signed r.spelled r'),
 )

@@ -1,7 +1,9 @@
 -- Where the digit at a power stands in the list.
-use Rattle.std.proofs.Common.{◌≡◌, ℕ, ◌+◌, ◌-◌, ◌<◌, List, ◌++◌, length, take, reverse, replicate, get_or, inl, inr, ℤ, pos, negsuc, ◌+ℤ◌, ◌-ℤ◌, ◌≤ℤ◌, ◌∙◌, ap, sym, refl, arith}
+use Rattle.std.proofs.Common.{◌≡◌, ℕ, ◌+◌, ◌-◌, ◌<◌, List, ◌++◌, length, take, reverse, replicate, get_or, inl, inr, ℤ, pos, negsuc}
+use Rattle.std.proofs.Common.{◌+ℤ◌, ◌-ℤ◌, ◌≤ℤ◌, ◌∙◌, ap, sym, refl, arith}
 use Rattle.std.proofs.lemmas.Int.{ints}
-use Rattle.std.proofs.lemmas.List.{get_or-reverse, get_or-take, get_or-drop, get_or_past, get_or-replicate, get_or-append-add, get_or_append_left, get_or-append_right, length-take-le, length-reverse, length-replicate}
+use Rattle.std.proofs.lemmas.List.{get_or-reverse, get_or-take, get_or-drop, get_or_past, get_or-replicate, get_or-append-add, get_or_append_left}
+use Rattle.std.proofs.lemmas.List.{get_or-append_right, length-take-le, length-reverse, length-replicate}
 use Rattle.std.proofs.lemmas.Bool.{cases_lt}
 use Rattle.fixed_decimal.specs.Unsigned.{Unsigned, digit_at, integer_count}
 
@@ -16,7 +18,8 @@ zero_at n i = elim (cases_lt i n) [
 padded : (ds : List ℕ) (f b i : ℕ) → get_or (replicate f 0 ++ (ds ++ replicate b 0)) (f + i) 0 ≡ get_or ds i 0
 padded ds f b i =
     let l : length {A = ℕ} (replicate f 0) ≡ f = length-replicate {A = ℕ} f 0 in
-    ap (λ n. get_or (replicate f 0 ++ (ds ++ replicate b 0)) (n + i) 0) (sym l) ∙ get_or-append-add (replicate f 0) (ds ++ replicate b 0) i 0 ∙ behind_zeros ds b i
+    ap (λ n. get_or (replicate f 0 ++ (ds ++ replicate b 0)) (n + i) 0) (sym l) ∙ get_or-append-add (replicate f 0) (ds ++ replicate b 0) i 0
+    ∙ behind_zeros ds b i
   where
     behind_zeros : (ds : List ℕ) (b i : ℕ) → get_or (ds ++ replicate b 0) i 0 ≡ get_or ds i 0
     behind_zeros ds b i = elim (cases_lt i (length ds)) [
@@ -28,7 +31,8 @@ zeros_first : (ds : List ℕ) (f i : ℕ) → i < f → get_or (replicate f 0 ++
 zeros_first ds f i h = get_or_append_left (replicate f 0) ds 0 i (omega (arith, length-replicate {A = ℕ} f 0)) ∙ zero_at f i
 
 -- the digit at a written power, by its place in the list
-pub digit_at_place : (d : Unsigned) (p : ℤ) (i : ℕ) → d.scale < length d.digits → pos i ≡ (pos (integer_count d) -ℤ pos 1) -ℤ p → digit_at d p ≡ get_or d.digits i 0
+pub digit_at_place : (d : Unsigned) (p : ℤ) (i : ℕ) → d.scale < length d.digits → pos i ≡ (pos (integer_count d) -ℤ pos 1) -ℤ p →
+    digit_at d p ≡ get_or d.digits i 0
 digit_at_place d (pos n) i some e =
     let m = integer_count d in
     let len : length (take m d.digits) ≡ m = length-take-le m d.digits (omega arith) in
@@ -41,7 +45,8 @@ digit_at_place d (negsuc n) i some e =
     get_or-drop (integer_count d) d.digits n 0 ∙ ap (λ k. get_or d.digits k 0) place
 
 -- above the written digits each digit is 0
-pub digit_at_above : (d : Unsigned) (p : ℤ) → d.scale < length d.digits → ((pos (integer_count d) -ℤ pos 1) -ℤ p) ≤ℤ negsuc 0 → digit_at d p ≡ 0
+pub digit_at_above : (d : Unsigned) (p : ℤ) → d.scale < length d.digits → ((pos (integer_count d) -ℤ pos 1) -ℤ p) ≤ℤ negsuc 0 →
+    digit_at d p ≡ 0
 digit_at_above d (pos n) some e =
     let m = integer_count d in
     let len : length (take m d.digits) ≡ m = length-take-le m d.digits (omega arith) in
@@ -49,7 +54,8 @@ digit_at_above d (pos n) some e =
 digit_at_above d (negsuc n) some e = absurd (omega (arith, ints))
 
 -- zeros before and behind the digits move each digit, and stand at every power besides
-module _ (d y : Unsigned) (f b : ℕ) (k : ℤ) (some : d.scale < length d.digits) (some' : y.scale < length y.digits) (digits : y.digits ≡ replicate f 0 ++ (d.digits ++ replicate b 0)) (count : pos (integer_count y) ≡ (pos (integer_count d) +ℤ k) +ℤ pos f) where
+module _ (d y : Unsigned) (f b : ℕ) (k : ℤ) (some : d.scale < length d.digits) (some' : y.scale < length y.digits)
+    (digits : y.digits ≡ replicate f 0 ++ (d.digits ++ replicate b 0)) (count : pos (integer_count y) ≡ (pos (integer_count d) +ℤ k) +ℤ pos f) where
   behind : (i : ℕ) → get_or y.digits (f + i) 0 ≡ get_or d.digits i 0
   behind i = ap (λ l. get_or l (f + i) 0) digits ∙ padded d.digits f b i
 
@@ -64,6 +70,7 @@ module _ (d y : Unsigned) (f b : ℕ) (k : ℤ) (some : d.scale < length d.digit
           let above : digit_at d p ≡ 0 = digit_at_above d p some (omega (arith, ints)) in
           elim (cases_lt i f) [
             | inl inside ↦
-                digit_at_place y (p +ℤ k) (f - (i + 1)) some' (omega (arith, ints)) ∙ ap (λ l. get_or l (f - (i + 1)) 0) digits ∙ zeros_first (d.digits ++ replicate b 0) f (f - (i + 1)) (omega arith) ∙ sym above
+                digit_at_place y (p +ℤ k) (f - (i + 1)) some' (omega (arith, ints)) ∙ ap (λ l. get_or l (f - (i + 1)) 0) digits
+                ∙ zeros_first (d.digits ++ replicate b 0) f (f - (i + 1)) (omega arith) ∙ sym above
             | inr past ↦ digit_at_above y (p +ℤ k) some' (omega (arith, ints)) ∙ sym above
           ]

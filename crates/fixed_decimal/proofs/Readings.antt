@@ -1,5 +1,6 @@
 -- What a text reads as, computed and as a relation.
-use Rattle.std.proofs.Common.{◌≡◌, ℕ, ◌<◌, ◌+◌, ◌-◌, Bool, true, false, List, [], ◌∷◌, ◌++◌, length, refl, sym, ap, ◌∙◌, subst, arith, ne_eqb, Option, Some, None, append-nil, All}
+use Rattle.std.proofs.Common.{◌≡◌, ℕ, ◌<◌, ◌+◌, ◌-◌, Bool, true, false, List, [], ◌∷◌, ◌++◌, length, refl, sym, ap, ◌∙◌}
+use Rattle.std.proofs.Common.{subst, arith, ne_eqb, Option, Some, None, append-nil, All}
 use Rattle.std.specs.Prelude.{◌==◌, if◌then◌else◌}
 use Rattle.std.specs.Char.{is_ascii_digit}
 use Rattle.std.specs.Str.{IsUtf8}
@@ -24,23 +25,28 @@ fraction_begins : (ds : List ℕ) → BeginsNoDigit (fraction_text ds)
 fraction_begins [] = tt
 fraction_begins (d ∷ ds) = refl
 
-leading_digits-text : (ds rest : List ℕ) → AreDigits ds → BeginsNoDigit rest → leading_digits (digits_text ds ++ rest) ≡ record { values = ds; rest = rest }
+leading_digits-text : (ds rest : List ℕ) → AreDigits ds → BeginsNoDigit rest →
+    leading_digits (digits_text ds ++ rest) ≡ record { values = ds; rest = rest }
 leading_digits-text [] [] h k = refl
 leading_digits-text [] (b ∷ bs) h k = rw k refl
 leading_digits-text (d ∷ ds) rest h k =
     let same : 48 + d - 48 ≡ d = omega arith in
     rw (digit_passes d (All-head (λ x. x < 10) d ds h), leading_digits-text ds rest (All-tail (λ x. x < 10) d ds h) k, same) refl
 
-after_integer-text : (before after : List ℕ) → 0 < length before + length after → AreDigits after → after_integer before (fraction_text after) ≡ number before after
+after_integer-text : (before after : List ℕ) → 0 < length before + length after → AreDigits after →
+    after_integer before (fraction_text after) ≡ number before after
 after_integer-text [] [] some h = absurd (omega arith)
 after_integer-text (d ∷ ds) [] some h = refl
 after_integer-text before (x ∷ xs) some h =
-    let e : leading_digits (digits_text (x ∷ xs)) ≡ record { values = x ∷ xs; rest = [] } = ap leading_digits (sym (append-nil (digits_text (x ∷ xs)))) ∙ leading_digits-text (x ∷ xs) [] h tt in
+    let e : leading_digits (digits_text (x ∷ xs)) ≡ record { values = x ∷ xs; rest = [] } =
+    ap leading_digits (sym (append-nil (digits_text (x ∷ xs)))) ∙ leading_digits-text (x ∷ xs) [] h tt in
     ap (λ (k : Digits). with_fraction before k.values k.rest) e
 
-unsigned_reading-text : (before after : List ℕ) → 0 < length before + length after → AreDigits before → AreDigits after → unsigned_reading (digits_text before ++ fraction_text after) ≡ number before after
+unsigned_reading-text : (before after : List ℕ) → 0 < length before + length after → AreDigits before → AreDigits after →
+    unsigned_reading (digits_text before ++ fraction_text after) ≡ number before after
 unsigned_reading-text before after some h k =
-    ap (λ (d : Digits). after_integer d.values d.rest) (leading_digits-text before (fraction_text after) h (fraction_begins after)) ∙ after_integer-text before after some k
+    ap (λ (d : Digits). after_integer d.values d.rest) (leading_digits-text before (fraction_text after) h (fraction_begins after))
+    ∙ after_integer-text before after some k
 
 -- no sign stands first
 abbrev BeginsUnsigned : List ℕ → Type 0
@@ -82,10 +88,13 @@ leading_digits-spells : (text : List ℕ) → IsSplit text (leading_digits text)
 leading_digits-spells [] = (refl, All-nil (λ d. d < 10))
 leading_digits-spells (b ∷ bs) = go (is_ascii_digit b) refl (leading_digits bs) (leading_digits-spells bs)
   where
-    go : (t : Bool) → is_ascii_digit b ≡ t → (d : Digits) → IsSplit bs d → IsSplit (b ∷ bs) (if t then digit_before b d else record { values = []; rest = b ∷ bs })
+    go : (t : Bool) → is_ascii_digit b ≡ t → (d : Digits) → IsSplit bs d →
+        IsSplit (b ∷ bs) (if t then digit_before b d else record { values = []; rest = b ∷ bs })
     go true e d is =
-        let back = digit_back b e in
-        (ap (λ (k : List ℕ). b ∷ k) is.0 ∙ ap (λ (x : ℕ). x ∷ (digits_text d.values ++ d.rest)) (sym back.0), All-cons (λ x. x < 10) (b - 48) d.values back.1 is.1)
+        let back = digit_back b e in (
+          ap (λ (k : List ℕ). b ∷ k) is.0 ∙ ap (λ (x : ℕ). x ∷ (digits_text d.values ++ d.rest)) (sym back.0),
+          All-cons (λ x. x < 10) (b - 48) d.values back.1 is.1,
+        )
     go false e d is = (refl, All-nil (λ x. x < 10))
 
 -- the text spells the digits before and after a point, and these are the number
@@ -95,7 +104,8 @@ record Spells (text : List ℕ) (u : Unsigned) : Type 0 where
   numeral : IsNumeral text before after
   is : number before after ≡ Some u
 
-after_integer-spells : (before rest : List ℕ) (u : Unsigned) → AreDigits before → after_integer before rest ≡ Some u → Spells (digits_text before ++ rest) u
+after_integer-spells : (before rest : List ℕ) (u : Unsigned) → AreDigits before → after_integer before rest ≡ Some u →
+    Spells (digits_text before ++ rest) u
 after_integer-spells [] [] u h e = absurd cc
 after_integer-spells (d ∷ ds) [] u h e = record {
   before = d ∷ ds;
@@ -108,14 +118,16 @@ after_integer-spells before (b ∷ bs) u h e = at_point (b == 46) refl e
     with_digits : (d : Digits) → IsSplit bs d → b ≡ 46 → with_fraction before d.values d.rest ≡ Some u → Spells (digits_text before ++ b ∷ bs) u
     with_digits d is point f = go d.values d.rest is.0 is.1 f
       where
-        go : (v r : List ℕ) → bs ≡ digits_text v ++ r → AreDigits v → with_fraction before v r ≡ Some u → Spells (digits_text before ++ b ∷ bs) u
+        go : (v r : List ℕ) → bs ≡ digits_text v ++ r → AreDigits v → with_fraction before v r ≡ Some u →
+            Spells (digits_text before ++ b ∷ bs) u
         go [] r e k f = absurd cc
         go (x ∷ xs) (y ∷ ys) e k f = absurd cc
         go (x ∷ xs) [] e k f = record {
           before = before;
           after = x ∷ xs;
           numeral = record {
-            spelled = ap (λ (l : List ℕ). digits_text before ++ l) (ap (λ (y : ℕ). y ∷ bs) point ∙ ap (λ (l : List ℕ). 46 ∷ l) (e ∙ append-nil (digits_text (x ∷ xs))));
+            spelled = ap (λ (l : List ℕ). digits_text before ++ l)
+                (ap (λ (y : ℕ). y ∷ bs) point ∙ ap (λ (l : List ℕ). 46 ∷ l) (e ∙ append-nil (digits_text (x ∷ xs))));
             some_digit = omega arith;
             before_digits = h;
             after_digits = k;
@@ -123,7 +135,8 @@ after_integer-spells before (b ∷ bs) u h e = at_point (b == 46) refl e
           is = f;
         }
 
-    at_point : (t : Bool) → (b == 46) ≡ t → (if t then with_fraction before (leading_digits bs).values (leading_digits bs).rest else None) ≡ Some u → Spells (digits_text before ++ b ∷ bs) u
+    at_point : (t : Bool) → (b == 46) ≡ t → (if t then with_fraction before (leading_digits bs).values (leading_digits bs).rest else None) ≡ Some u →
+        Spells (digits_text before ++ b ∷ bs) u
     at_point true p f = with_digits (leading_digits bs) (leading_digits-spells bs) (eqb-true b 46 p) f
     at_point false p f = absurd cc
 
@@ -132,7 +145,8 @@ unsigned_reading-spells text u e =
     let is = leading_digits-spells text in
     subst (λ (k : List ℕ). Spells k u) (sym is.0) (after_integer-spells (leading_digits text).values (leading_digits text).rest u is.1 e)
 
-signed-spells : (s s' : Sign) (n : List ℕ) (o : Option Unsigned) (d : Unsigned) → unsigned_reading n ≡ o → signed s' o ≡ Some (s, d) → Reads (sign_text s' ++ n) s d
+signed-spells : (s s' : Sign) (n : List ℕ) (o : Option Unsigned) (d : Unsigned) → unsigned_reading n ≡ o → signed s' o ≡ Some (s, d) →
+    Reads (sign_text s' ++ n) s d
 signed-spells s s' n None d e f = absurd cc
 signed-spells s s' n (Some u) d e f =
     let pair : ◌≡◌ {A = Sign × Unsigned} (s', u) (s, d) = cc in
@@ -157,7 +171,9 @@ unfolding reading
 reading-spells [] s d e = absurd cc
 reading-spells (b ∷ bs) s d e = go (b == 45) (b == 43) refl refl e
   where
-    go : (t u : Bool) → (b == 45) ≡ t → (b == 43) ≡ u → (if t then signed Negative (unsigned_reading bs) else (if u then signed Positive (unsigned_reading bs) else signed no_sign (unsigned_reading (b ∷ bs)))) ≡ Some (s, d) → Reads (b ∷ bs) s d
+    go : (t u : Bool) → (b == 45) ≡ t → (b == 43) ≡ u →
+        (if t then signed Negative (unsigned_reading bs) else
+        (if u then signed Positive (unsigned_reading bs) else signed no_sign (unsigned_reading (b ∷ bs)))) ≡ Some (s, d) → Reads (b ∷ bs) s d
     go true u p q e = subst (λ (x : ℕ). Reads (x ∷ bs) s d) (sym (eqb-true b 45 p)) (signed-spells s Negative bs (unsigned_reading bs) d refl e)
     go false true p q e = subst (λ (x : ℕ). Reads (x ∷ bs) s d) (sym (eqb-true b 43 q)) (signed-spells s Positive bs (unsigned_reading bs) d refl e)
     go false false p q e = signed-spells s no_sign (b ∷ bs) (unsigned_reading (b ∷ bs)) d refl e
@@ -194,6 +210,9 @@ sign_ascii Positive = All-cons (λ b. b < 128) 43 [] (omega arith) (All-nil (λ 
 pub reads_nothing : (text : List ℕ) → ¬ (IsUtf8 text) → ReadsNothing text
 reads_nothing text no_text s d r =
     let is = r.spelled in
-    let number_ascii : All (λ b. b < 128) r.numeral = subst (λ (k : List ℕ). All (λ b. b < 128) k) (sym is.spelled) (All-append (λ b. b < 128) (digits_text r.before) (fraction_text r.after) (digits_ascii r.before is.before_digits) (fraction_ascii r.after is.after_digits)) in
-    let ascii : All (λ b. b < 128) text = subst (λ (k : List ℕ). All (λ b. b < 128) k) (sym r.signed) (All-append (λ b. b < 128) (sign_text s) r.numeral (sign_ascii s) number_ascii) in
+    let number_ascii : All (λ b. b < 128) r.numeral = subst (λ (k : List ℕ). All (λ b. b < 128) k) (sym is.spelled)
+    (All-append (λ b. b < 128) (digits_text r.before) (fraction_text r.after) (digits_ascii r.before is.before_digits)
+    (fraction_ascii r.after is.after_digits)) in
+    let ascii : All (λ b. b < 128) text = subst (λ (k : List ℕ). All (λ b. b < 128) k) (sym r.signed)
+    (All-append (λ b. b < 128) (sign_text s) r.numeral (sign_ascii s) number_ascii) in
     no_text (IsUtf8-from_ascii text (IsAscii-from_all text ascii))

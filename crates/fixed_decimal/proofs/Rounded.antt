@@ -1,5 +1,7 @@
 -- Each way that rounding goes gives a rounded decimal.
-use Rattle.std.proofs.Common.{◌≡◌, ◌≢◌, ℕ, suc, zero, ◌+◌, ◌-◌, ◌^◌, ◌<◌, ◌≤◌, ◌⊎◌, inl, inr, List, [], ◌∷◌, ◌++◌, length, take, drop, get_or, replicate, length-append, refl, ◌∙◌, ap, arith, ℤ, pos, negsuc, ◌-ℤ◌, ◌≤ℤ◌}
+use Rattle.std.proofs.Common.{◌≡◌, ◌≢◌, ℕ, suc, zero, ◌+◌, ◌-◌, ◌^◌, ◌<◌, ◌≤◌, ◌⊎◌, inl, inr, List, [], ◌∷◌}
+use Rattle.std.proofs.Common.{◌++◌, length, take, drop, get_or, replicate, length-append, refl, ◌∙◌, ap, arith, ℤ, pos, negsuc, ◌-ℤ◌}
+use Rattle.std.proofs.Common.{◌≤ℤ◌}
 use Rattle.std.specs.Int.{int_min, int_max}
 use Rattle.std.proofs.lemmas.Int.{ints, clamps}
 use Rattle.std.proofs.lemmas.List.{length-replicate, length-take-le}
@@ -27,7 +29,8 @@ low_scale (pos n) = omega (arith, ints, clamps)
 low_scale (negsuc n) = omega (arith, ints, clamps)
 
 -- where the range goes no higher than the power below or the old range
-pub rounded_within : (d y : Unsigned) (p : ℤ) → IsUnsigned d → IsUnsigned y → y.scale ≡ scale_at p → pos (integer_count y) ≡ int_max (pos (integer_count d)) p → IsNearestMultiple p (size d) (size y) → IsRounded d p y
+pub rounded_within : (d y : Unsigned) (p : ℤ) → IsUnsigned d → IsUnsigned y → y.scale ≡ scale_at p →
+    pos (integer_count y) ≡ int_max (pos (integer_count d)) p → IsNearestMultiple p (size d) (size y) → IsRounded d p y
 rounded_within d y p isd isy s c near = record {
   nearest = near;
   low_is = rw s (low_scale p);
@@ -35,11 +38,18 @@ rounded_within d y p isd isy s c near = record {
 }
 
 -- where it goes one higher, and is reached
-pub rounded_carry : (d y : Unsigned) (p : ℤ) → IsUnsigned d → IsUnsigned y → y.scale ≡ scale_at p → integer_count y ≡ integer_count d + 1 → p ≤ℤ pos (integer_count d) → 10 ^ (finest + integer_count d) ≤ size y → IsNearestMultiple p (size d) (size y) → IsRounded d p y
+pub rounded_carry : (d y : Unsigned) (p : ℤ) → IsUnsigned d → IsUnsigned y → y.scale ≡ scale_at p → integer_count y ≡ integer_count d + 1 →
+    p ≤ℤ pos (integer_count d) → 10 ^ (finest + integer_count d) ≤ size y → IsNearestMultiple p (size d) (size y) → IsRounded d p y
 rounded_carry d y p isd isy s c below reached near = record {
   nearest = near;
   low_is = rw s (low_scale p);
-  high_is = omega (arith, ints, clamps, magnitude_le-high y (magnitude_power (size y)) isy (magnitude_has (size y)), magnitude_ge (size y) (magnitude_power (size y)) (integer_count d) reached (magnitude_has (size y)));
+  high_is = omega (
+    arith,
+    ints,
+    clamps,
+    magnitude_le-high y (magnitude_power (size y)) isy (magnitude_has (size y)),
+    magnitude_ge (size y) (magnitude_power (size y)) (integer_count d) reached (magnitude_has (size y)),
+  );
 }
 
 -- a decimal that is rounded is within the limits
@@ -49,7 +59,8 @@ not_past d y p is r (z, near, past) =
     let few : integer_count y ≤ 32768 = omega (arith, is.high_limit) in
     omega (arith, size_lt y is, ten_mono (finest + integer_count y) (finest + 32768) (omega arith))
 
-module _ (ds : List ℕ) (s : ℕ) (p : ℤ) (is : IsUnsigned (record { digits = ds; scale = s })) (in_range : negsuc 32767 ≤ℤ p) (below : p ≤ℤ pos 32767) where
+module _ (ds : List ℕ) (s : ℕ) (p : ℤ) (is : IsUnsigned (record { digits = ds; scale = s })) (in_range : negsuc 32767 ≤ℤ p)
+    (below : p ≤ℤ pos 32767) where
   scale_small : scale_at p ≤ 32768
   scale_small = omega (arith, ints, power_is p, one_is_none p)
 
@@ -67,13 +78,15 @@ module _ (ds : List ℕ) (s : ℕ) (p : ℤ) (is : IsUnsigned (record { digits =
 
   -- what is true of digits that are to be the result
   abbrev pub Gives : List ℕ → Type 0
-  Gives ys = IsUnsigned (record { digits = ys; scale = scale_at p }) × IsRounded (record { digits = ds; scale = s }) p (record { digits = ys; scale = scale_at p })
+  Gives ys = IsUnsigned (record { digits = ys; scale = scale_at p })
+      × IsRounded (record { digits = ds; scale = s }) p (record { digits = ys; scale = scale_at p })
 
   keep_is : (kept : ℕ) → pos kept ≡ pos (length ds - s) -ℤ p → kept + zeros_at p ≡ (length ds - s) + scale_at p
   keep_is kept e = omega (arith, ints, power_is p)
 
   -- digits and zeros that give a decimal
-  valid_of : (hs : List ℕ) (k : ℕ) → AreDigits hs → scale_at p < length hs + k → length hs + k ≤ scale_at p + 32768 → IsUnsigned (record { digits = hs ++ replicate k 0; scale = scale_at p })
+  valid_of : (hs : List ℕ) (k : ℕ) → AreDigits hs → scale_at p < length hs + k → length hs + k ≤ scale_at p + 32768 →
+      IsUnsigned (record { digits = hs ++ replicate k 0; scale = scale_at p })
   valid_of hs k digits some few =
       let l : length (hs ++ replicate k 0) ≡ length hs + k = omega (arith, length-append hs (replicate k 0), length-replicate {A = ℕ} k 0) in
       record {
@@ -91,40 +104,49 @@ module _ (ds : List ℕ) (s : ℕ) (p : ℤ) (is : IsUnsigned (record { digits =
       let few : n ≤ 32767 = omega (arith, ints, power_is p, one_is_none p) in
       let valid = valid_of [] n (All-nil (λ d. d < 10)) (omega arith) (omega arith) in (
         valid,
-        rounded_within (record { digits = ds; scale = s }) (record { digits = replicate n 0; scale = scale_at p }) p is valid refl (omega (arith, ints, clamps, power_is p, one_is_none p))
+        rounded_within (record { digits = ds; scale = s }) (record { digits = replicate n 0; scale = scale_at p }) p is valid refl
+            (omega (arith, ints, clamps, power_is p, one_is_none p))
             (nothing ds s (length ds - s) 0 n (scale_at p) (place p) len fine fine' at_place is.below_ten more),
       )
 
   pub rounded_exact : (kept : ℕ) → pos kept ≡ pos (length ds - s) -ℤ p → length ds ≤ kept → Gives (ds ++ replicate (kept - length ds) 0)
   rounded_exact kept e all =
       let keep = keep_is kept e in
-      let l : length (ds ++ replicate (kept - length ds) 0) ≡ kept = omega (arith, length-append ds (replicate (kept - length ds) 0), length-replicate {A = ℕ} (kept - length ds) 0) in
+      let l : length (ds ++ replicate (kept - length ds) 0) ≡ kept =
+      omega (arith, length-append ds (replicate (kept - length ds) 0), length-replicate {A = ℕ} (kept - length ds) 0) in
       let none : zeros_at p ≡ 0 = omega (arith, one_is_none p, is.integer_some) in
       let same : scale_at p - s ≡ kept - length ds = omega (arith, is.integer_some) in
       let valid = valid_of ds (kept - length ds) is.below_ten (omega (arith, is.integer_some)) (omega (arith, is.high_limit)) in (
         valid,
-        rounded_within (record { digits = ds; scale = s }) (record { digits = ds ++ replicate (kept - length ds) 0; scale = scale_at p }) p is valid refl (omega (arith, ints, clamps, power_is p, is.integer_some))
+        rounded_within (record { digits = ds; scale = s }) (record { digits = ds ++ replicate (kept - length ds) 0; scale = scale_at p }) p is valid refl
+            (omega (arith, ints, clamps, power_is p, is.integer_some))
             (rw same at (exact ds s (length ds - s) kept (zeros_at p) (scale_at p) (place p) len fine fine' at_place (omega (arith, is.integer_some)))),
       )
 
   module _ (kept : ℕ) (e : pos kept ≡ pos (length ds - s) -ℤ p) (within : kept ≤ length ds) where
-    pub rounded_down : RoundsDown (10 ^ length (drop kept ds)) (weighed 0 (take kept ds)) (weighed 0 (drop kept ds)) → Gives (take kept ds ++ replicate (zeros_at p) 0)
+    pub rounded_down : RoundsDown (10 ^ length (drop kept ds)) (weighed 0 (take kept ds)) (weighed 0 (drop kept ds)) →
+        Gives (take kept ds ++ replicate (zeros_at p) 0)
     rounded_down half =
         let keep = keep_is kept e in
         let n = zeros_at p in
         let l : length (take kept ds) ≡ kept = length-take-le kept ds within in
-        let l' : length (take kept ds ++ replicate n 0) ≡ kept + n = omega (arith, length-append (take kept ds) (replicate n 0), length-replicate {A = ℕ} n 0) in
+        let l' : length (take kept ds ++ replicate n 0) ≡ kept + n =
+        omega (arith, length-append (take kept ds) (replicate n 0), length-replicate {A = ℕ} n 0) in
         let valid = valid_of (take kept ds) n (All-take (λ d. d < 10) kept ds is.below_ten) (omega (arith, is.integer_some)) (omega (arith, is.high_limit)) in (
           valid,
-          rounded_within (record { digits = ds; scale = s }) (record { digits = take kept ds ++ replicate n 0; scale = scale_at p }) p is valid refl (omega (arith, ints, clamps, power_is p, is.integer_some))
+          rounded_within (record { digits = ds; scale = s }) (record { digits = take kept ds ++ replicate n 0; scale = scale_at p }) p is valid refl
+              (omega (arith, ints, clamps, power_is p, is.integer_some))
               (down ds s (length ds - s) kept n (scale_at p) (place p) len fine fine' at_place keep within half),
         )
 
     module _ (half : RoundsUp (10 ^ length (drop kept ds)) (weighed 0 (take kept ds)) (weighed 0 (drop kept ds))) where
-      near_up : (k : ℕ) (hs : List ℕ) → weighed k hs ≡ weighed 0 (take kept ds) + 1 → IsNearestMultiple p (weighed (finest - s) ds) (weighed (finest - scale_at p) (hs ++ replicate (k + zeros_at p) 0))
-      near_up k hs one_more = up ds s (length ds - s) kept (zeros_at p) (scale_at p) (place p) len fine fine' at_place (All-drop (λ d. d < 10) kept ds is.below_ten) (keep_is kept e) within half k hs one_more
+      near_up : (k : ℕ) (hs : List ℕ) → weighed k hs ≡ weighed 0 (take kept ds) + 1 →
+          IsNearestMultiple p (weighed (finest - s) ds) (weighed (finest - scale_at p) (hs ++ replicate (k + zeros_at p) 0))
+      near_up k hs one_more = up ds s (length ds - s) kept (zeros_at p) (scale_at p) (place p) len fine fine' at_place
+          (All-drop (λ d. d < 10) kept ds is.below_ten) (keep_is kept e) within half k hs one_more
 
-      pub rounded_raised : (left : ℕ) → 0 < left → left ≤ kept → take kept ds ≡ take left ds ++ replicate (kept - left) 9 → get_or ds (left - 1) 0 ≢ 9 → Gives ((take (left - 1) ds ++ (get_or ds (left - 1) 0 + 1) ∷ []) ++ replicate (kept - left + zeros_at p) 0)
+      pub rounded_raised : (left : ℕ) → 0 < left → left ≤ kept → take kept ds ≡ take left ds ++ replicate (kept - left) 9 →
+          get_or ds (left - 1) 0 ≢ 9 → Gives ((take (left - 1) ds ++ (get_or ds (left - 1) 0 + 1) ∷ []) ++ replicate (kept - left + zeros_at p) 0)
       rounded_raised left some le nines not_nine =
           let keep = keep_is kept e in
           let n = zeros_at p in
@@ -133,10 +155,12 @@ module _ (ds : List ℕ) (s : ℕ) (p : ℤ) (is : IsUnsigned (record { digits =
           let small : x < 10 = All-get_or (λ d. d < 10) ds (left - 1) 0 (omega arith) is.below_ten in
           let digits : AreDigits hs = All-push (λ d. d < 10) (take (left - 1) ds) (x + 1) (All-take (λ d. d < 10) (left - 1) ds is.below_ten) (omega arith) in
           let l : length hs ≡ left = omega (arith, length-append (take (left - 1) ds) ((x + 1) ∷ []), length-take-le (left - 1) ds (omega arith)) in
-          let l' : length (hs ++ replicate (kept - left + n) 0) ≡ kept + n = omega (arith, length-append hs (replicate (kept - left + n) 0), length-replicate {A = ℕ} (kept - left + n) 0) in
+          let l' : length (hs ++ replicate (kept - left + n) 0) ≡ kept + n =
+          omega (arith, length-append hs (replicate (kept - left + n) 0), length-replicate {A = ℕ} (kept - left + n) 0) in
           let valid = valid_of hs (kept - left + n) digits (omega (arith, is.integer_some)) (omega (arith, is.high_limit)) in (
             valid,
-            rounded_within (record { digits = ds; scale = s }) (record { digits = hs ++ replicate (kept - left + n) 0; scale = scale_at p }) p is valid refl (omega (arith, ints, clamps, power_is p, is.integer_some))
+            rounded_within (record { digits = ds; scale = s }) (record { digits = hs ++ replicate (kept - left + n) 0; scale = scale_at p }) p is valid refl
+                (omega (arith, ints, clamps, power_is p, is.integer_some))
                 (near_up (kept - left) hs (raised ds kept left some le within nines)),
           )
 
@@ -156,14 +180,19 @@ module _ (ds : List ℕ) (s : ℕ) (p : ℤ) (is : IsUnsigned (record { digits =
             let keep = keep_is kept e in
             let n = zeros_at p in
             let l : length {A = ℕ} (1 ∷ replicate (kept + n) 0) ≡ kept + n + 1 = omega (arith, length-replicate {A = ℕ} (kept + n) 0) in
-            let valid = valid_of (1 ∷ []) (kept + n) (All-cons (λ d. d < 10) 1 [] (omega arith) (All-nil (λ d. d < 10))) (omega (arith, is.integer_some)) (omega arith) in
-            (valid, rounded_carry (record { digits = ds; scale = s }) (record { digits = 1 ∷ replicate (kept + n) 0; scale = scale_at p }) p is valid refl (omega (arith, is.integer_some)) (omega (arith, ints)) reaches near_carry)
+            let valid = valid_of (1 ∷ []) (kept + n) (All-cons (λ d. d < 10) 1 [] (omega arith) (All-nil (λ d. d < 10))) (omega (arith, is.integer_some))
+            (omega arith) in (
+              valid,
+              rounded_carry (record { digits = ds; scale = s }) (record { digits = 1 ∷ replicate (kept + n) 0; scale = scale_at p }) p is valid refl
+                  (omega (arith, is.integer_some)) (omega (arith, ints)) reaches near_carry,
+            )
 
         pub past_limits : length ds - s ≡ 32768 → RoundsPastLimits (record { digits = ds; scale = s }) p
         past_limits full = (weighed (finest - scale_at p) (1 ∷ replicate (kept + zeros_at p) 0), near_carry, rw full at reaches)
 
 -- where none is left but nines, all were nines
-pub all_nines : (ds : List ℕ) (kept left : ℕ) → left ≤ 0 → take kept ds ≡ take left ds ++ replicate (kept - left) 9 → take kept ds ≡ replicate kept 9
+pub all_nines : (ds : List ℕ) (kept left : ℕ) → left ≤ 0 → take kept ds ≡ take left ds ++ replicate (kept - left) 9 →
+    take kept ds ≡ replicate kept 9
 all_nines ds kept zero h e =
     let same : kept - 0 ≡ kept = omega arith in
     e ∙ ap (λ n. replicate n 9) same

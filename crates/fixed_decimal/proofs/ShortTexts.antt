@@ -1,5 +1,6 @@
 -- What is read of a short text: its lanes are the text with zeros behind it.
-use Rattle.std.proofs.Common.{◌≡◌, ℕ, ◌+◌, ◌-◌, ◌<◌, ◌≤◌, List, [], ◌∷◌, ◌++◌, length, take, refl, sym, ap, ◌∙◌, subst, arith, true}
+use Rattle.std.proofs.Common.{◌≡◌, ℕ, ◌+◌, ◌-◌, ◌<◌, ◌≤◌, List, [], ◌∷◌, ◌++◌, length, take, refl, sym, ap, ◌∙◌}
+use Rattle.std.proofs.Common.{subst, arith, true}
 use Rattle.std.proofs.lemmas.List.{length-take-le, take-append-le, append-nil, append_assoc, length-append, length-map, take_at, map-append}
 use Rattle.std.proofs.lemmas.List.Elements.{All-append, All-nil}
 use Rattle.std.specs.List.{prefix_len, AllPass}
@@ -23,17 +24,20 @@ some_integer [] some = absurd (omega arith)
 some_integer (b ∷ bs) some = refl
 
 -- the digits of two texts as their lanes give them
-pub both_values : (integer fraction lanes values rest : List ℕ) → lanes ≡ integer ++ (fraction ++ rest) → 0 < length integer → AllPass is_ascii_digit integer → AllPass is_ascii_digit fraction
+pub both_values : (integer fraction lanes values rest : List ℕ) → lanes ≡ integer ++ (fraction ++ rest) → 0 < length integer →
+    AllPass is_ascii_digit integer → AllPass is_ascii_digit fraction
     → ((k : ℕ) → AllPass is_ascii_digit (take k lanes) → take k values ≡ digit_values (take k lanes))
     → take (length integer + length fraction) values ≡ integer_of (digit_values integer) ++ digit_values fraction
 both_values integer fraction lanes values rest e some front back given =
     ap (λ k. take k values) (sym (length-append integer fraction))
-    ∙ lane_values (integer ++ fraction) lanes values rest (e ∙ sym (append_assoc integer fraction rest)) (All-append (λ b. is_ascii_digit b ≡ true) integer fraction front back) given
+    ∙ lane_values (integer ++ fraction) lanes values rest (e ∙ sym (append_assoc integer fraction rest))
+    (All-append (λ b. is_ascii_digit b ≡ true) integer fraction front back) given
     ∙ map-append (λ c. c - 48) integer fraction
     ∙ ap (λ (l : List ℕ). l ++ digit_values fraction) (some_integer integer some)
 
 -- a whole number of at most sixteen digits is within the limits
-pub whole_valid : (bs : List ℕ) → AllPass is_ascii_digit bs → 0 < length bs → length bs ≤ 16 → IsUnsigned (record { digits = digit_values bs; scale = 0 })
+pub whole_valid : (bs : List ℕ) → AllPass is_ascii_digit bs → 0 < length bs → length bs ≤ 16 →
+    IsUnsigned (record { digits = digit_values bs; scale = 0 })
 whole_valid bs digits some short = record {
   below_ten = AreDigits-values bs digits;
   integer_some = omega (arith, length-map bs (λ c. c - 48));
@@ -46,7 +50,8 @@ pub all_digits : (text : List ℕ) → length text ≡ prefix_len is_ascii_digit
 all_digits text all = tail_passes text 0 (sym all)
 
 -- a text of digits alone is their whole number
-pub whole_number : (text : List ℕ) (d : Unsigned) → AllPass is_ascii_digit text → 0 < length text → d.digits ≡ digit_values text → d.scale ≡ 0 → IsNumber text d
+pub whole_number : (text : List ℕ) (d : Unsigned) → AllPass is_ascii_digit text → 0 < length text → d.digits ≡ digit_values text → d.scale ≡ 0 →
+    IsNumber text d
 whole_number text d digits some e f = record {
   before = digit_values text;
   after = [];
@@ -62,7 +67,16 @@ whole_number text d digits some e f = record {
 
 -- a number behind a sign is what the text reads as
 pub signed_number : (text n : List ℕ) (s : Sign) (d : Unsigned) → text ≡ sign_text s ++ n → IsNumber n d → Reads text s d
-signed_number text n s d signed is = record { numeral = n; before = is.before; after = is.after; signed = signed; spelled = is.spelled; digits = is.digits; scale = is.scale }
+signed_number text n s d signed is = record {
+  numeral = n;
+  before = is.before;
+  after = is.after;
+  signed = signed;
+  spelled = is.spelled;
+  digits =
+      is.digits;
+  scale = is.scale;
+}
 
 -- so the text reads as something
 pub signed_reads : (text n : List ℕ) (s : Sign) (d : Unsigned) → text ≡ sign_text s ++ n → IsNumber n d → ¬ (ReadsNothing text)

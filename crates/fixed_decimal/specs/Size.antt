@@ -1,6 +1,7 @@
 -- Sizes: the number that digits write, as a whole number of units so small that every decimal has one, and the
 -- magnitude of a size. Sizes stand in contracts alone: no call computes one, and no proof writes out their powers of ten.
-use Rattle.std.specs.Prelude.{ℕ, zero, suc, ◌+◌, ◌-◌, ◌*◌, ◌^◌, List, [], ◌∷◌, length, ℤ, pos, negsuc, ◌-ℤ◌, nat_le, if◌then◌else◌}
+use Rattle.std.specs.Prelude.{ℕ, zero, suc, ◌+◌, ◌-◌, ◌*◌, ◌^◌, List, [], ◌∷◌, length, ℤ, pos, negsuc, ◌-ℤ◌, nat_le}
+use Rattle.std.specs.Prelude.{if◌then◌else◌}
 use Rattle.fixed_decimal.specs.Unsigned.{Unsigned}
 
 -- the unit of sizes is ten to the power -33024, which lies below every power that a decimal writes

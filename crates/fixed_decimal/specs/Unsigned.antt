@@ -1,5 +1,6 @@
 -- Unsigned decimals: the written digits and the powers of ten at which they stand (ICU4X `UnsignedDecimal`).
-use Rattle.std.specs.Prelude.{ℕ, ◌+◌, ◌-◌, ◌<◌, ◌≤◌, List, [], ◌∷◌, length, take, drop, reverse, slice_index, ℤ, pos, negsuc, ◌-ℤ◌, All}
+use Rattle.std.specs.Prelude.{ℕ, ◌+◌, ◌-◌, ◌<◌, ◌≤◌, List, [], ◌∷◌, length, take, drop, reverse, slice_index, ℤ, pos, negsuc}
+use Rattle.std.specs.Prelude.{◌-ℤ◌, All}
 
 -- digits, each 0 to 9
 abbrev pub AreDigits : List ℕ → Type 0

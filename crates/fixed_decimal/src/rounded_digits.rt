@@ -83,7 +83,8 @@ impl RoundedDigits {
         ensures zeros { digits_left digits.now self.kept self.raised self.zeros
             ≡ digits_left digits.now result.0.kept result.0.raised result.0.zeros
             ++ replicate (scale - result.1) 0 }
-        ensures last { let left = digits_left digits.now result.0.kept result.0.raised result.0.zeros in
+        ensures last { let left =
+            digits_left digits.now result.0.kept result.0.raised result.0.zeros in
             (result.1 ≡ 0) ⊎ (slice_index left (length left - 1) ≢ 0) }
     {
         let RoundedDigits {

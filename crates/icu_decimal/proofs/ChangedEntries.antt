@@ -1,5 +1,6 @@
 -- When two entries of a table are the same.
-use Rattle.std.proofs.Common.{◌≡◌, ◌≢◌, ℕ, zero, suc, ◌<◌, ◌≤◌, refl, arith, inl, inr, List, [], ◌∷◌, length, Option, Some, None, IfSome, true, false, AllPairs, slice_get, is_some, eq-eqb, ne_eqb, nat_eq, get_or, ap}
+use Rattle.std.proofs.Common.{◌≡◌, ◌≢◌, ℕ, zero, suc, ◌<◌, ◌≤◌, refl, arith, inl, inr, List, [], ◌∷◌, length, Option, Some, None}
+use Rattle.std.proofs.Common.{IfSome, true, false, AllPairs, slice_get, is_some, eq-eqb, ne_eqb, nat_eq, get_or, ap}
 use Rattle.std.specs.Option.{option_eq}
 use Rattle.std.proofs.lemmas.Bool.{cases_order, eqb-true}
 use Rattle.std.proofs.lemmas.Option.{get_or_from_slice_get}
@@ -28,7 +29,8 @@ same_index (Some r) (Some i) e = ap (λ (n : ℕ). Some n) (eqb-true r i e)
 
 module _ (table : List TableEntry) (rises : AllPairs (λ (e f : TableEntry). e.log10_type < f.log10_type) table) where
   -- an entry has a lower type than a later one
-  type_lt : (i j : ℕ) (e f : TableEntry) → slice_get table i ≡ Some e → slice_get table j ≡ Some f → i < j → j < length table → e.log10_type < f.log10_type
+  type_lt : (i j : ℕ) (e f : TableEntry) → slice_get table i ≡ Some e → slice_get table j ≡ Some f → i < j → j < length table →
+      e.log10_type < f.log10_type
   type_lt i j e f at_i at_j h inside =
       let first : (get_or table i e).log10_type ≡ e.log10_type = ap (λ (x : TableEntry). x.log10_type) (get_or_from_slice_get table i e e at_i) in
       let second : (get_or table j e).log10_type ≡ f.log10_type = ap (λ (x : TableEntry). x.log10_type) (get_or_from_slice_get table j f e at_j) in
@@ -36,7 +38,8 @@ module _ (table : List TableEntry) (rises : AllPairs (λ (e f : TableEntry). e.l
       omega arith
 
   -- so the entries at two indices are not the same
-  apart : (i j : ℕ) (o p : Option TableEntry) → slice_get table i ≡ o → slice_get table j ≡ p → is_some o ≡ true → is_some p ≡ true → i < length table → j < length table → i ≢ j → are_same_entry o p ≡ false
+  apart : (i j : ℕ) (o p : Option TableEntry) → slice_get table i ≡ o → slice_get table j ≡ p → is_some o ≡ true → is_some p ≡ true →
+      i < length table → j < length table → i ≢ j → are_same_entry o p ≡ false
   apart i j None p at_i at_j some other hi hj ne = absurd (cc)
   apart i j (Some e) None at_i at_j some other hi hj ne = absurd (cc)
   apart i j (Some e) (Some f) at_i at_j some other hi hj ne = elim (cases_order i j) [
@@ -48,7 +51,8 @@ module _ (table : List TableEntry) (rises : AllPairs (λ (e f : TableEntry). e.l
   ]
 
   -- and so are those at an index and at none
-  pub other_index : (r i : Option ℕ) → IsIndex table r → IsIndex table i → option_eq nat_eq r i ≡ false → are_same_entry (entry_at table r) (entry_at table i) ≡ false
+  pub other_index : (r i : Option ℕ) → IsIndex table r → IsIndex table i → option_eq nat_eq r i ≡ false →
+      are_same_entry (entry_at table r) (entry_at table i) ≡ false
   other_index None None hr hi ne = absurd (cc)
   other_index None (Some i) hr hi ne = go (slice_get table i) (is_some-slice_get table i hi)
     where
@@ -61,13 +65,16 @@ module _ (table : List TableEntry) (rises : AllPairs (λ (e f : TableEntry). e.l
       go None some = absurd (cc)
       go (Some e) some = refl
   other_index (Some r) (Some i) hr hi ne =
-      apart r i (slice_get table r) (slice_get table i) refl refl (is_some-slice_get table r hr) (is_some-slice_get table i hi) hr hi (λ same. let equal = eq-eqb r i same in absurd (cc))
+      apart r i (slice_get table r) (slice_get table i) refl refl (is_some-slice_get table r hr) (is_some-slice_get table i hi) hr hi
+      (λ same. let equal = eq-eqb r i same in absurd (cc))
 
 -- where the entry of a magnitude is not that of a lower one, the magnitude is that of the number one at least
-pub changed_entry_reached : (table : List TableEntry) (m to : ℕ) → m ≤ to → are_same_entry (entry_for table to) (entry_for table m) ≡ false → finest ≤ to
+pub changed_entry_reached : (table : List TableEntry) (m to : ℕ) → m ≤ to → are_same_entry (entry_for table to) (entry_for table m) ≡ false →
+    finest ≤ to
 changed_entry_reached table m to h = go (entry_for table to) (entry_for table m) (entry_reached table to) (entry_reached table m)
   where
-    go : (o p : Option TableEntry) → IfSome o (λ e. type_place e ≤ to) → IfSome p (λ e. type_place e ≤ m) → are_same_entry o p ≡ false → finest ≤ to
+    go : (o p : Option TableEntry) → IfSome o (λ e. type_place e ≤ to) → IfSome p (λ e. type_place e ≤ m) → are_same_entry o p ≡ false →
+        finest ≤ to
     go None None a b same = absurd (cc)
     go None (Some e) a b same = omega arith
     go (Some e) None a b same = omega arith

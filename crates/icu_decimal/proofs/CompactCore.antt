@@ -1,5 +1,6 @@
 -- What the steps of displaying a decimal say of the size displayed.
-use Rattle.std.proofs.Common.{◌≡◌, ℕ, zero, suc, ◌+◌, ◌-◌, ◌*◌, ◌^◌, ◌<◌, ◌≤◌, ◌⊎◌, inl, inr, refl, arith, sym, ap, ◌∙◌, List, Option, Some, None, IfSome, false, pos, ◌-ℤ◌, mul_assoc}
+use Rattle.std.proofs.Common.{◌≡◌, ℕ, zero, suc, ◌+◌, ◌-◌, ◌*◌, ◌^◌, ◌<◌, ◌≤◌, ◌⊎◌, inl, inr, refl, arith, sym, ap}
+use Rattle.std.proofs.Common.{◌∙◌, List, Option, Some, None, IfSome, false, pos, ◌-ℤ◌, mul_assoc}
 use Rattle.std.specs.Int.{int_max}
 use Rattle.std.proofs.lemmas.Int.{ints, clamps}
 use Rattle.std.proofs.lemmas.Nat.{pow-add}
@@ -38,18 +39,23 @@ rounded_from_past_limits table x (z, near, large) =
     (rounded.0, rounded.1, omega arith)
 
 -- no exponent but 0 of an entry is above the magnitude
-pub exponent_le_magnitude : (table : List TableEntry) (m : ℕ) → IsCompactTable table → (exponent_of (entry_for table m) ≡ 0) ⊎ (exponent_of (entry_for table m) + finest ≤ m)
+pub exponent_le_magnitude : (table : List TableEntry) (m : ℕ) → IsCompactTable table →
+    (exponent_of (entry_for table m) ≡ 0) ⊎ (exponent_of (entry_for table m) + finest ≤ m)
 exponent_le_magnitude table m t = go (entry_for table m) (entry_has (λ e. e.exponent ≤ e.log10_type) table m t.exponents_small) (entry_reached table m)
   where
-    go : (o : Option TableEntry) → IfSome o (λ e. e.exponent ≤ e.log10_type) → IfSome o (λ e. type_place e ≤ m) → (exponent_of o ≡ 0) ⊎ (exponent_of o + finest ≤ m)
+    go : (o : Option TableEntry) → IfSome o (λ e. e.exponent ≤ e.log10_type) → IfSome o (λ e. type_place e ≤ m) →
+        (exponent_of o ≡ 0) ⊎ (exponent_of o + finest ≤ m)
     go None h k = inl refl
     go (Some e) h k = inr (omega arith)
 
 -- a decimal that writes no power below a place is a multiple of ten to it
 exact_multiple : (d : Unsigned) (u : ℕ) → u + d.scale ≤ finest → IsMultiple (10 ^ u) (size d)
 exact_multiple d u h =
-    let split = ten_multiple u (finest - d.scale) (omega arith) in
-    (weighed 0 d.digits * split.0, weighed_units (finest - d.scale) d.digits ∙ ap (λ n. weighed 0 d.digits * n) split.1 ∙ sym (mul_assoc (weighed 0 d.digits) split.0 (10 ^ u)))
+    let split = ten_multiple u (finest - d.scale) (omega arith) in (
+      weighed 0 d.digits * split.0,
+      weighed_units (finest - d.scale) d.digits ∙ ap (λ n. weighed 0 d.digits * n) split.1
+          ∙ sym (mul_assoc (weighed 0 d.digits) split.0 (10 ^ u)),
+    )
 
 -- so rounding there leaves it as it is
 pub exact_rounded : (d : Unsigned) (u : ℕ) → u + d.scale ≤ finest → IsRoundedAt u (size d) (size d)
@@ -62,7 +68,8 @@ exact_within d u p h small few (z, near, large) =
     omega (arith, ten_mono p (finest + 32768) few)
 
 -- rounding leaves the magnitude as it is, or carries to the next one
-pub magnitude_steps : (exponent x y : ℕ) → IsRoundedAt (rounding_place exponent (magnitude x)) x y → (magnitude y ≡ magnitude x) ⊎ (magnitude y ≡ magnitude x + 1)
+pub magnitude_steps : (exponent x y : ℕ) → IsRoundedAt (rounding_place exponent (magnitude x)) x y →
+    (magnitude y ≡ magnitude x) ⊎ (magnitude y ≡ magnitude x + 1)
 magnitude_steps exponent zero y r = let none : y ≡ 0 = rounded_zero (rounding_place exponent (magnitude 0)) y r in inl (ap magnitude none)
 magnitude_steps exponent (suc k) y r =
     let within = rounded_within exponent (suc k) y (omega arith) r in
@@ -76,14 +83,16 @@ magnitude_steps exponent (suc k) y r =
 
 -- where rounding carries to the next magnitude, it reaches just the power of ten
 carry_reaches : (exponent x y : ℕ) → magnitude y ≡ magnitude x + 1 → IsRoundedAt (rounding_place exponent (magnitude x)) x y → y ≡ 10 ^ magnitude y
-carry_reaches exponent zero y carry r = let none : y ≡ 0 = rounded_zero (rounding_place exponent (magnitude 0)) y r in absurd (omega (arith, ap magnitude none))
+carry_reaches exponent zero y carry r = let none : y ≡ 0 = rounded_zero (rounding_place exponent (magnitude 0)) y r in
+    absurd (omega (arith, ap magnitude none))
 carry_reaches exponent (suc k) y carry r =
     let within = rounded_within exponent (suc k) y (omega arith) r in
     let same : 10 ^ magnitude y ≡ 10 ^ (magnitude (suc k) + 1) = ap (λ n. 10 ^ n) carry in
     omega (arith, magnitude_low y (omega (arith, ten_pos (magnitude (suc k)))))
 
 -- where the magnitude reached has another entry, it is the next one, and the size is the power of ten
-pub changed_is_ten : (table : List TableEntry) (exponent x y : ℕ) → IsRoundedAt (rounding_place exponent (magnitude x)) x y → are_same_entry (entry_for table (magnitude y)) (entry_for table (magnitude x)) ≡ false → y ≡ 10 ^ magnitude y
+pub changed_is_ten : (table : List TableEntry) (exponent x y : ℕ) → IsRoundedAt (rounding_place exponent (magnitude x)) x y →
+    are_same_entry (entry_for table (magnitude y)) (entry_for table (magnitude x)) ≡ false → y ≡ 10 ^ magnitude y
 changed_is_ten table exponent x y r changed = elim (magnitude_steps exponent x y r) [
   | inl stays ↦ absurd (let itself = same_entry-itself (entry_for table (magnitude x)) in let same = rw stays at changed in cc)
   | inr carry ↦ carry_reaches exponent x y carry r
@@ -101,8 +110,10 @@ magnitude_within u x y r within = elim (cases_lt (magnitude y) (finest + 32768))
 
 -- by the entry of the input's magnitude, where that is the one of the magnitude reached too, the rounded number is displayed
 -- as the significand that the exponent leaves
-pub displayed_by_same : (table : List TableEntry) (d s : Unsigned) (y : ℕ) (by : Option TableEntry) → by ≡ entry_for table (magnitude (size d)) → by ≡ entry_for table (magnitude y) → IsRoundedAt (rounding_place_for table (magnitude (size d))) (size d) y
-    → size s * 10 ^ exponent_of by ≡ y → IsUnsigned s → IsTrimmed s → high s ≡ int_max (pos 0) (int_max (high d) (magnitude_power y) -ℤ pos (exponent_of by)) → IsDisplayed table d y by s
+pub displayed_by_same : (table : List TableEntry) (d s : Unsigned) (y : ℕ) (by : Option TableEntry) → by ≡ entry_for table (magnitude (size d)) →
+    by ≡ entry_for table (magnitude y) → IsRoundedAt (rounding_place_for table (magnitude (size d))) (size d) y
+    → size s * 10 ^ exponent_of by ≡ y → IsUnsigned s → IsTrimmed s →
+    high s ≡ int_max (pos 0) (int_max (high d) (magnitude_power y) -ℤ pos (exponent_of by)) → IsDisplayed table d y by s
 displayed_by_same table d s y by here is r scaled valid trimmed top = record {
   nearest = nearest_compact_from_rounded table (size d) y r;
   entry_is = is;
@@ -113,8 +124,10 @@ displayed_by_same table d s y by here is r scaled valid trimmed top = record {
 }
 
 -- by another entry it is displayed as the power of ten that the exponent leaves
-pub displayed_by_other : (table : List TableEntry) (d s : Unsigned) (y power : ℕ) (by : Option TableEntry) → by ≡ entry_for table (magnitude y) → are_same_entry by (entry_for table (magnitude (size d))) ≡ false
-    → IsRoundedAt (rounding_place_for table (magnitude (size d))) (size d) y → finest + power + exponent_of by ≡ magnitude y → size s ≡ 10 ^ (finest + power) → IsUnsigned s → IsTrimmed s → high s ≡ pos power → IsDisplayed table d y by s
+pub displayed_by_other : (table : List TableEntry) (d s : Unsigned) (y power : ℕ) (by : Option TableEntry) → by ≡ entry_for table (magnitude y) →
+    are_same_entry by (entry_for table (magnitude (size d))) ≡ false
+    → IsRoundedAt (rounding_place_for table (magnitude (size d))) (size d) y → finest + power + exponent_of by ≡ magnitude y →
+    size s ≡ 10 ^ (finest + power) → IsUnsigned s → IsTrimmed s → high s ≡ pos power → IsDisplayed table d y by s
 displayed_by_other table d s y power by is other r sum ten valid trimmed top =
     let changed : are_same_entry (entry_for table (magnitude y)) (entry_for table (magnitude (size d))) ≡ false = rw (← is) other in
     let reached : y ≡ 10 ^ magnitude y = changed_is_ten table (exponent_for table (magnitude (size d))) (size d) y r changed in

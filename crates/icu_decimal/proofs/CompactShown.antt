@@ -6,7 +6,8 @@ use Rattle.fixed_decimal.specs.Unsigned.{Unsigned}
 use Rattle.icu_base.specs.Events.{Event, without_parts}
 use Rattle.icu_base.specs.Patterns.{PatternText}
 use Rattle.icu_decimal_data.specs.CompactTable.{TableEntry, exponent_of}
-use Rattle.icu_decimal.specs.CompactFormat.{CompactFormat, FilledNumber, FormattedCompact, IsCompactFormat, IsCompacted, filled_events, pattern_of, significand_of, compact_shown, signed_compact_shown}
+use Rattle.icu_decimal.specs.CompactFormat.{CompactFormat, FilledNumber, FormattedCompact, IsCompactFormat, IsCompacted, filled_events, pattern_of}
+use Rattle.icu_decimal.specs.CompactFormat.{significand_of, compact_shown, signed_compact_shown}
 use Rattle.icu_decimal.specs.Decimal.{signed_events}
 use Rattle.icu_decimal.specs.Displayed.{IsDisplayed}
 use Rattle.icu_decimal.specs.Formatted.{FormattedNumber}
@@ -15,11 +16,14 @@ use Rattle.icu_decimal.specs.Signed.{Signed, affixes_for}
 use Rattle.icu_decimal.proofs.DisplayedOnce.{displayed_is_one}
 
 -- the parts of a compact number, each as it was made, are one
-pub compacted_of : (format : CompactFormat) (u : Unsigned) (y : ℕ) (entry : Option TableEntry) (significand : Unsigned) (pattern : PatternText) (number : FormattedNumber) (exponent : ℕ)
+pub compacted_of : (format : CompactFormat) (u : Unsigned) (y : ℕ) (entry : Option TableEntry) (significand : Unsigned) (pattern : PatternText)
+    (number : FormattedNumber) (exponent : ℕ)
     → IsDisplayed format.table u y entry significand → exponent ≡ exponent_of entry → pattern ≡ pattern_of format entry significand
-    → number ≡ record { format = format.decimal; number = significand } → IsCompacted format u (record { filled = record { pattern = pattern; number = number }; exponent = exponent })
+    → number ≡ record { format = format.decimal; number = significand } →
+    IsCompacted format u (record { filled = record { pattern = pattern; number = number }; exponent = exponent })
 compacted_of format u y entry significand pattern number exponent displayed exponent_is pattern_is number_is =
-    subst (λ (w : FormattedNumber). IsCompacted format u (record { filled = record { pattern = pattern; number = w }; exponent = exponent })) (sym number_is) (record {
+    subst (λ (w : FormattedNumber). IsCompacted format u (record { filled = record { pattern = pattern; number = w }; exponent = exponent })) (sym number_is)
+    (record {
       shown = y;
       entry = entry;
       displayed = displayed;
@@ -55,7 +59,8 @@ abbrev pub shown_of : FormattedCompact → Shown
 shown_of r = record { significand = significand_of r; exponent = r.exponent; events = compact_shown r }
 
 -- it is what is shown
-pub shows_compact : (format : CompactFormat) (u : Unsigned) (r : FormattedCompact) → IsCompactFormat format None u (significand_of r) r.exponent (compact_shown r) → ShowsCompact format u (shown_of r)
+pub shows_compact : (format : CompactFormat) (u : Unsigned) (r : FormattedCompact) →
+    IsCompactFormat format None u (significand_of r) r.exponent (compact_shown r) → ShowsCompact format u (shown_of r)
 shows_compact format u r h = record { is_shown = h; alone = λ m k. compact_shown_is_one format u (shown_of r) m h k }
 
 -- with a sign around it, it is what `format` writes
@@ -64,7 +69,8 @@ pub signed_compact : (format : CompactFormat) (sign : Sign) (u : Unsigned) (r : 
     → r ≡ record { affixes = affixes_for format.decimal.symbols sign; value = v }
     → IsCompactFormat format sign u (significand_of r.value) r.value.exponent (signed_compact_shown r)
 signed_compact format sign u r v h is =
-    subst (λ (w : Signed FormattedCompact). IsCompactFormat format sign u (significand_of w.value) w.value.exponent (signed_compact_shown w)) (sym is) (record {
+    subst (λ (w : Signed FormattedCompact). IsCompactFormat format sign u (significand_of w.value) w.value.exponent (signed_compact_shown w)) (sym is)
+    (record {
       shown = h.shown;
       entry = h.entry;
       displayed = h.displayed;

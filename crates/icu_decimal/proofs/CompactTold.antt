@@ -1,5 +1,6 @@
 -- What a readable compact text tells.
-use Rattle.std.proofs.Common.{◌≡◌, ◌⊎◌, ℕ, refl, sym, ap, ◌∙◌, List, ◌++◌, take, drop, append_assoc, Option, Some, None, IsSome, unwrap_or, inl, inr}
+use Rattle.std.proofs.Common.{◌≡◌, ◌⊎◌, ℕ, refl, sym, ap, ◌∙◌, List, ◌++◌, take, drop, append_assoc, Option, Some, None, IsSome}
+use Rattle.std.proofs.Common.{unwrap_or, inl, inr}
 use Rattle.std.specs.Str.{chars}
 use Rattle.std.proofs.lemmas.Bool.{cases_Bool}
 use Rattle.fixed_decimal.specs.declared.signs.Sign.{Sign}
@@ -35,11 +36,16 @@ module _ (e : PatternElements) where
   by_category One = elim (chosen e.one e.other) [ inl h ↦ inr (inr (inr (inl h))) | inr h ↦ inr (inr (inr (inr (inr (inr (inr (sym h))))))) ]
   by_category Two = elim (chosen e.two e.other) [ inl h ↦ inr (inr (inr (inr (inl h)))) | inr h ↦ inr (inr (inr (inr (inr (inr (inr (sym h))))))) ]
   by_category Few = elim (chosen e.few e.other) [ inl h ↦ inr (inr (inr (inr (inr (inl h))))) | inr h ↦ inr (inr (inr (inr (inr (inr (inr (sym h))))))) ]
-  by_category Many = elim (chosen e.many e.other) [ inl h ↦ inr (inr (inr (inr (inr (inr (inl h)))))) | inr h ↦ inr (inr (inr (inr (inr (inr (inr (sym h))))))) ]
+  by_category Many = elim (chosen e.many e.other) [
+    | inl h ↦ inr (inr (inr (inr (inr (inr (inl h))))))
+    | inr h ↦
+        inr (inr (inr (inr (inr (inr (inr (sym h)))))))
+  ]
   by_category Other = inr (inr (inr (inr (inr (inr (inr refl))))))
 
   -- an explicit value, or that of the category
-  explicit_or : (x : Option PatternText) (category : PluralCategory) → ((p : PatternText) → x ≡ Some p → HasPattern e p) → HasPattern e (unwrap_or x (unwrap_or (category_value e category) e.other))
+  explicit_or : (x : Option PatternText) (category : PluralCategory) → ((p : PatternText) → x ≡ Some p → HasPattern e p) →
+      HasPattern e (unwrap_or x (unwrap_or (category_value e category) e.other))
   explicit_or None category of = by_category category
   explicit_or (Some p) category of = of p refl
 
@@ -56,13 +62,16 @@ module _ (e : PatternElements) where
       ]
 
 -- the pattern of an entry is one of its patterns
-pattern_is : (f : CompactFormat) (by : Option TableEntry) (significand : Unsigned) → IsEntryOf f.table by → IsPatternBy f.table by (pattern_of f by significand)
+pattern_is : (f : CompactFormat) (by : Option TableEntry) (significand : Unsigned) → IsEntryOf f.table by →
+    IsPatternBy f.table by (pattern_of f by significand)
 pattern_is f None significand h = refl
 pattern_is f (Some e) significand h = (h, selected_is e.elements (operands_of significand 0) (category_of f.rules (operands_of significand 0)))
 
-characters-placed : (place : Option ℕ) (literal : List ℕ) (es : List Event) → IsSome place → characters (around literal place es) ≡ (sides_at place literal).before ++ (characters es ++ (sides_at place literal).after)
+characters-placed : (place : Option ℕ) (literal : List ℕ) (es : List Event) → IsSome place →
+    characters (around literal place es) ≡ (sides_at place literal).before ++ (characters es ++ (sides_at place literal).after)
 characters-placed None literal es some = cc
-characters-placed (Some n) literal es some = characters-around (text_events (take n literal)) es (text_events (drop n literal)) (chars (take n literal)) (chars (drop n literal)) (characters-map_Char (chars (take n literal))) (characters-map_Char (chars (drop n literal)))
+characters-placed (Some n) literal es some = characters-around (text_events (take n literal)) es (text_events (drop n literal)) (chars (take n literal))
+    (chars (drop n literal)) (characters-map_Char (chars (take n literal))) (characters-map_Char (chars (drop n literal)))
 
 regroup : (a b c d e : List ℕ) → a ++ ((b ++ (c ++ d)) ++ e) ≡ (a ++ b) ++ (c ++ (d ++ e))
 regroup a b c d e = simp append_assoc
@@ -86,18 +95,23 @@ module _ (f : CompactFormat) (sign : Sign) (by : Option TableEntry) (significand
       ∙ ap (λ l. a.before ++ (l ++ a.after)) (same ∙ characters-placed p.place p.literal (unsigned_events f.decimal significand) some)
       ∙ regroup a.before (sides p).before inside (sides p).after a.after
 
-  pub characters-written : (es : List Event) → IsSome (pattern_of f by significand).place → IsWrittenBy f sign by significand es → characters es ≡ around_it.before ++ (inside ++ around_it.after)
-  characters-written es some (inl shown) = ap characters shown ∙ between (without_parts (filled_events f by significand)) some (characters-without_parts (filled_events f by significand))
+  pub characters-written : (es : List Event) → IsSome (pattern_of f by significand).place → IsWrittenBy f sign by significand es →
+      characters es ≡ around_it.before ++ (inside ++ around_it.after)
+  characters-written es some (inl shown) = ap characters shown
+      ∙ between (without_parts (filled_events f by significand)) some (characters-without_parts (filled_events f by significand))
   characters-written es some (inr given) = ap characters given ∙ between (filled_events f by significand) some refl
 
   -- no digit stands around it
   pub around_others : IsReadableCompact f → IsEntryOf f.table by → AreOthers f.decimal around_it
   around_others h k =
       let outer = are_others f.decimal (affixes f.decimal.symbols.strings sign) (h.plain_readable.affixes_free sign) in
-      let inner = are_others f.decimal (sides (pattern_of f by significand)) (h.table_readable.sides_free by (pattern_of f by significand) (pattern_is f by significand k)) in
+      let inner = are_others f.decimal (sides (pattern_of f by significand))
+      (h.table_readable.sides_free by (pattern_of f by significand) (pattern_is f by significand k)) in
       record {
-        before = every-append (IsOther f.decimal) (affixes f.decimal.symbols.strings sign).before (sides (pattern_of f by significand)).before outer.before inner.before;
-        after = every-append (IsOther f.decimal) (sides (pattern_of f by significand)).after (affixes f.decimal.symbols.strings sign).after inner.after outer.after;
+        before = every-append (IsOther f.decimal) (affixes f.decimal.symbols.strings sign).before (sides (pattern_of f by significand)).before outer.before
+            inner.before;
+        after = every-append (IsOther f.decimal) (sides (pattern_of f by significand)).after (affixes f.decimal.symbols.strings sign).after inner.after
+            outer.after;
       }
 
 -- equal compact texts of a readable formatter have equal signs, significands and exponents
@@ -107,6 +121,7 @@ compact_tells f s t by to c d es fs h hby hto hc hd wx wy e =
     let ky = pattern_is f to d hto in
     let told = unsigned_tells f.decimal (around_it f s by c) (around_it f t to d) c d h.plain_readable
     (around_others f s by c h hby) (around_others f t to d h hto) hc hd
-    (sym (characters-written f s by c es (h.table_readable.placed by (pattern_of f by c) kx) wx) ∙ e ∙ characters-written f t to d fs (h.table_readable.placed to (pattern_of f to d) ky) wy) in
+    (sym (characters-written f s by c es (h.table_readable.placed by (pattern_of f by c) kx) wx) ∙ e
+    ∙ characters-written f t to d fs (h.table_readable.placed to (pattern_of f to d) ky) wy) in
     let both = h.table_readable.told s t by to (pattern_of f by c) (pattern_of f to d) kx ky told.0 in
     (both.0, told.1, both.1)

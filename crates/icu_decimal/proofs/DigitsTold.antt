@@ -1,5 +1,6 @@
 -- A decimal is told by the characters of its digits on both sides of the point.
-use Rattle.std.proofs.Common.{◌≡◌, ◌≢◌, ℕ, ◌<◌, ⊎_elim, arith, refl, sym, ap, ap₂, ◌∙◌, subst, List, [], ◌∷◌, ◌++◌, length, map, slice_index, Contains, length-take, length-drop}
+use Rattle.std.proofs.Common.{◌≡◌, ◌≢◌, ℕ, ◌<◌, ⊎_elim, arith, refl, sym, ap, ap₂, ◌∙◌, subst, List, [], ◌∷◌, ◌++◌}
+use Rattle.std.proofs.Common.{length, map, slice_index, Contains, length-take, length-drop}
 use Rattle.std.proofs.lemmas.List.{take-append-drop, get_or_default}
 use Rattle.std.proofs.lemmas.Bool.{cases_order}
 use Rattle.fixed_decimal.specs.Unsigned.{Unsigned, IsUnsigned, integer_count, integer, fraction}
@@ -67,28 +68,37 @@ module _ (c : Unsigned) (h : IsUnsigned c) where
   pub groups_some : (f : DecimalFormat) → Runs IsDigit (groups_of f c) × (groups_of f c ≢ [])
   groups_some f = go (integer c) integer_below integer_some
     where
-      go : (ds : List ℕ) → Every IsDigit ds → 0 < length ds → Runs IsDigit (digit_groups ds f.symbols.grouping_sizes (strategy_of f.options)) × (digit_groups ds f.symbols.grouping_sizes (strategy_of f.options) ≢ [])
+      go : (ds : List ℕ) → Every IsDigit ds → 0 < length ds →
+          Runs IsDigit (digit_groups ds f.symbols.grouping_sizes (strategy_of f.options))
+          × (digit_groups ds f.symbols.grouping_sizes (strategy_of f.options) ≢ [])
       go [] k some = absurd (omega arith)
-      go (x ∷ ds) k some = (runs-groups IsDigit f.symbols.grouping_sizes (strategy_of f.options) x ds k, some_groups _ x ds (concatenated-digit_groups (x ∷ ds) f.symbols.grouping_sizes (strategy_of f.options)))
+      go (x ∷ ds) k some = (
+        runs-groups IsDigit f.symbols.grouping_sizes (strategy_of f.options) x ds k,
+        some_groups _ x ds (concatenated-digit_groups (x ∷ ds) f.symbols.grouping_sizes (strategy_of f.options)),
+      )
 
 -- the digits on both sides of the point tell the decimal
 pub unsigned_same : (c d : Unsigned) → IsUnsigned c → IsUnsigned d → integer c ≡ integer d → fraction c ≡ fraction d → c ≡ d
 unsigned_same c d hc hd i f =
-    let digits : c.digits ≡ d.digits = sym (take-append-drop (integer_count c) c.digits) ∙ ap₂ ◌++◌ i f ∙ take-append-drop (integer_count d) d.digits in
+    let digits : c.digits ≡ d.digits = sym (take-append-drop (integer_count c) c.digits) ∙ ap₂ ◌++◌ i f
+    ∙ take-append-drop (integer_count d) d.digits in
     let scale : c.scale ≡ d.scale = sym (fraction_length c hc) ∙ ap length f ∙ fraction_length d hd in
     let of : List ℕ → ℕ → Unsigned = λ ds s. record { digits = ds; scale = s } in
     ap₂ of digits scale
 
 -- the groups' characters tell the digits at power 0 and above
 pub groups_tell : (f : DecimalFormat) → IsReadable f.symbols.strings f.digits → (c d : Unsigned) → IsUnsigned c → IsUnsigned d
-    → concatenated (map (λ g. digit_characters f g) (groups_of f c)) ≡ concatenated (map (λ g. digit_characters f g) (groups_of f d)) → integer c ≡ integer d
+    → concatenated (map (λ g. digit_characters f g) (groups_of f c)) ≡ concatenated (map (λ g. digit_characters f g) (groups_of f d)) →
+    integer c ≡ integer d
 groups_tell f h c d hc hd e = characters_tell f h (integer c) (integer d) (integer_below c hc) (integer_below d hd) (sym (spelled c) ∙ e ∙ spelled d)
   where
     spelled : (b : Unsigned) → concatenated (map (λ g. digit_characters f g) (groups_of f b)) ≡ digit_characters f (integer b)
-    spelled b = concatenated-map (slice_index f.digits) (groups_of f b) ∙ ap (digit_characters f) (concatenated-digit_groups (integer b) f.symbols.grouping_sizes (strategy_of f.options))
+    spelled b = concatenated-map (slice_index f.digits) (groups_of f b)
+        ∙ ap (digit_characters f) (concatenated-digit_groups (integer b) f.symbols.grouping_sizes (strategy_of f.options))
 
 -- a decimal's groups and fraction, as characters
-pub group_characters : (f : DecimalFormat) → IsReadable f.symbols.strings f.digits → (c : Unsigned) → IsUnsigned c → Runs (IsDigitOf f) (map (λ g. digit_characters f g) (groups_of f c)) × (map (λ g. digit_characters f g) (groups_of f c) ≢ [])
+pub group_characters : (f : DecimalFormat) → IsReadable f.symbols.strings f.digits → (c : Unsigned) → IsUnsigned c →
+    Runs (IsDigitOf f) (map (λ g. digit_characters f g) (groups_of f c)) × (map (λ g. digit_characters f g) (groups_of f c) ≢ [])
 group_characters f h c hc =
     let gs = groups_some c hc f in
     (runs_map IsDigit (IsDigitOf f) (slice_index f.digits) (character_is f h) (groups_of f c) gs.0, go (groups_of f c) gs.1)
@@ -98,5 +108,6 @@ group_characters f h c hc =
     go (g ∷ gs) some e = cc
 
 -- the characters of a fraction are digits of the formatter
-pub fraction_characters : (f : DecimalFormat) → IsReadable f.symbols.strings f.digits → (c : Unsigned) → IsUnsigned c → Every (IsDigitOf f) (digit_characters f (fraction c))
+pub fraction_characters : (f : DecimalFormat) → IsReadable f.symbols.strings f.digits → (c : Unsigned) → IsUnsigned c →
+    Every (IsDigitOf f) (digit_characters f (fraction c))
 fraction_characters f h c hc = every_map IsDigit (IsDigitOf f) (slice_index f.digits) (character_is f h) (fraction c) (fraction_below c hc)

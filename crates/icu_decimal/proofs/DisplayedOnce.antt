@@ -1,5 +1,7 @@
 -- What is displayed of a decimal is one.
-use Rattle.std.proofs.Common.{◌≡◌, ℕ, suc, ◌+◌, ◌-◌, ◌*◌, ◌^◌, ◌<◌, ◌≤◌, inl, inr, refl, sym, ap, ap₂, ◌∙◌, arith, List, [], ◌∷◌, ◌++◌, length, drop, replicate, slice_index, Option, negsuc, add-zero, append-nil, length-append, le_antisymm, le_of_eq, le_of_mul-le-mul_right}
+use Rattle.std.proofs.Common.{◌≡◌, ℕ, suc, ◌+◌, ◌-◌, ◌*◌, ◌^◌, ◌<◌, ◌≤◌, inl, inr, refl, sym, ap, ap₂, ◌∙◌, arith}
+use Rattle.std.proofs.Common.{List, [], ◌∷◌, ◌++◌, length, drop, replicate, slice_index, Option, negsuc, add-zero, append-nil, length-append}
+use Rattle.std.proofs.Common.{le_antisymm, le_of_eq, le_of_mul-le-mul_right}
 use Rattle.std.proofs.Math.Nat.{mul-le-mul_left}
 use Rattle.std.proofs.lemmas.Bool.{cases_lt, cases_order}
 use Rattle.std.proofs.lemmas.Int.{ints}
@@ -27,7 +29,8 @@ head_below power x y r q hr hq e = elim (cases_lt y x) [
 ]
 
 -- as many digits of the same weight are the same
-pub digits_by_weight : (e : ℕ) (xs ys : List ℕ) → length xs ≡ length ys → AreDigits xs → AreDigits ys → weighed e xs ≡ weighed e ys → xs ≡ ys
+pub digits_by_weight : (e : ℕ) (xs ys : List ℕ) → length xs ≡ length ys → AreDigits xs → AreDigits ys → weighed e xs ≡ weighed e ys →
+    xs ≡ ys
 digits_by_weight e [] [] l p q w = refl
 digits_by_weight e [] (y ∷ ys) l p q w = absurd (cc)
 digits_by_weight e (x ∷ xs) [] l p q w = absurd (cc)
@@ -50,11 +53,14 @@ module _ (s t : Unsigned) (us : IsUnsigned s) (ut : IsUnsigned t) (same : size s
   longer h =
       let n : ℕ = t.scale - s.scale in
       let e : ℕ = finest - t.scale in
-      let up : finest - t.scale + length {A = ℕ} (replicate n 0) ≡ finest - s.scale = omega (arith, length-replicate {A = ℕ} n 0, finest_large, us.low_limit, ut.low_limit) in
-      let lengths : length t.digits ≡ length (s.digits ++ replicate n 0) = omega (arith, ints, length-append s.digits (replicate n 0), length-replicate {A = ℕ} n 0, us.integer_some, ut.integer_some) in
+      let up : finest - t.scale + length {A = ℕ} (replicate n 0) ≡ finest - s.scale =
+      omega (arith, length-replicate {A = ℕ} n 0, finest_large, us.low_limit, ut.low_limit) in
+      let lengths : length t.digits ≡ length (s.digits ++ replicate n 0) =
+      omega (arith, ints, length-append s.digits (replicate n 0), length-replicate {A = ℕ} n 0, us.integer_some, ut.integer_some) in
       let padded : weighed e (s.digits ++ replicate n 0) ≡ size s =
       weighed-append e s.digits (replicate n 0) ∙ rw (up, weighed-replicate_zero e n) (add-zero _) in
-      digits_by_weight e t.digits (s.digits ++ replicate n 0) lengths ut.below_ten (All-append (λ d. d < 10) s.digits (replicate n 0) us.below_ten (All-replicate (λ d. d < 10) n 0 (omega arith))) (sym same ∙ sym padded)
+      digits_by_weight e t.digits (s.digits ++ replicate n 0) lengths ut.below_ten
+      (All-append (λ d. d < 10) s.digits (replicate n 0) us.below_ten (All-replicate (λ d. d < 10) n 0 (omega arith))) (sym same ∙ sym padded)
 
   -- so it isn't trimmed, unless it writes no more
   not_longer : s.scale < t.scale → IsTrimmed t → ⊥
@@ -66,7 +72,8 @@ module _ (s t : Unsigned) (us : IsUnsigned s) (ut : IsUnsigned t) (same : size s
           let place : integer_count t + k - length s.digits < n = omega (arith, ints, us.integer_some, ut.integer_some) in
           get_or-drop (integer_count t) t.digits k 0
           ∙ ap (λ ds. slice_index ds (integer_count t + k)) (longer (omega arith))
-          ∙ get_or-append_right s.digits (replicate n 0) (length s.digits) (integer_count t + k) 0 refl (omega (arith, ints, us.integer_some, ut.integer_some))
+          ∙ get_or-append_right s.digits (replicate n 0) (length s.digits) (integer_count t + k) 0 refl
+          (omega (arith, ints, us.integer_some, ut.integer_some))
           ∙ get_or-replicate n (integer_count t + k - length s.digits) 0 0 place
 
       low_is : (k : ℕ) → t.scale ≡ suc k → low t ≡ negsuc k
@@ -92,7 +99,8 @@ trimmed_told s t us ut ts tt' same top = elim (cases_order s.scale t.scale) [
 ]
 
 -- equal sizes by equal exponents come of equal significands
-pub same_scaled : (entry other : Option TableEntry) (a b y z : ℕ) → entry ≡ other → y ≡ z → a * 10 ^ exponent_of entry ≡ y → b * 10 ^ exponent_of other ≡ z → a ≡ b
+pub same_scaled : (entry other : Option TableEntry) (a b y z : ℕ) → entry ≡ other → y ≡ z → a * 10 ^ exponent_of entry ≡ y →
+    b * 10 ^ exponent_of other ≡ z → a ≡ b
 same_scaled entry other a b y z entries sizes p q =
     cancelled a b (10 ^ exponent_of other) (ten_pos (exponent_of other)) (ap (λ e. a * 10 ^ exponent_of e) (sym entries) ∙ p ∙ sizes ∙ sym q)
 

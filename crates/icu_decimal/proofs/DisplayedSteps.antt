@@ -1,5 +1,6 @@
 -- What is displayed of a decimal, by the clauses of the steps.
-use Rattle.std.proofs.Common.{◌≡◌, ◌≢◌, ℕ, ◌+◌, ◌*◌, ◌^◌, ◌≤◌, ◌⊎◌, inl, inr, arith, sym, ap, subst, ◌∙◌, List, Option, Ok, false, ℤ, pos, negsuc, ◌+ℤ◌, ◌-ℤ◌, ◌≤ℤ◌}
+use Rattle.std.proofs.Common.{◌≡◌, ◌≢◌, ℕ, ◌+◌, ◌*◌, ◌^◌, ◌≤◌, ◌⊎◌, inl, inr, arith, sym, ap, subst, ◌∙◌, List}
+use Rattle.std.proofs.Common.{Option, Ok, false, ℤ, pos, negsuc, ◌+ℤ◌, ◌-ℤ◌, ◌≤ℤ◌}
 use Rattle.std.specs.Prelude.{IsErrOf}
 use Rattle.std.specs.Int.{int_max}
 use Rattle.std.proofs.lemmas.Bool.{cases_eq}
@@ -15,14 +16,16 @@ use Rattle.icu_decimal.specs.CompactNumber.{rounding_place, rounding_place_for, 
 use Rattle.icu_decimal.specs.RoundedAt.{IsRoundedAt, RoundsPast}
 use Rattle.icu_decimal.specs.Displayed.{are_same_entry, IsDisplayed}
 use Rattle.icu_decimal.proofs.ChangedEntries.{changed_entry_reached}
-use Rattle.icu_decimal.proofs.CompactCore.{magnitude_rounded, magnitude_within, rounded_from_past_limits, past_limits_from_rounded, exponent_le_magnitude, displayed_by_same, displayed_by_other}
+use Rattle.icu_decimal.proofs.CompactCore.{magnitude_rounded, magnitude_within, rounded_from_past_limits, past_limits_from_rounded, exponent_le_magnitude}
+use Rattle.icu_decimal.proofs.CompactCore.{displayed_by_same, displayed_by_other}
 
 -- an answer is no refusal
 pub not_refused : {T : Type 0} {x : T} {e : FormatError} → IsErrOf {T = T} {E = FormatError} (Ok x) e → ⊥
 not_refused refused = absurd (cc)
 
 -- the table, the decimal, the exponent and the power of its magnitude, and the entry of that magnitude, as the steps have them
-module _ (table : List TableEntry) (d : Unsigned) (e : ℕ) (power wide : ℤ) (o : Option TableEntry) (top : power ≡ magnitude_power (size d)) (widened : wide ≡ power) (is : o ≡ entry_for table (place wide)) (exponent : e ≡ exponent_of o) where
+module _ (table : List TableEntry) (d : Unsigned) (e : ℕ) (power wide : ℤ) (o : Option TableEntry) (top : power ≡ magnitude_power (size d))
+    (widened : wide ≡ power) (is : o ≡ entry_for table (place wide)) (exponent : e ≡ exponent_of o) where
   at_power : place power ≡ magnitude (size d)
   at_power = ap place top ∙ place-magnitude (size d)
 
@@ -36,7 +39,9 @@ module _ (table : List TableEntry) (d : Unsigned) (e : ℕ) (power wide : ℤ) (
   pub exponent_within : IsCompactTable table → (p : ℤ) → p ≡ power → (e ≡ 0) ⊎ (pos e ≤ℤ p)
   exponent_within t p same = go (exponent_le_magnitude table (magnitude (size d)) t) (exponent ∙ ap exponent_of entry_here)
     where
-      go : (exponent_of (entry_for table (magnitude (size d))) ≡ 0) ⊎ (exponent_of (entry_for table (magnitude (size d))) + finest ≤ magnitude (size d)) → e ≡ exponent_of (entry_for table (magnitude (size d))) → (e ≡ 0) ⊎ (pos e ≤ℤ p)
+      go : (exponent_of (entry_for table (magnitude (size d))) ≡ 0)
+          ⊎ (exponent_of (entry_for table (magnitude (size d))) + finest ≤ magnitude (size d)) →
+          e ≡ exponent_of (entry_for table (magnitude (size d))) → (e ≡ 0) ⊎ (pos e ≤ℤ p)
       go (inl none) f = inl (f ∙ none)
       go (inr reached) f = inr (omega (arith, ints))
 
@@ -49,7 +54,8 @@ module _ (table : List TableEntry) (d : Unsigned) (e : ℕ) (power wide : ℤ) (
   rounds_past past = subst (λ u. RoundsPast u (size d)) (sym rounding_place_here) (rounded_from_past_limits table (size d) past)
 
   -- where the significand of the rounded number reaches
-  pub scaled_magnitude : (s : Unsigned) (t to : ℤ) → IsRoundedAt (rounding_place e (magnitude (size d))) (size d) (size s * 10 ^ e) → t ≡ magnitude_power (size s) → to ≡ t +ℤ pos e → (e ≡ 0) ⊎ (pos e ≤ℤ power) → to ≡ magnitude_power (size s * 10 ^ e)
+  pub scaled_magnitude : (s : Unsigned) (t to : ℤ) → IsRoundedAt (rounding_place e (magnitude (size d))) (size d) (size s * 10 ^ e) →
+      t ≡ magnitude_power (size s) → to ≡ t +ℤ pos e → (e ≡ 0) ⊎ (pos e ≤ℤ power) → to ≡ magnitude_power (size s * 10 ^ e)
   scaled_magnitude s t to near start sum taken = go (cases_eq (size s) 0) taken
     where
       go : (size s ≡ 0) ⊎ (size s ≢ 0) → (e ≡ 0) ⊎ (pos e ≤ℤ power) → to ≡ magnitude_power (size s * 10 ^ e)
@@ -73,7 +79,8 @@ module _ (table : List TableEntry) (d : Unsigned) (e : ℕ) (power wide : ℤ) (
       entry_reached = there_is ∙ ap (entry_for table) (ap place reached ∙ place-magnitude y)
 
       -- where the magnitude reached has the same entry, that one and what its exponent leaves of the rounded number
-      pub displayed_same : there ≡ o → (s : Unsigned) → size s * 10 ^ e ≡ y → IsUnsigned s → IsTrimmed s → high s ≡ int_max (pos 0) (int_max (high d) (magnitude_power y) -ℤ pos e) → IsDisplayed table d y o s
+      pub displayed_same : there ≡ o → (s : Unsigned) → size s * 10 ^ e ≡ y → IsUnsigned s → IsTrimmed s →
+          high s ≡ int_max (pos 0) (int_max (high d) (magnitude_power y) -ℤ pos e) → IsDisplayed table d y o s
       displayed_same same s scaled valid trimmed high_is =
           displayed_by_same table d s y o entry_here (sym same ∙ entry_reached) rounded
           (ap (λ n. size s * 10 ^ n) (sym exponent) ∙ scaled) valid trimmed
@@ -86,16 +93,19 @@ module _ (table : List TableEntry) (d : Unsigned) (e : ℕ) (power wide : ℤ) (
         -- the other entry's exponent is at most the power of the magnitude reached
         pub other_within : (n : ℕ) → n ≡ exponent_of there → pos n ≤ℤ to
         other_within n is =
-            let least : finest ≤ magnitude y = changed_entry_reached table (magnitude (size d)) (magnitude y) (magnitude_rounded (exponent_for table (magnitude (size d))) (size d) y rounded) different_here in
+            let least : finest ≤ magnitude y = changed_entry_reached table (magnitude (size d)) (magnitude y)
+            (magnitude_rounded (exponent_for table (magnitude (size d))) (size d) y rounded) different_here in
             let same : n ≡ exponent_of (entry_for table (magnitude y)) = is ∙ ap exponent_of entry_reached in
             go (exponent_le_magnitude table (magnitude y) t) same least
           where
-            go : (exponent_of (entry_for table (magnitude y)) ≡ 0) ⊎ (exponent_of (entry_for table (magnitude y)) + finest ≤ magnitude y) → n ≡ exponent_of (entry_for table (magnitude y)) → finest ≤ magnitude y → pos n ≤ℤ to
+            go : (exponent_of (entry_for table (magnitude y)) ≡ 0) ⊎ (exponent_of (entry_for table (magnitude y)) + finest ≤ magnitude y) →
+                n ≡ exponent_of (entry_for table (magnitude y)) → finest ≤ magnitude y → pos n ≤ℤ to
             go (inl none) same least = omega (arith, ints)
             go (inr above) same least = omega (arith, ints)
 
         -- another entry displays the power of ten that its exponent leaves
-        pub displayed_other : (s : Unsigned) (n : ℕ) (k : ℤ) → n ≡ exponent_of there → k ≡ to -ℤ pos n → size s ≡ ten_to k → IsUnsigned s → IsTrimmed s → high s ≡ k → IsDisplayed table d y there s
+        pub displayed_other : (s : Unsigned) (n : ℕ) (k : ℤ) → n ≡ exponent_of there → k ≡ to -ℤ pos n → size s ≡ ten_to k →
+            IsUnsigned s → IsTrimmed s → high s ≡ k → IsDisplayed table d y there s
         displayed_other s n (negsuc k) is sum ten valid trimmed top = absurd (omega (arith, ints, other_within n is))
         displayed_other s n (pos k) is sum ten valid trimmed top =
             displayed_by_other table d s y k there entry_reached (rw (← entry_here) different) rounded (omega (arith, ints)) ten valid trimmed top

@@ -1,5 +1,6 @@
 -- What the entry of a magnitude has of its table.
-use Rattle.std.proofs.Common.{◌≡◌, ℕ, ◌≤◌, refl, List, [], ◌∷◌, Option, Some, None, IfSome, All, Bool, true, false, nat_le, leb-true, if◌then◌else◌}
+use Rattle.std.proofs.Common.{◌≡◌, ℕ, ◌≤◌, refl, List, [], ◌∷◌, Option, Some, None, IfSome, All, Bool, true, false, nat_le, leb-true}
+use Rattle.std.proofs.Common.{if◌then◌else◌}
 use Rattle.std.proofs.lemmas.List.Elements.{All-head, All-tail}
 use Rattle.std.specs.Option.{option_or}
 use Rattle.icu_decimal_data.specs.CompactTable.{TableEntry, type_place, entry_for}

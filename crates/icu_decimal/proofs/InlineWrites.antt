@@ -6,7 +6,8 @@ use Rattle.std.specs.List.{FoldsTo, concat}
 use Rattle.std.specs.declared.fmt.InlineText.{InlineText}
 
 module _ {n : ℕ} where
-  appended : (s : InlineText n) (parts : List (List ℕ)) (t : InlineText n) → FoldsTo AppendsIfIntact s parts t → IsIntact s → IsIntact t × (inline_text t ≡ inline_text s ++ concat parts)
+  appended : (s : InlineText n) (parts : List (List ℕ)) (t : InlineText n) → FoldsTo AppendsIfIntact s parts t → IsIntact s →
+      IsIntact t × (inline_text t ≡ inline_text s ++ concat parts)
   appended s [] t same intact = (subst IsIntact same intact, ap inline_text (sym same) ∙ sym (append-nil (inline_text s)))
   appended s (part ∷ parts) t calls intact =
       let first = calls.1 intact in
@@ -14,6 +15,7 @@ module _ {n : ℕ} where
       (more.0, more.1 ∙ ap (λ l. l ++ concat parts) first.1 ∙ append_assoc (inline_text s) part (concat parts))
 
   -- a text that was empty holds what was written
-  pub text_after_writes : (s : InlineText n) (bs : List ℕ) (t : InlineText n) → WritesInCalls AppendsIfIntact s bs t → IsIntact s → inline_text s ≡ [] → inline_text t ≡ bs
+  pub text_after_writes : (s : InlineText n) (bs : List ℕ) (t : InlineText n) → WritesInCalls AppendsIfIntact s bs t → IsIntact s →
+      inline_text s ≡ [] → inline_text t ≡ bs
   text_after_writes s bs t w intact empty =
       (appended s w.parts t w.calls intact).1 ∙ ap (λ l. l ++ concat w.parts) empty ∙ w.whole

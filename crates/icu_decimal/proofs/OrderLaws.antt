@@ -7,7 +7,8 @@ use Rattle.icu_decimal.specs.NearestLemmas.{in_order, nearest_to_itself, itself_
 
 -- the same of compact numbers
 pub nearest_keeps_order : NearestKeepsOrder
-nearest_keeps_order table x x' y y' h n n' = in_order (IsCompactNumber table) (10 ^ rounding_place_for table (magnitude x)) (10 ^ rounding_place_for table (magnitude x')) x x' y y' h n n'
+nearest_keeps_order table x x' y y' h n n' = in_order (IsCompactNumber table) (10 ^ rounding_place_for table (magnitude x))
+    (10 ^ rounding_place_for table (magnitude x')) x x' y y' h n n'
 
 -- the power of ten of the magnitude is a compact number that is not above the size
 pub magnitude_is_shown : MagnitudeIsShown

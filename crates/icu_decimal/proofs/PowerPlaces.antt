@@ -1,5 +1,6 @@
 -- The place of a power, as a sum over signed numbers.
-use Rattle.std.proofs.Common.{◌≡◌, ℕ, ◌+◌, ◌-◌, ◌*◌, ◌^◌, ◌<◌, ap, arith, ℤ, pos, negsuc, ◌+ℤ◌, ◌-ℤ◌, ◌≤ℤ◌, ◌<ℤ◌, FitsSigned, w16, lt-ltb, le-ltb}
+use Rattle.std.proofs.Common.{◌≡◌, ℕ, ◌+◌, ◌-◌, ◌*◌, ◌^◌, ◌<◌, ap, arith, ℤ, pos, negsuc, ◌+ℤ◌, ◌-ℤ◌, ◌≤ℤ◌}
+use Rattle.std.proofs.Common.{◌<ℤ◌, FitsSigned, w16, lt-ltb, le-ltb}
 use Rattle.std.proofs.lemmas.Int.{ints}
 use Rattle.std.proofs.lemmas.Nat.{pow-add}
 use Rattle.fixed_decimal.specs.Scaling.{IsTimesTenTo}
@@ -37,7 +38,8 @@ rounding_place_at_exponent e m r fits is above =
     rw (lt-ltb (e + finest) (place m) (omega (arith, ints, place-i16 m fits))) (place_is r (e + finest) (omega (arith, ints)))
 
 -- any other at the power below its own
-pub rounding_place_below_magnitude : (e : ℕ) (m r : ℤ) → FitsSigned w16 m → r ≡ m -ℤ pos 1 → m ≤ℤ pos e → place r ≡ rounding_place e (place m)
+pub rounding_place_below_magnitude : (e : ℕ) (m r : ℤ) → FitsSigned w16 m → r ≡ m -ℤ pos 1 → m ≤ℤ pos e →
+    place r ≡ rounding_place e (place m)
 unfolding rounding_place
 rounding_place_below_magnitude e m r fits is below =
     rw (le-ltb (e + finest) (place m) (omega (arith, ints, place-i16 m fits)), is) (place-below m fits)

@@ -1,5 +1,6 @@
 -- What is shown of a decimal is shown again in the same way.
-use Rattle.std.proofs.Common.{◌≡◌, ℕ, zero, suc, ◌+◌, ◌*◌, ◌^◌, ◌≤◌, ◌⊎◌, ⊎_elim, inl, inr, refl, arith, sym, ap, ◌∙◌, List, [], ◌∷◌, ◌++◌, Option, codes, pos, ◌+ℤ◌, ◌-ℤ◌}
+use Rattle.std.proofs.Common.{◌≡◌, ℕ, zero, suc, ◌+◌, ◌*◌, ◌^◌, ◌≤◌, ◌⊎◌, ⊎_elim, inl, inr, refl, arith, sym, ap, ◌∙◌}
+use Rattle.std.proofs.Common.{List, [], ◌∷◌, ◌++◌, Option, codes, pos, ◌+ℤ◌, ◌-ℤ◌}
 use Rattle.std.specs.Int.{int_max}
 use Rattle.std.specs.Str.{encode_utf8_all}
 use Rattle.std.proofs.lemmas.Bool.{cases_Bool, cases_eq}
@@ -40,7 +41,8 @@ nearest_again : (table : List TableEntry) (x y z : ℕ) → IsNearestCompact tab
 nearest_again table x y z n same = rw same (nearest_to_itself (IsCompactNumber table) (10 ^ rounding_place_for table (magnitude y)) y n.allowed)
 
 -- what is displayed of an unpadded decimal has no padding, by whichever entry
-pub high_unpadded : (table : List TableEntry) (d : Unsigned) (y : ℕ) → IsUnpadded d → magnitude (size d) ≤ magnitude y → displayed_high table d y ≡ int_max (pos 0) (magnitude_power y -ℤ pos (exponent_of (displayed_entry table y)))
+pub high_unpadded : (table : List TableEntry) (d : Unsigned) (y : ℕ) → IsUnpadded d → magnitude (size d) ≤ magnitude y →
+    displayed_high table d y ≡ int_max (pos 0) (magnitude_power y -ℤ pos (exponent_of (displayed_entry table y)))
 high_unpadded table d y unpadded rises =
     ⊎_elim (λ same. rw same (widest (exponent_of (displayed_entry table y)))) (λ other. rw other refl)
     (cases_Bool (are_same_entry (displayed_entry table y) (entry_for table (magnitude (size d)))))
@@ -49,7 +51,8 @@ high_unpadded table d y unpadded rises =
     widest e = omega (arith, ints, clamps, unpadded)
 
 -- so what is displayed of it is displayed of every unpadded decimal of the shown size
-displayed_again : (table : List TableEntry) (d again s : Unsigned) (y : ℕ) (entry : Option TableEntry) → IsDisplayed table d y entry s → IsUnpadded d → IsUnpadded again → size again ≡ y → IsDisplayed table again y entry s
+displayed_again : (table : List TableEntry) (d again s : Unsigned) (y : ℕ) (entry : Option TableEntry) → IsDisplayed table d y entry s → IsUnpadded d →
+    IsUnpadded again → size again ≡ y → IsDisplayed table again y entry s
 displayed_again table d again s y entry h unpadded unpadded_again same = record {
   nearest = nearest_again table (size d) y (size again) h.nearest same;
   entry_is = h.entry_is;
@@ -62,8 +65,10 @@ displayed_again table d again s y entry h unpadded unpadded_again same = record 
 }
 
 -- what is written of a decimal is one, and what is displayed decides it
-written_alone : (format : CompactFormat) (sign : Sign) (d s : Unsigned) (exponent : ℕ) (events : List Event) (y : ℕ) (entry : Option TableEntry) → IsDisplayed format.table d y entry s → exponent ≡ exponent_of entry
-    → events ≡ signed_events format.decimal.symbols sign (without_parts (filled_events format entry s)) → IsWrittenAlone format sign d s exponent events y entry
+written_alone : (format : CompactFormat) (sign : Sign) (d s : Unsigned) (exponent : ℕ) (events : List Event) (y : ℕ) (entry : Option TableEntry) →
+    IsDisplayed format.table d y entry s → exponent ≡ exponent_of entry
+    → events ≡ signed_events format.decimal.symbols sign (without_parts (filled_events format entry s)) →
+    IsWrittenAlone format sign d s exponent events y entry
 written_alone format sign d s exponent events y entry h exponent_is events_are = record {
   written = record { shown = y; entry = entry; displayed = h; exponent_is = exponent_is; events_are = events_are };
   alone = λ t other others k.
@@ -76,7 +81,9 @@ written_alone format sign d s exponent events y entry h exponent_is events_are =
       );
 }
   where
-    events_of : {e e' : Option TableEntry} {u v : Unsigned} → e ≡ e' → u ≡ v → signed_events format.decimal.symbols sign (without_parts (filled_events format e u)) ≡ signed_events format.decimal.symbols sign (without_parts (filled_events format e' v))
+    events_of : {e e' : Option TableEntry} {u v : Unsigned} → e ≡ e' → u ≡ v →
+        signed_events format.decimal.symbols sign (without_parts (filled_events format e u))
+        ≡ signed_events format.decimal.symbols sign (without_parts (filled_events format e' v))
     events_of p q = λ i. signed_events format.decimal.symbols sign (without_parts (filled_events format (p i) (q i)))
 
 -- what is shown is shown again
@@ -89,10 +96,12 @@ shown_again format sign d again unpadded unpadded_again = record {
   within = λ y near same past. past_again y near same past;
 }
   where
-    past_again : (y : ℕ) → IsNearestCompact format.table (size d) y → size again ≡ y → ShowsPastLimits format.table (size again) → ShowsPastLimits format.table (size d)
+    past_again : (y : ℕ) → IsNearestCompact format.table (size d) y → size again ≡ y → ShowsPastLimits format.table (size again) →
+        ShowsPastLimits format.table (size d)
     past_again y near same (z, other, large) =
         let allowed : IsCompactNumber format.table (size again) = rw same near.allowed in
-        let itself : z ≡ size again = itself_nearest (IsCompactNumber format.table) (10 ^ rounding_place_for format.table (magnitude (size again))) (size again) z allowed other in
+        let itself : z ≡ size again = itself_nearest (IsCompactNumber format.table) (10 ^ rounding_place_for format.table (magnitude (size again)))
+        (size again) z allowed other in
         (y, near, omega arith)
 
 -- the magnitude of a significand and an exponent together
@@ -100,7 +109,9 @@ together : (m e : ℕ) → place ((pos m -ℤ pos finest) +ℤ pos e) ≡ m + e
 together m e = place_is ((pos m -ℤ pos finest) +ℤ pos e) (m + e) (omega (arith, ints))
 
 -- the entry of that magnitude is the one that was displayed
-given_entry : (table : List TableEntry) (s : Unsigned) (y : ℕ) (entry : Option TableEntry) → IsCompactTable table → entry ≡ entry_for table (magnitude y) → size s * 10 ^ exponent_of entry ≡ y → entry_for table (place (magnitude_with s (exponent_of entry))) ≡ entry
+given_entry : (table : List TableEntry) (s : Unsigned) (y : ℕ) (entry : Option TableEntry) → IsCompactTable table →
+    entry ≡ entry_for table (magnitude y) → size s * 10 ^ exponent_of entry ≡ y →
+    entry_for table (place (magnitude_with s (exponent_of entry))) ≡ entry
 given_entry table s y entry t is scaled = ap (entry_for table) (together (magnitude (size s)) (exponent_of entry)) ∙ go (cases_eq (size s) 0)
   where
     go : (size s ≡ 0) ⊎ (¬ (size s ≡ 0)) → entry_for table (magnitude (size s) + exponent_of entry) ≡ entry
@@ -114,7 +125,8 @@ given_entry table s y entry t is scaled = ap (entry_for table) (together (magnit
         let sum : magnitude (size s) + exponent_of entry ≡ finest = omega arith in
         ap (entry_for table) sum ∙ sym here
       where
-        no_exponent : (exponent_of (entry_for table finest) ≡ 0) ⊎ (exponent_of (entry_for table finest) + finest ≤ finest) → exponent_of entry ≡ exponent_of (entry_for table finest) → exponent_of entry ≡ 0
+        no_exponent : (exponent_of (entry_for table finest) ≡ 0) ⊎ (exponent_of (entry_for table finest) + finest ≤ finest) →
+            exponent_of entry ≡ exponent_of (entry_for table finest) → exponent_of entry ≡ 0
         no_exponent (inl e) f = f ∙ e
         no_exponent (inr h) f = omega arith
 
@@ -141,24 +153,29 @@ between before after es =
         without_parts-append es after ∙ ap (λ l. l ++ without_parts after) (sym (without_parts-twice es))
         ∙ sym (without_parts-append (without_parts es) after)
 
-signed_without_parts : (symbols : DecimalSymbols) (sign : Sign) (es : List Event) → without_parts (signed_events symbols sign es) ≡ without_parts (signed_events symbols sign (without_parts es))
+signed_without_parts : (symbols : DecimalSymbols) (sign : Sign) (es : List Event) →
+    without_parts (signed_events symbols sign es) ≡ without_parts (signed_events symbols sign (without_parts es))
 signed_without_parts symbols None es = sym (without_parts-twice es)
 signed_without_parts symbols Negative es =
-    between (in_decimal_part (codes "minusSign") (text_events symbols.strings.minus_sign_prefix)) (in_decimal_part (codes "minusSign") (text_events symbols.strings.minus_sign_suffix)) es
+    between (in_decimal_part (codes "minusSign") (text_events symbols.strings.minus_sign_prefix))
+    (in_decimal_part (codes "minusSign") (text_events symbols.strings.minus_sign_suffix)) es
 signed_without_parts symbols Positive es =
-    between (in_decimal_part (codes "plusSign") (text_events symbols.strings.plus_sign_prefix)) (in_decimal_part (codes "plusSign") (text_events symbols.strings.plus_sign_suffix)) es
+    between (in_decimal_part (codes "plusSign") (text_events symbols.strings.plus_sign_prefix))
+    (in_decimal_part (codes "plusSign") (text_events symbols.strings.plus_sign_suffix)) es
 
 -- the significand and the exponent that are shown are accepted as they are
 pub shown_is_given : ShownIsGiven
 shown_is_given format sign d s exponent events t first =
     let displayed = first.displayed in
     let entry_is = given_entry format.table s first.shown first.entry t displayed.entry_is displayed.scaled in
-    let by_exponent : entry_for format.table (place (magnitude_with s exponent)) ≡ first.entry = ap (λ e. entry_for format.table (place (magnitude_with s e))) first.exponent_is ∙ entry_is in
+    let by_exponent : entry_for format.table (place (magnitude_with s exponent)) ≡ first.entry =
+    ap (λ e. entry_for format.table (place (magnitude_with s e))) first.exponent_is ∙ entry_is in
     let alike : without_parts (given_events format sign s exponent) ≡ without_parts events =
     ap (λ o. without_parts (signed_events format.decimal.symbols sign (filled_events format o s))) by_exponent
     ∙ signed_without_parts format.decimal.symbols sign (filled_events format first.entry s) ∙ ap without_parts (sym first.events_are) in
     record {
       accepted = first.exponent_is ∙ ap exponent_of (sym by_exponent);
       characters_are = alike;
-      text_is = ap encode_utf8_all (sym (characters-without_parts (given_events format sign s exponent)) ∙ ap characters alike ∙ characters-without_parts events);
+      text_is = ap encode_utf8_all (sym (characters-without_parts (given_events format sign s exponent)) ∙ ap characters alike
+          ∙ characters-without_parts events);
     }

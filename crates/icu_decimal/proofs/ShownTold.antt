@@ -1,5 +1,6 @@
 -- What a readable compact text tells of an unpadded decimal.
-use Rattle.std.proofs.Common.{◌≡◌, ℕ, suc, ◌*◌, ◌^◌, ◌-ℤ◌, pos, true, false, nat_le, refl, arith, sym, ap, ap₂, ◌∙◌, List, [], ◌∷◌, Option, Some, None, if◌then◌else◌, inl}
+use Rattle.std.proofs.Common.{◌≡◌, ℕ, suc, ◌*◌, ◌^◌, ◌-ℤ◌, pos, true, false, nat_le, refl, arith, sym, ap, ap₂, ◌∙◌, List, []}
+use Rattle.std.proofs.Common.{◌∷◌, Option, Some, None, if◌then◌else◌, inl}
 use Rattle.std.specs.Int.{int_max}
 use Rattle.std.specs.Option.{option_or}
 use Rattle.std.specs.Str.{encode_utf8_all}
@@ -39,7 +40,8 @@ shown_in f s c x m es h = rw h.displayed.entry_is (entry_in f.table (magnitude h
 -- how far the significand of an unpadded decimal is written
 high_of : (f : CompactFormat) (s : Sign) (c x : Unsigned) (m : ℕ) (es : List Event) (h : IsCompactFormat f s c x m es) → IsUnpadded c
     → high x ≡ int_max (pos 0) (magnitude_power h.shown -ℤ pos (exponent_of (displayed_entry f.table h.shown)))
-high_of f s c x m es h unpadded = h.displayed.high_is ∙ high_unpadded f.table c h.shown unpadded (magnitude_shown f.table (size c) h.shown h.displayed.nearest)
+high_of f s c x m es h unpadded = h.displayed.high_is ∙ high_unpadded f.table c h.shown unpadded
+    (magnitude_shown f.table (size c) h.shown h.displayed.nearest)
 
 -- readable texts are equal exactly where signs and shown numbers are
 pub shown_tells : ShownTextTells
@@ -63,7 +65,8 @@ shown_tells f s t c d x y m n es fs readable unpadded_c unpadded_d first second 
 )
   where
     written : {a b : Sign} {e e' : Option TableEntry} {u v : Unsigned} → a ≡ b → e ≡ e' → u ≡ v
-        → characters (signed_events f.decimal.symbols a (without_parts (filled_events f e u))) ≡ characters (signed_events f.decimal.symbols b (without_parts (filled_events f e' v)))
+        → characters (signed_events f.decimal.symbols a (without_parts (filled_events f e u)))
+        ≡ characters (signed_events f.decimal.symbols b (without_parts (filled_events f e' v)))
     written p q r = λ i. characters (signed_events f.decimal.symbols (p i) (without_parts (filled_events f (q i) (r i))))
 
 -- equal texts of `format` are of equal signs, significands and exponents

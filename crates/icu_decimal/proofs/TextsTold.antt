@@ -8,7 +8,8 @@ use Rattle.icu_decimal.specs.Decimal.{DecimalFormat, decimal_events, unsigned_ev
 use Rattle.icu_decimal_readable.specs.Readable.{Surroundings, affixes, IsFreeOfDigits, IsReadable}
 use Rattle.icu_decimal.specs.ReadableLaws.{EqualTextsTellTheDecimal, TextTellsTheDecimal}
 use Rattle.icu_decimal.proofs.CharactersShown.{digit_characters, groups_of, characters-unsigned, characters-signed}
-use Rattle.icu_decimal.proofs.DigitsTold.{IsDigitOf, IsOther, characters_tell, fraction_below, unsigned_same, groups_tell, group_characters, fraction_characters}
+use Rattle.icu_decimal.proofs.DigitsTold.{IsDigitOf, IsOther, characters_tell, fraction_below, unsigned_same, groups_tell, group_characters}
+use Rattle.icu_decimal.proofs.DigitsTold.{fraction_characters}
 use Rattle.icu_decimal.proofs.Runs.{Every, every_of_all, number_tells}
 
 -- no digit before the number and none after it
@@ -21,7 +22,8 @@ pub are_others : (f : DecimalFormat) (a : Surroundings) → IsFreeOfDigits f.dig
 are_others f a h = record { before = every_of_all (IsOther f) a.before h.before_free; after = every_of_all (IsOther f) a.after h.after_free }
 
 -- a number between surroundings tells itself and them
-pub unsigned_tells : (f : DecimalFormat) (a b : Surroundings) (c d : Unsigned) → IsReadable f.symbols.strings f.digits → AreOthers f a → AreOthers f b → IsUnsigned c → IsUnsigned d
+pub unsigned_tells : (f : DecimalFormat) (a b : Surroundings) (c d : Unsigned) → IsReadable f.symbols.strings f.digits → AreOthers f a → AreOthers f b →
+    IsUnsigned c → IsUnsigned d
     → a.before ++ (characters (unsigned_events f c) ++ a.after) ≡ b.before ++ (characters (unsigned_events f d) ++ b.after) → (a ≡ b) × (c ≡ d)
 unsigned_tells f a b c d h ha hb hc hd e =
     let gc = group_characters f h c hc in
@@ -47,7 +49,8 @@ text_tells f s t c d h hc hd e =
     (h.sign_told s t told.0, told.1)
 
 -- equal texts have equal characters: UTF-8 spells no two lists of characters alike
-pub same_characters : (es fs : List Event) (one other : List ℕ) → one ≡ text_of es → other ≡ text_of fs → one ≡ other → characters es ≡ characters fs
+pub same_characters : (es fs : List Event) (one other : List ℕ) → one ≡ text_of es → other ≡ text_of fs → one ≡ other →
+    characters es ≡ characters fs
 same_characters es fs one other first second same = encodes_same (characters es) (characters fs) (sym first ∙ same ∙ second)
 
 -- so are those that `format_to_string` answers

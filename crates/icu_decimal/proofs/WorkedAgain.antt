@@ -1,7 +1,8 @@
 -- The premises of the law that what is shown is shown again, met with a carry into an entry whose exponent is below its type:
 -- by `K` from a thousand and `L`, a hundred thousand, from a million on, 999500 and 1000000 are both written with the
 -- significand 10 and `L`.
-use Rattle.std.proofs.Common.{◌≡◌, ℕ, zero, suc, ◌+◌, ◌-◌, ◌*◌, ◌^◌, ◌<◌, ◌≤◌, inl, refl, ap, ◌∙◌, arith, List, [], ◌∷◌, Some, AllPairs, pos, ◌-ℤ◌}
+use Rattle.std.proofs.Common.{◌≡◌, ℕ, zero, suc, ◌+◌, ◌-◌, ◌*◌, ◌^◌, ◌<◌, ◌≤◌, inl, refl, ap, ◌∙◌, arith, List, []}
+use Rattle.std.proofs.Common.{◌∷◌, Some, AllPairs, pos, ◌-ℤ◌}
 use Rattle.std.proofs.lemmas.Int.{ints}
 use Rattle.std.proofs.lemmas.Nat.{pow-add}
 use Rattle.std.proofs.lemmas.List.Elements.{All-nil, All-cons}
@@ -36,8 +37,11 @@ table_valid : IsCompactTable table
 table_valid = record {
   types_rise = λ i j d h inside. two (λ (e f : TableEntry). e.log10_type < f.log10_type) (omega arith) i j d h inside;
   exponents_rise = λ i j d h inside. two (λ (e f : TableEntry). e.exponent ≤ f.exponent) (omega arith) i j d h inside;
-  exponents_small = All-cons (λ (e : TableEntry). e.exponent ≤ e.log10_type) kilo (lakh ∷ []) (omega arith) (All-cons (λ (e : TableEntry). e.exponent ≤ e.log10_type) lakh [] (omega arith) (All-nil (λ (e : TableEntry). e.exponent ≤ e.log10_type)));
-  shifts_small = All-cons (λ (e : TableEntry). e.log10_type ≤ e.exponent + 15) kilo (lakh ∷ []) (omega arith) (All-cons (λ (e : TableEntry). e.log10_type ≤ e.exponent + 15) lakh [] (omega arith) (All-nil (λ (e : TableEntry). e.log10_type ≤ e.exponent + 15)));
+  exponents_small = All-cons (λ (e : TableEntry). e.exponent ≤ e.log10_type) kilo (lakh ∷ []) (omega arith)
+      (All-cons (λ (e : TableEntry). e.exponent ≤ e.log10_type) lakh [] (omega arith) (All-nil (λ (e : TableEntry). e.exponent ≤ e.log10_type)));
+  shifts_small = All-cons (λ (e : TableEntry). e.log10_type ≤ e.exponent + 15) kilo (lakh ∷ []) (omega arith)
+      (All-cons (λ (e : TableEntry). e.log10_type ≤ e.exponent + 15) lakh [] (omega arith)
+      (All-nil (λ (e : TableEntry). e.log10_type ≤ e.exponent + 15)));
 }
   where
     two : (R : TableEntry → TableEntry → Type 0) → R kilo lakh → AllPairs R table

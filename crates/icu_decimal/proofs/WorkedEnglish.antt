@@ -1,5 +1,6 @@
 -- English with its short and with its long compact table is readable: instances of the laws of texts.
-use Rattle.std.proofs.Common.{◌≡◌, ℕ, zero, suc, ◌<◌, arith, refl, sym, ap, ap₂, append-nil, ◌∙◌, subst, Bool, true, false, ◌==◌, List, [], ◌∷◌, ◌++◌, length, map, slice_index_or, Option, Some, None, IsSome, inl, inr, if◌then◌else◌, codes}
+use Rattle.std.proofs.Common.{◌≡◌, ℕ, zero, suc, ◌<◌, arith, refl, sym, ap, ap₂, append-nil, ◌∙◌, subst, Bool, true, false, ◌==◌, List}
+use Rattle.std.proofs.Common.{[], ◌∷◌, ◌++◌, length, map, slice_index_or, Option, Some, None, IsSome, inl, inr, if◌then◌else◌, codes}
 use Rattle.std.specs.Str.{chars}
 use Rattle.std.proofs.lemmas.Bool.{eq-eqb}
 use Rattle.fixed_decimal.specs.declared.signs.Sign.{Sign}
@@ -100,7 +101,8 @@ only_pattern r p (inr (inr (inr (inr (inr (inl h)))))) = cc
 only_pattern r p (inr (inr (inr (inr (inr (inr (inl h))))))) = cc
 only_pattern r p (inr (inr (inr (inr (inr (inr (inr h))))))) = sym h
 
-row_at : (rows : List Row) (e : TableEntry) (j : ℕ) → j < length (map row_entry rows) → slice_index_or (map row_entry rows) j e ≡ e → (r : Row) × IsRowAt rows j r × (row_entry r ≡ e)
+row_at : (rows : List Row) (e : TableEntry) (j : ℕ) → j < length (map row_entry rows) → slice_index_or (map row_entry rows) j e ≡ e →
+    (r : Row) × IsRowAt rows j r × (row_entry r ≡ e)
 row_at [] e j within is = absurd (omega arith)
 row_at (x ∷ rows) e zero within is = (x, refl, is)
 row_at (x ∷ rows) e (suc j) within is = row_at rows e j (omega arith) is
@@ -138,14 +140,16 @@ around s r =
     (ap₂ (λ (a : Surroundings) (l : List ℕ). a.after ++ l) (sides_of r.literal) (nothing_after s) ∙ append-nil (tail r))
 
 -- a table of rows is readable where no literal has a digit and no two, nor one and none, have the same characters
-rows_readable : (rows : List Row) → are_free (alone ∷ rows) ≡ true → are_told (alone ∷ rows) ≡ true → IsReadableTable texts digits (map row_entry rows)
+rows_readable : (rows : List Row) → are_free (alone ∷ rows) ≡ true → are_told (alone ∷ rows) ≡ true →
+    IsReadableTable texts digits (map row_entry rows)
 rows_readable rows frees tells = record {
   placed = λ by p h. let k = picked rows by p h in subst (λ (q : PatternText). IsSome q.place) (sym k.4) refl;
   sides_free = λ by p h.
       let k = picked rows by p h in
       let behind = none_of digits (tail k.1) (free (alone ∷ rows) k.0 k.1 frees k.2) in
       let is_free : IsFreeOfDigits digits (record { before = []; after = tail k.1 }) = record { before_free = none_of digits [] refl; after_free = behind } in
-      subst (λ (q : PatternText). IsFreeOfDigits digits (sides q)) (sym k.4) (subst (λ (a : Surroundings). IsFreeOfDigits digits a) (sym (sides_of k.1.literal)) is_free);
+      subst (λ (q : PatternText). IsFreeOfDigits digits (sides q)) (sym k.4)
+      (subst (λ (a : Surroundings). IsFreeOfDigits digits a) (sym (sides_of k.1.literal)) is_free);
   told = λ s t by to p q h i e.
       let k = picked rows by p h in
       let l = picked rows to q i in

@@ -43,7 +43,8 @@ no_power : pos finest -ℤ pos finest ≡ pos 0
 no_power = omega (arith, ints)
 
 padded_nearest : IsNearestCompact no_entries (size padded) (10 ^ finest)
-padded_nearest = rw padded_is (nearest_to_itself (IsCompactNumber no_entries) (10 ^ rounding_place_for no_entries (magnitude (10 ^ finest))) (10 ^ finest) (ten_is_compact no_entries finest))
+padded_nearest = rw padded_is (nearest_to_itself (IsCompactNumber no_entries) (10 ^ rounding_place_for no_entries (magnitude (10 ^ finest))) (10 ^ finest)
+    (ten_is_compact no_entries finest))
 
 padded_displayed : IsDisplayed no_entries padded (10 ^ finest) None padded
 unfolding entry_for

@@ -1,5 +1,6 @@
 -- English symbols and digits are readable: an instance of the law of plain texts.
-use Rattle.std.proofs.Common.{◌≡◌, ◌≢◌, ℕ, zero, suc, ◌<◌, arith, refl, sym, ap, ◌∙◌, Bool, true, false, ◌==◌, List, [], ◌∷◌, length, All, AllPairs, Contains, slice_index_or, if◌then◌else◌, codes}
+use Rattle.std.proofs.Common.{◌≡◌, ◌≢◌, ℕ, zero, suc, ◌<◌, arith, refl, sym, ap, ◌∙◌, Bool, true, false, ◌==◌, List, [], ◌∷◌}
+use Rattle.std.proofs.Common.{length, All, AllPairs, Contains, slice_index_or, if◌then◌else◌, codes}
 use Rattle.std.specs.Str.{chars}
 use Rattle.std.proofs.lemmas.Bool.{eq-eqb}
 use Rattle.std.proofs.lemmas.List.{get_or_default}
@@ -34,7 +35,8 @@ has_no_repeat (d ∷ ds) = if is_among ds d then false else has_no_repeat ds
 among : (ds : List ℕ) (c k : ℕ) → k < length ds → slice_index_or ds k c ≡ c → is_among ds c ≡ true
 among [] c k l e = absurd (omega arith)
 among (d ∷ ds) c zero l e = rw (eq-eqb d c e) refl
-among (d ∷ ds) c (suc k) l e = elim (d == c) as (λ b. (if b then true else is_among ds c) ≡ true) [ true ↦ refl | false ↦ among ds c k (omega arith) e ]
+among (d ∷ ds) c (suc k) l e = elim (d == c) as (λ b. (if b then true else is_among ds c) ≡ true)
+    [ true ↦ refl | false ↦ among ds c k (omega arith) e ]
 
 -- of two tests that have to fail, both do
 pub neither : (b r : Bool) → (if b then false else r) ≡ true → (b ≡ false) × (r ≡ true)

@@ -13,7 +13,8 @@ use Rattle.icu_decimal.specs.Displayed.{IsDisplayed}
 
 -- for every list of entries each size has a nearest compact number, and no other one
 abbrev pub OneCompactNumberIsNearest : Type 0
-OneCompactNumberIsNearest = (table : List TableEntry) (x : ℕ) → (y : ℕ) × IsNearestCompact table x y × ((z : ℕ) → IsNearestCompact table x z → z ≡ y)
+OneCompactNumberIsNearest = (table : List TableEntry) (x : ℕ) →
+    (y : ℕ) × IsNearestCompact table x y × ((z : ℕ) → IsNearestCompact table x z → z ≡ y)
 
 -- the nearest compact number of a size, among those of all magnitudes, is just the nearest multiple of ten to the rounding
 -- place of the size's own magnitude, the even one of two equally near
@@ -44,7 +45,8 @@ IsUnpadded d = high d ≡ int_max (pos 0) (magnitude_power (size d))
 
 -- these are written of the decimal by `format`: a significand and an exponent as these events, shown as this size by this
 -- entry; and nothing else is written of it
-pub record IsWrittenAlone (format : CompactFormat) (sign : Sign) (d significand : Unsigned) (exponent : ℕ) (events : List Event) (shown : ℕ) (entry : Option TableEntry) : Type 0 where
+pub record IsWrittenAlone (format : CompactFormat) (sign : Sign) (d significand : Unsigned) (exponent : ℕ) (events : List Event) (shown : ℕ)
+    (entry : Option TableEntry) : Type 0 where
   pub written : IsCompactFormat format sign d significand exponent events
   pub alone : (other : Unsigned) (another : ℕ) (others : List Event) (is : IsCompactFormat format sign d other another others)
       → (is.shown ≡ shown) × (is.entry ≡ entry) × (other ≡ significand) × (another ≡ exponent) × (others ≡ events)
@@ -55,7 +57,8 @@ pub record IsWrittenAlone (format : CompactFormat) (sign : Sign) (d significand 
 pub record IsShownAgain (format : CompactFormat) (sign : Sign) (d again : Unsigned) : Type 0 where
   pub alike : (significand : Unsigned) (exponent : ℕ) (events : List Event) (first : IsCompactFormat format sign d significand exponent events)
       → size again ≡ first.shown → IsWrittenAlone format sign again significand exponent events first.shown first.entry
-  pub within : (y : ℕ) → IsNearestCompact format.table (size d) y → size again ≡ y → ShowsPastLimits format.table (size again) → ShowsPastLimits format.table (size d)
+  pub within : (y : ℕ) → IsNearestCompact format.table (size d) y → size again ≡ y → ShowsPastLimits format.table (size again) →
+      ShowsPastLimits format.table (size d)
 
 -- `format_with_exponent` accepts a significand, with a sign, and an exponent, and writes the characters of the events
 pub record IsGivenAlike (format : CompactFormat) (sign : Sign) (significand : Unsigned) (exponent : ℕ) (events : List Event) : Type 0 where

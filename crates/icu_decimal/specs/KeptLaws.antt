@@ -33,10 +33,12 @@ plain_is_decimal f u n is h = rw h is
 pub plain_near : (f : DecimalFormat) (u : Unsigned) (n : Shown) → n ≡ plain_shown f u → IsShownNear (size u) (size_shown n)
 plain_near f u n h = rw (size_is f u n h) (between (size u))
 
-pub plain_in_order : (f : DecimalFormat) (u v : Unsigned) (n m : Shown) → n ≡ plain_shown f u → m ≡ plain_shown f v → size u ≤ size v → size_shown n ≤ size_shown m
+pub plain_in_order : (f : DecimalFormat) (u v : Unsigned) (n m : Shown) → n ≡ plain_shown f u → m ≡ plain_shown f v → size u ≤ size v →
+    size_shown n ≤ size_shown m
 plain_in_order f u v n m h k less = omega (arith, size_is f u n h, size_is f v m k)
 
-pub plain_again : (f : DecimalFormat) (u v : Unsigned) (n m : Shown) → n ≡ plain_shown f u → m ≡ plain_shown f v → size v ≡ size_shown n → size_shown m ≡ size_shown n
+pub plain_again : (f : DecimalFormat) (u v : Unsigned) (n m : Shown) → n ≡ plain_shown f u → m ≡ plain_shown f v → size v ≡ size_shown n →
+    size_shown m ≡ size_shown n
 plain_again f u v n m h k same = size_is f v m k ∙ same
 
 -- ---- a compact formatter
@@ -72,7 +74,8 @@ pub compact_near : (format : CompactFormat) (u : Unsigned) (n : Shown) → Shows
 compact_near format u n h = nearest_near format (size u) (size_shown n) (shown_nearest format u n h)
 
 -- equal sizes have one nearest compact number, and of two others the smaller has the smaller one
-nearest_in_order : (format : CompactFormat) (x x' y y' : ℕ) → IsNearestCompact format.table x y → IsNearestCompact format.table x' y' → x ≤ x' → y ≤ y'
+nearest_in_order : (format : CompactFormat) (x x' y y' : ℕ) → IsNearestCompact format.table x y → IsNearestCompact format.table x' y' → x ≤ x' →
+    y ≤ y'
 nearest_in_order format x x' y y' n n' less = elim (cases_lt x x') [
   | inl h ↦
       let table = format.table in
@@ -83,21 +86,25 @@ nearest_in_order format x x' y y' n n' less = elim (cases_lt x x') [
       omega (arith, nearest_compact_same format.table x' y y' other n')
 ]
 
-pub compact_in_order : (format : CompactFormat) (u v : Unsigned) (n m : Shown) → ShowsCompact format u n → ShowsCompact format v m → size u ≤ size v → size_shown n ≤ size_shown m
+pub compact_in_order : (format : CompactFormat) (u v : Unsigned) (n m : Shown) → ShowsCompact format u n → ShowsCompact format v m → size u ≤ size v →
+    size_shown n ≤ size_shown m
 compact_in_order format u v n m h k less =
     nearest_in_order format (size u) (size v) (size_shown n) (size_shown m) (shown_nearest format u n h) (shown_nearest format v m k) less
 
 -- a nearest compact number is its own, and no other is
-nearest_of_nearest : (format : CompactFormat) (x y z w : ℕ) → IsNearestCompact format.table x y → z ≡ y → IsNearestCompact format.table z w → w ≡ y
+nearest_of_nearest : (format : CompactFormat) (x y z w : ℕ) → IsNearestCompact format.table x y → z ≡ y → IsNearestCompact format.table z w →
+    w ≡ y
 nearest_of_nearest format x y z w n same k =
     let allowed : IsCompactNumber format.table z = rw same n.allowed in
     itself_nearest (IsCompactNumber format.table) (10 ^ rounding_place_for format.table (magnitude z)) z w allowed k ∙ same
 
-pub compact_again : (format : CompactFormat) (u v : Unsigned) (n m : Shown) → ShowsCompact format u n → ShowsCompact format v m → size v ≡ size_shown n → size_shown m ≡ size_shown n
+pub compact_again : (format : CompactFormat) (u v : Unsigned) (n m : Shown) → ShowsCompact format u n → ShowsCompact format v m →
+    size v ≡ size_shown n → size_shown m ≡ size_shown n
 compact_again format u v n m h k same =
     nearest_of_nearest format (size u) (size_shown n) (size v) (size_shown m) (shown_nearest format u n h) same (shown_nearest format v m k)
 
-pub compact_again_within : (format : CompactFormat) (u v : Unsigned) (n : Shown) → ShowsCompact format u n → size v ≡ size_shown n → ShowsPastLimits format.table (size v) → ShowsPastLimits format.table (size u)
+pub compact_again_within : (format : CompactFormat) (u v : Unsigned) (n : Shown) → ShowsCompact format u n → size v ≡ size_shown n →
+    ShowsPastLimits format.table (size v) → ShowsPastLimits format.table (size u)
 compact_again_within format u v n h same (z, near, large) =
     let z_is : z ≡ size_shown n = nearest_of_nearest format (size u) (size_shown n) (size v) z (shown_nearest format u n h) same near in
     (size_shown n, shown_nearest format u n h, omega (arith, z_is))

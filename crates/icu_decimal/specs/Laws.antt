@@ -37,7 +37,8 @@ compact_under symbols digits rules table strategy =
 pub record WriteAlike (one other : CompactFormat) : Type 0 where
   pub formatted : (sign : Sign) (d significand : Unsigned) (exponent : ℕ) (events : List Event) →
       IsCompactFormat one sign d significand exponent events ↔ IsCompactFormat other sign d significand exponent events
-  pub given : (sign : Sign) (significand : Unsigned) (exponent : ℕ) → given_events one sign significand exponent ≡ given_events other sign significand exponent
+  pub given : (sign : Sign) (significand : Unsigned) (exponent : ℕ) →
+      given_events one sign significand exponent ≡ given_events other sign significand exponent
 
 -- compact formats with `Auto` and with `Always` write the same
 abbrev pub CompactAutoAndAlwaysWriteAlike : Type 0

@@ -48,7 +48,8 @@ loaded symbols digits prefs options =
 
 -- the compact formatter: the plain one, then plural rules by the locale, then patterns by the preferred system in the
 -- locale, or else by the locale; or the first refusal
-abbrev pub loaded_compact : Provider DecimalSymbols → Provider (List ℕ) → Provider (List Rule) → Provider (List TableEntry) → CompactDecimalFormatterPreferences → CompactDecimalFormatterOptions → Result CompactFormat Refusal
+abbrev pub loaded_compact : Provider DecimalSymbols → Provider (List ℕ) → Provider (List Rule) → Provider (List TableEntry) →
+    CompactDecimalFormatterPreferences → CompactDecimalFormatterOptions → Result CompactFormat Refusal
 loaded_compact symbols digits rules patterns prefs options =
     let plain = plain_preferences prefs in
     let locale = locale_id prefs.locale_preferences in

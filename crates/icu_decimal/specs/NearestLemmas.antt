@@ -1,6 +1,7 @@
 -- Lemmas on nearest compact numbers: each size has one alone, it lies between the powers of ten around the size, and it
 -- keeps the order of sizes. They stand here and not in proofs/ because the laws of `AbstractFormatter` are proved by them.
-use Rattle.std.proofs.Common.{◌≡◌, ◌≢◌, ℕ, suc, ◌+◌, ◌*◌, ◌^◌, ◌<◌, ◌≤◌, ◌⊎◌, ⊎_elim, inl, inr, refl, sym, ap, ◌∙◌, arith, List, nat_lt, ltb-true}
+use Rattle.std.proofs.Common.{◌≡◌, ◌≢◌, ℕ, suc, ◌+◌, ◌*◌, ◌^◌, ◌<◌, ◌≤◌, ◌⊎◌, ⊎_elim, inl, inr, refl, sym, ap}
+use Rattle.std.proofs.Common.{◌∙◌, arith, List, nat_lt, ltb-true}
 use Rattle.std.proofs.Math.Nat.{mul-le-mul_left}
 use Rattle.std.proofs.lemmas.Bool.{cases_Bool, cases_lt, cases_eq, cases_order}
 use Rattle.fixed_decimal.specs.Size.{finest, magnitude}
@@ -12,7 +13,8 @@ use Rattle.icu_decimal.specs.CompactNumber.{rounding_place, rounding_place_for, 
 use Rattle.icu_decimal.specs.RoundedAt.{IsRoundedAt}
 
 -- the nearest to a number between two allowed sizes lies between them
-between_allowed : (Allowed : ℕ → Type 0) (u x y bottom top : ℕ) → Allowed bottom → Allowed top → bottom ≤ x → x ≤ top → IsNearest Allowed u x y → (bottom ≤ y) × (y ≤ top)
+between_allowed : (Allowed : ℕ → Type 0) (u x y bottom top : ℕ) → Allowed bottom → Allowed top → bottom ≤ x → x ≤ top →
+    IsNearest Allowed u x y → (bottom ≤ y) × (y ≤ top)
 between_allowed Allowed u x y bottom top pb pt lx xh n = (omega (arith, n.nearest bottom pb), omega (arith, n.nearest top pt))
 
 -- an allowed size is nearest to itself
@@ -28,7 +30,8 @@ pub itself_nearest : (Allowed : ℕ → Type 0) (u x y : ℕ) → Allowed x → 
 itself_nearest Allowed u x y p n = omega (arith, n.nearest x p)
 
 -- Two that are nearest and even are one, where the odd multiple between them is allowed.
-even_apart : (Allowed : ℕ → Type 0) (u x y z a b : ℕ) → ((w : ℕ) → y ≤ w → w ≤ z → IsMultiple u w → Allowed w) → 0 < u → IsNearest Allowed u x y → IsNearest Allowed u x z → y ≡ 2 * a * u → z ≡ 2 * b * u → a < b → ⊥
+even_apart : (Allowed : ℕ → Type 0) (u x y z a b : ℕ) → ((w : ℕ) → y ≤ w → w ≤ z → IsMultiple u w → Allowed w) → 0 < u →
+    IsNearest Allowed u x y → IsNearest Allowed u x z → y ≡ 2 * a * u → z ≡ 2 * b * u → a < b → ⊥
 even_apart Allowed u x y z a b between some ny nz ey ez h =
     let next : suc a ≤ b = h in
     let up = mul-le-mul_left (2 * u) next in
@@ -37,7 +40,9 @@ even_apart Allowed u x y z a b between some ny nz ey ez h =
     omega (arith, ny.nearest w middle, nz.nearest w middle)
 
 -- the nearest is one, where the multiples of the unit between any two that are nearest are allowed
-nearest_once : (Allowed : ℕ → Type 0) (u x y z : ℕ) → 0 < u → ((w : ℕ) → (y ≤ w) ⊎ (z ≤ w) → (w ≤ y) ⊎ (w ≤ z) → IsMultiple u w → Allowed w) → IsNearest Allowed u x y → IsNearest Allowed u x z → z ≡ y
+nearest_once : (Allowed : ℕ → Type 0) (u x y z : ℕ) → 0 < u →
+    ((w : ℕ) → (y ≤ w) ⊎ (z ≤ w) → (w ≤ y) ⊎ (w ≤ z) → IsMultiple u w → Allowed w) → IsNearest Allowed u x y →
+    IsNearest Allowed u x z → z ≡ y
 nearest_once Allowed u x y z some between ny nz = elim (cases_eq z y) [
   | inl e ↦ e
   | inr other ↦
@@ -75,7 +80,8 @@ pub rounded_zero : (place y : ℕ) → IsRoundedAt place 0 y → y ≡ 0
 rounded_zero place y r = itself_nearest (IsMultiple (10 ^ place)) (10 ^ place) 0 y (0, omega arith) r
 
 -- what is rounded at the rounding place of its magnitude stays between the powers of ten around it
-pub rounded_within : (exponent x y : ℕ) → 0 < x → IsRoundedAt (rounding_place exponent (magnitude x)) x y → (10 ^ magnitude x ≤ y) × (y ≤ 10 ^ (magnitude x + 1))
+pub rounded_within : (exponent x y : ℕ) → 0 < x → IsRoundedAt (rounding_place exponent (magnitude x)) x y →
+    (10 ^ magnitude x ≤ y) × (y ≤ 10 ^ (magnitude x + 1))
 rounded_within exponent x y positive r =
     let place : ℕ = rounding_place exponent (magnitude x) in
     between_allowed (IsMultiple (10 ^ place)) (10 ^ place) x y (10 ^ magnitude x) (10 ^ (magnitude x + 1))
@@ -92,7 +98,8 @@ zero_is_compact table = (0, omega arith)
 
 module _ (table : List TableEntry) (x : ℕ) (positive : 0 < x) where
   -- between the powers of ten around x the multiples of the unit at its magnitude are compact numbers
-  compact_from_multiple : (z : ℕ) → 10 ^ magnitude x ≤ z → z ≤ 10 ^ (magnitude x + 1) → IsMultiple (10 ^ rounding_place_for table (magnitude x)) z → IsCompactNumber table z
+  compact_from_multiple : (z : ℕ) → 10 ^ magnitude x ≤ z → z ≤ 10 ^ (magnitude x + 1) →
+      IsMultiple (10 ^ rounding_place_for table (magnitude x)) z → IsCompactNumber table z
   compact_from_multiple z l g p =
       ⊎_elim (λ (below : z < 10 ^ (magnitude x + 1)). rw (magnitude_is z (magnitude x) l below) p)
       (λ (top : 10 ^ (magnitude x + 1) ≤ z).
@@ -101,7 +108,8 @@ module _ (table : List TableEntry) (x : ℕ) (positive : 0 < x) where
       (cases_lt z (10 ^ (magnitude x + 1)))
 
   -- and the compact numbers are such multiples
-  multiple_from_compact : (z : ℕ) → 10 ^ magnitude x ≤ z → z ≤ 10 ^ (magnitude x + 1) → IsCompactNumber table z → IsMultiple (10 ^ rounding_place_for table (magnitude x)) z
+  multiple_from_compact : (z : ℕ) → 10 ^ magnitude x ≤ z → z ≤ 10 ^ (magnitude x + 1) → IsCompactNumber table z →
+      IsMultiple (10 ^ rounding_place_for table (magnitude x)) z
   multiple_from_compact z l g p =
       ⊎_elim (λ (below : z < 10 ^ (magnitude x + 1)). rw (magnitude_is z (magnitude x) l below) at p)
       (λ (top : 10 ^ (magnitude x + 1) ≤ z).
@@ -140,7 +148,8 @@ module _ (table : List TableEntry) (x : ℕ) (positive : 0 < x) where
   nearest_within y n =
       let below = magnitude_low x positive in
       let above = magnitude_high x positive in
-      between_allowed (IsCompactNumber table) (10 ^ rounding_place_for table (magnitude x)) x y (10 ^ magnitude x) (10 ^ (magnitude x + 1)) (ten_is_compact table (magnitude x)) (ten_is_compact table (magnitude x + 1)) below (omega arith) n
+      between_allowed (IsCompactNumber table) (10 ^ rounding_place_for table (magnitude x)) x y (10 ^ magnitude x) (10 ^ (magnitude x + 1))
+      (ten_is_compact table (magnitude x)) (ten_is_compact table (magnitude x + 1)) below (omega arith) n
 
   -- and there is one alone
   nearest_compact_once : (y z : ℕ) → IsNearestCompact table x y → IsNearestCompact table x z → z ≡ y
@@ -151,7 +160,8 @@ module _ (table : List TableEntry) (x : ℕ) (positive : 0 < x) where
       (λ w l g p. compact_from_multiple w (⊎_elim (λ h. omega arith) (λ h. omega arith) l) (⊎_elim (λ h. omega arith) (λ h. omega arith) g) p) ny nz
 
 -- a size, 0 too, rounded at the rounding place of its own magnitude is the nearest compact number
-pub nearest_compact_from_rounded : (table : List TableEntry) (x y : ℕ) → IsRoundedAt (rounding_place_for table (magnitude x)) x y → IsNearestCompact table x y
+pub nearest_compact_from_rounded : (table : List TableEntry) (x y : ℕ) → IsRoundedAt (rounding_place_for table (magnitude x)) x y →
+    IsNearestCompact table x y
 nearest_compact_from_rounded table x y r = elim (cases_eq x 0) [
   | inl none ↦
       let rounded : IsRoundedAt (rounding_place_for table (magnitude 0)) 0 y = rw none at r in

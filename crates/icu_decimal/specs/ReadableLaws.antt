@@ -17,7 +17,8 @@ TextTellsTheDecimal = (f : DecimalFormat) (s t : Sign) (c d : Unsigned) → IsRe
 
 -- Two texts that a readable formatter writes are equal only where the decimals are one.
 abbrev pub EqualTextsTellTheDecimal : Type 0
-EqualTextsTellTheDecimal = (f : DecimalFormat) (s t : Sign) (c d : Unsigned) (one other : List ℕ) → IsReadable f.symbols.strings f.digits → IsUnsigned c → IsUnsigned d
+EqualTextsTellTheDecimal = (f : DecimalFormat) (s t : Sign) (c d : Unsigned) (one other : List ℕ) → IsReadable f.symbols.strings f.digits →
+    IsUnsigned c → IsUnsigned d
     → one ≡ text_of (decimal_events f s c) → other ≡ text_of (decimal_events f t d) → one ≡ other → (s ≡ t) × (c ≡ d)
 
 -- A significand is written by an entry of the table, or by none, as `format` writes it, characters alone, or as
@@ -38,17 +39,20 @@ CompactTextTells = (f : CompactFormat) (s t : Sign) (by to : Option TableEntry) 
 -- exponents are.
 abbrev pub EqualCompactTextsTell : Type 0
 EqualCompactTextsTell = (f : CompactFormat) (s t : Sign) (c d x y : Unsigned) (m n : ℕ) (es fs : List Event) (one other : List ℕ) → IsReadableCompact f
-    → IsCompactFormat f s c x m es → IsCompactFormat f t d y n fs → one ≡ text_of es → other ≡ text_of fs → one ≡ other → (s ≡ t) × (x ≡ y) × (m ≡ n)
+    → IsCompactFormat f s c x m es → IsCompactFormat f t d y n fs → one ≡ text_of es → other ≡ text_of fs → one ≡ other →
+    (s ≡ t) × (x ≡ y) × (m ≡ n)
 
 -- Where a compact formatter is readable, two decimals without leading padding that it shows are written in the same
 -- characters exactly where their signs are the same and their shown sizes are.
 abbrev pub ShownTextTells : Type 0
-ShownTextTells = (f : CompactFormat) (s t : Sign) (c d x y : Unsigned) (m n : ℕ) (es fs : List Event) → IsReadableCompact f → IsUnpadded c → IsUnpadded d
+ShownTextTells = (f : CompactFormat) (s t : Sign) (c d x y : Unsigned) (m n : ℕ) (es fs : List Event) → IsReadableCompact f → IsUnpadded c →
+    IsUnpadded d
     → (first : IsCompactFormat f s c x m es) (second : IsCompactFormat f t d y n fs)
     → (characters es ≡ characters fs) ↔ ((s ≡ t) × (first.shown ≡ second.shown))
 
 -- So are their texts: equal exactly where their signs are the same and their shown sizes are.
 abbrev pub EqualShownTextsTell : Type 0
-EqualShownTextsTell = (f : CompactFormat) (s t : Sign) (c d x y : Unsigned) (m n : ℕ) (es fs : List Event) (one other : List ℕ) → IsReadableCompact f → IsUnpadded c → IsUnpadded d
+EqualShownTextsTell = (f : CompactFormat) (s t : Sign) (c d x y : Unsigned) (m n : ℕ) (es fs : List Event) (one other : List ℕ) → IsReadableCompact f →
+    IsUnpadded c → IsUnpadded d
     → (first : IsCompactFormat f s c x m es) (second : IsCompactFormat f t d y n fs) → one ≡ text_of es → other ≡ text_of fs
     → (one ≡ other) ↔ ((s ≡ t) × (first.shown ≡ second.shown))

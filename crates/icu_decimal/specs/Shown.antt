@@ -3,8 +3,10 @@ use Rattle.std.specs.Prelude.{◌≡◌, ℕ, ◌*◌, ◌^◌, List}
 use Rattle.fixed_decimal.specs.declared.signs.Sign.TheVariants.{None as NoSign}
 use Rattle.fixed_decimal.specs.Size.{size}
 use Rattle.fixed_decimal.specs.Unsigned.{Unsigned}
+use Rattle.icu_base.specs.Elements.{Elements, selected}
 use Rattle.icu_base.specs.Events.{Event}
 use Rattle.icu_base.specs.Operands.{Operands, operands_of}
+use Rattle.icu_base.specs.Rules.{Rule, category_of}
 use Rattle.icu_decimal.specs.CompactFormat.{CompactFormat, IsCompactFormat}
 use Rattle.icu_decimal.specs.Decimal.{DecimalFormat, unsigned_events}
 
@@ -22,6 +24,10 @@ operands_shown n = operands_of n.significand n.exponent
 -- how large it is
 abbrev pub size_shown : Shown → ℕ
 size_shown n = size n.significand * 10 ^ n.exponent
+
+-- the value that operands pick, by plural rules
+abbrev pub picked : {T : Type 0} → List Rule → Elements T → Operands → T
+picked rules elements operands = selected elements operands (category_of rules operands)
 
 -- what is written of it in a frame, which is a function of its operands and its events
 abbrev pub framed_shown : (Operands → List Event → List Event) → Shown → List Event

@@ -8,7 +8,8 @@ use Rattle.icu_decimal.specs.declared.error.FormatError.TheVariants.{Overflow, O
 -- The call is handed the sink s and leaves t. On success the text of one such thing is written, whatever else is answered.
 -- Where the sink fails, it holds a beginning of the text of one, and counts one more failure. Where the call refuses
 -- otherwise, the sink is as it was.
-abbrev pub WritesSuch : {S N T : Type 0} → (S → List Event) → (S → ℕ) → S → Result T FormatError → (N → Type 0) → (N → List Event) → S → Type 0
+abbrev pub WritesSuch : {S N T : Type 0} → (S → List Event) → (S → ℕ) → S → Result T FormatError → (N → Type 0) → (N → List Event) →
+    S → Type 0
 WritesSuch {S} {N} {T} events failures s (Ok x) Such text t = (n : N) × Such n × WritesAll events failures s (text n) t
 WritesSuch {S} {N} {T} events failures s (Err Overflow) Such text t = t ≡ s
 WritesSuch {S} {N} {T} events failures s (Err OutOfMemory) Such text t = t ≡ s
@@ -16,7 +17,8 @@ WritesSuch {S} {N} {T} events failures s (Err Sink) Such text t = (n : N) × Suc
 
 -- Such a call keeps the limit of the sink. Where the sink fails, it refused for another reason than its limit, and counts
 -- that; or it is full with something of the text left.
-abbrev pub KeepsLimitSuch : {S N T : Type 0} → (S → List Event) → (S → Option ℕ) → (S → ℕ) → S → Result T FormatError → (N → Type 0) → (N → List Event) → S → Type 0
+abbrev pub KeepsLimitSuch : {S N T : Type 0} → (S → List Event) → (S → Option ℕ) → (S → ℕ) → S → Result T FormatError → (N → Type 0) →
+    (N → List Event) → S → Type 0
 KeepsLimitSuch {S} {N} {T} events limit refusals s (Ok x) Such text t = (n : N) × Such n × KeepsLimit events limit refusals s (Ok tt) (text n) t
 KeepsLimitSuch {S} {N} {T} events limit refusals s (Err Overflow) Such text t = t ≡ s
 KeepsLimitSuch {S} {N} {T} events limit refusals s (Err OutOfMemory) Such text t = t ≡ s

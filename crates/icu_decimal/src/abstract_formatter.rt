@@ -17,12 +17,10 @@ use crate::decimal_formatter::DecimalFormatter;
 use crate::error::FormatError;
 use crate::formatted_sign::FormattedSign;
 use crate::frame::{Frame, Framed};
+use crate::sealed::Sealed;
 use fixed_decimal::{Sign, UnsignedDecimal};
 use icu_base::{PartsWrite, PluralOperands, Writeable};
 use std::alloc::Global;
-
-/// Keeps other crates from implementing `AbstractFormatter`.
-pub trait Sealed {}
 
 /// A formatter of numbers, plain or compact, on which formatters of units, currencies or ranges stand (ICU4X
 /// `AbstractFormatter`).
@@ -128,32 +126,34 @@ pub trait AbstractFormatter: Sealed {
         ensures no_sink { IfErr result (λ e. e ≢ FormatError.Sink) };
 
     /// One thing is shown of a number.
-    ghost one_shown: { (f : Self) (u : Unsigned) (n m : Shown) → shows f u n → shows f u m → n ≡ m };
+    ghost one_shown: { (f : Self) (u : Unsigned) (n m : Shown) → shows f u n → shows f u m →
+        n ≡ m };
 
     /// The significand of what is shown of a decimal is one.
-    ghost decimal: { (f : Self) (u : Unsigned) (n : Shown) → IsUnsigned u → shows f u n → IsUnsigned n.significand };
+    ghost decimal: { (f : Self) (u : Unsigned) (n : Shown) → IsUnsigned u → shows f u n →
+        IsUnsigned n.significand };
 
     /// 0 is shown as 0, and nothing else is; any other number as a size from the power of ten of its magnitude up to the
     /// next power of ten, both included.
-    ghost near: { (f : Self) (u : Unsigned) (n : Shown) → shows f u n → IsShownNear (size u) (size_shown n) };
+    ghost near: { (f : Self) (u : Unsigned) (n : Shown) → shows f u n →
+        IsShownNear (size u) (size_shown n) };
 
     /// Of two numbers the one that isn't larger never shows the larger size.
-    ghost in_order: { (f : Self) (u v : Unsigned) (n m : Shown) → shows f u n → shows f v m → size u ≤ size v →
-        size_shown n ≤ size_shown m };
+    ghost in_order: { (f : Self) (u v : Unsigned) (n m : Shown) → shows f u n → shows f v m →
+        size u ≤ size v → size_shown n ≤ size_shown m };
 
     /// A number that is as large as a shown size shows that size.
-    ghost again: { (f : Self) (u v : Unsigned) (n m : Shown) → shows f u n → shows f v m → size v ≡ size_shown n →
-        size_shown m ≡ size_shown n };
+    ghost again: { (f : Self) (u v : Unsigned) (n m : Shown) → shows f u n → shows f v m →
+        size v ≡ size_shown n → size_shown m ≡ size_shown n };
 
     /// And it overflows only where the number overflows of which that size is shown.
-    ghost again_within: { (f : Self) (u v : Unsigned) (n : Shown) → shows f u n → size v ≡ size_shown n → overflows f v →
-        overflows f u };
+    ghost again_within: { (f : Self) (u v : Unsigned) (n : Shown) → shows f u n →
+        size v ≡ size_shown n → overflows f v → overflows f u };
 
     /// A number overflows only where the next power of ten above it is past the limits.
-    ghost overflow_at_the_limit: { (f : Self) (u : Unsigned) → overflows f u → IsAtTheLimit (size u) };
+    ghost overflow_at_the_limit: { (f : Self) (u : Unsigned) → overflows f u →
+        IsAtTheLimit (size u) };
 }
-
-impl Sealed for DecimalFormatter {}
 
 impl AbstractFormatter for DecimalFormatter {
     ghost use Rattle.std.specs.Prelude.{◌≡◌, ◌≢◌, ◌↔◌, Ok, IfOk, IfErr, IsErrOf};
@@ -296,8 +296,6 @@ impl AbstractFormatter for DecimalFormatter {
         }
     }
 }
-
-impl Sealed for CompactDecimalFormatter {}
 
 impl AbstractFormatter for CompactDecimalFormatter {
     ghost use Rattle.fixed_decimal.specs.Size.{size};

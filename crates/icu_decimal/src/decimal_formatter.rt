@@ -172,7 +172,8 @@ impl DecimalFormatter {
     /// Whether it groups this many digits.
     pub(crate) fn is_grouped(&self, count: usize) -> bool
         ensures { IsTrue result
-            ↔ IsTrue (is_grouped count self.now.symbols.grouping_sizes (strategy_of self.now.options)) }
+            ↔ IsTrue
+            (is_grouped count self.now.symbols.grouping_sizes (strategy_of self.now.options)) }
     {
         self.longest_ungrouped < count
     }

@@ -59,10 +59,14 @@ impl PartialEq for FormattedUnsignedDecimal<'_> {
         (eq_of_both (on (λ f. f.format.symbols) ⟦<DecimalSymbols as PartialEq>⟧.eq)
         (on (λ f. f.format.digits) ⟦<[char; 10] as PartialEq>⟧.eq))) };
 
-    ghost laws = { and_per (on_per (λ f. f.number) {E = ⟦<UnsignedDecimal as PartialEq>⟧.eq} (Prim.search (comparing, rules)))
-        (and_per (on_per (λ f. f.format.options) {E = ⟦<DecimalFormatterOptions as PartialEq>⟧.eq} (Prim.search (comparing, rules)))
-        (and_per (on_per (λ f. f.format.symbols) {E = ⟦<DecimalSymbols as PartialEq>⟧.eq} (Prim.search (comparing, rules)))
-        (on_per (λ f. f.format.digits) {E = ⟦<[char; 10] as PartialEq>⟧.eq} (Prim.search (comparing, rules))))) };
+    ghost laws = { and_per (on_per (λ f. f.number) {E = ⟦<UnsignedDecimal as PartialEq>⟧.eq}
+        (Prim.search (comparing, rules)))
+        (and_per (on_per (λ f. f.format.options) {E = ⟦<DecimalFormatterOptions as PartialEq>⟧.eq}
+        (Prim.search (comparing, rules)))
+        (and_per (on_per (λ f. f.format.symbols) {E = ⟦<DecimalSymbols as PartialEq>⟧.eq}
+        (Prim.search (comparing, rules)))
+        (on_per (λ f. f.format.digits) {E = ⟦<[char; 10] as PartialEq>⟧.eq}
+        (Prim.search (comparing, rules))))) };
 
     /// Whether the numbers, the options, the symbols and the digits are equal, wherever they are kept.
     fn eq(&self, other: &Self) -> bool {

@@ -3,11 +3,12 @@
 ghost use Rattle.std.specs.Prelude.{◌≡◌, List};
 ghost use Rattle.icu_base.specs.Events.{Event};
 ghost use Rattle.icu_base.specs.Operands.{Operands};
+ghost use Rattle.icu_decimal.specs.Shown.{picked};
 
-use crate::abstract_formatter::Sealed;
 use crate::formatted_compact::FormattedUnsignedCompactDecimal;
 use crate::formatted_decimal::FormattedUnsignedDecimal;
-use icu_base::{EventWriter, PluralOperands, WriteFault, Writeable};
+use crate::sealed::Sealed;
+use icu_base::{EventWriter, PluralElements, PluralOperands, PluralRules, WriteFault, Writeable};
 
 /// A number as a formatter shows it, without its sign: it writes its events, and tells its plural operands.
 pub trait ShownNumber: Writeable + Sealed {
@@ -17,6 +18,16 @@ pub trait ShownNumber: Writeable + Sealed {
     /// The plural operands of the number. It takes no memory.
     fn plural_operands(&self) -> PluralOperands
         ensures { result ≡ operands self.now };
+
+    /// The value that the number picks by its plural operands. Where there is one alone, they aren't worked out.
+    final fn pick<'a, T>(&self, elements: &'a PluralElements<T>, rules: &PluralRules) -> &'a T
+        ensures { result.now ≡ picked rules.now elements.now (operands self.now) }
+    {
+        match elements.sole() {
+            Some(value) => value,
+            None => elements.get(self.plural_operands(), rules),
+        }
+    }
 }
 
 /// What stands around a number, and may hang on its plural operands: with [`AbstractFormatter::write_framed`] units,
@@ -77,8 +88,6 @@ impl<T: Frame, N: ShownNumber> Writeable for Framed<'_, T, N> {
     }
 }
 
-impl Sealed for FormattedUnsignedDecimal<'_> {}
-
 impl ShownNumber for FormattedUnsignedDecimal<'_> {
     ghost use Rattle.icu_base.specs.Operands.{operands_of};
 
@@ -88,8 +97,6 @@ impl ShownNumber for FormattedUnsignedDecimal<'_> {
         PluralOperands::from_significand_and_exponent(self.value.get(), 0)
     }
 }
-
-impl Sealed for FormattedUnsignedCompactDecimal<'_> {}
 
 impl ShownNumber for FormattedUnsignedCompactDecimal<'_> {
     ghost use Rattle.icu_base.specs.Operands.{operands_of};

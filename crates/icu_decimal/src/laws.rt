@@ -55,7 +55,8 @@ pub fn table_is_compact(formatter: &CompactDecimalFormatter)
 pub fn equal_signed_values_write_equal_events<T: Writeable + PartialEq>()
     ensures { ((x y : _) → IsTrue (T.eq x y) → T.events x ≡ T.events y) →
         (a b : _) → IsTrue (⟦<FormattedSign<'static, T> as PartialEq>⟧.eq a b) →
-        ⟦<FormattedSign<'static, T> as Writeable>⟧.events a ≡ ⟦<FormattedSign<'static, T> as Writeable>⟧.events b }
+        ⟦<FormattedSign<'static, T> as Writeable>⟧.events a
+        ≡ ⟦<FormattedSign<'static, T> as Writeable>⟧.events b }
 {}
 
 /// Equal formatted numbers and decimals write equal events.

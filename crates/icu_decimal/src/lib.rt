@@ -28,6 +28,7 @@ pub mod laws;
 mod loading;
 pub mod parts;
 pub mod provider;
+mod sealed;
 #[cfg(test)]
 mod tests;
 

@@ -25,7 +25,7 @@ use icu_decimal_options::preferences::{
 use std::alloc::Global;
 
 /// What the provider answers by the preferred identifier, if there is one and it has data by it, and else by the other.
-fn load_preferred<M: DataMarker, D: DataProvider<M>>(
+pub fn load_preferred<M: DataMarker, D: DataProvider<M>>(
     alloc: Global,
     provider: &D,
     preferred: Option<DataIdentifierBorrowed<'_>>,

@@ -88,7 +88,7 @@ const MISMATCHES: [(u8, i32, u8, &str); 4] = [
 
 #[test]
 fn tells_the_exponent_expected_and_given(rt: HostRuntime) {
-    for (expected, magnitude, actual, want) in MISMATCHES {
+    for &(expected, magnitude, actual, want) in &MISMATCHES {
         let error = CompactExponentError {
             actual,
             expected,

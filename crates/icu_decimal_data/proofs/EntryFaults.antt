@@ -29,7 +29,8 @@ falls_after_nothing [] = refl
 falls_after_nothing (e ∷ es) = let here : nat_lt e.exponent 0 ≡ false = le-ltb _ _ (omega arith) in rw here refl
 
 -- no exponent falls, and no kept entry has a fault
-pub no_entry_fault : (plain : Option PatternElements) (es : List TableEntry) → fault_of plain es ≡ None → (has_falling_exponents es ≡ false) × (first_entry_fault (kept plain es) ≡ None)
+pub no_entry_fault : (plain : Option PatternElements) (es : List TableEntry) → fault_of plain es ≡ None →
+    (has_falling_exponents es ≡ false) × (first_entry_fault (kept plain es) ≡ None)
 no_entry_fault plain es h =
     ⊎_elim
     (λ (falls : has_falling_exponents es ≡ true). absurd (let k = rw falls at h in cc))

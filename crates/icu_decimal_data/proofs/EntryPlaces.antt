@@ -1,5 +1,7 @@
 -- The entry of a magnitude by its index, and the one after it.
-use Rattle.std.proofs.Common.{◌≡◌, ℕ, zero, suc, ◌+◌, ◌-◌, ◌<◌, ◌≤◌, ◌⊎◌, ⊎_elim, refl, arith, sym, ap, ◌∙◌, List, [], ◌∷◌, length, Option, Some, None, true, false, cond, nat_le, AllPairs, slice_get, ℤ, pos, negsuc, leb-true, leb-false, le-leb, lt-ltb, le-ltb, inl, inr, int_le}
+use Rattle.std.proofs.Common.{◌≡◌, ℕ, zero, suc, ◌+◌, ◌-◌, ◌<◌, ◌≤◌, ◌⊎◌, ⊎_elim, refl, arith, sym, ap, ◌∙◌, List, []}
+use Rattle.std.proofs.Common.{◌∷◌, length, Option, Some, None, true, false, cond, nat_le, AllPairs, slice_get, ℤ, pos, negsuc, leb-true, leb-false}
+use Rattle.std.proofs.Common.{le-leb, lt-ltb, le-ltb, inl, inr, int_le}
 use Rattle.std.proofs.lemmas.Bool.{cases_Bool, cases_lt, lt-leb}
 use Rattle.std.proofs.lemmas.List.Sums.{sum_by-cons, count_by-le-length}
 use Rattle.std.specs.Option.{option_or}
@@ -26,7 +28,8 @@ abbrev pub before : List TableEntry → ℕ → Option TableEntry
 before table zero = None
 before table (suc k) = slice_get table k
 
-none_reached : (e : TableEntry) (es : List TableEntry) (m : ℕ) → m < type_place e → AllPairs (λ (a b : TableEntry). a.log10_type < b.log10_type) (e ∷ es) → (entry_for es m ≡ None) × (reached es m ≡ 0)
+none_reached : (e : TableEntry) (es : List TableEntry) (m : ℕ) → m < type_place e →
+    AllPairs (λ (a b : TableEntry). a.log10_type < b.log10_type) (e ∷ es) → (entry_for es m ≡ None) × (reached es m ≡ 0)
 unfolding entry_for
 none_reached e [] m above h = (refl, refl)
 none_reached e (f ∷ fs) m above h =
@@ -41,7 +44,8 @@ kept e (f ∷ fs) zero h = refl
 kept e (f ∷ fs) (suc j) h = kept e fs j (omega arith)
 
 -- the last of a front that is one longer
-pub front : (e : TableEntry) (es : List TableEntry) (k : ℕ) (o : Option TableEntry) → k ≤ length es → o ≡ before es k → option_or o (Some e) ≡ slice_get (e ∷ es) k
+pub front : (e : TableEntry) (es : List TableEntry) (k : ℕ) (o : Option TableEntry) → k ≤ length es → o ≡ before es k →
+    option_or o (Some e) ≡ slice_get (e ∷ es) k
 front e es zero o h is = rw is
 front e es (suc j) o h is = rw is (kept e es j h)
 
@@ -70,7 +74,8 @@ pub entry_none_at : (table : List TableEntry) (m n : ℕ) → IsCompactTable tab
 entry_none_at table m n is e none = sym ((by_index table m is.types_rise).0 ∙ ap (before table) (sym e ∙ none))
 
 -- some are reached: the last of them is the entry
-pub entry_some_at : (table : List TableEntry) (m n : ℕ) → IsCompactTable table → n ≡ reached table m → 0 < n → slice_get table (n - 1) ≡ entry_for table m
+pub entry_some_at : (table : List TableEntry) (m n : ℕ) → IsCompactTable table → n ≡ reached table m → 0 < n →
+    slice_get table (n - 1) ≡ entry_for table m
 entry_some_at table m n is e some = at n some ∙ ap (before table) e ∙ sym ((by_index table m is.types_rise).0)
   where
     at : (n : ℕ) → 0 < n → slice_get table (n - 1) ≡ before table n
@@ -78,11 +83,13 @@ entry_some_at table m n is e some = at n some ∙ ap (before table) e ∙ sym ((
     at (suc k) some = ap (slice_get table) (omega arith)
 
 -- none is reached: the first one is next
-pub next_none_at : (table : List TableEntry) (m n : ℕ) → IsCompactTable table → n ≡ reached table m → n ≡ 0 → next_entry table m ≡ slice_get table (index_after None)
+pub next_none_at : (table : List TableEntry) (m n : ℕ) → IsCompactTable table → n ≡ reached table m → n ≡ 0 →
+    next_entry table m ≡ slice_get table (index_after None)
 next_none_at table m n is e none = (by_index table m is.types_rise).1 ∙ ap (slice_get table) (sym e ∙ none)
 
 -- some are reached: the one behind them is next
-pub next_some_at : (table : List TableEntry) (m n : ℕ) → IsCompactTable table → n ≡ reached table m → 0 < n → next_entry table m ≡ slice_get table (index_after (Some (n - 1)))
+pub next_some_at : (table : List TableEntry) (m n : ℕ) → IsCompactTable table → n ≡ reached table m → 0 < n →
+    next_entry table m ≡ slice_get table (index_after (Some (n - 1)))
 next_some_at table m n is e some = (by_index table m is.types_rise).1 ∙ ap (slice_get table) (sym e) ∙ ap (slice_get table) back
   where
     back : n ≡ n - 1 + 1

@@ -1,5 +1,7 @@
 -- A table means what a faithful map means.
-use Rattle.std.proofs.Common.{◌≡◌, ℕ, zero, suc, ◌+◌, ◌*◌, ◌^◌, ◌<◌, ◌≤◌, ◌⊎◌, ⊎_elim, inl, inr, Bool, true, false, refl, arith, sym, ap, subst, ◌∙◌, List, [], ◌∷◌, Option, Some, None, nat_le, leb-true, leb-false, le-leb, All, AllPairs, slice_get, cond, pos}
+use Rattle.std.proofs.Common.{◌≡◌, ℕ, zero, suc, ◌+◌, ◌*◌, ◌^◌, ◌<◌, ◌≤◌, ◌⊎◌, ⊎_elim, inl, inr, Bool, true, false, refl}
+use Rattle.std.proofs.Common.{arith, sym, ap, subst, ◌∙◌, List, [], ◌∷◌, Option, Some, None, nat_le, leb-true, leb-false, le-leb, All, AllPairs}
+use Rattle.std.proofs.Common.{slice_get, cond, pos}
 use Rattle.std.proofs.lemmas.List.Elements.{All-head, All-tail}
 use Rattle.std.specs.Option.{IfSome, option_or, unwrap_or}
 use Rattle.std.proofs.lemmas.Bool.{cases_Bool, lt-leb}
@@ -33,10 +35,12 @@ alike_along : (m : ℕ) (a b c d : Option TableEntry) → a ≡ c → b ≡ d �
 alike_along m a b c d p q h = rw (p, q) h
 
 -- a number that isn't exactly one picks the same where there is no pattern for exactly one
-without_one : (o : Operands) (category : PluralCategory) (e : PatternElements) → is_exactly 1 o ≡ false → selected e o category ≡ selected (without_explicit_one e) o category
+without_one : (o : Operands) (category : PluralCategory) (e : PatternElements) → is_exactly 1 o ≡ false →
+    selected e o category ≡ selected (without_explicit_one e) o category
 without_one o category e h = by_value (same_explicit (is_exactly 0 o)) (same_category category)
   where
-    same_explicit : (z : Bool) → cond z e.explicit_zero (cond (is_exactly 1 o) e.explicit_one None) ≡ cond z e.explicit_zero (cond (is_exactly 1 o) None None)
+    same_explicit : (z : Bool) → cond z e.explicit_zero (cond (is_exactly 1 o) e.explicit_one None)
+        ≡ cond z e.explicit_zero (cond (is_exactly 1 o) None None)
     same_explicit true = refl
     same_explicit false = rw h refl
 
@@ -52,7 +56,8 @@ without_one o category e h = by_value (same_explicit (is_exactly 0 o)) (same_cat
     by_value p q = λ i. unwrap_or (p i) (unwrap_or (q i) e.other)
 
 -- a number that is exactly one stands at the place of power 0
-one_here : ExactlyIsTheNumber → MagnitudeIsUnique → (s : Unsigned) → IsUnsigned s → is_exactly 1 (operands_of s 0) ≡ true → magnitude (size s) ≡ finest
+one_here : ExactlyIsTheNumber → MagnitudeIsUnique → (s : Unsigned) → IsUnsigned s → is_exactly 1 (operands_of s 0) ≡ true →
+    magnitude (size s) ≡ finest
 one_here exact unique s is h =
     let whole : size s ≡ 1 * ten_to (pos 0) = exact s 1 is h in
     let here : size s ≡ 10 ^ finest = whole ∙ at_power finest in
@@ -95,7 +100,8 @@ types_of last before h = ⊎_elim (λ (e : before ≡ last). rw e (omega arith))
 
 -- What is known of numbers: one that is exactly n by its operands is n, and a size has one magnitude.
 module _ (exact : ExactlyIsTheNumber) (unique : MagnitudeIsUnique) where
-  alike_below : (m : ℕ) (last before : TableEntry) → last.exponent ≤ last.log10_type → type_place before ≤ m → StandsBelow last before → Alike m (Some last) (Some before)
+  alike_below : (m : ℕ) (last before : TableEntry) → last.exponent ≤ last.log10_type → type_place before ≤ m → StandsBelow last before →
+      Alike m (Some last) (Some before)
   alike_below m last before small on s = record {
     exponent = sym s.exponent;
     picks = λ number category is at.
@@ -105,11 +111,13 @@ module _ (exact : ExactlyIsTheNumber) (unique : MagnitudeIsUnique) where
         let low = s.below in
         absurd (omega arith))
         (λ (many : is_exactly 1 (operands_of number 0) ≡ false).
-        without_one (operands_of number 0) category last.elements many ∙ ap (λ (x : PatternElements). selected x (operands_of number 0) category) (sym s.elements))
+        without_one (operands_of number 0) category last.elements many
+        ∙ ap (λ (x : PatternElements). selected x (operands_of number 0) category) (sym s.elements))
         (cases_Bool (is_exactly 1 (operands_of number 0)));
   }
 
-  alike_stands : (m : ℕ) (last before : TableEntry) → last.exponent ≤ last.log10_type → type_place before ≤ m → Stands last before → Alike m (Some last) (Some before)
+  alike_stands : (m : ℕ) (last before : TableEntry) → last.exponent ≤ last.log10_type → type_place before ≤ m → Stands last before →
+      Alike m (Some last) (Some before)
   alike_stands m last before small on h =
       ⊎_elim (λ (e : before ≡ last). rw e (alike_itself m (Some last))) (λ (s : StandsBelow last before). alike_below m last before small on s) h
 
@@ -137,7 +145,11 @@ module _ (exact : ExactlyIsTheNumber) (unique : MagnitudeIsUnique) where
 
   keeps : (e : TableEntry) (es : List TableEntry) → RepeatsKeepExponent (e ∷ es) → Keep e es
   keeps e [] h = tt
-  keeps e (f ∷ fs) h = (λ r. h 0 e f refl refl r, keeps f fs (λ i a b p q r. h (suc i) a b p (subst (λ n. slice_get (e ∷ f ∷ fs) n ≡ Some b) (further i) q) r))
+  keeps e (f ∷ fs) h = (
+    λ r. h 0 e f refl refl r,
+    keeps f fs
+        (λ i a b p q r. h (suc i) a b p (subst (λ n. slice_get (e ∷ f ∷ fs) n ≡ Some b) (further i) q) r),
+  )
     where
       further : (i : ℕ) → suc (i + 1) ≡ suc i + 1
       further i = omega arith
@@ -167,7 +179,8 @@ module _ (exact : ExactlyIsTheNumber) (unique : MagnitudeIsUnique) where
 
   on_or_above : (m : ℕ) (e : TableEntry) → (type_place e ≤ m) ⊎ (m < type_place e)
   on_or_above m e =
-      ⊎_elim (λ (h : nat_le (type_place e) m ≡ true). inl (leb-true (type_place e) m h)) (λ (h : nat_le (type_place e) m ≡ false). inr (leb-false (type_place e) m h)) (cases_Bool (nat_le (type_place e) m))
+      ⊎_elim (λ (h : nat_le (type_place e) m ≡ true). inl (leb-true (type_place e) m h))
+      (λ (h : nat_le (type_place e) m ≡ false). inr (leb-false (type_place e) m h)) (cases_Bool (nat_le (type_place e) m))
 
   or_some : {T : Type 0} (a : Option T) (x : T) (b : Option T) → option_or (option_or a (Some x)) b ≡ option_or a (Some x)
   or_some None x b = refl
@@ -183,9 +196,11 @@ module _ (exact : ExactlyIsTheNumber) (unique : MagnitudeIsUnique) where
   last_alone m last es h up = rw (none_above m es up, le-leb (type_place last) m h) refl
 
   means : (m : ℕ) (last before : TableEntry) (es : List TableEntry) → Stands last before → last.exponent ≤ last.log10_type → Small (changes before es)
-      → Rises before.log10_type es → Keep before es → type_place before ≤ m → Alike m (entry_for (last ∷ changes before es) m) (entry_for (before ∷ es) m)
+      → Rises before.log10_type es → Keep before es → type_place before ≤ m →
+      Alike m (entry_for (last ∷ changes before es) m) (entry_for (before ∷ es) m)
   means m last before [] s c2 cs up keep on =
-      alike_along m _ _ (Some last) (Some before) (last_alone m last [] (let t = types_of last before s in omega arith) tt) (last_alone m before [] on tt) (alike_stands m last before c2 on s)
+      alike_along m _ _ (Some last) (Some before) (last_alone m last [] (let t = types_of last before s in omega arith) tt) (last_alone m before [] on tt)
+      (alike_stands m last before c2 on s)
   means m last before (e ∷ es) s c2 cs up keep on =
       let t = types_of last before s in
       let rising = up.0 in
@@ -202,11 +217,13 @@ module _ (exact : ExactlyIsTheNumber) (unique : MagnitudeIsUnique) where
       rw r (alike_along m _ _ _ _ refl (later m before e es reached) (means m last e es next c2 cs' up.1 keep.1 reached)))
       (λ (r : repeats before e ≡ false).
       let cs' : (e.exponent ≤ e.log10_type) × Small (changes e es) = rw r at cs in
-      rw r (alike_along m _ _ _ _ (later m last e (changes e es) reached) (later m before e es reached) (means m e e es (inl refl) cs'.0 cs'.1 up.1 keep.1 reached)))
+      rw r (alike_along m _ _ _ _ (later m last e (changes e es) reached) (later m before e es reached)
+      (means m e e es (inl refl) cs'.0 cs'.1 up.1 keep.1 reached)))
       (cases_Bool (repeats before e)))
       (λ (over : m < type_place e).
       let past : Above m (e ∷ es) = (over, above m e.log10_type es over up.1) in
-      alike_along m _ _ (Some last) (Some before) (last_alone m last (changes before (e ∷ es)) (omega arith) (above_changes m before (e ∷ es) past)) (last_alone m before (e ∷ es) on past) (alike_stands m last before c2 on s))
+      alike_along m _ _ (Some last) (Some before) (last_alone m last (changes before (e ∷ es)) (omega arith) (above_changes m before (e ∷ es) past))
+      (last_alone m before (e ∷ es) on past) (alike_stands m last before c2 on s))
       (on_or_above m e)
 
   -- ---- skipped types
@@ -221,7 +238,8 @@ module _ (exact : ExactlyIsTheNumber) (unique : MagnitudeIsUnique) where
   alone : (o : Operands) (category : PluralCategory) (e : TableEntry) → IsPassThrough e → pattern_for o category (Some e) ≡ place_alone
   alone o category e h =
       let other : e.elements.other ≡ place_alone = h.alone 7 None (omega arith) in
-      unwrap_alone (explicit_value e.elements o) _ (explicit (is_exactly 0 o) (is_exactly 1 o)) (unwrap_alone (category_value e.elements category) _ (own category) other)
+      unwrap_alone (explicit_value e.elements o) _ (explicit (is_exactly 0 o) (is_exactly 1 o))
+      (unwrap_alone (category_value e.elements category) _ (own category) other)
     where
       explicit : (z n : Bool) → IsAlone (cond z e.elements.explicit_zero (cond n e.elements.explicit_one None))
       explicit true n = h.alone 0 None (omega arith)
@@ -236,7 +254,8 @@ module _ (exact : ExactlyIsTheNumber) (unique : MagnitudeIsUnique) where
       own Many = h.alone 6 None (omega arith)
       own Other = tt
 
-  over_skipped : (m : ℕ) (a b : Option TableEntry) (e : TableEntry) (c : Bool) → IsPassThrough e → Alike m a b → Alike m a (option_or b (cond c (Some e) None))
+  over_skipped : (m : ℕ) (a b : Option TableEntry) (e : TableEntry) (c : Bool) → IsPassThrough e → Alike m a b →
+      Alike m a (option_or b (cond c (Some e) None))
   over_skipped m a (Some f) e c h s = s
   over_skipped m a None e false h s = s
   over_skipped m a None e true h s = record {
@@ -244,7 +263,8 @@ module _ (exact : ExactlyIsTheNumber) (unique : MagnitudeIsUnique) where
     picks = λ number category is at. s.picks number category is at ∙ sym (alone (operands_of number 0) category e h);
   }
 
-  whole : (plain : Option PatternElements) (es : List TableEntry) (m : ℕ) → AllPairs (λ (a b : TableEntry). a.log10_type < b.log10_type) es → Small (kept plain es)
+  whole : (plain : Option PatternElements) (es : List TableEntry) (m : ℕ) → AllPairs (λ (a b : TableEntry). a.log10_type < b.log10_type) es →
+      Small (kept plain es)
       → RepeatsKeepExponent (unskipped plain es) → All IsPassThrough (skipped plain es) → Alike m (entry_for (kept plain es) m) (entry_for es m)
   unfolding entry_for
   whole plain [] m up c2 keep none = alike_itself m None
@@ -254,7 +274,8 @@ module _ (exact : ExactlyIsTheNumber) (unique : MagnitudeIsUnique) where
       let c2' : Small (kept plain es) = rw z at c2 in
       let keep' : RepeatsKeepExponent (unskipped plain es) = rw z at keep in
       let none' : All IsPassThrough (e ∷ skipped plain es) = rw z at none in
-      let rest = whole plain es m (λ i j d l g. up (suc i) (suc j) d (omega arith) (omega arith)) c2' keep' (All-tail IsPassThrough e (skipped plain es) none') in
+      let rest = whole plain es m (λ i j d l g. up (suc i) (suc j) d (omega arith) (omega arith)) c2' keep'
+      (All-tail IsPassThrough e (skipped plain es) none') in
       rw z (over_skipped m _ (entry_for es m) e (nat_le (type_place e) m) (All-head IsPassThrough e (skipped plain es) none') rest))
       (λ (z : is_zero_magnitude plain e.elements ≡ false).
       let c2' : (e.exponent ≤ e.log10_type) × Small (changes e es) = rw z at c2 in
@@ -262,13 +283,15 @@ module _ (exact : ExactlyIsTheNumber) (unique : MagnitudeIsUnique) where
       rw z (first e es m (rises e es up) c2'.0 c2'.1 (keeps e es keep')))
       (cases_Bool (is_zero_magnitude plain e.elements))
     where
-      first : (e : TableEntry) (es : List TableEntry) (m : ℕ) → Rises e.log10_type es → e.exponent ≤ e.log10_type → Small (changes e es) → Keep e es → Alike m (entry_for (e ∷ changes e es) m) (entry_for (e ∷ es) m)
+      first : (e : TableEntry) (es : List TableEntry) (m : ℕ) → Rises e.log10_type es → e.exponent ≤ e.log10_type → Small (changes e es) →
+          Keep e es → Alike m (entry_for (e ∷ changes e es) m) (entry_for (e ∷ es) m)
       first e es m up c2 cs keep =
           ⊎_elim
           (λ (on : type_place e ≤ m). means m e e es (inl refl) c2 cs up keep on)
           (λ (over : m < type_place e).
           let past = above m e.log10_type es over up in
-          alike_along m _ _ None None (none_above m (e ∷ changes e es) (over, above_changes m e es past)) (none_above m (e ∷ es) (over, past)) (alike_itself m None))
+          alike_along m _ _ None None (none_above m (e ∷ changes e es) (over, above_changes m e es past)) (none_above m (e ∷ es) (over, past))
+          (alike_itself m None))
           (on_or_above m e)
 
   -- what is kept means what the whole map means

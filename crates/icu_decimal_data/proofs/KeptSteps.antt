@@ -1,5 +1,6 @@
 -- What a walk through a map finds.
-use Rattle.std.proofs.Common.{◌≡◌, ℕ, suc, ◌+◌, ◌<◌, ⊎_elim, min, true, false, refl, arith, sym, ap, ◌∙◌, List, [], ◌∷◌, length, Option, Some, None, slice_index_or, drop, drop-cons, add-one, sum_by}
+use Rattle.std.proofs.Common.{◌≡◌, ℕ, suc, ◌+◌, ◌<◌, ⊎_elim, min, true, false, refl, arith, sym, ap, ◌∙◌, List, [], ◌∷◌, length}
+use Rattle.std.proofs.Common.{Option, Some, None, slice_index_or, drop, drop-cons, add-one, sum_by}
 use Rattle.std.proofs.lemmas.Bool.{cases_Bool}
 use Rattle.std.proofs.lemmas.List.Sums.{sum_by-cons}
 use Rattle.icu_base.specs.Patterns.{PatternText}
@@ -12,21 +13,24 @@ use Rattle.icu_decimal_data.proofs.SameEntries.{the_same}
 
 -- one more slot is counted, as far as the count fits
 pub size_step : (slots : List (Option PatternText)) (k size most : ℕ) → k < length slots
-    → min (min (size + slot_size (slice_index_or slots k None)) most + sum_by slot_size (drop (k + 1) slots)) most ≡ min (size + sum_by slot_size (drop k slots)) most
+    → min (min (size + slot_size (slice_index_or slots k None)) most + sum_by slot_size (drop (k + 1) slots)) most
+    ≡ min (size + sum_by slot_size (drop k slots)) most
 size_step slots k size most h =
     let parts : sum_by slot_size (drop k slots) ≡ slot_size (slice_index_or slots k None) + sum_by slot_size (drop (k + 1) slots) =
     rw (add-one, drop-cons slots k None h) (sum_by-cons slot_size (slice_index_or slots k None) (drop (suc k) slots)) in
     omega arith
 
 -- comparing with the last kept one is comparing with the one just before
-after : (plain : Option PatternElements) (last before : TableEntry) (es : List TableEntry) → without_explicit_one before.elements ≡ without_explicit_one last.elements
+after : (plain : Option PatternElements) (last before : TableEntry) (es : List TableEntry) →
+    without_explicit_one before.elements ≡ without_explicit_one last.elements
     → kept_since plain (Some last.elements) es ≡ changes before es
 after plain last before [] h = refl
 after plain last before (e ∷ es) h =
     ⊎_elim
     (λ (r : repeats before e ≡ true).
     let s : same_patterns (without_explicit_one last.elements) e.elements ≡ true = ap (λ (x : PatternElements). same_patterns x e.elements) (sym h) ∙ r in
-    let same : without_explicit_one e.elements ≡ without_explicit_one last.elements = ap without_explicit_one (sym (the_same (without_explicit_one last.elements) e.elements s)) in
+    let same : without_explicit_one e.elements ≡ without_explicit_one last.elements =
+    ap without_explicit_one (sym (the_same (without_explicit_one last.elements) e.elements s)) in
     rw (r, s) (after plain last e es same))
     (λ (r : repeats before e ≡ false).
     let s : same_patterns (without_explicit_one last.elements) e.elements ≡ false = ap (λ (x : PatternElements). same_patterns x e.elements) (sym h) ∙ r in

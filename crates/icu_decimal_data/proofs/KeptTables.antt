@@ -1,5 +1,6 @@
 -- What is kept of a map without a fault is a table.
-use Rattle.std.proofs.Common.{◌≡◌, ℕ, ◌+◌, ◌<◌, ◌≤◌, ⊎_elim, true, false, refl, arith, List, [], ◌∷◌, Option, None, All, AllPairs, nat_lt, ltb-false}
+use Rattle.std.proofs.Common.{◌≡◌, ℕ, ◌+◌, ◌<◌, ◌≤◌, ⊎_elim, true, false, refl, arith, List, [], ◌∷◌, Option, None, All, AllPairs}
+use Rattle.std.proofs.Common.{nat_lt, ltb-false}
 use Rattle.std.specs.List.{AllByRecursion}
 use Rattle.std.specs.List.Sorted.{IsStrictlySortedBy}
 use Rattle.std.specs.Map.{keys_of}
@@ -65,7 +66,8 @@ pairs_kept R plain (e ∷ es) h =
     (λ (z : is_zero_magnitude plain e.elements ≡ false). rw z (each_changes (R e) e es h.0, pairs_changes R e es h.1))
     (cases_Bool (is_zero_magnitude plain e.elements))
 
-types_above : (k : ℕ) (es : List (ℕ × (ℕ × PatternElements))) → AllByRecursion (λ y. nat_cmp k y ≡ Less) (keys_of es) → Each (λ e. k < e.log10_type) (given es)
+types_above : (k : ℕ) (es : List (ℕ × (ℕ × PatternElements))) → AllByRecursion (λ y. nat_cmp k y ≡ Less) (keys_of es) →
+    Each (λ e. k < e.log10_type) (given es)
 types_above k [] h = tt
 types_above k (e ∷ es) h = (less k e.0 h.0, types_above k es h.1)
   where
@@ -73,12 +75,14 @@ types_above k (e ∷ es) h = (less k e.0 h.0, types_above k es h.1)
     less x y h = rw h at (ranked x y (nat_cmp x y) refl)
 
 -- the types of a sorted map rise
-pub types_rise : (es : List (ℕ × (ℕ × PatternElements))) → IsStrictlySortedBy nat_cmp (keys_of es) → Pairs (λ e f. e.log10_type < f.log10_type) (given es)
+pub types_rise : (es : List (ℕ × (ℕ × PatternElements))) → IsStrictlySortedBy nat_cmp (keys_of es) →
+    Pairs (λ e f. e.log10_type < f.log10_type) (given es)
 types_rise [] h = tt
 types_rise (e ∷ es) h = (types_above e.0 es (sorted_head nat_cmp e.0 (keys_of es) h), types_rise es (sorted_tail nat_cmp e.0 (keys_of es) h))
 
 -- without a fall exponents rise from a lower bound on
-exponents_rise : (low : ℕ) (es : List TableEntry) → falls_after low es ≡ false → Each (λ e. low ≤ e.exponent) es × Pairs (λ e f. e.exponent ≤ f.exponent) es
+exponents_rise : (low : ℕ) (es : List TableEntry) → falls_after low es ≡ false →
+    Each (λ e. low ≤ e.exponent) es × Pairs (λ e f. e.exponent ≤ f.exponent) es
 exponents_rise low [] h = (tt, tt)
 exponents_rise low (e ∷ es) h =
     let parts = or_parts (nat_lt e.exponent low) (falls_after e.exponent es) h in
@@ -98,7 +102,8 @@ sound (e ∷ es) h =
     let both = none_or (entry_fault e) (first_entry_fault es) h in
     (sound_entry e both.0, sound es both.1)
 
-pub kept_is_table : (plain : Option PatternElements) (es : List (ℕ × (ℕ × PatternElements))) → IsStrictlySortedBy nat_cmp (keys_of es) → fault_of plain (given es) ≡ None → IsCompactTable (kept plain (given es))
+pub kept_is_table : (plain : Option PatternElements) (es : List (ℕ × (ℕ × PatternElements))) → IsStrictlySortedBy nat_cmp (keys_of es) →
+    fault_of plain (given es) ≡ None → IsCompactTable (kept plain (given es))
 kept_is_table plain es sorted none =
     let faults = no_entry_fault plain (given es) none in
     let small = sound (kept plain (given es)) faults.1 in

@@ -11,7 +11,8 @@ use Rattle.icu_decimal_data.proofs.TableOfMap.{all_size}
 module _ (accepts : PatternText → Bool) where
   all_change : (before : TableEntry) (es : List TableEntry) → AreEntries accepts (Some before) es → changes before es ≡ es
   all_change before [] h = refl
-  all_change before (e ∷ es) h = let differs : repeats before e ≡ false = h.1.2 in rw differs (ap (λ (fs : List TableEntry). e ∷ fs) (all_change e es h.2))
+  all_change before (e ∷ es) h = let differs : repeats before e ≡ false = h.1.2 in
+      rw differs (ap (λ (fs : List TableEntry). e ∷ fs) (all_change e es h.2))
 
   all_kept : (es : List TableEntry) → AreEntries accepts None es → kept None es ≡ es
   all_kept [] h = refl

@@ -19,7 +19,8 @@ module _ {T : Type 0} where
   option_eq-Decides eq d (Some x) None = (λ h. absurd (cc), λ h. absurd (cc))
   option_eq-Decides eq d (Some x) (Some y) = (λ h. ap Some ((d x y).0 h), λ h. (d x y).1 (cc))
 
-  pub same_elements-Decides : (eq : T → T → Bool) → ((x y : T) → Decides (eq x y) (x ≡ y)) → (a b : Elements T) → Decides (same_elements eq a b) (a ≡ b)
+  pub same_elements-Decides : (eq : T → T → Bool) → ((x y : T) → Decides (eq x y) (x ≡ y)) → (a b : Elements T) →
+      Decides (same_elements eq a b) (a ≡ b)
   same_elements-Decides eq d a b = (
     λ h.
         let r0 = and_parts (option_eq eq a.explicit_zero b.explicit_zero) _ h in
@@ -70,7 +71,8 @@ same_patterns-Decides = same_elements-Decides same_pattern same_pattern-Decides
 pub the_same : (a b : PatternElements) → same_patterns a b ≡ true → a ≡ b
 the_same a b = (same_patterns-Decides a b).0
 
-pub pointwise-Decides : {T : Type 0} (eq : T → T → Bool) → ((x y : T) → Decides (eq x y) (x ≡ y)) → (xs ys : List T) → Decides (pointwise eq xs ys) (xs ≡ ys)
+pub pointwise-Decides : {T : Type 0} (eq : T → T → Bool) → ((x y : T) → Decides (eq x y) (x ≡ y)) → (xs ys : List T) →
+    Decides (pointwise eq xs ys) (xs ≡ ys)
 pointwise-Decides eq d [] [] = (λ _. refl, λ _. refl)
 pointwise-Decides eq d [] (y ∷ ys) = (λ h. absurd (cc), λ h. absurd (cc))
 pointwise-Decides eq d (x ∷ xs) [] = (λ h. absurd (cc), λ h. absurd (cc))
@@ -93,7 +95,8 @@ same_entry-Decides e f = (
       },
   λ h.
       and_from _ _ ((Decides-eqb e.log10_type f.log10_type).1 (ap (λ (g : TableEntry). g.log10_type) h))
-      (and_from _ _ ((Decides-eqb e.exponent f.exponent).1 (ap (λ (g : TableEntry). g.exponent) h)) ((same_patterns-Decides e.elements f.elements).1 (ap (λ (g : TableEntry). g.elements) h))),
+      (and_from _ _ ((Decides-eqb e.exponent f.exponent).1 (ap (λ (g : TableEntry). g.exponent) h))
+      ((same_patterns-Decides e.elements f.elements).1 (ap (λ (g : TableEntry). g.elements) h))),
 )
 
 -- tables are equal exactly where they are the same

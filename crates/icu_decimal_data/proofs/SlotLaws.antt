@@ -1,5 +1,7 @@
 -- A slot that is read is written so, and a slot that is written is read.
-use Rattle.std.proofs.Common.{◌≡◌, ℕ, zero, suc, ◌+◌, ◌*◌, ◌/◌, ◌%◌, ◌<◌, ◌≤◌, ◌^◌, Bool, true, false, cond, not, ◌&&◌, ◌||◌, IsTrue, IsSome, List, [], ◌∷◌, length, slice_range, Option, Some, None, Ok, eqb, ltb, refl, sym, ap, ◌∙◌, arith}
+use Rattle.std.proofs.Common.{◌≡◌, ℕ, zero, suc, ◌+◌, ◌*◌, ◌/◌, ◌%◌, ◌<◌, ◌≤◌, ◌^◌, Bool, true, false, cond, not}
+use Rattle.std.proofs.Common.{◌&&◌, ◌||◌, IsTrue, IsSome, List, [], ◌∷◌, length, slice_range, Option, Some, None, Ok, eqb, ltb, refl, sym, ap}
+use Rattle.std.proofs.Common.{◌∙◌, arith}
 use Rattle.std.specs.List.{list_all}
 use Rattle.std.specs.Str.{is_utf8}
 use Rattle.std.proofs.lemmas.Bool.{eqb-true, eq-eqb, ltb-false, le-ltb, and_parts, or_parts}
@@ -21,7 +23,8 @@ pub record Taken (accepts : PatternText → Bool) (pool : List ℕ) (last : Bool
 
 module _ (accepts : PatternText → Bool) (pool : List ℕ) (pool_at : ℕ) (last : Bool) (at sum : ℕ) where
   absent_taken : (s0 s1 l0 l1 p0 p1 next : ℕ) → sum ≤ length pool
-      → slot_step accepts pool pool_at last at sum (0 ∷ s0 ∷ s1 ∷ l0 ∷ l1 ∷ p0 ∷ p1 ∷ []) ≡ Ok next → Taken accepts pool last sum (0 ∷ s0 ∷ s1 ∷ l0 ∷ l1 ∷ p0 ∷ p1 ∷ []) next
+      → slot_step accepts pool pool_at last at sum (0 ∷ s0 ∷ s1 ∷ l0 ∷ l1 ∷ p0 ∷ p1 ∷ []) ≡ Ok next →
+      Taken accepts pool last sum (0 ∷ s0 ∷ s1 ∷ l0 ∷ l1 ∷ p0 ∷ p1 ∷ []) next
   unfolding slot_step
   absent_taken s0 s1 l0 l1 p0 p1 next le e =
       let a = unless_ok (is_wrong_kind accepts last 0) at _ next e in
@@ -57,12 +60,16 @@ module _ (accepts : PatternText → Bool) (pool : List ℕ) (pool_at : ℕ) (las
   module _ (k s0 s1 l0 l1 p0 p1 next : ℕ) (b0 : s0 < 256) (b1 : l0 < 256) (b2 : p0 < 256) (nonzero : eqb k 0 ≡ false)
       (place : Option ℕ) (place_is : cond (eqb k 2) (Some (p0 + 256 * p1)) None ≡ place) (kind_is : kind_of place ≡ k)
       (number_is : is_wrong_place (k ∷ s0 ∷ s1 ∷ l0 ∷ l1 ∷ p0 ∷ p1 ∷ []) ≡ false → place_number place ≡ p0 + 256 * p1) where
-    present_taken : slot_step accepts pool pool_at last at sum (k ∷ s0 ∷ s1 ∷ l0 ∷ l1 ∷ p0 ∷ p1 ∷ []) ≡ Ok next → Taken accepts pool last sum (k ∷ s0 ∷ s1 ∷ l0 ∷ l1 ∷ p0 ∷ p1 ∷ []) next
+    present_taken : slot_step accepts pool pool_at last at sum (k ∷ s0 ∷ s1 ∷ l0 ∷ l1 ∷ p0 ∷ p1 ∷ []) ≡ Ok next →
+        Taken accepts pool last sum (k ∷ s0 ∷ s1 ∷ l0 ∷ l1 ∷ p0 ∷ p1 ∷ []) next
     unfolding slot_step
     present_taken e =
         let slot = k ∷ s0 ∷ s1 ∷ l0 ∷ l1 ∷ p0 ∷ p1 ∷ [] in
         let a = unless_ok (is_wrong_kind accepts last k) at _ next e in
-        let inner : unless (not (eqb (number slot 1) sum)) (at + 1) (unless (ltb (length pool) (number slot 1 + number slot 3)) (at + 3) (unless (is_wrong_place slot) (at + 5) (unless (not (is_pattern accepts (pattern_in pool slot))) (pool_at + number slot 1) (Ok (sum + number slot 3))))) ≡ Ok next = rw nonzero at a.1 in
+        let inner : unless (not (eqb (number slot 1) sum)) (at + 1)
+        (unless (ltb (length pool) (number slot 1 + number slot 3)) (at + 3)
+        (unless (is_wrong_place slot) (at + 5) (unless (not (is_pattern accepts (pattern_in pool slot))) (pool_at + number slot 1)
+        (Ok (sum + number slot 3))))) ≡ Ok next = rw nonzero at a.1 in
         let b = unless_ok (not (eqb (number slot 1) sum)) (at + 1) _ next inner in
         let c = unless_ok (ltb (length pool) (number slot 1 + number slot 3)) (at + 3) _ next b.1 in
         let d = unless_ok (is_wrong_place slot) (at + 5) _ next c.1 in
@@ -72,7 +79,8 @@ module _ (accepts : PatternText → Bool) (pool : List ℕ) (pool_at : ℕ) (las
         let next_is : sum + number slot 3 ≡ next = ok_is _ _ f.1 in
         let here : slot_in pool slot ≡ Some (pattern_in pool slot) = rw nonzero refl in
         let range : slice_range pool sum next ≡ (pattern_in pool slot).literal = rw (← next_is, ← starts) refl in
-        let long : length (pattern_in pool slot).literal ≡ number slot 3 = length-range pool (number slot 1) (number slot 1 + number slot 3) (omega arith) fits ∙ omega arith in
+        let long : length (pattern_in pool slot).literal ≡ number slot 3 =
+        length-range pool (number slot 1) (number slot 1 + number slot 3) (omega arith) fits ∙ omega arith in
         let place_number_is = number_is d.0 in
         let q0 : sum % 256 ≡ s0 = rw (← starts) (low_is s0 s1 b0) in
         let q1 : sum / 256 ≡ s1 = rw (← starts) (high_is s0 s1 b0) in
@@ -91,7 +99,8 @@ module _ (accepts : PatternText → Bool) (pool : List ℕ) (pool_at : ℕ) (las
         }
 
   taken : (k s0 s1 l0 l1 p0 p1 next : ℕ) → s0 < 256 → l0 < 256 → p0 < 256 → sum ≤ length pool
-      → slot_step accepts pool pool_at last at sum (k ∷ s0 ∷ s1 ∷ l0 ∷ l1 ∷ p0 ∷ p1 ∷ []) ≡ Ok next → Taken accepts pool last sum (k ∷ s0 ∷ s1 ∷ l0 ∷ l1 ∷ p0 ∷ p1 ∷ []) next
+      → slot_step accepts pool pool_at last at sum (k ∷ s0 ∷ s1 ∷ l0 ∷ l1 ∷ p0 ∷ p1 ∷ []) ≡ Ok next →
+      Taken accepts pool last sum (k ∷ s0 ∷ s1 ∷ l0 ∷ l1 ∷ p0 ∷ p1 ∷ []) next
   unfolding slot_step
   taken zero s0 s1 l0 l1 p0 p1 next b0 b1 b2 le e = absent_taken s0 s1 l0 l1 p0 p1 next le e
   taken (suc zero) s0 s1 l0 l1 p0 p1 next b0 b1 b2 le e =
@@ -106,7 +115,8 @@ module _ (accepts : PatternText → Bool) (pool : List ℕ) (pool_at : ℕ) (las
       absurd (omega arith)
 
   -- the same of any seven bytes
-  pub slot_taken : (slot : List ℕ) (next : ℕ) → length slot ≡ 7 → IsBytes slot → sum ≤ length pool → slot_step accepts pool pool_at last at sum slot ≡ Ok next → Taken accepts pool last sum slot next
+  pub slot_taken : (slot : List ℕ) (next : ℕ) → length slot ≡ 7 → IsBytes slot → sum ≤ length pool →
+      slot_step accepts pool pool_at last at sum slot ≡ Ok next → Taken accepts pool last sum slot next
   slot_taken [] next seven bytes le e = absurd (omega arith)
   slot_taken (a ∷ []) next seven bytes le e = absurd (omega arith)
   slot_taken (a ∷ b ∷ []) next seven bytes le e = absurd (omega arith)
@@ -120,29 +130,37 @@ module _ (accepts : PatternText → Bool) (pool : List ℕ) (pool_at : ℕ) (las
   -- ---- what is written is read
 
   -- a slot of a pattern, by its kind and its place
-  module _ (p : PatternText) (kind place : ℕ) (kind_is : kind_of p.place ≡ kind) (place_is : place_number p.place ≡ place) (nonzero : eqb kind 0 ≡ false)
+  module _ (p : PatternText) (kind place : ℕ) (kind_is : kind_of p.place ≡ kind) (place_is : place_number p.place ≡ place)
+      (nonzero : eqb kind 0 ≡ false)
       (right_kind : is_wrong_kind accepts last kind ≡ false) (place_back : cond (eqb kind 2) (Some place) None ≡ p.place)
       (right_place : (ltb (length p.literal) place || (eqb kind 1 && not (eqb place 0))) ≡ false) where
-    kind_again : is_pattern accepts p ≡ true → length pool < 2 ^ 16 → sum + length p.literal ≤ length pool → slice_range pool sum (sum + length p.literal) ≡ p.literal
-        → (slot_step accepts pool pool_at last at sum (slot_bytes sum (Some p)) ≡ Ok (sum + length p.literal)) × (slot_in pool (slot_bytes sum (Some p)) ≡ Some p)
+    kind_again : is_pattern accepts p ≡ true → length pool < 2 ^ 16 → sum + length p.literal ≤ length pool →
+        slice_range pool sum (sum + length p.literal) ≡ p.literal
+        → (slot_step accepts pool pool_at last at sum (slot_bytes sum (Some p)) ≡ Ok (sum + length p.literal))
+        × (slot_in pool (slot_bytes sum (Some p)) ≡ Some p)
     unfolding slot_step
     kind_again good small fits range =
         let n1 = joined_is sum in
         let n3 = joined_is (length p.literal) in
         let n5 = joined_is place in
         let t1 : eqb sum sum ≡ true = eq-eqb _ _ refl in
-        let t2 : ltb (length pool) (sum + length p.literal) ≡ false = le-ltb _ _ fits in
-        (rw (kind_is, place_is, n1, n3, n5, right_kind, nonzero, t1, t2, right_place, place_back, range, good) refl, rw (kind_is, place_is, n1, n3, n5, nonzero, place_back, range) refl)
+        let t2 : ltb (length pool) (sum + length p.literal) ≡ false = le-ltb _ _ fits in (
+          rw (kind_is, place_is, n1, n3, n5, right_kind, nonzero, t1, t2, right_place, place_back, range, good) refl,
+          rw (kind_is, place_is, n1, n3, n5, nonzero, place_back, range) refl,
+        )
 
-  some_again : (p : PatternText) → IsBackend accepts → IsTrue (is_pattern accepts p) → length pool < 2 ^ 16 → sum + length p.literal ≤ length pool → slice_range pool sum (sum + length p.literal) ≡ p.literal
-      → (slot_step accepts pool pool_at last at sum (slot_bytes sum (Some p)) ≡ Ok (sum + length p.literal)) × (slot_in pool (slot_bytes sum (Some p)) ≡ Some p)
+  some_again : (p : PatternText) → IsBackend accepts → IsTrue (is_pattern accepts p) → length pool < 2 ^ 16 → sum + length p.literal ≤ length pool →
+      slice_range pool sum (sum + length p.literal) ≡ p.literal
+      → (slot_step accepts pool pool_at last at sum (slot_bytes sum (Some p)) ≡ Ok (sum + length p.literal))
+      × (slot_in pool (slot_bytes sum (Some p)) ≡ Some p)
   some_again p backend good small fits range = go p.place refl
     where
       no_last : (l : Bool) → (l && false) ≡ false
       no_last true = refl
       no_last false = refl
 
-      go : (o : Option ℕ) → p.place ≡ o → (slot_step accepts pool pool_at last at sum (slot_bytes sum (Some p)) ≡ Ok (sum + length p.literal)) × (slot_in pool (slot_bytes sum (Some p)) ≡ Some p)
+      go : (o : Option ℕ) → p.place ≡ o → (slot_step accepts pool pool_at last at sum (slot_bytes sum (Some p)) ≡ Ok (sum + length p.literal))
+          × (slot_in pool (slot_bytes sum (Some p)) ≡ Some p)
       go None e =
           let a : ltb (length p.literal) 0 ≡ false = le-ltb _ _ (omega arith) in
           let l = no_last last in
@@ -158,13 +176,15 @@ module _ (accepts : PatternText → Bool) (pool : List ℕ) (pool_at : ℕ) (las
           kind_again p 2 k (ap kind_of e) (ap place_number e) refl (rw (l, open_is) refl) (sym e) (rw a refl) good small fits range
 
   -- what is written of a slot is passed, and that slot stands in it
-  pub slot_again : (s : Option PatternText) → IsBackend accepts → (last ≡ true → IsSome s) → ArePatterns accepts (s ∷ []) → length pool < 2 ^ 16 → sum + length (literal_of s) ≤ length pool
+  pub slot_again : (s : Option PatternText) → IsBackend accepts → (last ≡ true → IsSome s) → ArePatterns accepts (s ∷ []) →
+      length pool < 2 ^ 16 → sum + length (literal_of s) ≤ length pool
       → slice_range pool sum (sum + length (literal_of s)) ≡ literal_of s
       → (slot_step accepts pool pool_at last at sum (slot_bytes sum s) ≡ Ok (sum + length (literal_of s))) × (slot_in pool (slot_bytes sum s) ≡ s)
   unfolding slot_step
   slot_again None backend present patterns small fits range = (go last present, refl)
     where
-      go : (l : Bool) → (l ≡ true → IsSome {T = PatternText} None) → slot_step accepts pool pool_at l at sum (0 ∷ 0 ∷ 0 ∷ 0 ∷ 0 ∷ 0 ∷ 0 ∷ []) ≡ Ok (sum + 0)
+      go : (l : Bool) → (l ≡ true → IsSome {T = PatternText} None) →
+          slot_step accepts pool pool_at l at sum (0 ∷ 0 ∷ 0 ∷ 0 ∷ 0 ∷ 0 ∷ 0 ∷ []) ≡ Ok (sum + 0)
       go true h = absurd (let x = h refl in cc)
       go false h = let e : sum + 0 ≡ sum = omega arith in rw e refl
   slot_again (Some p) backend present patterns small fits range = some_again p backend patterns.0 small fits range

@@ -1,5 +1,6 @@
 -- What is asked of a table in its bytes.
-use Rattle.std.proofs.Common.{◌≡◌, ℕ, zero, suc, ◌+◌, ◌*◌, ◌<◌, ◌≤◌, Bool, true, false, List, [], ◌∷◌, length, slice_get, slice_index, Option, Some, None, nat_le, nat_eq, cond, refl, sym, ap, ◌∙◌, arith, subst}
+use Rattle.std.proofs.Common.{◌≡◌, ℕ, zero, suc, ◌+◌, ◌*◌, ◌<◌, ◌≤◌, Bool, true, false, List, [], ◌∷◌, length, slice_get}
+use Rattle.std.proofs.Common.{slice_index, Option, Some, None, nat_le, nat_eq, cond, refl, sym, ap, ◌∙◌, arith, subst}
 use Rattle.std.specs.Prelude.{is_none, IfSome, if◌then◌else◌, unwrap_or}
 use Rattle.std.specs.List.{list_all}
 use Rattle.std.specs.Cmp.Lexicographic.{pointwise}
@@ -26,7 +27,8 @@ use Rattle.icu_decimal_data.proofs.TableSearch.{searchable, entry_at, length-tab
 -- ---- the table is a compact table
 
 module _ (accepts : PatternText → Bool) where
-  each_above : (b : TableEntry) (es : List TableEntry) → AreEntries accepts (Some b) es → Each (λ f. b.log10_type < f.log10_type) es × Each (λ f. b.exponent ≤ f.exponent) es
+  each_above : (b : TableEntry) (es : List TableEntry) → AreEntries accepts (Some b) es →
+      Each (λ f. b.log10_type < f.log10_type) es × Each (λ f. b.exponent ≤ f.exponent) es
   each_above b [] h = (tt, tt)
   each_above b (x ∷ es) h =
       let type_on : b.log10_type < x.log10_type = h.1.0 in
@@ -36,14 +38,16 @@ module _ (accepts : PatternText → Bool) where
         (exponent_on, each_weaker (λ f. x.exponent ≤ f.exponent) (λ f. b.exponent ≤ f.exponent) (λ f g. omega arith) es rest.1),
       )
 
-  all_rise : (b : Option TableEntry) (es : List TableEntry) → AreEntries accepts b es → Pairs (λ e f. e.log10_type < f.log10_type) es × Pairs (λ e f. e.exponent ≤ f.exponent) es
+  all_rise : (b : Option TableEntry) (es : List TableEntry) → AreEntries accepts b es →
+      Pairs (λ e f. e.log10_type < f.log10_type) es × Pairs (λ e f. e.exponent ≤ f.exponent) es
   all_rise b [] h = (tt, tt)
   all_rise b (x ∷ es) h =
       let here = each_above x es h.2 in
       let rest = all_rise (Some x) es h.2 in
       ((here.0, rest.0), (here.1, rest.1))
 
-  all_near : (b : Option TableEntry) (es : List TableEntry) → AreEntries accepts b es → Each (λ e. e.exponent ≤ e.log10_type) es × Each (λ e. e.log10_type ≤ e.exponent + 15) es
+  all_near : (b : Option TableEntry) (es : List TableEntry) → AreEntries accepts b es →
+      Each (λ e. e.exponent ≤ e.log10_type) es × Each (λ e. e.log10_type ≤ e.exponent + 15) es
   all_near b [] h = (tt, tt)
   all_near b (x ∷ es) h = let rest = all_near (Some x) es h.2 in ((h.0.below, rest.0), (h.0.few_zeros, rest.1))
 
@@ -65,14 +69,17 @@ module _ (accepts : PatternText → Bool) where
   bytes_are bytes h = (is_found accepts bytes h.are_bytes h.read).1
 
   -- bytes in which a table is written are read, as that table
-  pub written_is_table : (bytes : List ℕ) (t : List TableEntry) → IsBackend accepts → IsPackable accepts t → bytes ≡ table_bytes t → IsBytes bytes → IsTableBytes accepts bytes
+  pub written_is_table : (bytes : List ℕ) (t : List TableEntry) → IsBackend accepts → IsPackable accepts t → bytes ≡ table_bytes t →
+      IsBytes bytes → IsTableBytes accepts bytes
   written_is_table bytes t backend h e fits =
       let step = ap (table_step accepts) e ∙ (table_again accepts backend t h).0 in
       record { read = rw step refl; are_bytes = fits }
 
   -- tables are the same just where their bytes are
   pub same_bytes : (a b : List ℕ) → IsTableBytes accepts a → IsTableBytes accepts b → pointwise nat_eq a b ≡ same_table (table_in a) (table_in b)
-  same_bytes a b ha hb = agree (pointwise nat_eq a b) (same_table (table_in a) (table_in b)) (λ p. (same_table-Decides (table_in a) (table_in b)).1 (ap table_in ((bytes_eq-Decides a b).0 p))) (λ q. (bytes_eq-Decides a b).1 (bytes_are a ha ∙ ap table_bytes ((same_table-Decides (table_in a) (table_in b)).0 q) ∙ sym (bytes_are b hb)))
+  same_bytes a b ha hb = agree (pointwise nat_eq a b) (same_table (table_in a) (table_in b))
+      (λ p. (same_table-Decides (table_in a) (table_in b)).1 (ap table_in ((bytes_eq-Decides a b).0 p)))
+      (λ q. (bytes_eq-Decides a b).1 (bytes_are a ha ∙ ap table_bytes ((same_table-Decides (table_in a) (table_in b)).0 q) ∙ sym (bytes_are b hb)))
     where
       agree : (x y : Bool) → (x ≡ true → y ≡ true) → (y ≡ true → x ≡ true) → x ≡ y
       agree true y f g = sym (f refl)
@@ -81,7 +88,8 @@ module _ (accepts : PatternText → Bool) where
 
 -- ---- how many entries are reached
 
-count_reached : (table : List TableEntry) (m k : ℕ) → k ≤ length table → ((i : ℕ) (e : TableEntry) → slice_get table i ≡ Some e → i < k → nat_le (type_place e) m ≡ true)
+count_reached : (table : List TableEntry) (m k : ℕ) → k ≤ length table →
+    ((i : ℕ) (e : TableEntry) → slice_get table i ≡ Some e → i < k → nat_le (type_place e) m ≡ true)
     → ((i : ℕ) (e : TableEntry) → slice_get table i ≡ Some e → k ≤ i → nat_le (type_place e) m ≡ false) → k ≡ reached table m
 count_reached [] m zero le on off = refl
 count_reached [] m (suc k) le on off = absurd (omega arith)
@@ -100,7 +108,8 @@ count_reached (e ∷ es) m (suc k) le on off =
 pub reached_is : (bytes : List ℕ) (m k : ℕ) → IsReached bytes m k → k ≡ reached (table_in bytes) m
 reached_is bytes m k r =
     let len = length-table bytes in
-    count_reached (table_in bytes) m k (omega (arith, r.within)) (λ i e p lt. place_here bytes m i e p ∙ r.below i lt) (λ i e p le. place_here bytes m i e p ∙ r.above i le (entry_index_in bytes i e p))
+    count_reached (table_in bytes) m k (omega (arith, r.within)) (λ i e p lt. place_here bytes m i e p ∙ r.below i lt)
+    (λ i e p le. place_here bytes m i e p ∙ r.above i le (entry_index_in bytes i e p))
 
 -- ---- by index
 
@@ -115,7 +124,8 @@ pub exponent_at_index : (bytes : List ℕ) (i : ℕ) → i < count_in bytes → 
 exponent_at_index bytes i h = exponent_is bytes i ∙ sym (ap exponent_of (entry_at bytes i h))
 
 -- what holds of the entry in the bytes holds of the table's entry
-pub of_entry : (bytes : List ℕ) (i : ℕ) (Q : TableEntry → Type 0) → i < count_in bytes → Q (entry_of bytes i) → IfSome (slice_get (table_in bytes) i) Q
+pub of_entry : (bytes : List ℕ) (i : ℕ) (Q : TableEntry → Type 0) → i < count_in bytes → Q (entry_of bytes i) →
+    IfSome (slice_get (table_in bytes) i) Q
 of_entry bytes i Q h q = subst (λ (o : Option TableEntry). IfSome o Q) (sym (entry_at bytes i h)) q
 
 pub nothing_is : (t : List TableEntry) → length t ≡ 0 → t ≡ []
@@ -128,15 +138,18 @@ none_there : (o : Option PatternText) → is_none o ≡ true → o ≡ None
 none_there None h = refl
 none_there (Some p) h = absurd cc
 
-pub sole_is_selected : (e : PatternElements) (p : PatternText) → sole_value e ≡ Some p → (o : Operands) (category : PluralCategory) → selected e o category ≡ p
+pub sole_is_selected : (e : PatternElements) (p : PatternText) → sole_value e ≡ Some p → (o : Operands) (category : PluralCategory) →
+    selected e o category ≡ p
 sole_is_selected e p h o category = go (list_all is_none (e.explicit_zero ∷ e.explicit_one ∷ e.zero ∷ e.one ∷ e.two ∷ e.few ∷ e.many ∷ [])) refl h
   where
-    by_parts : (zero one : Bool) (z w c : Option PatternText) → z ≡ None → w ≡ None → c ≡ None → unwrap_or (if zero then z else if one then w else None) (unwrap_or c e.other) ≡ e.other
+    by_parts : (zero one : Bool) (z w c : Option PatternText) → z ≡ None → w ≡ None → c ≡ None →
+        unwrap_or (if zero then z else if one then w else None) (unwrap_or c e.other) ≡ e.other
     by_parts true one z w c a b d = rw (a, d) refl
     by_parts false true z w c a b d = rw (b, d) refl
     by_parts false false z w c a b d = rw d refl
 
-    go : (all : Bool) → list_all is_none (e.explicit_zero ∷ e.explicit_one ∷ e.zero ∷ e.one ∷ e.two ∷ e.few ∷ e.many ∷ []) ≡ all → (if all then Some e.other else None) ≡ Some p → selected e o category ≡ p
+    go : (all : Bool) → list_all is_none (e.explicit_zero ∷ e.explicit_one ∷ e.zero ∷ e.one ∷ e.two ∷ e.few ∷ e.many ∷ []) ≡ all →
+        (if all then Some e.other else None) ≡ Some p → selected e o category ≡ p
     go false n s = absurd cc
     go true n s =
         let r0 = and_parts (is_none e.explicit_zero) _ n in
@@ -147,9 +160,11 @@ sole_is_selected e p h o category = go (list_all is_none (e.explicit_zero ∷ e.
         let r5 = and_parts (is_none e.few) _ r4.1 in
         let r6 = and_parts (is_none e.many) _ r5.1 in
         let same : e.other ≡ p = cc in
-        by_parts (is_exactly 0 o) (is_exactly 1 o) e.explicit_zero e.explicit_one (category_value e category) (none_there _ r0.0) (none_there _ r1.0) (by_category category (none_there _ r2.0) (none_there _ r3.0) (none_there _ r4.0) (none_there _ r5.0) (none_there _ r6.0)) ∙ same
+        by_parts (is_exactly 0 o) (is_exactly 1 o) e.explicit_zero e.explicit_one (category_value e category) (none_there _ r0.0) (none_there _ r1.0)
+        (by_category category (none_there _ r2.0) (none_there _ r3.0) (none_there _ r4.0) (none_there _ r5.0) (none_there _ r6.0)) ∙ same
       where
-        by_category : (c : PluralCategory) → e.zero ≡ None → e.one ≡ None → e.two ≡ None → e.few ≡ None → e.many ≡ None → category_value e c ≡ None
+        by_category : (c : PluralCategory) → e.zero ≡ None → e.one ≡ None → e.two ≡ None → e.few ≡ None → e.many ≡ None →
+            category_value e c ≡ None
         by_category Zero a b c d f = a
         by_category One a b c d f = b
         by_category Two a b c d f = c
@@ -158,7 +173,8 @@ sole_is_selected e p h o category = go (list_all is_none (e.explicit_zero ∷ e.
         by_category Other a b c d f = refl
 
 -- a sole pattern is what every number picks
-pub sole_picked : {R : Type 0} (r : Option R) (text : R → PatternText) (e : PatternElements) → option_map text r ≡ sole_value e → IfSome r (λ p. (o : Operands) (category : PluralCategory) → selected e o category ≡ text p)
+pub sole_picked : {R : Type 0} (r : Option R) (text : R → PatternText) (e : PatternElements) → option_map text r ≡ sole_value e →
+    IfSome r (λ p. (o : Operands) (category : PluralCategory) → selected e o category ≡ text p)
 sole_picked None text e h = tt
 sole_picked (Some x) text e h = λ o category. sole_is_selected e (text x) (sym h) o category
 

@@ -1,5 +1,6 @@
 -- What is kept of a map without a fault can be packed.
-use Rattle.std.proofs.Common.{◌≡◌, ℕ, ◌+◌, ◌<◌, ◌≤◌, ◌^◌, ⊎_elim, Bool, true, false, refl, arith, List, [], ◌∷◌, length, Option, Some, None, nat_lt, ltb-false, subst, length-append, sum_by}
+use Rattle.std.proofs.Common.{◌≡◌, ℕ, ◌+◌, ◌<◌, ◌≤◌, ◌^◌, ⊎_elim, Bool, true, false, refl, arith, List, [], ◌∷◌, length}
+use Rattle.std.proofs.Common.{Option, Some, None, nat_lt, ltb-false, subst, length-append, sum_by}
 use Rattle.std.specs.Prelude.{⊤, if◌then◌else◌}
 use Rattle.std.specs.List.Sorted.{IsStrictlySortedBy}
 use Rattle.std.specs.Map.{keys_of}
@@ -46,12 +47,14 @@ kept_differ plain (e ∷ es) =
 
 -- ---- at most 256
 
-bounded : (low : ℕ) (es : List TableEntry) → low ≤ 256 → Each (λ e. low ≤ e.log10_type) es → Each (λ e. e.log10_type < 256) es → Pairs (λ e f. e.log10_type < f.log10_type) es → length es + low ≤ 256
+bounded : (low : ℕ) (es : List TableEntry) → low ≤ 256 → Each (λ e. low ≤ e.log10_type) es → Each (λ e. e.log10_type < 256) es →
+    Pairs (λ e f. e.log10_type < f.log10_type) es → length es + low ≤ 256
 bounded low [] room above small rise = omega arith
 bounded low (e ∷ es) room above small rise =
     let here : low ≤ e.log10_type = above.0 in
     let byte : e.log10_type < 256 = small.0 in
-    let rest = bounded (e.log10_type + 1) es (omega arith) (each_weaker (λ f. e.log10_type < f.log10_type) (λ f. e.log10_type + 1 ≤ f.log10_type) (λ f h. omega arith) es rise.0) small.1 rise.1 in
+    let rest = bounded (e.log10_type + 1) es (omega arith) (each_weaker (λ f. e.log10_type < f.log10_type) (λ f. e.log10_type + 1 ≤ f.log10_type)
+    (λ f h. omega arith) es rise.0) small.1 rise.1 in
     omega arith
 
 each_any : (P : TableEntry → Type 0) → ((e : TableEntry) → P e) → (es : List TableEntry) → Each P es
@@ -79,17 +82,26 @@ all_size (e ∷ es) =
 -- ---- entries
 
 module _ (accepts : PatternText → Bool) where
-  entries_after : (before : TableEntry) (es : List TableEntry) → Each (λ f. before.log10_type < f.log10_type) es → Each (λ f. before.exponent ≤ f.exponent) es → Pairs (λ e f. e.log10_type < f.log10_type) es → Pairs (λ e f. e.exponent ≤ f.exponent) es
-      → Each (λ e. (e.exponent ≤ e.log10_type) × (e.log10_type ≤ e.exponent + 15)) es → Differ before es → AreWritable accepts es → AreEntries accepts (Some before) es
+  entries_after : (before : TableEntry) (es : List TableEntry) → Each (λ f. before.log10_type < f.log10_type) es →
+      Each (λ f. before.exponent ≤ f.exponent) es → Pairs (λ e f. e.log10_type < f.log10_type) es → Pairs (λ e f. e.exponent ≤ f.exponent) es
+      → Each (λ e. (e.exponent ≤ e.log10_type) × (e.log10_type ≤ e.exponent + 15)) es → Differ before es → AreWritable accepts es →
+      AreEntries accepts (Some before) es
   entries_after before [] a b types exps near differ writable = tt
-  entries_after before (e ∷ es) a b types exps near differ writable =
-      (record { is_byte = writable.0; below = near.0.0; few_zeros = near.0.1; patterns = writable.1 }, (a.0, b.0, differ.0), entries_after e es types.0 exps.0 types.1 exps.1 near.1 differ.1 writable.2)
+  entries_after before (e ∷ es) a b types exps near differ writable = (
+    record { is_byte = writable.0; below = near.0.0; few_zeros = near.0.1; patterns = writable.1 },
+    (a.0, b.0, differ.0),
+    entries_after e es types.0 exps.0 types.1 exps.1 near.1 differ.1 writable.2,
+  )
 
   entries_are : (es : List TableEntry) → Pairs (λ e f. e.log10_type < f.log10_type) es → Pairs (λ e f. e.exponent ≤ f.exponent) es
-      → Each (λ e. (e.exponent ≤ e.log10_type) × (e.log10_type ≤ e.exponent + 15)) es → FirstDiffer es → AreWritable accepts es → AreEntries accepts None es
+      → Each (λ e. (e.exponent ≤ e.log10_type) × (e.log10_type ≤ e.exponent + 15)) es → FirstDiffer es → AreWritable accepts es →
+      AreEntries accepts None es
   entries_are [] types exps near differ writable = tt
-  entries_are (e ∷ es) types exps near differ writable =
-      (record { is_byte = writable.0; below = near.0.0; few_zeros = near.0.1; patterns = writable.1 }, tt, entries_after e es types.0 exps.0 types.1 exps.1 near.1 differ writable.2)
+  entries_are (e ∷ es) types exps near differ writable = (
+    record { is_byte = writable.0; below = near.0.0; few_zeros = near.0.1; patterns = writable.1 },
+    tt,
+    entries_after e es types.0 exps.0 types.1 exps.1 near.1 differ writable.2,
+  )
 
   types_are_bytes : (es : List TableEntry) → AreWritable accepts es → Each (λ e. e.log10_type < 256) es
   types_are_bytes [] h = tt
@@ -120,7 +132,8 @@ module _ (plain : Option PatternElements) (map : List (ℕ × (ℕ × PatternEle
     -- at most 256 entries are kept
     pub few_kept : length (kept plain (given map)) ≤ 256
     few_kept =
-        let h = bounded 0 (kept plain (given map)) (omega arith) (each_any (λ e. 0 ≤ e.log10_type) (λ e. omega arith) (kept plain (given map))) (types_are_bytes accepts (kept plain (given map)) writable) rising in
+        let h = bounded 0 (kept plain (given map)) (omega arith) (each_any (λ e. 0 ≤ e.log10_type) (λ e. omega arith) (kept plain (given map)))
+        (types_are_bytes accepts (kept plain (given map)) writable) rising in
         omega arith
 
     -- what is kept without a fault can be packed
@@ -131,5 +144,7 @@ module _ (plain : Option PatternElements) (map : List (ℕ × (ℕ × PatternEle
         record {
           counted = few_kept;
           short = short_kept none;
-          entries = entries_are accepts (kept plain (given map)) rising (pairs_kept (λ e f. e.exponent ≤ f.exponent) plain (given map) (without_a_fall (given map) faults.0)) (sound (kept plain (given map)) faults.1) differ writable;
+          entries = entries_are accepts (kept plain (given map)) rising
+              (pairs_kept (λ e f. e.exponent ≤ f.exponent) plain (given map) (without_a_fall (given map) faults.0)) (sound (kept plain (given map)) faults.1)
+              differ writable;
         }

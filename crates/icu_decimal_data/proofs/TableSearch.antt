@@ -1,23 +1,28 @@
 -- The records of a table that is read, and the search among them.
-use Rattle.std.proofs.Common.{◌≡◌, ℕ, zero, suc, ◌+◌, ◌-◌, ◌*◌, ◌<◌, ◌≤◌, Bool, true, false, List, [], ◌∷◌, length, get_or, take, drop, slice_index, slice_get, Option, Some, None, nat_le, refl, sym, ap, ◌∙◌, arith, inl, inr, leb-true, leb-false, le-leb}
+use Rattle.std.proofs.Common.{◌≡◌, ℕ, zero, suc, ◌+◌, ◌-◌, ◌*◌, ◌<◌, ◌≤◌, Bool, true, false, List, [], ◌∷◌, length, get_or}
+use Rattle.std.proofs.Common.{take, drop, slice_index, slice_get, Option, Some, None, nat_le, refl, sym, ap, ◌∙◌, arith, inl, inr, leb-true, leb-false}
+use Rattle.std.proofs.Common.{le-leb}
 use Rattle.std.proofs.lemmas.Bool.{lt-leb, cases_lt}
 use Rattle.std.proofs.lemmas.List.{get_or-drop, get_or-take, drop-drop}
 use Rattle.fixed_decimal.specs.Size.{finest}
 use Rattle.icu_base.specs.Patterns.{PatternText}
 use Rattle.icu_decimal_data.specs.CompactTable.{TableEntry, type_place, entry_for}
 use Rattle.icu_decimal_data.specs.PackedTable.{AreEntries}
-use Rattle.icu_decimal_data.specs.TableReading.{entry_in, entries_in, entry_of, count_in, pool_in, table_in, type_in, table_step, IsTableBytes, IsSearchable, IsReached}
+use Rattle.icu_decimal_data.specs.TableReading.{entry_in, entries_in, entry_of, count_in, pool_in, table_in, type_in, table_step, IsTableBytes, IsSearchable}
+use Rattle.icu_decimal_data.specs.TableReading.{IsReached}
 use Rattle.icu_decimal_data.proofs.PackedTables.{length-entries, ok_value, is_found, table_read}
 use Rattle.icu_decimal_data.proofs.EntryPlaces.{before, front}
 
 -- ---- entries by their index
 
-entries_at : (pool : List ℕ) (n : ℕ) (bytes : List ℕ) (i : ℕ) → i < n → slice_get (entries_in pool n bytes) i ≡ Some (entry_in pool (take 58 (drop (58 * i) bytes)))
+entries_at : (pool : List ℕ) (n : ℕ) (bytes : List ℕ) (i : ℕ) → i < n →
+    slice_get (entries_in pool n bytes) i ≡ Some (entry_in pool (take 58 (drop (58 * i) bytes)))
 entries_at pool zero bytes i h = absurd (omega arith)
 entries_at pool (suc n) bytes zero h = refl
 entries_at pool (suc n) bytes (suc i) h =
     let more : 58 + 58 * i ≡ 58 * suc i = omega arith in
-    entries_at pool n (drop 58 bytes) i (omega arith) ∙ ap (λ (r : List ℕ). Some (entry_in pool (take 58 r))) (drop-drop (58 * i) 58 bytes ∙ ap (λ (k : ℕ). drop k bytes) more)
+    entries_at pool n (drop 58 bytes) i (omega arith) ∙ ap (λ (r : List ℕ). Some (entry_in pool (take 58 r)))
+    (drop-drop (58 * i) 58 bytes ∙ ap (λ (k : ℕ). drop k bytes) more)
 
 -- the entry of an index, by its record
 pub entry_at : (bytes : List ℕ) (i : ℕ) → i < count_in bytes → slice_get (table_in bytes) i ≡ Some (entry_of bytes i)
@@ -43,7 +48,8 @@ exponent_is bytes i = sym (byte_of_record bytes i 1 (omega arith) ∙ ap (λ (k 
 -- ---- types rise
 
 module _ (accepts : PatternText → Bool) where
-  above_all : (b : TableEntry) (es : List TableEntry) → AreEntries accepts (Some b) es → (j : ℕ) (f : TableEntry) → slice_get es j ≡ Some f → b.log10_type < f.log10_type
+  above_all : (b : TableEntry) (es : List TableEntry) → AreEntries accepts (Some b) es → (j : ℕ) (f : TableEntry) → slice_get es j ≡ Some f →
+      b.log10_type < f.log10_type
   above_all b [] h j f e = absurd (cc)
   above_all b (x ∷ es) h zero f e = let same : x ≡ f = cc in rw (← same) h.1.0
   above_all b (x ∷ es) h (suc j) f e =
@@ -51,7 +57,8 @@ module _ (accepts : PatternText → Bool) where
       let rest : x.log10_type < f.log10_type = above_all x es h.2 j f e in
       omega arith
 
-  rising : (b : Option TableEntry) (es : List TableEntry) → AreEntries accepts b es → (i j : ℕ) (e f : TableEntry) → i < j → slice_get es i ≡ Some e → slice_get es j ≡ Some f → e.log10_type < f.log10_type
+  rising : (b : Option TableEntry) (es : List TableEntry) → AreEntries accepts b es → (i j : ℕ) (e f : TableEntry) → i < j →
+      slice_get es i ≡ Some e → slice_get es j ≡ Some f → e.log10_type < f.log10_type
   rising b [] h i j e f lt p q = absurd (cc)
   rising b (x ∷ es) h i zero e f lt p q = absurd (omega arith)
   rising b (x ∷ es) h zero (suc j) e f lt p q = let same : x ≡ e = cc in rw (← same) (above_all x es h.2 j f q)
@@ -71,13 +78,16 @@ module _ (accepts : PatternText → Bool) where
         few = few;
         room = omega arith;
         types_rise = λ i j lt below.
-            let r : (entry_of bytes i).log10_type < (entry_of bytes j).log10_type = rising None (table_in bytes) table.0.entries i j (entry_of bytes i) (entry_of bytes j) lt (entry_at bytes i (omega arith)) (entry_at bytes j below) in
+            let r : (entry_of bytes i).log10_type < (entry_of bytes j).log10_type =
+            rising None (table_in bytes) table.0.entries i j (entry_of bytes i) (entry_of bytes j) lt (entry_at bytes i (omega arith))
+            (entry_at bytes j below) in
             omega (arith, type_is bytes i, type_is bytes j);
       }
 
 -- ---- the search
 
-pub goes_up : (bytes : List ℕ) (m middle : ℕ) → IsSearchable bytes → middle < count_in bytes → nat_le (type_in bytes middle + finest) m ≡ true → (i : ℕ) → i < middle + 1 → nat_le (type_in bytes i + finest) m ≡ true
+pub goes_up : (bytes : List ℕ) (m middle : ℕ) → IsSearchable bytes → middle < count_in bytes → nat_le (type_in bytes middle + finest) m ≡ true →
+    (i : ℕ) → i < middle + 1 → nat_le (type_in bytes i + finest) m ≡ true
 goes_up bytes m middle s inside on i h =
     let high : type_in bytes middle + finest ≤ m = leb-true _ _ on in
     elim (cases_lt i middle) [
@@ -85,7 +95,8 @@ goes_up bytes m middle s inside on i h =
       | inr le ↦ let same : i ≡ middle = omega arith in rw same on
     ]
 
-pub goes_down : (bytes : List ℕ) (m middle : ℕ) → IsSearchable bytes → nat_le (type_in bytes middle + finest) m ≡ false → (i : ℕ) → middle ≤ i → i < count_in bytes → nat_le (type_in bytes i + finest) m ≡ false
+pub goes_down : (bytes : List ℕ) (m middle : ℕ) → IsSearchable bytes → nat_le (type_in bytes middle + finest) m ≡ false → (i : ℕ) →
+    middle ≤ i → i < count_in bytes → nat_le (type_in bytes i + finest) m ≡ false
 goes_down bytes m middle s off i h inside =
     let low : m < type_in bytes middle + finest = leb-false _ _ off in
     elim (cases_lt middle i) [
@@ -95,7 +106,8 @@ goes_down bytes m middle s off i h inside =
 
 -- ---- the entry of a magnitude
 
-entry_at_count : (table : List TableEntry) (m k : ℕ) → k ≤ length table → ((i : ℕ) (e : TableEntry) → slice_get table i ≡ Some e → i < k → nat_le (type_place e) m ≡ true)
+entry_at_count : (table : List TableEntry) (m k : ℕ) → k ≤ length table →
+    ((i : ℕ) (e : TableEntry) → slice_get table i ≡ Some e → i < k → nat_le (type_place e) m ≡ true)
     → ((i : ℕ) (e : TableEntry) → slice_get table i ≡ Some e → k ≤ i → nat_le (type_place e) m ≡ false) → entry_for table m ≡ before table k
 unfolding entry_for
 entry_at_count [] m zero le on off = refl
@@ -119,7 +131,8 @@ pub entry_index_in : (bytes : List ℕ) (i : ℕ) (e : TableEntry) → slice_get
 entry_index_in bytes i e p = omega (arith, in_list (table_in bytes) i e p, length-table bytes)
 
 -- the type of an entry, against a magnitude
-pub place_here : (bytes : List ℕ) (m i : ℕ) (e : TableEntry) → slice_get (table_in bytes) i ≡ Some e → nat_le (type_place e) m ≡ nat_le (type_in bytes i + finest) m
+pub place_here : (bytes : List ℕ) (m i : ℕ) (e : TableEntry) → slice_get (table_in bytes) i ≡ Some e →
+    nat_le (type_place e) m ≡ nat_le (type_in bytes i + finest) m
 place_here bytes m i e p =
     let q : Some (entry_of bytes i) ≡ Some e = sym (entry_at bytes i (entry_index_in bytes i e p)) ∙ p in
     let same : entry_of bytes i ≡ e = cc in
@@ -128,7 +141,8 @@ place_here bytes m i e p =
 found_at : (bytes : List ℕ) (m k : ℕ) → IsReached bytes m k → entry_for (table_in bytes) m ≡ before (table_in bytes) k
 found_at bytes m k r =
     let len = length-table bytes in
-    entry_at_count (table_in bytes) m k (omega (arith, r.within)) (λ i e p lt. place_here bytes m i e p ∙ r.below i lt) (λ i e p le. place_here bytes m i e p ∙ r.above i le (entry_index_in bytes i e p))
+    entry_at_count (table_in bytes) m k (omega (arith, r.within)) (λ i e p lt. place_here bytes m i e p ∙ r.below i lt)
+    (λ i e p le. place_here bytes m i e p ∙ r.above i le (entry_index_in bytes i e p))
 
 pub none_found : (bytes : List ℕ) (m k : ℕ) → IsReached bytes m k → k ≡ 0 → None ≡ entry_for (table_in bytes) m
 none_found bytes m k r e = sym (found_at bytes m k r ∙ ap (before (table_in bytes)) e)

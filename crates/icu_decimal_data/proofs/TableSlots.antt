@@ -1,5 +1,7 @@
 -- The slots of an entry in a table's bytes.
-use Rattle.std.proofs.Common.{◌≡◌, ℕ, zero, suc, ◌+◌, ◌-◌, ◌*◌, ◌<◌, Bool, true, false, not, ◌&&◌, List, [], ◌∷◌, length, take, drop, drop-cons, add-one, slice_index, slice_index_or, slice_get, Option, Some, None, IsTrue, eqb, refl, sym, ap, ◌∙◌, arith, subst, inl, inr}
+use Rattle.std.proofs.Common.{◌≡◌, ℕ, zero, suc, ◌+◌, ◌-◌, ◌*◌, ◌<◌, Bool, true, false, not, ◌&&◌, List, [], ◌∷◌, length}
+use Rattle.std.proofs.Common.{take, drop, drop-cons, add-one, slice_index, slice_index_or, slice_get, Option, Some, None, IsTrue, eqb, refl, sym, ap, ◌∙◌}
+use Rattle.std.proofs.Common.{arith, subst, inl, inr}
 use Rattle.std.specs.Prelude.{is_some, is_none, if◌then◌else◌}
 use Rattle.std.specs.List.{list_all}
 use Rattle.std.specs.Str.{is_utf8, IsUtf8}
@@ -14,12 +16,14 @@ use Rattle.icu_decimal_data.specs.TableReading.{pattern_in, slot_in, slots_in, e
 use Rattle.icu_decimal_data.proofs.PackedTables.{ok_value, is_found, table_read}
 use Rattle.icu_decimal_data.proofs.TableSearch.{entry_at}
 
-slot_in_list : (pool : List ℕ) (n : ℕ) (bytes : List ℕ) (j : ℕ) → j < n → slice_index_or (slots_in pool n bytes) j None ≡ slot_in pool (take 7 (drop (7 * j) bytes))
+slot_in_list : (pool : List ℕ) (n : ℕ) (bytes : List ℕ) (j : ℕ) → j < n →
+    slice_index_or (slots_in pool n bytes) j None ≡ slot_in pool (take 7 (drop (7 * j) bytes))
 slot_in_list pool zero bytes j h = absurd (omega arith)
 slot_in_list pool (suc n) bytes zero h = refl
 slot_in_list pool (suc n) bytes (suc j) h =
     let more : 7 + 7 * j ≡ 7 * suc j = omega arith in
-    slot_in_list pool n (drop 7 bytes) j (omega arith) ∙ ap (λ (r : List ℕ). slot_in pool (take 7 r)) (drop-drop (7 * j) 7 bytes ∙ ap (λ (k : ℕ). drop k bytes) more)
+    slot_in_list pool n (drop 7 bytes) j (omega arith) ∙ ap (λ (r : List ℕ). slot_in pool (take 7 r))
+    (drop-drop (7 * j) 7 bytes ∙ ap (λ (k : ℕ). drop k bytes) more)
 
 -- where a slot of a record is in the bytes
 slot_here : (bytes : List ℕ) (i j : ℕ) → j < 8 → take 7 (drop (7 * j) (drop 2 (take 58 (drop (58 * i) (drop 4 bytes))))) ≡ slot_of bytes i j
@@ -39,12 +43,14 @@ slot_here bytes i j h =
     ∙ ap (λ (k : ℕ). take k (drop (6 + 58 * i + 7 * j) bytes)) (sym width)
 
 module _ (accepts : PatternText → Bool) where
-  entry_is : (b : Option TableEntry) (es : List TableEntry) → AreEntries accepts b es → (i : ℕ) (e : TableEntry) → slice_get es i ≡ Some e → IsEntry accepts e
+  entry_is : (b : Option TableEntry) (es : List TableEntry) → AreEntries accepts b es → (i : ℕ) (e : TableEntry) → slice_get es i ≡ Some e →
+      IsEntry accepts e
   entry_is b [] h i e p = absurd cc
   entry_is b (x ∷ es) h zero e p = let same : x ≡ e = cc in subst (λ (y : TableEntry). IsEntry accepts y) same h.0
   entry_is b (x ∷ es) h (suc i) e p = entry_is (Some x) es h.2 i e p
 
-  pattern_at : (ss : List (Option PatternText)) → ArePatterns accepts ss → (j : ℕ) (p : PatternText) → slice_index_or ss j None ≡ Some p → IsTrue (is_pattern accepts p)
+  pattern_at : (ss : List (Option PatternText)) → ArePatterns accepts ss → (j : ℕ) (p : PatternText) → slice_index_or ss j None ≡ Some p →
+      IsTrue (is_pattern accepts p)
   pattern_at [] h j p e = absurd cc
   pattern_at (None ∷ ss) h zero p e = absurd cc
   pattern_at (Some q ∷ ss) h zero p e = let same : q ≡ p = cc in subst (λ (r : PatternText). IsTrue (is_pattern accepts r)) same h.0
@@ -52,7 +58,8 @@ module _ (accepts : PatternText → Bool) where
   pattern_at (Some q ∷ ss) h (suc j) p e = pattern_at ss h.1 j p e
 
   -- a slot of an entry is what its seven bytes say
-  pub slot_is : (bytes : List ℕ) (i j : ℕ) → IsTableBytes accepts bytes → i < count_in bytes → j < 8 → slice_index_or (slots (entry_of bytes i).elements) j None ≡ slot_in (pool_in bytes) (slot_of bytes i j)
+  pub slot_is : (bytes : List ℕ) (i j : ℕ) → IsTableBytes accepts bytes → i < count_in bytes → j < 8 →
+      slice_index_or (slots (entry_of bytes i).elements) j None ≡ slot_in (pool_in bytes) (slot_of bytes i j)
   slot_is bytes i j h inside lt =
       let v = ok_value (table_step accepts bytes) h.read in
       let r = table_read accepts bytes v.0 h.are_bytes v.1 in
@@ -62,7 +69,8 @@ module _ (accepts : PatternText → Bool) where
       ∙ ap (slot_in (pool_in bytes)) (slot_here bytes i j lt)
 
   -- a pattern in a slot is one of the backend
-  pub slot_pattern : (bytes : List ℕ) (i j : ℕ) (p : PatternText) → IsTableBytes accepts bytes → i < count_in bytes → j < 8 → slot_in (pool_in bytes) (slot_of bytes i j) ≡ Some p → IsTrue (is_pattern accepts p)
+  pub slot_pattern : (bytes : List ℕ) (i j : ℕ) (p : PatternText) → IsTableBytes accepts bytes → i < count_in bytes → j < 8 →
+      slot_in (pool_in bytes) (slot_of bytes i j) ≡ Some p → IsTrue (is_pattern accepts p)
   slot_pattern bytes i j p h inside lt e =
       let found = is_found accepts bytes h.are_bytes h.read in
       let entry = entry_is None (table_in bytes) found.0.entries i (entry_of bytes i) (entry_at bytes i inside) in
@@ -75,7 +83,8 @@ slot_some pool slot h = rw h refl
 pub slot_none : (pool slot : List ℕ) → eqb (slice_index slot 0) 0 ≡ true → slot_in pool slot ≡ None
 slot_none pool slot h = rw h refl
 
-module _ (accepts : PatternText → Bool) (bytes : List ℕ) (i j : ℕ) (h : IsTableBytes accepts bytes) (inside : i < count_in bytes) (lt : j < 8) (some : eqb (slice_index (slot_of bytes i j) 0) 0 ≡ false) where
+module _ (accepts : PatternText → Bool) (bytes : List ℕ) (i j : ℕ) (h : IsTableBytes accepts bytes) (inside : i < count_in bytes) (lt : j < 8)
+    (some : eqb (slice_index (slot_of bytes i j) 0) 0 ≡ false) where
   good : (is_utf8 (pattern_in (pool_in bytes) (slot_of bytes i j)).literal ≡ true) × (accepts (pattern_in (pool_in bytes) (slot_of bytes i j)) ≡ true)
   good =
       let p = pattern_in (pool_in bytes) (slot_of bytes i j) in
@@ -106,7 +115,8 @@ some_is : (b : Bool) (p : PatternText) → not b ≡ is_some (if b then None els
 some_is true p = refl
 some_is false p = refl
 
-module _ (accepts : PatternText → Bool) (bytes : List ℕ) (i j : ℕ) (h : IsTableBytes accepts bytes) (inside : i < count_in bytes) (lt : j < 8) (found : List ℕ) (e : found ≡ slot_of bytes i j) where
+module _ (accepts : PatternText → Bool) (bytes : List ℕ) (i j : ℕ) (h : IsTableBytes accepts bytes) (inside : i < count_in bytes) (lt : j < 8)
+    (found : List ℕ) (e : found ≡ slot_of bytes i j) where
   -- a slot is present exactly where its kind isn't 0
   pub present_is : not (eqb (slice_index found 0) 0) ≡ is_some (slice_index_or (slots (entry_of bytes i).elements) j None)
   present_is =
@@ -116,7 +126,8 @@ module _ (accepts : PatternText → Bool) (bytes : List ℕ) (i j : ℕ) (h : Is
 
   -- a kind of 0 is a slot without a pattern
   pub absent_is : slice_index found 0 ≡ 0 → None ≡ slice_index_or (slots (entry_of bytes i).elements) j None
-  absent_is z = sym (slot_is accepts bytes i j h inside lt ∙ slot_none (pool_in bytes) (slot_of bytes i j) (zero_is _ (ap (λ (r : List ℕ). slice_index r 0) (sym e) ∙ z)))
+  absent_is z = sym (slot_is accepts bytes i j h inside lt ∙ slot_none (pool_in bytes) (slot_of bytes i j)
+      (zero_is _ (ap (λ (r : List ℕ). slice_index r 0) (sym e) ∙ z)))
 
   module _ (there : slice_index found 0 ≡ 0 → ⊥) where
     some : eqb (slice_index (slot_of bytes i j) 0) 0 ≡ false
@@ -125,10 +136,12 @@ module _ (accepts : PatternText → Bool) (bytes : List ℕ) (i j : ℕ) (h : Is
     -- the literal of a present slot is UTF-8
     pub text_is : (literal pool : List ℕ) → literal ≡ (pattern_in pool found).literal → pool ≡ pool_in bytes → IsUtf8 literal
     text_is literal pool l p =
-        let all : literal ≡ (pattern_in (pool_in bytes) (slot_of bytes i j)).literal = l ∙ ap (λ (r : List ℕ). (pattern_in r found).literal) p ∙ ap (λ (r : List ℕ). (pattern_in (pool_in bytes) r).literal) e in
+        let all : literal ≡ (pattern_in (pool_in bytes) (slot_of bytes i j)).literal =
+        l ∙ ap (λ (r : List ℕ). (pattern_in r found).literal) p ∙ ap (λ (r : List ℕ). (pattern_in (pool_in bytes) r).literal) e in
         subst IsUtf8 (sym all) (literal_is_text accepts bytes i j h inside lt some)
 
-    pub read_is : (p : PatternText) (pool : List ℕ) → p ≡ pattern_in pool found → pool ≡ pool_in bytes → p ≡ pattern_in (pool_in bytes) (slot_of bytes i j)
+    pub read_is : (p : PatternText) (pool : List ℕ) → p ≡ pattern_in pool found → pool ≡ pool_in bytes →
+        p ≡ pattern_in (pool_in bytes) (slot_of bytes i j)
     read_is p pool is q = is ∙ ap (λ (r : List ℕ). pattern_in r found) q ∙ ap (pattern_in (pool_in bytes)) e
 
     -- the pattern of a present slot is one of the backend
@@ -136,7 +149,8 @@ module _ (accepts : PatternText → Bool) (bytes : List ℕ) (i j : ℕ) (h : Is
     accepted_is p pool is q = ap accepts (read_is p pool is q) ∙ pattern_is_accepted accepts bytes i j h inside lt some
 
     -- the pattern that is read of a present slot stands there
-    pub stands_is : (p : PatternText) (pool : List ℕ) → p ≡ pattern_in pool found → pool ≡ pool_in bytes → Some p ≡ slice_index_or (slots (entry_of bytes i).elements) j None
+    pub stands_is : (p : PatternText) (pool : List ℕ) → p ≡ pattern_in pool found → pool ≡ pool_in bytes →
+        Some p ≡ slice_index_or (slots (entry_of bytes i).elements) j None
     stands_is p pool is q = ap (λ (x : PatternText). Some x) (read_is p pool is q) ∙ sym (pattern_stands accepts bytes i j h inside lt some)
 
 -- what a slot has, by two names
@@ -154,7 +168,8 @@ module _ {T : Type 0} where
       → list_all is_none (take (7 - k) (drop k ss)) ≡ (is_none (slice_index_or ss k None) && list_all is_none (take (7 - (k + 1)) (drop (k + 1) ss)))
   sole_step ss k lt inside =
       let more : 7 - k ≡ suc (7 - (k + 1)) = omega arith in
-      let here : drop k ss ≡ slice_index_or ss k None ∷ drop (k + 1) ss = drop-cons ss k None inside ∙ ap (λ (n : ℕ). slice_index_or ss k None ∷ drop n ss) (sym (add-one k)) in
+      let here : drop k ss ≡ slice_index_or ss k None ∷ drop (k + 1) ss =
+      drop-cons ss k None inside ∙ ap (λ (n : ℕ). slice_index_or ss k None ∷ drop n ss) (sym (add-one k)) in
       rw (more, here) refl
 
   not_none : (o : Option T) → is_some o ≡ true → is_none o ≡ false
@@ -165,11 +180,15 @@ module _ {T : Type 0} where
   is_nothing None h = refl
   is_nothing (Some x) h = absurd cc
 
-  pub sole_ends : (ss : List (Option T)) (k : ℕ) (b all : Bool) → k < 7 → k < length ss → b ≡ is_some (slice_index_or ss k None) → b ≡ true → list_all is_none (take (7 - k) (drop k ss)) ≡ all → false ≡ all
-  sole_ends ss k b all lt inside is h e = let n = not_none (slice_index_or ss k None) (sym is ∙ h) in sym (sole_step ss k lt inside ∙ ap (λ (x : Bool). x && list_all is_none (take (7 - (k + 1)) (drop (k + 1) ss))) n) ∙ e
+  pub sole_ends : (ss : List (Option T)) (k : ℕ) (b all : Bool) → k < 7 → k < length ss → b ≡ is_some (slice_index_or ss k None) → b ≡ true →
+      list_all is_none (take (7 - k) (drop k ss)) ≡ all → false ≡ all
+  sole_ends ss k b all lt inside is h e = let n = not_none (slice_index_or ss k None) (sym is ∙ h) in
+      sym (sole_step ss k lt inside ∙ ap (λ (x : Bool). x && list_all is_none (take (7 - (k + 1)) (drop (k + 1) ss))) n) ∙ e
 
-  pub sole_goes_on : (ss : List (Option T)) (k : ℕ) (b all : Bool) → k < 7 → k < length ss → b ≡ is_some (slice_index_or ss k None) → b ≡ false → list_all is_none (take (7 - k) (drop k ss)) ≡ all → list_all is_none (take (7 - (k + 1)) (drop (k + 1) ss)) ≡ all
-  sole_goes_on ss k b all lt inside is h e = let n = is_nothing (slice_index_or ss k None) (sym is ∙ h) in sym (sole_step ss k lt inside ∙ ap (λ (x : Bool). x && list_all is_none (take (7 - (k + 1)) (drop (k + 1) ss))) n) ∙ e
+  pub sole_goes_on : (ss : List (Option T)) (k : ℕ) (b all : Bool) → k < 7 → k < length ss → b ≡ is_some (slice_index_or ss k None) →
+      b ≡ false → list_all is_none (take (7 - k) (drop k ss)) ≡ all → list_all is_none (take (7 - (k + 1)) (drop (k + 1) ss)) ≡ all
+  sole_goes_on ss k b all lt inside is h e = let n = is_nothing (slice_index_or ss k None) (sym is ∙ h) in
+      sym (sole_step ss k lt inside ∙ ap (λ (x : Bool). x && list_all is_none (take (7 - (k + 1)) (drop (k + 1) ss))) n) ∙ e
 
   -- all seven were absent
   pub sole_done : (ss : List (Option T)) (k : ℕ) (all : Bool) → k ≡ 7 → list_all is_none (take (7 - k) (drop k ss)) ≡ all → true ≡ all

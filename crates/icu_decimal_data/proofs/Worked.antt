@@ -1,5 +1,6 @@
 -- The premises of the law that a table means what its map means: met by two maps, and broken by another that `new` refuses.
-use Rattle.std.proofs.Common.{◌≡◌, ℕ, zero, suc, ◌+◌, ◌<◌, refl, arith, List, [], ◌∷◌, Some, None, ap, sym, ◌∙◌, slice_get, Option, AllPairs, IfSome}
+use Rattle.std.proofs.Common.{◌≡◌, ℕ, zero, suc, ◌+◌, ◌<◌, refl, arith, List, [], ◌∷◌, Some, None, ap, sym, ◌∙◌, slice_get, Option}
+use Rattle.std.proofs.Common.{AllPairs, IfSome}
 use Rattle.std.proofs.lemmas.List.Elements.{All-nil, All-cons, All-from_recursion}
 use Rattle.std.proofs.lemmas.Option.{same_Some, none-some}
 use Rattle.fixed_decimal.specs.Size.{finest}

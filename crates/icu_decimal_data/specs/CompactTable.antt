@@ -1,5 +1,6 @@
 -- Compact tables, and what stands in them at a magnitude.
-use Rattle.std.specs.Prelude.{ℕ, ◌+◌, ◌≤◌, ◌<◌, List, [], ◌∷◌, Option, Some, None, nat_le, nat_lt, if◌then◌else◌, find, All, AllPairs, count_by, slice_get, length}
+use Rattle.std.specs.Prelude.{ℕ, ◌+◌, ◌≤◌, ◌<◌, List, [], ◌∷◌, Option, Some, None, nat_le, nat_lt, if◌then◌else◌, find, All}
+use Rattle.std.specs.Prelude.{AllPairs, count_by, slice_get, length}
 use Rattle.std.specs.Option.{option_or, option_map_or}
 use Rattle.fixed_decimal.specs.Size.{finest}
 use Rattle.icu_base.specs.Elements.{Elements}

@@ -19,7 +19,8 @@ pub record IsPassThrough (e : TableEntry) : Type 0 where
 -- of neighbours, each that repeats the one just before has its exponent
 abbrev pub RepeatsKeepExponent : List TableEntry → Type 0
 RepeatsKeepExponent es =
-    (i : ℕ) (before e : TableEntry) → slice_get es i ≡ Some before → slice_get es (i + 1) ≡ Some e → IsTrue (repeats before e) → e.exponent ≡ before.exponent
+    (i : ℕ) (before e : TableEntry) → slice_get es i ≡ Some before → slice_get es (i + 1) ≡ Some e → IsTrue (repeats before e) →
+    e.exponent ≡ before.exponent
 
 -- types that are dropped or skipped say nothing of their own
 pub record IsFaithful (plain : Option PatternElements) (es : List TableEntry) : Type 0 where
@@ -36,7 +37,8 @@ pattern_for operands category entry =
 -- at a magnitude where its own magnitude and the exponent make it.
 abbrev pub KeptMeansFull : Type 0
 KeptMeansFull =
-    (plain : Option PatternElements) (es : List TableEntry) → AllPairs (λ (e f : TableEntry). e.log10_type < f.log10_type) es → fault_of plain es ≡ None → IsFaithful plain es
+    (plain : Option PatternElements) (es : List TableEntry) → AllPairs (λ (e f : TableEntry). e.log10_type < f.log10_type) es →
+    fault_of plain es ≡ None → IsFaithful plain es
     → (m : ℕ) → (exponent_for (kept plain es) m ≡ exponent_for es m)
     × ((significand : Unsigned) (category : PluralCategory) → IsUnsigned significand → magnitude (size significand) + exponent_for (kept plain es) m ≡ m
     → pattern_for (operands_of significand 0) category (entry_for (kept plain es) m) ≡ pattern_for (operands_of significand 0) category (entry_for es m))

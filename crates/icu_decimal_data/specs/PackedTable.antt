@@ -1,5 +1,6 @@
 -- The tables that can be packed: those that are made of a map.
-use Rattle.std.specs.Prelude.{◌≡◌, ℕ, ◌+◌, ◌≤◌, ◌<◌, ◌^◌, Bool, false, ◌&&◌, List, [], ◌∷◌, ◌++◌, length, Option, Some, None, IsTrue, IsSome, IfSome, ⊤}
+use Rattle.std.specs.Prelude.{◌≡◌, ℕ, ◌+◌, ◌≤◌, ◌<◌, ◌^◌, Bool, false, ◌&&◌, List, [], ◌∷◌, ◌++◌, length, Option, Some}
+use Rattle.std.specs.Prelude.{None, IsTrue, IsSome, IfSome, ⊤}
 use Rattle.std.specs.Str.{is_utf8}
 use Rattle.icu_base.specs.Patterns.{PatternText, place_alone}
 use Rattle.icu_base.specs.Elements.{slots}

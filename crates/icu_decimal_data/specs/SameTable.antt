@@ -17,7 +17,8 @@ abbrev pub same_table : List TableEntry → List TableEntry → Bool
 same_table = pointwise same_entry
 
 pub same_entry_laws : IsEquivalence same_entry
-same_entry_laws = and_equiv (on_equiv (λ (e : TableEntry). e.log10_type) nat_eq_equiv) (and_equiv (on_equiv (λ (e : TableEntry). e.exponent) nat_eq_equiv) (on_equiv (λ (e : TableEntry). e.elements) (same_elements-equiv same_pattern_equiv)))
+same_entry_laws = and_equiv (on_equiv (λ (e : TableEntry). e.log10_type) nat_eq_equiv)
+    (and_equiv (on_equiv (λ (e : TableEntry). e.exponent) nat_eq_equiv) (on_equiv (λ (e : TableEntry). e.elements) (same_elements-equiv same_pattern_equiv)))
 
 -- this is an equivalence
 pub same_table_laws : IsEquivalence same_table

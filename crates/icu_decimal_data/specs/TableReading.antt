@@ -1,5 +1,7 @@
 -- Reading a table in its bytes, and the first damage that is met.
-use Rattle.std.specs.Prelude.{◌≡◌, ℕ, zero, suc, ◌+◌, ◌-◌, ◌*◌, min, Bool, false, true, not, ◌&&◌, ◌||◌, nat_lt, nat_le, ◌==◌, if◌then◌else◌, List, [], ◌∷◌, length, take, drop, slice_index, slice_range, Option, Some, None, Result, Ok, Err, IsOk, ◌≤◌, ◌<◌}
+use Rattle.std.specs.Prelude.{◌≡◌, ℕ, zero, suc, ◌+◌, ◌-◌, ◌*◌, min, Bool, false, true, not, ◌&&◌, ◌||◌, nat_lt, nat_le, ◌==◌}
+use Rattle.std.specs.Prelude.{if◌then◌else◌, List, [], ◌∷◌, length, take, drop, slice_index, slice_range, Option, Some, None, Result, Ok, Err, IsOk}
+use Rattle.std.specs.Prelude.{◌≤◌, ◌<◌}
 use Rattle.std.specs.List.{list_all}
 use Rattle.std.specs.Option.{option_eq}
 use Rattle.std.specs.Cmp.Lexicographic.{pointwise}
@@ -130,7 +132,8 @@ is_falling (Some before) bytes = nat_lt (slice_index bytes 1) (slice_index befor
 
 -- an exponent above the type, more than fifteen zeros, or an exponent below that of the record before
 abbrev pub is_wrong_exponent : Option (List ℕ) → List ℕ → Bool
-is_wrong_exponent before bytes = nat_lt (slice_index bytes 0) (slice_index bytes 1) || (nat_lt 15 (slice_index bytes 0 - slice_index bytes 1) || is_falling before bytes)
+is_wrong_exponent before bytes = nat_lt (slice_index bytes 0) (slice_index bytes 1) ||
+    (nat_lt 15 (slice_index bytes 0 - slice_index bytes 1) || is_falling before bytes)
 
 -- whether the slots are the same
 abbrev pub same_slots : List (Option PatternText) → List (Option PatternText) → Bool
@@ -167,7 +170,8 @@ record_step accepts pool pool_at before at sum bytes =
 unfoldable pub records_step : (PatternText → Bool) → List ℕ → ℕ → ℕ → Option (List ℕ) → ℕ → ℕ → List ℕ → Result ℕ ℕ
 records_step accepts pool pool_at zero before at sum bytes = Ok sum
 records_step accepts pool pool_at (suc n) before at sum bytes =
-    record_step accepts pool pool_at before at sum (take 58 bytes) >>= λ next. records_step accepts pool pool_at n (Some (take 58 bytes)) (at + 58) next (drop 58 bytes)
+    record_step accepts pool pool_at before at sum (take 58 bytes) >>= λ next. records_step accepts pool pool_at n (Some (take 58 bytes)) (at + 58) next
+    (drop 58 bytes)
 
 -- how long the bytes are to be
 abbrev pub whole_len : List ℕ → ℕ

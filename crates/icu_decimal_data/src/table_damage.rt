@@ -206,7 +206,9 @@ fn are_slots_repeated(pool: &[u8], before: &[u8], bytes: &[u8]) -> bool
     requires before { length before.now ≡ 58 }
     requires len { length bytes.now ≡ 58 }
     ensures { result
-        ≡ (same_at pool.now before.now bytes.now 0 && ((slice_index (slot_at (drop 2 bytes.now) 1) 0 == 0) && same_from pool.now before.now bytes.now 2 6)) }
+        ≡ (same_at pool.now before.now bytes.now 0
+        && ((slice_index (slot_at (drop 2 bytes.now) 1) 0 == 0)
+        && same_from pool.now before.now bytes.now 2 6)) }
 {
     is_same_slot(pool, slot(before, 0), slot(bytes, 0))
         && slot(bytes, 1)[0] == ABSENT

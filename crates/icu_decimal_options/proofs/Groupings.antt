@@ -8,8 +8,11 @@ pub use Rattle.writeable.specs.Counted.{IsDue}
 
 pub concatenated-put_before : {A : Type 0} (p s : ℕ) (x : A) (gs : List (List A)) → concatenated (put_before p s x gs) ≡ x ∷ concatenated gs
 concatenated-put_before p s x [] = refl
-concatenated-put_before p s x (g ∷ []) = elim (length g == p) as (λ b. concatenated (if b then (x ∷ []) ∷ g ∷ [] else (x ∷ g) ∷ []) ≡ x ∷ concatenated (g ∷ [])) [ true ↦ refl | false ↦ refl ]
-concatenated-put_before p s x (g ∷ h ∷ gs) = elim (length g == s) as (λ b. concatenated (if b then (x ∷ []) ∷ g ∷ h ∷ gs else (x ∷ g) ∷ h ∷ gs) ≡ x ∷ concatenated (g ∷ h ∷ gs)) [ true ↦ refl | false ↦ refl ]
+concatenated-put_before p s x (g ∷ []) = elim (length g == p) as
+    (λ b. concatenated (if b then (x ∷ []) ∷ g ∷ [] else (x ∷ g) ∷ []) ≡ x ∷ concatenated (g ∷ [])) [ true ↦ refl | false ↦ refl ]
+concatenated-put_before p s x (g ∷ h ∷ gs) = elim (length g == s) as
+    (λ b. concatenated (if b then (x ∷ []) ∷ g ∷ h ∷ gs else (x ∷ g) ∷ h ∷ gs) ≡ x ∷ concatenated (g ∷ h ∷ gs))
+    [ true ↦ refl | false ↦ refl ]
 
 -- the groups are the digits
 pub concatenated-cut : {A : Type 0} (p s : ℕ) (xs : List A) → concatenated (cut p s xs) ≡ xs
@@ -28,9 +31,18 @@ EndsGroup-from (g ∷ []) m e = absurd e
 EndsGroup-from (g ∷ h ∷ gs) m (inl e) = record { before = []; group = g; next = h; after = gs; parts = refl; digits_after = sym e }
 EndsGroup-from {A = A} (g ∷ h ∷ gs) m (inr e) =
     let later = EndsGroup-from (h ∷ gs) m e in
-    record { before = g ∷ later.before; group = later.group; next = later.next; after = later.after; parts = ap (λ (k : List (List A)). g ∷ k) later.parts; digits_after = later.digits_after }
+    record {
+      before = g ∷ later.before;
+      group = later.group;
+      next = later.next;
+      after = later.after;
+      parts =
+          ap (λ (k : List (List A)). g ∷ k) later.parts;
+      digits_after = later.digits_after;
+    }
 
-Ends-between : {A : Type 0} (before : List (List A)) (group next : List A) (after : List (List A)) → Ends (before ++ group ∷ next ∷ after) (length (concatenated (next ∷ after)))
+Ends-between : {A : Type 0} (before : List (List A)) (group next : List A) (after : List (List A)) →
+    Ends (before ++ group ∷ next ∷ after) (length (concatenated (next ∷ after)))
 Ends-between [] group next after = inl refl
 Ends-between (b ∷ []) group next after = inr (inl refl)
 Ends-between (b ∷ c ∷ before) group next after = inr (Ends-between (c ∷ before) group next after)
@@ -39,15 +51,19 @@ EndsGroup-to : {A : Type 0} (gs : List (List A)) (m : ℕ) → EndsGroup gs m �
 EndsGroup-to gs m e = rw (e.parts, ← e.digits_after) (Ends-between e.before e.group e.next e.after)
 
 -- one digit in front
-one_group : {A : Type 0} (b : Bool) (x : A) (g : List A) (m : ℕ) → Ends (if b then (x ∷ []) ∷ g ∷ [] else (x ∷ g) ∷ []) m ↔ (Ends (g ∷ []) m ⊎ ((b ≡ true) × (m ≡ length (concatenated (g ∷ [])))))
+one_group : {A : Type 0} (b : Bool) (x : A) (g : List A) (m : ℕ) →
+    Ends (if b then (x ∷ []) ∷ g ∷ [] else (x ∷ g) ∷ []) m ↔ (Ends (g ∷ []) m ⊎ ((b ≡ true) × (m ≡ length (concatenated (g ∷ [])))))
 one_group true x g m = (λ e. elim e [ inl a ↦ inr (refl, a) | inr z ↦ absurd z ], λ e. elim e [ inl z ↦ absurd z | inr q ↦ inl q.1 ])
 one_group false x g m = (λ e. absurd e, λ e. elim e [ inl z ↦ absurd z | inr q ↦ absurd (cc q.0) ])
 
-more_groups : {A : Type 0} (b : Bool) (x : A) (g h : List A) (gs : List (List A)) (m : ℕ) → Ends (if b then (x ∷ []) ∷ g ∷ h ∷ gs else (x ∷ g) ∷ h ∷ gs) m ↔ (Ends (g ∷ h ∷ gs) m ⊎ ((b ≡ true) × (m ≡ length (concatenated (g ∷ h ∷ gs)))))
+more_groups : {A : Type 0} (b : Bool) (x : A) (g h : List A) (gs : List (List A)) (m : ℕ) →
+    Ends (if b then (x ∷ []) ∷ g ∷ h ∷ gs else (x ∷ g) ∷ h ∷ gs) m ↔
+    (Ends (g ∷ h ∷ gs) m ⊎ ((b ≡ true) × (m ≡ length (concatenated (g ∷ h ∷ gs)))))
 more_groups true x g h gs m = (λ e. elim e [ inl a ↦ inr (refl, a) | inr z ↦ inl z ], λ e. elim e [ inl z ↦ inr z | inr q ↦ inl q.1 ])
 more_groups false x g h gs m = (λ e. inl e, λ e. elim e [ inl z ↦ z | inr q ↦ absurd (cc q.0) ])
 
-Ends-put_before : {A : Type 0} (p s : ℕ) (x : A) (gs : List (List A)) (m : ℕ) → Ends (put_before p s x gs) m ↔ (Ends gs m ⊎ ((is_full p s gs ≡ true) × (m ≡ length (concatenated gs))))
+Ends-put_before : {A : Type 0} (p s : ℕ) (x : A) (gs : List (List A)) (m : ℕ) →
+    Ends (put_before p s x gs) m ↔ (Ends gs m ⊎ ((is_full p s gs ≡ true) × (m ≡ length (concatenated gs))))
 Ends-put_before p s x [] m = (λ e. absurd e, λ e. elim e [ inl z ↦ absurd z | inr q ↦ absurd (cc q.0) ])
 Ends-put_before p s x (g ∷ []) m = one_group (length g == p) x g m
 Ends-put_before p s x (g ∷ h ∷ gs) m = more_groups (length g == s) x g h gs m

@@ -1,5 +1,6 @@
 -- Where `check` puts separators, and where the groups end.
-use Rattle.std.proofs.Common.{◌≡◌, ℕ, ◌<◌, ◌≤◌, ◌+◌, ◌-◌, ◌*◌, ◌/◌, ◌%◌, ◌↔◌, IsTrue, Bool, true, false, not, List, [], ◌∷◌, ◌++◌, length, inl, inr, refl, sym, ap, ◌∙◌, arith, ne_eqb, ℤ, pos}
+use Rattle.std.proofs.Common.{◌≡◌, ℕ, ◌<◌, ◌≤◌, ◌+◌, ◌-◌, ◌*◌, ◌/◌, ◌%◌, ◌↔◌, IsTrue, Bool, true, false, not, List}
+use Rattle.std.proofs.Common.{[], ◌∷◌, ◌++◌, length, inl, inr, refl, sym, ap, ◌∙◌, arith, ne_eqb, ℤ, pos}
 use Rattle.std.specs.Prelude.{◌==◌, ◌&&◌, nat_le}
 use Rattle.std.proofs.lemmas.Int.{ints}
 use Rattle.std.proofs.lemmas.Bool.{false≢true, and_parts}
@@ -46,14 +47,16 @@ module _ (strategy : GroupingStrategy) (sizes : GroupingSizes) where
   ]
 
   -- the digit at m, where so many digits are grouped
-  pub check-grouped : (digits : List ℕ) (m : ℕ) (result : Bool) → is_grouped (length digits) sizes strategy ≡ true → m < length digits → (IsTrue result ↔ IsDue sizes.primary (secondary_size sizes) m) → (IsTrue result ↔ EndsGroup (digit_groups digits sizes strategy) m)
+  pub check-grouped : (digits : List ℕ) (m : ℕ) (result : Bool) → is_grouped (length digits) sizes strategy ≡ true → m < length digits →
+      (IsTrue result ↔ IsDue sizes.primary (secondary_size sizes) m) → (IsTrue result ↔ EndsGroup (digit_groups digits sizes strategy) m)
   check-grouped digits m result e h due =
       let g = groups-from (length digits) e in
       let ends = EndsGroup-cut sizes.primary (secondary_size sizes) digits m g.primary_some (secondary_some g.primary_some) h in
       rw e (λ t. ends.1 (due.0 t), λ k. due.1 (ends.0 k))
 
   -- and where they are not
-  pub check-ungrouped : (digits : List ℕ) (m : ℕ) → is_grouped (length digits) sizes strategy ≡ false → EndsGroup (digit_groups digits sizes strategy) m → ⊥
+  pub check-ungrouped : (digits : List ℕ) (m : ℕ) → is_grouped (length digits) sizes strategy ≡ false →
+      EndsGroup (digit_groups digits sizes strategy) m → ⊥
   check-ungrouped digits m e = rw e (λ k. one_group k.before k.group k.next k.after k.parts)
     where
       one_group : (before : List (List ℕ)) (group next : List ℕ) (after : List (List ℕ)) → digits ∷ [] ≡ before ++ group ∷ next ∷ after → ⊥
@@ -62,7 +65,8 @@ module _ (strategy : GroupingStrategy) (sizes : GroupingSizes) where
       one_group (b ∷ c ∷ before) group next after f = absurd (omega (arith, ap length f))
 
   -- the rule for any magnitudes
-  pub rule-grouped : (upper m : ℕ) (result : Bool) → is_grouped (upper + 1) sizes strategy ≡ true → (IsTrue result ↔ IsDue sizes.primary (secondary_size sizes) m) → (IsTrue result ↔ HasSeparatorAfter (pos upper) (pos m) strategy sizes)
+  pub rule-grouped : (upper m : ℕ) (result : Bool) → is_grouped (upper + 1) sizes strategy ≡ true →
+      (IsTrue result ↔ IsDue sizes.primary (secondary_size sizes) m) → (IsTrue result ↔ HasSeparatorAfter (pos upper) (pos m) strategy sizes)
   rule-grouped upper m result e due = (to_rule, from_rule)
     where
       to_rule : IsTrue result → HasSeparatorAfter (pos upper) (pos m) strategy sizes
@@ -91,5 +95,6 @@ module _ (strategy : GroupingStrategy) (sizes : GroupingSizes) where
   rule-ungrouped upper m e r =
       let enough : sizes.primary + least_before strategy sizes ≤ upper + 1 = omega (arith, ints, r.enough) in
       let least = least_some in
-      let grouped : is_grouped (upper + 1) sizes strategy ≡ true = groups-to (upper + 1) (record { ever = r.groups; primary_some = r.primary_some; enough = omega (arith, enough) }) in
+      let grouped : is_grouped (upper + 1) sizes strategy ≡ true =
+      groups-to (upper + 1) (record { ever = r.groups; primary_some = r.primary_some; enough = omega (arith, enough) }) in
       false≢true (sym e ∙ grouped)

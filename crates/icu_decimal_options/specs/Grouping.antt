@@ -1,5 +1,6 @@
 -- Digits in groups (UTS 35, Number Formats: primary and secondary grouping sizes, minimum grouping digits).
-use Rattle.std.specs.Prelude.{◌≡◌, ℕ, ◌+◌, ◌-◌, ◌*◌, ◌^◌, ◌<◌, ◌≤◌, ◌↔◌, Bool, true, false, IsTrue, not, ◌&&◌, ◌==◌, nat_le, max, List, [], ◌∷◌, ◌++◌, length, All, ℤ, pos, ◌+ℤ◌, ◌≤ℤ◌, if◌then◌else◌}
+use Rattle.std.specs.Prelude.{◌≡◌, ℕ, ◌+◌, ◌-◌, ◌*◌, ◌^◌, ◌<◌, ◌≤◌, ◌↔◌, Bool, true, false, IsTrue, not, ◌&&◌}
+use Rattle.std.specs.Prelude.{◌==◌, nat_le, max, List, [], ◌∷◌, ◌++◌, length, All, ℤ, pos, ◌+ℤ◌, ◌≤ℤ◌, if◌then◌else◌}
 use Rattle.std.specs.List.{flat_map}
 pub use Rattle.writeable.specs.Groups.{put_before, cut, joined_after, joined}
 use Rattle.icu_decimal_options.specs.declared.options.GroupingStrategy.{GroupingStrategy}

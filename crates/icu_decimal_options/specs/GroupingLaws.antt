@@ -10,8 +10,10 @@ SeparatorsTakenOut = (digits : List ℕ) (sizes : GroupingSizes) (strategy : Gro
 
 -- more digits than the primary size have a grouping
 abbrev pub DigitsHaveAGrouping : Type 0
-DigitsHaveAGrouping = (digits : List ℕ) (primary secondary : ℕ) → 0 < primary → 0 < secondary → primary < length digits → IsGrouping digits primary secondary (cut primary secondary digits)
+DigitsHaveAGrouping = (digits : List ℕ) (primary secondary : ℕ) → 0 < primary → 0 < secondary → primary < length digits →
+    IsGrouping digits primary secondary (cut primary secondary digits)
 
 -- and one alone
 abbrev pub DigitsHaveOneGrouping : Type 0
-DigitsHaveOneGrouping = (digits : List ℕ) (primary secondary : ℕ) (groups : List (List ℕ)) → 0 < primary → IsGrouping digits primary secondary groups → groups ≡ cut primary secondary digits
+DigitsHaveOneGrouping = (digits : List ℕ) (primary secondary : ℕ) (groups : List (List ℕ)) → 0 < primary →
+    IsGrouping digits primary secondary groups → groups ≡ cut primary secondary digits

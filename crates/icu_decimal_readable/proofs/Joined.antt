@@ -1,5 +1,6 @@
 -- Two texts, one after the other, against two others.
-use Rattle.std.proofs.Common.{◌≡◌, ◌≢◌, ℕ, List, [], ◌∷◌, ◌++◌, refl, sym, ap, ◌∙◌, append_assoc, chars, encode_utf8_all, ◌⊎◌, inl, inr}
+use Rattle.std.proofs.Common.{◌≡◌, ◌≢◌, ℕ, List, [], ◌∷◌, ◌++◌, refl, sym, ap, ◌∙◌, append_assoc, chars, encode_utf8_all}
+use Rattle.std.proofs.Common.{◌⊎◌, inl, inr}
 use Rattle.std.specs.Str.{IsUtf8}
 use Rattle.std.proofs.lemmas.List.{append_cancel_left}
 use Rattle.std.proofs.lemmas.Str.{chars-append, encodes-chars, IsUtf8-append}
@@ -32,4 +33,5 @@ same_characters a b c d ua uc e = sym (chars-append a b ua) ∙ ap chars e ∙ c
 -- joined texts with the same characters have the same bytes
 pub same_bytes : (a b c d : List ℕ) → IsUtf8 a → IsUtf8 b → IsUtf8 c → IsUtf8 d → chars a ++ chars b ≡ chars c ++ chars d → a ++ b ≡ c ++ d
 same_bytes a b c d ua ub uc ud e =
-    sym (encodes-chars (a ++ b) (IsUtf8-append a b ua ub)) ∙ ap encode_utf8_all (chars-append a b ua ∙ e ∙ sym (chars-append c d uc)) ∙ encodes-chars (c ++ d) (IsUtf8-append c d uc ud)
+    sym (encodes-chars (a ++ b) (IsUtf8-append a b ua ub)) ∙ ap encode_utf8_all (chars-append a b ua ∙ e ∙ sym (chars-append c d uc))
+    ∙ encodes-chars (c ++ d) (IsUtf8-append c d uc ud)

@@ -1,5 +1,6 @@
 -- The parts of readability.
-use Rattle.std.proofs.Common.{◌≡◌, ◌≢◌, ℕ, arith, refl, sym, ap, ap₂, ◌∙◌, List, [], length, AllPairs, chars, Bool, true, false, not, IsTrue}
+use Rattle.std.proofs.Common.{◌≡◌, ◌≢◌, ℕ, arith, refl, sym, ap, ap₂, ◌∙◌, List, [], length, AllPairs, chars, Bool, true, false, not}
+use Rattle.std.proofs.Common.{IsTrue}
 use Rattle.std.proofs.lemmas.Str.{chars-nil}
 use Rattle.fixed_decimal.specs.declared.signs.Sign.{Sign}
 use Rattle.fixed_decimal.specs.declared.signs.Sign.TheVariants.{Negative, Positive, None as NoSign}
@@ -25,7 +26,8 @@ pub plus_shown : (f : SymbolTexts) → SignsDiffer f → (chars f.plus_sign_pref
 plus_shown f h same = let e = h Positive NoSign (same_pair f.plus_sign_prefix f.plus_sign_suffix [] [] same ∙ sym (nothing f)) in cc
 
 -- minus and plus differ in an affix
-pub both_differ : (f : SymbolTexts) → SignsDiffer f → (chars f.minus_sign_prefix ≡ chars f.plus_sign_prefix) × (chars f.minus_sign_suffix ≡ chars f.plus_sign_suffix) → ⊥
+pub both_differ : (f : SymbolTexts) → SignsDiffer f → (chars f.minus_sign_prefix ≡ chars f.plus_sign_prefix)
+    × (chars f.minus_sign_suffix ≡ chars f.plus_sign_suffix) → ⊥
 both_differ f h same = let e = h Negative Positive (same_pair f.minus_sign_prefix f.minus_sign_suffix f.plus_sign_prefix f.plus_sign_suffix same) in cc
 
 parts : (a b : Surroundings) → a ≡ b → (a.before ≡ b.before) × (a.after ≡ b.after)
@@ -48,7 +50,8 @@ signs_told f m p b Positive Negative e = absurd (b (parts (affixes f Negative) (
 signs_told f m p b Positive Positive e = refl
 
 -- readability in its parts
-pub readable_of : (f : SymbolTexts) (digits : List ℕ) → length digits ≡ 10 → AllPairs (λ c d. c ≢ d) digits → IsFreeThroughout f digits → SeparatorsTold f → SignsDiffer f → IsReadable f digits
+pub readable_of : (f : SymbolTexts) (digits : List ℕ) → length digits ≡ 10 → AllPairs (λ c d. c ≢ d) digits → IsFreeThroughout f digits →
+    SeparatorsTold f → SignsDiffer f → IsReadable f digits
 readable_of f digits ten different free told signs = record {
   ten = ten;
   different = different;

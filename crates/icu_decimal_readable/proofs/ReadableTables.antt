@@ -1,5 +1,6 @@
 -- What holds of each pattern of a table, slot by slot and entry by entry.
-use Rattle.std.proofs.Common.{◌≡◌, ℕ, zero, suc, ◌<◌, ◌↔◌, arith, refl, sym, ap, subst, List, [], ◌∷◌, length, slice_get, slice_index_or, Option, Some, None, IfSome, IsSome, Bool, true, false, IsTrue, inl, inr}
+use Rattle.std.proofs.Common.{◌≡◌, ℕ, zero, suc, ◌<◌, ◌↔◌, arith, refl, sym, ap, subst, List, [], ◌∷◌, length, slice_get}
+use Rattle.std.proofs.Common.{slice_index_or, Option, Some, None, IfSome, IsSome, Bool, true, false, IsTrue, inl, inr}
 use Rattle.std.proofs.lemmas.Option.{get_or_from_slice_get, slice_get_read, slice_get-get_or, slice_get_within}
 use Rattle.fixed_decimal.specs.declared.signs.Sign.{Sign}
 use Rattle.fixed_decimal.specs.declared.signs.Sign.TheVariants.{Negative, Positive, None as NoSign}
@@ -8,12 +9,18 @@ use Rattle.icu_base.specs.Patterns.{PatternText, place_alone}
 use Rattle.icu_decimal_data.specs.CompactTable.{PatternElements, TableEntry}
 use Rattle.icu_decimal_readable.specs.Readable.{Surroundings, sides, HasNoDigit, HasPattern, IsFreeOfDigits, IsReadableTable}
 use Rattle.icu_decimal_readable.specs.declared.readable_table.Number.{Number}
-use Rattle.icu_decimal_readable.specs.ReadableTable.{surroundings_of, AreTold, HasPlaceAndNoDigit, HoldsOfEntry, HoldsThroughout, IsToldFrom, IsToldThroughout, TellsNumbers}
+use Rattle.icu_decimal_readable.specs.ReadableTable.{surroundings_of, AreTold, HasPlaceAndNoDigit, HoldsOfEntry, HoldsThroughout, IsToldFrom, IsToldThroughout}
+use Rattle.icu_decimal_readable.specs.ReadableTable.{TellsNumbers}
 use Rattle.icu_decimal_data.specs.Symbols.{SymbolTexts}
 
 -- a pattern with a place and no digit
-pub placed_of : (digits : List ℕ) (p : PatternText) (a : Surroundings) → a ≡ sides p → IsSome p.place → HasNoDigit digits a.before → HasNoDigit digits a.after → HasPlaceAndNoDigit digits p
-placed_of digits p a is some before after = record { placed = some; sides_free = subst (IsFreeOfDigits digits) is (record { before_free = before; after_free = after }) }
+pub placed_of : (digits : List ℕ) (p : PatternText) (a : Surroundings) → a ≡ sides p → IsSome p.place → HasNoDigit digits a.before →
+    HasNoDigit digits a.after → HasPlaceAndNoDigit digits p
+placed_of digits p a is some before after = record {
+  placed = some;
+  sides_free =
+      subst (IsFreeOfDigits digits) is (record { before_free = before; after_free = after });
+}
 
 -- a pattern with a place and no digit has none around its place
 pub sides_of_placed : (digits : List ℕ) (p : PatternText) (a : Surroundings) → a ≡ sides p → HasPlaceAndNoDigit digits p → IsFreeOfDigits digits a
@@ -27,7 +34,8 @@ if_some P (Some p) h = h p refl
 of_some : (P : PatternText → Type 0) (o : Option PatternText) (p : PatternText) → IfSome o P → o ≡ Some p → P p
 of_some P o p h is = subst (λ (x : Option PatternText). IfSome x P) is h
 
-in_slots : (P : PatternText → Type 0) (e : PatternElements) → ((k : ℕ) → k < 8 → IfSome (slice_index_or (slots e) k None) P) → (p : PatternText) → HasPattern e p → P p
+in_slots : (P : PatternText → Type 0) (e : PatternElements) → ((k : ℕ) → k < 8 → IfSome (slice_index_or (slots e) k None) P) → (p : PatternText) →
+    HasPattern e p → P p
 in_slots P e h p (inl is) = of_some P e.explicit_zero p (h 0 (omega arith)) is
 in_slots P e h p (inr (inl is)) = of_some P e.explicit_one p (h 1 (omega arith)) is
 in_slots P e h p (inr (inr (inl is))) = of_some P e.zero p (h 2 (omega arith)) is
@@ -37,7 +45,8 @@ in_slots P e h p (inr (inr (inr (inr (inr (inl is)))))) = of_some P e.few p (h 5
 in_slots P e h p (inr (inr (inr (inr (inr (inr (inl is))))))) = of_some P e.many p (h 6 (omega arith)) is
 in_slots P e h p (inr (inr (inr (inr (inr (inr (inr is))))))) = of_some P (Some e.other) p (h 7 (omega arith)) (ap Some is)
 
-slot_of : (P : PatternText → Type 0) (e : PatternElements) (k : ℕ) → k < 8 → ((p : PatternText) → HasPattern e p → P p) → IfSome (slice_index_or (slots e) k None) P
+slot_of : (P : PatternText → Type 0) (e : PatternElements) (k : ℕ) → k < 8 → ((p : PatternText) → HasPattern e p → P p) →
+    IfSome (slice_index_or (slots e) k None) P
 slot_of P e zero l h = if_some P e.explicit_zero (λ p is. h p (inl is))
 slot_of P e (suc zero) l h = if_some P e.explicit_one (λ p is. h p (inr (inl is)))
 slot_of P e (suc (suc zero)) l h = if_some P e.zero (λ p is. h p (inr (inr (inl is))))
@@ -58,17 +67,20 @@ module _ (P : ℕ → PatternText → Type 0) where
   each_slot None h = tt
   each_slot (Some e) h = (λ t. in_slots (P e.exponent) e.elements h, λ all. refl)
 
-  pub slot_failed : (o : Option TableEntry) (k : ℕ) (b : Bool) → k < 8 → b ≡ false → IfSome o (λ e. IsTrue b ↔ IfSome (slice_index_or (slots e.elements) k None) (P e.exponent))
+  pub slot_failed : (o : Option TableEntry) (k : ℕ) (b : Bool) → k < 8 → b ≡ false →
+      IfSome o (λ e. IsTrue b ↔ IfSome (slice_index_or (slots e.elements) k None) (P e.exponent))
       → IfSome o (λ e. IsTrue false ↔ HoldsOfEntry P e)
   slot_failed None k b l f h = tt
   slot_failed (Some e) k b l f h = (λ t. cc, λ all. let passed = h.1 (slot_of (P e.exponent) e.elements k l all) in cc)
 
-  pub slot_passed : (o : Option TableEntry) (k : ℕ) (b : Bool) → b ≡ true → IfSome o (λ e. IsTrue b ↔ IfSome (slice_index_or (slots e.elements) k None) (P e.exponent)) → HoldsAtSlot o k
+  pub slot_passed : (o : Option TableEntry) (k : ℕ) (b : Bool) → b ≡ true →
+      IfSome o (λ e. IsTrue b ↔ IfSome (slice_index_or (slots e.elements) k None) (P e.exponent)) → HoldsAtSlot o k
   slot_passed None k b t h = tt
   slot_passed (Some e) k b t h = h.0 t
 
   -- of each entry and of the place alone
-  pub throughout : (table : List TableEntry) → P 0 place_alone → ((k : ℕ) → k < length table → IfSome (slice_get table k) (HoldsOfEntry P)) → HoldsThroughout P table
+  pub throughout : (table : List TableEntry) → P 0 place_alone → ((k : ℕ) → k < length table → IfSome (slice_get table k) (HoldsOfEntry P)) →
+      HoldsThroughout P table
   throughout table alone each None p is = subst (P 0) (sym is) alone
   throughout table alone each (Some e) p ((k, within, is), has) =
       let found : slice_get table k ≡ Some e = slice_get_read table (length table) k e refl within (sym is) in
@@ -80,8 +92,10 @@ module _ (P : ℕ → PatternText → Type 0) where
   entry_of table k (Some e) is h = λ p has. h (Some e) p ((k, slice_get_within table k e is, get_or_from_slice_get table k e e is), has)
 
   -- where one entry fails the test, the table does
-  pub entry_failed : (table : List TableEntry) (k : ℕ) (b : Bool) → k < length table → b ≡ false → IfSome (slice_get table k) (λ e. IsTrue b ↔ HoldsOfEntry P e) → HoldsThroughout P table → ⊥
-  entry_failed table k b within f is h = go (slice_get table k) (slice_get-get_or table k (first table within) within) is (entry_of table k (slice_get table k) refl h)
+  pub entry_failed : (table : List TableEntry) (k : ℕ) (b : Bool) → k < length table → b ≡ false →
+      IfSome (slice_get table k) (λ e. IsTrue b ↔ HoldsOfEntry P e) → HoldsThroughout P table → ⊥
+  entry_failed table k b within f is h = go (slice_get table k) (slice_get-get_or table k (first table within) within) is
+      (entry_of table k (slice_get table k) refl h)
     where
       first : (t : List TableEntry) → k < length t → TableEntry
       first (e ∷ es) l = e
@@ -96,18 +110,21 @@ module _ (P : ℕ → PatternText → Type 0) where
   entry_passed (Some e) b t h = h.0 t
 
 -- readability in its parts
-pub readable_table_of : (texts : SymbolTexts) (digits : List ℕ) (table : List TableEntry) → HoldsThroughout (λ m p. HasPlaceAndNoDigit digits p) table → HoldsThroughout (TellsNumbers texts table) table → IsReadableTable texts digits table
+pub readable_table_of : (texts : SymbolTexts) (digits : List ℕ) (table : List TableEntry) → HoldsThroughout (λ m p. HasPlaceAndNoDigit digits p) table →
+    HoldsThroughout (TellsNumbers texts table) table → IsReadableTable texts digits table
 readable_table_of texts digits table placed told = record {
   placed = λ by p h. (placed by p h).placed;
   sides_free = λ by p h. (placed by p h).sides_free;
   told = λ s t by to p q h i e. told by p h s to q i t e;
 }
 
-pub placed_throughout : (texts : SymbolTexts) (digits : List ℕ) (table : List TableEntry) → IsReadableTable texts digits table → HoldsThroughout (λ m p. HasPlaceAndNoDigit digits p) table
+pub placed_throughout : (texts : SymbolTexts) (digits : List ℕ) (table : List TableEntry) → IsReadableTable texts digits table →
+    HoldsThroughout (λ m p. HasPlaceAndNoDigit digits p) table
 placed_throughout texts digits table h = λ by p is. record { placed = h.placed by p is; sides_free = h.sides_free by p is }
 
 -- a readable table tells the numbers in each of its patterns
-pub told_throughout : (texts : SymbolTexts) (digits : List ℕ) (table : List TableEntry) → IsReadableTable texts digits table → HoldsThroughout (TellsNumbers texts table) table
+pub told_throughout : (texts : SymbolTexts) (digits : List ℕ) (table : List TableEntry) → IsReadableTable texts digits table →
+    HoldsThroughout (TellsNumbers texts table) table
 told_throughout texts digits table h = λ by p is s to q i t e. h.told s t by to p q is i e
 
 -- what holds of all three signs
@@ -117,19 +134,23 @@ each_sign P n m p Negative = m
 each_sign P n m p Positive = p
 
 -- by what stands on a pattern's two sides
-pub told_of : (texts : SymbolTexts) (table : List TableEntry) (s : Sign) (m : ℕ) (p : PatternText) (a : Surroundings) → a ≡ sides p → IsToldThroughout texts table s m a → IsToldThroughout texts table s m (sides p)
+pub told_of : (texts : SymbolTexts) (table : List TableEntry) (s : Sign) (m : ℕ) (p : PatternText) (a : Surroundings) → a ≡ sides p →
+    IsToldThroughout texts table s m a → IsToldThroughout texts table s m (sides p)
 told_of texts table s m p a is h = let T : Surroundings → Type 0 = IsToldThroughout texts table s m in subst T is h
 
 -- a pattern that tells its numbers is told from every other by what stands around its place
-pub told_by_sides : (texts : SymbolTexts) (table : List TableEntry) (s : Sign) (m : ℕ) (p : PatternText) (a : Surroundings) → a ≡ sides p → TellsNumbers texts table m p → IsToldThroughout texts table s m a
+pub told_by_sides : (texts : SymbolTexts) (table : List TableEntry) (s : Sign) (m : ℕ) (p : PatternText) (a : Surroundings) → a ≡ sides p →
+    TellsNumbers texts table m p → IsToldThroughout texts table s m a
 told_by_sides texts table s m p a is h = let T : Surroundings → Type 0 = IsToldThroughout texts table s m in subst T (sym is) (h s)
 
 -- that two patterns are told apart is said of what stands around their places
-pub told_from_of : (texts : SymbolTexts) (s : Sign) (m : ℕ) (a : Surroundings) (n : ℕ) (q : PatternText) (b : Surroundings) (r : Bool) → b ≡ sides q → (IsTrue r ↔ IsToldFrom texts s m a n b) → IsTrue r ↔ IsToldFrom texts s m a n (sides q)
+pub told_from_of : (texts : SymbolTexts) (s : Sign) (m : ℕ) (a : Surroundings) (n : ℕ) (q : PatternText) (b : Surroundings) (r : Bool) → b ≡ sides q →
+    (IsTrue r ↔ IsToldFrom texts s m a n b) → IsTrue r ↔ IsToldFrom texts s m a n (sides q)
 told_from_of texts s m a n q b r is h = let T : Surroundings → Type 0 = λ x. IsTrue r ↔ IsToldFrom texts s m a n x in subst T is h
 
 -- what is told with symbols is told with equal symbols
-pub told_with : (texts given : SymbolTexts) (table : List TableEntry) → given ≡ texts → HoldsThroughout (TellsNumbers given table) table → HoldsThroughout (TellsNumbers texts table) table
+pub told_with : (texts given : SymbolTexts) (table : List TableEntry) → given ≡ texts → HoldsThroughout (TellsNumbers given table) table →
+    HoldsThroughout (TellsNumbers texts table) table
 told_with texts given table is h = let T : SymbolTexts → Type 0 = λ x. HoldsThroughout (TellsNumbers x table) table in subst T is h
 
 -- by a number that was made with another sign
@@ -137,7 +158,8 @@ pub told_as : (texts : SymbolTexts) (first made meant : Number) (r : Bool) → m
     → (IsTrue r ↔ AreTold texts first.sign first.exponent (surroundings_of first.sides) made.sign made.exponent (surroundings_of made.sides))
     → IsTrue r ↔ AreTold texts first.sign first.exponent (surroundings_of first.sides) meant.sign meant.exponent (surroundings_of meant.sides)
 told_as texts first made meant r is h =
-    let T : Number → Type 0 = λ x. IsTrue r ↔ AreTold texts first.sign first.exponent (surroundings_of first.sides) x.sign x.exponent (surroundings_of x.sides) in subst T is h
+    let T : Number → Type 0 = λ x. IsTrue r ↔ AreTold texts first.sign first.exponent (surroundings_of first.sides) x.sign x.exponent
+    (surroundings_of x.sides) in subst T is h
 
 -- what is told of a number is told of an equal number
 pub told_throughout_as : (texts : SymbolTexts) (table : List TableEntry) (made meant : Number) (r : Bool) → made ≡ meant

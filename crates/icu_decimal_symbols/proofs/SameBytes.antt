@@ -39,9 +39,11 @@ texts_same (x ∷ xs) = let h = bytes_same x in let t = texts_same xs in rw (h, 
 pub same_bytes : (a b : List ℕ) → IsSymbolBytes a → IsSymbolBytes b → pointwise nat_eq a b ≡ same_texts (texts_in a) (texts_in b)
 same_bytes a b ha hb =
     elim (cases_Bool (pointwise nat_eq a b)) [
-      | inl t ↦ t ∙ sym (ap (λ (x : List ℕ). pointwise (pointwise nat_eq) (texts_of (texts_in a)) (texts_of (texts_in x))) (sym (bytes_true a b t)) ∙ texts_same (texts_of (texts_in a)))
+      | inl t ↦ t ∙ sym (ap (λ (x : List ℕ). pointwise (pointwise nat_eq) (texts_of (texts_in a)) (texts_of (texts_in x))) (sym (bytes_true a b t))
+          ∙ texts_same (texts_of (texts_in a)))
       | inr f ↦ elim (cases_Bool (pointwise (pointwise nat_eq) (texts_of (texts_in a)) (texts_of (texts_in b)))) [
-        | inl t ↦ absurd (let e : a ≡ b = sym (written a ha.counted ha.whole) ∙ ap packed (texts_true (texts_of (texts_in a)) (texts_of (texts_in b)) t) ∙ written b hb.counted hb.whole in
+        | inl t ↦ absurd (let e : a ≡ b = sym (written a ha.counted ha.whole) ∙ ap packed (texts_true (texts_of (texts_in a)) (texts_of (texts_in b)) t)
+            ∙ written b hb.counted hb.whole in
             let g : pointwise nat_eq a b ≡ true = ap (λ (x : List ℕ). pointwise nat_eq a x) (sym e) ∙ bytes_same a in
             let x : true ≡ false = sym g ∙ f in cc)
         | inr g ↦ f ∙ sym g

@@ -1,5 +1,6 @@
 -- Bytes without damage are those of symbols.
-use Rattle.std.proofs.Common.{◌≡◌, ℕ, zero, suc, ◌+◌, ◌<◌, ◌≤◌, IsTrue, Bool, true, false, Option, Some, None, List, [], ◌∷◌, All, length, take, map, refl, inl, inr, cond, eqb, ltb, arith, ap, sym, subst, ◌∙◌, zero-add}
+use Rattle.std.proofs.Common.{◌≡◌, ℕ, zero, suc, ◌+◌, ◌<◌, ◌≤◌, IsTrue, Bool, true, false, Option, Some, None, List, [], ◌∷◌, All}
+use Rattle.std.proofs.Common.{length, take, map, refl, inl, inr, cond, eqb, ltb, arith, ap, sym, subst, ◌∙◌, zero-add}
 use Rattle.std.specs.Prelude.{sum}
 use Rattle.std.specs.List.{concat}
 use Rattle.std.specs.Str.{is_utf8}
@@ -8,7 +9,8 @@ use Rattle.std.proofs.lemmas.List.Sums.{sum_by-cons, sum-map}
 use Rattle.std.proofs.lemmas.Bool.{eqb-true, ltb-false, cases_Bool, cases_eq, eq-eqb, le-ltb}
 use Rattle.icu_provider.specs.NumberingSystem.{is_numbering_system}
 use Rattle.icu_decimal_symbols.specs.Symbols.{SymbolTexts, texts_of, IsSymbolTexts}
-use Rattle.icu_decimal_symbols.specs.SymbolBytes.{symbol_bytes, texts_in, text_start, text_at, IsSymbolBytes, IsReadAgain, first_damage, first_passing, first_no_text, or_else, wrong_length, wrong_system}
+use Rattle.icu_decimal_symbols.specs.SymbolBytes.{symbol_bytes, texts_in, text_start, text_at, IsSymbolBytes, IsReadAgain, first_damage, first_passing}
+use Rattle.icu_decimal_symbols.specs.SymbolBytes.{first_no_text, or_else, wrong_length, wrong_system}
 use Rattle.icu_decimal_symbols.proofs.SymbolPacking.{texts_from, lengths-texts, texts_packed, length-packed, written, read_back}
 
 -- ---- the first damage
@@ -34,7 +36,8 @@ texts_none : (bytes : List ℕ) (k n : ℕ) → first_no_text bytes k n ≡ None
 texts_none bytes k zero e i low high = absurd (omega arith)
 texts_none bytes k (suc n) e i low high =
     elim (cases_Bool (is_utf8 (text_at bytes k))) [
-      | inr f ↦ absurd (let g : first_no_text bytes k (suc n) ≡ Some (text_start bytes k) = rw f refl in let h : Some (text_start bytes k) ≡ None = sym g ∙ e in cc)
+      | inr f ↦ absurd (let g : first_no_text bytes k (suc n) ≡ Some (text_start bytes k) = rw f refl in let h : Some (text_start bytes k) ≡ None =
+          sym g ∙ e in cc)
       | inl t ↦ let g : first_no_text bytes k (suc n) ≡ first_no_text bytes (k + 1) n = rw t refl in
           elim (cases_eq k i) [
             | inl same ↦ let P : ℕ → Type 0 = λ j. IsTrue (is_utf8 (text_at bytes j)) in subst P same t
@@ -55,9 +58,14 @@ unfolding first_damage
 no_damage bytes e =
     let within : 0 ≤ 255 = omega arith in
     elim (cases_Bool (ltb (length bytes) 7)) [
-      | inl t ↦ absurd (let f : cond (ltb (length bytes) 7) (Some (length bytes)) (or_else (first_passing 0 0 (take 7 bytes)) (or_else (wrong_length bytes) (or_else (first_no_text bytes 0 7) (wrong_system bytes)))) ≡ Some (length bytes) = rw t refl in let g : Some (length bytes) ≡ None = sym f ∙ e in cc)
+      | inl t ↦ absurd (let f : cond (ltb (length bytes) 7) (Some (length bytes))
+          (or_else (first_passing 0 0 (take 7 bytes)) (or_else (wrong_length bytes) (or_else (first_no_text bytes 0 7) (wrong_system bytes))))
+          ≡ Some (length bytes) = rw t refl in let g : Some (length bytes) ≡ None = sym f ∙ e in cc)
       | inr t ↦
-          let f : cond (ltb (length bytes) 7) (Some (length bytes)) (or_else (first_passing 0 0 (take 7 bytes)) (or_else (wrong_length bytes) (or_else (first_no_text bytes 0 7) (wrong_system bytes)))) ≡ or_else (first_passing 0 0 (take 7 bytes)) (or_else (wrong_length bytes) (or_else (first_no_text bytes 0 7) (wrong_system bytes))) = rw t refl in
+          let f : cond (ltb (length bytes) 7) (Some (length bytes))
+          (or_else (first_passing 0 0 (take 7 bytes)) (or_else (wrong_length bytes) (or_else (first_no_text bytes 0 7) (wrong_system bytes))))
+          ≡ or_else (first_passing 0 0 (take 7 bytes)) (or_else (wrong_length bytes) (or_else (first_no_text bytes 0 7) (wrong_system bytes))) =
+          rw t refl in
           let a = or_none _ _ (sym f ∙ e) in
           let b = or_none _ _ a.1 in
           let c = or_none _ _ b.1 in
@@ -94,14 +102,17 @@ are_bytes s h =
       counted = omega (arith, length-packed s);
       short = omega (arith, h.short, ap sum lens, sum-map length (texts_of s));
       whole = length-packed s ∙ ap (λ (ns : List ℕ). 7 + sum ns) (sym lens);
-      texts = λ k lt. rw (← zero-add k) (at_text (symbol_bytes s) 0 7 (subst (λ (ts : List (List ℕ)). All (λ t. IsTrue (is_utf8 t)) ts) (sym texts) h.texts) k lt);
+      texts = λ k lt. rw (← zero-add k) (at_text (symbol_bytes s) 0 7
+          (subst (λ (ts : List (List ℕ)). All (λ t. IsTrue (is_utf8 t)) ts) (sym texts) h.texts) k lt);
       system = let P : SymbolTexts → Type 0 = λ (x : SymbolTexts). IsTrue (is_numbering_system x.numsys) in subst P (sym back) h.system;
     }
   where
-    at_text : (bytes : List ℕ) (k n : ℕ) → All (λ t. IsTrue (is_utf8 t)) (texts_from bytes k n) → (i : ℕ) → i < n → IsTrue (is_utf8 (text_at bytes (k + i)))
+    at_text : (bytes : List ℕ) (k n : ℕ) → All (λ t. IsTrue (is_utf8 t)) (texts_from bytes k n) → (i : ℕ) → i < n →
+        IsTrue (is_utf8 (text_at bytes (k + i)))
     at_text bytes k zero h i lt = absurd (omega arith)
     at_text bytes k (suc n) h zero lt = let e : k + 0 ≡ k = omega arith in rw e (h 0 [] (omega arith))
-    at_text bytes k (suc n) h (suc i) lt = let e : (k + 1) + i ≡ k + suc i = omega arith in rw (← e) (at_text bytes (k + 1) n (λ j d l. h (suc j) d (omega arith)) i (omega arith))
+    at_text bytes k (suc n) h (suc i) lt = let e : (k + 1) + i ≡ k + suc i = omega arith in
+        rw (← e) (at_text bytes (k + 1) n (λ j d l. h (suc j) d (omega arith)) i (omega arith))
 
 -- the symbols in such bytes may be
 pub may_be : (bytes : List ℕ) → IsSymbolBytes bytes → IsSymbolTexts (texts_in bytes)
@@ -113,7 +124,8 @@ may_be bytes h =
       system = h.system;
     }
   where
-    texts_at : (bytes : List ℕ) (k n : ℕ) → ((i : ℕ) → i < k + n → IsTrue (is_utf8 (text_at bytes i))) → All (λ t. IsTrue (is_utf8 t)) (texts_from bytes k n)
+    texts_at : (bytes : List ℕ) (k n : ℕ) → ((i : ℕ) → i < k + n → IsTrue (is_utf8 (text_at bytes i))) →
+        All (λ t. IsTrue (is_utf8 t)) (texts_from bytes k n)
     texts_at bytes k zero h i d lt = absurd (omega arith)
     texts_at bytes k (suc n) h zero d lt = h k (omega arith)
     texts_at bytes k (suc n) h (suc i) d lt = texts_at bytes (k + 1) n (λ j l. h j (omega arith)) i d (omega arith)

@@ -11,14 +11,22 @@ use Rattle.icu_decimal_symbols.proofs.SymbolDamage.{are_bytes, is_only}
 
 -- the seven texts of a builder, behind their references
 abbrev pub texts_lent : DecimalSymbolStrsBuilder → List (Bor (List ℕ))
-texts_lent b = b.minus_sign_prefix ∷ b.minus_sign_suffix ∷ b.plus_sign_prefix ∷ b.plus_sign_suffix ∷ b.decimal_separator ∷ b.grouping_separator ∷ b.numsys ∷ []
+texts_lent b = b.minus_sign_prefix ∷ b.minus_sign_suffix ∷ b.plus_sign_prefix ∷ b.plus_sign_suffix ∷ b.decimal_separator ∷ b.grouping_separator ∷
+    b.numsys ∷ []
 
 -- texts that are short and name a system are symbols
-pub may_be_built : (b : DecimalSymbolStrsBuilder) → total_len (texts_given b) ≤ 255 → IsNumberingSystem b.numsys.now → All (λ t. IsTrue (is_utf8 t.now)) (texts_lent b) → IsSymbolTexts (texts_given b)
-may_be_built b short system texts = record { short = short; texts = All-map (λ t. IsTrue (is_utf8 t)) (λ (t : Bor (List ℕ)). t.now) (texts_lent b) texts; system = system }
+pub may_be_built : (b : DecimalSymbolStrsBuilder) → total_len (texts_given b) ≤ 255 → IsNumberingSystem b.numsys.now →
+    All (λ t. IsTrue (is_utf8 t.now)) (texts_lent b) → IsSymbolTexts (texts_given b)
+may_be_built b short system texts = record {
+  short = short;
+  texts =
+      All-map (λ t. IsTrue (is_utf8 t)) (λ (t : Bor (List ℕ)). t.now) (texts_lent b) texts;
+  system = system;
+}
 
 -- what is built of symbols holds them
-pub built : (items : List ℕ) (b : DecimalSymbolStrsBuilder) → items ≡ packed (texts_of (texts_given b)) → IsSymbolTexts (texts_given b) → IsSymbolBytes items
+pub built : (items : List ℕ) (b : DecimalSymbolStrsBuilder) → items ≡ packed (texts_of (texts_given b)) → IsSymbolTexts (texts_given b) →
+    IsSymbolBytes items
 built items b e h = rw e (are_bytes (texts_given b) h)
 
 -- and it shows their texts

@@ -34,4 +34,5 @@ same_symbols = eq_of_both (on (λ s. s.strings) same_texts) (on (λ s. s.groupin
 pub same_symbols_laws : IsEquivalence same_symbols
 same_symbols_laws =
     and_equiv (on_equiv (λ s. s.strings) same_texts_laws)
-    (on_equiv (λ s. s.grouping_sizes) (and_equiv (on_equiv (λ s. s.primary) nat_eq_equiv) (and_equiv (on_equiv (λ s. s.secondary) nat_eq_equiv) (on_equiv (λ s. s.min_grouping) nat_eq_equiv))))
+    (on_equiv (λ s. s.grouping_sizes) (and_equiv (on_equiv (λ s. s.primary) nat_eq_equiv)
+    (and_equiv (on_equiv (λ s. s.secondary) nat_eq_equiv) (on_equiv (λ s. s.min_grouping) nat_eq_equiv))))

@@ -20,7 +20,8 @@ pub record SymbolTexts : Type 0 where
 
 -- the seven texts in their order
 abbrev pub texts_of : SymbolTexts → List (List ℕ)
-texts_of s = s.minus_sign_prefix ∷ s.minus_sign_suffix ∷ s.plus_sign_prefix ∷ s.plus_sign_suffix ∷ s.decimal_separator ∷ s.grouping_separator ∷ s.numsys ∷ []
+texts_of s = s.minus_sign_prefix ∷ s.minus_sign_suffix ∷ s.plus_sign_prefix ∷ s.plus_sign_suffix ∷ s.decimal_separator ∷ s.grouping_separator ∷
+    s.numsys ∷ []
 
 -- how many bytes the seven texts are together
 abbrev pub total_len : SymbolTexts → ℕ

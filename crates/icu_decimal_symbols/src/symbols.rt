@@ -41,7 +41,8 @@ impl<'data> DecimalSymbolStrsBuilder<'data> {
         ensures accepted { IsOk result → IsSymbolTexts (texts_given self.now) }
         ensures too_large { IsErrOf result TooLarge ↔ (255 < total_len (texts_given self.now)) }
         ensures bad_numbering_system { IsErrOf result BadNumberingSystem
-            ↔ ((total_len (texts_given self.now) ≤ 255) × (¬ IsNumberingSystem (texts_given self.now).numsys)) }
+            ↔ ((total_len (texts_given self.now) ≤ 255)
+            × (¬ IsNumberingSystem (texts_given self.now).numsys)) }
     {
         let texts = [
             self.minus_sign_prefix,

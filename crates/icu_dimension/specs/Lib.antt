@@ -3,4 +3,5 @@ pub mod Money
 pub mod Names
 pub mod Percent
 pub mod PercentLaws
+pub mod PluralFormat
 pub mod Units

@@ -1,13 +1,13 @@
 -- Amounts of money with the name of their currency (UTS 35 Part 3, Currency Formatting, unit patterns).
 use Rattle.std.specs.Prelude.{ℕ, Bool, List, ◌++◌, codes, if◌then◌else◌}
 use Rattle.fixed_decimal.specs.declared.signs.Sign.{Sign}
-use Rattle.icu_base.specs.Elements.{Elements, selected}
+use Rattle.icu_base.specs.Elements.{Elements}
 use Rattle.icu_base.specs.Events.{Event, text_events}
 use Rattle.icu_base.specs.Operands.{Operands}
-use Rattle.icu_base.specs.Rules.{Rule, category_of}
+use Rattle.icu_base.specs.Rules.{Rule}
 use Rattle.icu_decimal_data.specs.declared.decimal_symbols.DecimalSymbols.{DecimalSymbols}
 use Rattle.icu_decimal.specs.Decimal.{signed_events}
-use Rattle.icu_decimal.specs.Shown.{Shown, operands_shown}
+use Rattle.icu_decimal.specs.Shown.{Shown, operands_shown, picked}
 use Rattle.icu_dimension_data.specs.Surrounding.{in_part}
 
 -- a number and a name, which of them comes first, and the texts around them
@@ -17,12 +17,6 @@ pub record NameText : Type 0 where
   pub between : List ℕ
   pub after : List ℕ
   pub name : List ℕ
-
--- a formatter of numbers, plural rules, and what stands around the number for each plural category
-pub record NamesFormat (F : Type 0) : Type 0 where
-  pub formatter : F
-  pub rules : List Rule
-  pub elements : Elements NameText
 
 -- the name, in the part of a currency
 unfoldable pub name_events : List ℕ → List Event
@@ -40,13 +34,9 @@ name_then_number t es = text_events t.before ++ (name_events t.name ++ (text_eve
 abbrev pub with_name : NameText → List Event → List Event
 with_name t es = if t.number_first then number_then_name t es else name_then_number t es
 
--- what operands pick
-abbrev pub name_for : List Rule → Elements NameText → Operands → NameText
-name_for rules elements operands = selected elements operands (category_of rules operands)
-
 -- the name that the operands pick, with the number's events and the sign around them
 abbrev pub names_framed : DecimalSymbols → List Rule → Elements NameText → Sign → Operands → List Event → List Event
-names_framed symbols rules elements sign operands es = with_name (name_for rules elements operands) (signed_events symbols sign es)
+names_framed symbols rules elements sign operands es = with_name (picked rules elements operands) (signed_events symbols sign es)
 
 -- what is written of a number as it is shown
 abbrev pub names_events : DecimalSymbols → List Rule → Elements NameText → Sign → Shown → List Event

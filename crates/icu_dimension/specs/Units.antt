@@ -1,29 +1,19 @@
 -- Numbers with a unit, the sign beside the number (UTS 35 Part 2, Unit Elements: a pattern by the number's plural category).
 use Rattle.std.specs.Prelude.{List}
 use Rattle.fixed_decimal.specs.declared.signs.Sign.{Sign}
-use Rattle.icu_base.specs.Elements.{Elements, selected}
+use Rattle.icu_base.specs.Elements.{Elements}
 use Rattle.icu_base.specs.Events.{Event}
 use Rattle.icu_base.specs.Operands.{Operands}
 use Rattle.icu_base.specs.Patterns.{PatternText, interpolated}
-use Rattle.icu_base.specs.Rules.{Rule, category_of}
+use Rattle.icu_base.specs.Rules.{Rule}
 use Rattle.icu_decimal_data.specs.declared.decimal_symbols.DecimalSymbols.{DecimalSymbols}
 use Rattle.icu_decimal.specs.Decimal.{signed_events}
-use Rattle.icu_decimal.specs.Shown.{Shown, operands_shown}
-
--- a formatter of numbers, plural rules, and the unit's pattern for each plural category
-pub record UnitsFormat (F : Type 0) : Type 0 where
-  pub formatter : F
-  pub rules : List Rule
-  pub elements : Elements PatternText
-
--- the pattern that operands pick
-abbrev pub units_pattern : List Rule → Elements PatternText → Operands → PatternText
-units_pattern rules elements operands = selected elements operands (category_of rules operands)
+use Rattle.icu_decimal.specs.Shown.{Shown, operands_shown, picked}
 
 -- the pattern that the operands pick, with the number's events and the sign around them in its place
 abbrev pub units_framed : DecimalSymbols → List Rule → Elements PatternText → Sign → Operands → List Event → List Event
 units_framed symbols rules elements sign operands es =
-    interpolated (units_pattern rules elements operands) (signed_events symbols sign es)
+    interpolated (picked rules elements operands) (signed_events symbols sign es)
 
 -- what is written of a number as it is shown
 abbrev pub units_events : DecimalSymbols → List Rule → Elements PatternText → Sign → Shown → List Event

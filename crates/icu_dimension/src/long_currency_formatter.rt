@@ -5,7 +5,7 @@ ghost use Rattle.std.specs.String.{string_bytes};
 ghost use Rattle.icu_base.specs.Events.{text_of};
 ghost use Rattle.icu_decimal.specs.Shown.{Shown};
 ghost use Rattle.icu_decimal.specs.WritesSuch.{KeepsLimitSuch, WritesSuch};
-ghost use Rattle.icu_dimension.specs.Names.{names_events, name_for};
+ghost use Rattle.icu_dimension.specs.Names.{names_events};
 
 use crate::frame::Lent;
 use crate::name_pattern::NamePattern;
@@ -26,9 +26,10 @@ pub struct LongCurrencyFormatter<F> {
 }
 
 impl<F> Model for LongCurrencyFormatter<F> {
-    ghost use Rattle.icu_dimension.specs.Names.{NamesFormat};
+    ghost use Rattle.icu_dimension.specs.Names.{NameText};
+    ghost use Rattle.icu_dimension.specs.PluralFormat.{PluralFormat};
 
-    ghost Value = { NamesFormat F };
+    ghost Value = { PluralFormat F NameText };
 
     ghost view = { λ f. record {
       formatter = f.formatter;
@@ -95,17 +96,6 @@ impl<F: AbstractFormatter> LongCurrencyFormatter<F> {
         self.formatter
             .framed_to_string(alloc, &value.absolute, &frame)
     }
-
-    /// What stands around a number. Where there is one alone, its operands aren't asked for.
-    fn pattern_for<N: ShownNumber>(&self, number: &N) -> &NamePattern
-        ensures { result.now ≡ name_for self.now.rules self.now.elements
-            (N.operands number.now) }
-    {
-        match self.elements.sole() {
-            Some(pattern) => pattern,
-            None => self.elements.get(number.plural_operands(), &self.rules),
-        }
-    }
 }
 
 /// A number and its sign with the name of a currency.
@@ -129,6 +119,8 @@ impl<F: AbstractFormatter> Frame for NamesFrame<'_, F> {
         let signed = money
             .formatter
             .format_sign(Lent { value: number }, self.sign);
-        money.pattern_for(number).write_with(&signed, out)
+        number
+            .pick(&money.elements, &money.rules)
+            .write_with(&signed, out)
     }
 }

@@ -5,7 +5,7 @@ ghost use Rattle.std.specs.String.{string_bytes};
 ghost use Rattle.icu_base.specs.Events.{text_of};
 ghost use Rattle.icu_decimal.specs.Shown.{Shown};
 ghost use Rattle.icu_decimal.specs.WritesSuch.{KeepsLimitSuch, WritesSuch};
-ghost use Rattle.icu_dimension.specs.Units.{units_events, units_pattern};
+ghost use Rattle.icu_dimension.specs.Units.{units_events};
 
 use crate::frame::Lent;
 use fixed_decimal::{Decimal, Sign};
@@ -31,9 +31,10 @@ pub struct UnitsFormatter<F> {
 }
 
 impl<F> Model for UnitsFormatter<F> {
-    ghost use Rattle.icu_dimension.specs.Units.{UnitsFormat};
+    ghost use Rattle.icu_base.specs.Patterns.{PatternText};
+    ghost use Rattle.icu_dimension.specs.PluralFormat.{PluralFormat};
 
-    ghost Value = { UnitsFormat F };
+    ghost Value = { PluralFormat F PatternText };
 
     ghost view = { λ f. record {
       formatter = f.formatter;
@@ -104,17 +105,6 @@ impl<F: AbstractFormatter> UnitsFormatter<F> {
         self.formatter
             .framed_to_string(alloc, &value.absolute, &frame)
     }
-
-    /// The pattern that a number picks. Where there is one alone, its operands aren't asked for.
-    fn pattern_for<N: ShownNumber>(&self, number: &N) -> &Pattern<SinglePlaceholder>
-        ensures { result.now ≡ units_pattern self.now.rules self.now.elements
-            (N.operands number.now) }
-    {
-        match self.elements.sole() {
-            Some(pattern) => pattern,
-            None => self.elements.get(number.plural_operands(), &self.rules),
-        }
-    }
 }
 
 /// A number and its sign in the pattern of a unit.
@@ -138,8 +128,8 @@ impl<F: AbstractFormatter> Frame for UnitsFrame<'_, F> {
         let signed = units
             .formatter
             .format_sign(Lent { value: number }, self.sign);
-        units
-            .pattern_for(number)
+        number
+            .pick(&units.elements, &units.rules)
             .interpolate(signed)
             .write_events(out)
     }

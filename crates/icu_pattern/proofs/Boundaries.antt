@@ -1,5 +1,6 @@
 -- Where a text may be cut.
-use Rattle.std.proofs.Common.{◌≡◌, ℕ, Bool, true, false, ◌↔◌, IsTrue, List, length, slice_index, leb, ltb, refl, sym, ap, ◌++◌, append-nil, ◌∙◌, inl, inr}
+use Rattle.std.proofs.Common.{◌≡◌, ℕ, Bool, true, false, ◌↔◌, IsTrue, List, length, slice_index, leb, ltb, refl, sym, ap, ◌++◌, append-nil}
+use Rattle.std.proofs.Common.{◌∙◌, inl, inr}
 use Rattle.std.specs.Str.{IsCharBoundary}
 use Rattle.std.proofs.lemmas.Bool.{cases_Bool, le-leb, lt-leb, lt-ltb, le-ltb, cases_lt}
 use Rattle.icu_pattern.specs.Backends.{IsCharBoundary-tested}
@@ -16,7 +17,8 @@ is_boundary-passed text k h =
           let b : leb (length text) k ≡ false = lt-leb _ _ lt in
           elim (cases_lt (slice_index text k) 128) [
             | inl low ↦ let c : ltb (slice_index text k) 128 ≡ true = lt-ltb _ _ low in rw (a, b, c) refl
-            | inr high ↦ let c : ltb (slice_index text k) 128 ≡ false = le-ltb _ _ high in let d : leb 192 (slice_index text k) ≡ true = le-leb _ _ (h.1 lt high) in rw (a, b, c, d) refl
+            | inr high ↦ let c : ltb (slice_index text k) 128 ≡ false = le-ltb _ _ high in let d : leb 192 (slice_index text k) ≡ true =
+                le-leb _ _ (h.1 lt high) in rw (a, b, c, d) refl
           ]
     ]
 

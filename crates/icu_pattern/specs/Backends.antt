@@ -51,4 +51,5 @@ place_alone-without p h s = absurd (go p.place h s)
 
 -- the equality of patterns is an equivalence
 pub same_pattern_equiv : IsEquivalence same_pattern
-same_pattern_equiv = and_equiv (on_equiv (λ (p : PatternText). p.place) (options_equiv nat_eq_equiv)) (on_equiv (λ (p : PatternText). p.literal) nat_list_eq_equiv)
+same_pattern_equiv = and_equiv (on_equiv (λ (p : PatternText). p.place) (options_equiv nat_eq_equiv))
+    (on_equiv (λ (p : PatternText). p.literal) nat_list_eq_equiv)

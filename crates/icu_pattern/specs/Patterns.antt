@@ -1,5 +1,6 @@
 -- Patterns: texts with at most one place for a value.
-use Rattle.std.specs.Prelude.{Bool, true, ◌&&◌, ◌||◌, ℕ, List, [], ◌++◌, Option, Some, None, IfSome, is_none, nat_eq, nat_le, nat_lt, length, take, drop, slice_index}
+use Rattle.std.specs.Prelude.{Bool, true, ◌&&◌, ◌||◌, ℕ, List, [], ◌++◌, Option, Some, None, IfSome, is_none, nat_eq, nat_le, nat_lt, length}
+use Rattle.std.specs.Prelude.{take, drop, slice_index}
 use Rattle.std.specs.Cmp.Lexicographic.{pointwise}
 use Rattle.std.specs.Option.{option_eq, option_map_or}
 use Rattle.std.specs.Ordering.{eq_of_both, on}

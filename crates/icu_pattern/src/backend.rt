@@ -19,7 +19,8 @@ pub trait PatternBackend: Eq {
     ghost fits: { (p : PatternText) → IsTrue (accepted p) → PlaceFits p };
 
     /// The place alone, where any pattern with a place is accepted.
-    ghost opens: { (p : PatternText) → IsTrue (accepted p) → IsSome p.place → IsTrue (accepted place_alone) };
+    ghost opens: { (p : PatternText) → IsTrue (accepted p) → IsSome p.place →
+        IsTrue (accepted place_alone) };
 }
 
 /// Patterns with one place or none (ICU4X, `SinglePlaceholder`).

@@ -1,5 +1,6 @@
 -- The first bad rule is the one that is sought, and rules without one are read.
-use Rattle.std.proofs.Common.{◌≡◌, ◌↔◌, ℕ, zero, suc, ◌+◌, ◌<◌, List, [], ◌∷◌, ◌++◌, map, take, drop, length, get_or, Bor, Option, Some, None, Result, Ok, Err, IsOkUnless, IsErrOf, add-one, refl, sym, ap, subst, ◌∙◌, arith}
+use Rattle.std.proofs.Common.{◌≡◌, ◌↔◌, ℕ, zero, suc, ◌+◌, ◌<◌, List, [], ◌∷◌, ◌++◌, map, take, drop, length, get_or, Bor}
+use Rattle.std.proofs.Common.{Option, Some, None, Result, Ok, Err, IsOkUnless, IsErrOf, add-one, refl, sym, ap, subst, ◌∙◌, arith}
 use Rattle.std.specs.List.{AllZip}
 use Rattle.std.proofs.Math.Seq.{drop-cons, take-suc}
 use Rattle.std.proofs.lemmas.List.{map-append}
@@ -74,7 +75,8 @@ found_is_bad gs r b h =
 bad_at : (k : ℕ) (gs : List GivenRule) (j b : ℕ) → IsFirstBadRule gs j b → bad_rule_from k gs ≡ Some (k + j, b)
 bad_at k [] j b h = absurd (none_is h.found)
 bad_at k (g ∷ gs) zero b h =
-    let here : IsTextFault g.text b = (let same : g ≡ h.bad = some_is h.found in let P : GivenRule → Type 0 = λ x. IsTextFault x.text b in subst P (sym same) h.fault) in
+    let here : IsTextFault g.text b = (let same : g ≡ h.bad = some_is h.found in let P : GivenRule → Type 0 = λ x. IsTextFault x.text b in
+    subst P (sym same) h.fault) in
     let place : k ≡ k + zero = omega arith in
     bad_is k g gs ∙ ap (rest_of k gs) (fault_is_found g.text b here) ∙ ap (λ n. some (n, b)) place
 bad_at k (g ∷ gs) (suc j) b h =
@@ -106,7 +108,8 @@ byte_in (BadRule r b) = b
 byte_in OutOfMemory = 0
 
 -- a refusal for a rule, exactly
-pub refused_for_rule : {T : Type 0} (gs : List GivenRule) (x y : ℕ) → bad_rule_from 0 gs ≡ Some (x, y) → (rule byte : ℕ) → IsErrOf (wrong {T = T} (bad_rule x y)) (bad_rule rule byte) ↔ IsFirstBadRule gs rule byte
+pub refused_for_rule : {T : Type 0} (gs : List GivenRule) (x y : ℕ) → bad_rule_from 0 gs ≡ Some (x, y) → (rule byte : ℕ) →
+    IsErrOf (wrong {T = T} (bad_rule x y)) (bad_rule rule byte) ↔ IsFirstBadRule gs rule byte
 refused_for_rule {T} gs x y h rule byte = (there, back)
   where
     err_is : (e f : RulesError) → wrong {T = T} e ≡ wrong f → e ≡ f
@@ -123,7 +126,8 @@ refused_for_rule {T} gs x y h rule byte = (there, back)
         ap (λ n. wrong (bad_rule n y)) (ap first same) ∙ ap (λ n. wrong (bad_rule rule n)) (ap second same)
 
 -- where no rule is bad, no answer is a refusal for a rule
-pub not_refused : {T : Type 0} (gs : List GivenRule) (r : Result T RulesError) → bad_rule_from 0 gs ≡ None → ((rule byte : ℕ) → r ≡ Err (BadRule rule byte) → ⊥) → (rule byte : ℕ) → IsErrOf r (BadRule rule byte) ↔ IsFirstBadRule gs rule byte
+pub not_refused : {T : Type 0} (gs : List GivenRule) (r : Result T RulesError) → bad_rule_from 0 gs ≡ None →
+    ((rule byte : ℕ) → r ≡ Err (BadRule rule byte) → ⊥) → (rule byte : ℕ) → IsErrOf r (BadRule rule byte) ↔ IsFirstBadRule gs rule byte
 not_refused gs r h k rule byte = (λ e. absurd (k rule byte e), λ b. absurd (none_is (sym h ∙ bad_is_found gs rule byte b)))
 
 -- want of memory is no refusal for a rule
@@ -131,29 +135,34 @@ pub memory_is_no_rule : {T : Type 0} (r : Result T RulesError) → IsOkUnless r 
 memory_is_no_rule (Ok x) h rule byte e = absurd cc
 memory_is_no_rule (Err f) h rule byte e = absurd cc
 
-all_push : (gs : List GivenRule) (rs : List Rule) (g : GivenRule) (r : Rule) → AllZip IsReadFrom gs rs → IsReadFrom g r → AllZip IsReadFrom (gs ++ g ∷ []) (rs ++ r ∷ [])
+all_push : (gs : List GivenRule) (rs : List Rule) (g : GivenRule) (r : Rule) → AllZip IsReadFrom gs rs → IsReadFrom g r →
+    AllZip IsReadFrom (gs ++ g ∷ []) (rs ++ r ∷ [])
 all_push [] [] g r h k = (k, tt)
 all_push [] (y ∷ ys) g r h k = absurd h
 all_push (x ∷ xs) [] g r h k = absurd h
 all_push (x ∷ xs) (y ∷ ys) g r h k = (h.0, all_push xs ys g r h.1 k)
 
 -- one rule more is read
-pub read_more : (xs : List (PluralCategory × Bor (List ℕ))) (i : ℕ) (d : PluralCategory × Bor (List ℕ)) (ys zs : List OwnedRule) (c : OwnedCondition) → i < length xs
+pub read_more : (xs : List (PluralCategory × Bor (List ℕ))) (i : ℕ) (d : PluralCategory × Bor (List ℕ)) (ys zs : List OwnedRule)
+    (c : OwnedCondition) → i < length xs
     → AllZip IsReadFrom (given_rules (take i xs)) (map rule_of ys) → condition_of (get_or xs i d).1.now ≡ Ok (condition_in c)
     → zs ≡ ys ++ record { category = (get_or xs i d).0; condition = c } ∷ [] → AllZip IsReadFrom (given_rules (take (i + 1) xs)) (map rule_of zs)
 read_more xs i d ys zs c lt h k e =
     let x = get_or xs i d in
     let r : OwnedRule = record { category = x.0; condition = c } in
-    let given_is : given_rules (take (i + 1) xs) ≡ given_rules (take i xs) ++ given_rule x ∷ [] = ap given_rules (rw add-one (take-suc xs i d lt)) ∙ map-append given_rule (take i xs) (x ∷ []) in
+    let given_is : given_rules (take (i + 1) xs) ≡ given_rules (take i xs) ++ given_rule x ∷ [] =
+    ap given_rules (rw add-one (take-suc xs i d lt)) ∙ map-append given_rule (take i xs) (x ∷ []) in
     let rules_are : map rule_of zs ≡ map rule_of ys ++ rule_of r ∷ [] = ap (map rule_of) e ∙ map-append rule_of ys (r ∷ []) in
     let here : IsReadFrom (given_rule x) (rule_of r) = record { category = refl; condition = read_is_text x.1.now (condition_in c) k } in
     rw (given_is, rules_are) (all_push (given_rules (take i xs)) (map rule_of ys) (given_rule x) (rule_of r) h here)
 
 -- the rules after one without a fault have none either
-pub none_more : (xs : List (PluralCategory × Bor (List ℕ))) (i : ℕ) (d : PluralCategory × Bor (List ℕ)) (c : Condition) → i < length xs → bad_rule_from i (given_rules (drop i xs)) ≡ None
+pub none_more : (xs : List (PluralCategory × Bor (List ℕ))) (i : ℕ) (d : PluralCategory × Bor (List ℕ)) (c : Condition) → i < length xs →
+    bad_rule_from i (given_rules (drop i xs)) ≡ None
     → condition_of (get_or xs i d).1.now ≡ Ok c → bad_rule_from (i + 1) (given_rules (drop (i + 1) xs)) ≡ None
 none_more xs i d c lt h k =
     let x = get_or xs i d in
     let fine : fault_byte (condition_of (given_rule x).text) ≡ none = ap fault_byte k in
     let cut : drop i xs ≡ x ∷ drop (suc i) xs = drop-cons xs i d lt in
-    rw add-one (sym (ap (rest_of i (given_rules (drop (suc i) xs))) fine) ∙ sym (bad_is i (given_rule x) (given_rules (drop (suc i) xs))) ∙ sym (ap (λ l. bad_rule_from i (given_rules l)) cut) ∙ h)
+    rw add-one (sym (ap (rest_of i (given_rules (drop (suc i) xs))) fine) ∙ sym (bad_is i (given_rule x) (given_rules (drop (suc i) xs)))
+    ∙ sym (ap (λ l. bad_rule_from i (given_rules l)) cut) ∙ h)

@@ -1,5 +1,7 @@
 -- Moving the point multiplies by a power of ten.
-use Rattle.std.proofs.Common.{◌≡◌, ℕ, zero, suc, ◌+◌, ◌-◌, ◌*◌, ◌/◌, ◌^◌, ◌<◌, ◌≤◌, List, [], ◌∷◌, ◌++◌, length, take, drop, replicate, refl, sym, ◌∙◌, ap, arith, false, IsTrue, nat_le, ◌%◌, append-nil, zero-add, append_assoc, length-drop, ⊎_elim}
+use Rattle.std.proofs.Common.{◌≡◌, ℕ, zero, suc, ◌+◌, ◌-◌, ◌*◌, ◌/◌, ◌^◌, ◌<◌, ◌≤◌, List, [], ◌∷◌, ◌++◌, length}
+use Rattle.std.proofs.Common.{take, drop, replicate, refl, sym, ◌∙◌, ap, arith, false, IsTrue, nat_le, ◌%◌, append-nil, zero-add, append_assoc}
+use Rattle.std.proofs.Common.{length-drop, ⊎_elim}
 use Rattle.std.proofs.Math.Nat.{add-mul, mul_assoc, mul-lt-mul_of_pos_left}
 use Rattle.std.proofs.lemmas.Nat.{pow-add, div-mul-add}
 use Rattle.std.proofs.lemmas.Grind.{pow_more}
@@ -67,14 +69,16 @@ product_split a r m q z u e =
     let left : a * m * q ≡ a * z * u = mul_assoc a m q ∙ ap (λ x. a * x) e ∙ sym (mul_assoc a z u) in
     add-mul (a * m) r q ∙ ap (λ x. x + r * q) left
 
-moved_exponent : (scale length_fraction length_rest places top : ℕ) → length_fraction ≡ scale → scale ≤ top → length_rest ≡ length_fraction - places → length_rest + (top - scale + places) ≡ (places - length_fraction) + (top + 0)
+moved_exponent : (scale length_fraction length_rest places top : ℕ) → length_fraction ≡ scale → scale ≤ top →
+    length_rest ≡ length_fraction - places → length_rest + (top - scale + places) ≡ (places - length_fraction) + (top + 0)
 moved_exponent scale length_fraction length_rest places top e h k = omega arith
 
 length-fraction : (d : Unsigned) → IsUnsigned d → length (fraction d) ≡ d.scale
 length-fraction d h = omega (arith, length-drop (integer_count d) d.digits, h.integer_some)
 
 -- the digits behind the point write less than one
-rest_small : (places : ℕ) (xs : List ℕ) (q u : ℕ) → AreDigits xs → 0 < q → 0 < u → 10 ^ length (drop places xs) * q ≡ 10 ^ (places - length xs) * u → number_of (drop places xs) * q < u
+rest_small : (places : ℕ) (xs : List ℕ) (q u : ℕ) → AreDigits xs → 0 < q → 0 < u →
+    10 ^ length (drop places xs) * q ≡ 10 ^ (places - length xs) * u → number_of (drop places xs) * q < u
 rest_small places xs q u digits some one e = ⊎_elim past within (cases_lt (length xs) places)
   where
     past : length xs < places → number_of (drop places xs) * q < u
@@ -84,7 +88,8 @@ rest_small places xs q u digits some one e = ⊎_elim past within (cases_lt (len
 
     within : places ≤ length xs → number_of (drop places xs) * q < u
     within h =
-        let below : number_of (drop places xs) < 10 ^ length (drop places xs) = number_lt 10 (drop places xs) (recursion_from_All _ _ (All-drop (λ d. d < 10) places xs digits)) in
+        let below : number_of (drop places xs) < 10 ^ length (drop places xs) =
+        number_lt 10 (drop places xs) (recursion_from_All _ _ (All-drop (λ d. d < 10) places xs digits)) in
         let none : places - length xs ≡ 0 = omega arith in
         let no_zeros : 10 ^ (places - length xs) ≡ 1 = ap (λ n. 10 ^ n) none in
         let more = mul-lt-mul_of_pos_left below some in
@@ -98,7 +103,8 @@ moving_the_point_multiplies d places h =
     let rest : List ℕ = drop places (fraction d) in
     let zeros : ℕ = places - length (fraction d) in
     let split : d.digits ≡ before ++ rest =
-    sym (append_assoc (integer d) (take places (fraction d)) rest ∙ ap (λ l. integer d ++ l) (take-append-drop places (fraction d)) ∙ take-append-drop (integer_count d) d.digits) in
+    sym (append_assoc (integer d) (take places (fraction d)) rest ∙ ap (λ l. integer d ++ l) (take-append-drop places (fraction d))
+    ∙ take-append-drop (integer_count d) d.digits) in
     let digits : number_of d.digits ≡ number_of before * 10 ^ length rest + number_of rest = ap number_of split ∙ number_of-append before rest in
     let size_of_zeros : length (replicate {A = ℕ} zeros 0) ≡ zeros = length-replicate {A = ℕ} zeros 0 in
     let whole : number_of (integer_after_moving places d) ≡ number_of before * 10 ^ zeros =
@@ -110,8 +116,10 @@ moving_the_point_multiplies d places h =
     let product : size d * 10 ^ places ≡ (number_of before * 10 ^ length rest + number_of rest) * 10 ^ (finest - d.scale + places) =
     rw (weighed_is (finest - d.scale) d.digits, digits, pow-add 10 (finest - d.scale) places) (omega arith) in
     let small : number_of rest * 10 ^ (finest - d.scale + places) < 10 ^ (finest + 0) =
-    rest_small places (fraction d) _ _ (All-drop (λ x. x < 10) (integer_count d) d.digits h.below_ten) (ten_pos (finest - d.scale + places)) (ten_pos (finest + 0)) units in
-    whole ∙ sym (ap (λ n. n / 10 ^ (finest + 0)) (product ∙ product_split (number_of before) (number_of rest) _ _ _ _ units) ∙ div-mul-add (number_of before * 10 ^ zeros) (10 ^ (finest + 0)) _ small)
+    rest_small places (fraction d) _ _ (All-drop (λ x. x < 10) (integer_count d) d.digits h.below_ten) (ten_pos (finest - d.scale + places))
+    (ten_pos (finest + 0)) units in
+    whole ∙ sym (ap (λ n. n / 10 ^ (finest + 0)) (product ∙ product_split (number_of before) (number_of rest) _ _ _ _ units)
+    ∙ div-mul-add (number_of before * 10 ^ zeros) (10 ^ (finest + 0)) _ small)
 
 -- no digit of the fraction was seen, so none is written
 nothing_seen : (xs : List ℕ) → length (take 18 xs) ≡ 0 → xs ≡ []

@@ -11,7 +11,8 @@ module _ {T : Type 0} (e : Elements T) where
   held : ℕ → Option T
   held slot = slice_index_or (slots e) slot None
 
-  one_of : (slot : ℕ) (o : Option T) (rest : ℕ) (value : T) → slice_index_or (slots e) slot None ≡ o → slice_index_or (slots e) rest None ≡ Some value
+  one_of : (slot : ℕ) (o : Option T) (rest : ℕ) (value : T) → slice_index_or (slots e) slot None ≡ o →
+      slice_index_or (slots e) rest None ≡ Some value
       → slice_index_or (slots e) (unwrap_or (if is_some o then Some slot else None) rest) None ≡ Some (unwrap_or o value)
   one_of slot None rest value h r = r
   one_of slot (Some x) rest value h r = h
@@ -31,7 +32,8 @@ module _ {T : Type 0} (e : Elements T) where
   selected_slot_holds o category = go (is_exactly 0 o) (is_exactly 1 o)
     where
       go : (zero one : Bool)
-          → slice_index_or (slots e) (unwrap_or (if zero then number_at (presence e) 0 else if one then number_at (presence e) 1 else None) (unwrap_or (category_value (numbered (presence e)) category) 7)) None
+          → slice_index_or (slots e) (unwrap_or (if zero then number_at (presence e) 0 else if one then number_at (presence e) 1 else None)
+          (unwrap_or (category_value (numbered (presence e)) category) 7)) None
           ≡ Some (unwrap_or (if zero then e.explicit_zero else if one then e.explicit_one else None) (unwrap_or (category_value e category) e.other))
       go true one = one_of 0 e.explicit_zero _ _ refl (by_category category)
       go false true = one_of 1 e.explicit_one _ _ refl (by_category category)
@@ -53,7 +55,8 @@ selected_slot_small present o category = go (is_exactly 0 o) (is_exactly 1 o)
     by_category Many = small_or (slice_index_or present 6 false) 6 7 (omega arith) (omega arith)
     by_category Other = omega arith
 
-    go : (zero one : Bool) → unwrap_or (if zero then number_at present 0 else if one then number_at present 1 else None) (unwrap_or (category_value (numbered present) category) 7) < 8
+    go : (zero one : Bool) → unwrap_or (if zero then number_at present 0 else if one then number_at present 1 else None)
+        (unwrap_or (category_value (numbered present) category) 7) < 8
     go true one = small_or (slice_index_or present 0 false) 0 _ (omega arith) (by_category category)
     go false true = small_or (slice_index_or present 1 false) 1 _ (omega arith) (by_category category)
     go false false = by_category category

@@ -1,5 +1,6 @@
 -- The values of plural elements, and which of them a number selects.
-use Rattle.std.specs.Prelude.{◌≡◌, ℕ, Bool, false, not, ◌&&◌, ◌==◌, is_some, is_none, if◌then◌else◌, List, [], ◌∷◌, map, take, slice_index_or, Option, Some, None, unwrap_or}
+use Rattle.std.specs.Prelude.{◌≡◌, ℕ, Bool, false, not, ◌&&◌, ◌==◌, is_some, is_none, if◌then◌else◌, List, [], ◌∷◌, map, take}
+use Rattle.std.specs.Prelude.{slice_index_or, Option, Some, None, unwrap_or}
 use Rattle.std.specs.List.{list_all}
 use Rattle.std.specs.Option.{option_eq}
 use Rattle.icu_plurals.specs.Operands.{Operands}
@@ -36,7 +37,9 @@ without_explicit_one e = record e { explicit_one = None }
 -- whether all eight slots are equal
 abbrev pub same_elements : {T : Type 0} → (T → T → Bool) → Elements T → Elements T → Bool
 same_elements eq a b =
-    option_eq eq a.explicit_zero b.explicit_zero && (option_eq eq a.explicit_one b.explicit_one && (option_eq eq a.zero b.zero && (option_eq eq a.one b.one && (option_eq eq a.two b.two && (option_eq eq a.few b.few && (option_eq eq a.many b.many && eq a.other b.other))))))
+    option_eq eq a.explicit_zero b.explicit_zero && (option_eq eq a.explicit_one b.explicit_one &&
+    (option_eq eq a.zero b.zero && (option_eq eq a.one b.one &&
+    (option_eq eq a.two b.two && (option_eq eq a.few b.few && (option_eq eq a.many b.many && eq a.other b.other))))))
 
 -- whether the number is this whole one, written without fraction digits or an exponent
 abbrev pub is_exactly : ℕ → Operands → Bool
@@ -87,4 +90,5 @@ selected_slot present o category = selected (numbered present) o category
 
 -- of elements whose values are texts, the one that is selected stands in the slot that is
 abbrev pub SelectedSlotHoldsTheSelected : Type 0
-SelectedSlotHoldsTheSelected = (e : Elements (List ℕ)) (o : Operands) (category : PluralCategory) → slice_index_or (slots e) (selected_slot (presence e) o category) None ≡ Some (selected e o category)
+SelectedSlotHoldsTheSelected = (e : Elements (List ℕ)) (o : Operands) (category : PluralCategory) →
+    slice_index_or (slots e) (selected_slot (presence e) o category) None ≡ Some (selected e o category)

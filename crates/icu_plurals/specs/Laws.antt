@@ -8,7 +8,8 @@ use Rattle.icu_plurals.specs.Operands.{number_of, integer_after_moving, operands
 -- once the point is moved some places to the right, the digits before it write the integer part of the number times
 -- ten to the places
 abbrev pub MovingThePointMultiplies : Type 0
-MovingThePointMultiplies = (d : Unsigned) (places : ℕ) → IsUnsigned d → number_of (integer_after_moving places d) ≡ size d * 10 ^ places / ten_to (pos 0)
+MovingThePointMultiplies = (d : Unsigned) (places : ℕ) → IsUnsigned d →
+    number_of (integer_after_moving places d) ≡ size d * 10 ^ places / ten_to (pos 0)
 
 -- a number that is exactly n by its operands, written without fraction digits or an exponent, is n
 abbrev pub ExactlyIsTheNumber : Type 0

@@ -1,5 +1,6 @@
 -- Short texts in arrays of bytes.
-use Rattle.std.proofs.Common.{◌≡◌, ℕ, ◌-◌, ◌<◌, ◌≤◌, Bool, List, ◌++◌, true, length, take, drop, replicate, refl, sym, ap, ◌∙◌, arith}
+use Rattle.std.proofs.Common.{◌≡◌, ℕ, ◌-◌, ◌<◌, ◌≤◌, Bool, List, ◌++◌, true, length, take, drop, replicate, refl, sym, ap, ◌∙◌}
+use Rattle.std.proofs.Common.{arith}
 use Rattle.std.specs.Prelude.{IsUtf8}
 use Rattle.std.specs.List.{list_all}
 use Rattle.std.proofs.lemmas.Bool.Decides.{nat_tests}
@@ -45,7 +46,8 @@ pub IsUtf8-locale : (text : List ℕ) → IsLocale text → IsUtf8 text
 IsUtf8-locale text h = IsUtf8-passed is_alphanumeric_or_hyphen text (λ b e. grind (arith, nat_tests)) (letters-of_locale text h)
 
 -- a text and zeros after it
-pub IsPadded-of : (IsText : List ℕ → Type 0) (size : ℕ) (text : List ℕ) → length text ≤ size → IsText text → IsPadded IsText size (text ++ drop (length text) (replicate size 0)) (length text)
+pub IsPadded-of : (IsText : List ℕ → Type 0) (size : ℕ) (text : List ℕ) → length text ≤ size → IsText text →
+    IsPadded IsText size (text ++ drop (length text) (replicate size 0)) (length text)
 IsPadded-of IsText size text fits h =
     let more : ℕ = size - length text in
     let zeros : List ℕ = replicate size 0 in

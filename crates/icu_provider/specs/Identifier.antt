@@ -22,4 +22,5 @@ same_identifier = eq_of_both (on (λ (i : Identifier). i.system) (option_eq (poi
 
 -- this is an equivalence
 pub same_identifier_equiv : IsEquivalence same_identifier
-same_identifier_equiv = and_equiv (on_equiv (λ (i : Identifier). i.system) (options_equiv nat_list_eq_equiv)) (on_equiv (λ (i : Identifier). i.locale) nat_list_eq_equiv)
+same_identifier_equiv = and_equiv (on_equiv (λ (i : Identifier). i.system) (options_equiv nat_list_eq_equiv))
+    (on_equiv (λ (i : Identifier). i.locale) nat_list_eq_equiv)

@@ -11,9 +11,11 @@ pub record IsPadded (IsText : List ℕ → Type 0) (size : ℕ) (bytes : List �
   pub text : IsText (take len bytes)
 
 -- a text is as long as it says
-pub length-text : (IsText : List ℕ → Type 0) (size : ℕ) (bytes : List ℕ) (len : ℕ) → IsPadded IsText size bytes len → length (take len bytes) ≡ len
+pub length-text : (IsText : List ℕ → Type 0) (size : ℕ) (bytes : List ℕ) (len : ℕ) → IsPadded IsText size bytes len →
+    length (take len bytes) ≡ len
 length-text IsText size bytes len h = length-take-le len bytes (omega (arith, h.long))
 
 -- the bytes are the text and zeros
-pub padded-text : (IsText : List ℕ → Type 0) (size : ℕ) (bytes : List ℕ) (len : ℕ) → IsPadded IsText size bytes len → take len bytes ++ replicate (size - length (take len bytes)) 0 ≡ bytes
+pub padded-text : (IsText : List ℕ → Type 0) (size : ℕ) (bytes : List ℕ) (len : ℕ) → IsPadded IsText size bytes len →
+    take len bytes ++ replicate (size - length (take len bytes)) 0 ≡ bytes
 padded-text IsText size bytes len h = rw (length-text IsText size bytes len h) (sym h.padded)

@@ -1,6 +1,7 @@
 //! Documents that are large, up to what a table or symbols may hold, and one letter past it.
 
-use crate::documents::{Asked, answer, entries, refusal};
+use crate::answers::{Asked, answer};
+use crate::documents::{entries, refusal};
 use icu_tables::{EntryFault, Key, TableError};
 use std::alloc::{AllocError, Global};
 use std::str;

@@ -3,7 +3,7 @@
 ghost use Rattle.std.specs.Prelude.{◌≡◌, ◌↔◌, IsErrOf};
 ghost use Rattle.icu_decimal.specs.Decimal.{signed_events};
 ghost use Rattle.icu_decimal.specs.WritesSuch.{KeepsLimitSuch, WritesSuch};
-ghost use Rattle.icu_unit.specs.Unit.{unit_events, unit_pattern};
+ghost use Rattle.icu_unit.specs.Unit.{unit_events};
 
 use fixed_decimal::{Decimal, Sign};
 use icu_base::{
@@ -85,17 +85,6 @@ impl<F: AbstractFormatter> UnitFormatter<F> {
         self.formatter
             .write_framed(alloc, &value.absolute, &frame, sink)
     }
-
-    /// The pattern that a number picks. Where there is one alone, its operands aren't asked for.
-    fn pattern_for<N: ShownNumber>(&self, number: &N) -> &Pattern<SinglePlaceholder>
-        ensures { result.now ≡ unit_pattern self.now.rules self.now.elements
-            (N.operands number.now) }
-    {
-        match self.elements.sole() {
-            Some(pattern) => pattern,
-            None => self.elements.get(number.plural_operands(), &self.rules),
-        }
-    }
 }
 
 /// The unit around a number, and the affixes of a sign around both.
@@ -108,7 +97,8 @@ struct UnitFrame<'a, F> {
 impl<F: AbstractFormatter> Frame for UnitFrame<'_, F> {
     ghost use Rattle.icu_unit.specs.Unit.{unit_framed};
 
-    ghost framed = { λ f. unit_framed (F.symbols f.unit.now.formatter) f.unit.now.rules f.unit.now.elements f.sign };
+    ghost framed = { λ f. unit_framed (F.symbols f.unit.now.formatter) f.unit.now.rules
+        f.unit.now.elements f.sign };
 
     fn write_framed<N: ShownNumber, K: EventWriter>(
         &self,
@@ -116,7 +106,8 @@ impl<F: AbstractFormatter> Frame for UnitFrame<'_, F> {
         out: &mut K,
     ) -> Result<(), WriteFault> {
         let unit = self.unit;
-        let text = unit.pattern_for(number).interpolate(Characters::of(number));
+        let pattern = number.pick(&unit.elements, &unit.rules);
+        let text = pattern.interpolate(Characters::of(number));
         write_signed(&unit.formatter, text, self.sign, out)
     }
 }

@@ -25,7 +25,7 @@ const AMOUNTS: [(Unit, &str, &str); 6] = [
 
 #[test]
 fn amounts_are_written_with_the_name_of_the_currency(rt: HostRuntime) {
-    for (unit, number, text) in AMOUNTS {
+    for &(unit, number, text) in &AMOUNTS {
         assert!(rt;
             is_written(rt.alloc(), unit, number, None, (Ok(()), text, &[])),
             "{text}"

@@ -81,7 +81,7 @@ const LONG: [(Unit, u8, usize, usize, &str); 6] = [
 
 #[test]
 fn long_numbers_are_written_whole(rt: HostRuntime) {
-    for (unit, digit, count, shown, behind) in LONG {
+    for &(unit, digit, count, shown, behind) in &LONG {
         assert!(rt;
             writes_grouped(rt.alloc(), unit, (digit, count), (shown, behind)),
             "{count} digits"

@@ -119,7 +119,7 @@ const WRITTEN: [(Style, &str, &str); 4] = [
 
 #[test]
 fn compact_formatters_are_made_of_large_tables(rt: HostRuntime) {
-    for (style, number, want) in WRITTEN {
+    for &(style, number, want) in &WRITTEN {
         assert!(rt; writes(rt.alloc(), style, number, want), "{want}");
     }
 }

@@ -174,7 +174,7 @@ const CARRIES: [Carry; 10] = [
 
 #[test]
 fn a_carry_takes_what_stands_at_the_magnitude_reached(rt: HostRuntime) {
-    for (asked, number, shown, given, want) in CARRIES {
+    for &(asked, number, shown, given, want) in &CARRIES {
         assert!(rt; writes(rt.alloc(), asked, number, want), "{number}");
         assert!(rt; writes(rt.alloc(), asked, shown, want), "{shown}");
         assert!(rt; gives(rt.alloc(), asked, given, (true, want)), "{want}");
@@ -220,7 +220,7 @@ const GIVEN: [(Asked, &str, u8, bool, &str); 9] = [
 
 #[test]
 fn a_significand_needs_the_exponent_of_its_magnitude(rt: HostRuntime) {
-    for (asked, significand, exponent, is_accepted, want) in GIVEN {
+    for &(asked, significand, exponent, is_accepted, want) in &GIVEN {
         assert!(rt;
             gives(
                 rt.alloc(),
@@ -261,7 +261,7 @@ const EXPONENTS: [(Asked, i16, u8); 12] = [
 
 #[test]
 fn a_magnitude_has_the_exponent_of_its_entry(rt: HostRuntime) {
-    for (asked, magnitude, exponent) in EXPONENTS {
+    for &(asked, magnitude, exponent) in &EXPONENTS {
         assert!(rt;
             exponent_at(rt.alloc(), asked, magnitude) == Some(exponent),
             "{magnitude}"

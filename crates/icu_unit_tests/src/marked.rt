@@ -92,7 +92,7 @@ const PLAIN: [(&str, Shown, Marked); 6] = [
 
 #[test]
 fn plain_numbers_have_their_parts(rt: HostRuntime) {
-    for (locale, shown, want) in PLAIN {
+    for &(locale, shown, want) in &PLAIN {
         assert!(rt; marks_plain(rt.alloc(), locale, shown, want), "{locale}");
     }
 }
@@ -143,7 +143,7 @@ const COMPACT: [(Asked, Shown, Marked); 5] = [
 
 #[test]
 fn compact_numbers_have_the_part_of_their_sign(rt: HostRuntime) {
-    for (asked, shown, want) in COMPACT {
+    for &(asked, shown, want) in &COMPACT {
         assert!(rt; marks(rt.alloc(), asked, shown, want), "{}", want.0);
     }
 }

@@ -67,7 +67,7 @@ const WHOLE: [(Unit, &str, usize, &str, &[(usize, usize, Part)]); 2] = [
 
 #[test]
 fn a_sink_with_just_enough_room_takes_all(rt: HostRuntime) {
-    for (unit, number, limit, text, parts) in WHOLE {
+    for &(unit, number, limit, text, parts) in &WHOLE {
         assert!(rt;
             is_written(rt.alloc(), unit, number, Some(limit), (Ok(()), text, parts)),
             "{text}"

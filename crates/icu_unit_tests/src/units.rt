@@ -40,7 +40,7 @@ const WRITTEN: [(Unit, &str, &str, &[(usize, usize, Part)]); 10] = [
 
 #[test]
 fn numbers_are_written_with_a_unit(rt: HostRuntime) {
-    for (unit, number, text, parts) in WRITTEN {
+    for &(unit, number, text, parts) in &WRITTEN {
         assert!(rt;
             is_written(rt.alloc(), unit, number, None, (Ok(()), text, parts)),
             "{text}"

@@ -1,5 +1,6 @@
 -- Numbers of at most eighteen digits.
-use Rattle.std.proofs.Common.{◌≡◌, ℕ, suc, ◌+◌, ◌*◌, ◌-◌, ◌^◌, ◌<◌, ◌≤◌, true, List, [], ◌∷◌, length, drop, get_or, IsTrue, sym, ap, ◌∙◌, arith}
+use Rattle.std.proofs.Common.{◌≡◌, ℕ, suc, ◌+◌, ◌*◌, ◌-◌, ◌^◌, ◌<◌, ◌≤◌, true, List, [], ◌∷◌, length, drop, get_or}
+use Rattle.std.proofs.Common.{IsTrue, sym, ap, ◌∙◌, arith}
 use Rattle.std.specs.List.{list_all}
 use Rattle.std.proofs.Math.Nat.{pow-suc, pow-le-pow_right}
 use Rattle.std.proofs.Math.Seq.{drop-cons}
@@ -29,7 +30,8 @@ decimal_from-lt n [] h = grind (arith, common_steps)
 decimal_from-lt n (b ∷ bs) h =
     let high : b ≤ 57 = is_digit-high b (all-head b bs h) in
     let rest : decimal_from (n * 10 + (b - 48)) bs < (n * 10 + (b - 48) + 1) * 10 ^ length bs = decimal_from-lt (n * 10 + (b - 48)) bs (all-tail b bs h) in
-    let scale : (n * 10 + (b - 48) + 1) * 10 ^ length bs ≤ (n * 10 + 10) * 10 ^ length bs = times (n * 10 + (b - 48) + 1) (n * 10 + 10) (10 ^ length bs) (omega arith) in
+    let scale : (n * 10 + (b - 48) + 1) * 10 ^ length bs ≤ (n * 10 + 10) * 10 ^ length bs =
+    times (n * 10 + (b - 48) + 1) (n * 10 + 10) (10 ^ length bs) (omega arith) in
     let power : 10 ^ suc (length bs) ≡ 10 ^ length bs * 10 = pow-suc 10 (length bs) in
     let whole : (n * 10 + 10) * 10 ^ length bs ≡ (n + 1) * 10 ^ suc (length bs) = rw power (grind arith) in
     omega (arith, rest, scale, whole)
@@ -45,7 +47,8 @@ decimal-eighteen bs h l =
     omega (arith, low, high)
 
 -- the number so far, with the next digit, is still below 10^18
-pub next_digit : (n i : ℕ) (bs : List ℕ) → i < length bs → decimal_from n (drop i bs) ≡ decimal_from 0 bs → IsTrue (list_all is_digit bs) → length bs ≤ 18 → n * 10 + (get_or bs i 0 - 48) < 10 ^ 18
+pub next_digit : (n i : ℕ) (bs : List ℕ) → i < length bs → decimal_from n (drop i bs) ≡ decimal_from 0 bs → IsTrue (list_all is_digit bs) →
+    length bs ≤ 18 → n * 10 + (get_or bs i 0 - 48) < 10 ^ 18
 next_digit n i bs lt e h l =
     let cut : drop i bs ≡ get_or bs i 0 ∷ drop (suc i) bs = drop-cons bs i 0 lt in
     let low : n * 10 + (get_or bs i 0 - 48) ≤ decimal_from (n * 10 + (get_or bs i 0 - 48)) (drop (suc i) bs) = decimal_from-ge _ (drop (suc i) bs) in

@@ -1,5 +1,6 @@
 -- A reading stops at the first token that can't stand there.
-use Rattle.std.proofs.Common.{◌≡◌, ℕ, zero, suc, ◌<◌, ◌≤◌, List, [], ◌∷◌, ◌++◌, Bool, true, false, map, take, length, Option, Some, None, Ok, Err, refl, sym, ap, ◌∙◌, arith}
+use Rattle.std.proofs.Common.{◌≡◌, ℕ, zero, suc, ◌<◌, ◌≤◌, List, [], ◌∷◌, ◌++◌, Bool, true, false, map, take, length, Option, Some}
+use Rattle.std.proofs.Common.{None, Ok, Err, refl, sym, ap, ◌∙◌, arith}
 use Rattle.plural_conditions.specs.declared.condition.Operand.TheVariants.{N}
 use Rattle.plural_conditions.specs.declared.lexer.Token.{Token}
 use Rattle.plural_conditions.specs.declared.lexer.Token.TheVariants.{Letter, Number, Equals}
@@ -43,7 +44,8 @@ end_is : (b : Bool) (c : Condition) (end byte : ℕ) → ended b c end ≡ fault
 end_is true c end byte e = absurd cc
 end_is false c end byte e = cc
 
-next_stops : (end : ℕ) (g : Progress) (d : Drafted) (t : Placed) (ts : List Placed) (byte : ℕ) → ((n : Progress) (e : Drafted) → reading_from end n e ts ≡ fault byte → Stops end n e ts byte)
+next_stops : (end : ℕ) (g : Progress) (d : Drafted) (t : Placed) (ts : List Placed) (byte : ℕ) →
+    ((n : Progress) (e : Drafted) → reading_from end n e ts ≡ fault byte → Stops end n e ts byte)
     → reading_from end g d (t ∷ ts) ≡ fault byte → (o : Option Progress) → next_progress g t.1 ≡ o → Stops end g d (t ∷ ts) byte
 next_stops end g d t ts byte rest e None q = record {
   count = 0;
@@ -104,9 +106,11 @@ first_fault end ts byte e =
         kinds b.0,
         b.1,
         read_is_well_formed end (take r.count ts ++ b.0) b.1 b.2,
-        ap (λ (k : List Token). k ++ kinds b.0) (sym (kinds-take r.count ts)) ∙ sym (kinds-append (take r.count ts) b.0) ∙ read_is_spelled end (take r.count ts ++ b.0) b.1 b.2,
+        ap (λ (k : List Token). k ++ kinds b.0) (sym (kinds-take r.count ts)) ∙ sym (kinds-append (take r.count ts) b.0)
+            ∙ read_is_spelled end (take r.count ts ++ b.0) b.1 b.2,
       );
       after = λ lt g. r.after lt (placed g.0) g.1 (spelled_is_read end (take (suc r.count) ts ++ placed g.0) g.1 g.2
-          (kinds-append (take (suc r.count) ts) (placed g.0) ∙ ap (λ (k : List Token). k ++ kinds (placed g.0)) (kinds-take (suc r.count) ts) ∙ ap (λ (k : List Token). take (suc r.count) (kinds ts) ++ k) (kinds-placed g.0) ∙ g.3));
+          (kinds-append (take (suc r.count) ts) (placed g.0) ∙ ap (λ (k : List Token). k ++ kinds (placed g.0)) (kinds-take (suc r.count) ts)
+          ∙ ap (λ (k : List Token). take (suc r.count) (kinds ts) ++ k) (kinds-placed g.0) ∙ g.3));
       whole = λ k c h q. no_ok byte c (sym e ∙ spelled_is_read end ts c h q);
     }

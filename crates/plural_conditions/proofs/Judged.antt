@@ -1,10 +1,12 @@
 -- Each text spells one condition or has one first fault, and that is what is read.
-use Rattle.std.proofs.Common.{◌≡◌, ◌⊎◌, inl, inr, ℕ, suc, ◌<◌, ◌≤◌, List, ◌++◌, take, drop, length, Option, Some, None, Result, Ok, Err, refl, sym, ap, ◌∙◌, append_assoc, arith}
+use Rattle.std.proofs.Common.{◌≡◌, ◌⊎◌, inl, inr, ℕ, suc, ◌<◌, ◌≤◌, List, ◌++◌, take, drop, length, Option, Some, None, Result, Ok}
+use Rattle.std.proofs.Common.{Err, refl, sym, ap, ◌∙◌, append_assoc, arith}
 use Rattle.std.specs.Prelude.{IfOk, IfSome, IfNone}
 use Rattle.std.proofs.lemmas.List.{take-append-drop, take-take}
 use Rattle.plural_conditions.specs.declared.lexer.Token.{Token}
 use Rattle.plural_conditions.specs.Tokens.{part_of}
-use Rattle.plural_conditions.specs.Grammar.{Condition, IsWellFormed, tokens_of, Placed, kinds, place_at, text_tokens, IsTextOf, IsConditionText, Begins, IsFirstFault, IsTextFault}
+use Rattle.plural_conditions.specs.Grammar.{Condition, IsWellFormed, tokens_of, Placed, kinds, place_at, text_tokens, IsTextOf, IsConditionText, Begins}
+use Rattle.plural_conditions.specs.Grammar.{IsFirstFault, IsTextFault}
 use Rattle.plural_conditions.specs.Reading.{condition_of, fault_byte}
 use Rattle.plural_conditions.proofs.Spelled.{read_is_well_formed, read_is_spelled}
 use Rattle.plural_conditions.proofs.Accepted.{spelled_is_read}
@@ -14,7 +16,8 @@ use Rattle.plural_conditions.proofs.Answered.{some, none, done, fault, some_is, 
 -- a beginning of what begins a condition begins it
 begins_before : (ks : List Token) (i j : ℕ) → i ≤ j → Begins (take j ks) → Begins (take i ks)
 begins_before ks i j h b =
-    let cut : take i ks ++ drop i (take j ks) ≡ take j ks = ap (λ k. k ++ drop i (take j ks)) (sym (take-take i j ks h)) ∙ take-append-drop i (take j ks) in
+    let cut : take i ks ++ drop i (take j ks) ≡ take j ks =
+    ap (λ k. k ++ drop i (take j ks)) (sym (take-take i j ks h)) ∙ take-append-drop i (take j ks) in
     (drop i (take j ks) ++ b.0, b.1, b.2, sym (append_assoc (take i ks) (drop i (take j ks)) b.0) ∙ ap (λ k. k ++ b.0) cut ∙ b.3)
 
 no_earlier : (end : ℕ) (ts : List Placed) (a b : ℕ) (p : IsFirstFault end ts a) (q : IsFirstFault end ts b) → p.count < q.count → ⊥
@@ -34,7 +37,8 @@ one_fault end ts a b p q = p.place ∙ ap (place_at end ts) (same_count end ts a
 
 no_condition : (end : ℕ) (ts : List Placed) (b : ℕ) → IsFirstFault end ts b → (c : Condition) → IsWellFormed c → kinds ts ≡ tokens_of c → ⊥
 no_condition end ts b p c h e =
-    by p.count (length ts) p.within (λ lt. p.after lt (drop (suc p.count) (kinds ts), c, h, take-append-drop (suc p.count) (kinds ts) ∙ e)) (λ is. p.whole is c h e)
+    by p.count (length ts) p.within (λ lt. p.after lt (drop (suc p.count) (kinds ts), c, h, take-append-drop (suc p.count) (kinds ts) ∙ e))
+    (λ is. p.whole is c h e)
   where
     by : (m n : ℕ) → m ≤ n → (m < n → ⊥) → (m ≡ n → ⊥) → ⊥
     by m n k l r = omega (arith, k, l, r)
@@ -99,7 +103,8 @@ none_spells text None e = none_is_condition text (sym e)
 none_spells text (Some b) e = tt
 
 -- what is read of a text is what it spells
-pub read_spells : {E : Type 0} (text : List ℕ) {A : Type 0} (f : A → Condition) (r : Result A E) → IfOk r (λ c. condition_of text ≡ Ok (f c)) → IfOk r (λ c. IsTextOf text (f c))
+pub read_spells : {E : Type 0} (text : List ℕ) {A : Type 0} (f : A → Condition) (r : Result A E) → IfOk r (λ c. condition_of text ≡ Ok (f c)) →
+    IfOk r (λ c. IsTextOf text (f c))
 read_spells text f (Ok c) e = read_is_text text (f c) e
 read_spells text f (Err e) h = tt
 

@@ -6,7 +6,8 @@ use Rattle.plural_conditions.specs.declared.lexer.Token.{Token}
 use Rattle.plural_conditions.specs.declared.lexer.Token.TheVariants.{Letter, And, Or, Number, Percent, Equals, NotEquals, Comma, Dots, Unknown}
 use Rattle.plural_conditions.specs.declared.progress.Progress.{Progress}
 use Rattle.plural_conditions.specs.declared.progress.Progress.TheVariants.{Nothing, Joined, Subject, Divided, Reduced, Listed, Valued, Ranged, Ended}
-use Rattle.plural_conditions.specs.Reading.{progress_at_operand, progress_after_subject, progress_at_modulus, progress_at_sign, progress_at_value, progress_at_end, progress_after_item, progress_after_value, next_progress}
+use Rattle.plural_conditions.specs.Reading.{progress_at_operand, progress_after_subject, progress_at_modulus, progress_at_sign, progress_at_value}
+use Rattle.plural_conditions.specs.Reading.{progress_at_end, progress_after_item, progress_after_value, next_progress}
 use Rattle.plural_conditions.proofs.Answered.{some, some_is, none_is}
 
 -- a property of each move: what was read ends so, then the token, and then what is read ends so
@@ -33,7 +34,8 @@ pub record EachMove (P : Progress → Token → Progress → Type 0) : Type 0 wh
 pub not_zero : (n : ℕ) → (suc n == 0) ≡ false
 not_zero n = grind (arith, nat_tests)
 
-operands : (Q : Token → Progress → Type 0) → ((o : Operand) → Q (Letter o) Subject) → (t : Token) (n : Progress) → progress_at_operand t ≡ some n → Q t n
+operands : (Q : Token → Progress → Type 0) → ((o : Operand) → Q (Letter o) Subject) → (t : Token) (n : Progress) →
+    progress_at_operand t ≡ some n → Q t n
 operands Q f (Letter o) n e = rw (← some_is e) (f o)
 operands Q f And n e = absurd (none_is e)
 operands Q f Or n e = absurd (none_is e)
@@ -45,7 +47,8 @@ operands Q f Comma n e = absurd (none_is e)
 operands Q f Dots n e = absurd (none_is e)
 operands Q f Unknown n e = absurd (none_is e)
 
-subjects : (Q : Token → Progress → Type 0) → Q Percent Divided → Q Equals Listed → Q NotEquals Listed → (t : Token) (n : Progress) → progress_after_subject t ≡ some n → Q t n
+subjects : (Q : Token → Progress → Type 0) → Q Percent Divided → Q Equals Listed → Q NotEquals Listed → (t : Token) (n : Progress) →
+    progress_after_subject t ≡ some n → Q t n
 subjects Q p a b (Letter o) n e = absurd (none_is e)
 subjects Q p a b And n e = absurd (none_is e)
 subjects Q p a b Or n e = absurd (none_is e)
@@ -57,7 +60,8 @@ subjects Q p a b Comma n e = absurd (none_is e)
 subjects Q p a b Dots n e = absurd (none_is e)
 subjects Q p a b Unknown n e = absurd (none_is e)
 
-moduli : (Q : Token → Progress → Type 0) → ((k : ℕ) → Q (Number (suc k)) Reduced) → (t : Token) (n : Progress) → progress_at_modulus t ≡ some n → Q t n
+moduli : (Q : Token → Progress → Type 0) → ((k : ℕ) → Q (Number (suc k)) Reduced) → (t : Token) (n : Progress) →
+    progress_at_modulus t ≡ some n → Q t n
 moduli Q f (Letter o) n e = absurd (none_is e)
 moduli Q f And n e = absurd (none_is e)
 moduli Q f Or n e = absurd (none_is e)
@@ -70,7 +74,8 @@ moduli Q f Comma n e = absurd (none_is e)
 moduli Q f Dots n e = absurd (none_is e)
 moduli Q f Unknown n e = absurd (none_is e)
 
-signs : (Q : Token → Progress → Type 0) → Q Equals Listed → Q NotEquals Listed → (t : Token) (n : Progress) → progress_at_sign t ≡ some n → Q t n
+signs : (Q : Token → Progress → Type 0) → Q Equals Listed → Q NotEquals Listed → (t : Token) (n : Progress) → progress_at_sign t ≡ some n →
+    Q t n
 signs Q a b (Letter o) n e = absurd (none_is e)
 signs Q a b And n e = absurd (none_is e)
 signs Q a b Or n e = absurd (none_is e)
@@ -106,7 +111,8 @@ ends Q f Comma n e = absurd (none_is e)
 ends Q f Dots n e = absurd (none_is e)
 ends Q f Unknown n e = absurd (none_is e)
 
-joins : (Q : Token → Progress → Type 0) → Q Comma Listed → Q And Joined → Q Or Joined → (t : Token) (n : Progress) → progress_after_item t ≡ some n → Q t n
+joins : (Q : Token → Progress → Type 0) → Q Comma Listed → Q And Joined → Q Or Joined → (t : Token) (n : Progress) →
+    progress_after_item t ≡ some n → Q t n
 joins Q a b c (Letter o) n e = absurd (none_is e)
 joins Q a b c And n e = rw (← some_is e) (b)
 joins Q a b c Or n e = rw (← some_is e) (c)
@@ -118,7 +124,8 @@ joins Q a b c Comma n e = rw (← some_is e) (a)
 joins Q a b c Dots n e = absurd (none_is e)
 joins Q a b c Unknown n e = absurd (none_is e)
 
-after_values : (Q : Token → Progress → Type 0) → Q Dots Ranged → Q Comma Listed → Q And Joined → Q Or Joined → (t : Token) (n : Progress) → progress_after_value t ≡ some n → Q t n
+after_values : (Q : Token → Progress → Type 0) → Q Dots Ranged → Q Comma Listed → Q And Joined → Q Or Joined → (t : Token) (n : Progress) →
+    progress_after_value t ≡ some n → Q t n
 after_values Q d a b c (Letter o) n e = joins Q a b c (Letter o) n e
 after_values Q d a b c And n e = joins Q a b c And n e
 after_values Q d a b c Or n e = joins Q a b c Or n e

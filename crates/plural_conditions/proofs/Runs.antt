@@ -1,8 +1,10 @@
 -- Runs of letters and of digits, spaces and single signs, from the front of a text on.
-use Rattle.std.proofs.Common.{◌≡◌, ℕ, suc, ◌+◌, ◌<◌, ◌≤◌, ◌==◌, ◌&&◌, Bool, true, false, cond, List, [], ◌∷◌, take, drop, refl, ap, subst, ◌∙◌, arith}
+use Rattle.std.proofs.Common.{◌≡◌, ℕ, suc, ◌+◌, ◌<◌, ◌≤◌, ◌==◌, ◌&&◌, Bool, true, false, cond, List, [], ◌∷◌, take, drop}
+use Rattle.std.proofs.Common.{refl, ap, subst, ◌∙◌, arith}
 use Rattle.std.specs.List.{prefix_len}
 use Rattle.std.proofs.lemmas.Bool.Decides.{nat_tests}
-use Rattle.plural_conditions.specs.Tokens.{Written, word, digits, sign, differs, dots, is_letter, is_digit, is_space, onto_word, onto_digits, onto, written_from}
+use Rattle.plural_conditions.specs.Tokens.{Written, word, digits, sign, differs, dots, is_letter, is_digit, is_space, onto_word, onto_digits, onto}
+use Rattle.plural_conditions.specs.Tokens.{written_from}
 
 pub letter-not_space : (b : ℕ) → is_letter b ≡ true → is_space b ≡ false
 letter-not_space b h = grind (arith, nat_tests)
@@ -89,7 +91,8 @@ digits_from p b ((q, sign s) ∷ ts) = omega arith
 digits_from p b ((q, differs) ∷ ts) = omega arith
 digits_from p b ((q, dots) ∷ ts) = omega arith
 
-onto_from : (s l d : Bool) (p b : ℕ) (ts : List (ℕ × Written)) → From (p + 1) ts → From p (cond s ts (cond l (onto_word p b ts) (cond d (onto_digits p b ts) ((p, sign b) ∷ ts))))
+onto_from : (s l d : Bool) (p b : ℕ) (ts : List (ℕ × Written)) → From (p + 1) ts →
+    From p (cond s ts (cond l (onto_word p b ts) (cond d (onto_digits p b ts) ((p, sign b) ∷ ts))))
 onto_from true l d p b ts h = earlier p ts h
 onto_from false true d p b ts h = word_from p b ts
 onto_from false false true p b ts h = digits_from p b ts
@@ -108,7 +111,8 @@ written_starts p (b ∷ c ∷ bs) =
     pair_from (b == 46 && c == 46) (b == 33 && c == 61) p (written_from (p + 2) bs) (written_from (p + 2) bs) (onto p b (written_from (p + 1) (c ∷ bs)))
     (onto_from (is_space b) (is_letter b) (is_digit b) p b (written_from (p + 1) (c ∷ bs)) (written_starts (p + 1) (c ∷ bs)))
 
-pick_no : (kind : Written → Bool) (v : Bool) (p : ℕ) (w x : Written) (ts us : List (ℕ × Written)) → kind w ≡ false → kind x ≡ false → NoRun kind p (cond v ((p, w) ∷ ts) ((p, x) ∷ us))
+pick_no : (kind : Written → Bool) (v : Bool) (p : ℕ) (w x : Written) (ts us : List (ℕ × Written)) → kind w ≡ false → kind x ≡ false →
+    NoRun kind p (cond v ((p, w) ∷ ts) ((p, x) ∷ us))
 pick_no kind true p w x ts us h k = λ e. absurd cc
 pick_no kind false p w x ts us h k = λ e. absurd cc
 
@@ -128,19 +132,22 @@ word_no_digits p b ((q, sign s) ∷ ts) = λ e. absurd cc
 word_no_digits p b ((q, differs) ∷ ts) = λ e. absurd cc
 word_no_digits p b ((q, dots) ∷ ts) = λ e. absurd cc
 
-onto_no_word : (s l d : Bool) (p b : ℕ) (ts : List (ℕ × Written)) → l ≡ false → From (p + 1) ts → NoRun is_word p (cond s ts (cond l (onto_word p b ts) (cond d (onto_digits p b ts) ((p, sign b) ∷ ts))))
+onto_no_word : (s l d : Bool) (p b : ℕ) (ts : List (ℕ × Written)) → l ≡ false → From (p + 1) ts →
+    NoRun is_word p (cond s ts (cond l (onto_word p b ts) (cond d (onto_digits p b ts) ((p, sign b) ∷ ts))))
 onto_no_word true l d p b ts h k = later is_word p ts k
 onto_no_word false true d p b ts h k = absurd cc
 onto_no_word false false true p b ts h k = digits_no_word p b ts
 onto_no_word false false false p b ts h k = λ e. absurd cc
 
-onto_no_digits : (s l d : Bool) (p b : ℕ) (ts : List (ℕ × Written)) → d ≡ false → From (p + 1) ts → NoRun is_digits p (cond s ts (cond l (onto_word p b ts) (cond d (onto_digits p b ts) ((p, sign b) ∷ ts))))
+onto_no_digits : (s l d : Bool) (p b : ℕ) (ts : List (ℕ × Written)) → d ≡ false → From (p + 1) ts →
+    NoRun is_digits p (cond s ts (cond l (onto_word p b ts) (cond d (onto_digits p b ts) ((p, sign b) ∷ ts))))
 onto_no_digits true l d p b ts h k = later is_digits p ts k
 onto_no_digits false true d p b ts h k = word_no_digits p b ts
 onto_no_digits false false true p b ts h k = absurd cc
 onto_no_digits false false false p b ts h k = λ e. absurd cc
 
-pair_no : (kind : Written → Bool) (v w : Bool) (p : ℕ) (ts us vs : List (ℕ × Written)) → kind dots ≡ false → kind differs ≡ false → NoRun kind p vs → NoRun kind p (cond v ((p, dots) ∷ ts) (cond w ((p, differs) ∷ us) vs))
+pair_no : (kind : Written → Bool) (v w : Bool) (p : ℕ) (ts us vs : List (ℕ × Written)) → kind dots ≡ false → kind differs ≡ false →
+    NoRun kind p vs → NoRun kind p (cond v ((p, dots) ∷ ts) (cond w ((p, differs) ∷ us) vs))
 pair_no kind true w p ts us vs e f h = λ k. absurd cc
 pair_no kind false true p ts us vs e f h = λ k. absurd cc
 pair_no kind false false p ts us vs e f h = h
@@ -150,14 +157,16 @@ no_word : (p b : ℕ) (bs : List ℕ) → is_letter b ≡ false → NoRun is_wor
 unfolding written_from
 no_word p b [] h = onto_no_word (is_space b) (is_letter b) (is_digit b) p b [] h tt
 no_word p b (c ∷ bs) h =
-    pair_no is_word (b == 46 && c == 46) (b == 33 && c == 61) p (written_from (p + 2) bs) (written_from (p + 2) bs) (onto p b (written_from (p + 1) (c ∷ bs))) refl refl
+    pair_no is_word (b == 46 && c == 46) (b == 33 && c == 61) p (written_from (p + 2) bs) (written_from (p + 2) bs) (onto p b (written_from (p + 1) (c ∷ bs)))
+    refl refl
     (onto_no_word (is_space b) (is_letter b) (is_digit b) p b (written_from (p + 1) (c ∷ bs)) h (written_starts (p + 1) (c ∷ bs)))
 
 no_digits : (p b : ℕ) (bs : List ℕ) → is_digit b ≡ false → NoRun is_digits p (written_from p (b ∷ bs))
 unfolding written_from
 no_digits p b [] h = onto_no_digits (is_space b) (is_letter b) (is_digit b) p b [] h tt
 no_digits p b (c ∷ bs) h =
-    pair_no is_digits (b == 46 && c == 46) (b == 33 && c == 61) p (written_from (p + 2) bs) (written_from (p + 2) bs) (onto p b (written_from (p + 1) (c ∷ bs))) refl refl
+    pair_no is_digits (b == 46 && c == 46) (b == 33 && c == 61) p (written_from (p + 2) bs) (written_from (p + 2) bs)
+    (onto p b (written_from (p + 1) (c ∷ bs))) refl refl
     (onto_no_digits (is_space b) (is_letter b) (is_digit b) p b (written_from (p + 1) (c ∷ bs)) h (written_starts (p + 1) (c ∷ bs)))
 
 not_same : (p q : ℕ) → p < q → (q == p) ≡ false
@@ -196,12 +205,14 @@ run_by : (kind : List ℕ → Written) (m n p b : ℕ) (bs : List ℕ) → m ≡
 run_by kind m n p b bs e h = let P : ℕ → Type 0 = λ k. Run kind k p b bs in subst P e h
 
 -- one byte more in front of a run
-run_more : (kind : List ℕ → Written) (m p b c : ℕ) (cs : List ℕ) → written_from p (b ∷ c ∷ cs) ≡ (p, kind (b ∷ c ∷ take m cs)) ∷ written_from (p + 1 + 1 + m) (drop m cs) → Run kind (suc m) p b (c ∷ cs)
+run_more : (kind : List ℕ → Written) (m p b c : ℕ) (cs : List ℕ) →
+    written_from p (b ∷ c ∷ cs) ≡ (p, kind (b ∷ c ∷ take m cs)) ∷ written_from (p + 1 + 1 + m) (drop m cs) → Run kind (suc m) p b (c ∷ cs)
 run_more kind m p b c cs h =
     let place : p + 1 + 1 + m ≡ p + 1 + suc m = omega arith in
     h ∙ ap (λ k. (p, kind (b ∷ c ∷ take m cs)) ∷ written_from k (drop m cs)) place
 
-run_none : (kind : List ℕ → Written) (p b : ℕ) (bs : List ℕ) → written_from p (b ∷ bs) ≡ (p, kind (b ∷ [])) ∷ written_from (p + 1) bs → Run kind 0 p b bs
+run_none : (kind : List ℕ → Written) (p b : ℕ) (bs : List ℕ) → written_from p (b ∷ bs) ≡ (p, kind (b ∷ [])) ∷ written_from (p + 1) bs →
+    Run kind 0 p b bs
 run_none kind p b bs h =
     let place : p + 1 ≡ p + 1 + 0 = omega arith in
     h ∙ ap (λ k. (p, kind (b ∷ [])) ∷ written_from k bs) place
@@ -214,7 +225,8 @@ prefix-yes test c cs h = rw h (omega arith)
 pub prefix-no : (test : ℕ → Bool) (c : ℕ) (cs : List ℕ) → test c ≡ false → 0 ≡ prefix_len test (c ∷ cs)
 prefix-no test c cs h = rw h refl
 
-word_step : (p b c : ℕ) (cs : List ℕ) → is_letter b ≡ true → (v : Bool) → is_letter c ≡ v → (is_letter c ≡ true → Run word (prefix_len is_letter cs) (p + 1) c cs) → Run word (prefix_len is_letter (c ∷ cs)) p b (c ∷ cs)
+word_step : (p b c : ℕ) (cs : List ℕ) → is_letter b ≡ true → (v : Bool) → is_letter c ≡ v →
+    (is_letter c ≡ true → Run word (prefix_len is_letter cs) (p + 1) c cs) → Run word (prefix_len is_letter (c ∷ cs)) p b (c ∷ cs)
 word_step p b c cs h true e rest =
     run_by word (suc (prefix_len is_letter cs)) (prefix_len is_letter (c ∷ cs)) p b (c ∷ cs) (prefix-yes is_letter c cs e)
     (run_more word (prefix_len is_letter cs) p b c cs
@@ -230,7 +242,8 @@ unfolding written_from
 word_run p b [] h = onto-letter p b [] h
 word_run p b (c ∷ cs) h = word_step p b c cs h (is_letter c) refl (λ e. word_run (p + 1) c cs e)
 
-digits_step : (p b c : ℕ) (cs : List ℕ) → is_digit b ≡ true → (v : Bool) → is_digit c ≡ v → (is_digit c ≡ true → Run digits (prefix_len is_digit cs) (p + 1) c cs) → Run digits (prefix_len is_digit (c ∷ cs)) p b (c ∷ cs)
+digits_step : (p b c : ℕ) (cs : List ℕ) → is_digit b ≡ true → (v : Bool) → is_digit c ≡ v →
+    (is_digit c ≡ true → Run digits (prefix_len is_digit cs) (p + 1) c cs) → Run digits (prefix_len is_digit (c ∷ cs)) p b (c ∷ cs)
 digits_step p b c cs h true e rest =
     run_by digits (suc (prefix_len is_digit cs)) (prefix_len is_digit (c ∷ cs)) p b (c ∷ cs) (prefix-yes is_digit c cs e)
     (run_more digits (prefix_len is_digit cs) p b c cs
@@ -250,14 +263,17 @@ onto-space : (p b : ℕ) (ts : List (ℕ × Written)) → is_space b ≡ true �
 onto-space p b ts h = simp h
 
 -- a byte of no class is a sign of its own
-pub onto-sign : (p b : ℕ) (ts : List (ℕ × Written)) → is_space b ≡ false → is_letter b ≡ false → is_digit b ≡ false → onto p b ts ≡ (p, sign b) ∷ ts
+pub onto-sign : (p b : ℕ) (ts : List (ℕ × Written)) → is_space b ≡ false → is_letter b ≡ false → is_digit b ≡ false →
+    onto p b ts ≡ (p, sign b) ∷ ts
 onto-sign p b ts h k l = simp (h, k, l)
 
-spaces_step : (p b : ℕ) (bs : List ℕ) → (v : Bool) → is_space b ≡ v → written_from (p + 1) bs ≡ written_from (p + 1 + prefix_len is_space bs) (drop (prefix_len is_space bs) bs)
+spaces_step : (p b : ℕ) (bs : List ℕ) → (v : Bool) → is_space b ≡ v →
+    written_from (p + 1) bs ≡ written_from (p + 1 + prefix_len is_space bs) (drop (prefix_len is_space bs) bs)
     → written_from p (b ∷ bs) ≡ written_from (p + prefix_len is_space (b ∷ bs)) (drop (prefix_len is_space (b ∷ bs)) (b ∷ bs))
 spaces_step p b bs true e rest =
     let place : p + 1 + prefix_len is_space bs ≡ p + suc (prefix_len is_space bs) = omega arith in
-    onto_rest p b bs (space-not_dot b e) (space-not_mark b e) ∙ onto-space p b _ e ∙ rest ∙ ap (λ k. written_from k (drop (prefix_len is_space bs) bs)) place
+    onto_rest p b bs (space-not_dot b e) (space-not_mark b e) ∙ onto-space p b _ e ∙ rest
+    ∙ ap (λ k. written_from k (drop (prefix_len is_space bs) bs)) place
     ∙ ap (λ n. written_from (p + n) (drop n (b ∷ bs))) (prefix-yes is_space b bs e)
 spaces_step p b bs false e rest =
     let place : p ≡ p + 0 = omega arith in

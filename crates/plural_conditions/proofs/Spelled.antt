@@ -1,5 +1,6 @@
 -- What is read is well formed, and spelled by the tokens.
-use Rattle.std.proofs.Common.{◌≡◌, ◌≢◌, ℕ, ◌<◌, List, [], ◌∷◌, ◌++◌, Bool, true, false, Option, Some, None, Ok, refl, sym, ap, ◌∙◌, append_assoc, arith}
+use Rattle.std.proofs.Common.{◌≡◌, ◌≢◌, ℕ, ◌<◌, List, [], ◌∷◌, ◌++◌, Bool, true, false, Option, Some, None, Ok, refl, sym, ap}
+use Rattle.std.proofs.Common.{◌∙◌, append_assoc, arith}
 use Rattle.std.specs.Prelude.{IfSome}
 use Rattle.std.specs.List.{flat_map, AllByRecursion}
 use Rattle.std.proofs.lemmas.List.{append-nil}
@@ -10,7 +11,8 @@ use Rattle.plural_conditions.specs.declared.lexer.Token.{Token}
 use Rattle.plural_conditions.specs.declared.lexer.Token.TheVariants.{Letter, And, Or, Number, Percent, Comma, Dots}
 use Rattle.plural_conditions.specs.declared.progress.Progress.{Progress}
 use Rattle.plural_conditions.specs.declared.progress.Progress.TheVariants.{Nothing, Joined, Subject, Divided, Reduced, Listed, Valued, Ranged, Ended}
-use Rattle.plural_conditions.specs.Grammar.{Relation, IsRelation, IsWellFormed, Condition, separated, item_tokens, modulus_tokens, sign_of, relation_tokens, tokens_of, Placed, kinds}
+use Rattle.plural_conditions.specs.Grammar.{Relation, IsRelation, IsWellFormed, Condition, separated, item_tokens, modulus_tokens, sign_of, relation_tokens}
+use Rattle.plural_conditions.specs.Grammar.{tokens_of, Placed, kinds}
 use Rattle.plural_conditions.specs.Drafts.{Drafted, last_relation, with_relation, with_alternative, first_of, with_token, completed, empty_draft}
 use Rattle.plural_conditions.specs.Reading.{next_progress, may_end, reading_from, reading}
 use Rattle.plural_conditions.proofs.Answered.{done}
@@ -46,11 +48,13 @@ not_empty : {A : Type 0} (xs : List A) (x : A) → xs ++ x ∷ [] ≢ []
 not_empty [] x = λ e. absurd cc
 not_empty (y ∷ ys) x = λ e. absurd cc
 
-relations_are : (d : Drafted) → AllByRecursion IsRelation d.relations → IsModulus d.modulus → AllByRecursion IsRelation (d.relations ++ last_relation d ∷ [])
+relations_are : (d : Drafted) → AllByRecursion IsRelation d.relations → IsModulus d.modulus →
+    AllByRecursion IsRelation (d.relations ++ last_relation d ∷ [])
 relations_are d h m = all_push IsRelation d.relations (last_relation d) h (record { modulus = m; items = not_empty d.items d.item })
 
 is_finished : (d : Drafted) → IsPart d.alternatives d.relations → IsModulus d.modulus → IsWellFormed (with_alternative d).alternatives
-is_finished d h m = all_push (λ rs. (rs ≢ []) × AllByRecursion IsRelation rs) d.alternatives (d.relations ++ last_relation d ∷ []) h.0 (not_empty d.relations (last_relation d), relations_are d h.1 m)
+is_finished d h m = all_push (λ rs. (rs ≢ []) × AllByRecursion IsRelation rs) d.alternatives (d.relations ++ last_relation d ∷ []) h.0
+    (not_empty d.relations (last_relation d), relations_are d h.1 m)
 
 and_keeps : (d : Drafted) → IsPart d.alternatives d.relations → IsModulus d.modulus → IsDraft Joined (with_relation d)
 and_keeps d h m = ((h.0, relations_are d h.1 m), refl)
@@ -91,10 +95,13 @@ keeps = record {
 abbrev followed : {A : Type 0} → Token → (A → List Token) → List A → List Token
 followed between f xs = flat_map (λ x. f x ++ between ∷ []) xs
 
-followed-push : {A : Type 0} (between : Token) (f : A → List Token) (xs : List A) (x : A) → followed between f (xs ++ x ∷ []) ≡ followed between f xs ++ (f x ++ between ∷ [])
-followed-push between f xs x = flat_map-append (λ x. f x ++ between ∷ []) xs (x ∷ []) ∙ ap (λ (k : List Token). followed between f xs ++ k) (append-nil (f x ++ between ∷ []))
+followed-push : {A : Type 0} (between : Token) (f : A → List Token) (xs : List A) (x : A) →
+    followed between f (xs ++ x ∷ []) ≡ followed between f xs ++ (f x ++ between ∷ [])
+followed-push between f xs x = flat_map-append (λ x. f x ++ between ∷ []) xs (x ∷ [])
+    ∙ ap (λ (k : List Token). followed between f xs ++ k) (append-nil (f x ++ between ∷ []))
 
-separated-push : {A : Type 0} (between : Token) (f : A → List Token) (xs : List A) (x : A) → separated between f (xs ++ x ∷ []) ≡ followed between f xs ++ f x
+separated-push : {A : Type 0} (between : Token) (f : A → List Token) (xs : List A) (x : A) →
+    separated between f (xs ++ x ∷ []) ≡ followed between f xs ++ f x
 separated-push between f [] x = refl
 separated-push between f (y ∷ []) x = simp append_assoc
 separated-push between f (y ∷ z ∷ ys) x = rw (separated-push between f (z ∷ ys) x) (simp append_assoc)
@@ -123,7 +130,8 @@ relation_ends d = rw (separated-push Comma item_tokens d.items d.item) (simp app
 
 finished_tokens : (d : Drafted) → tokens_of (with_alternative d).alternatives ≡ part_tokens d ++ relation_tokens (last_relation d)
 finished_tokens d =
-    separated-push Or (separated And relation_tokens) d.alternatives (d.relations ++ last_relation d ∷ []) ∙ rw (separated-push And relation_tokens d.relations (last_relation d)) (simp append_assoc)
+    separated-push Or (separated And relation_tokens) d.alternatives (d.relations ++ last_relation d ∷ [])
+    ∙ rw (separated-push And relation_tokens d.relations (last_relation d)) (simp append_assoc)
 
 and_writes : (d : Drafted) → part_tokens (with_relation d) ≡ (list_tokens d ++ item_tokens d.item) ++ And ∷ []
 and_writes d = rw (relation_ends d, followed-push And relation_tokens d.relations (last_relation d)) (simp append_assoc)
@@ -137,14 +145,17 @@ comma_writes : (d : Drafted) → list_tokens (record d { items = d.items ++ d.it
 comma_writes d = rw (followed-push Comma item_tokens d.items d.item) (simp append_assoc)
 
 -- a value is its item
-value_is : (d : Drafted) (t : Token) → d.item ≡ Value (first_of d.item) → (list_tokens d ++ item_tokens d.item) ++ t ∷ [] ≡ (list_tokens d ++ Number (first_of d.item) ∷ []) ++ t ∷ []
+value_is : (d : Drafted) (t : Token) → d.item ≡ Value (first_of d.item) →
+    (list_tokens d ++ item_tokens d.item) ++ t ∷ [] ≡ (list_tokens d ++ Number (first_of d.item) ∷ []) ++ t ∷ []
 value_is d t h = ap (λ (x : Item). (list_tokens d ++ item_tokens x) ++ t ∷ []) h
 
 -- a sign behind an operand, and behind a modulus
-sign_writes : (b : Bool) (d : Drafted) → d.items ≡ [] → list_tokens (record d { denied = b }) ≡ (part_tokens d ++ Letter d.subject ∷ modulus_tokens d.modulus) ++ sign_of b ∷ []
+sign_writes : (b : Bool) (d : Drafted) → d.items ≡ [] →
+    list_tokens (record d { denied = b }) ≡ (part_tokens d ++ Letter d.subject ∷ modulus_tokens d.modulus) ++ sign_of b ∷ []
 sign_writes b d h = rw h (simp append_assoc)
 
-plain_sign_writes : (b : Bool) (d : Drafted) → d.items ≡ [] → d.modulus ≡ None → list_tokens (record d { denied = b }) ≡ (part_tokens d ++ Letter d.subject ∷ []) ++ sign_of b ∷ []
+plain_sign_writes : (b : Bool) (d : Drafted) → d.items ≡ [] → d.modulus ≡ None →
+    list_tokens (record d { denied = b }) ≡ (part_tokens d ++ Letter d.subject ∷ []) ++ sign_of b ∷ []
 plain_sign_writes b d h k = sign_writes b d h ∙ ap (λ (m : Option ℕ). (part_tokens d ++ Letter d.subject ∷ modulus_tokens m) ++ sign_of b ∷ []) k
 
 writes : EachMove (λ g t n. (d : Drafted) → IsDraft g d → written n (with_token g t d) ≡ written g d ++ t ∷ [])
@@ -195,14 +206,16 @@ next_spells : (end : ℕ) (g : Progress) (d : Drafted) (t : Placed) (ts : List P
 next_spells end g d t ts c h rest None q e = absurd cc
 next_spells end g d t ts c h rest (Some n) q e =
     let d' = with_token g t.1 d in
-    let one : written n d' ≡ written g d ++ t.1 ∷ [] = by_move (λ g t n. (d : Drafted) → IsDraft g d → written n (with_token g t d) ≡ written g d ++ t ∷ []) writes g n t.1 q d h in
+    let one : written n d' ≡ written g d ++ t.1 ∷ [] = by_move
+    (λ g t n. (d : Drafted) → IsDraft g d → written n (with_token g t d) ≡ written g d ++ t ∷ []) writes g n t.1 q d h in
     let r : Spells n d' ts c = rest n d' (by_move (λ g t n. (d : Drafted) → IsDraft g d → IsDraft n (with_token g t d)) keeps g n t.1 q d h) e in
     record {
       well_formed = r.well_formed;
       spelled = sym (append_assoc (written g d) (t.1 ∷ []) (kinds ts)) ∙ ap (λ (k : List Token). k ++ kinds ts) (sym one) ∙ r.spelled;
     }
 
-reading_spells : (end : ℕ) (g : Progress) (d : Drafted) (ts : List Placed) (c : Condition) → IsDraft g d → reading_from end g d ts ≡ done c → Spells g d ts c
+reading_spells : (end : ℕ) (g : Progress) (d : Drafted) (ts : List Placed) (c : Condition) → IsDraft g d → reading_from end g d ts ≡ done c →
+    Spells g d ts c
 unfolding reading_from
 reading_spells end g d [] c h e =
     let k = ended_ok (may_end g) (completed g d) c end e in

@@ -1,6 +1,7 @@
 -- The grammar of conditions (UTS 35 Part 3, Plural rules syntax), as the one list of tokens that spells each condition,
 -- and the first fault of a text. Operands, values and ranges are those of `src/condition.rt`, tokens those of `src/lexer.rt`.
-use Rattle.std.specs.Prelude.{◌≡◌, ◌≢◌, ◌<◌, ◌≤◌, ℕ, zero, suc, List, [], ◌∷◌, ◌++◌, Bool, true, false, Option, Some, None, IfSome, length, map, take}
+use Rattle.std.specs.Prelude.{◌≡◌, ◌≢◌, ◌<◌, ◌≤◌, ℕ, zero, suc, List, [], ◌∷◌, ◌++◌, Bool, true, false, Option, Some, None}
+use Rattle.std.specs.Prelude.{IfSome, length, map, take}
 use Rattle.std.specs.List.{AllByRecursion}
 use Rattle.plural_conditions.specs.declared.condition.Operand.{Operand}
 use Rattle.plural_conditions.specs.declared.condition.Item.{Item}

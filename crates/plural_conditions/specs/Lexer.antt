@@ -1,5 +1,6 @@
 -- What the lexer finds at the front of a text.
-use Rattle.std.specs.Prelude.{◌≡◌, ℕ, ◌+◌, ◌<◌, ◌≤◌, List, [], ◌∷◌, Bool, false, ◌==◌, ◌&&◌, length, drop, Option, Some, None}
+use Rattle.std.specs.Prelude.{◌≡◌, ℕ, ◌+◌, ◌<◌, ◌≤◌, List, [], ◌∷◌, Bool, false, ◌==◌, ◌&&◌, length, drop, Option, Some}
+use Rattle.std.specs.Prelude.{None}
 use Rattle.plural_conditions.specs.declared.lexer.Found.{Found}
 use Rattle.plural_conditions.specs.declared.lexer.Front.{Front}
 use Rattle.plural_conditions.specs.Tokens.{tokens_from}

@@ -1,5 +1,6 @@
 -- The tokens of a condition, each with the place of its first byte.
-use Rattle.std.specs.Prelude.{ℕ, ◌+◌, ◌*◌, ◌-◌, List, [], ◌∷◌, ◌==◌, ◌&&◌, ◌||◌, Bool, length, not, codes, map, nat_eq, nat_le, if◌then◌else◌}
+use Rattle.std.specs.Prelude.{ℕ, ◌+◌, ◌*◌, ◌-◌, List, [], ◌∷◌, ◌==◌, ◌&&◌, ◌||◌, Bool, length, not, codes, map, nat_eq, nat_le}
+use Rattle.std.specs.Prelude.{if◌then◌else◌}
 use Rattle.std.specs.List.{take_while}
 use Rattle.std.specs.Cmp.Lexicographic.{pointwise}
 use Rattle.plural_conditions.specs.declared.condition.Operand.TheVariants.{N, I, V, W, F, T, C, E}

@@ -1,5 +1,6 @@
 -- The events of digits, one by one.
-use Rattle.std.proofs.Common.{◌≡◌, ℕ, ◌+◌, ◌<◌, List, [], ◌∷◌, ◌++◌, length, take, drop, get_or, sym, ap, ◌∙◌, refl, append-nil, append_assoc, rules, arith}
+use Rattle.std.proofs.Common.{◌≡◌, ℕ, ◌+◌, ◌<◌, List, [], ◌∷◌, ◌++◌, length, take, drop, get_or, sym, ap, ◌∙◌, refl, append-nil}
+use Rattle.std.proofs.Common.{append_assoc, rules, arith}
 use Rattle.std.proofs.lemmas.Grind.{common_steps}
 use Rattle.std.proofs.lemmas.List.{drop_more, take_more, map-append, take-append-drop}
 use Rattle.std.specs.Char.{encode_utf8}
@@ -8,11 +9,14 @@ use Rattle.writeable.specs.Events.Event.{Char}
 use Rattle.writeable.specs.Writes.{text_of-append}
 
 -- the digit at an index comes before those after it
-pub digit_events-drop : (characters digits : List ℕ) (i : ℕ) → i < length digits → digit_events characters (drop i digits) ≡ (Char (get_or characters (get_or digits i 0) 0) ∷ []) ++ digit_events characters (drop (i + 1) digits)
+pub digit_events-drop : (characters digits : List ℕ) (i : ℕ) → i < length digits →
+    digit_events characters (drop i digits) ≡ (Char (get_or characters (get_or digits i 0) 0) ∷ []) ++ digit_events characters (drop (i + 1) digits)
 digit_events-drop characters digits i h = rw (drop_more digits i 0 h) refl
 
 -- and behind those before it
-text_of-digits_more : (characters digits : List ℕ) (i : ℕ) → i < length digits → text_of (digit_events characters (take (i + 1) digits)) ≡ text_of (digit_events characters (take i digits)) ++ encode_utf8 (get_or characters (get_or digits i 0) 0)
+text_of-digits_more : (characters digits : List ℕ) (i : ℕ) → i < length digits →
+    text_of (digit_events characters (take (i + 1) digits)) ≡ text_of (digit_events characters (take i digits))
+    ++ encode_utf8 (get_or characters (get_or digits i 0) 0)
 text_of-digits_more characters digits i h =
     let d = get_or digits i 0 in
     ap (λ l. text_of (digit_events characters l)) (take_more digits i 0 h)
@@ -21,7 +25,8 @@ text_of-digits_more characters digits i h =
     ∙ ap (λ l. text_of (digit_events characters (take i digits)) ++ l) (append-nil (encode_utf8 (get_or characters d 0)))
 
 -- the digits in two parts
-text_of-digits_split : (characters digits : List ℕ) (i : ℕ) → text_of (digit_events characters (take i digits)) ++ text_of (digit_events characters (drop i digits)) ≡ text_of (digit_events characters digits)
+text_of-digits_split : (characters digits : List ℕ) (i : ℕ) →
+    text_of (digit_events characters (take i digits)) ++ text_of (digit_events characters (drop i digits)) ≡ text_of (digit_events characters digits)
 text_of-digits_split characters digits i =
     sym (text_of-append (digit_events characters (take i digits)) (digit_events characters (drop i digits)))
     ∙ ap text_of (sym (map-append (λ d. Char (get_or characters d 0)) (take i digits) (drop i digits)))
@@ -32,21 +37,30 @@ encode_ascii : (c : ℕ) → c < 128 → encode_utf8 c ≡ c ∷ []
 encode_ascii c h = search (rules, common_steps)
 
 -- bytes that grow by the digits before an index and by the one at it
-pub digits_grow : (old out new characters digits : List ℕ) (i : ℕ) → i < length digits → out ≡ old ++ text_of (digit_events characters (take i digits)) → new ≡ out ++ text_of (Char (get_or characters (get_or digits i 0) 0) ∷ []) → new ≡ old ++ text_of (digit_events characters (take (i + 1) digits))
+pub digits_grow : (old out new characters digits : List ℕ) (i : ℕ) → i < length digits →
+    out ≡ old ++ text_of (digit_events characters (take i digits)) → new ≡ out ++ text_of (Char (get_or characters (get_or digits i 0) 0) ∷ []) →
+    new ≡ old ++ text_of (digit_events characters (take (i + 1) digits))
 digits_grow old out new characters digits i h e f =
     let c = get_or characters (get_or digits i 0) 0 in
-    f ∙ ap (λ l. out ++ l) (append-nil (encode_utf8 c)) ∙ ap (λ l. l ++ encode_utf8 c) e ∙ append_assoc old (text_of (digit_events characters (take i digits))) (encode_utf8 c) ∙ ap (λ l. old ++ l) (sym (text_of-digits_more characters digits i h))
+    f ∙ ap (λ l. out ++ l) (append-nil (encode_utf8 c)) ∙ ap (λ l. l ++ encode_utf8 c) e
+    ∙ append_assoc old (text_of (digit_events characters (take i digits))) (encode_utf8 c)
+    ∙ ap (λ l. old ++ l) (sym (text_of-digits_more characters digits i h))
 
 -- one more digit is written as its character
-pub ascii_digits_grow : (old out new characters digits : List ℕ) (i : ℕ) → i < length digits → get_or characters (get_or digits i 0) 0 < 128 → out ≡ old ++ text_of (digit_events characters (take i digits)) → new ≡ out ++ get_or characters (get_or digits i 0) 0 ∷ [] → new ≡ old ++ text_of (digit_events characters (take (i + 1) digits))
+pub ascii_digits_grow : (old out new characters digits : List ℕ) (i : ℕ) → i < length digits → get_or characters (get_or digits i 0) 0 < 128 →
+    out ≡ old ++ text_of (digit_events characters (take i digits)) → new ≡ out ++ get_or characters (get_or digits i 0) 0 ∷ [] →
+    new ≡ old ++ text_of (digit_events characters (take (i + 1) digits))
 ascii_digits_grow old out new characters digits i h small e f =
     let c = get_or characters (get_or digits i 0) 0 in
     digits_grow old out new characters digits i h e (f ∙ ap (λ l. out ++ l) (sym (append-nil (encode_utf8 c) ∙ encode_ascii c small)))
 
 -- the digits before an index and those from it on
-pub digits_join : (old mid new characters digits : List ℕ) (i : ℕ) → mid ≡ old ++ text_of (digit_events characters (take i digits)) → new ≡ mid ++ text_of (digit_events characters (drop i digits)) → new ≡ old ++ text_of (digit_events characters digits)
+pub digits_join : (old mid new characters digits : List ℕ) (i : ℕ) → mid ≡ old ++ text_of (digit_events characters (take i digits)) →
+    new ≡ mid ++ text_of (digit_events characters (drop i digits)) → new ≡ old ++ text_of (digit_events characters digits)
 digits_join old mid new characters digits i e f =
-    f ∙ ap (λ l. l ++ text_of (digit_events characters (drop i digits))) e ∙ append_assoc old (text_of (digit_events characters (take i digits))) (text_of (digit_events characters (drop i digits))) ∙ ap (λ l. old ++ l) (text_of-digits_split characters digits i)
+    f ∙ ap (λ l. l ++ text_of (digit_events characters (drop i digits))) e
+    ∙ append_assoc old (text_of (digit_events characters (take i digits))) (text_of (digit_events characters (drop i digits)))
+    ∙ ap (λ l. old ++ l) (text_of-digits_split characters digits i)
 
 -- a list of one byte
 pub one_byte : (bytes : List ℕ) → length bytes ≡ 1 → bytes ≡ get_or bytes 0 0 ∷ []

@@ -25,7 +25,8 @@ mod_more_full k s e = rw (add-one k, suc-mod k s, ← add-one (k % s), e) (mod_s
 pub mod_more : (k s : ℕ) → 0 < s → ¬ (k % s + 1 ≡ s) → (k + 1) % s ≡ k % s + 1
 mod_more k s h ne = rw (add-one k, suc-mod k s, ← add-one (k % s)) (mod-eq_of_lt (omega (arith, mod_below k s h)))
 
-pub FirstGroup-put_before : {A : Type 0} (p s n : ℕ) (x : A) (gs : List (List A)) → 0 < p → 0 < s → FirstGroup p s n gs → FirstGroup p s (n + 1) (put_before p s x gs)
+pub FirstGroup-put_before : {A : Type 0} (p s n : ℕ) (x : A) (gs : List (List A)) → 0 < p → 0 < s → FirstGroup p s n gs →
+    FirstGroup p s (n + 1) (put_before p s x gs)
 FirstGroup-put_before p s n x [] hp hs h = (omega arith, omega arith, omega arith)
 FirstGroup-put_before p s n x (g ∷ []) hp hs h = elim (eqb_tells (length g) p) [
   | inl t ↦ let k : n + 1 - p - 1 ≡ 0 = omega arith in rw t.0 (omega arith, rw (k, zero-mod s) refl)
@@ -44,10 +45,14 @@ FirstGroup-cut p s [] hp hs = refl
 FirstGroup-cut p s (x ∷ xs) hp hs = rw (← add-one (length xs)) (FirstGroup-put_before p s (length xs) x (cut p s xs) hp hs (FirstGroup-cut p s xs hp hs))
 
 -- a group ends where `primary` and then whole groups of `secondary` are left
-pub is_full-FirstGroup : {A : Type 0} (p s n : ℕ) (gs : List (List A)) → 0 < p → 0 < s → FirstGroup p s n gs → Decides (is_full p s gs) ((p ≤ n) × ((n - p) % s ≡ 0))
+pub is_full-FirstGroup : {A : Type 0} (p s n : ℕ) (gs : List (List A)) → 0 < p → 0 < s → FirstGroup p s n gs →
+    Decides (is_full p s gs) ((p ≤ n) × ((n - p) % s ≡ 0))
 is_full-FirstGroup p s n [] hp hs h = (λ e. cc, λ q. absurd (omega arith))
-is_full-FirstGroup p s n (g ∷ []) hp hs h =
-    (λ e. let t = eqb-true (length g) p e in let k : n - p ≡ 0 = omega arith in (omega arith, rw (k, zero-mod s) refl), λ q. eq-eqb (length g) p (omega arith))
+is_full-FirstGroup p s n (g ∷ []) hp hs h = (
+  λ e. let t = eqb-true (length g) p e in let k : n - p ≡ 0 = omega arith in
+      (omega arith, rw (k, zero-mod s) refl),
+  λ q. eq-eqb (length g) p (omega arith),
+)
 is_full-FirstGroup p s n (g ∷ h' ∷ gs) hp hs h =
     let k : n - p ≡ n - p - 1 + 1 = omega arith in (
       λ e. let t = eqb-true (length g) s e in (omega arith, rw k (mod_more_full (n - p - 1) s (sym h.1 ∙ t))),

@@ -1,5 +1,6 @@
 -- The laws of events.
-use Rattle.std.specs.Prelude.{◌≡◌, ℕ, zero, suc, ◌+◌, ◌<◌, List, [], ◌∷◌, ◌++◌, map, length, Option, Some, None, ◌==◌, if◌then◌else◌, true, false}
+use Rattle.std.specs.Prelude.{◌≡◌, ℕ, zero, suc, ◌+◌, ◌<◌, List, [], ◌∷◌, ◌++◌, map, length, Option, Some, None, ◌==◌}
+use Rattle.std.specs.Prelude.{if◌then◌else◌, true, false}
 use Rattle.std.specs.Option.{option_map}
 use Rattle.std.specs.Char.{encode_utf8}
 use Rattle.std.specs.Str.{encode_utf8_all}
@@ -34,24 +35,30 @@ end_of_part-moved n (suc inner) at (Close ∷ es) = end_of_part-moved n inner at
 same-moved : (n a b : ℕ) → (n + a == n + b) ≡ (a == b)
 same-moved n a b = grind (arith, nat_tests)
 
-span_of-moved : (n start : ℕ) (end : Option ℕ) (category value : List ℕ) → span_of (n + start) (option_map (λ e. n + e) end) category value ≡ map (moved n) (span_of start end category value)
+span_of-moved : (n start : ℕ) (end : Option ℕ) (category value : List ℕ) →
+    span_of (n + start) (option_map (λ e. n + e) end) category value ≡ map (moved n) (span_of start end category value)
 span_of-moved n start None category value = refl
 span_of-moved n start (Some end) category value =
-    rw (same-moved n start end) (elim (start == end) as (λ t. (if t then [] else record { start = n + start; end = n + end; category = category; value = value } ∷ []) ≡ map (moved n) (if t then [] else record { start = start; end = end; category = category; value = value } ∷ [])) [ true ↦ refl | false ↦ refl ])
+    rw (same-moved n start end) (elim (start == end) as (λ t.
+    (if t then [] else record { start = n + start; end = n + end; category = category; value = value } ∷ [])
+    ≡ map (moved n) (if t then [] else record { start = start; end = end; category = category; value = value } ∷ []))
+    [ true ↦ refl | false ↦ refl ])
 
 spans_from-moved : (n at : ℕ) (es : List Event) → spans_from (n + at) es ≡ map (moved n) (spans_from at es)
 spans_from-moved n at [] = refl
 spans_from-moved n at (Char c ∷ es) =
     ap (λ x. spans_from x es) (add_assoc n at (length (encode_utf8 c))) ∙ spans_from-moved n (at + length (encode_utf8 c)) es
 spans_from-moved n at (Open category value ∷ es) =
-    let first : span_of (n + at) (end_of_part 0 (n + at) es) category value ≡ map (moved n) (span_of at (end_of_part 0 at es) category value) = ap (λ o. span_of (n + at) o category value) (end_of_part-moved n 0 at es) ∙ span_of-moved n at (end_of_part 0 at es) category value in
+    let first : span_of (n + at) (end_of_part 0 (n + at) es) category value ≡ map (moved n) (span_of at (end_of_part 0 at es) category value) =
+    ap (λ o. span_of (n + at) o category value) (end_of_part-moved n 0 at es) ∙ span_of-moved n at (end_of_part 0 at es) category value in
     ap (λ l. l ++ spans_from (n + at) es) first
     ∙ ap (λ l. map (moved n) (span_of at (end_of_part 0 at es) category value) ++ l) (spans_from-moved n at es)
     ∙ sym (map-append (moved n) (span_of at (end_of_part 0 at es) category value) (spans_from at es))
 spans_from-moved n at (Close ∷ es) = spans_from-moved n at es
 
 -- a part that is closed in the events ends there, whatever follows them
-end_of_part-closed : (inner before at : ℕ) (es more : List Event) → inner < before → ClosesParts before es → end_of_part inner at (es ++ more) ≡ end_of_part inner at es
+end_of_part-closed : (inner before at : ℕ) (es more : List Event) → inner < before → ClosesParts before es →
+    end_of_part inner at (es ++ more) ≡ end_of_part inner at es
 end_of_part-closed inner before at [] more l h = absurd (omega (arith, l, h))
 end_of_part-closed inner before at (Char c ∷ es) more l h = end_of_part-closed inner before (at + length (encode_utf8 c)) es more l h
 end_of_part-closed inner before at (Open category value ∷ es) more l h = end_of_part-closed (suc inner) (suc before) at es more (omega (arith, l)) h
@@ -59,7 +66,8 @@ end_of_part-closed inner zero at (Close ∷ es) more l h = absurd h
 end_of_part-closed zero (suc before) at (Close ∷ es) more l h = refl
 end_of_part-closed (suc inner) (suc before) at (Close ∷ es) more l h = end_of_part-closed inner before at es more (omega (arith, l)) h
 
-spans_from-closed : (before at : ℕ) (es more : List Event) → ClosesParts before es → spans_from at (es ++ more) ≡ spans_from at es ++ spans_from (at + length (text_of es)) more
+spans_from-closed : (before at : ℕ) (es more : List Event) → ClosesParts before es →
+    spans_from at (es ++ more) ≡ spans_from at es ++ spans_from (at + length (text_of es)) more
 spans_from-closed before at [] more h = ap (λ x. spans_from x more) (sym (add-zero at))
 spans_from-closed before at (Char c ∷ es) more h =
     spans_from-closed before (at + length (encode_utf8 c)) es more h
@@ -71,7 +79,8 @@ spans_from-closed before at (Open category value ∷ es) more h =
 spans_from-closed zero at (Close ∷ es) more h = absurd h
 spans_from-closed (suc before) at (Close ∷ es) more h = spans_from-closed before at es more h
 
-pub spans-closed : (first second : List Event) → IsClosed first → spans (first ++ second) ≡ spans first ++ map (moved (length (text_of first))) (spans second)
+pub spans-closed : (first second : List Event) → IsClosed first →
+    spans (first ++ second) ≡ spans first ++ map (moved (length (text_of first))) (spans second)
 spans-closed first second h =
     let n : ℕ = length (text_of first) in
     spans_from-closed 0 0 first second h ∙ ap (λ l. spans first ++ l) (ap (λ x. spans_from x second) (omega arith) ∙ spans_from-moved n 0 second)

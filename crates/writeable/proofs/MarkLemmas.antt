@@ -18,7 +18,8 @@ use Rattle.writeable.specs.Writes.{text_of-append, without_parts-append}
 use Rattle.writeable.proofs.EventLemmas.{text_events-append, text_events-nil, text_events-encode, text_of-text_events, without_parts-text_events}
 
 -- more text at the end: its events are added
-pub marked_events-text : (from : ℕ) (text more : List ℕ) (ms : List Mark) → AreMarks from text ms → marked_events from (text ++ more) ms ≡ marked_events from text ms ++ text_events more
+pub marked_events-text : (from : ℕ) (text more : List ℕ) (ms : List Mark) → AreMarks from text ms →
+    marked_events from (text ++ more) ms ≡ marked_events from text ms ++ text_events more
 marked_events-text from text more [] h = text_events-append text more h
 marked_events-text from text more (m ∷ ms) h =
     let k : ℕ = mark_at m - from in
@@ -27,7 +28,8 @@ marked_events-text from text more (m ∷ ms) h =
     (sym (append_assoc (text_events (take k text)) (mark_event m ∷ marked_events (mark_at m) (drop k text) ms) (text_events more)))
 
 -- one more character at the end: its event is added
-pub marked_events-char : (old new : List ℕ) (ms : List Mark) (c : ℕ) → new ≡ old ++ encode_utf8 c → IsScalar c → AreMarks 0 old ms → marked_events 0 new ms ≡ marked_events 0 old ms ++ Char c ∷ []
+pub marked_events-char : (old new : List ℕ) (ms : List Mark) (c : ℕ) → new ≡ old ++ encode_utf8 c → IsScalar c → AreMarks 0 old ms →
+    marked_events 0 new ms ≡ marked_events 0 old ms ++ Char c ∷ []
 marked_events-char old new ms c e scalar h =
     ap (λ t. marked_events 0 t ms) e ∙ marked_events-text 0 old (encode_utf8 c) ms h ∙ ap (λ l. marked_events 0 old ms ++ l) (text_events-encode c scalar)
 
@@ -35,11 +37,16 @@ marked_events-char old new ms c e scalar h =
 pub AreMarks-text : (from : ℕ) (text more : List ℕ) (ms : List Mark) → IsUtf8 more → AreMarks from text ms → AreMarks from (text ++ more) ms
 AreMarks-text from text more [] u h = IsUtf8-append text more h u
 AreMarks-text from text more (m ∷ ms) u h =
-    let k : ℕ = mark_at m - from in
-    (h.0, omega (arith, length-append text more, h.1), rw (take-append-le k text more h.1) h.2, rw (drop-append-le k text more h.1) (AreMarks-text (mark_at m) (drop k text) more ms u h.3))
+    let k : ℕ = mark_at m - from in (
+      h.0,
+      omega (arith, length-append text more, h.1),
+      rw (take-append-le k text more h.1) h.2,
+      rw (drop-append-le k text more h.1) (AreMarks-text (mark_at m) (drop k text) more ms u h.3),
+    )
 
 -- one more mark at the end: its event is added
-pub marked_events-mark : (from : ℕ) (text : List ℕ) (ms : List Mark) (m : Mark) → mark_at m ≡ from + length text → AreMarks from text ms → marked_events from text (ms ++ m ∷ []) ≡ marked_events from text ms ++ mark_event m ∷ []
+pub marked_events-mark : (from : ℕ) (text : List ℕ) (ms : List Mark) (m : Mark) → mark_at m ≡ from + length text → AreMarks from text ms →
+    marked_events from text (ms ++ m ∷ []) ≡ marked_events from text ms ++ mark_event m ∷ []
 marked_events-mark from text [] m e h =
     let k : ℕ = mark_at m - from in
     let whole : length text ≤ k = omega arith in
@@ -51,7 +58,8 @@ marked_events-mark from text (p ∷ ms) m e h =
     (sym (append_assoc (text_events (take k text)) (mark_event p ∷ marked_events (mark_at p) (drop k text) ms) (mark_event m ∷ [])))
 
 -- a mark at the end of the text is one more mark
-pub AreMarks-mark : (from : ℕ) (text : List ℕ) (ms : List Mark) (m : Mark) → mark_at m ≡ from + length text → AreMarks from text ms → AreMarks from text (ms ++ m ∷ [])
+pub AreMarks-mark : (from : ℕ) (text : List ℕ) (ms : List Mark) (m : Mark) → mark_at m ≡ from + length text → AreMarks from text ms →
+    AreMarks from text (ms ++ m ∷ [])
 AreMarks-mark from text [] m e h =
     let k : ℕ = mark_at m - from in
     let whole : length text ≤ k = omega arith in
@@ -62,7 +70,8 @@ AreMarks-mark from text (p ∷ ms) m e h =
     (h.0, h.1, h.2, AreMarks-mark (mark_at p) (drop k text) ms m here h.3)
 
 -- the same for a list of marks after a push
-pub marked_events-pushed : (text : List ℕ) (old new : List Mark) (m : Mark) (e : Event) → new ≡ old ++ m ∷ [] → mark_at m ≡ 0 + length text → mark_event m ≡ e → AreMarks 0 text old → marked_events 0 text new ≡ marked_events 0 text old ++ e ∷ []
+pub marked_events-pushed : (text : List ℕ) (old new : List Mark) (m : Mark) (e : Event) → new ≡ old ++ m ∷ [] → mark_at m ≡ 0 + length text →
+    mark_event m ≡ e → AreMarks 0 text old → marked_events 0 text new ≡ marked_events 0 text old ++ e ∷ []
 marked_events-pushed text old new m e pushed end event h =
     ap (marked_events 0 text) pushed ∙ marked_events-mark 0 text old m end h ∙ ap (λ x. marked_events 0 text old ++ x ∷ []) event
 
@@ -89,7 +98,8 @@ without_parts-mark (Open at part) es = refl
 without_parts-mark (Close at) es = refl
 
 -- without its marks a text with marks is the text
-pub without_parts-marked_events : (from : ℕ) (text : List ℕ) (ms : List Mark) → AreMarks from text ms → without_parts (marked_events from text ms) ≡ text_events text
+pub without_parts-marked_events : (from : ℕ) (text : List ℕ) (ms : List Mark) → AreMarks from text ms →
+    without_parts (marked_events from text ms) ≡ text_events text
 without_parts-marked_events from text [] h = without_parts-text_events text
 without_parts-marked_events from text (m ∷ ms) h =
     let k : ℕ = mark_at m - from in
@@ -117,11 +127,18 @@ pub IsWithinLimit-annotated : (a : Inside) → IsWithinLimit (annotated a)
 IsWithinLimit-annotated a = within-limit_of (length (kept_events a)) a.room
 
 -- a call that kept all its events
-pub WritesAll-kept : (a b : Inside) (old : Annotated) (es : List Event) → annotated a ≡ old → kept_events b ≡ kept_events a ++ es → b.failures ≡ a.failures → WritesAll (λ (s : Annotated). s.events) (λ s. s.failures) old es (annotated b)
-WritesAll-kept a b old es view e f = record { held = e ∙ ap (λ (s : Annotated). s.events ++ es) view; same_failures = f ∙ ap (λ (s : Annotated). s.failures) view }
+pub WritesAll-kept : (a b : Inside) (old : Annotated) (es : List Event) → annotated a ≡ old → kept_events b ≡ kept_events a ++ es →
+    b.failures ≡ a.failures → WritesAll (λ (s : Annotated). s.events) (λ s. s.failures) old es (annotated b)
+WritesAll-kept a b old es view e f = record {
+  held = e ∙ ap (λ (s : Annotated). s.events ++ es) view;
+  same_failures =
+      f ∙ ap (λ (s : Annotated). s.failures) view;
+}
 
 -- a call that kept its event, and took room for one
-pub KeepsLimit-one : (a b : Inside) (old : Annotated) (e : Event) → annotated a ≡ old → kept_events b ≡ kept_events a ++ e ∷ [] → option_map (λ left. left + 1) b.room ≡ a.room → b.refusals ≡ a.refusals → KeepsLimit (λ (s : Annotated). s.events) (λ s. s.limit) (λ s. s.refusals) old (Ok tt) (e ∷ []) (annotated b)
+pub KeepsLimit-one : (a b : Inside) (old : Annotated) (e : Event) → annotated a ≡ old → kept_events b ≡ kept_events a ++ e ∷ [] →
+    option_map (λ left. left + 1) b.room ≡ a.room → b.refusals ≡ a.refusals →
+    KeepsLimit (λ (s : Annotated). s.events) (λ s. s.limit) (λ s. s.refusals) old (Ok tt) (e ∷ []) (annotated b)
 KeepsLimit-one a b old e view kept less same =
     let more : length (kept_events b) ≡ length (kept_events a) + 1 = ap length kept ∙ length_push (kept_events a) e in
     record {

@@ -39,18 +39,21 @@ slice_get-rest (x ∷ xs) k = refl
 pub end_of_part-event_closes : (inner at : ℕ) (es : List Event) → end_of_part inner at es ≡ slice_get (event_closes at es) inner
 end_of_part-event_closes inner at [] = refl
 end_of_part-event_closes inner at (Char c ∷ es) = end_of_part-event_closes inner (at + length (encode_utf8 c)) es
-end_of_part-event_closes inner at (OpenPart category value ∷ es) = end_of_part-event_closes (suc inner) at es ∙ sym (slice_get-rest (event_closes at es) inner)
+end_of_part-event_closes inner at (OpenPart category value ∷ es) =
+    end_of_part-event_closes (suc inner) at es ∙ sym (slice_get-rest (event_closes at es) inner)
 end_of_part-event_closes zero at (ClosePart ∷ es) = refl
 end_of_part-event_closes (suc inner) at (ClosePart ∷ es) = end_of_part-event_closes inner at es
 
 -- characters move what follows
 event_closes-chars : (at : ℕ) (cs : List ℕ) (es : List Event) → event_closes at (map Char cs ++ es) ≡ event_closes (at + length (encode_utf8_all cs)) es
 event_closes-chars at [] es = ap (λ n. event_closes n es) (sym (add-zero at))
-event_closes-chars at (c ∷ cs) es = event_closes-chars (at + length (encode_utf8 c)) cs es ∙ ap (λ n. event_closes n es) (omega (arith, length-append (encode_utf8 c) (encode_utf8_all cs)))
+event_closes-chars at (c ∷ cs) es = event_closes-chars (at + length (encode_utf8 c)) cs es
+    ∙ ap (λ n. event_closes n es) (omega (arith, length-append (encode_utf8 c) (encode_utf8_all cs)))
 
 spans_from-chars : (at : ℕ) (cs : List ℕ) (es : List Event) → spans_from at (map Char cs ++ es) ≡ spans_from (at + length (encode_utf8_all cs)) es
 spans_from-chars at [] es = ap (λ n. spans_from n es) (sym (add-zero at))
-spans_from-chars at (c ∷ cs) es = spans_from-chars (at + length (encode_utf8 c)) cs es ∙ ap (λ n. spans_from n es) (omega (arith, length-append (encode_utf8 c) (encode_utf8_all cs)))
+spans_from-chars at (c ∷ cs) es = spans_from-chars (at + length (encode_utf8 c)) cs es
+    ∙ ap (λ n. spans_from n es) (omega (arith, length-append (encode_utf8 c) (encode_utf8_all cs)))
 
 event_closes-only_chars : (at : ℕ) (cs : List ℕ) → event_closes at (map Char cs) ≡ []
 event_closes-only_chars at [] = refl
@@ -61,13 +64,16 @@ spans_from-only_chars at [] = refl
 spans_from-only_chars at (c ∷ cs) = spans_from-only_chars (at + length (encode_utf8 c)) cs
 
 -- the characters before a mark end at its place
-place_of_mark : (from : ℕ) (text : List ℕ) (m : Mark) (ms : List Mark) → AreMarks from text (m ∷ ms) → from + length (encode_utf8_all (chars (take (mark_at m - from) text))) ≡ mark_at m
+place_of_mark : (from : ℕ) (text : List ℕ) (m : Mark) (ms : List Mark) → AreMarks from text (m ∷ ms) →
+    from + length (encode_utf8_all (chars (take (mark_at m - from) text))) ≡ mark_at m
 place_of_mark from text m ms h =
     let piece : List ℕ = take (mark_at m - from) text in
-    let size : length (encode_utf8_all (chars piece)) ≡ mark_at m - from = ap length (encodes-chars piece h.2) ∙ length-take-le (mark_at m - from) text h.1 in
+    let size : length (encode_utf8_all (chars piece)) ≡ mark_at m - from =
+    ap length (encodes-chars piece h.2) ∙ length-take-le (mark_at m - from) text h.1 in
     omega (arith, h.0)
 
-event_closes-marked : (from : ℕ) (text : List ℕ) (ms : List Mark) → AreMarks from text ms → event_closes from (marked_events from text ms) ≡ mark_closes ms
+event_closes-marked : (from : ℕ) (text : List ℕ) (ms : List Mark) → AreMarks from text ms →
+    event_closes from (marked_events from text ms) ≡ mark_closes ms
 event_closes-marked from text [] h = event_closes-only_chars from (chars text)
 event_closes-marked from text (Open at part ∷ ms) h =
     event_closes-chars from (chars (take (at - from) text)) _
@@ -79,15 +85,18 @@ event_closes-marked from text (Close at ∷ ms) h =
     ∙ ap (λ (l : List ℕ). at ∷ l) (event_closes-marked at (drop (at - from) text) ms h.3)
 
 -- the spans of a text with marks are those of the marks
-pub spans_from-marked : (from : ℕ) (text : List ℕ) (ms : List Mark) → AreMarks from text ms → spans_from from (marked_events from text ms) ≡ mark_spans ms
+pub spans_from-marked : (from : ℕ) (text : List ℕ) (ms : List Mark) → AreMarks from text ms →
+    spans_from from (marked_events from text ms) ≡ mark_spans ms
 spans_from-marked from text [] h = spans_from-only_chars from (chars text)
 spans_from-marked from text (Open at part ∷ ms) h =
     let rest : List Event = marked_events at (drop (at - from) text) ms in
-    let closed : end_of_part 0 at rest ≡ slice_get (mark_closes ms) 0 = end_of_part-event_closes 0 at rest ∙ ap (λ (l : List ℕ). slice_get l 0) (event_closes-marked at (drop (at - from) text) ms h.3) in
+    let closed : end_of_part 0 at rest ≡ slice_get (mark_closes ms) 0 =
+    end_of_part-event_closes 0 at rest ∙ ap (λ (l : List ℕ). slice_get l 0) (event_closes-marked at (drop (at - from) text) ms h.3) in
     spans_from-chars from (chars (take (at - from) text)) (mark_event (Open at part) ∷ rest)
     ∙ ap (λ n. spans_from n (mark_event (Open at part) ∷ rest)) (place_of_mark from text (Open at part) ms h)
     ∙ ap (λ o. span_of at o part.category.now part.value.now ++ spans_from at rest) closed
-    ∙ ap (λ (l : List Span). span_of at (slice_get (mark_closes ms) 0) part.category.now part.value.now ++ l) (spans_from-marked at (drop (at - from) text) ms h.3)
+    ∙ ap (λ (l : List Span). span_of at (slice_get (mark_closes ms) 0) part.category.now part.value.now ++ l)
+    (spans_from-marked at (drop (at - from) text) ms h.3)
 spans_from-marked from text (Close at ∷ ms) h =
     let rest : List Event = marked_events at (drop (at - from) text) ms in
     spans_from-chars from (chars (take (at - from) text)) (ClosePart ∷ rest)
@@ -97,4 +106,5 @@ spans_from-marked from text (Close at ∷ ms) h =
 -- a reversed list is mapped in reverse
 pub map-reverse : {A : Type 0} {B : Type 0} (f : A → B) (xs : List A) → map f (reverse xs) ≡ reverse (map f xs)
 map-reverse f [] = refl
-map-reverse f (x ∷ xs) = ap (map f) (reverse-append (x ∷ []) xs) ∙ map-append f (reverse xs) (x ∷ []) ∙ ap (λ l. l ++ f x ∷ []) (map-reverse f xs) ∙ sym (reverse-append (f x ∷ []) (map f xs))
+map-reverse f (x ∷ xs) = ap (map f) (reverse-append (x ∷ []) xs) ∙ map-append f (reverse xs) (x ∷ []) ∙ ap (λ l. l ++ f x ∷ []) (map-reverse f xs)
+    ∙ sym (reverse-append (f x ∷ []) (map f xs))

@@ -22,4 +22,5 @@ PartsHaveNoText = (events : List Event) → text_of (without_parts events) ≡ t
 
 -- the spans of closed events followed by events are those of both, the second's moved by the bytes of the first's text
 abbrev pub ClosedEventsKeepTheirSpans : Type 0
-ClosedEventsKeepTheirSpans = (first second : List Event) → IsClosed first → spans (first ++ second) ≡ spans first ++ map (moved (length (text_of first))) (spans second)
+ClosedEventsKeepTheirSpans = (first second : List Event) → IsClosed first →
+    spans (first ++ second) ≡ spans first ++ map (moved (length (text_of first))) (spans second)

@@ -34,7 +34,8 @@ marked_events from text (m ∷ ms) = text_events (take (mark_at m - from) text) 
 -- the marks stand in order in a text that begins at byte from, and none inside a character
 abbrev pub AreMarks : ℕ → List ℕ → List Mark → Type 0
 AreMarks from text [] = IsUtf8 text
-AreMarks from text (m ∷ ms) = (from ≤ mark_at m) × (mark_at m - from ≤ length text) × IsUtf8 (take (mark_at m - from) text) × AreMarks (mark_at m) (drop (mark_at m - from) text) ms
+AreMarks from text (m ∷ ms) = (from ≤ mark_at m) × (mark_at m - from ≤ length text) × IsUtf8 (take (mark_at m - from) text)
+    × AreMarks (mark_at m) (drop (mark_at m - from) text) ms
 
 -- the events that the fields stand for
 abbrev pub kept_events : Inside → List Event
@@ -42,7 +43,13 @@ kept_events a = marked_events 0 (string_bytes a.text) a.marks.items
 
 -- what a text with marks has taken, as events, with its failures and its room
 abbrev pub annotated : Inside → Annotated
-annotated a = record { events = kept_events a; failures = a.failures; limit = option_map (λ left. length (kept_events a) + left) a.room; refusals = a.refusals }
+annotated a = record {
+  events = kept_events a;
+  failures = a.failures;
+  limit = option_map (λ left. length (kept_events a) + left) a.room;
+  refusals =
+      a.refusals;
+}
 
 -- the marks stand in the text, in order
 abbrev pub IsMarked : Inside → Type 0

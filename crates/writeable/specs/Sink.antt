@@ -1,5 +1,6 @@
 -- What a call does to a sink, which holds events and counts its failures.
-use Rattle.std.specs.Prelude.{◌≡◌, ℕ, ◌+◌, ◌-◌, ◌^◌, ◌<◌, ◌⊎◌, List, ◌++◌, length, min, Option, Some, Result, MatchResult, OnOk, OnErr, IsOk}
+use Rattle.std.specs.Prelude.{◌≡◌, ℕ, ◌+◌, ◌-◌, ◌^◌, ◌<◌, ◌⊎◌, List, ◌++◌, length, min, Option, Some, Result, MatchResult}
+use Rattle.std.specs.Prelude.{OnOk, OnErr, IsOk}
 use Rattle.std.specs.Borrow.{MutBor}
 use Rattle.std.specs.Fmt.{IsFlush, HasWrittenStyled}
 use Rattle.std.specs.declared.fmt.Formatter.{Formatter}
@@ -38,18 +39,21 @@ pub record EndsFull {S : Type 0} (events : S → List Event) (limit : S → Opti
 
 -- A call that is to write es keeps the limit of the sink. Where it fails, it was refused for another reason than the limit,
 -- and that is counted; or the sink is full with something of es left.
-pub record KeepsLimit {S : Type 0} (events : S → List Event) (limit : S → Option ℕ) (refusals : S → ℕ) (s : S) (r : Result (Unit {0}) WriteFault) (es : List Event) (t : S) : Type 0 where
+pub record KeepsLimit {S : Type 0} (events : S → List Event) (limit : S → Option ℕ) (refusals : S → ℕ) (s : S) (r : Result (Unit {0}) WriteFault)
+    (es : List Event) (t : S) : Type 0 where
   pub same_limit : limit t ≡ limit s
   pub same_refusals : OnOk r (refusals t ≡ refusals s)
   pub fault : OnErr r ((refusals t ≡ one_more_failure (refusals s)) ⊎ ((refusals t ≡ refusals s) × EndsFull events limit s es t))
 
 -- `Writes` and `KeepsLimit` through a borrow that stays the same one
-pub record LentWrites {S : Type 0} (events : S → List Event) (failures : S → ℕ) (limit : S → Option ℕ) (refusals : S → ℕ) (s : MutBor S) (r : Result (Unit {0}) WriteFault) (es : List Event) (t : MutBor S) : Type 0 where
+pub record LentWrites {S : Type 0} (events : S → List Event) (failures : S → ℕ) (limit : S → Option ℕ) (refusals : S → ℕ) (s : MutBor S)
+    (r : Result (Unit {0}) WriteFault) (es : List Event) (t : MutBor S) : Type 0 where
   pub same_borrow : t.ghost_name ≡ s.ghost_name
   pub writes : Writes events failures s.now r es t.now
   pub limited : KeepsLimit events limit refusals s.now r es t.now
 
 -- If the formatter is flush (it indents nothing), a success leaves it after the text of the events, its options as they
 -- were. Whatever its width, fill, precision and other options are, the text is the same.
-abbrev pub Displays : {W : Type 0} → (W → List ℕ → W → Type 0) → Formatter W → Result (Unit {0}) WriteFault → List Event → Formatter W → Type 0
+abbrev pub Displays : {W : Type 0} → (W → List ℕ → W → Type 0) → Formatter W → Result (Unit {0}) WriteFault → List Event → Formatter W →
+    Type 0
 Displays took f r es g = IsFlush f → IsOk r → HasWrittenStyled took f (text_of es) g

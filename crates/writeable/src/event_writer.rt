@@ -63,7 +63,8 @@ pub trait EventWriter {
         requires primary { 0 < grouping.now.primary }
         requires secondary { 0 < grouping.now.secondary }
         requires below_ten { All (λ d. d < 10) digits.now }
-        ensures { wrote self.old result (grouped_events grouping.now characters.now digits.now) self.new }
+        ensures { wrote self.old result (grouped_events grouping.now characters.now digits.now)
+            self.new }
     {
         let (primary, secondary) = (grouping.primary, grouping.secondary);
         let (first, mut rest) = digits.split_at(first_group(digits.len(), primary, secondary));
@@ -90,7 +91,8 @@ pub trait EventWriter {
         requires primary { 0 < grouping.now.primary }
         requires secondary { 0 < grouping.now.secondary }
         requires below_ten { All (λ d. d < 10) digits.now }
-        ensures { wrote self.old result (grouped_events grouping.now ascii_characters digits.now) self.new }
+        ensures { wrote self.old result (grouped_events grouping.now ascii_characters digits.now)
+            self.new }
     {
         self.groups(digits, grouping, &ASCII_DIGITS)
     }
@@ -117,10 +119,12 @@ pub trait EventWriter {
     ghost nothing: { (a : Self) → wrote a (Ok tt) [] a };
 
     /// What was written, and then more: both were written, with the later answer.
-    ghost then: { (a b c : Self) (r : Result (Unit {0}) WriteFault) (es fs : List Event) → wrote a (Ok tt) es b → wrote b r fs c → wrote a r (es ++ fs) c };
+    ghost then: { (a b c : Self) (r : Result (Unit {0}) WriteFault) (es fs : List Event) →
+        wrote a (Ok tt) es b → wrote b r fs c → wrote a r (es ++ fs) c };
 
     /// What failed, with more still to be written: the whole failed.
-    ghost stop: { (a b : Self) (e : WriteFault) (r : Result (Unit {0}) WriteFault) (es fs : List Event) → IsErr r → wrote a (Err e) es b → wrote a r (es ++ fs) b };
+    ghost stop: { (a b : Self) (e : WriteFault) (r : Result (Unit {0}) WriteFault)
+        (es fs : List Event) → IsErr r → wrote a (Err e) es b → wrote a r (es ++ fs) b };
 }
 
 /// Passes all events on to a sink.
@@ -139,7 +143,8 @@ impl<'a, S> WithParts<'a, S> {
 
 // All events, by the law of the sink, through a borrow that stays the same one.
 impl<S: PartsWrite> EventWriter for WithParts<'_, S> {
-    ghost wrote = { λ a r es b. LentWrites S.events S.failures S.limit S.refusals a.sink r es b.sink };
+    ghost wrote = { λ a r es b.
+        LentWrites S.events S.failures S.limit S.refusals a.sink r es b.sink };
 
     ghost nothing = { λ a. LentWrites-nothing S.events S.failures S.limit S.refusals a.sink };
 
@@ -193,9 +198,19 @@ impl<K: EventWriter> EventWriter for WithoutParts<'_, K> {
 
     ghost nothing = { λ a. (refl, K.nothing a.out.now) };
 
-    ghost then = { λ a b c r es fs h k. (k.0 ∙ h.0, subst (λ (l : List Event). K.wrote a.out.now r l c.out.now) (sym (without_parts-append es fs)) (K.then a.out.now b.out.now c.out.now r (without_parts es) (without_parts fs) h.1 k.1)) };
+    ghost then = { λ a b c r es fs h k. (
+      k.0 ∙ h.0,
+      subst (λ (l : List Event). K.wrote a.out.now r l c.out.now)
+          (sym (without_parts-append es fs))
+          (K.then a.out.now b.out.now c.out.now r (without_parts es) (without_parts fs) h.1 k.1),
+    ) };
 
-    ghost stop = { λ a b e r es fs err h. (h.0, subst (λ (l : List Event). K.wrote a.out.now r l b.out.now) (sym (without_parts-append es fs)) (K.stop a.out.now b.out.now e r (without_parts es) (without_parts fs) err h.1)) };
+    ghost stop = { λ a b e r es fs err h. (
+      h.0,
+      subst (λ (l : List Event). K.wrote a.out.now r l b.out.now)
+          (sym (without_parts-append es fs))
+          (K.stop a.out.now b.out.now e r (without_parts es) (without_parts fs) err h.1),
+    ) };
 
     #[tactic(auto, using(crate::proofs::EventLemmas::text_steps))]
     fn text(&mut self, text: &str) -> Result<(), WriteFault> {

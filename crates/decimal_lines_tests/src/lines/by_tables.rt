@@ -122,7 +122,7 @@ const ANSWERED: [(&[&str], &str, &str); 19] = [
 
 #[test]
 fn answers_by_words_and_tables(rt: HostRuntime) {
-    for (words, input, want) in ANSWERED {
+    for &(words, input, want) in &ANSWERED {
         assert!(rt;
             answers(rt.alloc(), words, SAMPLE.as_bytes(), (input, want)),
             "at {want}"
@@ -191,7 +191,7 @@ const WITHOUT_DATA: [&[&str]; 3] = [
 
 #[test]
 fn refuses_words_without_data(rt: HostRuntime) {
-    for words in WITHOUT_DATA {
+    for &words in &WITHOUT_DATA {
         assert!(rt;
             refuses(rt.alloc(), words, SAMPLE.as_bytes(), StartError::NoData),
             "{}",
@@ -205,7 +205,7 @@ const BROKEN: [&[u8]; 4] = [b"", b"{\"symbols\":[]", b"{\"symbols\":[]}", b"\xff
 
 #[test]
 fn refuses_broken_tables(rt: HostRuntime) {
-    for file in BROKEN {
+    for &file in &BROKEN {
         assert!(rt;
             refuses(
                 rt.alloc(),

@@ -27,7 +27,7 @@ fn is_put_once(alloc: Global, map: &mut BTreeMap<u8, (u8, Elements)>, row: (u8, 
 /// The map of the rows, each put once more where memory was refused; with more want of memory some are left out.
 fn map(alloc: Global) -> BTreeMap<u8, (u8, Elements)> {
     let mut map = BTreeMap::new(alloc);
-    for row in ROWS {
+    for &row in &ROWS {
         if !is_put_once(alloc, &mut map, row) {
             is_put_once(alloc, &mut map, row);
         }
@@ -110,7 +110,7 @@ const LINES: [(&str, &str); 7] = [
 
 #[test]
 fn answers_in_compact_form(rt: HostRuntime) {
-    for (input, want) in LINES {
+    for &(input, want) in &LINES {
         assert!(rt;
             answers(rt.alloc(), input.as_bytes(), want.as_bytes()),
             "at {want}"
@@ -180,7 +180,7 @@ const GOOD: [(usize, &str); 7] = [
 
 #[test]
 fn keeps_whole_lines_where_reading_fails(rt: HostRuntime) {
-    for (good, want) in GOOD {
+    for &(good, want) in &GOOD {
         let wanted = (Err(RunError::Read), want.as_bytes());
         assert!(rt;
             ends(rt.alloc(), good, (usize::MAX, Full::Fails), wanted),

@@ -35,7 +35,7 @@ fn keeps(alloc: Global, room: usize, want: &[u8]) -> bool {
 
 #[test]
 fn keeps_a_beginning_where_writing_fails(rt: HostRuntime) {
-    for (room, want) in ROOMS {
+    for &(room, want) in &ROOMS {
         assert!(rt; keeps(rt.alloc(), room, want.as_bytes()), "after {room}");
     }
 }
@@ -52,7 +52,7 @@ const GOOD: [(usize, &str); 6] = [
 
 #[test]
 fn keeps_whole_lines_where_reading_fails(rt: HostRuntime) {
-    for (good, want) in GOOD {
+    for &(good, want) in &GOOD {
         assert!(rt;
             ends(
                 rt.alloc(),

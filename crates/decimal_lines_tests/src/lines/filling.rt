@@ -54,7 +54,7 @@ fn fills(alloc: Global, room: usize, written: usize, cause: Option<FillError>) -
 
 #[test]
 fn fills_with_all_lines_that_fit(rt: HostRuntime) {
-    for (room, written, cause) in ROOMS {
+    for &(room, written, cause) in &ROOMS {
         assert!(rt; fills(rt.alloc(), room, written, cause), "in {room}");
     }
 }

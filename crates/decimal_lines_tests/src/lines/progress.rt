@@ -65,7 +65,7 @@ fn goes(alloc: Global, room: usize, want: (usize, usize, usize)) -> bool {
 
 #[test]
 fn goes_as_far_as_the_room(rt: HostRuntime) {
-    for (room, consumed, written, needed) in ROOMS {
+    for &(room, consumed, written, needed) in &ROOMS {
         assert!(rt;
             goes(rt.alloc(), room, (consumed, written, needed)),
             "in {room}"

@@ -11,7 +11,9 @@ returns-in-Ok-write_events-clause-ok c =
     let d = c.args.decimal.now in
     let f = c.in-Ok.formatted in
     let told = c.in-Ok.ensures in
-    let e : compact_events format d.sign d.absolute ≡ Ok (signed_compact_shown f) = compact_events-written format d.sign d.absolute (significand_of f.value) f.value.exponent (signed_compact_shown f) told.nearest (λ past. cc (told.overflow.1 past)) in
+    let e : compact_events format d.sign d.absolute ≡ Ok (signed_compact_shown f) =
+    compact_events-written format d.sign d.absolute (significand_of f.value) f.value.exponent (signed_compact_shown f) told.nearest
+    (λ past. cc (told.overflow.1 past)) in
     rw e c.in-Ok-write_events.ensures
 
 pub returns-in-Err-Overflow-clause-refused : goal.returns-in-Err-Overflow-clause-refused

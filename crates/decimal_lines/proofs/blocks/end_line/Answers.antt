@@ -16,8 +16,10 @@ returns-then-is_empty c =
     let is : held ≡ [] = nothing_of held none in
     let out = c.args.out.now.items in
     let same : rest ≡ held ++ rest = ap (λ (k : List ℕ). k ++ rest) (sym is) in
-    let p : c.push_line.new.out.items ≡ out ++ line_output answer (held ++ rest) = c.in_ok-push_line.ensures ∙ ap (λ (k : List ℕ). out ++ line_output answer k) same in
-    let f : Feeds answer (Some out) (Some c.push_line.new.out.items) held (rest ++ 10 ∷ []) [] = Feeds-line answer (Some out) (Some c.push_line.new.out.items) held rest c.requires.held_part c.requires.rest_part p in
+    let p : c.push_line.new.out.items ≡ out ++ line_output answer (held ++ rest) =
+    c.in_ok-push_line.ensures ∙ ap (λ (k : List ℕ). out ++ line_output answer k) same in
+    let f : Feeds answer (Some out) (Some c.push_line.new.out.items) held (rest ++ 10 ∷ []) [] =
+    Feeds-line answer (Some out) (Some c.push_line.new.out.items) held rest c.requires.held_part c.requires.rest_part p in
     subst (λ (k : List ℕ). Feeds answer (Some out) (Some c.push_line.new.out.items) held (rest ++ 10 ∷ []) k) (sym is) f
 
 pub returns : goal.returns
@@ -26,5 +28,7 @@ returns c =
     let held = c.args.held.now.items in
     let rest = c.args.rest.now in
     let out = c.args.out.now.items in
-    let p : c.push_line-2.new.out.items ≡ out ++ line_output answer (held ++ rest) = c.in_ok-push_line-2.ensures ∙ ap (λ (k : List ℕ). out ++ line_output answer k) (c.deref.ensures.value ∙ c.in_ok-extend_from_slice.ensures.items) in
+    let p : c.push_line-2.new.out.items ≡ out ++ line_output answer (held ++ rest) =
+    c.in_ok-push_line-2.ensures ∙ ap (λ (k : List ℕ). out ++ line_output answer k)
+    (c.deref.ensures.value ∙ c.in_ok-extend_from_slice.ensures.items) in
     rw c.clear.ensures.items (Feeds-line answer (Some out) (Some c.push_line-2.new.out.items) held rest c.requires.held_part c.requires.rest_part p)

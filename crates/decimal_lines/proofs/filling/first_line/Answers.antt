@@ -8,7 +8,8 @@ returns-in-Some c =
     let hay = c.args.bytes.now in
     let line = c.split_at.result.0.now in
     let after = c.split_at-in-Some.result.1.now in
-    let e : hay ≡ (line ++ 10 ∷ []) ++ after = rw (c.split_at-in-Some.ensures.back, c.split_at.ensures.back, c.split_at.ensures.front) (line_split hay c.in-Some.n c.in-Some.ensures.0 c.in-Some.ensures.1) in
+    let e : hay ≡ (line ++ 10 ∷ []) ++ after = rw (c.split_at-in-Some.ensures.back, c.split_at.ensures.back, c.split_at.ensures.front)
+    (line_split hay c.in-Some.n c.in-Some.ensures.0 c.in-Some.ensures.1) in
     record { is_part = rw c.split_at.ensures.front (IsPartLine-front hay c.in-Some.n c.in-Some.ensures.0); parts = inl e }
 
 -- the last line ends without a line feed

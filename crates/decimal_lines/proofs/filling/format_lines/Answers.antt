@@ -25,4 +25,5 @@ returns-in-Err-clause-memory c =
 pub loop-left-preserved : goal.loop-left-preserved
 loop-left-preserved c =
     let some : 0 < length c.loop-left.left.now = grind (arith, nat_tests, c.is_empty.ensures) in
-    rw c.in-Ok.ensures.end (Fills-then (answer_to c.args.mode.now) _ _ _ _ _ c.loop-left.invariant some _ _ c.first_line.ensures _ c.in-Ok.ensures.fits c.in-Ok.ensures.bytes)
+    rw c.in-Ok.ensures.end (Fills-then (answer_to c.args.mode.now) _ _ _ _ _ c.loop-left.invariant some _ _ c.first_line.ensures _ c.in-Ok.ensures.fits
+    c.in-Ok.ensures.bytes)

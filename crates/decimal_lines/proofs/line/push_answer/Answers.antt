@@ -10,7 +10,8 @@ returns-in-Ok c =
     let mode = c.args.mode.now in
     let d = c.in-Ok.decimal in
     let told = c.in-Ok.ensures in
-    let e : answer_to mode c.args.text.now ≡ shown_by mode d.sign d.absolute = answer_to-decimal mode c.args.text.now d.sign d.absolute told.reads (λ past. cc (told.limit.1 past)) in
+    let e : answer_to mode c.args.text.now ≡ shown_by mode d.sign d.absolute =
+    answer_to-decimal mode c.args.text.now d.sign d.absolute told.reads (λ past. cc (told.limit.1 past)) in
     rw e c.push_decimal.ensures
 
 pub returns-in-Err-Syntax : goal.returns-in-Err-Syntax
@@ -25,4 +26,5 @@ returns-in-Err-Limit c =
     let mode = c.args.mode.now in
     let told = rw c.in-Err-Limit.field-0-is at c.in-Err-Limit.ensures.limit in
     let e : answer_to mode c.args.text.now ≡ codes "error: too many digits" = answer_to-past mode c.args.text.now (told.0 refl) in
-    rw e (appended c.extend_from_slice-in-Err-Limit.result _ c.args.out.now.items (codes "error: too many digits") c.extend_from_slice-in-Err-Limit.ensures.items)
+    rw e (appended c.extend_from_slice-in-Err-Limit.result _ c.args.out.now.items (codes "error: too many digits")
+    c.extend_from_slice-in-Err-Limit.ensures.items)

@@ -11,7 +11,9 @@ returns-in-Ok-write_to_parts-clause-ok c =
     let d = c.args.decimal.now in
     let f = c.in-Ok.formatted in
     let told = c.in-Ok.ensures in
-    let shown : compact_events format d.sign d.absolute ≡ Ok (signed_compact_shown f) = compact_events-written format d.sign d.absolute (significand_of f.value) f.value.exponent (signed_compact_shown f) told.nearest (λ past. cc (told.overflow.1 past)) in
+    let shown : compact_events format d.sign d.absolute ≡ Ok (signed_compact_shown f) =
+    compact_events-written format d.sign d.absolute (significand_of f.value) f.value.exponent (signed_compact_shown f) told.nearest
+    (λ past. cc (told.overflow.1 past)) in
     let written : c.write_to_parts.new.sink.events ≡ signed_compact_shown f = (rw c.new-text.ensures at c.in-Ok-write_to_parts.ensures.writes).held in
     shown ∙ ap Ok (sym written)
 

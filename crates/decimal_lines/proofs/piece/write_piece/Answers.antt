@@ -10,5 +10,6 @@ loop-rest-preserved g c =
     let rest = c.loop-rest.rest.now in (
       i.0 ++ take n rest,
       Appends-then _ _ _ _ _ i.1 c.in-Ok.ensures.bytes,
-      i.2 ∙ ap (λ (k : List ℕ). i.0 ++ k) (sym (take-append-drop n rest)) ∙ sym (append_assoc i.0 (take n rest) (drop n rest)) ∙ rw c.split_at.ensures.back,
+      i.2 ∙ ap (λ (k : List ℕ). i.0 ++ k) (sym (take-append-drop n rest)) ∙ sym (append_assoc i.0 (take n rest) (drop n rest))
+          ∙ rw c.split_at.ensures.back,
     )

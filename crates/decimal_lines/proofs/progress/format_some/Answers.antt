@@ -14,7 +14,8 @@ returns-in-Err-clause-too_small c =
     let some : 0 < length c.loop-left.left.now = grind (arith, nat_tests, c.is_empty.ensures) in
     let told : c.deref.result.now ≡ line_output (answer_to c.args.mode.now) c.first_line.result.0.now = c.deref.ensures.value ∙ c.in-Ok.ensures in
     let no_room = rw told at c.in-Err.ensures.too_small.1 in
-    let count : c.len.result ≡ length (line_output (answer_to c.args.mode.now) c.first_line.result.0.now) = c.len.ensures ∙ sym c.deref.ensures.len ∙ ap (λ (k : List ℕ). length k) told in
+    let count : c.len.result ≡ length (line_output (answer_to c.args.mode.now) c.first_line.result.0.now) =
+    c.len.ensures ∙ sym c.deref.ensures.len ∙ ap (λ (k : List ℕ). length k) told in
     λ e. rw (c.stopped-in-Err.ensures, count) (Fills-needs (answer_to c.args.mode.now) _ _ _ _ _ c.loop-left.invariant some _ _ c.first_line.ensures no_room)
 
 pub loop-left-preserved : goal.loop-left-preserved
@@ -22,4 +23,5 @@ loop-left-preserved c =
     let some : 0 < length c.loop-left.left.now = grind (arith, nat_tests, c.is_empty.ensures) in
     let told : c.deref.result.now ≡ line_output (answer_to c.args.mode.now) c.first_line.result.0.now = c.deref.ensures.value ∙ c.in-Ok.ensures in
     let fits = rw told at c.in-Ok-place.ensures.fits in
-    rw fits.0 (Fills-then (answer_to c.args.mode.now) _ _ _ _ _ c.loop-left.invariant some _ _ c.first_line.ensures _ fits.1 (rw told at c.in-Ok-place.ensures.bytes))
+    rw fits.0 (Fills-then (answer_to c.args.mode.now) _ _ _ _ _ c.loop-left.invariant some _ _ c.first_line.ensures _ fits.1
+    (rw told at c.in-Ok-place.ensures.bytes))

@@ -15,19 +15,25 @@ pub returns-in-Ok-write_piece-clause-ok : goal.returns-in-Ok-write_piece-clause-
 returns-in-Ok-write_piece-clause-ok g c =
     let answer = answer_to c.args.mode.now in
     let held = c.args.held.now in
-    let e : c.deref.result.now ≡ output_of answer held = c.deref.ensures.value ∙ c.in-Ok.ensures ∙ ap (λ (k : List ℕ). k ++ line_output answer held) c.clear.ensures.items ∙ sym (output_of-part answer held c.requires (sym c.if-is_empty.ensures)) in
+    let e : c.deref.result.now ≡ output_of answer held = c.deref.ensures.value ∙ c.in-Ok.ensures
+    ∙ ap (λ (k : List ℕ). k ++ line_output answer held) c.clear.ensures.items
+    ∙ sym (output_of-part answer held c.requires (sym c.if-is_empty.ensures)) in
     rw e at c.in-Ok-write_piece.ensures.ok
 
 pub returns-in-Err-clause-err : goal.returns-in-Err-clause-err
 returns-in-Err-clause-err g c =
     let answer = answer_to c.args.mode.now in
     let held = c.args.held.now in
-    let e : c.deref.result.now ≡ output_of answer held = c.deref.ensures.value ∙ c.in-Ok.ensures ∙ ap (λ (k : List ℕ). k ++ line_output answer held) c.clear.ensures.items ∙ sym (output_of-part answer held c.requires (sym c.if-is_empty.ensures)) in
+    let e : c.deref.result.now ≡ output_of answer held = c.deref.ensures.value ∙ c.in-Ok.ensures
+    ∙ ap (λ (k : List ℕ). k ++ line_output answer held) c.clear.ensures.items
+    ∙ sym (output_of-part answer held c.requires (sym c.if-is_empty.ensures)) in
     AppendsProperBeginning-is_beginning _ _ _ (rw e at c.in-Err.ensures.err)
 
 pub returns-in-Err-clause-write : goal.returns-in-Err-clause-write
 returns-in-Err-clause-write g c =
     let answer = answer_to c.args.mode.now in
     let held = c.args.held.now in
-    let e : c.deref.result.now ≡ output_of answer held = c.deref.ensures.value ∙ c.in-Ok.ensures ∙ ap (λ (k : List ℕ). k ++ line_output answer held) c.clear.ensures.items ∙ sym (output_of-part answer held c.requires (sym c.if-is_empty.ensures)) in
+    let e : c.deref.result.now ≡ output_of answer held = c.deref.ensures.value ∙ c.in-Ok.ensures
+    ∙ ap (λ (k : List ℕ). k ++ line_output answer held) c.clear.ensures.items
+    ∙ sym (output_of-part answer held c.requires (sym c.if-is_empty.ensures)) in
     λ _. rw e at c.in-Err.ensures.err

@@ -8,7 +8,10 @@ use Rattle.decimal_lines.proofs.Runs.{stops, breaks, pauses, proper, ends, ends_
 use Rattle.std.specs.Io.KnownBytes.{Consumes}
 use Rattle.decimal_lines.proofs.running.run_by.Given.{Over}
 use Rattle.decimal_lines.proofs.running.run_by.Goals as goal
-use Rattle.decimal_lines.proofs.running.run_by.Goals.{else-loop-test, then-loop-test+in-Ok+else-n-eq0+in-Ok-take_block+in-Ok-write_piece+else-counter-lt18446744073709551615}
+use Rattle.decimal_lines.proofs.running.run_by.Goals.{
+  else-loop-test,
+  then-loop-test+in-Ok+else-n-eq0+in-Ok-take_block+in-Ok-write_piece+else-counter-lt18446744073709551615,
+}
 
 pub loop-init : goal.loop-init
 loop-init g c = ([], Consumes-nothing _, rw c.new-held.ensures.items (Feeds-nothing _ _ _ tt))
@@ -49,7 +52,8 @@ returns-in_default-write_piece-clause-err g c =
     let chunk = take c.in-Ok.n c.read.new.buf in
     let fed = rw c.clear.ensures.items at c.in-Ok-take_block.ensures in
     let cut = rw c.deref-in-loop.ensures.value at c.in_default-write_piece.ensures.err in
-    proper _ _ _ _ (breaks _ _ _ _ _ (i.0 ++ chunk) (Consumes-then _ _ _ i.0 _ i.1 c.in-Ok.ensures.bytes.0) (Feeds-breaks _ _ _ _ [] i.0 c.loop.held.items chunk i.2 (Feeds-unwritten _ _ _ c.loop.held.items chunk _ _ fed cut)))
+    proper _ _ _ _ (breaks _ _ _ _ _ (i.0 ++ chunk) (Consumes-then _ _ _ i.0 _ i.1 c.in-Ok.ensures.bytes.0)
+    (Feeds-breaks _ _ _ _ [] i.0 c.loop.held.items chunk i.2 (Feeds-unwritten _ _ _ c.loop.held.items chunk _ _ fed cut)))
 
 pub returns-in_default-write_piece-clause-write : goal.returns-in_default-write_piece-clause-write
 returns-in_default-write_piece-clause-write g c =
@@ -57,18 +61,23 @@ returns-in_default-write_piece-clause-write g c =
     let chunk = take c.in-Ok.n c.read.new.buf in
     let fed = rw c.clear.ensures.items at c.in-Ok-take_block.ensures in
     let cut = rw c.deref-in-loop.ensures.value at c.in_default-write_piece.ensures.err in
-    λ _. breaks _ _ _ _ _ (i.0 ++ chunk) (Consumes-then _ _ _ i.0 _ i.1 c.in-Ok.ensures.bytes.0) (Feeds-breaks _ _ _ _ [] i.0 c.loop.held.items chunk i.2 (Feeds-unwritten _ _ _ c.loop.held.items chunk _ _ fed cut))
+    λ _. breaks _ _ _ _ _ (i.0 ++ chunk) (Consumes-then _ _ _ i.0 _ i.1 c.in-Ok.ensures.bytes.0)
+    (Feeds-breaks _ _ _ _ [] i.0 c.loop.held.items chunk i.2 (Feeds-unwritten _ _ _ c.loop.held.items chunk _ _ fed cut))
 
 pub loop-preserved : goal.loop-preserved
 loop-preserved g c =
     let i = c.loop.invariant in
     let chunk = take c.in-Ok.n c.read.new.buf in
     let fed = rw c.clear.ensures.items at c.in-Ok-take_block.ensures in
-    let all = rw c.deref-in-loop.ensures.value at c.in-Ok-write_piece.ensures.ok in
-    (i.0 ++ chunk, Consumes-then _ _ _ i.0 _ i.1 c.in-Ok.ensures.bytes.0, Feeds-then _ _ _ _ [] i.0 c.loop.held.items chunk _ i.2 (Feeds-written _ _ _ c.loop.held.items chunk _ _ fed all))
+    let all = rw c.deref-in-loop.ensures.value at c.in-Ok-write_piece.ensures.ok in (
+      i.0 ++ chunk,
+      Consumes-then _ _ _ i.0 _ i.1 c.in-Ok.ensures.bytes.0,
+      Feeds-then _ _ _ _ [] i.0 c.loop.held.items chunk _ i.2 (Feeds-written _ _ _ c.loop.held.items chunk _ _ fed all),
+    )
 
 -- what holds after the last turn
-ends_so : (g : Over) (c : goal.After-drop-held-2 g) → (got : List ℕ) × Consumes (g.R.Read.remaining c.args.reader.now) (g.R.Read.remaining c.loop-test.reader) got
+ends_so : (g : Over) (c : goal.After-drop-held-2 g) → (got : List ℕ)
+    × Consumes (g.R.Read.remaining c.args.reader.now) (g.R.Read.remaining c.loop-test.reader) got
     × Feeds (answer_to c.args.mode.now) (g.W.Write.contents c.args.writer.now) (g.W.Write.contents c.loop-test.writer) [] got c.loop-test.held.items
 ends_so g c = elim c.loop-test.branch [
   | else-loop-test w ↦ rw (w.reader-is, w.writer-is, w.held-is) c.loop.invariant
@@ -77,7 +86,11 @@ ends_so g c = elim c.loop-test.branch [
       let chunk = take w.in-Ok.n w.read.new.buf in
       let fed = rw w.clear.ensures.items at w.in-Ok-take_block.ensures in
       let all = rw w.deref-in-loop.ensures.value at w.in-Ok-write_piece.ensures.ok in
-      rw (w.reader-is, w.writer-is, w.held-is) (i.0 ++ chunk, Consumes-then _ _ _ i.0 _ i.1 w.in-Ok.ensures.bytes.0, Feeds-then _ _ _ _ [] i.0 c.loop.held.items chunk _ i.2 (Feeds-written _ _ _ c.loop.held.items chunk _ _ fed all))
+      rw (w.reader-is, w.writer-is, w.held-is) (
+        i.0 ++ chunk,
+        Consumes-then _ _ _ i.0 _ i.1 w.in-Ok.ensures.bytes.0,
+        Feeds-then _ _ _ _ [] i.0 c.loop.held.items chunk _ i.2 (Feeds-written _ _ _ c.loop.held.items chunk _ _ fed all),
+      )
 ]
 
 pub returns-clause-err : goal.returns-clause-err

@@ -16,5 +16,6 @@ steps-preserved c =
     let within = step_within c.args.text.now c.steps.count c.digits_from-run.result (omega arith) c.digits_from-run.ensures in
     record {
       within = omega (arith, within);
-      so_far = step_goes_on c.args.text.now c.steps.count c.digits_from-run.result (omega arith) c.digits_from-run.ensures c.if-run-lt-LANES.false c.steps.invariant.so_far;
+      so_far = step_goes_on c.args.text.now c.steps.count c.digits_from-run.result (omega arith) c.digits_from-run.ensures c.if-run-lt-LANES.false
+          c.steps.invariant.so_far;
     }

@@ -11,7 +11,8 @@ pub returns-then-first-lt5 : goal.returns-then-first-lt5
 returns-then-first-lt5 c = below_at _ c.args.kept c.args.digits.now c.requires.some_dropped c.requires.below_ten c.if-first-lt5.true
 
 pub returns-then-not-is_all_zero : goal.returns-then-not-is_all_zero
-returns-then-not-is_all_zero c = five_above_at _ c.args.kept c.args.digits.now c.requires.some_dropped (omega arith) (λ all. false≢true ((simp take_rest at c.if-not-is_all_zero.ensures).1 all))
+returns-then-not-is_all_zero c = five_above_at _ c.args.kept c.args.digits.now c.requires.some_dropped (omega arith)
+    (λ all. false≢true ((simp take_rest at c.if-not-is_all_zero.ensures).1 all))
 
 pub returns-then-kept-gt0 : goal.returns-then-kept-gt0
 returns-then-kept-gt0 c =

@@ -8,5 +8,6 @@ returns-clause-digits c = lane_values c.args.text.now _ _ _ c.requires.lanes c.r
 
 pub returns-clause-valid : goal.returns-clause-valid
 returns-clause-valid c =
-    let e : take (length c.args.text.now) c.values_of.result ≡ digit_values c.args.text.now = lane_values c.args.text.now _ _ _ c.requires.lanes c.requires.written c.values_of.ensures in
+    let e : take (length c.args.text.now) c.values_of.result ≡ digit_values c.args.text.now =
+    lane_values c.args.text.now _ _ _ c.requires.lanes c.requires.written c.values_of.ensures in
     rw e (whole_valid c.args.text.now c.requires.written c.requires.some c.requires.short)

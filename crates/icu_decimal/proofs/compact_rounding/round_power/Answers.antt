@@ -4,7 +4,9 @@ use Rattle.icu_decimal.proofs.PowerPlaces.{rounding_place_at_exponent, rounding_
 use Rattle.icu_decimal.proofs.compact_rounding.round_power.Goals as goal
 
 pub returns-then-magnitude-exponent-clause-place : goal.returns-then-magnitude-exponent-clause-place
-returns-then-magnitude-exponent-clause-place c = rounding_place_at_exponent c.args.exponent c.args.magnitude _ c.ranges.magnitude (omega (arith, ints)) (omega (arith, ints))
+returns-then-magnitude-exponent-clause-place c = rounding_place_at_exponent c.args.exponent c.args.magnitude _ c.ranges.magnitude (omega (arith, ints))
+    (omega (arith, ints))
 
 pub returns-else-magnitude-exponent-clause-place : goal.returns-else-magnitude-exponent-clause-place
-returns-else-magnitude-exponent-clause-place c = rounding_place_below_magnitude c.args.exponent c.args.magnitude _ c.ranges.magnitude (omega (arith, ints)) (omega (arith, ints))
+returns-else-magnitude-exponent-clause-place c = rounding_place_below_magnitude c.args.exponent c.args.magnitude _ c.ranges.magnitude (omega (arith, ints))
+    (omega (arith, ints))

@@ -13,4 +13,5 @@ pub record IsLeft (rest whole : List TableEntry) (size : ℕ) : Type 0 where
   pub fits : size ≤ 2 ^ 64 - 1
 
 abbrev pub invariant-loop-log10_type : goal.invariant-loop-log10_type
-invariant-loop-log10_type g l = IsLeft (kept_since (at l.zero_magnitude) (at l.last) (given l.log10_type-iterator)) (kept (at l.zero_magnitude) (given l.map.entries)) l.size
+invariant-loop-log10_type g l = IsLeft (kept_since (at l.zero_magnitude) (at l.last) (given l.log10_type-iterator))
+    (kept (at l.zero_magnitude) (given l.map.entries)) l.size

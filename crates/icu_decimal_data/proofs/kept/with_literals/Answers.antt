@@ -6,8 +6,12 @@ use Rattle.icu_decimal_data.proofs.kept.with_literals.Goals as goal
 
 pub loop-slot-preserved : goal.loop-slot-preserved
 loop-slot-preserved g c =
-    let this : c.literal_size.result ≡ slot_size (slice_index_or (slots c.args.elements.now) c.loop-slot.slot None) = c.literal_size.ensures ∙ ap slot_size c.slot.ensures in
-    (omega arith, rw (c.saturating_add-size.ensures, this) (size_step (slots c.args.elements.now) c.loop-slot.slot c.loop-slot.size (2 ^ 64 - 1) c.loop-slot-test.true ∙ c.loop-slot.invariant.1))
+    let this : c.literal_size.result ≡ slot_size (slice_index_or (slots c.args.elements.now) c.loop-slot.slot None) =
+    c.literal_size.ensures ∙ ap slot_size c.slot.ensures in (
+      omega arith,
+      rw (c.saturating_add-size.ensures, this) (size_step (slots c.args.elements.now) c.loop-slot.slot c.loop-slot.size (2 ^ 64 - 1)
+          c.loop-slot-test.true ∙ c.loop-slot.invariant.1),
+    )
 
 pub returns : goal.returns
 returns g c =

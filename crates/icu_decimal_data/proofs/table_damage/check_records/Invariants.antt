@@ -8,4 +8,5 @@ abbrev pub invariant-loop-i : goal.invariant-loop-i
 invariant-loop-i g l =
     (l.total ≤ length l.pool)
     × (IfSome l.before (λ b. length b.now ≡ 58))
-    × (records_step g.P.PatternBackend.accepted l.pool l.pool_start (l.count - l.i) (option_map (λ b. b.now) l.before) (4 + 58 * l.i) l.total (drop (58 * l.i) l.records) ≡ records_step g.P.PatternBackend.accepted l.pool l.pool_start l.count None 4 0 l.records)
+    × (records_step g.P.PatternBackend.accepted l.pool l.pool_start (l.count - l.i) (option_map (λ b. b.now) l.before) (4 + 58 * l.i) l.total
+    (drop (58 * l.i) l.records) ≡ records_step g.P.PatternBackend.accepted l.pool l.pool_start l.count None 4 0 l.records)

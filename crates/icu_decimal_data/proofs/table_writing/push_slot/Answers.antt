@@ -7,7 +7,9 @@ use Rattle.icu_decimal_data.proofs.table_writing.push_slot.Goals as goal
 pub returns-clause-pattern : goal.returns-clause-pattern
 returns-clause-pattern g c =
     let good : ArePatterns g.P.PatternBackend.accepted (Some c.in-Some.pattern.now ∷ []) =
-    pattern_good g.P.PatternBackend.accepted c.in-Some.pattern.now (text_of_ref c.as_ref-pattern.result) c.as_bytes-literal.result.now c.as_bytes-literal.ensures.utf8 (c.as_bytes-literal.ensures.value ∙ c.literal.ensures) c.as_ref-pattern.ensures.lent c.as_ref-pattern.ensures.accepted in
+    pattern_good g.P.PatternBackend.accepted c.in-Some.pattern.now (text_of_ref c.as_ref-pattern.result) c.as_bytes-literal.result.now
+    c.as_bytes-literal.ensures.utf8 (c.as_bytes-literal.ensures.value ∙ c.literal.ensures) c.as_ref-pattern.ensures.lent
+    c.as_ref-pattern.ensures.accepted in
     rw c.in-Some.is (on_ok c.extend_from_slice-2.result good)
 
 -- Goals that a search finds; it is not tried longer where one is false.

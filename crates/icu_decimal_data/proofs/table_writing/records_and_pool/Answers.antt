@@ -8,7 +8,13 @@ use Rattle.icu_decimal_data.proofs.table_writing.records_and_pool.Goals as goal
 
 pub loop-log10_type-init : goal.loop-log10_type-init
 loop-log10_type-init g c =
-    rw (c.new-records.ensures.items, c.new-pool.ensures.items, c.into_iter-log10_type-iterator.ensures.into_iter_gives.0, kept_since_start (at c.args.zero_magnitude) (given c.args.map.now.entries)) (none_written g.P.PatternBackend.accepted (kept (at c.args.zero_magnitude) (given c.args.map.now.entries)))
+    rw (
+      c.new-records.ensures.items,
+      c.new-pool.ensures.items,
+      c.into_iter-log10_type-iterator.ensures.into_iter_gives.0,
+      kept_since_start (at c.args.zero_magnitude) (given c.args.map.now.entries),
+    )
+    (none_written g.P.PatternBackend.accepted (kept (at c.args.zero_magnitude) (given c.args.map.now.entries)))
 
 pub push_slots-requires : goal.push_slots-requires
 push_slots-requires g c =
@@ -17,7 +23,8 @@ push_slots-requires g c =
     let last = at c.loop-log10_type.last in
     let es = given c.next.new.self in
     let whole = kept plain (given c.args.map.now.entries) in
-    let left : IsWritten g.P.PatternBackend.accepted (kept_since plain last (e ∷ es)) whole c.loop-log10_type.records.items c.loop-log10_type.pool.items = rw c.in-Some.ensures.steps at c.loop-log10_type.invariant in
+    let left : IsWritten g.P.PatternBackend.accepted (kept_since plain last (e ∷ es)) whole c.loop-log10_type.records.items c.loop-log10_type.pool.items =
+    rw c.in-Some.ensures.steps at c.loop-log10_type.invariant in
     let here : stays plain last e.elements ≡ true = sym c.stays.ensures ∙ c.if-stays.true in
     kept_room g.P.PatternBackend.accepted plain last e es whole c.loop-log10_type.records.items c.loop-log10_type.pool.items here left c.requires
 
@@ -28,11 +35,13 @@ loop-log10_type-preserved-then-stays g c =
     let last = at c.loop-log10_type.last in
     let es = given c.next.new.self in
     let whole = kept plain (given c.args.map.now.entries) in
-    let left : IsWritten g.P.PatternBackend.accepted (kept_since plain last (e ∷ es)) whole c.loop-log10_type.records.items c.loop-log10_type.pool.items = rw c.in-Some.ensures.steps at c.loop-log10_type.invariant in
+    let left : IsWritten g.P.PatternBackend.accepted (kept_since plain last (e ∷ es)) whole c.loop-log10_type.records.items c.loop-log10_type.pool.items =
+    rw c.in-Some.ensures.steps at c.loop-log10_type.invariant in
     let here : stays plain last e.elements ≡ true = sym c.stays.ensures ∙ c.if-stays.true in
     let done = c.in_ok-push_slots.ensures in
     let two = rw c.in_ok-push.ensures.items at c.in_ok-push-2.ensures.items in
-    kept_written g.P.PatternBackend.accepted plain last e es whole c.loop-log10_type.records.items c.loop-log10_type.pool.items here left c.push_slots.new.records.items c.push_slots.new.pool.items (rw two at done.records) done.pool (omega arith) done.patterns
+    kept_written g.P.PatternBackend.accepted plain last e es whole c.loop-log10_type.records.items c.loop-log10_type.pool.items here left
+    c.push_slots.new.records.items c.push_slots.new.pool.items (rw two at done.records) done.pool (omega arith) done.patterns
 
 -- Goals that a search finds; it is not tried longer where one is false.
 pub returns-in_err-push-clause-records : goal.returns-in_err-push-clause-records

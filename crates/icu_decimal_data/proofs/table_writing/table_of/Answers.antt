@@ -9,8 +9,10 @@ use Rattle.icu_decimal_data.proofs.table_writing.table_of.Goals as goal
 pub push_number-requires : goal.push_number-requires
 push_number-requires g c =
     let table = kept (at c.args.zero_magnitude) (given c.args.map.now.entries) in
-    let count : c.len-3.result / 58 ≡ length table = ap (λ (n : ℕ). n / 58) (c.len-3.ensures ∙ c.in_ok-records.records.ok.0) ∙ count_is c.in_ok-records.records.items table c.in_ok-records.ensures.records in
-    let few = few_kept (at c.args.zero_magnitude) c.args.map.now.entries g.P.PatternBackend.accepted c.records_and_pool.ensures.sorted c.in_ok-records.ensures.writable in
+    let count : c.len-3.result / 58 ≡ length table = ap (λ (n : ℕ). n / 58) (c.len-3.ensures ∙ c.in_ok-records.records.ok.0)
+    ∙ count_is c.in_ok-records.records.items table c.in_ok-records.ensures.records in
+    let few = few_kept (at c.args.zero_magnitude) c.args.map.now.entries g.P.PatternBackend.accepted c.records_and_pool.ensures.sorted
+    c.in_ok-records.ensures.writable in
     omega arith
 
 pub returns-clause-bytes : goal.returns-clause-bytes
@@ -18,12 +20,15 @@ returns-clause-bytes g c =
     let table = kept (at c.args.zero_magnitude) (given c.args.map.now.entries) in
     let records = c.in_ok-records.records.items in
     let pool = c.in_ok-records.pool.items in
-    let count : c.len-3.result / 58 ≡ length table = ap (λ (n : ℕ). n / 58) (c.len-3.ensures ∙ c.in_ok-records.records.ok.0) ∙ count_is records table c.in_ok-records.ensures.records in
+    let count : c.len-3.result / 58 ≡ length table = ap (λ (n : ℕ). n / 58) (c.len-3.ensures ∙ c.in_ok-records.records.ok.0)
+    ∙ count_is records table c.in_ok-records.ensures.records in
     let one = c.in_ok-push_number.ensures ∙ ap (λ (x : List ℕ). x ++ number_bytes (c.len-3.result / 58)) c.in_ok-bytes.ensures.items in
     let two = c.in_ok-push_number-2.ensures ∙ ap (λ (x : List ℕ). x ++ number_bytes c.len-4.result) one in
     let three = pushed c.deref.result.now two c.in_ok-extend_from_slice.was c.extend_from_slice.ensures.items in
     let four = pushed c.deref-2.result.now three c.in_ok-extend_from_slice-2.was c.extend_from_slice-2.ensures.items in
-    four ∙ whole_is table c.deref.result.now c.deref-2.result.now (c.len-3.result / 58) c.len-4.result (c.deref.ensures.value ∙ c.in_ok-records.ensures.records) (c.deref-2.ensures.value ∙ c.in_ok-records.ensures.pool) count (c.len-4.ensures ∙ c.in_ok-records.pool.ok.0 ∙ ap length (sym c.deref-2.ensures.value))
+    four ∙ whole_is table c.deref.result.now c.deref-2.result.now (c.len-3.result / 58) c.len-4.result
+    (c.deref.ensures.value ∙ c.in_ok-records.ensures.records) (c.deref-2.ensures.value ∙ c.in_ok-records.ensures.pool) count
+    (c.len-4.ensures ∙ c.in_ok-records.pool.ok.0 ∙ ap length (sym c.deref-2.ensures.value))
 
 -- Goals that a search finds; it is not tried longer where one is false.
 pub returns-in_err-records-clause-bytes : goal.returns-in_err-records-clause-bytes

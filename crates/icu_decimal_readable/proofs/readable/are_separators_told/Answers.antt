@@ -9,7 +9,8 @@ returns-then-has_same_characters c = (λ e. cc, λ h. absurd (h.decimal_some (c.
 pub returns : goal.returns
 returns c = (
   λ e. record {
-    decimal_some = λ none. false_not_true c.has_same_characters.result c.if-has_same_characters.false (c.has_same_characters.ensures.1 (none ∙ sym chars-nil));
+    decimal_some = λ none. false_not_true c.has_same_characters.result c.if-has_same_characters.false
+        (c.has_same_characters.ensures.1 (none ∙ sym chars-nil));
     separators_differ = λ same. not_both c.has_same_characters-2.result e (c.has_same_characters-2.ensures.1 same);
   },
   λ h. untrue c.has_same_characters-2.result (λ t. h.separators_differ (c.has_same_characters-2.ensures.0 t)),

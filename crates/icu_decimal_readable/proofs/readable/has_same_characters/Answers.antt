@@ -5,5 +5,6 @@ use Rattle.icu_decimal_readable.proofs.readable.has_same_characters.Goals as goa
 pub returns : goal.returns
 returns c = (
   λ e. let same : c.args.a.now ≡ c.args.b.now = search rules in ap chars same,
-  λ e. let same : c.args.a.now ≡ c.args.b.now = sym (encodes-chars c.args.a.now c.utf8.a) ∙ ap encode_utf8_all e ∙ encodes-chars c.args.b.now c.utf8.b in search rules,
+  λ e. let same : c.args.a.now ≡ c.args.b.now = sym (encodes-chars c.args.a.now c.utf8.a) ∙ ap encode_utf8_all e ∙ encodes-chars c.args.b.now c.utf8.b in
+      search rules,
 )

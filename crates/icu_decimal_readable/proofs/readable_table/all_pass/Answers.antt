@@ -9,8 +9,15 @@ returns-then-not-passes g c = (λ e. cc, λ h. absurd (false_not_true c.passes.r
 
 pub returns-then-not-entry_passes : goal.returns-then-not-entry_passes
 returns-then-not-entry_passes g c =
-    let within : c.loop-index.index < length c.args.patterns.now = omega arith in
-    (λ e. cc, λ h. absurd (entry_failed (g.T.PatternTest.holds c.args.test.now) c.args.patterns.now c.loop-index.index c.entry_passes.result within c.if-not-entry_passes.true c.entry_passes.ensures h))
+    let within : c.loop-index.index < length c.args.patterns.now = omega arith in (
+      λ e. cc,
+      λ h. absurd (entry_failed (g.T.PatternTest.holds c.args.test.now) c.args.patterns.now c.loop-index.index c.entry_passes.result within
+          c.if-not-entry_passes.true c.entry_passes.ensures h),
+    )
 
 pub returns : goal.returns
-returns g c = (λ e. throughout (g.T.PatternTest.holds c.args.test.now) c.args.patterns.now (c.passes.ensures.0 c.if-not-passes.false) (λ k within. c.loop-index.invariant k (omega arith)), λ h. refl)
+returns g c = (
+  λ e. throughout (g.T.PatternTest.holds c.args.test.now) c.args.patterns.now (c.passes.ensures.0 c.if-not-passes.false)
+      (λ k within. c.loop-index.invariant k (omega arith)),
+  λ h. refl,
+)

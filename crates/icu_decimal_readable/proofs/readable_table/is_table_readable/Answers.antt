@@ -8,6 +8,7 @@ returns c =
     let texts = c.args.symbols.now.strings in
     let given = texts_given c.from.result in
     let table = c.args.table.now in (
-      λ e. readable_table_of texts c.args.digits.now table (c.all_pass.ensures.0 c.if-not-all_pass.false) (told_with texts given table c.from.ensures.0 (c.all_pass-2.ensures.0 e)),
+      λ e. readable_table_of texts c.args.digits.now table (c.all_pass.ensures.0 c.if-not-all_pass.false)
+          (told_with texts given table c.from.ensures.0 (c.all_pass-2.ensures.0 e)),
       λ h. c.all_pass-2.ensures.1 (told_with given texts table (sym c.from.ensures.0) (told_throughout texts c.args.digits.now table h)),
     )

@@ -7,12 +7,14 @@ use Rattle.icu_decimal_readable.proofs.readable_table.is_told_from.Goals as goal
 
 pub returns-then-not-are_told : goal.returns-then-not-are_told
 returns-then-not-are_told c =
-    let told = told_as (texts_given c.args.texts.now) c.args.first c.with_sign.result (record c.args.second { sign = NoSign }) c.are_told.result c.with_sign.ensures c.are_told.ensures in
+    let told = told_as (texts_given c.args.texts.now) c.args.first c.with_sign.result (record c.args.second { sign = NoSign }) c.are_told.result
+    c.with_sign.ensures c.are_told.ensures in
     (λ e. cc, λ h. absurd (false_not_true c.are_told.result c.if-not-are_told.true (told.1 (h NoSign))))
 
 pub returns-then-not-are_told-2 : goal.returns-then-not-are_told-2
 returns-then-not-are_told-2 c =
-    let told = told_as (texts_given c.args.texts.now) c.args.first c.with_sign-2.result (record c.args.second { sign = Negative }) c.are_told-2.result c.with_sign-2.ensures c.are_told-2.ensures in
+    let told = told_as (texts_given c.args.texts.now) c.args.first c.with_sign-2.result (record c.args.second { sign = Negative }) c.are_told-2.result
+    c.with_sign-2.ensures c.are_told-2.ensures in
     (λ e. cc, λ h. absurd (false_not_true c.are_told-2.result c.if-not-are_told-2.true (told.1 (h Negative))))
 
 pub returns : goal.returns

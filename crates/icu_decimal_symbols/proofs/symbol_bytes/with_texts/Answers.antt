@@ -16,7 +16,12 @@ loop-text-preserved c =
     let first = c.args.bytes.items in
     let before = concat (map (λ (t : Bor (List ℕ)). t.now) (take i xs)) in
     let value : c.as_bytes.result.now ≡ text.now = c.as_bytes.ensures.value in
-    let is : c.extend_from_slice.new.self.items ≡ (first ++ before) ++ c.as_bytes.result.now = pushed c.as_bytes.result.now c.loop-text.invariant.0 c.in_ok-extend_from_slice.was c.extend_from_slice.ensures.items in
+    let is : c.extend_from_slice.new.self.items ≡ (first ++ before) ++ c.as_bytes.result.now =
+    pushed c.as_bytes.result.now c.loop-text.invariant.0 c.in_ok-extend_from_slice.was c.extend_from_slice.ensures.items in
     let all : c.extend_from_slice.new.self.items ≡ first ++ concat (map (λ (t : Bor (List ℕ)). t.now) (take (i + 1) xs)) =
-    is ∙ append_assoc first before c.as_bytes.result.now ∙ ap (λ (r : List ℕ). first ++ (before ++ r)) value ∙ ap (λ (r : List ℕ). first ++ r) (sym (concat_more xs i d c.loop-text-test.true)) in
-    (all, All-more (λ (t : Bor (List ℕ)). IsTrue (is_utf8 t.now)) xs i d c.loop-text-test.true c.loop-text.invariant.1 (is_utf8-from_IsUtf8 text.now (subst (λ (r : List ℕ). IsUtf8 r) value c.as_bytes.ensures.utf8)))
+    is ∙ append_assoc first before c.as_bytes.result.now ∙ ap (λ (r : List ℕ). first ++ (before ++ r)) value
+    ∙ ap (λ (r : List ℕ). first ++ r) (sym (concat_more xs i d c.loop-text-test.true)) in (
+      all,
+      All-more (λ (t : Bor (List ℕ)). IsTrue (is_utf8 t.now)) xs i d c.loop-text-test.true c.loop-text.invariant.1
+          (is_utf8-from_IsUtf8 text.now (subst (λ (r : List ℕ). IsUtf8 r) value c.as_bytes.ensures.utf8)),
+    )

@@ -10,7 +10,8 @@ use Rattle.icu_plurals.proofs.meaning.condition_holds.Goals as goal
 pub returns : goal.returns
 returns c =
     let some : 0 < length c.as_slice-alternatives.result.now = grind (arith, nat_tests) in
-    c.one_holds.ensures ∙ one-holds c.args.operands c.as_slice-alternatives.result.now some ∙ ap (λ xs. holds c.args.operands (map relations_of xs)) c.as_slice-alternatives.ensures.value
+    c.one_holds.ensures ∙ one-holds c.args.operands c.as_slice-alternatives.result.now some
+    ∙ ap (λ xs. holds c.args.operands (map relations_of xs)) c.as_slice-alternatives.ensures.value
 
 -- Goals that a search finds; it is not tried longer where one is false.
 pub returns-then-is_empty : goal.returns-then-is_empty

@@ -5,4 +5,5 @@ use Rattle.icu_plurals.proofs.rules.read_rules.Given as goal
 
 -- the rules before are read, and the others have no fault
 abbrev pub invariant-loop-index : goal.invariant-loop-index
-invariant-loop-index l = (AllZip IsReadFrom (given_rules (take l.index l.fn.rules)) (map rule_of l.read.items)) × (bad_rule_from l.index (given_rules (drop l.index l.fn.rules)) ≡ None)
+invariant-loop-index l = (AllZip IsReadFrom (given_rules (take l.index l.fn.rules)) (map rule_of l.read.items))
+    × (bad_rule_from l.index (given_rules (drop l.index l.fn.rules)) ≡ None)

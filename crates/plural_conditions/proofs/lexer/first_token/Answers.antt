@@ -18,7 +18,8 @@ returns-then-is_empty c =
 
 pub token_front-front-requires-clause-space : goal.token_front-front-requires-clause-space
 token_front-front-requires-clause-space c =
-    let rest : c.split_at.result.1.now ≡ drop (prefix_len is_space c.args.text.now) c.args.text.now = c.split_at.ensures.back ∙ ap (λ n. drop n c.args.text.now) c.spaces-start.ensures in
+    let rest : c.split_at.result.1.now ≡ drop (prefix_len is_space c.args.text.now) c.args.text.now =
+    c.split_at.ensures.back ∙ ap (λ n. drop n c.args.text.now) c.spaces-start.ensures in
     let some : 0 < length c.split_at.result.1.now = grind (arith, nat_tests) in
     rw rest (no_space c.args.text.now (omega (arith, some, ap length rest)))
 

@@ -9,4 +9,5 @@ pub returns-then-begins_with-2 : goal.returns-then-begins_with-2
 returns-then-begins_with-2 c = differs_is_front _ (sym c.begins_with-2.ensures ∙ c.if-begins_with-2.true)
 
 pub returns : goal.returns
-returns c = sign_is_front _ _ c.requires.begun (sym c.begins_with.ensures ∙ c.if-begins_with.false) (sym c.begins_with-2.ensures ∙ c.if-begins_with-2.false) c.requires.space c.requires.letter c.requires.digit c.sign.ensures
+returns c = sign_is_front _ _ c.requires.begun (sym c.begins_with.ensures ∙ c.if-begins_with.false) (sym c.begins_with-2.ensures ∙ c.if-begins_with-2.false)
+    c.requires.space c.requires.letter c.requires.digit c.sign.ensures

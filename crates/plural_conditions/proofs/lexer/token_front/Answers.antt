@@ -9,7 +9,8 @@ split_at-requires c = rw c.letters-len.ensures (prefix_len-le-length is_letter _
 
 -- a letter begins a word
 pub returns-then-is_letter_byte : goal.returns-then-is_letter_byte
-returns-then-is_letter_byte c = word_is_front _ _ _ c.requires.begun (sym c.is_letter_byte.ensures ∙ c.if-is_letter_byte.true) c.letters-len.ensures (c.word.ensures ∙ ap word_token c.split_at.ensures.front)
+returns-then-is_letter_byte c = word_is_front _ _ _ c.requires.begun (sym c.is_letter_byte.ensures ∙ c.if-is_letter_byte.true) c.letters-len.ensures
+    (c.word.ensures ∙ ap word_token c.split_at.ensures.front)
 
 pub split_at-requires-then-is_digit_byte : goal.split_at-requires-then-is_digit_byte
 split_at-requires-then-is_digit_byte c = rw c.digits-len.ensures (prefix_len-le-length is_digit _)
@@ -19,4 +20,5 @@ number-requires c = rw (c.split_at-then-is_digit_byte.ensures.front, c.digits-le
 
 -- a digit begins a value
 pub returns-then-is_digit_byte : goal.returns-then-is_digit_byte
-returns-then-is_digit_byte c = digits_are_front _ _ _ c.requires.begun (sym c.is_digit_byte.ensures ∙ c.if-is_digit_byte.true) c.digits-len.ensures (c.number.ensures ∙ ap number_token c.split_at-then-is_digit_byte.ensures.front)
+returns-then-is_digit_byte c = digits_are_front _ _ _ c.requires.begun (sym c.is_digit_byte.ensures ∙ c.if-is_digit_byte.true) c.digits-len.ensures
+    (c.number.ensures ∙ ap number_token c.split_at-then-is_digit_byte.ensures.front)

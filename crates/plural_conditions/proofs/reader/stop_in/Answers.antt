@@ -18,7 +18,9 @@ pub loop-found-preserved : goal.loop-found-preserved
 loop-found-preserved c = looks-next _ _ _ _ _ _ _ _ c.loop-found.invariant c.in-Some.ensures (sym c.next.ensures ∙ c.in-Some-next.is) c.split_at.ensures.back
 
 pub returns-then-may_end : goal.returns-then-may_end
-returns-then-may_end c = ap (λ (b : Bool). cond b None (Some (length c.part-part.result.now))) (sym (sym c.may_end.ensures ∙ c.if-may_end.true)) ∙ looks-end _ _ _ _ _ c.loop-found.invariant c.in_default.ensures
+returns-then-may_end c = ap (λ (b : Bool). cond b None (Some (length c.part-part.result.now))) (sym (sym c.may_end.ensures ∙ c.if-may_end.true))
+    ∙ looks-end _ _ _ _ _ c.loop-found.invariant c.in_default.ensures
 
 pub returns-else-may_end : goal.returns-else-may_end
-returns-else-may_end c = ap (λ (b : Bool). cond b None (Some (length c.part-part.result.now))) (sym (sym c.may_end.ensures ∙ c.if-may_end.false)) ∙ looks-end _ _ _ _ _ c.loop-found.invariant c.in_default.ensures
+returns-else-may_end c = ap (λ (b : Bool). cond b None (Some (length c.part-part.result.now))) (sym (sym c.may_end.ensures ∙ c.if-may_end.false))
+    ∙ looks-end _ _ _ _ _ c.loop-found.invariant c.in_default.ensures

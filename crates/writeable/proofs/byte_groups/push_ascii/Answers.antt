@@ -6,5 +6,9 @@ pub loop-index-preserved : goal.loop-index-preserved
 loop-index-preserved c =
     let digit = get_or c.args.digits.now c.loop-index.index 0 in
     let ten : digit < 10 = c.requires.below_ten c.loop-index.index 0 (omega arith) in
-    let small : get_or c.args.characters.now digit 0 < 128 = c.requires.ascii digit 0 (omega (arith, ten)) in
-    (ascii_digits_grow _ _ _ c.args.characters.now c.args.digits.now c.loop-index.index (omega arith) small c.loop-index.invariant.0 c.push_reserved.ensures.items, omega arith, omega arith)
+    let small : get_or c.args.characters.now digit 0 < 128 = c.requires.ascii digit 0 (omega (arith, ten)) in (
+      ascii_digits_grow _ _ _ c.args.characters.now c.args.digits.now c.loop-index.index (omega arith) small c.loop-index.invariant.0
+          c.push_reserved.ensures.items,
+      omega arith,
+      omega arith,
+    )

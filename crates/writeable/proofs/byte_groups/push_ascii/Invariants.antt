@@ -3,4 +3,5 @@ use Rattle.writeable.specs.Events.{text_of, digit_events}
 use Rattle.writeable.proofs.byte_groups.push_ascii.Given as goal
 
 abbrev pub invariant-loop-index : goal.invariant-loop-index
-invariant-loop-index l = (l.out.items ≡ l.initial.out.items ++ text_of (digit_events l.characters (take l.index l.digits))) × (vec_len l.out ≡ vec_len l.initial.out + l.index) × (vec_capacity l.out ≡ vec_capacity l.initial.out)
+invariant-loop-index l = (l.out.items ≡ l.initial.out.items ++ text_of (digit_events l.characters (take l.index l.digits)))
+    × (vec_len l.out ≡ vec_len l.initial.out + l.index) × (vec_capacity l.out ≡ vec_capacity l.initial.out)

@@ -8,7 +8,8 @@ abbrev pub invariant-groups : goal.invariant-groups
 invariant-groups l = record {
   due : (l.rest ≡ []) ⊎ IsDue l.primary l.secondary (length l.rest);
   below_ten : All (λ d. d < 10) l.rest;
-  rest_ends : l.out.items ++ joined_after l.grouping.separator.now (group_texts l.characters (cut l.primary l.secondary l.rest)) ≡ l.fn.out.items ++ joined l.grouping.separator.now (group_texts l.characters (cut l.primary l.secondary l.digits));
+  rest_ends : l.out.items ++ joined_after l.grouping.separator.now (group_texts l.characters (cut l.primary l.secondary l.rest)) ≡ l.fn.out.items
+      ++ joined l.grouping.separator.now (group_texts l.characters (cut l.primary l.secondary l.digits));
 }
 
 abbrev pub decreases-groups : goal.decreases-groups

@@ -9,7 +9,8 @@ invariant-groups l = record {
   due : (l.rest ≡ []) ⊎ IsDue l.primary l.secondary (length l.rest);
   below_ten : All (λ d. d < 10) l.rest;
   room : vec_len l.out + 2 * length l.rest ≤ vec_capacity l.out;
-  rest_ends : l.out.items ++ joined_after (l.separator ∷ []) (group_texts l.characters (cut l.primary l.secondary l.rest)) ≡ l.fn.out.items ++ joined (l.separator ∷ []) (group_texts l.characters (cut l.primary l.secondary l.digits));
+  rest_ends : l.out.items ++ joined_after (l.separator ∷ []) (group_texts l.characters (cut l.primary l.secondary l.rest)) ≡ l.fn.out.items
+      ++ joined (l.separator ∷ []) (group_texts l.characters (cut l.primary l.secondary l.digits));
 }
 
 abbrev pub decreases-groups : goal.decreases-groups

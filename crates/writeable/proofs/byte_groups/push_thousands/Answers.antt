@@ -1,4 +1,5 @@
-use Rattle.std.proofs.Common.{◌≡◌, ◌⊎◌, ℕ, ◌==◌, Bool, true, false, if◌then◌else◌, List, inl, inr, ◌<◌, ◌∷◌, [], length, take, refl, sym, ap, ◌∙◌, append-nil, arith}
+use Rattle.std.proofs.Common.{◌≡◌, ◌⊎◌, ℕ, ◌==◌, Bool, true, false, if◌then◌else◌, List, inl, inr, ◌<◌, ◌∷◌, [], length, take}
+use Rattle.std.proofs.Common.{refl, sym, ap, ◌∙◌, append-nil, arith}
 use Rattle.std.proofs.lemmas.List.Elements.{All-drop}
 use Rattle.writeable.specs.Counted.{IsDue, next_size}
 use Rattle.writeable.specs.Events.{text_of, digit_events}
@@ -25,7 +26,14 @@ groups-init c =
     record {
       due = rw c.split_at.ensures.back step.1;
       below_ten = rw c.split_at.ensures.back (All-drop (λ d. d < 10) n ds c.requires.below_ten);
-      room = omega (arith, c.requires.room, c.push_ascii-out.ensures.len, c.push_ascii-out.ensures.capacity, c.split_at.ensures.front_len, c.split_at.ensures.back_len);
+      room = omega (
+        arith,
+        c.requires.room,
+        c.push_ascii-out.ensures.len,
+        c.push_ascii-out.ensures.capacity,
+        c.split_at.ensures.front_len,
+        c.split_at.ensures.back_len,
+      );
       rest_ends = rw c.split_at.ensures.back (texts_begin _ _ cs (take n ds) _ _ front step.0);
     }
 
@@ -40,8 +48,19 @@ groups-preserved c =
     record {
       due = rw c.split_at-in-groups.ensures.back cut_is.1;
       below_ten = rw c.split_at-in-groups.ensures.back (All-drop (λ d. d < 10) n rest c.groups.invariant.below_ten);
-      room = omega (arith, c.groups.invariant.room, c.push_three-out.ensures.len, c.push_three-out.ensures.capacity, c.push_reserved.ensures.len, c.push_reserved.ensures.capacity, c.split_at-in-groups.ensures.front_len, c.split_at-in-groups.ensures.back_len);
-      rest_ends = rw c.split_at-in-groups.ensures.back (texts_grow c.args.out.items _ _ _ (c.args.separator ∷ []) cs (take n rest) (joined (c.args.separator ∷ []) (group_texts cs (cut 3 3 c.args.digits.now))) _ _ cut_is.0 c.groups.invariant.rest_ends c.push_reserved.ensures.items front);
+      room = omega (
+        arith,
+        c.groups.invariant.room,
+        c.push_three-out.ensures.len,
+        c.push_three-out.ensures.capacity,
+        c.push_reserved.ensures.len,
+        c.push_reserved.ensures.capacity,
+        c.split_at-in-groups.ensures.front_len,
+        c.split_at-in-groups.ensures.back_len,
+      );
+      rest_ends = rw c.split_at-in-groups.ensures.back (texts_grow c.args.out.items _ _ _ (c.args.separator ∷ []) cs (take n rest)
+          (joined (c.args.separator ∷ []) (group_texts cs (cut 3 3 c.args.digits.now))) _ _ cut_is.0 c.groups.invariant.rest_ends
+          c.push_reserved.ensures.items front);
     }
 
 pub returns : goal.returns

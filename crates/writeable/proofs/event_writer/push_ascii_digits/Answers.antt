@@ -5,5 +5,8 @@ use Rattle.writeable.proofs.event_writer.push_ascii_digits.Goals as goal
 
 pub loop-index-preserved : goal.loop-index-preserved
 loop-index-preserved c =
-    let small : get_or c.args.characters.now (get_or c.args.digits.now c.loop-index.index 0) 0 < 128 = grind (arith, nat_tests, c.is_ascii.ensures) in
-    (ascii_digits_grow _ _ _ c.args.characters.now c.args.digits.now c.loop-index.index (omega arith) small c.loop-index.invariant.0 c.push_reserved.ensures.items, omega arith)
+    let small : get_or c.args.characters.now (get_or c.args.digits.now c.loop-index.index 0) 0 < 128 = grind (arith, nat_tests, c.is_ascii.ensures) in (
+      ascii_digits_grow _ _ _ c.args.characters.now c.args.digits.now c.loop-index.index (omega arith) small c.loop-index.invariant.0
+          c.push_reserved.ensures.items,
+      omega arith,
+    )

@@ -13,7 +13,8 @@ groups-init c =
     let ds = c.args.digits.now in
     let cs = c.args.characters.now in
     let n = c.first_group.result in
-    let step = first_of (λ g. text_of (digit_events cs g)) c.args.grouping.now.separator.now c.args.grouping.now.primary c.args.grouping.now.secondary ds n refl c.requires.primary c.requires.secondary c.first_group.ensures in
+    let step = first_of (λ g. text_of (digit_events cs g)) c.args.grouping.now.separator.now c.args.grouping.now.primary c.args.grouping.now.secondary ds n
+    refl c.requires.primary c.requires.secondary c.first_group.ensures in
     let front = rw c.split_at.ensures.front at c.in_ok-push_characters.ensures in
     record {
       due = rw c.split_at.ensures.back step.1;
@@ -25,7 +26,8 @@ pub split_at-requires-in-groups : goal.split_at-requires-in-groups
 split_at-requires-in-groups c =
     let rest = c.groups.rest.now in
     let some : 0 < length rest = grind (arith, nat_tests, c.groups-test.ensures) in
-    (next_of c.args.grouping.now.primary c.args.grouping.now.secondary rest c.next_group.result c.requires.primary c.requires.secondary c.groups.invariant.due some c.next_group.ensures).2
+    (next_of c.args.grouping.now.primary c.args.grouping.now.secondary rest c.next_group.result c.requires.primary c.requires.secondary c.groups.invariant.due
+    some c.next_group.ensures).2
 
 pub groups-preserved : goal.groups-preserved
 groups-preserved c =
@@ -33,12 +35,15 @@ groups-preserved c =
     let cs = c.args.characters.now in
     let n = c.next_group.result in
     let some : 0 < length rest = grind (arith, nat_tests, c.groups-test.ensures) in
-    let cut_is = next_of c.args.grouping.now.primary c.args.grouping.now.secondary rest n c.requires.primary c.requires.secondary c.groups.invariant.due some c.next_group.ensures in
+    let cut_is = next_of c.args.grouping.now.primary c.args.grouping.now.secondary rest n c.requires.primary c.requires.secondary c.groups.invariant.due some
+    c.next_group.ensures in
     let front = rw c.split_at-in-groups.ensures.front at c.in_ok-push_characters-2.ensures in
     record {
       due = rw c.split_at-in-groups.ensures.back cut_is.1;
       below_ten = rw c.split_at-in-groups.ensures.back (All-drop (λ d. d < 10) n rest c.groups.invariant.below_ten);
-      rest_ends = rw c.split_at-in-groups.ensures.back (texts_grow (string_bytes c.args.out.now) _ _ _ c.args.grouping.now.separator.now cs (take n rest) (joined c.args.grouping.now.separator.now (group_texts cs (cut c.args.grouping.now.primary c.args.grouping.now.secondary c.args.digits.now))) _ _ cut_is.0 c.groups.invariant.rest_ends c.in_ok-push_text.ensures front);
+      rest_ends = rw c.split_at-in-groups.ensures.back (texts_grow (string_bytes c.args.out.now) _ _ _ c.args.grouping.now.separator.now cs (take n rest)
+          (joined c.args.grouping.now.separator.now (group_texts cs (cut c.args.grouping.now.primary c.args.grouping.now.secondary c.args.digits.now))) _ _
+          cut_is.0 c.groups.invariant.rest_ends c.in_ok-push_text.ensures front);
     }
 
 pub returns : goal.returns
@@ -46,5 +51,6 @@ returns c =
     let rest = c.groups.rest.now in
     let none : length rest ≡ 0 = grind (arith, nat_tests, c.groups-test.ensures) in
     let cs = c.args.characters.now in
-    let nothing = joined_after-none (λ g. text_of (digit_events cs g)) c.args.grouping.now.separator.now c.args.grouping.now.primary c.args.grouping.now.secondary rest none in
+    let nothing = joined_after-none (λ g. text_of (digit_events cs g)) c.args.grouping.now.separator.now c.args.grouping.now.primary
+    c.args.grouping.now.secondary rest none in
     sym (append-nil (string_bytes c.groups.out)) ∙ (rw nothing at c.groups.invariant.rest_ends)

@@ -23,7 +23,9 @@ returns-in-Ok-clause-syntax c =
 
 pub returns-in-Ok-clause-limit : goal.returns-in-Ok-clause-limit
 returns-in-Ok-clause-limit c =
-    let none = not_past_limits c.args.text.now _ _ _ _ c.split_sign-sign.ensures.signed c.in-Some-split_numeral.ensures.spelled (omega (arith, length-map c.in-Some-split_numeral.before.now (λ c. c - 48))) (omega (arith, length-map c.in-Some-split_numeral.after.now (λ c. c - 48))) in
+    let none = not_past_limits c.args.text.now _ _ _ _ c.split_sign-sign.ensures.signed c.in-Some-split_numeral.ensures.spelled
+    (omega (arith, length-map c.in-Some-split_numeral.before.now (λ c. c - 48)))
+    (omega (arith, length-map c.in-Some-split_numeral.after.now (λ c. c - 48))) in
     (λ e. absurd (cc), λ past. absurd (none past))
 
 pub returns-in-Err-clause-syntax : goal.returns-in-Err-clause-syntax
@@ -33,7 +35,9 @@ returns-in-Err-clause-syntax c =
 
 pub returns-in-Err-clause-limit : goal.returns-in-Err-clause-limit
 returns-in-Err-clause-limit c =
-    let none = not_past_limits c.args.text.now _ _ _ _ c.split_sign-sign.ensures.signed c.in-Some-split_numeral.ensures.spelled (omega (arith, length-map c.in-Some-split_numeral.before.now (λ c. c - 48))) (omega (arith, length-map c.in-Some-split_numeral.after.now (λ c. c - 48))) in
+    let none = not_past_limits c.args.text.now _ _ _ _ c.split_sign-sign.ensures.signed c.in-Some-split_numeral.ensures.spelled
+    (omega (arith, length-map c.in-Some-split_numeral.before.now (λ c. c - 48)))
+    (omega (arith, length-map c.in-Some-split_numeral.after.now (λ c. c - 48))) in
     (λ e. absurd (cc), λ past. absurd (none past))
 
 pub invariant_of-absolute : goal.invariant_of-absolute
@@ -46,5 +50,6 @@ returns-then-numeral-le-LANES-clause-syntax c =
 
 pub returns-then-numeral-le-LANES-clause-limit : goal.returns-then-numeral-le-LANES-clause-limit
 returns-then-numeral-le-LANES-clause-limit c =
-    let within : ¬ (ReadsPastLimits c.args.text.now) = signed_within c.args.text.now _ _ _ c.split_sign-sign.ensures.signed c.in-Some.ensures.spelled c.in-Some.ensures.valid in
+    let within : ¬ (ReadsPastLimits c.args.text.now) = signed_within c.args.text.now _ _ _ c.split_sign-sign.ensures.signed c.in-Some.ensures.spelled
+    c.in-Some.ensures.valid in
     (λ e. absurd (cc), λ past. absurd (within past))

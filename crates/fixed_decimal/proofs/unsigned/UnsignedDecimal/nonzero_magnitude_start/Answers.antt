@@ -14,4 +14,6 @@ returns-clause-power c =
     let zeros = rw c.deref.ensures at c.leading_zeros-first.ensures.zeros in
     let stops = rw c.deref.ensures at c.leading_zeros-first.ensures.stops in
     let within = rw c.deref.ensures at c.leading_zeros-first.ensures.within in
-    rw (← c.self.view_is) (magnitude_only _ _ (magnitude_first c.self.inside.digits.items c.self.inside.scale c.leading_zeros-first.result _ c.self.invariant.below_ten (omega (arith, finest_large, c.self.invariant.low_limit)) c.self.invariant.integer_some zeros (omega arith) (stops (omega arith)) (omega (arith, ints, c.self.invariant.integer_some, c.self.invariant.high_limit, c.self.invariant.low_limit))))
+    rw (← c.self.view_is) (magnitude_only _ _ (magnitude_first c.self.inside.digits.items c.self.inside.scale c.leading_zeros-first.result _
+    c.self.invariant.below_ten (omega (arith, finest_large, c.self.invariant.low_limit)) c.self.invariant.integer_some zeros (omega arith)
+    (stops (omega arith)) (omega (arith, ints, c.self.invariant.integer_some, c.self.invariant.high_limit, c.self.invariant.low_limit))))

@@ -14,9 +14,12 @@ returns-in-Ok-clause-valid c =
     let z = rw c.deref-2.ensures at c.without_last_zeros-scale.ensures in
     let hs = rw c.deref-3.ensures at c.in-Ok.ensures in
     let high = rw (← c.self.view_is) at c.requires.high in
-    let some : c.scale_below.result + c.args.exponent < length (digits_left c.self.inside.digits.items c.in-Some.rounded.kept c.in-Some.rounded.raised c.in-Some.rounded.zeros) = omega (arith, ints, clamps, scale, high, e.rounded.high_is, e.valid.integer_some) in
+    let some : c.scale_below.result + c.args.exponent < length
+    (digits_left c.self.inside.digits.items c.in-Some.rounded.kept c.in-Some.rounded.raised c.in-Some.rounded.zeros) =
+    omega (arith, ints, clamps, scale, high, e.rounded.high_is, e.valid.integer_some) in
     let small : c.scale_below.result + c.args.exponent ≤ 32768 = omega (arith, ints, scale, c.requires.low, power_is p, one_is_none p) in
-    rw hs (significand_valid (record { digits = c.self.inside.digits.items; scale = c.self.inside.scale }) p c.args.exponent _ _ _ _ e.valid (omega (arith, scale)) z.scale z.zeros some small)
+    rw hs (significand_valid (record { digits = c.self.inside.digits.items; scale = c.self.inside.scale }) p c.args.exponent _ _ _ _ e.valid
+    (omega (arith, scale)) z.scale z.zeros some small)
 
 pub invariant_of-result : goal.invariant_of-result
 invariant_of-result c =
@@ -27,9 +30,12 @@ invariant_of-result c =
     let z = rw c.deref-2.ensures at c.without_last_zeros-scale.ensures in
     let hs = rw c.deref-3.ensures at c.in-Ok.ensures in
     let high = rw (← c.self.view_is) at c.requires.high in
-    let some : c.scale_below.result + c.args.exponent < length (digits_left c.self.inside.digits.items c.in-Some.rounded.kept c.in-Some.rounded.raised c.in-Some.rounded.zeros) = omega (arith, ints, clamps, scale, high, e.rounded.high_is, e.valid.integer_some) in
+    let some : c.scale_below.result + c.args.exponent < length
+    (digits_left c.self.inside.digits.items c.in-Some.rounded.kept c.in-Some.rounded.raised c.in-Some.rounded.zeros) =
+    omega (arith, ints, clamps, scale, high, e.rounded.high_is, e.valid.integer_some) in
     let small : c.scale_below.result + c.args.exponent ≤ 32768 = omega (arith, ints, scale, c.requires.low, power_is p, one_is_none p) in
-    rw hs (significand_valid (record { digits = c.self.inside.digits.items; scale = c.self.inside.scale }) p c.args.exponent _ _ _ _ e.valid (omega (arith, scale)) z.scale z.zeros some small)
+    rw hs (significand_valid (record { digits = c.self.inside.digits.items; scale = c.self.inside.scale }) p c.args.exponent _ _ _ _ e.valid
+    (omega (arith, scale)) z.scale z.zeros some small)
 
 pub returns-in-Ok-clause-significand : goal.returns-in-Ok-clause-significand
 returns-in-Ok-clause-significand c =
@@ -40,9 +46,12 @@ returns-in-Ok-clause-significand c =
     let z = rw c.deref-2.ensures at c.without_last_zeros-scale.ensures in
     let hs = rw c.deref-3.ensures at c.in-Ok.ensures in
     let high = rw (← c.self.view_is) at c.requires.high in
-    let some : c.scale_below.result + c.args.exponent < length (digits_left c.self.inside.digits.items c.in-Some.rounded.kept c.in-Some.rounded.raised c.in-Some.rounded.zeros) = omega (arith, ints, clamps, scale, high, e.rounded.high_is, e.valid.integer_some) in
+    let some : c.scale_below.result + c.args.exponent < length
+    (digits_left c.self.inside.digits.items c.in-Some.rounded.kept c.in-Some.rounded.raised c.in-Some.rounded.zeros) =
+    omega (arith, ints, clamps, scale, high, e.rounded.high_is, e.valid.integer_some) in
     let small : c.scale_below.result + c.args.exponent ≤ 32768 = omega (arith, ints, scale, c.requires.low, power_is p, one_is_none p) in
-    rw (← c.self.view_is, hs) (significand (record { digits = c.self.inside.digits.items; scale = c.self.inside.scale }) p c.args.exponent _ _ _ _ e.valid (omega (arith, scale)) z.scale z.zeros some small e.rounded z.last)
+    rw (← c.self.view_is, hs) (significand (record { digits = c.self.inside.digits.items; scale = c.self.inside.scale }) p c.args.exponent _ _ _ _ e.valid
+    (omega (arith, scale)) z.scale z.zeros some small e.rounded z.last)
 
 pub returns-in-Ok-clause-limit : goal.returns-in-Ok-clause-limit
 returns-in-Ok-clause-limit c =

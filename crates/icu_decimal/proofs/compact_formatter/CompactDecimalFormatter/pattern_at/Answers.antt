@@ -12,7 +12,8 @@ returns-in-Some c =
     let operands = operands_of c.args.significand.now 0 in
     rw (← c.self.view_is) (go _ _ operands (category_of c.self.inside.plural_rules operands) c.in-Some.ensures.picked)
   where
-    go : (o : Option TableEntry) (p : PatternText) (operands : Operands) (category : PluralCategory) → IfSome o (λ e. (operands' : Operands) (category' : PluralCategory) → selected e.elements operands' category' ≡ p)
+    go : (o : Option TableEntry) (p : PatternText) (operands : Operands) (category : PluralCategory) →
+        IfSome o (λ e. (operands' : Operands) (category' : PluralCategory) → selected e.elements operands' category' ≡ p)
         → IfSome o (λ e. p ≡ selected e.elements operands category)
     go None p operands category h = tt
     go (Some e) p operands category h = sym (h operands category)

@@ -8,12 +8,14 @@ use Rattle.icu_decimal.proofs.formatted_decimal.FormattedUnsignedDecimal.write_g
 pub returns-then-not-is_grouped : goal.returns-then-not-is_grouped
 returns-then-not-is_grouped g c =
     let f = c.args.self.now.format in
-    let asked : is_grouped (length c.args.integer.now) f.symbols.grouping_sizes (strategy_of f.options) ≡ false = grind (arith, nat_tests, c.is_grouped.ensures, c.if-not-is_grouped.true, c.self.view_is) in
+    let asked : is_grouped (length c.args.integer.now) f.symbols.grouping_sizes (strategy_of f.options) ≡ false =
+    grind (arith, nat_tests, c.is_grouped.ensures, c.if-not-is_grouped.true, c.self.view_is) in
     rw (grouped-whole f c.args.integer.now asked, ← c.self.view_is) c.write_digits.ensures
 
 pub returns : goal.returns
 returns g c =
     let f = c.args.self.now.format in
-    let asked : is_grouped (length c.args.integer.now) f.symbols.grouping_sizes (strategy_of f.options) ≡ true = grind (arith, nat_tests, c.is_grouped.ensures, c.if-not-is_grouped.false, c.self.view_is) in
+    let asked : is_grouped (length c.args.integer.now) f.symbols.grouping_sizes (strategy_of f.options) ≡ true =
+    grind (arith, nat_tests, c.is_grouped.ensures, c.if-not-is_grouped.false, c.self.view_is) in
     let cut_is = rw (c.from.ensures, c.secondary_size.ensures, c.grouping_separator.ensures, c.symbols-symbols.ensures) at c.write_groups.ensures in
     rw (grouped-cut f c.args.integer.now asked, ← c.self.view_is) cut_is

@@ -11,26 +11,34 @@ pub returns-in-0-clause-entry : goal.returns-in-0-clause-entry
 returns-in-0-clause-entry g c =
     let bytes = c.self.inside.bytes.items in
     let m : to_z w32 (of_z w32 c.args.magnitude) ≡ c.args.magnitude = omega (arith, ints) in
-    let n : c.reached.result ≡ reached (table_in bytes) (place c.args.magnitude) = reached_is bytes (place c.args.magnitude) c.reached.result (rw (m, c.deref.ensures.value) at c.reached.ensures) in
-    rw (← c.self.view_is) ((entry_none_at (table_in bytes) (place c.args.magnitude) c.reached.result (is_compact g.P.PatternBackend.accepted bytes c.self.invariant) n c.in-0.is))
+    let n : c.reached.result ≡ reached (table_in bytes) (place c.args.magnitude) =
+    reached_is bytes (place c.args.magnitude) c.reached.result (rw (m, c.deref.ensures.value) at c.reached.ensures) in
+    rw (← c.self.view_is) ((entry_none_at (table_in bytes) (place c.args.magnitude) c.reached.result
+    (is_compact g.P.PatternBackend.accepted bytes c.self.invariant) n c.in-0.is))
 
 pub returns-in_default-clause-entry : goal.returns-in_default-clause-entry
 returns-in_default-clause-entry g c =
     let bytes = c.self.inside.bytes.items in
     let m : to_z w32 (of_z w32 c.args.magnitude) ≡ c.args.magnitude = omega (arith, ints) in
-    let n : c.reached.result ≡ reached (table_in bytes) (place c.args.magnitude) = reached_is bytes (place c.args.magnitude) c.reached.result (rw (m, c.deref.ensures.value) at c.reached.ensures) in
-    rw (← c.self.view_is) ((entry_some_at (table_in bytes) (place c.args.magnitude) c.reached.result (is_compact g.P.PatternBackend.accepted bytes c.self.invariant) n (omega arith)))
+    let n : c.reached.result ≡ reached (table_in bytes) (place c.args.magnitude) =
+    reached_is bytes (place c.args.magnitude) c.reached.result (rw (m, c.deref.ensures.value) at c.reached.ensures) in
+    rw (← c.self.view_is) ((entry_some_at (table_in bytes) (place c.args.magnitude) c.reached.result
+    (is_compact g.P.PatternBackend.accepted bytes c.self.invariant) n (omega arith)))
 
 pub returns-in-0-clause-next : goal.returns-in-0-clause-next
 returns-in-0-clause-next g c =
     let bytes = c.self.inside.bytes.items in
     let m : to_z w32 (of_z w32 c.args.magnitude) ≡ c.args.magnitude = omega (arith, ints) in
-    let n : c.reached.result ≡ reached (table_in bytes) (place c.args.magnitude) = reached_is bytes (place c.args.magnitude) c.reached.result (rw (m, c.deref.ensures.value) at c.reached.ensures) in
-    rw (← c.self.view_is) (sym (next_none_at (table_in bytes) (place c.args.magnitude) c.reached.result (is_compact g.P.PatternBackend.accepted bytes c.self.invariant) n c.in-0.is))
+    let n : c.reached.result ≡ reached (table_in bytes) (place c.args.magnitude) =
+    reached_is bytes (place c.args.magnitude) c.reached.result (rw (m, c.deref.ensures.value) at c.reached.ensures) in
+    rw (← c.self.view_is) (sym (next_none_at (table_in bytes) (place c.args.magnitude) c.reached.result
+    (is_compact g.P.PatternBackend.accepted bytes c.self.invariant) n c.in-0.is))
 
 pub returns-in_default-clause-next : goal.returns-in_default-clause-next
 returns-in_default-clause-next g c =
     let bytes = c.self.inside.bytes.items in
     let m : to_z w32 (of_z w32 c.args.magnitude) ≡ c.args.magnitude = omega (arith, ints) in
-    let n : c.reached.result ≡ reached (table_in bytes) (place c.args.magnitude) = reached_is bytes (place c.args.magnitude) c.reached.result (rw (m, c.deref.ensures.value) at c.reached.ensures) in
-    rw (← c.self.view_is) (sym (next_some_at (table_in bytes) (place c.args.magnitude) c.reached.result (is_compact g.P.PatternBackend.accepted bytes c.self.invariant) n (omega arith)))
+    let n : c.reached.result ≡ reached (table_in bytes) (place c.args.magnitude) =
+    reached_is bytes (place c.args.magnitude) c.reached.result (rw (m, c.deref.ensures.value) at c.reached.ensures) in
+    rw (← c.self.view_is) (sym (next_some_at (table_in bytes) (place c.args.magnitude) c.reached.result
+    (is_compact g.P.PatternBackend.accepted bytes c.self.invariant) n (omega arith)))

@@ -16,11 +16,15 @@ invariant_of-result g c =
     let none : fault_of (at c.args.zero_magnitude) (given c.args.patterns.entries) ≡ None = search rules in
     let accepts = g.P.PatternBackend.accepted in
     let made = c.in_ok-bytes.ensures in
-    written_is_table accepts c.in_ok-bytes.bytes.items (kept (at c.args.zero_magnitude) (given c.args.patterns.entries)) (backend_is accepts g.met.P.PatternBackend.fits g.met.P.PatternBackend.opens) (packable (at c.args.zero_magnitude) c.args.patterns.entries accepts made.sorted made.writable none) made.bytes made.are_bytes
+    written_is_table accepts c.in_ok-bytes.bytes.items (kept (at c.args.zero_magnitude) (given c.args.patterns.entries))
+    (backend_is accepts g.met.P.PatternBackend.fits g.met.P.PatternBackend.opens)
+    (packable (at c.args.zero_magnitude) c.args.patterns.entries accepts made.sorted made.writable none) made.bytes made.are_bytes
 
 pub returns-clause-kept : goal.returns-clause-kept
 returns-clause-kept g c =
     let none : fault_of (at c.args.zero_magnitude) (given c.args.patterns.entries) ≡ None = search rules in
     let accepts = g.P.PatternBackend.accepted in
     let made = c.in_ok-bytes.ensures in
-    is_only accepts c.in_ok-bytes.bytes.items (kept (at c.args.zero_magnitude) (given c.args.patterns.entries)) (backend_is accepts g.met.P.PatternBackend.fits g.met.P.PatternBackend.opens) (packable (at c.args.zero_magnitude) c.args.patterns.entries accepts made.sorted made.writable none) made.bytes
+    is_only accepts c.in_ok-bytes.bytes.items (kept (at c.args.zero_magnitude) (given c.args.patterns.entries))
+    (backend_is accepts g.met.P.PatternBackend.fits g.met.P.PatternBackend.opens)
+    (packable (at c.args.zero_magnitude) c.args.patterns.entries accepts made.sorted made.writable none) made.bytes

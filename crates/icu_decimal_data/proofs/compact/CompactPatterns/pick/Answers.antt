@@ -8,4 +8,6 @@ use Rattle.icu_decimal_data.proofs.compact.CompactPatterns.pick.Goals as goal
 pub returns : goal.returns
 returns g c =
     let bytes = c.self.inside.bytes.items in
-    rw (← c.self.view_is) (of_entry bytes c.args.index (λ e. text_of_ref c.pick.result ≡ selected e.elements c.args.operands.now (category_of c.args.rules.now c.args.operands.now)) (index_inside bytes c.args.index (rw c.self.view_is c.requires)) (rw c.deref.ensures.value at c.pick.ensures))
+    rw (← c.self.view_is) (of_entry bytes c.args.index (λ e. text_of_ref c.pick.result
+    ≡ selected e.elements c.args.operands.now (category_of c.args.rules.now c.args.operands.now))
+    (index_inside bytes c.args.index (rw c.self.view_is c.requires)) (rw c.deref.ensures.value at c.pick.ensures))

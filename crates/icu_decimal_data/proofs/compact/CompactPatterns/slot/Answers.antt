@@ -8,6 +8,9 @@ use Rattle.icu_decimal_data.proofs.compact.CompactPatterns.slot.Goals as goal
 pub returns : goal.returns
 returns g c =
     let bytes = c.self.inside.bytes.items in
-    let lent : option_map text_of_ref c.pattern_at.result ≡ slice_index_or (slots (entry_of c.deref.result.now c.args.index).elements) c.args.slot None = c.pattern_at.ensures in
-    let found = subst (λ (b : List ℕ). option_map text_of_ref c.pattern_at.result ≡ slice_index_or (slots (entry_of b c.args.index).elements) c.args.slot None) c.deref.ensures.value lent in
-    rw (← c.self.view_is) (of_entry bytes c.args.index (λ e. option_map text_of_ref c.pattern_at.result ≡ slice_index_or (slots e.elements) c.args.slot None) (index_inside bytes c.args.index (rw c.self.view_is c.requires.index)) found)
+    let lent : option_map text_of_ref c.pattern_at.result ≡ slice_index_or (slots (entry_of c.deref.result.now c.args.index).elements) c.args.slot None =
+    c.pattern_at.ensures in
+    let found = subst (λ (b : List ℕ). option_map text_of_ref c.pattern_at.result
+    ≡ slice_index_or (slots (entry_of b c.args.index).elements) c.args.slot None) c.deref.ensures.value lent in
+    rw (← c.self.view_is) (of_entry bytes c.args.index (λ e. option_map text_of_ref c.pattern_at.result
+    ≡ slice_index_or (slots e.elements) c.args.slot None) (index_inside bytes c.args.index (rw c.self.view_is c.requires.index)) found)

@@ -15,5 +15,7 @@ returns-clause-every g c = λ t h e.
 
 pub returns-in_err-check-clause-inside : goal.returns-in_err-check-clause-inside
 returns-in_err-check-clause-inside g c =
-    let here : c.in_err-check.field-0.0.byte ≤ length c.args.bytes.now = damage_inside g.P.PatternBackend.accepted c.args.bytes.now c.in_err-check.field-0.0.byte (λ i. omega (arith, c.type_inv.bytes i)) c.in_err-check.ensures in
+    let here : c.in_err-check.field-0.0.byte ≤ length c.args.bytes.now =
+    damage_inside g.P.PatternBackend.accepted c.args.bytes.now c.in_err-check.field-0.0.byte (λ i. omega (arith, c.type_inv.bytes i))
+    c.in_err-check.ensures in
     search rules

@@ -10,7 +10,8 @@ returns-then-not-has_no_digit c =
     let p : PatternText = record { place = c.args.place; literal = c.args.literal.now } in (
       λ e. cc,
       λ h. absurd (false_not_true c.has_no_digit.result c.if-not-has_no_digit.true
-          (c.has_no_digit.ensures.1 (sides_of_placed c.args.self.now.digits.now p (surroundings_of c.sides_of-sides.result) c.sides_of-sides.ensures h).before_free)),
+          (c.has_no_digit.ensures.1 (sides_of_placed c.args.self.now.digits.now p (surroundings_of c.sides_of-sides.result) c.sides_of-sides.ensures
+          h).before_free)),
     )
 
 pub returns : goal.returns
@@ -18,6 +19,7 @@ returns c =
     let p : PatternText = record { place = c.args.place; literal = c.args.literal.now } in
     let a = surroundings_of c.sides_of-sides.result in
     let some : IsSome c.args.place = search rules in (
-      λ e. placed_of c.args.self.now.digits.now p a c.sides_of-sides.ensures some (c.has_no_digit.ensures.0 c.if-not-has_no_digit.false) (c.has_no_digit-2.ensures.0 e),
+      λ e. placed_of c.args.self.now.digits.now p a c.sides_of-sides.ensures some (c.has_no_digit.ensures.0 c.if-not-has_no_digit.false)
+          (c.has_no_digit-2.ensures.0 e),
       λ h. c.has_no_digit-2.ensures.1 (sides_of_placed c.args.self.now.digits.now p a c.sides_of-sides.ensures h).after_free,
     )

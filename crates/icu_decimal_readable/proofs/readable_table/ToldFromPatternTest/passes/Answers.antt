@@ -8,4 +8,5 @@ pub returns : goal.returns
 returns c =
     let q : PatternText = record { place = c.args.place; literal = c.args.literal.now } in
     let number = c.args.self.now.number in
-    told_from_of (texts_given c.args.self.now.texts.now) number.sign number.exponent (surroundings_of number.sides) c.args.exponent q (surroundings_of c.sides_of.result) c.is_told_from.result c.sides_of.ensures c.is_told_from.ensures
+    told_from_of (texts_given c.args.self.now.texts.now) number.sign number.exponent (surroundings_of number.sides) c.args.exponent q
+    (surroundings_of c.sides_of.result) c.is_told_from.result c.sides_of.ensures c.is_told_from.ensures

@@ -11,7 +11,8 @@ use Rattle.icu_decimal_readable.proofs.readable_table.ToldPatternTest.passes.Goa
 pub returns-then-not-is_told : goal.returns-then-not-is_told
 returns-then-not-is_told c =
     let p : PatternText = record { place = c.args.place; literal = c.args.literal.now } in
-    let told = told_by_sides (texts_given c.args.self.now.texts.now) c.args.self.now.patterns.now NoSign c.args.exponent p (surroundings_of c.sides_of.result) c.sides_of.ensures in
+    let told = told_by_sides (texts_given c.args.self.now.texts.now) c.args.self.now.patterns.now NoSign c.args.exponent p (surroundings_of c.sides_of.result)
+    c.sides_of.ensures in
     (λ e. cc, λ h. absurd (false_not_true c.is_told.result c.if-not-is_told.true (c.is_told.ensures.1 (told h))))
 
 pub returns-then-not-is_told-2 : goal.returns-then-not-is_told-2

@@ -22,5 +22,7 @@ returns c =
       decimal_separator = c.text-5.ensures i;
       grouping_separator = c.text-6.ensures i;
       numsys = c.text-7.ensures i;
-    } in
-    (cut ∙ ap texts_in c.as_slice-bytes.ensures.value ∙ c.symbols.view_is, held_texts c.symbols.inside.bytes.items c.args.symbols.now c.symbols.invariant c.symbols.view_is)
+    } in (
+      cut ∙ ap texts_in c.as_slice-bytes.ensures.value ∙ c.symbols.view_is,
+      held_texts c.symbols.inside.bytes.items c.args.symbols.now c.symbols.invariant c.symbols.view_is,
+    )

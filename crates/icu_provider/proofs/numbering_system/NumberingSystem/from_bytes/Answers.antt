@@ -13,4 +13,5 @@ pub copy_from_slice-requires : goal.copy_from_slice-requires
 copy_from_slice-requires c = length-zeros 8 c.args.name.now (length-of_name c.args.name.now c.requires).1
 
 pub invariant_of-result : goal.invariant_of-result
-invariant_of-result c = rw c.copy_from_slice.ensures.after (IsPadded-of IsNumberingSystem 8 c.args.name.now (length-of_name c.args.name.now c.requires).1 c.requires)
+invariant_of-result c = rw c.copy_from_slice.ensures.after (IsPadded-of IsNumberingSystem 8 c.args.name.now (length-of_name c.args.name.now c.requires).1
+    c.requires)

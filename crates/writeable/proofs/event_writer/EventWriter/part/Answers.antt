@@ -5,7 +5,8 @@ returns-in_err-open g c = g.met.Self.EventWriter.stop _ _ _ _ _ _ c.from_residua
 
 pub returns-in_err-text : goal.returns-in_err-text
 returns-in_err-text g c =
-    g.met.Self.EventWriter.then _ _ _ _ _ _ c.in_ok-open.ensures (g.met.Self.EventWriter.stop _ _ _ _ _ _ c.from_residual-in_err-text.ensures.0 c.in_err-text.ensures)
+    g.met.Self.EventWriter.then _ _ _ _ _ _ c.in_ok-open.ensures
+    (g.met.Self.EventWriter.stop _ _ _ _ _ _ c.from_residual-in_err-text.ensures.0 c.in_err-text.ensures)
 
 pub returns : goal.returns
 returns g c =

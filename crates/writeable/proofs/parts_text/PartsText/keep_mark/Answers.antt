@@ -16,10 +16,13 @@ pub returns-clause-writes : goal.returns-clause-writes
 returns-clause-writes c =
     let items : c.push.new.self.items ≡ c.self.inside.marks.items ++ c.mark_of-mark.result ∷ [] = grind (arith, common_steps) in
     let end : mark_at c.mark_of-mark.result ≡ 0 + length (string_bytes c.self.inside.text) = grind (arith, common_steps) in
-    WritesAll-kept c.self.inside (record c.self.inside { marks = c.push.new.self; room = c.one_less-self-inside.result }) c.args.self.now (mark_event_of c.args.opened ∷ []) c.self.view_is (marked_events-pushed _ _ _ _ _ items end c.mark_of-mark.ensures.event c.self.invariant) refl
+    WritesAll-kept c.self.inside (record c.self.inside { marks = c.push.new.self; room = c.one_less-self-inside.result }) c.args.self.now
+    (mark_event_of c.args.opened ∷ []) c.self.view_is (marked_events-pushed _ _ _ _ _ items end c.mark_of-mark.ensures.event c.self.invariant) refl
 
 pub returns-clause-limited : goal.returns-clause-limited
 returns-clause-limited c =
     let items : c.push.new.self.items ≡ c.self.inside.marks.items ++ c.mark_of-mark.result ∷ [] = grind (arith, common_steps) in
     let end : mark_at c.mark_of-mark.result ≡ 0 + length (string_bytes c.self.inside.text) = grind (arith, common_steps) in
-    KeepsLimit-one c.self.inside (record c.self.inside { marks = c.push.new.self; room = c.one_less-self-inside.result }) c.args.self.now (mark_event_of c.args.opened) c.self.view_is (marked_events-pushed _ _ _ _ _ items end c.mark_of-mark.ensures.event c.self.invariant) c.one_less-self-inside.ensures refl
+    KeepsLimit-one c.self.inside (record c.self.inside { marks = c.push.new.self; room = c.one_less-self-inside.result }) c.args.self.now
+    (mark_event_of c.args.opened) c.self.view_is (marked_events-pushed _ _ _ _ _ items end c.mark_of-mark.ensures.event c.self.invariant)
+    c.one_less-self-inside.ensures refl

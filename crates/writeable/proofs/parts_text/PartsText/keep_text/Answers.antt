@@ -15,4 +15,6 @@ invariant_of-self-else-is_err c =
 pub returns-clause-writes : goal.returns-clause-writes
 returns-clause-writes c =
     let bytes : string_bytes c.push_str.new.self ≡ string_bytes c.self.inside.text ++ c.args.text.now = grind (arith, common_steps) in
-    WritesAll-kept c.self.inside (record c.self.inside { text = c.push_str.new.self }) c.args.self.now (text_events c.args.text.now) c.self.view_is (ap (λ t. marked_events 0 t c.self.inside.marks.items) bytes ∙ marked_events-text 0 _ c.args.text.now c.self.inside.marks.items c.self.invariant) refl
+    WritesAll-kept c.self.inside (record c.self.inside { text = c.push_str.new.self }) c.args.self.now (text_events c.args.text.now) c.self.view_is
+    (ap (λ t. marked_events 0 t c.self.inside.marks.items) bytes ∙ marked_events-text 0 _ c.args.text.now c.self.inside.marks.items c.self.invariant)
+    refl

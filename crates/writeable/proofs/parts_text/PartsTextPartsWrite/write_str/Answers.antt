@@ -20,7 +20,8 @@ returns-in_err-write_char-clause-writes c =
     let turn = YieldsList-turn list ys _ c.loop-character.yielded_by _ _ c.in-Some.character c.in-Some.is c.next.ensures.steps in
     let front = YieldsList-so_far list ys _ c.loop-character.yielded_by in
     let split = split_at_read (chars c.args.text.now) ys c.in-Some.character (sym (map-id ys) ∙ front) turn.0 turn.1 in
-    Writes-stop_in_text (λ s. s.events) (λ s. s.failures) c.args.self.now c.loop-character.self c.write_char.new.self c.in_err-write_char.field-0.0 _ ys c.in-Some.character _ _ split c.from_residual.ensures.0 c.loop-character.invariant.written c.in_err-write_char.ensures.writes
+    Writes-stop_in_text (λ s. s.events) (λ s. s.failures) c.args.self.now c.loop-character.self c.write_char.new.self c.in_err-write_char.field-0.0 _ ys
+    c.in-Some.character _ _ split c.from_residual.ensures.0 c.loop-character.invariant.written c.in_err-write_char.ensures.writes
 
 pub returns-clause-writes : goal.returns-clause-writes
 returns-clause-writes c =
@@ -35,7 +36,8 @@ returns-in_err-write_char-clause-limited c =
     let turn = YieldsList-turn list ys _ c.loop-character.yielded_by _ _ c.in-Some.character c.in-Some.is c.next.ensures.steps in
     let front = YieldsList-so_far list ys _ c.loop-character.yielded_by in
     let split = split_at_read (chars c.args.text.now) ys c.in-Some.character (sym (map-id ys) ∙ front) turn.0 turn.1 in
-    KeepsLimit-stop_in_text c.args.self.now c.loop-character.self c.write_char.new.self c.in_err-write_char.field-0.0 _ ys c.in-Some.character _ _ split c.from_residual.ensures.0 c.loop-character.invariant.written.held c.loop-character.invariant.limited c.in_err-write_char.ensures.limited
+    KeepsLimit-stop_in_text c.args.self.now c.loop-character.self c.write_char.new.self c.in_err-write_char.field-0.0 _ ys c.in-Some.character _ _ split
+    c.from_residual.ensures.0 c.loop-character.invariant.written.held c.loop-character.invariant.limited c.in_err-write_char.ensures.limited
 
 pub returns-clause-limited : goal.returns-clause-limited
 returns-clause-limited c =

@@ -1,0 +1,10 @@
+-- A formatter of numbers, with texts that the number's plural category chooses from.
+use Rattle.std.specs.Prelude.{List}
+use Rattle.icu_base.specs.Elements.{Elements}
+use Rattle.icu_base.specs.Rules.{Rule}
+
+-- a formatter of numbers, plural rules, and what stands around a number of each plural category
+pub record PluralFormat (F T : Type 0) : Type 0 where
+  pub formatter : F
+  pub rules : List Rule
+  pub elements : Elements T
