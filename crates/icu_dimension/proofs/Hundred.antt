@@ -1,5 +1,7 @@
 -- How large a hundred times a number is.
-use Rattle.std.proofs.Common.{◌≡◌, ◌≢◌, ℕ, suc, ◌+◌, ◌-◌, ◌*◌, ◌^◌, ◌<◌, ◌≤◌, ◌⊎◌, inl, inr, List, [], ◌∷◌, ◌++◌, length, drop, slice_index, nat_eq, mul_assoc, mul_comm, refl, sym, ap, ◌∙◌, arith, length-append, length-drop}
+use Rattle.std.proofs.Common.{◌≡◌, ◌≢◌, ℕ, suc, ◌+◌, ◌-◌, ◌*◌, ◌^◌, ◌<◌, ◌≤◌, ◌⊎◌, inl, inr}
+use Rattle.std.proofs.Common.{List, [], ◌∷◌, ◌++◌, length, drop, slice_index, nat_eq, mul_assoc, mul_comm, refl, sym, ap, ◌∙◌, arith}
+use Rattle.std.proofs.Common.{length-append, length-drop}
 use Rattle.std.specs.Prelude.{negsuc}
 use Rattle.std.proofs.lemmas.Bool.{cases_Bool, eqb-true, eqb-false}
 use Rattle.std.proofs.lemmas.List.{take-append-drop}
@@ -27,10 +29,14 @@ hundred : (e : ℕ) → 10 ^ (e + 2) ≡ 100 * 10 ^ e
 hundred e = omega (arith, pow-add 10 e 2)
 
 times : (x e : ℕ) → x * 10 ^ (e + 2) ≡ 100 * (x * 10 ^ e)
-times x e = ap (λ n. x * n) (hundred e) ∙ sym (mul_assoc x 100 (10 ^ e)) ∙ ap (λ n. n * 10 ^ e) (mul_comm x 100) ∙ mul_assoc 100 x (10 ^ e)
+times x e =
+    ap (λ n. x * n) (hundred e) ∙ sym (mul_assoc x 100 (10 ^ e))
+    ∙ ap (λ n. n * 10 ^ e) (mul_comm x 100) ∙ mul_assoc 100 x (10 ^ e)
 
 -- what stands below power 0
-fraction_part : (e : ℕ) (f : List ℕ) → weighed (e + length f) (slice_index f 0 ∷ slice_index f 1 ∷ []) + weighed (e + length f - length (drop 2 f)) (drop 2 f) ≡ 100 * weighed e f
+fraction_part : (e : ℕ) (f : List ℕ)
+    → weighed (e + length f) (slice_index f 0 ∷ slice_index f 1 ∷ []) + weighed (e + length f - length (drop 2 f)) (drop 2 f)
+    ≡ 100 * weighed e f
 fraction_part e [] = omega arith
 fraction_part e (x ∷ []) =
     let p : 10 ^ (e + 1 + 1) ≡ 10 ^ (e + 2) = same_power (e + 1 + 1) (e + 2) (omega arith) in
@@ -44,7 +50,9 @@ fraction_part e (x ∷ y ∷ r) =
     rw (px, py, pr) (omega (arith, times x (e + suc n), times y (e + n), weighed_times e 2 r))
 
 -- the digits at power -2 and above, and those below it
-sized : (e n : ℕ) (i f : List ℕ) → e + length f ≡ n → weighed (n - length (drop 2 f)) (trimmed (i ++ slice_index f 0 ∷ slice_index f 1 ∷ []) ++ drop 2 f) ≡ 100 * weighed e (i ++ f)
+sized : (e n : ℕ) (i f : List ℕ) → e + length f ≡ n
+    → weighed (n - length (drop 2 f)) (trimmed (i ++ slice_index f 0 ∷ slice_index f 1 ∷ []) ++ drop 2 f)
+    ≡ 100 * weighed e (i ++ f)
 sized e n i f h =
     let ab = slice_index f 0 ∷ slice_index f 1 ∷ [] in
     let shorter : length (drop 2 f) ≤ length f = omega (arith, length-drop 2 f) in

@@ -18,11 +18,16 @@ trimmed_left : (ds : List ℕ) → 0 < length ds → (integer_of (trimmed ds) �
 trimmed_left [] h = absurd (omega arith)
 trimmed_left (d ∷ ds) h = trimmed_some d ds
 
-integer_left : (ds : List ℕ) (a b : ℕ) → (integer_of (trimmed (ds ++ a ∷ b ∷ [])) ≡ trimmed (ds ++ a ∷ b ∷ [])) × (0 < length (trimmed (ds ++ a ∷ b ∷ [])))
+integer_left : (ds : List ℕ) (a b : ℕ)
+    → (integer_of (trimmed (ds ++ a ∷ b ∷ [])) ≡ trimmed (ds ++ a ∷ b ∷ []))
+    × (0 < length (trimmed (ds ++ a ∷ b ∷ [])))
 integer_left ds a b = trimmed_left (ds ++ a ∷ b ∷ []) (omega (arith, length-append ds (a ∷ b ∷ [])))
 
 -- the text with these digits spells a hundred times the number
-pub reads_hundredfold : (text : List ℕ) (u : Unsigned) → text ≡ digits_text (integer_hundredfold u) ++ fraction_text (fraction_hundredfold u) → All (λ d. d < 10) (integer_hundredfold u) → All (λ d. d < 10) (fraction_hundredfold u) → Reads text no_sign (hundredfold u)
+pub reads_hundredfold : (text : List ℕ) (u : Unsigned)
+    → text ≡ digits_text (integer_hundredfold u) ++ fraction_text (fraction_hundredfold u)
+    → All (λ d. d < 10) (integer_hundredfold u) → All (λ d. d < 10) (fraction_hundredfold u)
+    → Reads text no_sign (hundredfold u)
 reads_hundredfold text u e before after =
     let left = integer_left (integer u) (digit_at u (negsuc 0)) (digit_at u (negsuc 1)) in
     record {

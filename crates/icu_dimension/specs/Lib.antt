@@ -1,4 +1,7 @@
+pub mod CompactMoney
+pub mod CurrencyData
 pub mod GivenNames
+pub mod Loaded
 pub mod Money
 pub mod Names
 pub mod Percent

@@ -16,19 +16,19 @@ use icu_dimension_data::SignedPatterns;
 use std::alloc::Global;
 use std::marker::Model;
 
-/// Writes amounts of money with the symbol of their currency, as `-$1,234.50` or `($1,234.50)`: the number in the pattern
-/// of its sign.
+/// Writes amounts of money with the symbol of their currency, as `-$1,234.50` or `($1,234.50)`: the number in the
+/// pattern of its sign.
 ///
 /// The patterns are those of the currency's symbol, short or narrow, in the locale's standard or accounting pattern
-/// ([`CldrPattern::resolve`]); the formatter of numbers has the locale's separators of money where it has such. How many
-/// digits an amount has isn't changed: it is rounded before ([`rounded_to`]).
+/// ([`CldrPattern::resolve`]); the formatter of numbers has the locale's separators of money where it has such. How
+/// many digits an amount has isn't changed: it is rounded before ([`rounded_to`]).
 ///
 /// [`CldrPattern::resolve`]: icu_dimension_data::CldrPattern::resolve
 /// [`rounded_to`]: icu_dimension_data::rounded_to
 #[derive(Drop)]
 pub struct CurrencyFormatter<F> {
-    formatter: F,
-    patterns: SignedPatterns,
+    pub(crate) formatter: F,
+    pub(crate) patterns: SignedPatterns,
 }
 
 impl<F> Model for CurrencyFormatter<F> {
@@ -52,8 +52,9 @@ impl<F: AbstractFormatter> CurrencyFormatter<F> {
 
     /// Writes an amount: the parts of the number, and those of the sign and of the symbol.
     ///
-    /// After `Overflow` and `OutOfMemory` the sink is as it was; `Sink` is answered only where the sink failed in this call,
-    /// and it then holds a beginning of the events besides. `Overflow` exactly where the formatter overflows.
+    /// After `Overflow` and `OutOfMemory` the sink is as it was; `Sink` is answered only where the sink failed in
+    /// this call, and it then holds a beginning of the events besides. `Overflow` exactly where the formatter
+    /// overflows.
     pub fn write<S: PartsWrite>(
         &self,
         alloc: Global,
@@ -79,7 +80,8 @@ impl<F: AbstractFormatter> CurrencyFormatter<F> {
 
     /// The characters that `write` writes, as a text. `Sink` is never answered.
     pub fn write_to_string(&self, alloc: Global, value: &Decimal) -> Result<String, FormatError>
-        ensures text { IfOk result (λ t. (n : Shown) × F.shows self.now.formatter value.now.absolute n
+        ensures text { IfOk result (λ t. (n : Shown)
+            × F.shows self.now.formatter value.now.absolute n
             × (string_bytes t ≡ text_of (money_events self.now.patterns value.now.sign n))) }
         ensures overflow { IsErrOf result FormatError.Overflow
             ↔ F.overflows self.now.formatter value.now.absolute }

@@ -1,6 +1,7 @@
 //! A hundred times a number.
 
-ghost use Rattle.std.specs.Prelude.{◌≡◌, ◌≢◌, ◌∷◌, ◌++◌, ◌<◌, [], All, IfErr, IfOk, IsErrOf, OnOk, drop, length, negsuc};
+ghost use Rattle.std.specs.Prelude.{◌≡◌, ◌≢◌, ◌∷◌, ◌++◌, ◌<◌, [], All, drop, length, negsuc};
+ghost use Rattle.std.specs.Prelude.{IfErr, IfOk, IsErrOf, OnOk};
 ghost use Rattle.fixed_decimal.specs.Text.{digits_text, fraction_text};
 ghost use Rattle.fixed_decimal.specs.Unsigned.{IsWithinLimits, digit_at, fraction, integer};
 ghost use Rattle.icu_dimension.specs.Percent.{fraction_hundredfold, hundredfold, integer_hundredfold, trimmed};

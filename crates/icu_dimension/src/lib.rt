@@ -25,15 +25,23 @@
 //! prints `-CHF 1,234.50`, with U+00A0 behind the symbol.
 #![tactic(auto)]
 
+mod compact_currency_formatter;
+mod compact_currency_patterns;
+mod currency_data;
 mod currency_formatter;
 mod frame;
 mod hundredfold;
 pub mod laws;
+mod loading;
 mod long_currency_formatter;
+mod markers;
 mod name_pattern;
+pub mod options;
 mod percent_formatter;
+pub mod provider;
 mod units_formatter;
 
+pub use compact_currency_formatter::CompactCurrencyFormatter;
 pub use currency_formatter::CurrencyFormatter;
 pub use icu_dimension_data::parts;
 pub use long_currency_formatter::LongCurrencyFormatter;

@@ -16,8 +16,8 @@ use icu_decimal::{AbstractFormatter, Frame, ShownNumber};
 use std::alloc::Global;
 use std::marker::Model;
 
-/// Writes amounts of money with the name of their currency, as `1.00 US dollars`: the number and its sign with the name that
-/// the number's plural operands pick.
+/// Writes amounts of money with the name of their currency, as `1.00 US dollars`: the number and its sign with the
+/// name that the number's plural operands pick.
 #[derive(Drop)]
 pub struct LongCurrencyFormatter<F> {
     formatter: F,
@@ -39,8 +39,8 @@ impl<F> Model for LongCurrencyFormatter<F> {
 }
 
 impl<F: AbstractFormatter> LongCurrencyFormatter<F> {
-    /// The formatter of amounts with this name: its elements are what stands around a number, by the plural category of
-    /// the number as it is shown.
+    /// The formatter of amounts with this name: its elements are what stands around a number, by the plural category
+    /// of the number as it is shown.
     pub fn new(formatter: F, rules: PluralRules, elements: PluralElements<NamePattern>) -> Self
         ensures { result ≡ record { formatter = formatter; rules = rules; elements = elements } }
     {
@@ -53,8 +53,9 @@ impl<F: AbstractFormatter> LongCurrencyFormatter<F> {
 
     /// Writes the amount: the parts of the number, of its sign and of the name.
     ///
-    /// After `Overflow` and `OutOfMemory` the sink is as it was; `Sink` is answered only where the sink failed in this call,
-    /// and it then holds a beginning of the events besides. `Overflow` exactly where the formatter overflows.
+    /// After `Overflow` and `OutOfMemory` the sink is as it was; `Sink` is answered only where the sink failed in
+    /// this call, and it then holds a beginning of the events besides. `Overflow` exactly where the formatter
+    /// overflows.
     pub fn write<S: PartsWrite>(
         &self,
         alloc: Global,
@@ -82,9 +83,10 @@ impl<F: AbstractFormatter> LongCurrencyFormatter<F> {
 
     /// The characters that `write` writes, as a text. `Sink` is never answered.
     pub fn write_to_string(&self, alloc: Global, value: &Decimal) -> Result<String, FormatError>
-        ensures text { IfOk result (λ t. (n : Shown) × F.shows self.now.formatter value.now.absolute n
-            × (string_bytes t ≡ text_of (names_events (F.symbols self.now.formatter) self.now.rules self.now.elements
-            value.now.sign n))) }
+        ensures text { IfOk result (λ t. (n : Shown)
+            × F.shows self.now.formatter value.now.absolute n
+            × (string_bytes t ≡ text_of (names_events (F.symbols self.now.formatter)
+            self.now.rules self.now.elements value.now.sign n))) }
         ensures overflow { IsErrOf result FormatError.Overflow
             ↔ F.overflows self.now.formatter value.now.absolute }
         ensures no_sink { IfErr result (λ e. e ≢ FormatError.Sink) }
@@ -108,7 +110,8 @@ struct NamesFrame<'a, F> {
 impl<F: AbstractFormatter> Frame for NamesFrame<'_, F> {
     ghost use Rattle.icu_dimension.specs.Names.{names_framed};
 
-    ghost framed = { λ f. names_framed (F.symbols f.money.now.formatter) f.money.now.rules f.money.now.elements f.sign };
+    ghost framed = { λ f. names_framed (F.symbols f.money.now.formatter) f.money.now.rules
+        f.money.now.elements f.sign };
 
     fn write_framed<N: ShownNumber, K: EventWriter>(
         &self,

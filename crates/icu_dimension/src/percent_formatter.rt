@@ -45,12 +45,12 @@ impl<F: AbstractFormatter> PercentFormatter<F> {
         }
     }
 
-    /// Writes a hundred times the number, exactly and without further zeros at its front, as a percent: the parts of the
-    /// number, and those of the sign and of the percent sign.
+    /// Writes a hundred times the number, exactly and without further zeros at its front, as a percent: the parts of
+    /// the number, and those of the sign and of the percent sign.
     ///
     /// `Overflow` where a hundred times the number has more than 32768 digits at power 0 and above, or the formatter
-    /// overflows by it. After it and after `OutOfMemory` the sink is as it was; `Sink` is answered only where the sink failed
-    /// in this call, and it then holds a beginning of the events besides.
+    /// overflows by it. After it and after `OutOfMemory` the sink is as it was; `Sink` is answered only where the
+    /// sink failed in this call, and it then holds a beginning of the events besides.
     pub fn write<S: PartsWrite>(
         &self,
         alloc: Global,
@@ -65,7 +65,8 @@ impl<F: AbstractFormatter> PercentFormatter<F> {
             (money_events self.now.patterns value.now.sign) sink.new }
         ensures overflow { IsErrOf result FormatError.Overflow
             → IsTooLarge F.overflows self.now.formatter value.now.absolute }
-        ensures within { OnOk result (¬ (IsTooLarge F.overflows self.now.formatter value.now.absolute)) }
+        ensures within { OnOk result
+            (¬ (IsTooLarge F.overflows self.now.formatter value.now.absolute)) }
     {
         let hundredfold = hundredfold(alloc, &value.absolute)?;
         let frame = SignFrame {
@@ -78,7 +79,8 @@ impl<F: AbstractFormatter> PercentFormatter<F> {
 
     /// The characters that `write` writes, as a text. `Sink` is never answered.
     pub fn write_to_string(&self, alloc: Global, value: &Decimal) -> Result<String, FormatError>
-        ensures text { IfOk result (λ t. (n : Shown) × F.shows self.now.formatter (hundredfold value.now.absolute) n
+        ensures text { IfOk result (λ t. (n : Shown)
+            × F.shows self.now.formatter (hundredfold value.now.absolute) n
             × (string_bytes t ≡ text_of (money_events self.now.patterns value.now.sign n))) }
         ensures overflow { IsErrOf result FormatError.Overflow
             → IsTooLarge F.overflows self.now.formatter value.now.absolute }

@@ -18,11 +18,11 @@ use icu_decimal::{AbstractFormatter, Frame, ShownNumber};
 use std::alloc::Global;
 use std::marker::Model;
 
-/// Writes numbers with a unit, as `-1 kilometer` or `ɣleti -1`: the pattern that the number's plural operands pick, with
-/// the number and its sign in its place.
+/// Writes numbers with a unit, as `-1 kilometer` or `ɣleti -1`: the pattern that the number's plural operands pick,
+/// with the number and its sign in its place.
 ///
-/// The pattern is that of CLDR for a unit and a width. `UnitFormatter` of `icu_unit` writes the sign around the whole:
-/// both are the same where the literal stands behind the number alone.
+/// The pattern is that of CLDR for a unit and a width. `UnitFormatter` of `icu_unit` writes the sign around the
+/// whole: both are the same where the literal stands behind the number alone.
 #[derive(Drop)]
 pub struct UnitsFormatter<F> {
     formatter: F,
@@ -44,8 +44,8 @@ impl<F> Model for UnitsFormatter<F> {
 }
 
 impl<F: AbstractFormatter> UnitsFormatter<F> {
-    /// The formatter of numbers with this unit: its elements are the patterns of the unit, by the plural category of the
-    /// number as it is shown.
+    /// The formatter of numbers with this unit: its elements are the patterns of the unit, by the plural category of
+    /// the number as it is shown.
     pub fn new(
         formatter: F,
         rules: PluralRules,
@@ -60,10 +60,12 @@ impl<F: AbstractFormatter> UnitsFormatter<F> {
         }
     }
 
-    /// Writes the number with its unit: the parts of the number and of its sign. A pattern without a place is its literal.
+    /// Writes the number with its unit: the parts of the number and of its sign. A pattern without a place is its
+    /// literal.
     ///
-    /// After `Overflow` and `OutOfMemory` the sink is as it was; `Sink` is answered only where the sink failed in this call,
-    /// and it then holds a beginning of the events besides. `Overflow` exactly where the formatter overflows.
+    /// After `Overflow` and `OutOfMemory` the sink is as it was; `Sink` is answered only where the sink failed in
+    /// this call, and it then holds a beginning of the events besides. `Overflow` exactly where the formatter
+    /// overflows.
     pub fn write<S: PartsWrite>(
         &self,
         alloc: Global,
@@ -91,9 +93,10 @@ impl<F: AbstractFormatter> UnitsFormatter<F> {
 
     /// The characters that `write` writes, as a text. `Sink` is never answered.
     pub fn write_to_string(&self, alloc: Global, value: &Decimal) -> Result<String, FormatError>
-        ensures text { IfOk result (λ t. (n : Shown) × F.shows self.now.formatter value.now.absolute n
-            × (string_bytes t ≡ text_of (units_events (F.symbols self.now.formatter) self.now.rules self.now.elements
-            value.now.sign n))) }
+        ensures text { IfOk result (λ t. (n : Shown)
+            × F.shows self.now.formatter value.now.absolute n
+            × (string_bytes t ≡ text_of (units_events (F.symbols self.now.formatter)
+            self.now.rules self.now.elements value.now.sign n))) }
         ensures overflow { IsErrOf result FormatError.Overflow
             ↔ F.overflows self.now.formatter value.now.absolute }
         ensures no_sink { IfErr result (λ e. e ≢ FormatError.Sink) }
@@ -117,7 +120,8 @@ struct UnitsFrame<'a, F> {
 impl<F: AbstractFormatter> Frame for UnitsFrame<'_, F> {
     ghost use Rattle.icu_dimension.specs.Units.{units_framed};
 
-    ghost framed = { λ f. units_framed (F.symbols f.units.now.formatter) f.units.now.rules f.units.now.elements f.sign };
+    ghost framed = { λ f. units_framed (F.symbols f.units.now.formatter) f.units.now.rules
+        f.units.now.elements f.sign };
 
     fn write_framed<N: ShownNumber, K: EventWriter>(
         &self,

@@ -2,3 +2,4 @@ pub mod Affixes
 pub mod Characters
 pub mod Codes
 pub mod Left
+pub mod Seams

@@ -4,5 +4,6 @@ pub mod Patterns
 pub mod Stepping
 pub mod Reading
 pub mod Resolved
+pub mod Flat
 pub mod Given
 pub mod Surrounding

@@ -53,7 +53,10 @@ ended (Some fault) d = Err fault
 -- the pattern of what was read and of the characters that are left, the first of them at a byte; or their first fault
 unfoldable pub reading_from : State → Drafted → ℕ → List ℕ → Result PatternText PatternFault
 reading_from s d at [] = ended (end_fault s at) d
-reading_from s d at (c ∷ cs) = elim (step s at c) [ Err fault ↦ Err fault | Ok t ↦ reading_from t.state (with_step t d) (at + length (encode_utf8 c)) cs ]
+reading_from s d at (c ∷ cs) = elim (step s at c) [
+  | Err fault ↦ Err fault
+  | Ok t ↦ reading_from t.state (with_step t d) (at + length (encode_utf8 c)) cs
+]
 
 -- the pattern of a text, or its first fault
 unfoldable pub pattern_of : List ℕ → Result PatternText PatternFault

@@ -1,6 +1,7 @@
 -- The patterns of the three signs (UTS 35 Part 3, Number Patterns, Explicit Plus Signs), with a space between the currency
 -- symbol and the number where one is wanted (Currency Formatting, currency spacing).
-use Rattle.std.specs.Prelude.{ℕ, ◌-◌, List, [], ◌∷◌, ◌++◌, Bool, true, false, ◌&&◌, ◌||◌, not, Option, Some, None, map, length, slice_get, chars, if◌then◌else◌}
+use Rattle.std.specs.Prelude.{ℕ, ◌-◌, List, [], ◌∷◌, ◌++◌, Bool, true, false, ◌&&◌, ◌||◌, not, Option, Some, None}
+use Rattle.std.specs.Prelude.{map, length, slice_get, chars, if◌then◌else◌}
 use Rattle.std.specs.List.{list_any}
 use Rattle.ucd_category.specs.GeneralCategory.{general_category}
 use Rattle.ucd_category.specs.GeneralCategoryGroup.{in_group}
@@ -86,11 +87,15 @@ no_break_space = Character 160
 
 -- before the number: a space behind a symbol that stands directly before it and needs one
 abbrev pub spaced_before : List ℕ → List AffixToken → List AffixToken
-spaced_before currency ts = if is_symbol (slice_get ts (length ts - 1)) && needs_space (last_character currency) then ts ++ no_break_space ∷ [] else ts
+spaced_before currency ts =
+    if is_symbol (slice_get ts (length ts - 1)) && needs_space (last_character currency)
+    then ts ++ no_break_space ∷ []
+    else ts
 
 -- after the number: a space before a symbol that stands directly behind it and needs one
 abbrev pub spaced_after : List ℕ → List AffixToken → List AffixToken
-spaced_after currency ts = if is_symbol (slice_get ts 0) && needs_space (first_character currency) then no_break_space ∷ ts else ts
+spaced_after currency ts =
+    if is_symbol (slice_get ts 0) && needs_space (first_character currency) then no_break_space ∷ ts else ts
 
 abbrev pub spaced : List ℕ → Affixes → Affixes
 spaced currency a = record { before = spaced_before currency a.before; after = spaced_after currency a.after }

@@ -29,8 +29,8 @@ pub struct CurrencyEntry {
 /// How many fraction digits the amounts of each currency have.
 #[derive(Drop)]
 pub struct CurrencyDigits {
-    entries: Vec<CurrencyEntry>,
-    others: FractionDigits,
+    pub(crate) entries: Vec<CurrencyEntry>,
+    pub(crate) others: FractionDigits,
 }
 
 impl Model for CurrencyDigits {
@@ -72,8 +72,8 @@ fn last_power(digits: u8) -> i16
     -i16::from(digits)
 }
 
-/// The amount rounded to so many fraction digits, half to even; where it has fewer, zeros are written behind them. `Limit`
-/// and want of memory hand the amount back, as [`Decimal::rounded`] does.
+/// The amount rounded to so many fraction digits, half to even; where it has fewer, zeros are written behind them.
+/// `Limit` and want of memory hand the amount back, as [`Decimal::rounded`] does.
 pub fn rounded_to(amount: Decimal, digits: u8) -> Result<Decimal, (Decimal, DecimalError)>
     ensures rounded { IfOk result (λ y.
         IsRounded amount.absolute (pos 0 -ℤ pos digits) y.absolute) }

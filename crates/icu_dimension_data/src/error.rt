@@ -6,7 +6,8 @@ ghost use Rattle.icu_dimension_data.specs.declared.error.PatternFault.TheVariant
 use std::alloc::{AllocError, AllocFailed};
 use thiserror::Error;
 
-/// Why a text isn't read as a pattern of numbers (UTS 35 Part 3, Number Patterns): its first fault, or want of memory.
+/// Why a text isn't read as a pattern of numbers (UTS 35 Part 3, Number Patterns): its first fault, or want of
+/// memory.
 #[derive(Clone, Copy, Debug, PartialEq, Eq, Error)]
 pub enum PatternFault {
     /// A subpattern has no number part.

@@ -1,4 +1,5 @@
-//! The data of money and percents: patterns of CLDR with their currency symbols and signs, and the digits of currencies.
+//! The data of money and percents: patterns of CLDR with their currency symbols and signs, and the digits of
+//! currencies.
 //!
 //! ```
 //! let texts = AffixTexts {
@@ -20,9 +21,11 @@
 pub mod affix_texts;
 pub mod affix_token;
 pub mod cldr_pattern;
+mod copying;
 pub mod currency_code;
 pub mod currency_digits;
 pub mod error;
+mod flattening;
 pub mod parts;
 mod reading;
 mod resolving;

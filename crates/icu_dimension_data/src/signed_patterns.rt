@@ -51,8 +51,8 @@ impl SignedPatterns {
 /// What stands around numbers of one sign, lent.
 #[derive(Drop)]
 pub struct SignedPattern<'a> {
-    affixes: &'a Subpattern,
-    texts: &'a KeptTexts,
+    pub(crate) affixes: &'a Subpattern,
+    pub(crate) texts: &'a KeptTexts,
 }
 
 impl<'a> Model for SignedPattern<'a> {
@@ -107,7 +107,7 @@ impl KeptTexts {
         }
     }
 
-    fn write_tokens<K: EventWriter>(
+    pub(crate) fn write_tokens<K: EventWriter>(
         &self,
         tokens: &[AffixToken],
         out: &mut K,

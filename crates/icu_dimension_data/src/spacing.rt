@@ -2,7 +2,8 @@
 
 ghost use Rattle.std.specs.Prelude.{◌≡◌, IfOk};
 ghost use Rattle.std.specs.Option.{option_copied};
-ghost use Rattle.icu_dimension_data.specs.Resolved.{first_character, is_symbol, last_character, needs_space, stands_apart, spaced};
+ghost use Rattle.icu_dimension_data.specs.Resolved.{first_character, is_symbol, last_character};
+ghost use Rattle.icu_dimension_data.specs.Resolved.{needs_space, stands_apart, spaced};
 
 use crate::affix_token::AffixToken;
 use crate::subpattern::Subpattern;

@@ -1,7 +1,8 @@
 //! Reading a pattern by one character: what it does, and what may follow.
 
 ghost use Rattle.std.specs.Prelude.{◌≡◌};
-ghost use Rattle.icu_dimension_data.specs.Stepping.{start, kind_of, section_after, with_token, silent, separated, with_number, with_symbol, unquoted_step, step, end_fault};
+ghost use Rattle.icu_dimension_data.specs.Stepping.{start, kind_of, section_after, with_token, silent, separated};
+ghost use Rattle.icu_dimension_data.specs.Stepping.{with_number, with_symbol, unquoted_step, step, end_fault};
 
 use crate::affix_token::AffixToken;
 use crate::error::PatternFault;
@@ -17,7 +18,8 @@ pub(crate) enum Quoting {
     Opened(usize),
     /// Characters stand in the quote that was opened at this byte.
     Inside(usize),
-    /// The character before is an apostrophe in the quote that was opened at this byte: its end, or the first half of one.
+    /// The character before is an apostrophe in the quote that was opened at this byte: its end, or the first half of
+    /// one.
     Ended(usize),
 }
 

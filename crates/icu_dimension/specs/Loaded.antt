@@ -1,0 +1,71 @@
+-- What formatters of money, percents and units are made of: the answers of a provider, in the order in which it is asked.
+use Rattle.std.specs.Prelude.{ℕ, List, Some, Result, Ok}
+use Rattle.icu_base.specs.Answer.{Refusal}
+use Rattle.icu_base.specs.Identifier.{Identifier}
+use Rattle.icu_base.specs.Rules.{Rule}
+use Rattle.icu_decimal_data.specs.Decided.{or_else}
+use Rattle.icu_decimal_data.specs.declared.decimal_symbols.DecimalSymbols.{DecimalSymbols}
+use Rattle.icu_decimal.specs.Decimal.{DecimalFormat}
+use Rattle.icu_decimal.specs.Loaded.{Provider, and_then, preferably, loaded}
+use Rattle.icu_decimal_options.specs.Preferences.{locale_id}
+use Rattle.icu_decimal_options.specs.declared.options.DecimalFormatterOptions.{DecimalFormatterOptions}
+use Rattle.icu_decimal_options.specs.declared.preferences.DecimalFormatterPreferences.{DecimalFormatterPreferences}
+use Rattle.icu_dimension_data.specs.Resolved.{Signed}
+use Rattle.icu_dimension.specs.CompactMoney.{CompactMoney, compact_money}
+use Rattle.icu_dimension.specs.CurrencyData.{MoneyPatterns, SymbolTexts, money_patterns}
+use Rattle.icu_dimension.specs.Money.{SignedFormat}
+use Rattle.icu_dimension.specs.declared.compact_currency_patterns.CompactCurrencyPatterns.{CompactCurrencyPatterns}
+use Rattle.icu_dimension.specs.declared.options.CurrencyFormatterOptions.{CurrencyFormatterOptions}
+use Rattle.icu_dimension.specs.declared.options.CurrencySign.TheVariants.{Standard}
+use Rattle.icu_dimension.specs.declared.options.Width.TheVariants.{Short}
+
+-- what is asked for by a name in the locale: by a currency's code, or by a unit
+abbrev pub named_id : List ℕ → List ℕ → Identifier
+named_id name locale = record { system = Some name; locale = locale }
+
+-- by an identifier the symbols of numbers of money, where there are such, and else those of numbers
+abbrev pub money_symbols : Provider DecimalSymbols → Provider DecimalSymbols → Provider DecimalSymbols
+money_symbols money plain id = or_else (money id) (plain id)
+
+-- amounts with a symbol: the plain formatter, then the patterns by the preferred system in the locale, or else by the
+-- locale, then the symbols by the currency's code in the locale; or the first refusal
+abbrev pub loaded_currency : Provider DecimalSymbols → Provider (List ℕ) → Provider MoneyPatterns → Provider SymbolTexts
+    → DecimalFormatterPreferences → List ℕ → CurrencyFormatterOptions → Result (SignedFormat DecimalFormat) Refusal
+loaded_currency symbols digits patterns currencies prefs code options =
+    let locale = prefs.locale_preferences in
+    and_then (loaded symbols digits prefs options.decimal) (λ f.
+    and_then (preferably patterns prefs (locale_id locale)) (λ p.
+    and_then (currencies (named_id code locale)) (λ s.
+    Ok (record { formatter = f; patterns = money_patterns p s options }))))
+
+-- percents: the plain formatter, then the patterns by the preferred system in the locale, or else by the locale; or the
+-- first refusal
+abbrev pub loaded_percent : Provider DecimalSymbols → Provider (List ℕ) → Provider Signed
+    → DecimalFormatterPreferences → DecimalFormatterOptions → Result (SignedFormat DecimalFormat) Refusal
+loaded_percent symbols digits patterns prefs options =
+    and_then (loaded symbols digits prefs options) (λ f.
+    and_then (preferably patterns prefs (locale_id prefs.locale_preferences)) (λ p.
+    Ok (record { formatter = f; patterns = p })))
+
+-- what hangs on plural categories: the plain formatter, then the rules by the locale, then what has this name in the
+-- locale; or the first refusal
+abbrev pub loaded_plural : {X Y : Type 0} → Provider DecimalSymbols → Provider (List ℕ) → Provider (List Rule) → Provider X
+    → DecimalFormatterPreferences → List ℕ → DecimalFormatterOptions → (DecimalFormat → List Rule → X → Y) → Result Y Refusal
+loaded_plural symbols digits rules named prefs name options made =
+    let locale = prefs.locale_preferences in
+    and_then (loaded symbols digits prefs options) (λ f.
+    and_then (rules (locale_id locale)) (λ r.
+    and_then (named (named_id name locale)) (λ x.
+    Ok (made f r x))))
+
+-- compact amounts: the formatter of money, with the short symbol and the standard pattern, then the rules by the locale, then
+-- the compact tables by the currency's code in the locale; or the first refusal
+abbrev pub loaded_compact_money : Provider DecimalSymbols → Provider (List ℕ) → Provider MoneyPatterns → Provider SymbolTexts
+    → Provider (List Rule) → Provider CompactCurrencyPatterns → DecimalFormatterPreferences → List ℕ → DecimalFormatterOptions
+    → Result CompactMoney Refusal
+loaded_compact_money symbols digits patterns currencies rules tables prefs code options =
+    let locale = prefs.locale_preferences in
+    and_then (loaded_currency symbols digits patterns currencies prefs code (record { decimal = options; width = Short; sign = Standard })) (λ m.
+    and_then (rules (locale_id locale)) (λ r.
+    and_then (tables (named_id code locale)) (λ t.
+    Ok (compact_money m r t))))

@@ -1,0 +1,179 @@
+//! Compact amounts of money (ICU4X, `CompactCurrencyFormatter`).
+
+ghost use Rattle.std.specs.Prelude.{◌≡◌, ◌≢◌, ◌↔◌, IfErr, IfOk, IsErrOf, IsOkUnless};
+ghost use Rattle.std.specs.String.{string_bytes};
+ghost use Rattle.fixed_decimal.specs.Size.{size};
+ghost use Rattle.icu_base.specs.Events.{text_of};
+ghost use Rattle.icu_decimal.specs.CompactFormat.{FormattedCompact, IsCompacted};
+ghost use Rattle.icu_decimal.specs.CompactNumber.{ShowsPastLimits};
+ghost use Rattle.icu_decimal.specs.WritesSuch.{KeepsLimitSuch, WritesSuch};
+ghost use Rattle.icu_dimension.specs.CompactMoney.{compact_events, compact_money, formatter_of};
+
+use crate::compact_currency_patterns::CompactCurrencyPatterns;
+use crate::currency_formatter::CurrencyFormatter;
+use crate::frame::Lent;
+use fixed_decimal::{Decimal, Sign};
+use icu_base::{EventWriter, PartsWrite, PluralRules, WriteFault, Writeable};
+use icu_decimal::error::FormatError;
+use icu_decimal::{CompactDecimalFormatter, DecimalFormatter, FormattedUnsignedCompactDecimal};
+use icu_dimension_data::SignedPatterns;
+use std::alloc::Global;
+use std::marker::Model;
+
+/// Writes amounts of money in compact form with the symbol of their currency, as `$1.5M` or `€ -1,5 mln.`: the compact
+/// number that is nearest to the amount, by the compact formatter of its sign.
+///
+/// CLDR's short patterns of money are patterns of their own, and no compact numbers in a pattern of money; signs and symbol
+/// stand in them. What they don't shorten, a compact number of exponent 0 as `$0.5`, stands in the pattern of money.
+#[derive(Drop)]
+pub struct CompactCurrencyFormatter {
+    none: CompactDecimalFormatter,
+    minus: CompactDecimalFormatter,
+    plus: CompactDecimalFormatter,
+    patterns: SignedPatterns,
+}
+
+impl Model for CompactCurrencyFormatter {
+    ghost use Rattle.icu_dimension.specs.CompactMoney.{CompactMoney};
+
+    ghost Value = { CompactMoney };
+
+    ghost view = { λ f. record {
+      none = f.none;
+      minus = f.minus;
+      plus = f.plus;
+      patterns = f.patterns;
+    } };
+}
+
+/// A formatter and rules, copied.
+fn copied(
+    alloc: Global,
+    formatter: &DecimalFormatter,
+    rules: &PluralRules,
+) -> Result<(DecimalFormatter, PluralRules), FormatError>
+    ensures copied { IfOk result (λ c. (c.0 ≡ formatter.now) × (c.1 ≡ rules.now)) }
+    ensures memory { IsOkUnless result FormatError.OutOfMemory }
+{
+    let formatter = formatter.copy(alloc)?;
+    match rules.copy(alloc) {
+        Ok(rules) => Ok((formatter, rules)),
+        Err(_) => Err(FormatError::OutOfMemory),
+    }
+}
+
+impl CompactCurrencyFormatter {
+    /// The formatter of amounts with the compact patterns of a currency: numbers are written as the formatter of money
+    /// writes them, and plural rules choose among the patterns of an entry. Numbers and rules are copied twice.
+    pub fn from_parts(
+        alloc: Global,
+        money: CurrencyFormatter<DecimalFormatter>,
+        rules: PluralRules,
+        tables: CompactCurrencyPatterns,
+    ) -> Result<Self, FormatError>
+        ensures parts { IfOk result (λ f. f ≡ compact_money money rules tables) }
+        ensures memory { IsOkUnless result FormatError.OutOfMemory }
+    {
+        let CurrencyFormatter {
+            formatter,
+            patterns,
+        } = money;
+        let CompactCurrencyPatterns { none, minus, plus } = tables;
+        let (first, first_rules) = copied(alloc, &formatter, &rules)?;
+        let (second, second_rules) = copied(alloc, &formatter, &rules)?;
+        Ok(CompactCurrencyFormatter {
+            none: CompactDecimalFormatter::from_parts(formatter, rules, none),
+            minus: CompactDecimalFormatter::from_parts(first, first_rules, minus),
+            plus: CompactDecimalFormatter::from_parts(second, second_rules, plus),
+            patterns,
+        })
+    }
+
+    /// The compact formatter of a sign. It takes no memory.
+    pub fn for_sign(&self, sign: Sign) -> &CompactDecimalFormatter
+        ensures { result.now ≡ formatter_of self.now sign }
+    {
+        match sign {
+            Sign::None => &self.none,
+            Sign::Negative => &self.minus,
+            Sign::Positive => &self.plus,
+        }
+    }
+
+    /// Writes an amount: the characters of the nearest compact number, and where its exponent is 0 the parts of the sign and
+    /// of the symbol around it.
+    ///
+    /// After `Overflow` and `OutOfMemory` the sink is as it was; `Sink` is answered only where the sink failed in this
+    /// call, and it then holds a beginning of the events besides. `Overflow` exactly where the compact number is too large.
+    pub fn write<S: PartsWrite>(
+        &self,
+        alloc: Global,
+        value: &Decimal,
+        sink: &mut S,
+    ) -> Result<(), FormatError>
+        ensures written { WritesSuch S.events S.failures sink.old result
+            (IsCompacted (formatter_of self.now value.now.sign) value.now.absolute)
+            (compact_events self.now.patterns value.now.sign) sink.new }
+        ensures limited { KeepsLimitSuch S.events S.limit S.refusals sink.old result
+            (IsCompacted (formatter_of self.now value.now.sign) value.now.absolute)
+            (compact_events self.now.patterns value.now.sign) sink.new }
+        ensures overflow { IsErrOf result FormatError.Overflow
+            ↔ ShowsPastLimits (formatter_of self.now value.now.sign).table
+            (size value.now.absolute) }
+    {
+        let shown = self.for_sign(value.sign).format(alloc, value)?;
+        let amount = CompactAmount {
+            patterns: &self.patterns,
+            sign: value.sign,
+            number: shown.value(),
+        };
+        match amount.write_to_parts(sink) {
+            Ok(()) => Ok(()),
+            Err(_) => Err(FormatError::Sink),
+        }
+    }
+
+    /// The characters that `write` writes, as a text. `Sink` is never answered.
+    pub fn write_to_string(&self, alloc: Global, value: &Decimal) -> Result<String, FormatError>
+        ensures text { IfOk result (λ t. (n : FormattedCompact)
+            × IsCompacted (formatter_of self.now value.now.sign) value.now.absolute n
+            × (string_bytes t ≡ text_of (compact_events self.now.patterns value.now.sign n))) }
+        ensures overflow { IsErrOf result FormatError.Overflow
+            ↔ ShowsPastLimits (formatter_of self.now value.now.sign).table
+            (size value.now.absolute) }
+        ensures no_sink { IfErr result (λ e. e ≢ FormatError.Sink) }
+    {
+        let shown = self.for_sign(value.sign).format(alloc, value)?;
+        let amount = CompactAmount {
+            patterns: &self.patterns,
+            sign: value.sign,
+            number: shown.value(),
+        };
+        match amount.write_to_string(alloc) {
+            Ok(text) => Ok(text),
+            Err(_) => Err(FormatError::OutOfMemory),
+        }
+    }
+}
+
+/// A compact number, where its exponent is 0 in the pattern of a sign.
+#[derive(Drop)]
+struct CompactAmount<'a, 'l> {
+    patterns: &'a SignedPatterns,
+    sign: Sign,
+    number: &'a FormattedUnsignedCompactDecimal<'l>,
+}
+
+impl Writeable for CompactAmount<'_, '_> {
+    ghost events = { λ a. compact_events a.patterns.now a.sign a.number.now };
+
+    fn write_events<K: EventWriter>(&self, out: &mut K) -> Result<(), WriteFault> {
+        if self.number.exponent() != 0 {
+            return self.number.write_events(out);
+        }
+        let pattern = self.patterns.for_sign(self.sign);
+        pattern
+            .interpolate(Lent { value: self.number })
+            .write_events(out)
+    }
+}

@@ -1,0 +1,18 @@
+//! The compact patterns of a currency.
+
+use icu_base::SinglePlaceholder;
+use icu_decimal_data::CompactPatterns;
+
+/// The compact patterns of a currency in a locale, as `$0M`, for numbers without a sign, with a minus and with a plus. Signs
+/// and symbol stand in them ([`SignedPattern::to_pattern`]).
+///
+/// [`SignedPattern::to_pattern`]: icu_dimension_data::SignedPattern::to_pattern
+#[derive(Drop)]
+pub struct CompactCurrencyPatterns {
+    /// For numbers without a sign.
+    pub none: CompactPatterns<SinglePlaceholder>,
+    /// For numbers with a minus.
+    pub minus: CompactPatterns<SinglePlaceholder>,
+    /// For numbers with a plus.
+    pub plus: CompactPatterns<SinglePlaceholder>,
+}

@@ -1,0 +1,347 @@
+//! Formatters that are made of what a provider answers.
+
+ghost use Rattle.std.specs.Prelude.{codes};
+ghost use Rattle.icu_base.specs.Answer.{Answers};
+ghost use Rattle.icu_base.specs.Identifier.{identifier_of};
+ghost use Rattle.icu_decimal.specs.Loaded.{loaded, preferably};
+ghost use Rattle.icu_decimal_options.specs.Preferences.{locale_id};
+ghost use Rattle.icu_dimension.specs.Loaded.{loaded_compact_money, loaded_currency, loaded_percent, loaded_plural};
+ghost use Rattle.icu_dimension.specs.Loaded.{money_symbols, named_id};
+
+use crate::compact_currency_formatter::CompactCurrencyFormatter;
+use crate::currency_formatter::CurrencyFormatter;
+use crate::long_currency_formatter::LongCurrencyFormatter;
+use crate::markers::{
+    CurrencyCompactShortV1, CurrencyDecimalSymbolsV1, CurrencyDigitsV1, CurrencyNamesV1,
+    CurrencyPatternsV1, CurrencySymbolsV1, PercentPatternsV1,
+};
+use crate::options::{CurrencyFormatterOptions, CurrencySign, Width};
+use crate::percent_formatter::PercentFormatter;
+use crate::units_formatter::UnitsFormatter;
+use icu_base::{
+    DataError, DataErrorKind, DataIdentifierBorrowed, DataLocale, DataMarker, DataProvider,
+    DataRequest, Pattern, PluralElements, PluralRules, PluralRulesPreferences, PluralsCardinalV1,
+    SinglePlaceholder,
+};
+use icu_decimal::DecimalFormatter;
+use icu_decimal::options::DecimalFormatterOptions;
+use icu_decimal::preferences::DecimalFormatterPreferences;
+use icu_decimal::provider::load_preferred;
+use icu_decimal_data::{DecimalDigitsV1, DecimalSymbols, DecimalSymbolsV1};
+use icu_dimension_data::{CurrencyCode, CurrencyDigits};
+use std::alloc::Global;
+
+/// What the provider answers by an identifier.
+fn load<M: DataMarker, D: DataProvider<M>>(
+    alloc: Global,
+    provider: &D,
+    request: &DataRequest<'_>,
+) -> Result<M::DataStruct, DataError>
+    ensures { Answers result (D.answer provider.now (identifier_of request.now.id)) }
+{
+    provider.load(alloc, request)
+}
+
+/// What the provider answers by a name in the locale.
+fn load_named<M: DataMarker, D: DataProvider<M>>(
+    alloc: Global,
+    provider: &D,
+    name: &str,
+    locale: &DataLocale,
+) -> Result<M::DataStruct, DataError>
+    ensures { Answers result (D.answer provider.now (named_id name.now locale.now)) }
+{
+    let id = DataIdentifierBorrowed::for_marker_attributes_and_locale(name, locale);
+    provider.load(alloc, &DataRequest { id, silent: false })
+}
+
+/// What the provider answers by the preferred numbering system in the locale, if there is one and it has data by it, and
+/// else by the locale.
+fn load_preferred_in<M: DataMarker, D: DataProvider<M>>(
+    alloc: Global,
+    provider: &D,
+    prefs: &DecimalFormatterPreferences,
+) -> Result<M::DataStruct, DataError>
+    ensures { Answers result
+        (preferably (D.answer provider.now) prefs.now (locale_id prefs.now.locale_preferences)) }
+{
+    let locale = &prefs.locale_preferences;
+    let other = DataIdentifierBorrowed::for_locale(locale);
+    load_preferred::<M, D>(alloc, provider, prefs.nu_id(locale), other)
+}
+
+/// The plural rules of the locale.
+fn load_rules<D: DataProvider<PluralsCardinalV1>>(
+    alloc: Global,
+    provider: &D,
+    prefs: &DecimalFormatterPreferences,
+) -> Result<PluralRules, DataError>
+    ensures { Answers result (D.answer provider.now (locale_id prefs.now.locale_preferences)) }
+{
+    let prefs = PluralRulesPreferences {
+        locale_preferences: prefs.locale_preferences,
+    };
+    PluralRules::try_new_cardinal_unstable::<D>(alloc, provider, prefs)
+}
+
+/// A provider as it is asked for numbers of money.
+#[derive(Drop)]
+struct MoneyNumbers<'a, D> {
+    provider: &'a D,
+}
+
+impl<D: DataProvider<CurrencyDecimalSymbolsV1> + DataProvider<DecimalSymbolsV1>> DataProvider<
+    DecimalSymbolsV1,
+> for MoneyNumbers<'_, D> {
+    ghost answer = { λ n. money_symbols
+        (⟦<D as DataProvider<CurrencyDecimalSymbolsV1>>⟧.answer n.provider.now)
+        (⟦<D as DataProvider<DecimalSymbolsV1>>⟧.answer n.provider.now) };
+
+    fn load(&self, alloc: Global, request: &DataRequest<'_>) -> Result<DecimalSymbols, DataError> {
+        let silent = DataRequest {
+            id: request.id,
+            silent: true,
+        };
+        match load::<CurrencyDecimalSymbolsV1, D>(alloc, self.provider, &silent) {
+            Err(
+                DataError {
+                    kind: DataErrorKind::IdentifierNotFound,
+                    ..
+                },
+            ) => load::<DecimalSymbolsV1, D>(alloc, self.provider, request),
+            answered => answered,
+        }
+    }
+}
+
+impl<D: DataProvider<DecimalDigitsV1>> DataProvider<DecimalDigitsV1> for MoneyNumbers<'_, D> {
+    ghost answer = { λ n. D.answer n.provider.now };
+
+    fn load(&self, alloc: Global, request: &DataRequest<'_>) -> Result<[char; 10], DataError> {
+        self.provider.load(alloc, request)
+    }
+}
+
+/// The plain formatter of numbers of money.
+fn load_money_numbers<
+    D: DataProvider<CurrencyDecimalSymbolsV1>
+        + DataProvider<DecimalSymbolsV1>
+        + DataProvider<DecimalDigitsV1>,
+>(
+    alloc: Global,
+    provider: &D,
+    prefs: DecimalFormatterPreferences,
+    options: DecimalFormatterOptions,
+) -> Result<DecimalFormatter, DataError>
+    ensures { Answers result
+        (loaded (money_symbols
+        (⟦<D as DataProvider<CurrencyDecimalSymbolsV1>>⟧.answer provider.now)
+        (⟦<D as DataProvider<DecimalSymbolsV1>>⟧.answer provider.now))
+        (⟦<D as DataProvider<DecimalDigitsV1>>⟧.answer provider.now) prefs options) }
+{
+    DecimalFormatter::try_new_unstable(alloc, &MoneyNumbers { provider }, prefs, options)
+}
+
+impl CurrencyFormatter<DecimalFormatter> {
+    /// The formatter of amounts of a currency, of what a provider answers.
+    ///
+    /// First the numbers of money are loaded, as [`DecimalFormatter::try_new_unstable`] loads numbers, but that symbols of
+    /// money are asked for before each question for symbols. Then patterns are asked for by the preferred numbering system
+    /// in the locale, if one is preferred, and else by the locale, and then the symbols by the currency's code in the locale.
+    /// The first refusal is answered, with its context; `OutOfMemory` also where memory is wanting.
+    pub fn try_new_unstable<
+        D: DataProvider<CurrencyDecimalSymbolsV1>
+            + DataProvider<DecimalSymbolsV1>
+            + DataProvider<DecimalDigitsV1>
+            + DataProvider<CurrencyPatternsV1>
+            + DataProvider<CurrencySymbolsV1>,
+    >(
+        alloc: Global,
+        provider: &D,
+        prefs: DecimalFormatterPreferences,
+        code: CurrencyCode,
+        options: CurrencyFormatterOptions,
+    ) -> Result<Self, DataError>
+        ensures { Answers result
+            (loaded_currency (money_symbols
+            (⟦<D as DataProvider<CurrencyDecimalSymbolsV1>>⟧.answer provider.now)
+            (⟦<D as DataProvider<DecimalSymbolsV1>>⟧.answer provider.now))
+            (⟦<D as DataProvider<DecimalDigitsV1>>⟧.answer provider.now)
+            (⟦<D as DataProvider<CurrencyPatternsV1>>⟧.answer provider.now)
+            (⟦<D as DataProvider<CurrencySymbolsV1>>⟧.answer provider.now)
+            prefs code options) }
+    {
+        let formatter = load_money_numbers::<D>(alloc, provider, prefs, options.decimal)?;
+        let patterns = load_preferred_in::<CurrencyPatternsV1, D>(alloc, provider, &prefs)?;
+        let locale = &prefs.locale_preferences;
+        let symbols = load_named::<CurrencySymbolsV1, D>(alloc, provider, code.as_str(), locale)?;
+        match patterns.resolve(alloc, &symbols, options) {
+            Ok(patterns) => Ok(CurrencyFormatter::new(formatter, patterns)),
+            Err(_) => Err(DataErrorKind::OutOfMemory.into()),
+        }
+    }
+}
+
+impl LongCurrencyFormatter<DecimalFormatter> {
+    /// The formatter of amounts with the name of a currency, of what a provider answers.
+    ///
+    /// First the numbers of money are loaded, as [`CurrencyFormatter::try_new_unstable`] loads them. Then plural rules are
+    /// asked for by the locale, and then names by the currency's code in the locale. The first refusal is answered, with its
+    /// context; `OutOfMemory` also where memory is wanting.
+    pub fn try_new_unstable<
+        D: DataProvider<CurrencyDecimalSymbolsV1>
+            + DataProvider<DecimalSymbolsV1>
+            + DataProvider<DecimalDigitsV1>
+            + DataProvider<PluralsCardinalV1>
+            + DataProvider<CurrencyNamesV1>,
+    >(
+        alloc: Global,
+        provider: &D,
+        prefs: DecimalFormatterPreferences,
+        code: CurrencyCode,
+        options: DecimalFormatterOptions,
+    ) -> Result<Self, DataError>
+        ensures { Answers result
+            (loaded_plural (money_symbols
+            (⟦<D as DataProvider<CurrencyDecimalSymbolsV1>>⟧.answer provider.now)
+            (⟦<D as DataProvider<DecimalSymbolsV1>>⟧.answer provider.now))
+            (⟦<D as DataProvider<DecimalDigitsV1>>⟧.answer provider.now)
+            (⟦<D as DataProvider<PluralsCardinalV1>>⟧.answer provider.now)
+            (⟦<D as DataProvider<CurrencyNamesV1>>⟧.answer provider.now)
+            prefs code options (λ f r x. record { formatter = f; rules = r; elements = x })) }
+    {
+        let formatter = load_money_numbers::<D>(alloc, provider, prefs, options)?;
+        let rules = load_rules::<D>(alloc, provider, &prefs)?;
+        let locale = &prefs.locale_preferences;
+        let names = load_named::<CurrencyNamesV1, D>(alloc, provider, code.as_str(), locale)?;
+        Ok(LongCurrencyFormatter::new(formatter, rules, names))
+    }
+}
+
+impl CompactCurrencyFormatter {
+    /// The formatter of compact amounts of a currency, of what a provider answers.
+    ///
+    /// First the formatter of money is made, as [`CurrencyFormatter::try_new_unstable`] makes it with the short symbol and the
+    /// standard pattern. Then plural rules are asked for by the locale, and then compact patterns by the currency's code in
+    /// the locale. The first refusal is answered, with its context; `OutOfMemory` also where memory is wanting.
+    pub fn try_new_unstable<
+        D: DataProvider<CurrencyDecimalSymbolsV1>
+            + DataProvider<DecimalSymbolsV1>
+            + DataProvider<DecimalDigitsV1>
+            + DataProvider<CurrencyPatternsV1>
+            + DataProvider<CurrencySymbolsV1>
+            + DataProvider<PluralsCardinalV1>
+            + DataProvider<CurrencyCompactShortV1>,
+    >(
+        alloc: Global,
+        provider: &D,
+        prefs: DecimalFormatterPreferences,
+        code: CurrencyCode,
+        options: DecimalFormatterOptions,
+    ) -> Result<Self, DataError>
+        ensures { Answers result
+            (loaded_compact_money (money_symbols
+            (⟦<D as DataProvider<CurrencyDecimalSymbolsV1>>⟧.answer provider.now)
+            (⟦<D as DataProvider<DecimalSymbolsV1>>⟧.answer provider.now))
+            (⟦<D as DataProvider<DecimalDigitsV1>>⟧.answer provider.now)
+            (⟦<D as DataProvider<CurrencyPatternsV1>>⟧.answer provider.now)
+            (⟦<D as DataProvider<CurrencySymbolsV1>>⟧.answer provider.now)
+            (⟦<D as DataProvider<PluralsCardinalV1>>⟧.answer provider.now)
+            (⟦<D as DataProvider<CurrencyCompactShortV1>>⟧.answer provider.now)
+            prefs code options) }
+    {
+        let standard = CurrencyFormatterOptions {
+            decimal: options,
+            width: Width::Short,
+            sign: CurrencySign::Standard,
+        };
+        let money = CurrencyFormatter::try_new_unstable::<D>(
+            alloc, provider, prefs, code, standard,
+        )?;
+        let rules = load_rules::<D>(alloc, provider, &prefs)?;
+        let locale = &prefs.locale_preferences;
+        let tables = load_named::<CurrencyCompactShortV1, D>(
+            alloc,
+            provider,
+            code.as_str(),
+            locale,
+        )?;
+        match CompactCurrencyFormatter::from_parts(alloc, money, rules, tables) {
+            Ok(formatter) => Ok(formatter),
+            Err(_) => Err(DataErrorKind::OutOfMemory.into()),
+        }
+    }
+}
+
+impl PercentFormatter<DecimalFormatter> {
+    /// The formatter of percents, of what a provider answers.
+    ///
+    /// First the plain formatter is made, as [`DecimalFormatter::try_new_unstable`] makes it. Then patterns are asked for by
+    /// the preferred numbering system in the locale, if one is preferred, and else by the locale. The first refusal is
+    /// answered, with its context; `OutOfMemory` also where memory is wanting.
+    pub fn try_new_unstable<
+        D: DataProvider<DecimalSymbolsV1>
+            + DataProvider<DecimalDigitsV1>
+            + DataProvider<PercentPatternsV1>,
+    >(
+        alloc: Global,
+        provider: &D,
+        prefs: DecimalFormatterPreferences,
+        options: DecimalFormatterOptions,
+    ) -> Result<Self, DataError>
+        ensures { Answers result
+            (loaded_percent (⟦<D as DataProvider<DecimalSymbolsV1>>⟧.answer provider.now)
+            (⟦<D as DataProvider<DecimalDigitsV1>>⟧.answer provider.now)
+            (⟦<D as DataProvider<PercentPatternsV1>>⟧.answer provider.now)
+            prefs options) }
+    {
+        let formatter = DecimalFormatter::try_new_unstable::<D>(alloc, provider, prefs, options)?;
+        let patterns = load_preferred_in::<PercentPatternsV1, D>(alloc, provider, &prefs)?;
+        Ok(PercentFormatter::new(formatter, patterns))
+    }
+}
+
+impl UnitsFormatter<DecimalFormatter> {
+    /// The formatter of numbers with a unit, of what a provider answers for the marker of a width.
+    ///
+    /// First the plain formatter is made, as [`DecimalFormatter::try_new_unstable`] makes it. Then plural rules are asked
+    /// for by the locale, and then patterns by the unit in the locale. The first refusal is answered, with its context;
+    /// `OutOfMemory` also where memory is wanting.
+    pub fn try_new_unstable<
+        M: DataMarker<DataStruct = PluralElements<Pattern<SinglePlaceholder>>>,
+        D: DataProvider<DecimalSymbolsV1>
+            + DataProvider<DecimalDigitsV1>
+            + DataProvider<PluralsCardinalV1>
+            + DataProvider<M>,
+    >(
+        alloc: Global,
+        provider: &D,
+        prefs: DecimalFormatterPreferences,
+        unit: &str,
+        options: DecimalFormatterOptions,
+    ) -> Result<Self, DataError>
+        ensures { Answers result
+            (loaded_plural (⟦<D as DataProvider<DecimalSymbolsV1>>⟧.answer provider.now)
+            (⟦<D as DataProvider<DecimalDigitsV1>>⟧.answer provider.now)
+            (⟦<D as DataProvider<PluralsCardinalV1>>⟧.answer provider.now)
+            (⟦<D as DataProvider<M>>⟧.answer provider.now)
+            prefs unit.now options (λ f r x. record { formatter = f; rules = r; elements = x })) }
+    {
+        let formatter = DecimalFormatter::try_new_unstable::<D>(alloc, provider, prefs, options)?;
+        let rules = load_rules::<D>(alloc, provider, &prefs)?;
+        let patterns = load_named::<M, D>(alloc, provider, unit, &prefs.locale_preferences)?;
+        Ok(UnitsFormatter::new(formatter, rules, patterns))
+    }
+}
+
+/// The digits of currencies that a provider has. It is asked once, in the undetermined locale.
+pub fn load_currency_digits<D: DataProvider<CurrencyDigitsV1>>(
+    alloc: Global,
+    provider: &D,
+) -> Result<CurrencyDigits, DataError>
+    ensures { Answers result (D.answer provider.now (locale_id (codes "und"))) }
+{
+    let locale = DataLocale::default();
+    let id = DataIdentifierBorrowed::for_locale(&locale);
+    provider.load(alloc, &DataRequest { id, silent: false })
+}
