@@ -13,10 +13,16 @@
 
 #include <stddef.h>
 #include <stdint.h>
+#include <stdlib.h>
 #include <string.h>
 
-/* The version of the project that this header is of. */
+/* The version of the project that this header is of; talmuiga_version() tells the library's. */
 #define TALMUIGA_VERSION "0.1.0"
+#define TALMUIGA_VERSION_MAJOR 0
+#define TALMUIGA_VERSION_MINOR 1
+#define TALMUIGA_VERSION_PATCH 0
+#define TALMUIGA_VERSION_NUMBER \
+    (TALMUIGA_VERSION_MAJOR * 10000 + TALMUIGA_VERSION_MINOR * 100 + TALMUIGA_VERSION_PATCH)
 
 #ifdef __cplusplus
 extern "C" {
@@ -29,7 +35,10 @@ enum {
     TALMUIGA_WORDS_REFUSED = 2,    /* locale, system, style or grouping isn't such a word */
     TALMUIGA_TABLES_REFUSED = 3,   /* the tables aren't UTF-8, or their text is refused */
     TALMUIGA_NO_DATA = 4,          /* the tables don't say what a formatter of the locale needs */
-    TALMUIGA_OUTPUT_TOO_SMALL = 5  /* the output of the whole input is longer than there is room */
+    TALMUIGA_OUTPUT_TOO_SMALL = 5, /* the output is longer than there is room */
+    TALMUIGA_NOT_DECIMAL = 6,      /* the text of talmuiga_formatter_one isn't a decimal */
+    TALMUIGA_TOO_MANY_DIGITS = 7,  /* it has a digit at a power of ten past the limits */
+    TALMUIGA_OVERFLOW = 8          /* its nearest compact number is ten to the power 32768 or more */
 };
 
 /* Formats the lines of the input in plain English, as 1,234.5.
@@ -101,6 +110,151 @@ static inline uint32_t talmuiga_format_lines(const char *tables, size_t tables_l
         talmuiga_bytes(system), system ? strlen(system) : 0, talmuiga_bytes(style), style ? strlen(style) : 0,
         talmuiga_bytes(grouping), grouping ? strlen(grouping) : 0, talmuiga_bytes(input), input_len,
         talmuiga_room(output), talmuiga_room_len(output_len), written);
+}
+
+/* ---- Formatters that are kept: the tables are read once. */
+
+/* A formatter: a pointer to room that the caller gives, in which the formatter lies while it is open. */
+typedef struct talmuiga_formatter {
+    void *at;
+} talmuiga_formatter;
+
+/* How far an input is answered. */
+typedef struct talmuiga_reached {
+    size_t consumed; /* so many bytes at the input's front, whole lines, are answered */
+    size_t written;  /* by so many at the output's front */
+    size_t needed;   /* with TALMUIGA_OUTPUT_TOO_SMALL how long the next line's answer is, with its line feed; else 0 */
+} talmuiga_reached;
+
+/* How many bytes of room a formatter needs, at an address that 16 divides. */
+size_t talmuiga_formatter_room(void);
+
+/* Opens a formatter in the room that formatter->at leads to. With TALMUIGA_DONE it is open; with each other status it
+ * isn't, and the room is the caller's again: TALMUIGA_OUT_OF_MEMORY, and of the second also TALMUIGA_WORDS_REFUSED,
+ * TALMUIGA_TABLES_REFUSED and TALMUIGA_NO_DATA, as of talmuiga_format_lines_sized.
+ *
+ * The caller owes, beside what it owes of talmuiga_format_english_sized:
+ * - formatter->at leads to talmuiga_formatter_room() bytes, aligned to 16, which nothing else uses until the formatter is
+ *   closed, or wasn't opened, and formatter isn't open;
+ * - an open formatter is closed by talmuiga_formatter_close_sized before its room is used for anything else, once;
+ * - no call with it runs while it is opened or closed. */
+uint32_t talmuiga_formatter_open_english_sized(talmuiga_formatter *formatter);
+uint32_t talmuiga_formatter_open_sized(const uint8_t *tables, size_t tables_len, const uint8_t *locale,
+                                       size_t locale_len, const uint8_t *system, size_t system_len,
+                                       const uint8_t *style, size_t style_len, const uint8_t *grouping,
+                                       size_t grouping_len, talmuiga_formatter *formatter);
+
+/* Formats as many lines of the input as have room, and tells how far that is.
+ *
+ * With TALMUIGA_DONE all of the input is consumed. With TALMUIGA_OUTPUT_TOO_SMALL the next line's answer finds no room, and
+ * reached->needed says how long it is: the caller goes on behind what is consumed, with an output that holds it. With
+ * TALMUIGA_OUT_OF_MEMORY a line is left. No other status comes.
+ *
+ * Of this function, of talmuiga_formatter_one_sized and of talmuiga_formatter_close_sized the caller owes that the
+ * formatter is open. Formatting writes neither to the formatter nor to its room, so any number of threads may use one at
+ * once, each by its own copy of the struct, as the functions further down make it. */
+uint32_t talmuiga_formatter_format_sized(talmuiga_formatter *formatter, const uint8_t *input, size_t input_len,
+                                         uint8_t *output, size_t output_len, talmuiga_reached *reached);
+
+/* Formats one number: a decimal and nothing else, so that a line feed in it is refused.
+ *
+ * With TALMUIGA_DONE the first *length bytes of the output are its text. With TALMUIGA_OUTPUT_TOO_SMALL the output is as it
+ * was, and *length says how long the text is. With TALMUIGA_NOT_DECIMAL, TALMUIGA_TOO_MANY_DIGITS, TALMUIGA_OVERFLOW and
+ * TALMUIGA_OUT_OF_MEMORY the output is as it was and *length is 0. No other status comes. */
+uint32_t talmuiga_formatter_one_sized(talmuiga_formatter *formatter, const uint8_t *text, size_t text_len,
+                                      uint8_t *output, size_t output_len, size_t *length);
+
+/* Closes a formatter that is open, whose room is then the caller's again. */
+void talmuiga_formatter_close_sized(talmuiga_formatter *formatter);
+
+/* The number of the library's version, as TALMUIGA_VERSION_NUMBER. */
+uint32_t talmuiga_version(void);
+
+/* A status in words. */
+static inline const char *talmuiga_status_text(uint32_t status) {
+    switch (status) {
+        case TALMUIGA_DONE: return "done";
+        case TALMUIGA_OUT_OF_MEMORY: return "out of memory";
+        case TALMUIGA_WORDS_REFUSED: return "words refused";
+        case TALMUIGA_TABLES_REFUSED: return "tables refused";
+        case TALMUIGA_NO_DATA: return "no data";
+        case TALMUIGA_OUTPUT_TOO_SMALL: return "output too small";
+        case TALMUIGA_NOT_DECIMAL: return "not a decimal";
+        case TALMUIGA_TOO_MANY_DIGITS: return "too many digits";
+        case TALMUIGA_OVERFLOW: return "overflow";
+        default: return "no such status";
+    }
+}
+
+/* A formatter that isn't open, in room of malloc's behind its struct; null where malloc refused. */
+static inline talmuiga_formatter *talmuiga_formatter_new(void) {
+    talmuiga_formatter *formatter = (talmuiga_formatter *)malloc(16 + talmuiga_formatter_room());
+    if (formatter) {
+        formatter->at = (uint8_t *)formatter + 16;
+    }
+    return formatter;
+}
+
+/* The formatter by the status of its call: with each other than TALMUIGA_DONE it is freed, and null. */
+static inline uint32_t talmuiga_formatter_opened(talmuiga_formatter *made, uint32_t status,
+                                                 talmuiga_formatter **formatter) {
+    if (status != TALMUIGA_DONE) {
+        free(made);
+        made = NULL;
+    }
+    *formatter = made;
+    return status;
+}
+
+/* Makes a formatter in plain English, and puts it into *formatter: with TALMUIGA_DONE it is open, to be closed by
+ * talmuiga_formatter_close, and with TALMUIGA_OUT_OF_MEMORY null. */
+static inline uint32_t talmuiga_formatter_open_english(talmuiga_formatter **formatter) {
+    talmuiga_formatter *made = talmuiga_formatter_new();
+    return talmuiga_formatter_opened(
+        made, made ? talmuiga_formatter_open_english_sized(made) : (uint32_t)TALMUIGA_OUT_OF_MEMORY, formatter);
+}
+
+/* The same by tables; the words are as of talmuiga_format_lines, and so are the statuses, of which
+ * TALMUIGA_OUTPUT_TOO_SMALL doesn't come. TALMUIGA_OUT_OF_MEMORY may come in place of any. */
+static inline uint32_t talmuiga_formatter_open(const char *tables, size_t tables_len, const char *locale,
+                                               const char *system, const char *style, const char *grouping,
+                                               talmuiga_formatter **formatter) {
+    talmuiga_formatter *made = talmuiga_formatter_new();
+    uint32_t status = TALMUIGA_OUT_OF_MEMORY;
+    if (made) {
+        status = talmuiga_formatter_open_sized(
+            talmuiga_bytes(tables), tables_len, talmuiga_bytes(locale), locale ? strlen(locale) : 0,
+            talmuiga_bytes(system), system ? strlen(system) : 0, talmuiga_bytes(style), style ? strlen(style) : 0,
+            talmuiga_bytes(grouping), grouping ? strlen(grouping) : 0, made);
+    }
+    return talmuiga_formatter_opened(made, status, formatter);
+}
+
+/* talmuiga_formatter_format_sized, where a pointer with length 0 may be null, and the output may be longer than
+ * PTRDIFF_MAX. Any number of threads may format with one formatter at once. */
+static inline uint32_t talmuiga_formatter_format(const talmuiga_formatter *formatter, const char *input,
+                                                 size_t input_len, char *output, size_t output_len,
+                                                 talmuiga_reached *reached) {
+    talmuiga_formatter copy = *formatter;
+    return talmuiga_formatter_format_sized(&copy, talmuiga_bytes(input), input_len, talmuiga_room(output),
+                                           talmuiga_room_len(output_len), reached);
+}
+
+/* talmuiga_formatter_one_sized in the same way. */
+static inline uint32_t talmuiga_formatter_one(const talmuiga_formatter *formatter, const char *text, size_t text_len,
+                                              char *output, size_t output_len, size_t *length) {
+    talmuiga_formatter copy = *formatter;
+    return talmuiga_formatter_one_sized(&copy, talmuiga_bytes(text), text_len, talmuiga_room(output),
+                                        talmuiga_room_len(output_len), length);
+}
+
+/* Closes and frees a formatter that was made by talmuiga_formatter_open or talmuiga_formatter_open_english; null is
+ * closed already. */
+static inline void talmuiga_formatter_close(talmuiga_formatter *formatter) {
+    if (formatter) {
+        talmuiga_formatter_close_sized(formatter);
+        free(formatter);
+    }
 }
 
 #ifdef __cplusplus

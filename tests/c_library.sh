@@ -135,6 +135,36 @@ as_decfmt() {
         "$? $(wc -l <"$folder/wanted") lines, $(cmp "$folder/wanted" "$folder/given" 2>&1 && echo 'the same')"
 }
 
+# Twenty thousand lines: numbers of each length, sign and fraction, carriage returns and texts that are none.
+random_lines() {
+    awk 'BEGIN {
+        srand(49)
+        split("|x|1e3|--5|5.|1,000|.|+", none, "|")
+        split("||-|+", sign, "|")
+        for (n = 0; n < 20000; n++) {
+            kind = int(rand() * 12)
+            if (kind == 0) { print none[1 + int(rand() * 8)]; continue }
+            text = sign[1 + int(rand() * 4)]
+            for (left = int(rand() * 18); left > 0; left--) text = text int(rand() * 10)
+            if (kind < 6 || text !~ /[0-9]/) text = text "." int(rand() * 1000)
+            print text (kind == 3 ? "\r" : "")
+        }
+    }'
+}
+
+# kept WORD..: formatters that are kept, in rooms of each length, beside decfmt; and, of the first lines, with sanitizers.
+kept() {
+    local name=$*
+    head -n 500 "$folder/random" >"$folder/few"
+    for part in random few; do
+        crates/decfmt/out/decfmt $sample "$@" <"$folder/$part" >"$folder/$part.wanted"
+    done
+    [ $# -lt 4 ] && set -- "$@" ''
+    judge "C: kept formatters by $name" 0 "$("$folder/kept" $sample "$@" "$folder/random" "$folder/random.wanted" >&2; echo $?)"
+    judge "C: kept formatters by $name, with sanitizers" 0 \
+        "$("$folder/kept_sanitized" $sample "$@" "$folder/few" "$folder/few.wanted" >&2; echo $?)"
+}
+
 sample=tables/sample.json
 if is_there "${compiler[0]}"; then
     builds format_lines examples/c/format_lines.c "$folder/libtalmuiga.a"
@@ -167,6 +197,15 @@ if is_there "${compiler[0]}"; then
         as_decfmt $sample bn - plain always
         as_decfmt $sample fr - long
         as_decfmt $sample ar-EG arab plain min2
+        random_lines >"$folder/random"
+        compiler_words=("${compiler[@]}" -std=gnu11 -Wall -Wextra -Wcast-qual -Werror -Iinclude tests/c_kept.c "$folder/libtalmuiga.a")
+        "${compiler_words[@]}" -O2 -pthread -o "$folder/kept"
+        judge 'C: tests/c_kept.c builds' 0 $?
+        "${compiler_words[@]}" -O1 -g -fsanitize=address,undefined -pthread -o "$folder/kept_sanitized"
+        judge 'C: tests/c_kept.c builds with sanitizers' 0 $?
+        kept en - plain
+        kept en - short
+        kept bn - plain always
     else
         skipped "there is no crates/decfmt/out/decfmt: 'rt run' in crates/decfmt builds it"
     fi

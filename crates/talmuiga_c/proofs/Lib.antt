@@ -1,2 +1,4 @@
+pub mod Owned
+pub mod Steps
 pub mod Texts
 pub mod Unstarted

@@ -3,6 +3,8 @@
 
 mod asked;
 mod formatting;
+mod handle;
+mod kept;
 mod status;
 #[cfg(test)]
 mod tests;
@@ -11,11 +13,20 @@ ghost use Rattle.decimal_lines.specs.Plain.{english};
 ghost use Rattle.decimal_lines.specs.declared.mode.Mode.TheVariants.{Plain};
 ghost use Rattle.talmuiga_c.specs.Asked.{words_asked};
 ghost use Rattle.talmuiga_c.specs.Endings.{Ends, IsFormatted};
+ghost use Rattle.talmuiga_c.specs.Handle.{empty, holding};
+ghost use Rattle.talmuiga_c.specs.Kept.{IsAnsweredSoFar, IsShown, Opens, OpensIn, version};
+ghost use Rattle.std.specs.Prelude.{◌≡◌, Ok};
+ghost use Rattle.std.specs.Mem.{type_size};
+ghost use Rattle.decimal_lines.specs.contracts.mode.Mode.{the_row};
+ghost use Rattle.decimal_lines.specs.declared.mode.Mode.{Mode};
 
 use asked::words_asked;
 use decimal_lines::Mode;
 use formatting::{format_asked, format_by};
+use handle::Formatter;
+use kept::{Reached, format_lines_in, format_one_in, open_asked};
 use std::alloc::Global;
+use std::mem;
 
 /// Formats all lines of the input in plain English.
 #[unsafe(no_mangle)]
@@ -59,4 +70,110 @@ pub extern "C" fn talmuiga_format_lines_sized(
             status::WORDS_REFUSED
         }
     }
+}
+
+/// How many bytes of room a formatter needs, whose pointer is aligned to 16.
+#[unsafe(no_mangle)]
+pub extern "C" fn talmuiga_formatter_room() -> usize
+    ensures { result ≡ type_size the_row }
+{
+    mem::size_of::<Mode>()
+}
+
+/// Opens a formatter in plain English.
+#[unsafe(no_mangle)]
+pub extern "C" fn talmuiga_formatter_open_english_sized(
+    alloc: Global,
+    formatter: &mut Formatter,
+) -> u32
+    requires empty { formatter.old.held ≡ empty }
+    ensures opens { OpensIn (Ok (Plain english)) formatter.new.held result }
+{
+    match Mode::english(alloc) {
+        Ok(mode) => {
+            formatter.put(mode);
+            status::DONE
+        }
+        Err(_) => status::OUT_OF_MEMORY,
+    }
+}
+
+/// Opens a formatter by tables, as the words of `decfmt` ask for; an empty strategy is none.
+#[unsafe(no_mangle)]
+pub extern "C" fn talmuiga_formatter_open_sized(
+    alloc: Global,
+    tables: &[u8],
+    locale: &[u8],
+    system: &[u8],
+    style: &[u8],
+    grouping: &[u8],
+    formatter: &mut Formatter,
+) -> u32
+    requires empty { formatter.old.held ≡ empty }
+    ensures opens { Opens (words_asked locale.now system.now style.now grouping.now) tables.now
+        formatter.new.held result }
+{
+    match words_asked(locale, system, style, grouping) {
+        Some(words) => open_asked(alloc, &words, tables, formatter),
+        None => status::WORDS_REFUSED,
+    }
+}
+
+/// Formats as many lines of the input as have room.
+#[unsafe(no_mangle)]
+pub extern "C" fn talmuiga_formatter_format_sized(
+    alloc: Global,
+    formatter: &mut Formatter,
+    input: &[u8],
+    output: &mut [u8],
+    reached: &mut Reached,
+) -> u32
+    ghost mode: { Mode }
+    requires open { formatter.old.held ≡ holding mode }
+    ensures answered { IsAnsweredSoFar mode input.now output.old output.new reached.new.consumed
+        reached.new.written reached.new.needed result }
+    ensures handed_back { formatter.new.held ≡ holding mode }
+{
+    let lent = formatter.lend();
+    let status = format_lines_in(alloc, lent.mode(), input, output, reached);
+    formatter.back(lent);
+    status
+}
+
+/// Formats one number, where its text has room, and tells how long that is.
+#[unsafe(no_mangle)]
+pub extern "C" fn talmuiga_formatter_one_sized(
+    alloc: Global,
+    formatter: &mut Formatter,
+    text: &[u8],
+    output: &mut [u8],
+    length: &mut usize,
+) -> u32
+    ghost mode: { Mode }
+    requires open { formatter.old.held ≡ holding mode }
+    ensures shown { IsShown mode text.now output.old output.new length.new result }
+    ensures handed_back { formatter.new.held ≡ holding mode }
+{
+    let lent = formatter.lend();
+    let status = format_one_in(alloc, lent.mode(), text, output, length);
+    formatter.back(lent);
+    status
+}
+
+/// Closes a formatter that is open; its room is room again.
+#[unsafe(no_mangle)]
+pub extern "C" fn talmuiga_formatter_close_sized(formatter: &mut Formatter)
+    ghost mode: { Mode }
+    requires open { formatter.old.held ≡ holding mode }
+    ensures closed { formatter.new.held ≡ empty }
+{
+    let _mode = formatter.take();
+}
+
+/// The number of the version: the first part times 10000, the second times 100, the third.
+#[unsafe(no_mangle)]
+pub extern "C" fn talmuiga_version() -> u32
+    ensures { result ≡ version }
+{
+    100
 }

@@ -1,10 +1,12 @@
-//! Statuses and outputs of the two exports. Values live in functions that answer whether they hold; what was refused memory
+//! Statuses and outputs of the exports. Values live in functions that answer whether they hold; what was refused memory
 //! is asked once more.
 
+use crate::kept::{Reached, format_lines_in, format_one_in};
 use crate::status::{
-    DONE, NO_DATA, OUT_OF_MEMORY, OUTPUT_TOO_SMALL, TABLES_REFUSED, WORDS_REFUSED,
+    DONE, NO_DATA, NOT_DECIMAL, OUT_OF_MEMORY, OUTPUT_TOO_SMALL, TABLES_REFUSED, WORDS_REFUSED,
 };
 use crate::{talmuiga_format_english_sized, talmuiga_format_lines_sized};
+use decimal_lines::Mode;
 use std::alloc::Global;
 
 /// English with thousands, in short form too.
@@ -119,5 +121,84 @@ fn formats_by_tables(rt: HostRuntime) {
             ),
             "{want}"
         );
+    }
+}
+
+/// Lines, a room, and what their call in English ends in: a status, and how far it came.
+const REACHED: [(&[u8], usize, u32, [usize; 3]); 5] = [
+    (b"", 0, DONE, [0, 0, 0]),
+    (LINES, 9, DONE, [8, 9, 0]),
+    (LINES, 8, OUTPUT_TOO_SMALL, [5, 6, 3]),
+    (LINES, 5, OUTPUT_TOO_SMALL, [0, 0, 6]),
+    (b"1e3\n", 9, OUTPUT_TOO_SMALL, [0, 0, 21]),
+];
+
+/// Whether English lines come so far in a room; asked once more where memory was refused.
+fn reaches(alloc: Global, row: (&[u8], usize, u32, [usize; 3])) -> bool {
+    let (lines, room, status, [consumed, written, needed]) = row;
+    let Ok(mode) = Mode::english(alloc) else {
+        return true;
+    };
+    let mut output = [b'x'; 16];
+    let Some(part) = output.get_mut(..room) else {
+        return false;
+    };
+    let mut reached = Reached {
+        consumed: 99,
+        written: 99,
+        needed: 99,
+    };
+    let first = format_lines_in(alloc, &mode, lines, part, &mut reached);
+    let last = if first == OUT_OF_MEMORY {
+        format_lines_in(alloc, &mode, lines, part, &mut reached)
+    } else {
+        first
+    };
+    last == status
+        && reached.consumed == consumed
+        && reached.written == written
+        && reached.needed == needed
+}
+
+#[test]
+fn tells_how_far_it_came(rt: HostRuntime) {
+    for &row in &REACHED {
+        assert!(rt; reaches(rt.alloc(), row));
+    }
+}
+
+/// A text, a room, and what its call in English ends in: a status, a length, and what stands in the room.
+const ONE: [(&[u8], usize, u32, usize, &[u8]); 5] = [
+    (b"-1234.50", 9, DONE, 9, b"-1,234.50"),
+    (b"1000007", 9, DONE, 9, b"1,000,007"),
+    (b"1000007", 8, OUTPUT_TOO_SMALL, 9, b"xxxxxxxx"),
+    (b"1e3", 4, NOT_DECIMAL, 0, b"xxxx"),
+    (b"5\n", 4, NOT_DECIMAL, 0, b"xxxx"),
+];
+
+/// Whether a text is shown so in English; asked once more where memory was refused.
+fn shows(alloc: Global, row: (&[u8], usize, u32, usize, &[u8])) -> bool {
+    let (text, room, status, length, want) = row;
+    let Ok(mode) = Mode::english(alloc) else {
+        return true;
+    };
+    let mut output = [b'x'; 16];
+    let Some(part) = output.get_mut(..room) else {
+        return false;
+    };
+    let mut count = 99;
+    let first = format_one_in(alloc, &mode, text, part, &mut count);
+    let last = if first == OUT_OF_MEMORY {
+        format_one_in(alloc, &mode, text, part, &mut count)
+    } else {
+        first
+    };
+    last == status && count == length && output.get(..room) == Some(want)
+}
+
+#[test]
+fn shows_one_number(rt: HostRuntime) {
+    for &row in &ONE {
+        assert!(rt; shows(rt.alloc(), row));
     }
 }

@@ -1,0 +1,70 @@
+-- What calls with a formatter leave, by their status.
+use Rattle.std.specs.Prelude.{◌≡◌, ℕ, ◌<◌, ◌≤◌, ◌⊎◌, List, length, Option, Some, None, Result, Ok, Err}
+use Rattle.decimal_lines.specs.Alone.{HoldsShown, events_of}
+use Rattle.decimal_lines.specs.Answers.{answer_to}
+use Rattle.decimal_lines.specs.Progress.{AnswersFirst, NextNeeds}
+use Rattle.decimal_lines.specs.Words.{WordsData}
+use Rattle.decimal_lines.specs.declared.alone.TextError.{TextError}
+use Rattle.decimal_lines.specs.declared.alone.TextError.TheVariants as refusal
+use Rattle.decimal_lines.specs.declared.mode.Mode.{Mode}
+use Rattle.decimal_lines.specs.declared.mode.StartError.{StartError}
+use Rattle.talmuiga_c.specs.Asked.{mode_asked}
+use Rattle.talmuiga_c.specs.Endings.{done, out_of_memory, output_too_small, status_of, words_refused}
+use Rattle.talmuiga_c.specs.Handle.{empty, holding}
+
+-- a text isn't a decimal, has too many digits, or has a nearest compact number that is too large
+abbrev pub not_decimal : ℕ
+not_decimal = 6
+
+abbrev pub too_many_digits : ℕ
+too_many_digits = 7
+
+abbrev pub overflow : ℕ
+overflow = 8
+
+-- that of a text that isn't shown
+abbrev pub text_status : TextError → ℕ
+text_status refusal.NotDecimal = not_decimal
+text_status refusal.TooManyDigits = too_many_digits
+text_status refusal.Overflow = overflow
+text_status refusal.OutOfMemory = out_of_memory
+
+-- the formatter has the mode that is asked for, or none
+abbrev pub OpensIn : Result Mode StartError → Option (Option Mode) → ℕ → Type 0
+OpensIn (Ok mode) held status = ((held ≡ holding mode) × (status ≡ done)) ⊎ ((held ≡ empty) × (status ≡ out_of_memory))
+OpensIn (Err error) held status = (held ≡ empty) × ((status ≡ status_of error) ⊎ (status ≡ out_of_memory))
+
+-- by the words; others are refused, and nothing else comes in place of it
+abbrev pub Opens : Option WordsData → List ℕ → Option (Option Mode) → ℕ → Type 0
+Opens None tables held status = (held ≡ empty) × (status ≡ words_refused)
+Opens (Some words) tables held status = OpensIn (mode_asked words tables) held status
+
+-- How far an input is answered: what is written is the output of what is consumed. Done, that is all of it; else a line is
+-- left, for want of memory, or since there is no room for its answer, whose length is told.
+pub record IsAnsweredSoFar (mode : Mode) (input old new : List ℕ) (consumed written needed status : ℕ) : Type 0 where
+  pub holds : AnswersFirst (answer_to mode) input old new consumed written
+  pub whole : status ≡ done → consumed ≡ length input
+  pub stopped : ¬ (status ≡ done) → consumed < length input
+  pub too_small : status ≡ output_too_small → NextNeeds (answer_to mode) input old consumed written needed
+  pub unneeded : ¬ (status ≡ output_too_small) → needed ≡ 0
+  pub known : (status ≡ done) ⊎ ((status ≡ out_of_memory) ⊎ (status ≡ output_too_small))
+
+-- a text is shown: its length is told, and it is written where it has room
+pub record IsWritten (mode : Mode) (text old new : List ℕ) (n status : ℕ) : Type 0 where
+  pub holds : HoldsShown (events_of mode text) old new n
+  pub fits : n ≤ length old → status ≡ done
+  pub too_long : length old < n → status ≡ output_too_small
+
+-- a text isn't shown; want of memory may come whatever there is to show
+pub record IsRefused (mode : Mode) (text old new : List ℕ) (n status : ℕ) : Type 0 where
+  pub same : new ≡ old
+  pub none : n ≡ 0
+  pub why : (status ≡ out_of_memory) ⊎ (error : TextError) × ((events_of mode text ≡ Err error) × (status ≡ text_status error))
+
+-- one text, shown or not
+abbrev pub IsShown : Mode → List ℕ → List ℕ → List ℕ → ℕ → ℕ → Type 0
+IsShown mode text old new n status = IsWritten mode text old new n status ⊎ IsRefused mode text old new n status
+
+-- that of 0.1.0
+abbrev pub version : ℕ
+version = 100
