@@ -23,6 +23,8 @@ import unicodedata
 from concurrent.futures import ThreadPoolExecutor
 
 sys.path.insert(0, str(pathlib.Path(__file__).resolve().parent.parent / "tools"))
+import cldr_paths  # noqa: E402
+import cldr_patterns  # noqa: E402
 import cldr_to_tables as cldr  # noqa: E402
 
 STYLES = ("plain", "short", "long")
@@ -116,12 +118,12 @@ class WithSign(cldr.CompactReader):
 
     def read(self, power, count, pattern):
         """The subpattern for the sign; where there is no negative one, minus stands before the positive one."""
-        positive, negative = cldr.subpatterns(pattern)
-        number = cldr.around_number(positive)[1]
+        positive, negative = cldr_patterns.subpatterns(pattern)
+        number = cldr_patterns.around_number(positive)[1]
         pieces = (negative or [("special", "-")] + positive) if self.is_signed else positive
-        before, _, after = cldr.around_number(pieces)
-        before, after = (cldr.literal(part, {"-": self.sign}) for part in (before, after))
-        text = before + cldr.PLACE * bool(number) + after
+        before, _, after = cldr_patterns.around_number(pieces)
+        before, after = (cldr_patterns.literal(part, {"-": self.sign}) for part in (before, after))
+        text = before + cldr_patterns.PLACE * bool(number) + after
         exponent = 0 if pattern == "0" else power + 1 - len(number or "")
         return (exponent if number else None), text
 
@@ -167,7 +169,7 @@ class Kinds:
         """The release, in which the long style isn't an alias of the short one."""
         release = cldr.open_release(self.release.folder, cldr.Reports(io.StringIO()))
         for path in list(release.tree("root").aliases):
-            if path[-1] == cldr.step("decimalFormatLength", {"type": "long"}):
+            if path[-1] == cldr_paths.step("decimalFormatLength", {"type": "long"}):
                 del release.tree("root").aliases[path]
         return release
 
@@ -237,7 +239,7 @@ def category_by_doubles(rules, number):
     """The category of a whole number, if n is a double and i its lowest eighteen digits as a double."""
     operands = {"n": float(number), "i": float(number % 10**18)}
     for category, condition in rules:
-        for relations in cldr.alternatives(condition):
+        for relations in cldr_patterns.alternatives(condition):
             if all(holds_of(operands, relation) for relation in relations):
                 return category
     return "other"

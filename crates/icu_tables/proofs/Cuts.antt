@@ -1,5 +1,6 @@
 -- Where a text is cut at its first `{0}`.
-use Rattle.std.proofs.Common.{◌≡◌, ℕ, zero, suc, ◌+◌, ◌≤◌, ◌<◌, true, false, List, [], ◌∷◌, ◌++◌, length, take, drop, Option, Some, None, option_map, refl, sym, ap, ◌∙◌, arith, codes, eqb, Bor, inl, inr, get_or, length-append}
+use Rattle.std.proofs.Common.{◌≡◌, ℕ, zero, suc, ◌+◌, ◌≤◌, ◌<◌, true, false, List, [], ◌∷◌, ◌++◌, length, take, drop, Option}
+use Rattle.std.proofs.Common.{Some, None, option_map, refl, sym, ap, ◌∙◌, arith, codes, eqb, Bor, inl, inr, get_or, length-append}
 use Rattle.std.specs.List.{starts_with}
 use Rattle.std.specs.Option.{MatchOption}
 use Rattle.std.specs.Str.{IsCharBoundary, IsUtf8}
@@ -27,7 +28,8 @@ cut_none (b ∷ bs) h =
     let rest = cut_none bs (λ i le. h (suc i) (omega (arith, le))) in
     rw (first, rest) refl
 
-cut_some : (s : List ℕ) (i j : ℕ) → ((k : ℕ) → k < i → LacksTextAt mark s k) → drop i s ≡ mark ++ drop j s → j ≡ i + 3 → cut s ≡ Some (take i s, drop j s)
+cut_some : (s : List ℕ) (i j : ℕ) → ((k : ℕ) → k < i → LacksTextAt mark s k) → drop i s ≡ mark ++ drop j s → j ≡ i + 3 →
+    cut s ≡ Some (take i s, drop j s)
 unfolding cut
 cut_some [] zero j before split ends = absurd cc
 cut_some [] (suc i) j before split ends = absurd cc
@@ -56,6 +58,7 @@ boundary_between before after valid = sym (is_boundary_of (before ++ after) (len
     between =
         let long : length (before ++ after) ≡ length before + length after = length-append before after in
         let here : length before ≡ length before + 0 = omega arith in
-        let same : get_or (before ++ after) (length before) 0 ≡ get_or after 0 0 = ap (λ k. get_or (before ++ after) k 0) here ∙ get_or-append-add before after 0 0 in
+        let same : get_or (before ++ after) (length before) 0 ≡ get_or after 0 0 =
+        ap (λ k. get_or (before ++ after) k 0) here ∙ get_or-append-add before after 0 0 in
         let start = IsCharBoundary-start after valid in
         (omega (arith, long), λ within high. rw same (start.1 (omega (arith, long, within)) (rw same at high)))

@@ -45,7 +45,8 @@ bad_from place k (g ∷ gs) (suc rule) byte bad before found h =
     ∙ ap (λ x. refused place (BadRule x byte)) m
 
 -- the first rule that isn't in the grammar is told
-pub first_bad : (place : Place) (gs : List GivenRule) (rule byte : ℕ) → IsFirstBadRule gs rule byte → rules_from place 0 gs ≡ refused place (BadRule rule byte)
+pub first_bad : (place : Place) (gs : List GivenRule) (rule byte : ℕ) → IsFirstBadRule gs rule byte →
+    rules_from place 0 gs ≡ refused place (BadRule rule byte)
 first_bad place gs rule byte h =
     let zeroth : 0 + rule ≡ rule = omega arith in
     bad_from place 0 gs rule byte h.bad h.before h.found (is_refusal (condition_of h.bad.text) byte (fault_is_found h.bad.text byte h.fault))

@@ -1,5 +1,6 @@
 -- A map that is made by rising keys.
-use Rattle.std.proofs.Common.{◌≡◌, ℕ, ◌+◌, ◌<◌, ◌≤◌, List, [], ◌∷◌, ◌++◌, length, drop, drop-cons, add-one, get_or, Option, Some, None, Result, Ok, refl, sym, ap, ◌∙◌, arith, Greater}
+use Rattle.std.proofs.Common.{◌≡◌, ℕ, ◌+◌, ◌<◌, ◌≤◌, List, [], ◌∷◌, ◌++◌, length, drop, drop-cons, add-one, get_or, Option}
+use Rattle.std.proofs.Common.{Some, None, Result, Ok, refl, sym, ap, ◌∙◌, arith, Greater}
 use Rattle.std.specs.Cmp.{nat_cmp_is}
 use Rattle.std.specs.BTreeMap.{insert_entry}
 use Rattle.std.specs.List.{AllByRecursion}
@@ -49,11 +50,13 @@ are_below es None k up_to above = rw up_to tt
 are_below es (Some before) k up_to above = all_below es before k above up_to
 
 -- an insert of a key above all others appends
-pub put_last : (es : Pairs) (e : GivenEntry) (left : List GivenEntry) (v : ℕ × PatternElements) → GoesOn es (e ∷ left) → insert_entry nat_cmp es e.log10_type v ≡ es ++ (e.log10_type, v) ∷ []
+pub put_last : (es : Pairs) (e : GivenEntry) (left : List GivenEntry) (v : ℕ × PatternElements) → GoesOn es (e ∷ left) →
+    insert_entry nat_cmp es e.log10_type v ≡ es ++ (e.log10_type, v) ∷ []
 put_last es e left v (before, up_to, (above, rise)) = insert_last es e.log10_type v (are_below es before e.log10_type up_to above)
 
 -- a map goes on with one more entry
-pub still_goes_on : (es : Pairs) (e : GivenEntry) (left : List GivenEntry) (v : ℕ × PatternElements) → GoesOn es (e ∷ left) → GoesOn (es ++ (e.log10_type, v) ∷ []) left
+pub still_goes_on : (es : Pairs) (e : GivenEntry) (left : List GivenEntry) (v : ℕ × PatternElements) → GoesOn es (e ∷ left) →
+    GoesOn (es ++ (e.log10_type, v) ∷ []) left
 still_goes_on es e left v (before, up_to, (above, rise)) = (Some e.log10_type, all_up_to es e.log10_type v (are_below es before e.log10_type up_to above), rise)
 
 -- the type of the last entry, or the one before them
@@ -62,7 +65,8 @@ last_type before [] = before
 last_type before (e ∷ es) = last_type (Some e.log10_type) es
 
 -- one entry more that is above the last one
-pub rise_on : (before : Option ℕ) (es : List GivenEntry) (e : GivenEntry) → Rise before es → IsAbove (last_type before es) e.log10_type → Rise before (es ++ e ∷ [])
+pub rise_on : (before : Option ℕ) (es : List GivenEntry) (e : GivenEntry) → Rise before es → IsAbove (last_type before es) e.log10_type →
+    Rise before (es ++ e ∷ [])
 rise_on before [] e h above = (above, tt)
 rise_on before (x ∷ es) e h above = (h.0, rise_on (Some x.log10_type) es e h.1 above)
 
@@ -80,22 +84,27 @@ abbrev entry_with : GivenEntry → PatternElements → TableEntry
 entry_with e v = record { log10_type = e.log10_type; exponent = e.exponent; elements = v }
 
 -- one more entry is made, and the rest goes on
-pub made_goes_on : (place : Place) (front : List TableEntry) (e : GivenEntry) (es : List GivenEntry) (v : PatternElements) (total : Result (List TableEntry) TableError)
+pub made_goes_on : (place : Place) (front : List TableEntry) (e : GivenEntry) (es : List GivenEntry) (v : PatternElements)
+    (total : Result (List TableEntry) TableError)
     → patterns_of place e.texts ≡ Ok v → with_front front (entries_of place (e ∷ es)) ≡ total
     → with_front (front ++ record { log10_type = e.log10_type; exponent = e.exponent; elements = v } ∷ []) (entries_of place es) ≡ total
 unfolding entries_of
 made_goes_on place front e es v total h so_far =
-    let one : with_front front (entries_of place (e ∷ es)) ≡ with_front (front ++ entry_with e v ∷ []) (entries_of place es) = rw h (regroup front (entry_with e v) (entries_of place es)) in
+    let one : with_front front (entries_of place (e ∷ es)) ≡ with_front (front ++ entry_with e v ∷ []) (entries_of place es) =
+    rw h (regroup front (entry_with e v) (entries_of place es)) in
     sym one ∙ so_far
 
 -- an entry that is refused refuses all
-pub made_fails : (fault : TableError) (place : Place) (front : List TableEntry) (e : GivenEntry) (es : List GivenEntry) (total : Result (List TableEntry) TableError)
+pub made_fails : (fault : TableError) (place : Place) (front : List TableEntry) (e : GivenEntry) (es : List GivenEntry)
+    (total : Result (List TableEntry) TableError)
     → Fails fault (patterns_of place e.texts) → with_front front (entries_of place (e ∷ es)) ≡ total → Fails fault total
 unfolding entries_of
 made_fails fault place front e es total h so_far =
-    rw (← so_far) (failed fault _ (λ xs. Ok (front ++ xs)) (failed fault (patterns_of place e.texts) (λ v. entries_of place es >>= λ xs. Ok (entry_with e v ∷ xs)) h))
+    rw (← so_far) (failed fault _ (λ xs. Ok (front ++ xs))
+    (failed fault (patterns_of place e.texts) (λ v. entries_of place es >>= λ xs. Ok (entry_with e v ∷ xs)) h))
 
 -- without entries left all are made
-pub made_ends : (place : Place) (front : List TableEntry) (total : Result (List TableEntry) TableError) → with_front front (entries_of place []) ≡ total → total ≡ Ok front
+pub made_ends : (place : Place) (front : List TableEntry) (total : Result (List TableEntry) TableError) → with_front front (entries_of place []) ≡ total →
+    total ≡ Ok front
 unfolding entries_of
 made_ends place front total so_far = sym so_far ∙ ap Ok (append-nil front)

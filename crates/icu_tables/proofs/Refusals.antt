@@ -19,7 +19,8 @@ module _ (place : Place) (zero : Option PatternElements) (entries : List TableEn
 
   -- a table that is made is what the object says
   pub table_made : (table : List TableEntry)
-      → MatchOption (fault_of zero entries) (IsOkUnless {T = List TableEntry} (Ok table) OutOfMemory) (λ fault. IsErrOf {T = List TableEntry} (Ok table) fault)
+      → MatchOption (fault_of zero entries) (IsOkUnless {T = List TableEntry} (Ok table) OutOfMemory)
+      (λ fault. IsErrOf {T = List TableEntry} (Ok table) fault)
       → table ≡ kept zero entries → table_of_entries place zero entries ≡ Ok table
   unfolding table_of_entries
   table_made table refused is = kept_by table (fault_of zero entries) refused is

@@ -14,7 +14,8 @@ pub entries_go_on : (front : List GivenEntry) (before : Option ℕ) (d : Data) (
     → with_front (front ++ x ∷ []) (given_entries_in (Some x.log10_type) ds) ≡ total
 unfolding given_entries_in
 entries_go_on front before d ds x total h so_far =
-    let one : with_front front (given_entries_in before (d ∷ ds)) ≡ with_front (front ++ x ∷ []) (given_entries_in (Some x.log10_type) ds) = rw h (regroup front x (given_entries_in (Some x.log10_type) ds)) in
+    let one : with_front front (given_entries_in before (d ∷ ds)) ≡ with_front (front ++ x ∷ []) (given_entries_in (Some x.log10_type) ds) =
+    rw h (regroup front x (given_entries_in (Some x.log10_type) ds)) in
     sym one ∙ so_far
 
 -- an entry that is refused refuses the list
@@ -22,9 +23,11 @@ pub entries_fail : (e : TableError) (front : List GivenEntry) (before : Option �
     → Fails e (given_entry_in before d) → with_front front (given_entries_in before (d ∷ ds)) ≡ total → Fails e total
 unfolding given_entries_in
 entries_fail e front before d ds total h so_far =
-    rw (← so_far) (failed e _ (λ xs. Ok (front ++ xs)) (failed e (given_entry_in before d) (λ x. given_entries_in (Some x.log10_type) ds >>= λ xs. Ok (x ∷ xs)) h))
+    rw (← so_far) (failed e _ (λ xs. Ok (front ++ xs)) (failed e (given_entry_in before d)
+    (λ x. given_entries_in (Some x.log10_type) ds >>= λ xs. Ok (x ∷ xs)) h))
 
 -- without entries left all are read
-pub entries_end : (front : List GivenEntry) (before : Option ℕ) (total : Result (List GivenEntry) TableError) → with_front front (given_entries_in before []) ≡ total → total ≡ Ok front
+pub entries_end : (front : List GivenEntry) (before : Option ℕ) (total : Result (List GivenEntry) TableError) →
+    with_front front (given_entries_in before []) ≡ total → total ≡ Ok front
 unfolding given_entries_in
 entries_end front before total so_far = sym so_far ∙ ap Ok (append-nil front)

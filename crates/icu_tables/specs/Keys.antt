@@ -1,7 +1,8 @@
 -- The keys of a document.
 use Rattle.std.specs.Prelude.{ℕ, List, codes}
 use Rattle.icu_tables.specs.declared.error.Key.{Key}
-use Rattle.icu_tables.specs.declared.error.Key.TheVariants.{Document, Symbols, Digits, Rules, Short, Long, Locale, System, Minus, Plus, Decimal, Group, Numsys, Sizes, Patterns, ExplicitZero, ExplicitOne, Zero, One, Two, Few, Many, Other}
+use Rattle.icu_tables.specs.declared.error.Key.TheVariants.{Document, Symbols, Digits, Rules, Short, Long, Locale, System, Minus, Plus, Decimal, Group, Numsys}
+use Rattle.icu_tables.specs.declared.error.Key.TheVariants.{Sizes, Patterns, ExplicitZero, ExplicitOne, Zero, One, Two, Few, Many, Other}
 
 -- as the document spells them
 abbrev pub name_of : Key → List ℕ

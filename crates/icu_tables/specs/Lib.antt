@@ -9,3 +9,5 @@ pub mod PatternTexts
 pub mod Compact
 pub mod Tables
 pub mod Answering
+pub mod Owned
+pub mod ForLocale

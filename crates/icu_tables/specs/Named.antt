@@ -1,5 +1,6 @@
 -- The names that entries are given under: locales and numbering systems.
-use Rattle.std.specs.Prelude.{ℕ, List, [], ◌∷◌, Option, Some, None, Result, Ok, Err, if◌then◌else◌}
+use Rattle.std.specs.Prelude.{ℕ, Bool, nat_eq, List, [], ◌∷◌, Option, Some, None, Result, Ok, Err, if◌then◌else◌}
+use Rattle.std.specs.Cmp.Lexicographic.{pointwise}
 use Rattle.icu_provider.specs.Identifier.{Identifier, same_identifier}
 use Rattle.icu_provider.specs.Locale.{is_locale}
 use Rattle.icu_provider.specs.NumberingSystem.{is_numbering_system}
@@ -45,3 +46,7 @@ identifier_from place locale system = do
 unfoldable pub first_filed : {A : Type 0} → Identifier → List (Filed A) → Option A
 first_filed id [] = None
 first_filed id (e ∷ es) = if same_identifier id e.identifier then Some e.content else first_filed id es
+
+-- whether the data is of a locale, in whatever numbering system
+abbrev pub is_of : {A : Type 0} → List ℕ → Filed A → Bool
+is_of locale e = pointwise nat_eq locale e.identifier.locale

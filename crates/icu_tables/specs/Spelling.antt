@@ -1,5 +1,6 @@
 -- Patterns as they are spelled: `{0}` marks the place.
-use Rattle.std.specs.Prelude.{ℕ, List, [], ◌∷◌, ◌++◌, Option, Some, None, option_map, is_some, Result, Ok, codes, drop, length, if◌then◌else◌, nat_eq}
+use Rattle.std.specs.Prelude.{ℕ, List, [], ◌∷◌, ◌++◌, Option, Some, None, option_map, is_some, Result, Ok, codes, drop, length, if◌then◌else◌}
+use Rattle.std.specs.Prelude.{nat_eq}
 use Rattle.std.specs.List.{starts_with}
 use Rattle.icu_pattern.specs.Patterns.{PatternText}
 use Rattle.icu_tables.specs.Named.{refused}

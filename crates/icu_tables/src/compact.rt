@@ -18,6 +18,7 @@ use crate::texts::{
 use crate::whole_numbers::has_float;
 use icu_decimal_data::{CompactError, CompactPatterns};
 use icu_pattern::SinglePlaceholder;
+use icu_provider::DataLocale;
 use serde_json::Value;
 use std::alloc::Global;
 use std::collections::BTreeMap;
@@ -172,8 +173,11 @@ fn table_of(
 
 impl FromEntry for Filed<CompactPatterns<SinglePlaceholder>> {
     ghost use Rattle.icu_tables.specs.Compact.{compact_at};
+    ghost use Rattle.icu_tables.specs.Named.{is_of};
 
     ghost read_at = { compact_at };
+
+    ghost serves = { is_of };
 
     #[tactic(auto, unfolding(crate::specs::Compact::compact_at))]
     fn from_entry(alloc: Global, place: Place, value: &Value) -> Result<Self, TableError> {
@@ -184,6 +188,10 @@ impl FromEntry for Filed<CompactPatterns<SinglePlaceholder>> {
         let name = name_of(place, locale, system)?;
         let content = table_of(alloc, place, &given)?;
         Ok(Filed { name, content })
+    }
+
+    fn serves(&self, locale: &DataLocale) -> bool {
+        self.name.is_of(locale)
     }
 }
 

@@ -9,7 +9,7 @@ use crate::entries::FromEntry;
 use crate::error::{Key, Place, TableError};
 use crate::fields::{pair_in, text_in};
 use crate::named::system_of;
-use icu_provider::NumberingSystem;
+use icu_provider::{DataLocale, NumberingSystem};
 use serde_json::Value;
 use std::alloc::{AllocError, Global};
 use std::marker::Model;
@@ -48,9 +48,12 @@ fn ten_in(alloc: Global, text: &str, key: Key) -> Result<[char; 10], TableError>
 }
 
 impl FromEntry for SystemDigits {
+    ghost use Rattle.std.specs.Prelude.{true};
     ghost use Rattle.icu_tables.specs.Digits.{digits_at};
 
     ghost read_at = { digits_at };
+
+    ghost serves = { λ locale entry. true };
 
     #[tactic(auto, unfolding(crate::specs::Digits::digits_at))]
     fn from_entry(alloc: Global, place: Place, value: &Value) -> Result<Self, TableError> {
@@ -60,6 +63,11 @@ impl FromEntry for SystemDigits {
         let digits = ten_in(alloc, text, place.key)?;
         let system = system_of(place, system)?;
         Ok(SystemDigits { system, digits })
+    }
+
+    /// Digits are told by their system alone, in whatever locale.
+    fn serves(&self, _locale: &DataLocale) -> bool {
+        true
     }
 }
 

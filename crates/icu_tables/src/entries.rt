@@ -1,6 +1,6 @@
 //! Lists of entries.
 
-ghost use Rattle.std.specs.Prelude.{Result, map};
+ghost use Rattle.std.specs.Prelude.{◌≡◌, ℕ, Bool, List, Result, map};
 ghost use Rattle.serde_json.specs.Data.{Data};
 ghost use Rattle.serde_json.specs.View.{view};
 ghost use Rattle.icu_tables.specs.Reading.{Gives, entries_at};
@@ -8,6 +8,7 @@ ghost use Rattle.icu_tables.specs.declared.error.Place.{Place};
 ghost use Rattle.icu_tables.specs.declared.error.TableError.{TableError};
 
 use crate::error::{Key, Place, TableError};
+use icu_provider::DataLocale;
 use serde_json::Value;
 use std::alloc::Global;
 
@@ -16,9 +17,16 @@ pub trait FromEntry: Sized {
     /// What the entry at a place reads as.
     ghost read_at: { Place → Data → Result Self TableError };
 
+    /// Whether an entry may answer what is asked in a locale.
+    ghost serves: { List ℕ → Self → Bool };
+
     /// The entry of a value, or the first fault that is met in it.
     fn from_entry(alloc: Global, place: Place, value: &Value) -> Result<Self, TableError>
         ensures { Gives (λ x. x) result (read_at place (view value.now)) };
+
+    /// Whether the entry may answer what is asked in this locale.
+    fn serves(&self, locale: &DataLocale) -> bool
+        ensures { result ≡ serves locale.now self.now };
 }
 
 /// Each entry in turn.

@@ -21,11 +21,13 @@
 //! prints `15K`.
 #![tactic(auto)]
 
+mod borrowed;
 mod compact;
 mod digits;
 mod entries;
 mod error;
 mod fields;
+mod for_locale;
 mod named;
 mod pattern_text;
 mod provider;

@@ -1,6 +1,7 @@
 //! The names that entries are given under: locales and numbering systems.
 
-ghost use Rattle.std.specs.Prelude.{◌≡◌, option_map};
+ghost use Rattle.std.specs.Prelude.{◌≡◌, nat_eq, option_map};
+ghost use Rattle.std.specs.Cmp.Lexicographic.{pointwise};
 ghost use Rattle.icu_provider.specs.Identifier.{identifier_of};
 ghost use Rattle.icu_tables.specs.Named.{locale_of, system_of, optional_system_of, identifier_from, first_filed};
 ghost use Rattle.icu_tables.specs.Reading.{Gives};
@@ -85,6 +86,15 @@ impl Name {
             ),
             None => DataIdentifierBorrowed::for_locale(&self.locale),
         }
+    }
+}
+
+impl Name {
+    /// Whether the data under this name is of the locale, in whatever numbering system.
+    pub fn is_of(&self, locale: &DataLocale) -> bool
+        ensures { result ≡ pointwise nat_eq locale.now self.now.locale }
+    {
+        *locale == self.locale
     }
 }
 

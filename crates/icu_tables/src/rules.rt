@@ -11,6 +11,7 @@ use crate::error::{EntryFault, Key, Place, TableError};
 use crate::fields::{list_at, object_in, pair_in, text_at, text_in};
 use crate::named::{Filed, name_of};
 use icu_plurals::{PluralCategory, PluralRules, RulesError};
+use icu_provider::DataLocale;
 use serde_json::Value;
 use std::alloc::Global;
 
@@ -77,8 +78,11 @@ fn rules_of(
 
 impl FromEntry for Filed<PluralRules> {
     ghost use Rattle.icu_tables.specs.Rules.{rules_at};
+    ghost use Rattle.icu_tables.specs.Named.{is_of};
 
     ghost read_at = { rules_at };
+
+    ghost serves = { is_of };
 
     #[tactic(auto, unfolding(crate::specs::Rules::rules_at))]
     fn from_entry(alloc: Global, place: Place, value: &Value) -> Result<Self, TableError> {
@@ -89,5 +93,9 @@ impl FromEntry for Filed<PluralRules> {
         let name = name_of(place, locale, None)?;
         let content = rules_of(alloc, place, &given)?;
         Ok(Filed { name, content })
+    }
+
+    fn serves(&self, locale: &DataLocale) -> bool {
+        self.name.is_of(locale)
     }
 }

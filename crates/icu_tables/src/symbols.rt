@@ -13,6 +13,7 @@ use crate::fields::{
 };
 use crate::named::{Filed, name_of};
 use icu_decimal_data::{DecimalSymbolStrsBuilder, DecimalSymbols, GroupingSizes, SymbolsError};
+use icu_provider::DataLocale;
 use serde_json::Value;
 use std::alloc::Global;
 
@@ -100,8 +101,11 @@ fn symbols_of(
 
 impl FromEntry for Filed<DecimalSymbols> {
     ghost use Rattle.icu_tables.specs.Symbols.{symbols_at};
+    ghost use Rattle.icu_tables.specs.Named.{is_of};
 
     ghost read_at = { symbols_at };
+
+    ghost serves = { is_of };
 
     #[tactic(auto, unfolding(crate::specs::Symbols::symbols_at))]
     fn from_entry(alloc: Global, place: Place, value: &Value) -> Result<Self, TableError> {
@@ -109,5 +113,9 @@ impl FromEntry for Filed<DecimalSymbols> {
         let name = name_of(place, fields.locale, fields.system)?;
         let content = symbols_of(alloc, place, &fields.strings, fields.grouping_sizes)?;
         Ok(Filed { name, content })
+    }
+
+    fn serves(&self, locale: &DataLocale) -> bool {
+        self.name.is_of(locale)
     }
 }

@@ -12,7 +12,8 @@ returns-in_err-patterns c =
     let v = c.index-entries-index in
     let i = c.loop-index.index in
     let inv = rw (entries_from c.args.entries.now i v.result v.is c.loop-index-test.true) at c.loop-index.invariant.0 in
-    rw (p.1, p.2) (made_fails c.in_err-patterns.field-0.0 c.args.place (given c.loop-index.map.entries) v.result (drop (i + 1) c.args.entries.now) _ c.in_err-patterns.ensures inv)
+    rw (p.1, p.2) (made_fails c.in_err-patterns.field-0.0 c.args.place (given c.loop-index.map.entries) v.result (drop (i + 1) c.args.entries.now) _
+    c.in_err-patterns.ensures inv)
 
 pub loop-index-preserved : goal.loop-index-preserved
 loop-index-preserved c =
@@ -29,4 +30,5 @@ loop-index-preserved c =
     rw (added, map-append given_entry before ((e.log10_type, v) ∷ [])) (made, still_goes_on before e left v rises)
 
 pub returns : goal.returns
-returns c = made_ends c.args.place (given c.loop-index.map.entries) _ (rw (drop_all c.loop-index.index c.args.entries.now c.loop-index-test.false) at c.loop-index.invariant.0)
+returns c = made_ends c.args.place (given c.loop-index.map.entries) _
+    (rw (drop_all c.loop-index.index c.args.entries.now c.loop-index-test.false) at c.loop-index.invariant.0)

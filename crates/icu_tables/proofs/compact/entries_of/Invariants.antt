@@ -6,4 +6,5 @@ use Rattle.icu_tables.proofs.Maps.{GoesOn}
 use Rattle.icu_tables.proofs.compact.entries_of.Given as goal
 
 abbrev pub invariant-loop-index : goal.invariant-loop-index
-invariant-loop-index l = (with_front (given l.map.entries) (entries_of l.place (drop l.index l.entries)) ≡ entries_of l.place l.entries) × GoesOn l.map.entries (drop l.index l.entries)
+invariant-loop-index l = (with_front (given l.map.entries) (entries_of l.place (drop l.index l.entries)) ≡ entries_of l.place l.entries)
+    × GoesOn l.map.entries (drop l.index l.entries)

@@ -14,7 +14,8 @@ returns-in_err-entry-clause-entries c =
     let v = c.index-values-index in
     let i = c.loop-index.index in
     let inv = rw (values_from c.args.values.now i v.result v.is c.loop-index-test.true) at c.loop-index.invariant.0 in
-    rw (p.1, p.2) (entries_fail c.in_err-entry.field-0.0 c.loop-index.found.items c.loop-index.before (view v.result) (map view (drop (i + 1) c.args.values.now)) _ c.in_err-entry.ensures.read inv)
+    rw (p.1, p.2) (entries_fail c.in_err-entry.field-0.0 c.loop-index.found.items c.loop-index.before (view v.result)
+    (map view (drop (i + 1) c.args.values.now)) _ c.in_err-entry.ensures.read inv)
 
 pub returns-in_err-entry-clause-rise : goal.returns-in_err-entry-clause-rise
 returns-in_err-entry-clause-rise c = let p = err_from_is_err_and c.from_residual.result c.from_residual.ensures.1 in rw p.1 tt
@@ -32,6 +33,7 @@ loop-index-preserved c =
 
 pub returns : goal.returns
 returns c = record {
-  entries = entries_end c.loop-index.found.items c.loop-index.before _ (rw (drop_all c.loop-index.index c.args.values.now c.loop-index-test.false) at c.loop-index.invariant.0);
+  entries = entries_end c.loop-index.found.items c.loop-index.before _
+      (rw (drop_all c.loop-index.index c.args.values.now c.loop-index-test.false) at c.loop-index.invariant.0);
   rise = c.loop-index.invariant.1;
 }

@@ -15,7 +15,8 @@ returns-in_err-given_rule_in c =
     let v = c.index-values-index in
     let i = c.loop-index.index in
     let inv = rw (values_from c.args.values.now i v.result v.is c.loop-index-test.true) at c.loop-index.invariant in
-    rw (p.1, p.2) (fails (λ place. given_rule_in) Rules c.in_err-given_rule_in.field-0.0 (given_rules c.loop-index.found.items) i (view v.result) (map view (drop (i + 1) c.args.values.now)) _ c.in_err-given_rule_in.ensures inv)
+    rw (p.1, p.2) (fails (λ place. given_rule_in) Rules c.in_err-given_rule_in.field-0.0 (given_rules c.loop-index.found.items) i (view v.result)
+    (map view (drop (i + 1) c.args.values.now)) _ c.in_err-given_rule_in.ensures inv)
 
 pub loop-index-preserved : goal.loop-index-preserved
 loop-index-preserved c =
@@ -23,8 +24,11 @@ loop-index-preserved c =
     let i = c.loop-index.index in
     let x = c.in_ok-given_rule_in.field-0 in
     let inv = rw (values_from c.args.values.now i v.result v.is c.loop-index-test.true) at c.loop-index.invariant in
-    rw (c.in_ok-push.ensures.items, map-append given_rule c.loop-index.found.items (x ∷ [])) (goes_on (λ place. given_rule_in) Rules (given_rules c.loop-index.found.items) i (view v.result) (map view (drop (i + 1) c.args.values.now)) (given_rule x) _ c.in_ok-given_rule_in.ensures inv)
+    rw (c.in_ok-push.ensures.items, map-append given_rule c.loop-index.found.items (x ∷ []))
+    (goes_on (λ place. given_rule_in) Rules (given_rules c.loop-index.found.items) i (view v.result) (map view (drop (i + 1) c.args.values.now))
+    (given_rule x) _ c.in_ok-given_rule_in.ensures inv)
 
 pub returns : goal.returns
 unfolding given_rules_in
-returns c = ends (λ place. given_rule_in) Rules (given_rules c.loop-index.found.items) c.loop-index.index _ (rw (drop_all c.loop-index.index c.args.values.now c.loop-index-test.false) at c.loop-index.invariant)
+returns c = ends (λ place. given_rule_in) Rules (given_rules c.loop-index.found.items) c.loop-index.index _
+    (rw (drop_all c.loop-index.index c.args.values.now c.loop-index-test.false) at c.loop-index.invariant)

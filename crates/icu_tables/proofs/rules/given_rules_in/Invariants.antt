@@ -8,4 +8,5 @@ use Rattle.icu_tables.proofs.Lists.{with_front}
 use Rattle.icu_tables.proofs.rules.given_rules_in.Given as goal
 
 abbrev pub invariant-loop-index : goal.invariant-loop-index
-invariant-loop-index l = with_front (given_rules l.found.items) (entries_at (λ place. given_rule_in) Rules l.index (map view (drop l.index l.values))) ≡ entries_at (λ place. given_rule_in) Rules 0 (map view l.values)
+invariant-loop-index l = with_front (given_rules l.found.items) (entries_at (λ place. given_rule_in) Rules l.index (map view (drop l.index l.values)))
+    ≡ entries_at (λ place. given_rule_in) Rules 0 (map view l.values)

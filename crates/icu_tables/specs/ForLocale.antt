@@ -1,0 +1,89 @@
+-- The tables that are read for one locale.
+use Rattle.std.specs.Prelude.{◌≡◌, ℕ, length, Bool, false, true, List, Option, Some, None, Result, Ok, Err}
+use Rattle.std.specs.List.{filter}
+use Rattle.json.specs.Token.{Token}
+use Rattle.json.specs.Json as json
+use Rattle.serde_json.specs.Data.{Data, Members, no_members, put}
+use Rattle.serde_json.specs.Find.{get_member}
+use Rattle.serde_json.specs.Read.{of_members}
+use Rattle.serde_json.specs.Written.{members_have_float}
+use Rattle.icu_decimal_data.specs.declared.decimal_symbols.DecimalSymbols.{DecimalSymbols}
+use Rattle.icu_decimal_data.specs.CompactTable.{TableEntry}
+use Rattle.icu_plurals.specs.Rules.{Rule}
+use Rattle.icu_provider.specs.Identifier.{Identifier}
+use Rattle.icu_tables.specs.Answering.{filed_answer, optional_answer, system_answer}
+use Rattle.icu_tables.specs.Compact.{compact_at}
+use Rattle.icu_tables.specs.Digits.{SystemDigits, digits_at}
+use Rattle.icu_tables.specs.Keys.{name_of}
+use Rattle.icu_tables.specs.Named.{Filed, is_of}
+use Rattle.icu_tables.specs.Owned.{Is}
+use Rattle.icu_tables.specs.Reading.{Fails}
+use Rattle.icu_tables.specs.Rules.{rules_at}
+use Rattle.icu_tables.specs.Symbols.{symbols_at}
+use Rattle.icu_tables.specs.Tables.{TablesData, entries_in}
+use Rattle.icu_tables.specs.declared.error.Key.{Key}
+use Rattle.icu_tables.specs.declared.error.Key.TheVariants.{Symbols, Digits, Rules, Short, Long}
+use Rattle.icu_tables.specs.declared.error.Place.{Place}
+use Rattle.icu_tables.specs.declared.error.TableError.{TableError}
+
+-- These tables answer by each identifier of the locale as all tables do, and give the same digits in whatever locale.
+pub record AnswersAs (locale : List ℕ) (kept all : TablesData) : Type 0 where
+  pub symbols : (id : Identifier) → id.locale ≡ locale → filed_answer kept.symbols id ≡ filed_answer all.symbols id
+  pub digits : (system : Option (List ℕ)) → system_answer kept.digits system ≡ system_answer all.digits system
+  pub rules : (id : Identifier) → id.locale ≡ locale → optional_answer kept.rules id ≡ optional_answer all.rules id
+  pub short : (id : Identifier) → id.locale ≡ locale → optional_answer kept.short id ≡ optional_answer all.short id
+  pub long : (id : Identifier) → id.locale ≡ locale → optional_answer kept.long id ≡ optional_answer all.long id
+
+-- tables for a locale of what was read
+abbrev pub IsFor : List ℕ → TablesData → Result TablesData TableError → Type 0
+IsFor locale kept read = (all : TablesData) × (read ≡ Ok all) × AnswersAs locale kept all
+
+-- What a call answers for a locale is of what reading gives; want of memory may come whatever it gives.
+abbrev pub GivesFor : List ℕ → Result TablesData TableError → Result TablesData TableError → Type 0
+GivesFor locale (Ok kept) read = IsFor locale kept read
+GivesFor locale (Err e) read = Fails e read
+
+-- of a list under a key those of its entries that serve
+abbrev pub IsServed : {A : Type 0} → (Place → Data → Result A TableError) → (A → Bool) → Key → Data → List A → Type 0
+IsServed {A} read serves key d kept = (all : List A) × (entries_in read key d ≡ Ok all) × (kept ≡ filter serves all)
+
+-- the same of a borrowed value, which has whole numbers alone
+abbrev pub AreEntries : {A : Type 0} → (Place → Data → Result A TableError) → (A → Bool) → Key → json.Json → List A → Type 0
+AreEntries read serves key j kept = (d : Data) × Is j d × IsServed read serves key d kept
+
+-- the same, where nothing was before
+abbrev pub IsOnce : {A : Type 0} → (Place → Data → Result A TableError) → (A → Bool) → Key → json.Json → Option (List A)
+    → Option (List A) → Type 0
+IsOnce {A} read serves key j before after = (before ≡ None) × (kept : List A) × (after ≡ Some kept) × AreEntries read serves key j kept
+
+-- what is kept of a member, or that there is none
+abbrev pub HoldsAt : {A : Type 0} → (Place → Data → Result A TableError) → (A → Bool) → Key → Option Data → Option (List A) → Type 0
+HoldsAt read serves key None None = Unit {0}
+HoldsAt read serves key None (Some kept) = ⊥
+HoldsAt read serves key (Some d) None = ⊥
+HoldsAt read serves key (Some d) (Some kept) = IsServed read serves key d kept
+
+-- what is kept of each list of a document
+pub record FoundData : Type 0 where
+  pub symbols : Option (List (Filed DecimalSymbols))
+  pub digits : Option (List SystemDigits)
+  pub rules : Option (List (Filed (List Rule)))
+  pub short : Option (List (Filed (List TableEntry)))
+  pub long : Option (List (Filed (List TableEntry)))
+
+-- of these members it is what serves in a locale; they have whole numbers alone
+pub record Holds (locale : List ℕ) (ds : Members) (f : FoundData) : Type 0 where
+  pub symbols : HoldsAt symbols_at (is_of locale) Symbols (get_member (name_of Symbols) ds) f.symbols
+  pub digits : HoldsAt digits_at (λ entry. true) Digits (get_member (name_of Digits) ds) f.digits
+  pub rules : HoldsAt rules_at (is_of locale) Rules (get_member (name_of Rules) ds) f.rules
+  pub short : HoldsAt compact_at (is_of locale) Short (get_member (name_of Short) ds) f.short
+  pub long : HoldsAt compact_at (is_of locale) Long (get_member (name_of Long) ds) f.long
+  pub whole : members_have_float ds ≡ false
+
+-- one member more
+abbrev pub Adds : List ℕ → List ℕ → json.Json → FoundData → FoundData → Type 0
+Adds locale name j before after = (d : Data) × Is j d × ((ds : Members) → Holds locale ds before → Holds locale (put name d ds) after)
+
+-- the data of the members of an object, behind its bracket
+abbrev pub AreMembersOf : List Token → Members → List Token → Type 0
+AreMembersOf ts ds rest = (ms : json.Members) × (json.members (json.value 126) (length ts) ts ≡ Some (ms, rest)) × (of_members ms no_members ≡ Some ds)

@@ -1,0 +1,193 @@
+//! The tables of a text, of which what other locales are asked for isn't kept.
+
+ghost use Rattle.std.specs.Prelude.{◌≡◌, IfOk, OnOk, Some, option_map};
+ghost use Rattle.json.specs.Value.{value_view};
+ghost use Rattle.serde_json.specs.Data.{Members, object};
+ghost use Rattle.serde_json.specs.Read.{read};
+ghost use Rattle.icu_tables.specs.ForLocale.{Adds, AreEntries, AreMembersOf, Holds, IsFor, IsOnce};
+ghost use Rattle.icu_tables.specs.Tables.{tables_of};
+
+use crate::borrowed::{Unread, owned};
+use crate::digits::SystemDigits;
+use crate::entries::FromEntry;
+use crate::error::{Key, Place, TableError};
+use crate::named::Filed;
+use crate::tables::Tables;
+use icu_decimal_data::{CompactPatterns, DecimalSymbols};
+use icu_pattern::SinglePlaceholder;
+use icu_plurals::PluralRules;
+use icu_provider::DataLocale;
+use json::{Reader, Scratch, Token};
+use std::alloc::Global;
+use std::marker::Model;
+
+/// How deep the values under the keys of a document may nest.
+const MOST_NESTED: usize = 126;
+
+/// What the members of a document that were read so far say.
+#[derive(Drop)]
+struct Found {
+    symbols: Option<Vec<Filed<DecimalSymbols>>>,
+    digits: Option<Vec<SystemDigits>>,
+    rules: Option<Vec<Filed<PluralRules>>>,
+    short: Option<Vec<Filed<CompactPatterns<SinglePlaceholder>>>>,
+    long: Option<Vec<Filed<CompactPatterns<SinglePlaceholder>>>>,
+}
+
+impl Model for Found {
+    ghost use Rattle.std.specs.Prelude.{option_map};
+    ghost use Rattle.icu_tables.specs.ForLocale.{FoundData};
+
+    ghost Value = { FoundData };
+
+    ghost view = { λ f. record {
+      symbols = option_map (λ v. v.items) f.symbols;
+      digits = option_map (λ v. v.items) f.digits;
+      rules = option_map (λ v. v.items) f.rules;
+      short = option_map (λ v. v.items) f.short;
+      long = option_map (λ v. v.items) f.long;
+    } };
+}
+
+/// Those of the entries under a key that may answer what is asked in a locale.
+fn served<T: FromEntry + Drop>(
+    alloc: Global,
+    locale: &DataLocale,
+    key: Key,
+    value: &json::Value<'_>,
+) -> Result<Vec<T>, Unread>
+    ensures { IfOk result
+        (λ v. AreEntries T.read_at (T.serves locale.now) key (value_view value.now) v.items) }
+{
+    let json::Value::Array(items) = value else {
+        return Err(Unread::Other);
+    };
+    let items = items.as_slice();
+    let mut found = Vec::new(alloc);
+    for (index, item) in items.iter().enumerate() {
+        let value = owned(alloc, item)?;
+        let entry = T::from_entry(alloc, Place { key, index }, &value)?;
+        if entry.serves(locale) {
+            found.push(entry)?;
+        }
+    }
+    Ok(found)
+}
+
+/// The same, under a key that wasn't met before.
+fn once<T: FromEntry + Drop>(
+    alloc: Global,
+    locale: &DataLocale,
+    key: Key,
+    value: &json::Value<'_>,
+    slot: &mut Option<Vec<T>>,
+) -> Result<(), Unread>
+    ensures { OnOk result (IsOnce T.read_at (T.serves locale.now) key (value_view value.now)
+        (option_map (λ v. v.items) slot.old) (option_map (λ v. v.items) slot.new)) }
+{
+    if slot.is_some() {
+        return Err(Unread::Other);
+    }
+    *slot = Some(served(alloc, locale, key, value)?);
+    Ok(())
+}
+
+/// What one member more says.
+fn add(
+    alloc: Global,
+    locale: &DataLocale,
+    found: &mut Found,
+    name: &str,
+    value: &json::Value<'_>,
+) -> Result<(), Unread>
+    ensures { OnOk result
+        (Adds locale.now name.now (value_view value.now) found.old found.new) }
+{
+    match name {
+        "symbols" => once(alloc, locale, Key::Symbols, value, &mut found.symbols),
+        "digits" => once(alloc, locale, Key::Digits, value, &mut found.digits),
+        "rules" => once(alloc, locale, Key::Rules, value, &mut found.rules),
+        "short" => once(alloc, locale, Key::Short, value, &mut found.short),
+        "long" => once(alloc, locale, Key::Long, value, &mut found.long),
+        _ => {
+            drop(owned(alloc, value)?);
+            Ok(())
+        }
+    }
+}
+
+/// What all members say that are left.
+fn members(alloc: Global, locale: &DataLocale, reader: &mut Reader<'_>) -> Result<Found, Unread>
+    ensures { IfOk result (λ f. (ds : Members) × Holds locale.now ds f
+        × AreMembersOf reader.old ds reader.new) }
+{
+    let mut found = Found {
+        symbols: None,
+        digits: None,
+        rules: None,
+        short: None,
+        long: None,
+    };
+    'members: while let Some(name) = reader.next_key()? {
+        let value = json::Value::read(alloc, reader, MOST_NESTED)?;
+        add(alloc, locale, &mut found, name, &value)?;
+    }
+    Ok(found)
+}
+
+/// What the members of the object say that a text is.
+fn document(alloc: Global, locale: &DataLocale, text: &str) -> Result<Found, Unread>
+    ensures { IfOk result (λ f. (ds : Members) × Holds locale.now ds f
+        × (read text.now ≡ Some (object ds))) }
+{
+    let mut scratch = Scratch::new(alloc);
+    let mut reader = Reader::new(text, &mut scratch)?;
+    let Some(Token::BeginObject) = reader.next() else {
+        return Err(Unread::Other);
+    };
+    let found = members(alloc, locale, &mut reader)?;
+    if reader.next().is_some() {
+        return Err(Unread::Other);
+    }
+    Ok(found)
+}
+
+/// The tables of a text in which nothing is refused, and nothing rare.
+fn tables(alloc: Global, locale: &DataLocale, text: &str) -> Result<Tables, Unread>
+    ensures { IfOk result (λ t. IsFor locale.now t (tables_of text.now)) }
+{
+    let found = document(alloc, locale, text)?;
+    let (Some(symbols), Some(digits)) = (found.symbols, found.digits) else {
+        return Err(Unread::Other);
+    };
+    Ok(Tables {
+        symbols,
+        digits,
+        rules: found.rules,
+        short: found.short,
+        long: found.long,
+    })
+}
+
+impl Tables {
+    ghost use Rattle.icu_tables.specs.ForLocale.{GivesFor};
+
+    /// The tables of a JSON text for one locale, or the first fault that is met in the text (this project's own).
+    ///
+    /// The whole text is judged, as by [`Tables::from_json`]: the same texts are refused, for the same reasons. By each
+    /// identifier of the locale the tables answer as those of the whole text do, and digits in whatever locale; what they
+    /// answer in other locales isn't said. They take the memory of this locale alone.
+    pub fn from_json_for_locale(
+        alloc: Global,
+        text: &str,
+        locale: &DataLocale,
+    ) -> Result<Tables, TableError>
+        ensures { GivesFor locale.now result (tables_of text.now) }
+    {
+        match tables(alloc, locale, text) {
+            Ok(tables) => Ok(tables),
+            Err(Unread::OutOfMemory) => Err(TableError::OutOfMemory),
+            Err(Unread::Other) => Tables::from_json(alloc, text),
+        }
+    }
+}

@@ -1,0 +1,186 @@
+"""Reads a release as JSON packages."""
+import functools
+import json
+import re
+
+import cldr_names
+from cldr_paths import (
+    UNIT_WIDTHS,
+    compact_money_path,
+    compact_path,
+    currency_path,
+    money_names_path,
+    money_path,
+    percent_path,
+    plain_path,
+    step,
+    symbols_path,
+    unit_path,
+)
+from cldr_release import STYLES, Release, Tree, below
+
+
+def attributed(key):
+    """The tag and the attributes that a key of the packages stands for, such as `symbol-alt-narrow`."""
+    tag, *words = key.split("-")
+    return step(tag, dict(zip(words[::2], words[1::2])))
+
+
+def add_decimals(tree, system, formats):
+    """Adds the plain and the compact patterns of a numbering system."""
+    if "standard" in formats:
+        tree.values[plain_path(system)] = formats["standard"]
+    for style in STYLES:
+        for key, text in formats.get(style, {}).get("decimalFormat", {}).items():
+            power, _, count = key.partition("-count-")
+            tree.values[compact_path(system, style, power, count)] = text
+
+
+def add_money(tree, system, formats):
+    """Adds the patterns of money of a numbering system."""
+    for key, value in formats.items():
+        if isinstance(value, str):
+            kind, *other = key.split("-")
+            if kind == "unitPattern":
+                tree.values[money_names_path(system, key.rpartition("-")[2])] = value
+            elif not other:
+                tree.values[money_path(system, kind)] = value
+    for style in STYLES:
+        for key, text in formats.get(style, {}).get("standard", {}).items():
+            power, _, count = key.partition("-count-")
+            if "-alt-" not in count:
+                tree.values[compact_money_path(system, style, power, count)] = text
+
+
+def add_percents(tree, system, formats):
+    """Adds the pattern of percents of a numbering system."""
+    tree.values[percent_path(system)] = formats["standard"]
+
+
+def add_currencies(tree, currencies):
+    """Adds symbols and names of currencies."""
+    for code, texts in currencies.items():
+        for key, text in texts.items():
+            tree.values[(*currency_path(code), attributed(key))] = text
+
+
+def add_units(tree, widths):
+    """Adds the patterns of units, in the cases of which nothing is said."""
+    for width in UNIT_WIDTHS:
+        for unit, texts in widths.get(width, {}).items():
+            for key, text in texts.items():
+                if re.fullmatch("unitPattern-count-[a-z]+", key):
+                    tree.values[unit_path(width, unit, key.rpartition("-")[2])] = text
+
+
+ADDERS = {"decimalFormats": add_decimals, "currencyFormats": add_money, "percentFormats": add_percents}
+
+
+class JsonRelease(Release):
+    """The JSON packages cldr-core and cldr-numbers-full, side by side in a folder. In them all is inherited already."""
+
+    @staticmethod
+    def is_at(folder):
+        """Tells whether such a release is in this folder."""
+        return (folder / "cldr-core" / "availableLocales.json").exists()
+
+    def __init__(self, folder, reports, scopes=()):
+        super().__init__(folder, reports, scopes)
+        self.main = folder / "cldr-numbers-full" / "main"
+        self.locales = sorted(self.internal(file.name) for file in self.main.iterdir())
+        plurals = self.load("cldr-core", "supplemental", "plurals.json")["supplemental"]["plurals-type-cardinal"]
+        self.cardinals = {
+            self.internal(name): [(key.rpartition("-")[2], text) for key, text in rules.items()]
+            for name, rules in plurals.items()
+        }
+
+    @staticmethod
+    def internal(name):
+        """A locale as LDML files are named."""
+        return "root" if name == "und" else name.replace("-", "_")
+
+    def load(self, *names):
+        """A file of the release."""
+        return json.loads(below(self.folder, *names).read_bytes())
+
+    def read_tree(self, locale):
+        """Reads a locale's files into the paths that LDML has."""
+        name = "und" if locale == "root" else locale.replace("_", "-")
+        tree = Tree({}, {})
+        for key, value in self.part("cldr-numbers-full", name, "numbers.json")["numbers"].items():
+            tag, _, system = key.partition("-numberSystem-")
+            if tag not in self.scope.elements:
+                continue
+            if tag == "symbols":
+                tree.values.update({(*symbols_path(system), step(name, {})): text for name, text in value.items()})
+            elif tag == "otherNumberingSystems":
+                tree.values.update({(step(tag, {}), step(name, {})): text for name, text in value.items()})
+            elif isinstance(value, str):
+                tree.values[(step(tag, {}),)] = value
+            else:
+                ADDERS[tag](tree, system, value)
+        if "currencies" in self.scope.elements:
+            add_currencies(tree, self.part("cldr-numbers-full", name, "currencies.json")["numbers"]["currencies"])
+        if "unitLength" in self.scope.elements:
+            add_units(tree, self.part("cldr-units-full", name, "units.json")["units"])
+        return tree
+
+    def part(self, package, name, file):
+        """What a file of a package says of a locale."""
+        return self.load(package, "main", name, file)["main"][name]
+
+    def chain(self, locale):
+        """The locale alone."""
+        return (locale,)
+
+    def fractions(self):
+        """What is said of the fraction digits of each currency."""
+        data = self.load("cldr-core", "supplemental", "currencyData.json")["supplemental"]["currencyData"]["fractions"]
+        return {code: {name.lstrip("_"): text for name, text in info.items()} for code, info in data.items()}
+
+    def digits(self):
+        """The ten digits of each numeric numbering system."""
+        systems = self.load("cldr-core", "supplemental", "numberingSystems.json")["supplemental"]["numberingSystems"]
+        return {name: system["_digits"] for name, system in systems.items() if system["_type"] == "numeric"}
+
+    @functools.cached_property
+    def levels(self):
+        """The levels of coverage: modern as the packages list such locales, others if they have a file of levels."""
+        levels = {}
+        if below(self.folder, "cldr-core", "coverageLevels.json").exists():
+            levels = self.load("cldr-core", "coverageLevels.json").get("effectiveCoverageLevels", {})
+        modern = self.load("cldr-core", "availableLocales.json")["availableLocales"]["modern"]
+        return {self.internal(name): level for name, level in {**levels, **dict.fromkeys(modern, "modern")}.items()}
+
+    def level(self, locale):
+        """The level of coverage of a locale."""
+        return self.levels.get(locale) if locale != "root" else None
+
+    def facts(self):
+        """What the packages say of names."""
+        likely = self.load("cldr-core", "supplemental", "likelySubtags.json")["supplemental"]["likelySubtags"]
+        parents = self.load("cldr-core", "supplemental", "parentLocales.json")["supplemental"]["parentLocales"]
+        parents = parents["parentLocale"]
+        aliases = self.load("cldr-core", "supplemental", "aliases.json")["supplemental"]["metadata"]["alias"]
+        languages, scripts, regions = (
+            {name.replace("-", "_"): alias["_replacement"] for name, alias in aliases[f"{kind}Alias"].items()}
+            for kind in ("language", "script", "territory")
+        )
+        likely = {name.replace("-", "_"): full.replace("-", "_") for name, full in likely.items()}
+        parents = {self.internal(name): self.internal(parent) for name, parent in parents.items()}
+        return cldr_names.Facts(likely, languages, scripts, regions, parents, self.spoken())
+
+    def spoken(self):
+        """Each language with each territory of which the packages say that it is spoken there."""
+        pairs = set()
+        territories = self.load("cldr-core", "supplemental", "territoryInfo.json")["supplemental"]["territoryInfo"]
+        for region, info in territories.items():
+            pairs.update((self.internal(language), region) for language in info.get("languagePopulation", ()))
+        data = self.load("cldr-core", "supplemental", "languageData.json")["supplemental"]["languageData"]
+        for language, info in data.items():
+            pairs.update((language.partition("-alt-")[0], region) for region in info.get("_territories", ()))
+        return pairs
+
+    def version(self):
+        """The version of the package."""
+        return self.load("cldr-core", "package.json").get("version")

@@ -1,0 +1,223 @@
+"""The entries of numbers: symbols and compact patterns."""
+import re
+
+from cldr_paths import compact_path, counted, plain_path, shown, step, symbols_path
+from cldr_patterns import CATEGORIES, PLACE, around_number, category_of, compact_text, grouping, literal, subpatterns
+from cldr_reports import COMPACT, NEGATIVE, PLAIN, SYSTEM, Inexpressible
+
+EXPLICIT = {"0": "explicit_zero", "1": "explicit_one"}
+SYMBOLS_BYTES = 255
+PATTERNS_BYTES = 65535
+MOST_ZEROS = 16
+
+
+def named(locale):
+    """A locale as a BCP 47 tag: subtags with hyphens, variants in small letters."""
+    if locale == "root":
+        return "und"
+    tag = re.sub("(?<!-va)[-_]POSIX$", "-u-va-posix", locale, flags=re.I)
+    return "-".join(word.lower() if len(word) > 4 else word for word in tag.replace("_", "-").split("-"))
+
+
+def systems_of(release, locale, digits):
+    """The default numbering system, the native one and latn: those of them whose digits are in tables."""
+    default = release.text(locale, (step("defaultNumberingSystem", {}),))
+    native = release.text(locale, (step("otherNumberingSystems", {}), step("native", {})))
+    systems = []
+    for kind, system in (("default", default), ("native", native), ("", "latn")):
+        if system in digits and system not in systems:
+            systems.append(system)
+        elif system is not None and system not in digits:
+            key = f"{kind} numbering system {system}"
+            release.reports.left_out(SYSTEM, locale, key, "its digits aren't in tables")
+    return systems
+
+
+def symbol(release, locale, system, name):
+    """A symbol of a numbering system; that of latn where the system has none (UTS 35 Part 3, Number Symbols)."""
+    text = release.text(locale, symbols_path(system) + (step(name, {}),))
+    if text is None:
+        text = release.text(locale, symbols_path("latn") + (step(name, {}),))
+    if text is None:
+        raise Inexpressible(f"no {name}")
+    return text
+
+
+def formats_of(release, locale, system, path_of=plain_path):
+    """The numbering system whose patterns are those of a system: latn where it has none."""
+    return system if release.text(locale, path_of(system)) is not None else "latn"
+
+
+def affixes(negative, minus, plus):
+    """What stands before and after a number with minus and with plus, by the negative subpattern (UTS 35 Part 3,
+    Explicit Plus Signs)."""
+    if negative is None:
+        return [minus, ""], [plus, ""]
+    before, _, after = around_number(negative)
+    with_minus = [literal(part, {"-": minus}) for part in (before, after)]
+    if ("special", "-") not in before + after:
+        return with_minus, [plus, ""]
+    return with_minus, [literal(part, {"-": plus}) for part in (before, after)]
+
+
+def signs_of(release, locale, system, pattern):
+    """The sizes of groups and the affixes of minus and plus, by the plain pattern."""
+    minus, plus = (symbol(release, locale, system, name) for name in ("minusSign", "plusSign"))
+    positive, negative = subpatterns(pattern)
+    before, number, after = around_number(positive)
+    if before or after:
+        text = "text around a plain number is left out"
+        release.reports.left_out(PLAIN, locale, shown(plain_path(system)), f"{pattern!r}: {text}")
+        negative = None
+    try:
+        return grouping(number or ""), *affixes(negative, minus, plus)
+    except Inexpressible as refused:
+        if negative is None:
+            raise
+        reason = f"{pattern!r}: {refused}; the sign stands before numbers"
+        release.reports.left_out(PLAIN, locale, shown(plain_path(system)), reason)
+        return grouping(number or ""), *affixes(None, minus, plus)
+
+
+def symbols_entry(release, locale, system):
+    """The symbols of a numbering system, without `locale` and `system`."""
+    pattern = release.text(locale, plain_path(formats_of(release, locale, system)))
+    if pattern is None:
+        raise Inexpressible("no plain pattern")
+    sizes, minus, plus = signs_of(release, locale, system, pattern)
+    least = release.text(locale, (step("minimumGroupingDigits", {}),)) or "1"
+    decimal, group = (symbol(release, locale, system, name) for name in ("decimal", "group"))
+    if sum(len(text.encode()) for text in (*minus, *plus, decimal, group, system)) > SYMBOLS_BYTES:
+        raise Inexpressible(f"its symbols are more than {SYMBOLS_BYTES} bytes")
+    if max(*sizes, int(least)) > 255:
+        raise Inexpressible("a group of more than 255 digits")
+    texts = {"minus": minus, "plus": plus, "decimal": decimal, "group": group, "numsys": system}
+    return {**texts, "sizes": [*sizes, int(least)]}
+
+
+class CompactReader:
+    """Reads the compact patterns of a locale in one numbering system and style."""
+
+    element = "decimalFormats"
+    texts = {}
+
+    def __init__(self, release, locale, system, style, rules):
+        self.release = release
+        self.locale = locale
+        self.system = system
+        self.style = style
+        self.rules = rules
+
+    def left_out(self, power, count, reason, kind=COMPACT):
+        """Tells what isn't in the tables."""
+        key = f"{self.element}[{self.system}]/{self.style}/1{'0' * power}" + (f"-{count}" if count else "")
+        self.release.reports.left_out(kind, self.locale, key, reason)
+
+    def path(self, power, count):
+        """Where the pattern of a power and a count stands."""
+        return compact_path(self.system, self.style, "1" + "0" * power, count)
+
+    def checked(self, text):
+        """The text of a pattern, if it has the places that it is to have."""
+        return text
+
+    def pattern(self, power, *counts):
+        """The pattern that is found with one of the counts, and the count that it was found with."""
+        found, pattern = self.release.find(self.locale, self.path(power, counts[0]), counted(*counts))
+        return (dict(found[-1][1:]).get("count") if found else None), pattern
+
+    def patterns(self, power):
+        """The patterns of a type by their names in tables, `other` first; those that aren't found by another name."""
+        found = {"other": self.pattern(power, "other")[1]}
+        for category, _ in self.rules:
+            count, pattern = self.pattern(power, category, "other")
+            if count == category:
+                found[category] = pattern
+        for number, name in EXPLICIT.items():
+            count, pattern = self.pattern(power, number, category_of(self.rules, int(number)), "other")
+            if count == number:
+                found[name] = pattern
+        return {name: pattern for name, pattern in found.items() if pattern is not None}
+
+    def read(self, power, count, pattern):
+        """A pattern as its exponent, None where it has no zeros, and its text; None where it can't be expressed."""
+        try:
+            positive, negative = subpatterns(pattern)
+            zeros, text = compact_text(positive, self.texts)
+            text = self.checked(text)
+            if zeros > power + 1:
+                raise Inexpressible(f"{zeros} zeros are more than the digits of the type")
+        except Inexpressible as refused:
+            self.left_out(power, count, f"{pattern!r}: {refused}")
+            return None
+        if negative is not None:
+            reason = f"{pattern!r}: a negative subpattern; the sign stands before the positive one"
+            self.left_out(power, count, reason, NEGATIVE)
+        # `0` alone: such numbers aren't shortened
+        exponent = 0 if (zeros, text) == (1, PLACE) else power + 1 - zeros
+        return (exponent if zeros else None), text
+
+    def elements(self, power):
+        """The exponent and the elements of a type, or None."""
+        patterns = self.patterns(power)
+        read = {name: self.read(power, name, pattern) for name, pattern in patterns.items()}
+        if read.get("other") is None:
+            return None
+        exponents = [pair[0] for pair in read.values() if pair and pair[0] is not None]
+        if not exponents:
+            self.left_out(power, "", "no pattern has a zero")
+            return None
+        elements = {}
+        for name, pair in read.items():
+            if pair and pair[0] not in (None, exponents[0]):
+                reason = "it counts by another power of ten than the type's first pattern"
+                self.left_out(power, name, f"{patterns[name]!r}: {reason}")
+            elif pair:
+                elements[name] = pair[1]
+        return (exponents[0], without_repeats(elements, self.rules)) if "other" in elements else None
+
+    def table(self):
+        """The list of types that say something new, each with its exponent and elements."""
+        kept = []
+        for power in self.release.powers(self.locale, self.element):
+            exponent, elements = self.elements(power) or (None, None)
+            if elements is None or not kept and (exponent, elements) == (0, {"other": PLACE}):
+                continue
+            before = kept[-1] if kept else [0, 0, None]
+            reason = unfit(power, exponent, before, elements)
+            if reason:
+                self.left_out(power, "", reason)
+            elif [exponent, elements] != [before[1], without_explicit_one(before[2])]:
+                kept.append([power, exponent, elements])
+        if sum(len(text.encode()) for _, _, elements in kept for text in elements.values()) > PATTERNS_BYTES:
+            raise Inexpressible(f"its patterns are more than {PATTERNS_BYTES} bytes")
+        return kept
+
+
+def without_repeats(elements, rules):
+    """Elements without those that mean what stands below them: a category's like `other`, an explicit one's like that
+    of its category."""
+    other = elements["other"]
+    kept = {name: text for name, text in elements.items() if name not in CATEGORIES or text != other}
+    kept["other"] = other
+    for number, name in EXPLICIT.items():
+        if kept.get(name) == kept.get(category_of(rules, int(number)), other):
+            kept.pop(name, None)
+    order = (*EXPLICIT.values(), *CATEGORIES)
+    return {name: kept[name] for name in order if name in kept}
+
+
+def without_explicit_one(elements):
+    """Elements without the pattern for exactly one."""
+    return {name: text for name, text in (elements or {}).items() if name != "explicit_one"}
+
+
+def unfit(power, exponent, before, elements):
+    """Why a type can't stand in a compact table after the one before it, or None."""
+    if exponent < before[1]:
+        return "its exponent is below that of the type before it"
+    if power - exponent >= MOST_ZEROS:
+        return f"more than {MOST_ZEROS} zeros"
+    if exponent != before[1] and elements == without_explicit_one(before[2]):
+        return "the patterns of the type before it, with another exponent"
+    return None

@@ -1,0 +1,118 @@
+"""Paths of a locale's file, and where things stand in it."""
+import re
+
+DISTINGUISHING = ("numberSystem", "type", "count", "alt")
+UNIT_WIDTHS = ("long", "short", "narrow")
+
+
+def step(tag, attributes):
+    """One step of a path: a tag with the attributes that tell elements apart (UTS 35 Part 1, Attribute Definitions)."""
+    return (tag,) + tuple((name, attributes[name]) for name in DISTINGUISHING if name in attributes)
+
+
+def shown(path):
+    """A path as people read it: symbols[latn]/decimal."""
+    return "/".join(tag + "".join(f"[{value}]" for _, value in attributes) for tag, *attributes in path)
+
+
+def follow(path, relative):
+    """The path that an alias in the element at `path` names (UTS 35 Part 1, Alias Elements)."""
+    for word in relative.split("/"):
+        if word == "..":
+            path = path[:-1]
+        elif word != ".":
+            attributes = dict(re.findall(r"\[@(\w+)=['\"]([^'\"]*)['\"]\]", word))
+            path += (step(word.split("[")[0], attributes),)
+    return path
+
+
+def same(path):
+    """The path itself is all that is looked for."""
+    return (path,)
+
+
+def symbols_path(system):
+    """The element of a numbering system's symbols."""
+    return (step("symbols", {"numberSystem": system}),)
+
+
+def plain_path(system):
+    """The pattern of plain decimals."""
+    return (
+        step("decimalFormats", {"numberSystem": system}),
+        step("decimalFormatLength", {}),
+        step("decimalFormat", {}),
+        step("pattern", {}),
+    )
+
+
+def compact_path(system, style, power, count):
+    """The compact pattern of a type and a count."""
+    return (
+        step("decimalFormats", {"numberSystem": system}),
+        step("decimalFormatLength", {"type": style}),
+        step("decimalFormat", {}),
+        step("pattern", {"type": power, "count": count}),
+    )
+
+
+def money_path(system, kind):
+    """The pattern of money of a kind, standard or accounting."""
+    return (
+        step("currencyFormats", {"numberSystem": system}),
+        step("currencyFormatLength", {}),
+        step("currencyFormat", {"type": kind}),
+        step("pattern", {}),
+    )
+
+
+def compact_money_path(system, style, power, count):
+    """The compact pattern of money of a type and a count."""
+    return (
+        step("currencyFormats", {"numberSystem": system}),
+        step("currencyFormatLength", {"type": style}),
+        step("currencyFormat", {"type": "standard"}),
+        step("pattern", {"type": power, "count": count}),
+    )
+
+
+def money_names_path(system, count):
+    """The pattern that puts an amount and the name of its currency together."""
+    return (step("currencyFormats", {"numberSystem": system}), step("unitPattern", {"count": count}))
+
+
+def currency_path(code):
+    """The element of a currency's symbols and names."""
+    return (step("currencies", {}), step("currency", {"type": code}))
+
+
+def percent_path(system):
+    """The pattern of percents."""
+    return (
+        step("percentFormats", {"numberSystem": system}),
+        step("percentFormatLength", {}),
+        step("percentFormat", {}),
+        step("pattern", {}),
+    )
+
+
+def unit_path(width, unit, count):
+    """The pattern of a unit in a width."""
+    return (
+        step("unitLength", {"type": width}),
+        step("unit", {"type": unit}),
+        step("unitPattern", {"count": count}),
+    )
+
+
+def counted(*counts):
+    """The paths with these counts in turn, and last without a count (UTS 35 Part 1, Lateral Inheritance)."""
+
+    def options(path):
+        *above, (tag, *attributes) = path
+        attributes = dict(attributes)
+        attributes.pop("count", None)
+        with_counts = [step(tag, {**attributes, "count": count}) for count in counts]
+        return [(*above, last) for last in (*with_counts, step(tag, attributes))]
+
+    return options

@@ -1,0 +1,142 @@
+"""Number patterns and plural rules, as CLDR spells them."""
+import re
+
+from cldr_reports import RULE, Inexpressible
+
+CATEGORIES = ("zero", "one", "two", "few", "many", "other")
+PLACE = "{0}"
+
+# Number patterns (UTS 35 Part 3, Number Format Patterns).
+
+PIECE = re.compile(
+    r"(?P<quote>'')|'(?P<quoted>(?:[^']|'')*)'|(?P<number>[#0-9@,.]+E?)|(?P<special>[-+%‰¤*;'])|(?P<plain>.)",
+    re.DOTALL,
+)
+
+
+def pieces_of(pattern):
+    """A pattern as a list of kinds and texts, quotes resolved: `literal`, `number` and `special`."""
+    pieces = []
+    for match in PIECE.finditer(pattern):
+        kind, text = match.lastgroup, match[match.lastgroup]
+        if kind in ("quote", "quoted", "plain"):
+            text = "'" if kind == "quote" else text.replace("''", "'")
+            if pieces and pieces[-1][0] == "literal":
+                text = pieces.pop()[1] + text
+            kind = "literal"
+        elif text == "'":
+            raise Inexpressible(f"a quote in {pattern!r} isn't closed")
+        pieces.append((kind, text))
+    return pieces
+
+
+def subpatterns(pattern):
+    """The pieces of the positive and the negative subpattern; None where there is no negative one, or only that which
+    a pattern without one has (UTS 35 Part 3, Number Patterns)."""
+    positive, negative = [], None
+    for piece in pieces_of(pattern):
+        if piece != ("special", ";"):
+            (positive if negative is None else negative).append(piece)
+        elif negative is None:
+            negative = []
+        else:
+            raise Inexpressible(f"{pattern!r} has three subpatterns")
+    return positive, None if negative == [("special", "-")] + positive else negative
+
+
+def around_number(pieces):
+    """The pieces before the number, the number or None, and the pieces after it."""
+    numbers = [index for index, (kind, _) in enumerate(pieces) if kind == "number"]
+    if len(numbers) > 1:
+        raise Inexpressible("a pattern has two numbers")
+    if not numbers:
+        return pieces, None, []
+    return pieces[: numbers[0]], pieces[numbers[0]][1], pieces[numbers[0] + 1 :]
+
+
+def literal(pieces, signs=None):
+    """The text of pieces; `signs` says what stands for special characters."""
+    text = ""
+    for kind, part in pieces:
+        if kind == "special" and part in (signs or {}):
+            part = signs[part]
+        elif kind == "special":
+            raise Inexpressible(f"{'the sign' if part in '-+' else 'the special character'} {part} within a pattern")
+        text += part
+    return text
+
+
+def compact_text(pieces, texts=None):
+    """A compact subpattern as its number of zeros and the text in tables (UTS 35 Part 3, Compact Number Formats);
+    `texts` says what stands for special characters."""
+    before, number, after = around_number(pieces)
+    prefix, suffix = literal(before, texts), literal(after, texts)
+    if number is not None and set(number) != {"0"}:
+        raise Inexpressible(f"the number {number} isn't zeros alone")
+    text = prefix if number is None else prefix + PLACE + suffix
+    places = [match.start() for match in re.finditer(r"(?=\{0\})", text)]
+    if places != ([] if number is None else [len(prefix)]):
+        raise Inexpressible(f"{PLACE} in a literal")
+    return len(number or ""), text
+
+
+def grouping(number):
+    """The sizes of the first group and of the further ones (UTS 35 Part 3, Number Patterns)."""
+    if not re.fullmatch(r"[#,]*[0,]*(\.0*#*)?", number) or not re.match("[#0]", number):
+        raise Inexpressible(f"the number {number} has more than #, 0, a group and a point")
+    groups = number.partition(".")[0].split(",")
+    if len(groups) == 1:
+        return [0, 0]
+    return [len(groups[-1]), len(groups[-2] if len(groups) > 2 else groups[-1])]
+
+
+# Plural rules (UTS 35 Part 3, Language Plural Rules).
+
+VALUE = r"[0-9]{1,18}"
+ITEM = rf"{VALUE}(?:\s*\.\.\s*{VALUE})?"
+RELATION = re.compile(rf"\s*([nivwftce])\s*(?:%\s*({VALUE})\s*)?(!?=)\s*({ITEM}(?:\s*,\s*{ITEM})*)\s*")
+
+
+def alternatives(condition):
+    """A condition as lists of relations, of which all of one list have to hold."""
+    if not condition.strip():
+        return [[]]
+    words = [re.split(r"\band\b", alternative) for alternative in re.split(r"\bor\b", condition)]
+    found = [[RELATION.fullmatch(word) for word in relations] for relations in words]
+    if not all(relation and int(relation[2] or 1) for relations in found for relation in relations):
+        raise Inexpressible(f"the condition {condition!r} isn't in the grammar")
+    return found
+
+
+def holds(relation, number):
+    """Tells whether a relation holds of a whole number that is written without fraction or exponent."""
+    operand, modulus, sign, items = relation.groups()
+    value = number if operand in "ni" else 0
+    value = value % int(modulus) if modulus else value
+    ranges = [[int(end) for end in item.split("..")] for item in items.split(",")]
+    return any(ends[0] <= value <= ends[-1] for ends in ranges) == (sign == "=")
+
+
+def category_of(rules, number):
+    """The category of a small whole number."""
+    for category, condition in rules:
+        if any(all(holds(relation, number) for relation in relations) for relations in alternatives(condition)):
+            return category
+    return "other"
+
+
+def conditions(release, locale):
+    """The rules that can be expressed, without samples and without that of `other`."""
+    rules = []
+    for category, text in release.rules_of(locale):
+        condition = text.partition("@")[0].strip()
+        try:
+            alternatives(condition)
+            if category not in CATEGORIES:
+                raise Inexpressible("no such category")
+        except Inexpressible as refused:
+            release.reports.left_out(RULE, locale, f"plural rule {category}", refused)
+            continue
+        if category != "other":
+            rules.append((category, condition))
+    return rules
