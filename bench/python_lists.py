@@ -1,17 +1,14 @@
 #!/usr/bin/env python3
 """Compares, from Python, the library with format(n, ',') and with PyICU, where that is there, over a list of whole numbers.
 
-usage: TALMUIGA_LIBRARY=libtalmuiga.so bench/python_lists.py [RUNS]
+usage: bench/python_lists.py [RUNS], where the package is installed, or PYTHONPATH names its folder
 
 Each is given a million numbers as texts, as a report has them, and answers a list of texts; the best time of the runs.
 """
-import os
 import random
 import sys
 import time
 
-sys.path.insert(0, os.path.join(os.path.dirname(os.path.abspath(__file__)), "../examples/python"))
-sys.dont_write_bytecode = True
 import talmuiga
 
 COUNT = 1_000_000
@@ -31,8 +28,10 @@ def main():
     runs = int(sys.argv[1]) if sys.argv[1:] else 5
     source = random.Random(1)
     texts = [str(source.randrange(-10 ** source.randrange(1, 16), 10 ** source.randrange(1, 16))) for _ in range(COUNT)]
+    english = talmuiga.Formatter.english()
     ways = {
-        "the library": talmuiga.format_english,
+        "the library, in one call": english.format_many,
+        "the library, one by one": lambda texts: [english.format(text) for text in texts],
         "format(int(text), ',')": lambda texts: [format(int(text), ",") for text in texts],
         "PyICU": with_icu(),
     }

@@ -119,7 +119,7 @@ static void opened_and_closed(char **words) {
         talmuiga_formatter_close(formatter);
         if (i == TIMES / 2) before = in_use();
     }
-    if (in_use() > before + TIMES) tell("memory grew by", in_use() - before);
+    if (in_use() > before + 16 * TIMES) tell("memory grew by", in_use() - before);
 }
 
 static void refused(const char *style, const char *locale, struct text from, uint32_t wanted_status) {

@@ -1,12 +1,15 @@
 #!/bin/bash
-# Builds the library for C, archive and shared object, and runs the C and the Python example over it: statuses, output,
-# rooms that are too small, a thousand lines as `decfmt` writes them, and what the exceptions are.
-# usage: tests/c_library.sh [--build FOLDER | --after-ci]
-# With --build the library alone is made: FOLDER/libtalmuiga.a and, where there is a C compiler, FOLDER/libtalmuiga.so.
+# Builds the library for C, archive and shared object, and runs the C example over it, tests in C and C++, some of them with
+# sanitizers, the extension for SQLite and the Python package: statuses, output, rooms that are too small, threads, thousands
+# of lines as `decfmt` writes them, and what the exceptions are.
+# usage: tests/c_library.sh [--build FOLDER | --install PREFIX | --after-ci]
+# With --build the library alone is made: FOLDER/libtalmuiga.a and, where there is a C compiler, FOLDER/libtalmuiga.so.0 with
+# a link libtalmuiga.so, which exports the names that begin with talmuiga_ alone. With --install it is put below PREFIX, with
+# the headers, the manual page and what pkg-config asks for.
 # The archive is crates/talmuiga_c/out/libtalmuiga_c.a, as `rt lib` in crates/talmuiga_c builds it; that is done here where
 # it isn't there or a source is newer. With --after-ci, right after `rt ci`, it is built over the libraries that this proved,
 # and talmuiga_c alone is proved once more; `rt lib` would prove them all.
-# The last line is 'N passed, M failed'. What can't be done here, for want of a C or C++ compiler, of Python, of its ctypes or
+# The last line is 'N passed, M failed'. What can't be done here, for want of a C or C++ compiler, of Python, of SQLite or
 # of crates/decfmt/out/decfmt, is told by a line 'skipped: c_library: WHY'. CC and CXX are the compilers with their words,
 # by default cc and c++.
 set -u
@@ -60,8 +63,27 @@ build() {
     cp "$archive" "$1/libtalmuiga.a" || return 1
     (cd "$1" && ar x "$heap" && ar rs libtalmuiga.a ./*.o 2>/dev/null && rm -f ./*.o) || return 1
     if is_there "${compiler[0]}"; then
-        "${compiler[@]}" -shared -o "$1/libtalmuiga.so" -Wl,--whole-archive "$1/libtalmuiga.a" -Wl,--no-whole-archive
+        printf '{ global: talmuiga_*; local: *; };\n' >"$1/exports" &&
+            "${compiler[@]}" -shared -o "$1/libtalmuiga.so.0" -Wl,-soname,libtalmuiga.so.0 \
+                -Wl,--version-script,"$1/exports" -Wl,--whole-archive "$1/libtalmuiga.a" -Wl,--no-whole-archive || return 1
+        rm -f "$1/exports" && ln -sf libtalmuiga.so.0 "$1/libtalmuiga.so"
     fi
+}
+
+# install_from FOLDER PREFIX: what was built in the folder
+install_from() {
+    mkdir -p "$2/include" "$2/lib/pkgconfig" "$2/share/man/man3" &&
+        cp include/talmuiga.h include/talmuiga.hpp "$2/include/" &&
+        cp -P "$1"/libtalmuiga.* "$2/lib/" &&
+        cp docs/talmuiga.3 "$2/share/man/man3/" &&
+        cat >"$2/lib/pkgconfig/talmuiga.pc" <<END
+prefix=$(realpath "$2")
+Name: talmuiga
+Description: Numbers in the form of a locale, in full and in compact form
+Version: $(cat VERSION)
+Cflags: -I\${prefix}/include
+Libs: -L\${prefix}/lib -ltalmuiga
+END
 }
 
 after_ci=
@@ -72,6 +94,10 @@ if [ "${1:-}" = --build ]; then
 fi
 folder=$(mktemp -d)
 trap 'rm -rf "$folder"' EXIT
+if [ "${1:-}" = --install ]; then
+    mkdir -p "$folder/lib" && build "$folder/lib" && install_from "$folder/lib" "$2"
+    exit
+fi
 build "$folder" || { echo 'c_library: no library'; echo '0 passed, 1 failed'; exit 1; }
 
 # c NAME STATUS OUTPUT INPUT WORD..: what the C example writes, behind its status.
@@ -211,6 +237,20 @@ if is_there "${compiler[0]}"; then
     fi
     builds rooms tests/c_library.c "$folder/libtalmuiga.a"
     judge 'C: rooms, refusals and null' 0 "$("$folder/rooms" $sample >&2; echo $?)"
+    judge 'C: what the shared object exports' '' \
+        "$(nm -D --defined-only "$folder/libtalmuiga.so.0" | awk '{print $3}' | grep -v '^talmuiga_')"
+    install_from "$folder" "$folder/prefix"
+    PKG_CONFIG_PATH=$folder/prefix/lib/pkgconfig pkg-config --cflags --libs talmuiga >"$folder/flags"
+    "${compiler[@]}" -std=c11 -O2 examples/c/format_lines.c $(cat "$folder/flags") -o "$folder/installed"
+    judge 'C: as pkg-config says' '1,650' "$(echo 1650 | LD_LIBRARY_PATH=$folder/prefix/lib "$folder/installed" 2>&1)"
+    # README shows what it says
+    {
+        printf '#include "talmuiga.h"\n#include <stdio.h>\nint main(void) {\n{\n'
+        awk '/^```c$/ { shown = 1; next } /^```$/ { if (shown) print "}\n{"; shown = 0 } shown' README.md
+        printf '}\nreturn 0;\n}\n'
+    } >"$folder/readme.c"
+    "${compiler[@]}" -Iinclude "$folder/readme.c" "$folder/libtalmuiga.a" -o "$folder/readme"
+    judge 'C: as README shows' $'1,000,007\n-987,654.321' "$("$folder/readme" 2>&1)"
     builds header tests/c_header.c
     judge 'C: what the header hands on' 0 "$("$folder/header" >&2; echo $?)"
     reads_header c c99 "${compiler[@]}"
@@ -221,36 +261,39 @@ if is_there "${cpp_compiler[0]}"; then
     reads_header c++ c++98 "${cpp_compiler[@]}"
     reads_header c++ c++11 "${cpp_compiler[@]}"
     calls_from_cpp
+    "${cpp_compiler[@]}" -std=c++17 -O1 -g -Wall -Wextra -Werror -pedantic -fsanitize=address,undefined -Iinclude \
+        tests/cpp_kept.cpp "$folder/libtalmuiga.a" -o "$folder/cpp_kept"
+    judge 'C++: formatters that are kept' 0 "$("$folder/cpp_kept" $sample >&2; echo $?)"
 else
     skipped "there is no C++ compiler ${cpp_compiler[0]}"
 fi
 
-# python LIBRARY WORD..: Python with the example and this library.
-python() {
-    TALMUIGA_LIBRARY=$1 PYTHONPATH=examples/python PYTHONDONTWRITEBYTECODE=1 PYTHONUTF8=1 python3 "${@:2}"
+# in_sql WANTED TEXT: what the sqlite3 command answers with the extension.
+in_sql() {
+    judge "SQL: $2" "$1" "$(TALMUIGA_TABLES=$sample sqlite3 -batch -cmd ".load $folder/talmuiga_sqlite" :memory: "$2" 2>&1)"
 }
 
-if ! is_there python3; then
-    skipped 'there is no python3'
+if is_there sqlite3 && [ -e /usr/include/sqlite3ext.h ]; then
+    "${compiler[@]}" -O2 -fPIC -shared -Wall -Wextra -Werror -Iinclude examples/sqlite/talmuiga_sqlite.c \
+        "$folder/libtalmuiga.a" -o "$folder/talmuiga_sqlite.so"
+    judge 'SQL: the extension builds' 0 $?
+    in_sql $'1.6K\n\n1.8M\n2.5' "CREATE TABLE sales(price); INSERT INTO sales VALUES(1650),(NULL),('1750000'),(2.5);
+        SELECT decfmt(price, 'en', 'short') FROM sales"
+    in_sql '১০,০০,০০৭' "SELECT decfmt(1000007, 'bn')"
+    in_sql 'Error: stepping, not a decimal' "SELECT decfmt('x', 'en')"
+    in_sql 'Error: stepping, no data' "SELECT decfmt(5, 'xx')"
+    in_sql 'Error: stepping, words refused' "SELECT decfmt(5, 'en', 'tall')"
 else
-    # What a Python without ctypes says, and one without the library, in the last line.
-    judge 'Python: without ctypes' \
-        'ImportError: talmuiga calls its library by the module ctypes, which this Python was built without' \
-        "$(python "$folder/none" -c 'import sys; sys.modules["ctypes"] = None; import talmuiga' 2>&1 | tail -n 1)"
-    if ! python3 -c 'import ctypes' 2>/dev/null; then
-        skipped 'this Python has no ctypes'
-    else
-        judge 'Python: without the library' "ImportError: talmuiga has no library at $folder/none: \`tests/c_library.sh" \
-            "$(python "$folder/none" -c 'import talmuiga' 2>&1 | tail -n 1 | cut -d ' ' -f 1-8)"
-        if [ -e "$folder/libtalmuiga.so" ]; then
-            python "$folder/libtalmuiga.so" tests/c_library.py >"$folder/said" 2>&1
-            cat "$folder/said"
-            judge 'Python: the example' 0 "$(grep -c '^FAILED' "$folder/said")"
-            judge 'Python: all cases' 'all cases ran' "$(tail -n 1 "$folder/said")"
-        else
-            skipped 'there is no shared object without a C compiler'
-        fi
-    fi
+    skipped 'there is no sqlite3, or no sqlite3ext.h'
+fi
+
+# The Python package, in a wheel that holds the archive.
+said=$(tests/python_wheel.sh "$folder/libtalmuiga.a" 2>&1)
+if [[ $said == skipped:* ]]; then
+    skipped "${said#skipped: python_wheel: }"
+else
+    printf '%s\n' "$said" | grep '^FAILED'
+    judge 'Python: the wheel and its tests' '0 failed' "$(printf '%s\n' "$said" | tail -n 1 | cut -d ' ' -f 3-)"
 fi
 echo "$passed passed, $failed failed"
 [ "$failed" -eq 0 ]

@@ -1,18 +1,21 @@
 #!/bin/bash
 # Formats a column of partitioned CSV files on a cluster of Dask: a scheduler and three workers on the loopback, one of which
 # is killed while it works. The output has to be whole, and equal to that of one process. It installs nothing: where Dask
-# (Debian's python3-dask and python3-distributed) or the library for C isn't there, it says so. It isn't part of the gate.
-# usage: tests/dask.sh [LIBRARY], by default lib/libtalmuiga.so as tests/c_library.sh --build lib makes it
+# (Debian's python3-dask and python3-distributed) or the Python package's wheel isn't there, it says so. It isn't part of the
+# gate.
+# usage: tests/dask.sh [WHEEL], by default the one in lib/ as tests/python_wheel.sh --build lib makes it
 set -u
 cd "$(dirname "$0")/.." || exit 1
-library=$(realpath -m "${1:-lib/libtalmuiga.so}")
+wheels=(lib/talmuiga-*.whl)
+wheel=${1:-${wheels[0]}}
 python=${PYTHON:-/usr/bin/python3}
 # skip WHY
 skip() { printf 'skipped: dask: %s\n0 passed, 0 failed\n' "$1"; exit 0; }
 "$python" -c 'import dask, distributed' 2>/dev/null || skip "no Dask for $python"
-[ -e "$library" ] || skip "no $library"
-export TALMUIGA_LIBRARY=$library PYTHONPATH=$PWD/examples/python:$PWD/examples/dask
+[ -e "$wheel" ] || skip "no $wheel"
 folder=$(mktemp -d)
+"$python" -m zipfile -e "$wheel" "$folder/package"
+export PYTHONPATH=$folder/package:$PWD/examples/dask
 began=()
 finish() {
     kill -9 "${began[@]}" 2>/dev/null

@@ -27,11 +27,11 @@ SPELLED = re.compile(r"[+-]?[0-9]*\.?[0-9]+", re.ASCII)
 
 @functools.lru_cache(maxsize=None)
 def formatter_of(tables, locale, style):
-    """The tables of a worker's process, which are read when they are first asked for."""
-    from talmuiga import Tables
+    """The formatter of a worker's process, which is made when it is first asked for."""
+    from talmuiga import Formatter
 
     with open(tables, "rb") as file:
-        return Tables(file.read(), locale, style=style)
+        return Formatter(file.read(), locale, style=style)
 
 
 def in_blocks(rows):
@@ -48,7 +48,7 @@ def in_blocks(rows):
 def format_rows(formatter, place, rows):
     """Puts the text of each row's number in its place, in one call."""
     numbers = [row for row in rows if SPELLED.fullmatch(row[place])]
-    for row, text in zip(numbers, formatter.format([row[place] for row in numbers])):
+    for row, text in zip(numbers, formatter.format_many([row[place] for row in numbers])):
         row[place] = text
     return rows
 

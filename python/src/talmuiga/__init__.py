@@ -1,0 +1,161 @@
+"""Numbers in the form of a locale, in full and in compact form.
+
+    >>> import talmuiga
+    >>> talmuiga.Formatter.english().format(1000007)
+    '1,000,007'
+
+A `Formatter` reads its tables once, when it is made, and threads may share it.
+"""
+from __future__ import annotations
+
+from decimal import MAX_EMAX, MAX_PREC, MIN_EMIN, ROUND_HALF_EVEN, Context, Decimal, InvalidOperation
+from typing import Iterable, List, Optional, Union
+
+from . import _library
+
+__all__ = ["Formatter", "NoData", "NotFormatted", "Number", "Refused", "TablesRefused", "WordsRefused"]
+__version__ = "0.1.0"
+
+#: What is formatted: a whole number, a decimal, a text that spells one, or a float by its shortest text.
+Number = Union[int, Decimal, str, float]
+
+#: Statuses of the library for C.
+OUT_OF_MEMORY, WORDS_REFUSED, TABLES_REFUSED, NO_DATA = 1, 2, 3, 4
+
+#: Why a number isn't formatted, by its status.
+REASONS = {6: "not a decimal", 7: "too many digits", 8: "overflow"}
+
+#: Decimals as long as they are.
+EXACT = Context(prec=MAX_PREC, Emax=MAX_EMAX, Emin=MIN_EMIN, rounding=ROUND_HALF_EVEN)
+
+
+class Refused(ValueError):
+    """There is no such formatter."""
+
+
+class WordsRefused(Refused):
+    """The locale, the system, the style or the grouping isn't such a word."""
+
+
+class TablesRefused(Refused):
+    """The tables aren't UTF-8, or their text is refused."""
+
+
+class NoData(Refused):
+    """The tables don't say what a formatter of the locale needs."""
+
+
+class NotFormatted(ValueError):
+    """A number isn't formatted: its place among the numbers, its text, and why."""
+
+    def __init__(self, index: int, text: str, reason: str):
+        super().__init__(f"number {index} isn't formatted: {reason}: {text!r}")
+        self.index = index
+        self.text = text
+        self.reason = reason
+
+
+def text_of(number: Number) -> str:
+    """The text of a number: of a float the shortest that is read as it, without an exponent."""
+    if isinstance(number, str):
+        return number
+    if isinstance(number, float):
+        number = Decimal(repr(number))
+    if isinstance(number, Decimal):
+        return format(number, "f")
+    return str(int(number))
+
+
+def rounded(text: str, fraction: int) -> str:
+    """The text of a decimal with so many digits of fraction, half to even; another text is as it was."""
+    try:
+        return format(Decimal(text).quantize(Decimal((0, (1,), -fraction)), context=EXACT), "f")
+    except InvalidOperation:
+        return text
+
+
+def refusal(status: int, words: List[str]) -> Exception:
+    """The exception of a formatter that isn't opened."""
+    if status == WORDS_REFUSED:
+        return WordsRefused(f"no such locale, system, style or grouping: {' '.join(filter(None, words))}")
+    if status == TABLES_REFUSED:
+        return TablesRefused("the tables aren't UTF-8, or their text is refused")
+    if status == NO_DATA:
+        return NoData(f"the tables don't say what a formatter of {words[0]} needs")
+    return MemoryError("the library had no memory for a formatter")
+
+
+def not_formatted(index: int, text: str, status: int) -> Exception:
+    """The exception of a number that isn't formatted."""
+    if status == OUT_OF_MEMORY:
+        return MemoryError("the library had no memory for a number")
+    return NotFormatted(index, text, REASONS[status])
+
+
+class Formatter:
+    """Formats numbers by tables (docs/FORMATS.md), in a locale.
+
+    `system` is the numbering system that is preferred, `style` is plain, short or long, and `grouping` auto, never,
+    always or min2; without it the style decides. `fraction` rounds each number half to even to so many digits behind the
+    point. What can't be is refused here, by `WordsRefused`, `TablesRefused` or `NoData`, and want of memory is a
+    `MemoryError`.
+    """
+
+    def __init__(
+        self,
+        tables: bytes,
+        locale: str,
+        *,
+        system: Optional[str] = None,
+        style: str = "plain",
+        grouping: Optional[str] = None,
+        fraction: Optional[int] = None,
+    ):
+        words = [locale, system or "-", style, grouping or ""]
+        try:
+            opened = _library.open(bytes(tables), *words)
+        except ValueError:  # a NUL, or half of a pair
+            raise refusal(WORDS_REFUSED, words) from None
+        if isinstance(opened, int):
+            raise refusal(opened, words)
+        self._opened, self._fraction = opened, fraction
+
+    @classmethod
+    def english(cls, *, fraction: Optional[int] = None) -> "Formatter":
+        """A formatter in plain English, as 1,234.5, without tables."""
+        opened = _library.open_english()
+        if isinstance(opened, int):
+            raise refusal(opened, ["en"])
+        formatter = cls.__new__(cls)
+        formatter._opened, formatter._fraction = opened, fraction
+        return formatter
+
+    def _text(self, number: Number) -> str:
+        text = number if type(number) is str else text_of(number)
+        return text if self._fraction is None else rounded(text, self._fraction)
+
+    def format(self, number: Number) -> str:
+        """The text of one number; `NotFormatted` where it has none."""
+        shown = _library.one(self._opened, self._text(number))
+        if type(shown) is int:
+            raise not_formatted(0, self._text(number), shown)
+        return shown
+
+    def format_many(self, numbers: Iterable[Number], *, mark: Optional[str] = None) -> List[str]:
+        """The texts of numbers, in their order, by one call of the library.
+
+        Where one isn't formatted `NotFormatted` says which; with `mark` that text stands in its place, and the rest is
+        formatted.
+        """
+        if self._fraction is None:
+            texts = [number if type(number) is str else text_of(number) for number in numbers]
+        else:
+            texts = [self._text(number) for number in numbers]
+        answers = _library.many(self._opened, texts)
+        if int in set(map(type, answers)):
+            for index, answer in enumerate(answers):
+                if type(answer) is int:
+                    if mark is None or answer == OUT_OF_MEMORY:
+                        raise not_formatted(index, texts[index], answer)
+                    answers[index] = mark
+        return answers

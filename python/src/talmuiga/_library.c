@@ -1,0 +1,98 @@
+/* The library for C as a module of Python: formatters are capsules, a status is a whole number, a text is a str. */
+#define PY_SSIZE_T_CLEAN
+#define Py_LIMITED_API 0x030A0000
+#include <Python.h>
+
+#include "talmuiga.h"
+
+static const char NAME[] = "talmuiga formatter";
+
+enum { ROOM = 512 };
+
+static void close_capsule(PyObject *capsule) {
+    talmuiga_formatter_close((talmuiga_formatter *)PyCapsule_GetPointer(capsule, NAME));
+}
+
+/* A capsule of an open formatter, or the status. */
+static PyObject *opened(uint32_t status, talmuiga_formatter *formatter) {
+    if (status) return PyLong_FromUnsignedLong(status);
+    PyObject *capsule = PyCapsule_New(formatter, NAME, close_capsule);
+    if (!capsule) talmuiga_formatter_close(formatter);
+    return capsule;
+}
+
+static PyObject *open_by_tables(PyObject *Py_UNUSED(module), PyObject *words) {
+    const char *tables, *locale, *system, *style, *grouping;
+    Py_ssize_t len;
+    talmuiga_formatter *formatter;
+    if (!PyArg_ParseTuple(words, "y#ssss", &tables, &len, &locale, &system, &style, &grouping)) return NULL;
+    uint32_t status = talmuiga_formatter_open(tables, (size_t)len, locale, system, style, grouping, &formatter);
+    return opened(status, formatter);
+}
+
+static PyObject *open_english(PyObject *Py_UNUSED(module), PyObject *Py_UNUSED(none)) {
+    talmuiga_formatter *formatter;
+    uint32_t status = talmuiga_formatter_open_english(&formatter);
+    return opened(status, formatter);
+}
+
+/* The text that a number is formatted to, or the status where it isn't. A text with half of a pair is no decimal. */
+static PyObject *shown(const talmuiga_formatter *formatter, PyObject *number) {
+    char room[ROOM], *output = room;
+    Py_ssize_t len;
+    size_t length;
+    const char *text = PyUnicode_AsUTF8AndSize(number, &len);
+    if (!text) {
+        if (!PyErr_ExceptionMatches(PyExc_UnicodeEncodeError)) return NULL;
+        PyErr_Clear();
+        return PyLong_FromLong(TALMUIGA_NOT_DECIMAL);
+    }
+    uint32_t status = talmuiga_formatter_one(formatter, text, (size_t)len, output, ROOM, &length);
+    if (status == TALMUIGA_OUTPUT_TOO_SMALL) {
+        output = (char *)PyMem_Malloc(length);
+        if (!output) return PyErr_NoMemory();
+        status = talmuiga_formatter_one(formatter, text, (size_t)len, output, length, &length);
+    }
+    PyObject *answer =
+        status ? PyLong_FromUnsignedLong(status) : PyUnicode_DecodeUTF8(output, (Py_ssize_t)length, NULL);
+    if (output != room) PyMem_Free(output);
+    return answer;
+}
+
+static PyObject *one(PyObject *Py_UNUSED(module), PyObject *words) {
+    PyObject *capsule, *number;
+    if (!PyArg_ParseTuple(words, "OU", &capsule, &number)) return NULL;
+    const talmuiga_formatter *formatter = (const talmuiga_formatter *)PyCapsule_GetPointer(capsule, NAME);
+    return formatter ? shown(formatter, number) : NULL;
+}
+
+/* A list of what `one` answers to each text of a list. */
+static PyObject *many(PyObject *Py_UNUSED(module), PyObject *words) {
+    PyObject *capsule, *numbers;
+    if (!PyArg_ParseTuple(words, "OO!", &capsule, &PyList_Type, &numbers)) return NULL;
+    const talmuiga_formatter *formatter = (const talmuiga_formatter *)PyCapsule_GetPointer(capsule, NAME);
+    if (!formatter) return NULL;
+    Py_ssize_t count = PyList_Size(numbers);
+    PyObject *answers = PyList_New(count);
+    for (Py_ssize_t i = 0; answers && i < count; i++) {
+        PyObject *number = PyList_GetItem(numbers, i);
+        PyObject *answer = number ? shown(formatter, number) : NULL;
+        if (!answer || PyList_SetItem(answers, i, answer)) Py_CLEAR(answers);
+    }
+    return answers;
+}
+
+static PyMethodDef methods[] = {
+    {"open", open_by_tables, METH_VARARGS, "A formatter by tables and words, or a status."},
+    {"open_english", open_english, METH_NOARGS, "A formatter in plain English, or a status."},
+    {"one", one, METH_VARARGS, "What a text is formatted to, or a status."},
+    {"many", many, METH_VARARGS, "A list of what the texts of a list are formatted to, or of statuses."},
+    {NULL, NULL, 0, NULL},
+};
+
+static struct PyModuleDef module = {
+    PyModuleDef_HEAD_INIT, "talmuiga._library", "The library for C.", 0, methods, NULL, NULL, NULL, NULL};
+
+PyMODINIT_FUNC PyInit__library(void) {
+    return PyModule_Create(&module);
+}

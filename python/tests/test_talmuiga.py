@@ -1,0 +1,83 @@
+"""Cases of the Python package, by the tables of the first word. The last line says how many there were."""
+import json
+import sys
+import threading
+from decimal import Decimal
+
+import talmuiga
+from talmuiga import Formatter, NoData, NotFormatted, TablesRefused, WordsRefused
+
+SAMPLE = open(sys.argv[1], "rb").read()
+ENGLISH = Formatter.english()
+CASES = FAILED = 0
+
+
+def judge(name, wanted, call):
+    """Compares what a call answers, or its exception, with what is wanted."""
+    global CASES, FAILED
+    CASES += 1
+    try:
+        given = call()
+    except Exception as error:
+        given = type(error)
+        if isinstance(error, NotFormatted):
+            given = (given, error.index, error.text, error.reason)
+    if given != wanted:
+        FAILED += 1
+        print(f"FAILED {name}: wanted {wanted!r}, given {given!r}")
+
+
+def tables(**texts):
+    """English tables with other texts: a separator of groups, a short pattern of thousands."""
+    symbols = {"locale": "en", "minus": ["-", ""], "plus": ["+", ""], "decimal": ".", "group": ",", "numsys": "latn",
+               "sizes": [3, 3, 1]}
+    symbols.update(group=texts.get("group", ","))
+    return json.dumps({
+        "symbols": [symbols],
+        "digits": [["latn", "0123456789"]],
+        "rules": [{"locale": "en", "rules": []}],
+        "short": [{"locale": "en", "patterns": [[3, 3, {"other": texts.get("short", "{0}K")}]]}],
+    }).encode()
+
+
+for number, text in [
+    (1000007, "1,000,007"), ("-987654.321", "-987,654.321"), (Decimal("1E+6"), "1,000,000"), (Decimal("1.50"), "1.50"),
+    (0.1, "0.1"), (1e22, "10,000,000,000,000,000,000,000"), (1e-7, "0.0000001"), (True, "1"), ("+5", "+5"),
+    ("9" * 30000, "9" * 3 + ",999" * 9999), (10**40, "10" + ",000" * 13),
+]:
+    judge(f"English of {str(number)[:20]}", text, lambda: ENGLISH.format(number))
+for text, reason in [("1e3", "not a decimal"), ("", "not a decimal"), ("5\n", "not a decimal"), ("5\r", "not a decimal"),
+                     ("\ud800", "not a decimal"), ("5\0", "not a decimal"), ("9" * 70000, "too many digits")]:
+    judge(f"refused {text[:5]!r}", (NotFormatted, 0, text, reason), lambda: ENGLISH.format(text))
+judge("infinity", (NotFormatted, 0, "Infinity", "not a decimal"), lambda: ENGLISH.format(float("inf")))
+judge("another type", TypeError, lambda: ENGLISH.format(None))
+judge("no number", [], lambda: ENGLISH.format_many([]))
+judge("many", ["5", "1,000", "0.5"], lambda: ENGLISH.format_many(iter(["5", 1000, 0.5])))
+judge("the first that isn't", (NotFormatted, 1, "x", "not a decimal"), lambda: ENGLISH.format_many(["5", "x", "y"]))
+judge("marked", ["5", "?", "6", "?"], lambda: ENGLISH.format_many(["5", "x", "6", "7\n8"], mark="?"))
+judge("short", ["1.6K", "1M"], lambda: Formatter(SAMPLE, "en", style="short").format_many(["1650", 1000000]))
+judge("overflow", (NotFormatted, 0, "9" * 32768, "overflow"), lambda: Formatter(SAMPLE, "en", style="short").format("9" * 32768))
+judge("a system", "1234567", lambda: Formatter(SAMPLE, "ar-EG", system="latn", grouping="never").format(1234567))
+judge("Bengali", "১০,০০,০০৭", lambda: Formatter(SAMPLE, "bn").format(1000007))
+judge("a line feed between groups", ["1\n000", "5"], lambda: Formatter(tables(group="\n"), "en").format_many([1000, 5]))
+judge("a text as an error line", ["error: overflow"],
+      lambda: Formatter(tables(short="error: overflow"), "en", style="short").format_many([1000]))
+judge("half to even", ["2.34", "2.36", "1,000.00", "-0.00"],
+      lambda: Formatter.english(fraction=2).format_many(["2.345", 2.355, 1000, "-0.001"]))
+judge("another locale", NoData, lambda: Formatter(SAMPLE, "xx"))
+judge("another style", WordsRefused, lambda: Formatter(SAMPLE, "en", style="tall"))
+judge("a NUL in a word", WordsRefused, lambda: Formatter(SAMPLE, "en\0"))
+judge("half of a pair in a word", WordsRefused, lambda: Formatter(SAMPLE, "\ud800"))
+judge("no tables", TablesRefused, lambda: Formatter(b"{", "en"))
+judge("exceptions of values", True, lambda: issubclass(NoData, ValueError) and issubclass(NotFormatted, ValueError))
+judge("the version", "0.1.0", lambda: talmuiga.__version__)
+
+WANTED = [f"{n:,}" for n in range(20000)]
+GIVEN = []
+THREADS = [threading.Thread(target=lambda: GIVEN.append(ENGLISH.format_many(range(20000)))) for _ in range(8)]
+for thread in THREADS:
+    thread.start()
+for thread in THREADS:
+    thread.join()
+judge("eight threads", [WANTED] * 8, lambda: GIVEN)
+print(f"{CASES - FAILED} passed, {FAILED} failed")
