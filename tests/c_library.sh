@@ -70,6 +70,18 @@ build() {
     fi
 }
 
+# refused: the statuses of tests/c_refused.c, each once, where every allocation but that of its file finds no memory in turn.
+refused() {
+    local number calls
+    CALLS=$folder/calls LD_PRELOAD=$folder/refuse.so "$folder/c_refused" $sample
+    calls=$(cat "$folder/calls")
+    for ((number = 2; number <= calls; number++)); do
+        rm -f "$folder/mark"
+        REFUSED=$number MARK=$folder/mark LD_PRELOAD=$folder/refuse.so "$folder/c_refused" $sample
+        echo "$? $([ -e "$folder/mark" ] && echo refused)"
+    done | sort -u
+}
+
 # install_from FOLDER PREFIX: what was built in the folder
 install_from() {
     mkdir -p "$2/include" "$2/lib/pkgconfig" "$2/share/man/man3" &&
@@ -243,6 +255,9 @@ if is_there "${compiler[0]}"; then
     PKG_CONFIG_PATH=$folder/prefix/lib/pkgconfig pkg-config --cflags --libs talmuiga >"$folder/flags"
     "${compiler[@]}" -std=c11 -O2 examples/c/format_lines.c $(cat "$folder/flags") -o "$folder/installed"
     judge 'C: as pkg-config says' '1,650' "$(echo 1650 | LD_LIBRARY_PATH=$folder/prefix/lib "$folder/installed" 2>&1)"
+    builds c_refused tests/c_refused.c "$folder/libtalmuiga.a"
+    "${compiler[@]}" -O2 -shared -fPIC -o "$folder/refuse.so" tests/refuse_nth.c -ldl
+    judge 'C: a refused allocation at each place' '0 refused' "$(refused)"
     # README shows what it says
     {
         printf '#include "talmuiga.h"\n#include <stdio.h>\nint main(void) {\n{\n'

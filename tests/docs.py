@@ -9,7 +9,8 @@ usage: tests/docs.py [--write]
   files say: both pages are made from them. --write makes them anew.
 - Each block of Rust code of README.md and of the pages of icu_provider and tour stands so in a source of the crates; the
   example at the head of each library stands in the program crates/examples.
-- The version of include/talmuiga.h is that of VERSION, and CHANGELOG.md begins with it.
+- The version of include/talmuiga.h, of the Python package and of docs/talmuiga.3 is that of VERSION, and CHANGELOG.md begins
+  with it.
 - The pictures of docs/pictures are what tools/pictures.py draws, and the numbers around 999,500 are shown as one of them says.
 - README.md names the packages of tests/packages.txt, and the logic of the toolchain as `rt version` prints it.
 - docs/decfmt.1, as `man` shows it, has the words, the statuses with their texts, the error lines and the examples of
@@ -320,10 +321,20 @@ def judge_examples():
 
 
 def judge_version():
-    """The header and the newest entry of the changes have the version of the file VERSION."""
+    """The header, the Python package, the manual page and the newest entry of the changes have the version of VERSION."""
     version = read("VERSION").strip()
     told = re.findall(r'^#define TALMUIGA_VERSION "(.*)"$', read("include/talmuiga.h"), flags=re.M)
     judge(told == [version], f"include/talmuiga.h: isn't of version {version}:", str(told))
+    numbers = dict(re.findall(r"^#define TALMUIGA_VERSION_(MAJOR|MINOR|PATCH) (\d+)$", read("include/talmuiga.h"), flags=re.M))
+    told = ".".join(numbers.get(part, "?") for part in ("MAJOR", "MINOR", "PATCH"))
+    judge(told == version, f"include/talmuiga.h: its numbers aren't of version {version}:", told)
+    for path, form in (
+        ("python/pyproject.toml", r'^version = "(.*)"$'),
+        ("python/src/talmuiga/__init__.py", r'^__version__ = "(.*)"$'),
+        ("docs/talmuiga.3", r'^\.TH TALMUIGA 3 \S+ "talmuiga (.*?)"'),
+    ):
+        told = re.findall(form, read(path), flags=re.M)
+        judge(told == [version], f"{path}: isn't of version {version}:", str(told))
     newest = re.search(r"^## (\S+)", read("CHANGELOG.md"), flags=re.M)
     judge(newest and newest[1] == version, f"CHANGELOG.md: doesn't begin with {version}")
 

@@ -89,23 +89,33 @@ fn told(
     }
 }
 
-/// The same for a locale and a system or none, of these tables.
-fn answer_once(
+/// The same for a locale and a system or none.
+pub(crate) fn told_for(
     alloc: Global,
-    text: &str,
+    tables: &Tables,
     asked: Asked,
     (locale, system): (&str, &str),
 ) -> Result<char, DataError> {
-    let Ok(tables) = Tables::from_json(alloc, text) else {
-        return Err(DataErrorKind::OutOfMemory.into());
-    };
     let locale = DataLocale::try_from_str(locale).unwrap_or_default();
     let id = if system.is_empty() {
         DataIdentifierBorrowed::for_locale(&locale)
     } else {
         DataIdentifierBorrowed::for_marker_attributes_and_locale(system, &locale)
     };
-    told(alloc, &tables, asked, &DataRequest { id, silent: false })
+    told(alloc, tables, asked, &DataRequest { id, silent: false })
+}
+
+/// The same of the tables of a text.
+fn answer_once(
+    alloc: Global,
+    text: &str,
+    asked: Asked,
+    id: (&str, &str),
+) -> Result<char, DataError> {
+    match Tables::from_json(alloc, text) {
+        Ok(tables) => told_for(alloc, &tables, asked, id),
+        Err(_) => Err(DataErrorKind::OutOfMemory.into()),
+    }
 }
 
 /// The same, asked once more where memory was wanting.

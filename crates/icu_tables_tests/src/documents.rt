@@ -30,7 +30,7 @@ const NESTED: &str = "[[[[[[[[[[[[[[[[[[[[[[[[[[[[[[[[[[[[[[[[[[[[[[[[[[\
 ]]]]]]]]]]]]]]]]]]]]]]]]]]]]]]]]]]]]]]]]]]]]]]]]]]\
 ]]]]]]]]]]]]]]]]]]]]]]]]]]]]]]]]]]]]]]]]]]]]]]]]]]";
 
-const REFUSED: [(&str, TableError); 26] = [
+pub(crate) const REFUSED: [(&str, TableError); 26] = [
     ("{\"symbols\":[]", TableError::NotJson),
     ("", TableError::NotJson),
     (NESTED, TableError::NotJson),

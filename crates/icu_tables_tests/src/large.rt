@@ -2,6 +2,7 @@
 
 use crate::answers::{Asked, answer};
 use crate::documents::{entries, refusal};
+use crate::for_locale;
 use icu_tables::{EntryFault, Key, TableError};
 use std::alloc::{AllocError, Global};
 use std::str;
@@ -209,6 +210,24 @@ const LAST: [(Asked, (&str, &str), char); 5] = [
     (Asked::Short, ("L49", ""), 'K'),
     (Asked::Long, ("L49", ""), 'T'),
 ];
+
+/// The same of the tables that are read for the locale alone.
+fn answers_alone(alloc: Global, asked: Asked, id: (&str, &str), want: char) -> bool {
+    match lists(alloc, &EVERY_KEY, 50) {
+        Ok(bytes) => {
+            let text = str::from_utf8(&bytes).unwrap_or_default();
+            for_locale::answer(alloc, text, asked, id) == Ok(want)
+        }
+        Err(_) => false,
+    }
+}
+
+#[test]
+fn the_last_of_fifty_locales_answers_alone(rt: HostRuntime) {
+    for &(asked, id, want) in &LAST {
+        assert!(rt; answers_alone(rt.alloc(), asked, id, want), "{asked:?}");
+    }
+}
 
 #[test]
 fn the_last_of_fifty_locales_answers(rt: HostRuntime) {

@@ -6,6 +6,8 @@ mod answers;
 #[cfg(test)]
 mod documents;
 #[cfg(test)]
+mod for_locale;
+#[cfg(test)]
 mod large;
 #[cfg(test)]
 mod styles;

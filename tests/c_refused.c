@@ -1,0 +1,38 @@
+/* A formatter that is kept, where one allocation finds no memory (tests/refuse_nth.c, loaded before): by the tables of the
+ * first word it is opened, formats lines and one number, and is closed. What was refused is asked once more, and then all is
+ * as ever; where it was refused nothing else is told. The tables lie in memory of their own, which isn't refused. */
+#include "talmuiga.h"
+
+#include <stdio.h>
+
+static char tables[1 << 20], output[256];
+
+int main(int count, char **words) {
+    FILE *file = count > 1 ? fopen(words[1], "rb") : NULL;
+    if (!file) return 2;
+    setvbuf(file, NULL, _IONBF, 0);
+    size_t len = fread(tables, 1, sizeof tables, file), length;
+    talmuiga_formatter *formatter;
+    talmuiga_reached reached;
+    uint32_t status = talmuiga_formatter_open(tables, len, "en", "-", "short", NULL, &formatter);
+    if (status == TALMUIGA_OUT_OF_MEMORY && !formatter) {
+        status = talmuiga_formatter_open(tables, len, "en", "-", "short", NULL, &formatter);
+    }
+    if (status) return 3;
+    static const char lines[] = "1650\n1750000\nx\n", answers[] = "1.6K\n1.8M\nerror: not a decimal\n";
+    status = talmuiga_formatter_format(formatter, lines, sizeof lines - 1, output, sizeof output, &reached);
+    if (status == TALMUIGA_OUT_OF_MEMORY) {
+        size_t begin = reached.consumed, at = reached.written;
+        status = talmuiga_formatter_format(formatter, lines + begin, sizeof lines - 1 - begin, output + at, sizeof output - at,
+                                           &reached);
+        reached.written += at;
+    }
+    if (status || reached.written != sizeof answers - 1 || memcmp(output, answers, reached.written)) return 4;
+    status = talmuiga_formatter_one(formatter, "-2500000", 8, output, sizeof output, &length);
+    if (status == TALMUIGA_OUT_OF_MEMORY && length == 0) {
+        status = talmuiga_formatter_one(formatter, "-2500000", 8, output, sizeof output, &length);
+    }
+    if (status || length != 5 || memcmp(output, "-2.5M", 5)) return 5;
+    talmuiga_formatter_close(formatter);
+    return 0;
+}
