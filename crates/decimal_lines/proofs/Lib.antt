@@ -13,3 +13,4 @@ pub mod Apart
 pub mod OneText
 pub mod Consumed
 pub mod Judged
+pub mod OneLocale

@@ -134,7 +134,7 @@ fn mode_of(alloc: Global, words: &Words<'_>, text: &str) -> Result<Mode, StartEr
     ensures mode { Starts result (mode_of words.now text.now) }
     ensures table { IfOk result (λ mode. HasTable mode) }
 {
-    match Tables::from_json(alloc, text) {
+    match Tables::from_json_for_locale(alloc, text, &words.locale) {
         Ok(tables) => mode_by(alloc, &tables, words),
         Err(TableError::OutOfMemory) => Err(StartError::OutOfMemory),
         Err(_) => Err(StartError::Tables),

@@ -1,5 +1,6 @@
 //! Patterns and symbols that are long.
 
+use crate::flat::is_flat;
 use crate::making::{is_text, patterns_of};
 use fixed_decimal::Sign;
 use icu_dimension_data::AffixTexts;
@@ -43,6 +44,30 @@ fn writes(alloc: Global, pattern: &str, currency: &str, want: &str) -> bool {
     }
 }
 
+/// Whether what a symbol and a plus put around a number is this text, all of it before the number.
+fn stands_before(alloc: Global, currency: &str, want: &str) -> bool {
+    let texts = AffixTexts {
+        minus_sign: "-",
+        plus_sign: "+",
+        percent_sign: "%",
+        currency,
+    };
+    match patterns_of(alloc, "¤#0", &texts) {
+        Some(patterns) => is_flat(alloc, &patterns.for_sign(Sign::Positive), want.len(), want),
+        None => false,
+    }
+}
+
+fn flattens_a_long_symbol(alloc: Global) -> bool {
+    match long_text(alloc, "", "") {
+        Ok(symbol) => match long_text(alloc, "+", "\u{a0}") {
+            Ok(want) => stands_before(alloc, &symbol, &want),
+            Err(_) => false,
+        },
+        Err(_) => false,
+    }
+}
+
 fn writes_a_long_literal(alloc: Global) -> bool {
     match long_text(alloc, "¤#0'1", "'") {
         Ok(pattern) => match long_text(alloc, "+$121", "") {
@@ -67,4 +92,5 @@ fn writes_a_long_symbol(alloc: Global) -> bool {
 fn long_patterns_and_symbols_are_written(rt: HostRuntime) {
     assert!(rt; writes_a_long_literal(rt.alloc()));
     assert!(rt; writes_a_long_symbol(rt.alloc()));
+    assert!(rt; flattens_a_long_symbol(rt.alloc()));
 }

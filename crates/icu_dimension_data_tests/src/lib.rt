@@ -2,9 +2,13 @@
 #![tactic(auto)]
 
 #[cfg(test)]
+mod copies;
+#[cfg(test)]
 mod currencies;
 #[cfg(test)]
 mod faults;
+#[cfg(test)]
+mod flat;
 #[cfg(test)]
 mod large;
 #[cfg(test)]

@@ -39,7 +39,8 @@ fn write_text(
         .write_to_parts(sink)
 }
 
-/// Whether a text in a pattern leaves this text with these spans in a sink; asked once more where a growth was refused.
+/// Whether a text in a pattern leaves this text with these spans in a sink; asked once more where a growth was
+/// refused.
 fn writes_parts(
     alloc: Global,
     patterns: &SignedPatterns,

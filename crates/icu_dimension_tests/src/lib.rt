@@ -6,6 +6,8 @@ mod instances;
 #[cfg(test)]
 mod large;
 #[cfg(test)]
+mod loaded;
+#[cfg(test)]
 mod making;
 #[cfg(test)]
 mod money;
@@ -14,7 +16,15 @@ mod names;
 #[cfg(test)]
 mod percents;
 #[cfg(test)]
+mod refusing;
+#[cfg(test)]
+mod rows;
+#[cfg(test)]
+mod shelf;
+#[cfg(test)]
 mod sinks;
+#[cfg(test)]
+mod stocking;
 #[cfg(test)]
 mod units;
 #[cfg(test)]

@@ -46,8 +46,8 @@ pub(crate) const BASQUE: Numbers = Numbers {
     minus: "\u{2212}",
 };
 
-/// The plain formatter of a language.
-pub(crate) fn plain(alloc: Global, numbers: Numbers) -> Option<DecimalFormatter> {
+/// The symbols of a language.
+pub(crate) fn symbols(alloc: Global, numbers: Numbers) -> Option<DecimalSymbols> {
     let builder = DecimalSymbolStrsBuilder {
         minus_sign_prefix: numbers.minus,
         minus_sign_suffix: "",
@@ -58,19 +58,27 @@ pub(crate) fn plain(alloc: Global, numbers: Numbers) -> Option<DecimalFormatter>
         numsys: "latn",
     };
     match builder.build(alloc) {
-        Ok(strings) => Some(DecimalFormatter::from_parts(
-            DecimalSymbols {
-                strings,
-                grouping_sizes: GroupingSizes {
-                    primary: 3,
-                    secondary: 3,
-                    min_grouping: 1,
-                },
+        Ok(strings) => Some(DecimalSymbols {
+            strings,
+            grouping_sizes: GroupingSizes {
+                primary: 3,
+                secondary: 3,
+                min_grouping: 1,
             },
+        }),
+        Err(_) => None,
+    }
+}
+
+/// The plain formatter of a language.
+pub(crate) fn plain(alloc: Global, numbers: Numbers) -> Option<DecimalFormatter> {
+    match symbols(alloc, numbers) {
+        Some(symbols) => Some(DecimalFormatter::from_parts(
+            symbols,
             ASCII_DIGITS,
             DecimalFormatterOptions::default(),
         )),
-        Err(_) => None,
+        None => None,
     }
 }
 

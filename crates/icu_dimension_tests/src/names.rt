@@ -9,9 +9,12 @@ use icu_dimension::parts::CURRENCY;
 use icu_dimension::{LongCurrencyFormatter, NamePattern, NameTexts};
 use std::alloc::Global;
 
-const ENGLISH_RULES: [(PluralCategory, &str); 1] = [(PluralCategory::One, "i = 1 and v = 0")];
+pub(crate) const ENGLISH_RULES: [(PluralCategory, &str); 1] = [(
+    PluralCategory::One,
+    "i = 1 and v = 0",
+)];
 
-const FRENCH_RULES: [(PluralCategory, &str); 1] = [(PluralCategory::One, "i = 0,1")];
+pub(crate) const FRENCH_RULES: [(PluralCategory, &str); 1] = [(PluralCategory::One, "i = 0,1")];
 
 /// A currency in a language.
 #[derive(Clone, Copy)]
@@ -39,7 +42,7 @@ fn rules_of(currency: Currency) -> &'static [(PluralCategory, &'static str)] {
 }
 
 /// The number, a text and the name.
-const fn behind(between: &'static str, name: &'static str) -> NameTexts<'static> {
+pub(crate) fn behind(between: &'static str, name: &'static str) -> NameTexts<'static> {
     NameTexts {
         number_first: true,
         before: "",

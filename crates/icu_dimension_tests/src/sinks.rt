@@ -61,8 +61,8 @@ fn ends_so(alloc: Global, kind: Kind, limit: usize, text: &str, all: usize) -> b
     }
 }
 
-/// The texts after so many events: a part is opened, its characters follow, and it is closed. An affix of a sign that is
-/// empty has a part too, in the formatter's own numbers.
+/// The texts after so many events: a part is opened, its characters follow, and it is closed. An affix of a sign that
+/// is empty has a part too, in the formatter's own numbers.
 const BEGINNINGS: [(Kind, &[&str]); 4] = [
     (
         Kind::Money,

@@ -79,7 +79,8 @@ impl<F: AbstractFormatter> NumberWriter for LongCurrencyFormatter<F> {
     }
 }
 
-/// What a call answers, and the text and the parts that its sink then holds; no parts are given where they aren't asked for.
+/// What a call answers, and the text and the parts that its sink then holds; no parts are given where they aren't
+/// asked for.
 pub(crate) type Wanted<'a> = (
     Result<(), FormatError>,
     &'a str,
