@@ -25,20 +25,16 @@ import subprocess
 import sys
 import tempfile
 
+import layout
+
 ROOT = os.path.dirname(os.path.dirname(os.path.abspath(__file__)))
 LOCK = os.path.join(ROOT, "edits.lock")
 PARTS = ("src", "specs", "proofs")
 INNER, OUTER, CONTROLS = "must-fail", "edits", "edits/controls"
-# The head of a function's body, which `rt fmt` ends by a brace below the beginning of this line.
-BODY = re.compile(r'( *)(\{|(pub(\([a-z]+\))? )?(const )?(unsafe )?(extern "C" )?fn .*\{|\) ?(-> .*)?\{)')
 # What the prover says of a place, of a written answer that names what the edit took away, and of a goal that is open.
 PLACE = re.compile(r"(note: )?\S+:\d+:\d+:")
 MISSING_NAME = re.compile(r"(\./)?proofs/.*(has no field|is not in scope|has no `|was not admitted)")
 UNREAD = re.compile(r"(\./)?(src|specs)/\S+:\d+:\d+: error(\[\S+\])?: (?!`)")
-# An import of a definition or a proof, and the words of a file: texts and characters whole.
-IMPORT = re.compile(r"use ([\w.]+)\.\{([^}]*)\}")
-WORD = re.compile(r"""\"(?:\\.|[^"\\])*"|'(?:\\.|[^'\\])'|[()\[\]{},;]|[^\s()\[\]{},;"]+|\"""")
-CLOSING = (")", "]", "}")
 OPEN_GOAL = re.compile(r"note: (?:\./)?src/(\S+)\.rt:\d+:\d+: it is not proved that .*?\(`([^`]+)`\)")
 
 
@@ -142,39 +138,6 @@ def words_of_check(crate, kit):
 
 # Hashes
 
-def said_in(path):
-    """The lines of a file; of a source, a definition or a proof without those of comments."""
-    comment = {".rt": "//", ".antt": "--"}.get(os.path.splitext(path)[1])
-    return [line for line in read(os.path.join(ROOT, path)).splitlines() if not comment or not line.lstrip(" ").startswith(comment)]
-
-
-def words_of(lines):
-    """The words of lines, whatever their layout: without what a broken list has more than one in a line."""
-    words = WORD.findall(" ".join(map(str.strip, lines)))
-    return " ".join(it for it, after in zip(words, [*words[1:], ""]) if not (it in (",", ";") and after in CLOSING))
-
-
-def spelled(path):
-    """What a file says, whatever its layout: its words, and of a definition or a proof what it imports."""
-    lines = said_in(path)
-    if not path.endswith(".antt"):
-        return words_of(lines)
-    text = "\n".join(lines)
-    imports = sorted(f"{module}.{item.strip()}" for module, items in IMPORT.findall(text) for item in items.split(","))
-    return " ".join(imports + [words_of(IMPORT.sub("", text).splitlines())])
-
-
-def contracts(lines):
-    """The lines of a source without the bodies of functions."""
-    end = None
-    for line in lines:
-        if end is not None and line != end:
-            continue
-        head = BODY.fullmatch(line) if end is None else None
-        end = head[1] + "}" if head else None
-        yield line
-
-
 def files_of(*folders):
     """The files below some folders of the repository, in the order of their paths, without the controls."""
     found = [path for folder in folders for path in glob.glob(f"{folder}/**", root_dir=ROOT, recursive=True)]
@@ -184,7 +147,7 @@ def files_of(*folders):
 def add(into, paths):
     """Adds files to a hash, each by its path and what it says."""
     for path in paths:
-        into.update(f"{path}\n{spelled(path)}\n".encode())
+        into.update(f"{path}\n{layout.spelled(os.path.join(ROOT, path))}\n".encode())
 
 
 def add_contracts(into, crate):
@@ -192,7 +155,7 @@ def add_contracts(into, crate):
     for name in sorted(below(crate)):
         add(into, files_of(f"crates/{name}/specs"))
         for path in files_of(f"crates/{name}/src"):
-            into.update(f"{words_of(contracts(said_in(path)))}\n".encode())
+            into.update(f"{layout.contracts(os.path.join(ROOT, path))}\n".encode())
 
 
 def hash_of(crate, circle, logic):
@@ -361,11 +324,11 @@ def read_lock():
     return dict(line.split() for line in lines)
 
 
-def write_lock(known, path=None, value=None):
-    """Writes the lines of the folders that there are, and that of one which was just tried."""
-    locked = {it: line for it, line in read_lock().items() if it in known} | ({path: value} if path else {})
+def write_lock(hashes, seen=()):
+    """Writes the lines that are of today, and those of the circles that were just seen."""
+    before = read_lock()
     with open(LOCK, "w", encoding="utf-8") as file:
-        file.writelines(f"{it} {locked[it]}\n" for it in sorted(locked))
+        file.writelines(f"{it} {hashes[it]}\n" for it in sorted(hashes) if it in seen or before.get(it) == hashes[it])
 
 
 def try_all(circles, kit, logic):
@@ -403,13 +366,14 @@ def main(words):
         failed += 1
     tried = [it for it in hashes if ("/".join(it) in asked or it[0] in asked if asked else it not in current)]
     tried.sort(key=lambda it: -len(edits_of(*it)))
+    today = {"/".join(it): value for it, value in hashes.items()}
     if not is_gate:
-        write_lock(paths)
+        write_lock(today)
     for crate, circle, right, wrong in try_all(tried, os.path.dirname(said_by("rt", "doc")), logic):
         passed, failed = passed + right, failed + wrong
         if wrong == 0 and not is_gate:
             # at once, so that what an interrupted run has seen stays
-            write_lock(paths, f"{crate}/{circle}", hashes[crate, circle])
+            write_lock(today, [f"{crate}/{circle}"])
     print(f"{passed} passed, {failed} failed")
     return 1 if failed else 0
 

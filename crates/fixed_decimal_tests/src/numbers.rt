@@ -53,7 +53,7 @@ const MAGNITUDES: [(&str, i16, bool); 5] = [
 
 #[test]
 fn tells_the_magnitude(rt: HostRuntime) {
-    for &(text, magnitude, is_zero) in &MAGNITUDES {
+    for (text, magnitude, is_zero) in MAGNITUDES {
         assert!(rt; tells(&rt, rt.alloc(), text, magnitude, is_zero), "{text}");
     }
 }
@@ -72,7 +72,7 @@ const TRIMMED: [(&str, &str); 5] = [
 
 #[test]
 fn trims_zeros_below_the_point(rt: HostRuntime) {
-    for &(text, want) in &TRIMMED {
+    for (text, want) in TRIMMED {
         assert!(rt; trims(&rt, rt.alloc(), text, want), "{text}");
     }
 }
@@ -103,7 +103,7 @@ const SHOWN: [(SignDisplay, [Sign; 6]); 5] = [
 
 #[test]
 fn displays_signs(rt: HostRuntime) {
-    for &(display, signs) in &SHOWN {
+    for (display, signs) in SHOWN {
         for (text, sign) in SIGNED.iter().zip(signs) {
             assert!(rt;
                 shown_sign(rt.alloc(), text, display) == Some(sign),
@@ -149,7 +149,7 @@ const COMPARED: [(&str, &str, bool); 6] = [
 
 #[test]
 fn compares_sign_range_and_digits(rt: HostRuntime) {
-    for &(left, right, want) in &COMPARED {
+    for (left, right, want) in COMPARED {
         assert!(rt;
             are_equal(rt.alloc(), left, right) == Some(want),
             "{left} and {right}"

@@ -43,7 +43,7 @@ const ROUNDED: [(&str, i16, &str); 12] = [
 
 #[test]
 fn rounds_half_to_even(rt: HostRuntime) {
-    for &(text, power, want) in &ROUNDED {
+    for (text, power, want) in ROUNDED {
         assert!(rt;
             rounds(&rt, rt.alloc(), text, power, want),
             "{text} at {power}"

@@ -33,7 +33,7 @@ const SCALED: [(&str, i16, &str); 6] = [
 
 #[test]
 fn scales_by_powers_of_ten(rt: HostRuntime) {
-    for &(text, power, want) in &SCALED {
+    for (text, power, want) in SCALED {
         assert!(rt;
             scales(&rt, rt.alloc(), text, power, want),
             "{text} by {power}"

@@ -48,7 +48,7 @@ const SIGNIFICANDS: [(&str, i16, u8, &str); 15] = [
 
 #[test]
 fn rounds_to_significands(rt: HostRuntime) {
-    for &row in &SIGNIFICANDS {
+    for row in SIGNIFICANDS {
         assert!(rt;
             gives(&rt, rt.alloc(), &row),
             "{} at {} over {}",

@@ -33,7 +33,7 @@ const ERRORS: [(DecimalError, &str); 3] = [
 
 #[test]
 fn displays_errors_under_every_style(rt: HostRuntime) {
-    for &(error, want) in &ERRORS {
+    for (error, want) in ERRORS {
         assert!(rt; is_styled(rt.alloc(), &error, want), "{want}");
     }
 }

@@ -29,7 +29,7 @@ const TEXTS: [(&str, Sign, &str); 14] = [
 
 #[test]
 fn reads_each_written_digit(rt: HostRuntime) {
-    for &(text, sign, digits) in &TEXTS {
+    for (text, sign, digits) in TEXTS {
         assert!(rt; is_signed(&read(rt.alloc(), text), sign, digits), "{text}");
     }
 }
@@ -44,7 +44,7 @@ fn read_bytes(alloc: Global, text: &[u8]) -> Result<Decimal, DecimalError> {
 
 #[test]
 fn reads_bytes_as_their_text(rt: HostRuntime) {
-    for &(text, sign, digits) in &TEXTS {
+    for (text, sign, digits) in TEXTS {
         assert!(rt;
             is_signed(&read_bytes(rt.alloc(), text.as_bytes()), sign, digits),
             "{text}"
@@ -57,7 +57,7 @@ const NO_TEXTS: [&[u8]; 3] = [b"\xff", b"1\x80", b"1\xef\xbc"];
 
 #[test]
 fn refuses_bytes_that_are_no_text(rt: HostRuntime) {
-    for &text in &NO_TEXTS {
+    for text in NO_TEXTS {
         let refusal = read_bytes(rt.alloc(), text).err();
         assert!(rt; refusal == Some(DecimalError::Syntax), "{text:?}");
     }
@@ -128,7 +128,7 @@ const LONG_TEXTS: [((u8, usize, u8), Option<DecimalError>); 5] = [
 
 #[test]
 fn reads_up_to_the_limits(rt: HostRuntime) {
-    for &(given, want) in &LONG_TEXTS {
+    for (given, want) in LONG_TEXTS {
         assert!(rt; is_judged(rt.alloc(), given, want), "{}", given.1);
     }
 }

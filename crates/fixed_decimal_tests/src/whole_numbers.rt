@@ -49,7 +49,7 @@ const WHOLE: [(u64, &str); 4] = [
 
 #[test]
 fn makes_whole_numbers(rt: HostRuntime) {
-    for &(value, want) in &WHOLE {
+    for (value, want) in WHOLE {
         assert!(rt;
             is_signed(&from_u64(rt.alloc(), value), Sign::None, want),
             "{value}"
@@ -68,7 +68,7 @@ fn is_copied(alloc: Global, value: u64, want: &str) -> bool {
 
 #[test]
 fn makes_and_copies_unsigned_whole_numbers(rt: HostRuntime) {
-    for &(value, want) in &WHOLE {
+    for (value, want) in WHOLE {
         assert!(rt; is_copied(rt.alloc(), value, want), "{value}");
     }
 }
@@ -82,7 +82,7 @@ const SIGNED_WHOLE: [(i64, Sign, &str); 4] = [
 
 #[test]
 fn makes_signed_whole_numbers(rt: HostRuntime) {
-    for &(value, sign, want) in &SIGNED_WHOLE {
+    for (value, sign, want) in SIGNED_WHOLE {
         assert!(rt;
             is_signed(&from_i64(rt.alloc(), value), sign, want),
             "{value}"

@@ -37,7 +37,7 @@ const PATTERNS: [(PatternError, &str); 2] = [
 
 #[test]
 fn displays_errors_of_patterns_under_every_style(rt: HostRuntime) {
-    for &(error, want) in &PATTERNS {
+    for (error, want) in PATTERNS {
         assert!(rt; is_styled(rt.alloc(), &error, want), "{want}");
     }
 }
@@ -52,7 +52,7 @@ const RULES: [(RulesError, &str); 2] = [
 
 #[test]
 fn displays_errors_of_rules_under_every_style(rt: HostRuntime) {
-    for &(error, want) in &RULES {
+    for (error, want) in RULES {
         assert!(rt; is_styled(rt.alloc(), &error, want), "{want}");
     }
 }
@@ -70,7 +70,7 @@ const KINDS: [(DataErrorKind, &str); 5] = [
 
 #[test]
 fn displays_kinds_of_errors_under_every_style(rt: HostRuntime) {
-    for &(error, want) in &KINDS {
+    for (error, want) in KINDS {
         assert!(rt; is_styled(rt.alloc(), &error, want), "{want}");
     }
 }
@@ -94,7 +94,7 @@ fn is_error_styled(alloc: Global, context: &'static str, want: &str) -> bool {
 
 #[test]
 fn displays_errors_with_their_context_under_every_style(rt: HostRuntime) {
-    for &(context, want) in &CONTEXTS {
+    for (context, want) in CONTEXTS {
         assert!(rt; is_error_styled(rt.alloc(), context, want), "{want}");
     }
 }

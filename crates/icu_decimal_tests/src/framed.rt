@@ -96,7 +96,7 @@ const PLAIN: [(&str, Wanted<'static>); 3] = [
 #[test]
 fn a_plain_number_stands_in_its_frame(rt: HostRuntime) {
     let formatter = english(&rt, rt.alloc());
-    for &(text, wanted) in &PLAIN {
+    for (text, wanted) in PLAIN {
         let number = read(&rt, rt.alloc(), text).absolute;
         assert!(rt;
             is_framed(rt.alloc(), &formatter, &number, wanted),
@@ -119,7 +119,7 @@ fn a_compact_number_stands_in_its_frame(rt: HostRuntime) {
         Language::ShortEnglish,
         GroupingStrategy::Min2,
     );
-    for &(text, wanted) in &SHORT {
+    for (text, wanted) in SHORT {
         let number = read(&rt, rt.alloc(), text).absolute;
         assert!(rt;
             is_framed(rt.alloc(), &formatter, &number, wanted),

@@ -37,8 +37,12 @@ fn two_digits(alloc: Global) -> CurrencyDigits {
     CurrencyDigits::new(Vec::new(alloc), two)
 }
 
-/// Tables for the three signs.
-type Tables = [CompactPatterns<SinglePlaceholder>; 3];
+/// Tables for no sign, for minus and for plus.
+type Tables = (
+    CompactPatterns<SinglePlaceholder>,
+    CompactPatterns<SinglePlaceholder>,
+    CompactPatterns<SinglePlaceholder>,
+);
 
 fn tables(alloc: Global, rows: Rows) -> Option<Tables> {
     match patterns(alloc, rows.numbers, rows.millions, rows.short) {
@@ -47,7 +51,7 @@ fn tables(alloc: Global, rows: Rows) -> Option<Tables> {
             millions(alloc, &signed, Sign::Negative),
             millions(alloc, &signed, Sign::Positive),
         ) {
-            (Some(none), Some(minus), Some(plus)) => Some([none, minus, plus]),
+            (Some(none), Some(minus), Some(plus)) => Some((none, minus, plus)),
             _ => None,
         },
         None => None,
@@ -81,7 +85,7 @@ impl Shelf {
                 Some(money),
                 Ok(rules),
                 Some((standard, accounting)),
-                Some([none, minus, plus]),
+                Some((none, minus, plus)),
                 Some(percent),
             ) => Some(Shelf {
                 rows,

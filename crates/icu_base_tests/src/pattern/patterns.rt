@@ -59,7 +59,7 @@ const PLACES: [usize; 11] = [0, 1, 2, 3, 4, 5, 6, 7, 8, 9, usize::MAX];
 
 /// Whether just the edges of the characters are places.
 fn has_edges(alloc: Global, literal: &Literal) -> bool {
-    for &place in &PLACES {
+    for place in PLACES {
         let is_edge = literal.edges.contains(&place);
         if SinglePlaceholder::accepts(Some(place), literal.text) != is_edge
             || !judges::<SinglePlaceholder>(alloc, Some(place), literal.text, is_edge)

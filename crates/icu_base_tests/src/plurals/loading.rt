@@ -101,7 +101,7 @@ const ANSWERED: [(&[(PluralCategory, &str)], &str, PluralCategory); 4] = [
 
 #[test]
 fn answers_the_rules_of_the_provider(rt: HostRuntime) {
-    for &(rules, number, category) in &ANSWERED {
+    for (rules, number, category) in ANSWERED {
         assert!(rt; gives(&rt, rt.alloc(), rules, number, category), "{number}");
     }
 }
