@@ -67,6 +67,14 @@ each() {
 # ratio A B: A by B
 ratio() { awk -v a="$1" -v b="$2" 'BEGIN {printf "%.2f", a / b}'; }
 
+# costs WHAT COMMAND..: a row of what a mixed line of a command takes, beside the first one of the table
+costs() {
+    local instructions
+    instructions=$(each "${@:2}")
+    first=${first:-$instructions}
+    row "$1" "$instructions" "$(ratio "$instructions" "$first")"
+}
+
 # row CELL..: a row of a table
 row() {
     printf '|'

@@ -10,18 +10,11 @@ runs=${1:-11}
 peer icu4c
 program money fixed_decimal icu_base icu_decimal icu_dimension icu_dimension_data || exit 1
 if command -v valgrind >/dev/null; then
-    number=$(each build/money number)
-    # costs WHAT WORD: the row of what a word of the program asks for
-    costs() {
-        local instructions
-        instructions=$(each build/money "$2")
-        row "$1" "$instructions" "$(ratio "$instructions" "$number")"
-    }
     row 'mixed lines' 'instructions a line' 'of the number'
     row --- --- ---
-    row 'plain English' "$number" 1.00
-    costs 'money over plain English' amount
-    costs 'the same, rounded to cents' cents
+    costs 'plain English' build/money number
+    costs 'money over plain English' build/money amount
+    costs 'the same, rounded to cents' build/money cents
     echo
 fi
 

@@ -1,16 +1,7 @@
-# What tests/cldr_tables.sh judges tables with. It sets `tool`, `program` and `folder`; `passed` and `missed` count.
+# What tests/cldr_tables.sh judges tables with. It sets `tool`, `program` and `folder`.
 
-# judge NAME TEST..: the test holds.
-judge() {
-    local name=$1
-    shift
-    if "$@"; then
-        passed=$((passed + 1))
-    else
-        missed=$((missed + 1))
-        echo "cldr_tables: $name"
-    fi
-}
+# shellcheck source=/dev/null
+source "$(dirname "$0")/judging.sh"
 
 # makes NAME WORD..: the tables of these words, with all that is left out, end with status 0, in the files NAME.json and
 # NAME.err.

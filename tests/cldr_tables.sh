@@ -7,7 +7,6 @@ tool=$(dirname "$0")/../tools/cldr_to_tables.py
 release=$(dirname "$0")/cldr
 folder=$(mktemp -d)
 trap 'rm -rf "$folder"' EXIT
-passed=0 missed=0
 
 # shellcheck source=/dev/null
 source "$(dirname "$0")/cldr_judging.sh"
@@ -371,5 +370,5 @@ ends 2 "$release" --which qaa -o "$folder/out"
 ends 1 "$release" -o "$folder/none/tables.json"
 ends 1 "$release" -o /dev/full
 
-echo "$passed passed, $missed failed"
-[ "$missed" = 0 ]
+echo "$passed passed, $failed failed"
+[ "$failed" = 0 ]

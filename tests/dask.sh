@@ -24,19 +24,8 @@ finish() {
 }
 trap finish EXIT
 
-passed=0
-failed=0
-# judge WHAT COMMAND..
-judge() {
-    local what=$1
-    shift
-    if "$@"; then
-        passed=$((passed + 1))
-    else
-        failed=$((failed + 1))
-        echo "dask: $what"
-    fi
-}
+# shellcheck source=/dev/null
+source tests/judging.sh
 
 # Sixty files of 20,000 rows, of which a hundredth has no number.
 "$python" - "$folder" <<'PYTHON'

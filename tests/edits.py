@@ -324,11 +324,10 @@ def read_lock():
     return dict(line.split() for line in lines)
 
 
-def write_lock(hashes, seen=()):
-    """Writes the lines that are of today, and those of the circles that were just seen."""
-    before = read_lock()
+def write_lock(lines):
+    """Writes the hash of each circle."""
     with open(LOCK, "w", encoding="utf-8") as file:
-        file.writelines(f"{it} {hashes[it]}\n" for it in sorted(hashes) if it in seen or before.get(it) == hashes[it])
+        file.writelines(f"{it} {lines[it]}\n" for it in sorted(lines))
 
 
 def try_all(circles, kit, logic):
@@ -366,14 +365,13 @@ def main(words):
         failed += 1
     tried = [it for it in hashes if ("/".join(it) in asked or it[0] in asked if asked else it not in current)]
     tried.sort(key=lambda it: -len(edits_of(*it)))
-    today = {"/".join(it): value for it, value in hashes.items()}
     if not is_gate:
-        write_lock(today)
+        write_lock({path: locked[path] for path in paths if paths[path] in current})
     for crate, circle, right, wrong in try_all(tried, os.path.dirname(said_by("rt", "doc")), logic):
         passed, failed = passed + right, failed + wrong
         if wrong == 0 and not is_gate:
             # at once, so that what an interrupted run has seen stays
-            write_lock(today, [f"{crate}/{circle}"])
+            write_lock(read_lock() | {f"{crate}/{circle}": hashes[crate, circle]})
     print(f"{passed} passed, {failed} failed")
     return 1 if failed else 0
 

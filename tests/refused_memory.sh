@@ -25,7 +25,8 @@ if [ "${1:-}" = -s ]; then
     step=$2
     shift 2
 fi
-passed=0 failed=0
+# shellcheck source=/dev/null
+source tests/judging.sh
 folder=$(mktemp -d)
 trap 'rm -rf "$folder"' EXIT
 read -r -a compiler <<<"${CC:-cc}"
@@ -39,18 +40,6 @@ if ! "${compiler[@]}" -O2 -shared -fPIC -o "$folder/refuse.so" tests/refuse_nth.
     echo '0 passed, 1 failed'
     exit 1
 fi
-
-# judge NAME COMMAND..: counts a case, which holds where the command's status is 0.
-judge() {
-    local name=$1
-    shift
-    if "$@"; then
-        passed=$((passed + 1))
-    else
-        failed=$((failed + 1))
-        echo "refused_memory: $name"
-    fi
-}
 
 # refusing N COMMAND..: the command's status with its N-th allocation refused; the file mark stands where it was, and the file
 # calls has how many there were. The file refused_allocation, where the command runs, has the number, up to the five for

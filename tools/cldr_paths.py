@@ -36,14 +36,19 @@ def symbols_path(system):
     return (step("symbols", {"numberSystem": system}),)
 
 
-def plain_path(system):
-    """The pattern of plain decimals."""
+def number_path(kind, system):
+    """The pattern of a kind of numbers that has neither a length nor a type of its own."""
     return (
-        step("decimalFormats", {"numberSystem": system}),
-        step("decimalFormatLength", {}),
-        step("decimalFormat", {}),
+        step(f"{kind}Formats", {"numberSystem": system}),
+        step(f"{kind}FormatLength", {}),
+        step(f"{kind}Format", {}),
         step("pattern", {}),
     )
+
+
+def plain_path(system):
+    """The pattern of plain decimals."""
+    return number_path("decimal", system)
 
 
 def compact_path(system, style, power, count):
@@ -88,12 +93,7 @@ def currency_path(code):
 
 def percent_path(system):
     """The pattern of percents."""
-    return (
-        step("percentFormats", {"numberSystem": system}),
-        step("percentFormatLength", {}),
-        step("percentFormat", {}),
-        step("pattern", {}),
-    )
+    return number_path("percent", system)
 
 
 def unit_path(width, unit, count):
