@@ -36,7 +36,7 @@ enum {
     TALMUIGA_TABLES_REFUSED = 3,   /* the tables aren't UTF-8, or their text is refused */
     TALMUIGA_NO_DATA = 4,          /* the tables don't say what a formatter of the locale needs */
     TALMUIGA_OUTPUT_TOO_SMALL = 5, /* the output is longer than there is room */
-    TALMUIGA_NOT_DECIMAL = 6,      /* the text of talmuiga_formatter_one isn't a decimal */
+    TALMUIGA_NOT_DECIMAL = 6,      /* the text of one number isn't a decimal */
     TALMUIGA_TOO_MANY_DIGITS = 7,  /* it has a digit at a power of ten past the limits */
     TALMUIGA_OVERFLOW = 8          /* its nearest compact number is ten to the power 32768 or more */
 };
@@ -126,6 +126,24 @@ typedef struct talmuiga_reached {
     size_t needed;   /* with TALMUIGA_OUTPUT_TOO_SMALL how long the next line's answer is, with its line feed; else 0 */
 } talmuiga_reached;
 
+/* The parts of a number's text. */
+enum {
+    TALMUIGA_PART_OTHER = 0, /* one that has no number here; no part has 0 in this version */
+    TALMUIGA_PART_MINUS_SIGN = 1,
+    TALMUIGA_PART_PLUS_SIGN = 2,
+    TALMUIGA_PART_INTEGER = 3, /* with the separators of its groups, each of which is a part too */
+    TALMUIGA_PART_FRACTION = 4,
+    TALMUIGA_PART_GROUP = 5,
+    TALMUIGA_PART_DECIMAL = 6 /* the separator of integer and fraction */
+};
+
+/* Where a part stands. */
+typedef struct talmuiga_span {
+    size_t start;  /* its first byte in the text */
+    size_t end;    /* the byte behind its last one */
+    uint32_t part; /* one of TALMUIGA_PART_MINUS_SIGN and so on */
+} talmuiga_span;
+
 /* How many bytes of room a formatter needs, at an address that 16 divides. */
 size_t talmuiga_formatter_room(void);
 
@@ -150,9 +168,10 @@ uint32_t talmuiga_formatter_open_sized(const uint8_t *tables, size_t tables_len,
  * reached->needed says how long it is: the caller goes on behind what is consumed, with an output that holds it. With
  * TALMUIGA_OUT_OF_MEMORY a line is left. No other status comes.
  *
- * Of this function, of talmuiga_formatter_one_sized and of talmuiga_formatter_close_sized the caller owes that the
- * formatter is open. Formatting writes neither to the formatter nor to its room, so any number of threads may use one at
- * once, each by its own copy of the struct, as the functions further down make it. */
+ * Of this function, of talmuiga_formatter_one_sized, of talmuiga_formatter_parts_sized and of
+ * talmuiga_formatter_close_sized the caller owes that the formatter is open. Formatting writes neither to the formatter nor
+ * to its room, so any number of threads may use one at once, each by its own copy of the struct, as the functions further
+ * down make it. */
 uint32_t talmuiga_formatter_format_sized(talmuiga_formatter *formatter, const uint8_t *input, size_t input_len,
                                          uint8_t *output, size_t output_len, talmuiga_reached *reached);
 
@@ -164,8 +183,32 @@ uint32_t talmuiga_formatter_format_sized(talmuiga_formatter *formatter, const ui
 uint32_t talmuiga_formatter_one_sized(talmuiga_formatter *formatter, const uint8_t *text, size_t text_len,
                                       uint8_t *output, size_t output_len, size_t *length);
 
+/* Formats one number, as talmuiga_formatter_one_sized does, and tells the parts of its text, in the order in which they
+ * begin, and a part before those in it. Empty ones are left out; in a compact number the sign alone is a part.
+ *
+ * With TALMUIGA_DONE the first *length bytes of the output are the text, and the first *count of the spans are its parts.
+ * With TALMUIGA_OUTPUT_TOO_SMALL the output or the spans have no room, and *length and *count say how much is needed; what
+ * has no room is as it was, and the other is written. With each other status, as of talmuiga_formatter_one_sized, both are
+ * as they were, and *length and *count are 0.
+ *
+ * The spans are to the caller what an output is: so many structs, of no more than PTRDIFF_MAX bytes together, which overlap
+ * nothing else of the call. */
+uint32_t talmuiga_formatter_parts_sized(talmuiga_formatter *formatter, const uint8_t *text, size_t text_len,
+                                        uint8_t *output, size_t output_len, size_t *length, talmuiga_span *spans,
+                                        size_t spans_len, size_t *count);
+
 /* Closes a formatter that is open, whose room is then the caller's again. */
 void talmuiga_formatter_close_sized(talmuiga_formatter *formatter);
+
+/* Judges tables, as a formatter that is opened by them does, for any words, and tells in words why they are refused.
+ *
+ * With TALMUIGA_DONE they are accepted. With TALMUIGA_TABLES_REFUSED *length says how long the words are, and the first
+ * *length bytes of the output are the words, as "entry 2 of `rules`: bad locale", or, where they have no room, it is as it
+ * was. With TALMUIGA_OUT_OF_MEMORY nothing is known. In the first and the last case *length is 0 and the output as it was.
+ * The words are for people; another version may have others. The caller owes what it owes of
+ * talmuiga_format_english_sized. */
+uint32_t talmuiga_tables_fault_sized(const uint8_t *tables, size_t tables_len, uint8_t *output, size_t output_len,
+                                     size_t *length);
 
 /* The number of the library's version, as TALMUIGA_VERSION_NUMBER. */
 uint32_t talmuiga_version(void);
@@ -184,6 +227,13 @@ static inline const char *talmuiga_status_text(uint32_t status) {
         case TALMUIGA_OVERFLOW: return "overflow";
         default: return "no such status";
     }
+}
+
+/* talmuiga_tables_fault_sized, where a pointer with length 0 may be null, and the output may be longer than PTRDIFF_MAX. */
+static inline uint32_t talmuiga_tables_fault(const char *tables, size_t tables_len, char *output, size_t output_len,
+                                             size_t *length) {
+    return talmuiga_tables_fault_sized(talmuiga_bytes(tables), tables_len, talmuiga_room(output),
+                                       talmuiga_room_len(output_len), length);
 }
 
 /* A formatter that isn't open, in room of malloc's behind its struct; null where malloc refused. */
@@ -246,6 +296,19 @@ static inline uint32_t talmuiga_formatter_one(const talmuiga_formatter *formatte
     talmuiga_formatter copy = *formatter;
     return talmuiga_formatter_one_sized(&copy, talmuiga_bytes(text), text_len, talmuiga_room(output),
                                         talmuiga_room_len(output_len), length);
+}
+
+/* talmuiga_formatter_parts_sized in the same way: spans with length 0 may be null too, and of any number of them as many are
+ * used as PTRDIFF_MAX bytes hold. */
+static inline uint32_t talmuiga_formatter_parts(const talmuiga_formatter *formatter, const char *text, size_t text_len,
+                                                char *output, size_t output_len, size_t *length, talmuiga_span *spans,
+                                                size_t spans_len, size_t *count) {
+    const size_t most = (size_t)-1 / 2 / sizeof(talmuiga_span);
+    talmuiga_span none = {0, 0, 0};
+    talmuiga_formatter copy = *formatter;
+    return talmuiga_formatter_parts_sized(&copy, talmuiga_bytes(text), text_len, talmuiga_room(output),
+                                          talmuiga_room_len(output_len), length, spans ? spans : &none,
+                                          spans_len < most ? spans_len : most, count);
 }
 
 /* Closes and frees a formatter that was made by talmuiga_formatter_open or talmuiga_formatter_open_english; null is

@@ -9,6 +9,7 @@
 #include <stdexcept>
 #include <string>
 #include <string_view>
+#include <vector>
 
 namespace talmuiga {
 
@@ -20,6 +21,25 @@ public:
 
 private:
     std::uint32_t status_;
+};
+
+/* Why tables are refused, in words for people; nothing where they are accepted. */
+inline std::string tables_fault(std::string_view tables) {
+    std::string fault(128, '\0');
+    for (;;) {
+        const std::size_t room = fault.size();
+        std::size_t length;
+        std::uint32_t status = talmuiga_tables_fault(tables.data(), tables.size(), fault.data(), room, &length);
+        fault.resize(length);
+        if (status == TALMUIGA_OUT_OF_MEMORY) throw std::bad_alloc();
+        if (length <= room) return fault;
+    }
+}
+
+/* The text of a number, and where its parts stand in it, as talmuiga_formatter_parts tells them. */
+struct marked_text {
+    std::string text;
+    std::vector<talmuiga_span> parts;
 };
 
 /* A formatter. Any number of threads may format with one at once. */
@@ -52,6 +72,24 @@ public:
             if (status != TALMUIGA_OUTPUT_TOO_SMALL) {
                 judge(status);
                 return text;
+            }
+        }
+    }
+
+    /* The text of one number and its parts. */
+    marked_text parts(std::string_view number) const {
+        marked_text marked{std::string(number.size() * 4 + 32, '\0'),
+                           std::vector<talmuiga_span>(number.size() / 2 + 8)};
+        for (;;) {
+            std::size_t length, count;
+            std::uint32_t status = talmuiga_formatter_parts(held_.get(), number.data(), number.size(), marked.text.data(),
+                                                            marked.text.size(), &length, marked.parts.data(),
+                                                            marked.parts.size(), &count);
+            marked.text.resize(length);
+            marked.parts.resize(count);
+            if (status != TALMUIGA_OUTPUT_TOO_SMALL) {
+                judge(status);
+                return marked;
             }
         }
     }

@@ -1,6 +1,6 @@
 /* Formatters that are kept, by the tables of the first word, the words behind it, the file of lines behind these and the file
- * of what decfmt answers: in rooms of each length, piece by piece and number by number, in eight threads at once, opened and
- * closed ten thousand times, refused and null. */
+ * of what decfmt answers: in rooms of each length, piece by piece, number by number and with each number's parts, in eight
+ * threads at once, opened and closed ten thousand times, refused and null. */
 #include "talmuiga.h"
 
 #include <malloc.h>
@@ -55,6 +55,29 @@ static bool answers_in(const talmuiga_formatter *formatter, size_t room) {
     }
 }
 
+/* Whether a number that is shown by this text has it with its parts, which stand inside of it and in their order, and whether
+ * a room that is too small by one for the text, or for the parts, stays as it was. */
+static bool has_parts(const talmuiga_formatter *formatter, const char *number, size_t len, const char *want, size_t want_len) {
+    char output[512];
+    talmuiga_span spans[128];
+    size_t length = 7, count = 7, many;
+    uint32_t status = talmuiga_formatter_parts(formatter, number, len, output, sizeof output, &length, spans, 128, &count);
+    if (status || length != want_len || memcmp(output, want, want_len) || count > 128) return false;
+    for (size_t i = 0; i < count; i++) {
+        if (spans[i].start >= spans[i].end || spans[i].end > length || (i && spans[i].start < spans[i - 1].start)) return false;
+        if (spans[i].part < TALMUIGA_PART_MINUS_SIGN || spans[i].part > TALMUIGA_PART_DECIMAL) return false;
+        spans[i].part = 99;
+    }
+    memset(output, 'x', sizeof output);
+    status = talmuiga_formatter_parts(formatter, number, len, output, want_len - 1, &length, spans, 128, &many);
+    if (status != TALMUIGA_OUTPUT_TOO_SMALL || length != want_len || output[0] != 'x' || many != count) return false;
+    if (count == 0) return true;
+    if (spans[0].part == 99) return false;
+    spans[0].part = 99;
+    status = talmuiga_formatter_parts(formatter, number, len, output, want_len, &length, spans, count - 1, &many);
+    return status == TALMUIGA_OUTPUT_TOO_SMALL && many == count && spans[0].part == 99 && memcmp(output, want, want_len) == 0;
+}
+
 /* Whether each line's number, alone, is answered as wanted, or refused where an error line is wanted. */
 static bool numbers_alone(const talmuiga_formatter *formatter) {
     const char *end = lines.bytes + lines.len, *want = wanted.bytes;
@@ -69,11 +92,16 @@ static bool numbers_alone(const talmuiga_formatter *formatter) {
         if (want_len > 7 && memcmp(want, "error: ", 7) == 0) {
             const char *why = talmuiga_status_text(status);
             if (length || output[0] != 'x' || strlen(why) != want_len - 7 || memcmp(why, want + 7, want_len - 7)) return false;
+            talmuiga_span span = {7, 7, 7};
+            size_t count = 7;
+            if (talmuiga_formatter_parts(formatter, line, len, output, 9, &length, &span, 1, &count) != status) return false;
+            if (length || count || output[0] != 'x' || span.start != 7 || span.part != 7) return false;
         } else {
             if (status || length != want_len || memcmp(output, want, want_len) || output[length] != 'x') return false;
             memset(output, 'x', sizeof output);
             status = talmuiga_formatter_one(formatter, line, len, output, want_len - 1, &length);
             if (status != TALMUIGA_OUTPUT_TOO_SMALL || length != want_len || output[0] != 'x') return false;
+            if (!has_parts(formatter, line, len, want, want_len)) return false;
         }
         line = stop + 1;
         want = want_end + 1;

@@ -1,5 +1,5 @@
 /* Rooms of each length for the output of a few lines, in English and by the tables whose file is the first word; rooms that
- * are longer than any memory; words of each kind of length, and null with length 0.
+ * are longer than any memory; words of each kind of length, why tables are refused, and null with length 0.
  *
  * A room stands in front of bytes that nobody may touch, so that a call that reads or writes past it ends the process, and
  * once in front of bytes that have to stay as they were. */
@@ -127,6 +127,26 @@ static void judge_refusal(size_t number, size_t room) {
         tell("a refusal", number, room, status, written);
 }
 
+/* Why tables are refused, in a room of this length: the words are there if they fit, and else nothing is written. */
+static void judge_fault(const char *refused, const char *words, size_t room) {
+    char output[BEHIND];
+    size_t length = (size_t)-1, wanted = strlen(words), fits = wanted <= room ? wanted : 0;
+    for (size_t at = 0; at < sizeof output; at++)
+        output[at] = before(at, room);
+    uint32_t status = talmuiga_tables_fault(refused, strlen(refused), output, room, &length);
+    if (status != TALMUIGA_TABLES_REFUSED || length != wanted || !holds(output, words, fits, sizeof output, room))
+        tell("a fault of tables", 0, room, status, length);
+}
+
+/* Tables that are accepted have no fault. */
+static void judge_no_fault(void) {
+    char output[] = "x";
+    size_t length = 99;
+    uint32_t status = talmuiga_tables_fault(tables, tables_len, output, 1, &length);
+    if (status != TALMUIGA_DONE || length != 0 || output[0] != 'x')
+        tell("a fault of the sample", 0, 1, status, length);
+}
+
 /* Null with length 0 is no line, no tables and no word. */
 static void judge_null(void) {
     size_t written = 99;
@@ -165,6 +185,14 @@ int main(int count, char **words) {
     for (size_t number = 0; number < sizeof refusals / sizeof *refusals; number++)
         for (size_t room = 0; room <= BEHIND; room++)
             judge_refusal(number, room);
+    for (size_t room = 0; room <= BEHIND; room++) {
+        judge_fault("{", "not JSON", room);
+        judge_fault("\xff", "not UTF-8", room);
+        judge_fault("{}", "`symbols` is missing", room);
+        judge_fault("{\"symbols\":[],\"digits\":[],\"rules\":[{\"locale\":\"_\",\"rules\":[]}]}",
+                    "entry 0 of `rules`: bad locale", room);
+    }
+    judge_no_fault();
     judge_null();
     return failed;
 }

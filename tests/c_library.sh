@@ -49,6 +49,8 @@ build_after_ci() {
     done
     (cd crates/talmuiga_c && "$kit/bin/rattle" build --crate-name talmuiga_c src/lib.rt --crate-type staticlib \
         --extern "std=$kit/rlibs/std.rlib" --extern "decimal_lines=$root/crates/decimal_lines/out/rlib/decimal_lines.rlib" \
+        --extern "icu_tables=$root/crates/icu_tables/out/rlib/icu_tables.rlib" \
+        --extern "writeable=$root/crates/writeable/out/rlib/writeable.rlib" \
         -L "dependency=$kit/rlibs" "${words[@]}" --antt-project "$kit/rattle/logic/antt-project.json" \
         --logic-built "$kit/logic_built" --toolchain "$kit/toolchain" --backend llvm -o "$archive")
 }
@@ -249,6 +251,8 @@ if is_there "${compiler[0]}"; then
     fi
     builds rooms tests/c_library.c "$folder/libtalmuiga.a"
     judge 'C: rooms, refusals and null' 0 "$("$folder/rooms" $sample >&2; echo $?)"
+    builds parts tests/c_parts.c "$folder/libtalmuiga.a" -O1 -g -fsanitize=address,undefined
+    judge 'C: parts of a number' 0 "$("$folder/parts" $sample >&2; echo $?)"
     judge 'C: what the shared object exports' '' \
         "$(nm -D --defined-only "$folder/libtalmuiga.so.0" | awk '{print $3}' | grep -v '^talmuiga_')"
     install_from "$folder" "$folder/prefix"

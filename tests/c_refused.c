@@ -1,6 +1,7 @@
 /* A formatter that is kept, where one allocation finds no memory (tests/refuse_nth.c, loaded before): by the tables of the
- * first word it is opened, formats lines and one number, and is closed. What was refused is asked once more, and then all is
- * as ever; where it was refused nothing else is told. The tables lie in memory of their own, which isn't refused. */
+ * first word it is opened, formats lines, one number and its parts, and is closed; then other tables are judged. What was
+ * refused is asked once more, and then all is as ever; where it was refused nothing else is told. The tables lie in memory of
+ * their own, which isn't refused. */
 #include "talmuiga.h"
 
 #include <stdio.h>
@@ -33,6 +34,19 @@ int main(int count, char **words) {
         status = talmuiga_formatter_one(formatter, "-2500000", 8, output, sizeof output, &length);
     }
     if (status || length != 5 || memcmp(output, "-2.5M", 5)) return 5;
+    talmuiga_span sign = {7, 7, 7};
+    size_t parts;
+    status = talmuiga_formatter_parts(formatter, "-2500000", 8, output, sizeof output, &length, &sign, 1, &parts);
+    if (status == TALMUIGA_OUT_OF_MEMORY && length == 0 && parts == 0 && sign.part == 7) {
+        status = talmuiga_formatter_parts(formatter, "-2500000", 8, output, sizeof output, &length, &sign, 1, &parts);
+    }
+    if (status || length != 5 || parts != 1 || sign.end != 1 || sign.part != TALMUIGA_PART_MINUS_SIGN) return 6;
     talmuiga_formatter_close(formatter);
+    memcpy(output, "xx", 2);
+    status = talmuiga_tables_fault("{", 1, output, sizeof output, &length);
+    if (status == TALMUIGA_OUT_OF_MEMORY && length == 0 && output[0] == 'x') {
+        status = talmuiga_tables_fault("{", 1, output, sizeof output, &length);
+    }
+    if (status != TALMUIGA_TABLES_REFUSED || length != 8 || memcmp(output, "not JSON", 8)) return 7;
     return 0;
 }

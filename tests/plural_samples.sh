@@ -18,7 +18,7 @@ copy() {
     grep -E "^$1:" "$here/../crates.txt" >>"$folder/crates.txt"
 }
 
-for crate in icu_provider fixed_decimal plural_conditions icu_plurals; do copy "$crate"; done
+for crate in icu_provider fixed_decimal icu_plurals_conditions icu_plurals; do copy "$crate"; done
 echo 'samples: fixed_decimal icu_plurals' >>"$folder/crates.txt"
 cp "$here/../HANDLES" "$folder"
 mkdir -p "$folder/crates/samples/src"

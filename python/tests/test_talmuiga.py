@@ -22,9 +22,16 @@ def judge(name, wanted, call):
         given = type(error)
         if isinstance(error, NotFormatted):
             given = (given, error.index, error.text, error.reason)
+        elif isinstance(error, TablesRefused):
+            given = (given, str(error))
     if given != wanted:
         FAILED += 1
         print(f"FAILED {name}: wanted {wanted!r}, given {given!r}")
+
+
+def pieces(text, parts):
+    """A text and the texts of its parts."""
+    return text, [text[begin:end] for begin, end, _ in parts]
 
 
 def tables(**texts):
@@ -51,6 +58,15 @@ for text, reason in [("1e3", "not a decimal"), ("", "not a decimal"), ("5\n", "n
     judge(f"refused {text[:5]!r}", (NotFormatted, 0, text, reason), lambda: ENGLISH.format(text))
 judge("infinity", (NotFormatted, 0, "Infinity", "not a decimal"), lambda: ENGLISH.format(float("inf")))
 judge("another type", TypeError, lambda: ENGLISH.format(None))
+judge("parts", ("-1,234.5", [(0, 1, "minusSign"), (1, 6, "integer"), (2, 3, "group"), (6, 7, "decimal"), (7, 8, "fraction")]),
+      lambda: ENGLISH.parts("-1234.5"))
+judge("parts of Bengali", ("-১,২৩৪.৫", ["-", "১,২৩৪", ",", ".", "৫"]),
+      lambda: pieces(*Formatter(SAMPLE, "bn").parts(Decimal("-1234.5"))))
+judge("parts of a compact number", ("-1.6K", [(0, 1, "minusSign")]), lambda: Formatter(SAMPLE, "en", style="short").parts(-1650))
+judge("many parts", ("9" * 3 + ",999" * 999, ["9" * 3 + ",999" * 999] + [","] * 999), lambda: pieces(*ENGLISH.parts("9" * 3000)))
+judge("parts of a rounded number", ("-2.34", ["-", "2", ".", "34"]), lambda: pieces(*Formatter.english(fraction=2).parts("-2.345")))
+for text, reason in [("1e3", "not a decimal"), ("\ud800", "not a decimal"), ("9" * 70000, "too many digits")]:
+    judge(f"parts of refused {text[:5]!r}", (NotFormatted, 0, text, reason), lambda: ENGLISH.parts(text))
 judge("no number", [], lambda: ENGLISH.format_many([]))
 judge("many", ["5", "1,000", "0.5"], lambda: ENGLISH.format_many(iter(["5", 1000, 0.5])))
 judge("the first that isn't", (NotFormatted, 1, "x", "not a decimal"), lambda: ENGLISH.format_many(["5", "x", "y"]))
@@ -68,7 +84,12 @@ judge("another locale", NoData, lambda: Formatter(SAMPLE, "xx"))
 judge("another style", WordsRefused, lambda: Formatter(SAMPLE, "en", style="tall"))
 judge("a NUL in a word", WordsRefused, lambda: Formatter(SAMPLE, "en\0"))
 judge("half of a pair in a word", WordsRefused, lambda: Formatter(SAMPLE, "\ud800"))
-judge("no tables", TablesRefused, lambda: Formatter(b"{", "en"))
+judge("no tables", (TablesRefused, "the tables are refused: not JSON"), lambda: Formatter(b"{", "en"))
+judge("the sample is no fault", None, lambda: talmuiga.tables_fault(SAMPLE))
+judge("tables that are no JSON", "not JSON", lambda: talmuiga.tables_fault(b"{"))
+judge("tables that are no text", "not UTF-8", lambda: talmuiga.tables_fault(b"\xff"))
+judge("an entry that is refused", "entry 0 of `rules`: rule 0 isn't a condition, by its byte 0", lambda: talmuiga.tables_fault(
+    b'{"symbols":[],"digits":[],"rules":[{"locale":"en","rules":[["one","x = 1"]]}]}'))
 judge("exceptions of values", True, lambda: issubclass(NoData, ValueError) and issubclass(NotFormatted, ValueError))
 judge("the version", "0.1.0", lambda: talmuiga.__version__)
 

@@ -13,7 +13,7 @@ const USAGE: &str = "usage: decfmt TABLES LOCALE NU|- plain|short|long [auto|nev
 #[derive(Clone, Copy, Debug)]
 enum Failure {
     Streams,
-    Memory,
+    OutOfMemory,
     Words,
     Tables,
     NoData,
@@ -21,14 +21,14 @@ enum Failure {
 
 impl Failure {
     ghost use Rattle.std.specs.Prelude.{◌≡◌};
-    ghost use Rattle.decfmt.specs.Endings.{message_of, status_of};
+    ghost use Rattle.decfmt.specs.Endings.{exit_status_of, message_of};
 
     fn message(&self) -> &'static str
         ensures { result.now ≡ message_of self.now }
     {
         match self {
             Failure::Streams => "error: input or output failed",
-            Failure::Memory => "error: out of memory",
+            Failure::OutOfMemory => "error: out of memory",
             Failure::Words => USAGE,
             Failure::Tables => "error: tables refused",
             Failure::NoData => "error: no data",
@@ -36,10 +36,10 @@ impl Failure {
     }
 
     fn status(&self) -> u8
-        ensures { result ≡ status_of self.now }
+        ensures { result ≡ exit_status_of self.now }
     {
         match self {
-            Failure::Streams | Failure::Memory => 1,
+            Failure::Streams | Failure::OutOfMemory => 1,
             Failure::Words => 2,
             Failure::Tables => 3,
             Failure::NoData => 4,
@@ -49,16 +49,16 @@ impl Failure {
 
 impl From<RunError> for Failure {
     ghost use Rattle.std.specs.Prelude.{◌≡◌, ◌≢◌};
-    ghost use Rattle.decimal_lines.specs.declared.running.RunError.TheVariants.{OutOfMemory};
-    ghost use Rattle.decfmt.specs.declared.Failure.TheVariants.{Streams, Memory};
+    ghost use Rattle.decimal_lines.specs.declared.running.RunError.TheVariants.{OutOfMemory as NoMemory};
+    ghost use Rattle.decfmt.specs.declared.Failure.TheVariants.{Streams, OutOfMemory};
 
-    ghost from_gives = { λ error failure. (error ≡ OutOfMemory → failure ≡ Memory)
-        × (error ≢ OutOfMemory → failure ≡ Streams) };
+    ghost from_gives = { λ error failure. (error ≡ NoMemory → failure ≡ OutOfMemory)
+        × (error ≢ NoMemory → failure ≡ Streams) };
 
     fn from(error: RunError) -> Failure {
         match error {
             RunError::Read | RunError::Write => Failure::Streams,
-            RunError::OutOfMemory => Failure::Memory,
+            RunError::OutOfMemory => Failure::OutOfMemory,
         }
     }
 }
@@ -73,37 +73,37 @@ impl From<StartError> for Failure {
         match error {
             StartError::Tables => Failure::Tables,
             StartError::NoData => Failure::NoData,
-            StartError::OutOfMemory => Failure::Memory,
+            StartError::OutOfMemory => Failure::OutOfMemory,
         }
     }
 }
 
 impl From<AllocError> for Failure {
     ghost use Rattle.std.specs.Prelude.{◌≡◌};
-    ghost use Rattle.decfmt.specs.declared.Failure.TheVariants.{Memory};
+    ghost use Rattle.decfmt.specs.declared.Failure.TheVariants.{OutOfMemory};
 
-    ghost from_gives = { λ _ failure. failure ≡ Memory };
+    ghost from_gives = { λ _ failure. failure ≡ OutOfMemory };
 
     fn from(_error: AllocError) -> Failure {
-        Failure::Memory
+        Failure::OutOfMemory
     }
 }
 
 impl<T: Drop> From<AllocFailed<T>> for Failure {
     ghost use Rattle.std.specs.Prelude.{◌≡◌};
-    ghost use Rattle.decfmt.specs.declared.Failure.TheVariants.{Memory};
+    ghost use Rattle.decfmt.specs.declared.Failure.TheVariants.{OutOfMemory};
 
-    ghost from_gives = { λ _ failure. failure ≡ Memory };
+    ghost from_gives = { λ _ failure. failure ≡ OutOfMemory };
 
     fn from(_error: AllocFailed<T>) -> Failure {
-        Failure::Memory
+        Failure::OutOfMemory
     }
 }
 
 /// Want of memory, or another failure.
 fn unless_memory(error: &io::Error, failure: Failure) -> Failure {
     match error.kind() {
-        ErrorKind::OutOfMemory => Failure::Memory,
+        ErrorKind::OutOfMemory => Failure::OutOfMemory,
         _ => failure,
     }
 }

@@ -1,4 +1,7 @@
 -- The answer to a text, by what the text reads as.
+-- The relation `IsAnswer` says what a text reads as, and `answer_to` computes it with `reading`; fixed_decimal's Readings tie the two. So
+-- each lemma is a case of what is read: no decimal, one within the limits, one past them. Limits are tested by a Boolean, carried to and
+-- from the relation by `is_within-limits` and `limits-is_within`. What a mode shows of a decimal comes from Displaying.
 use Rattle.std.proofs.Common.{
   ◌≡◌,
   ℕ,
@@ -35,16 +38,18 @@ use Rattle.fixed_decimal.specs.Unsigned.{IsWithinLimits}
 use Rattle.decimal_lines.specs.declared.mode.Mode.{Mode}
 use Rattle.decimal_lines.specs.declared.mode.Mode.TheVariants.{Plain, Compact}
 use Rattle.fixed_decimal.specs.Reading.{reading}
-use Rattle.decimal_lines.specs.Answers.{HasTable, IsShown, IsAnswer, is_within_limits, shown_by, answer_for, answer_to}
+use Rattle.decimal_lines.specs.LineAnswers.{HasTable, IsShown, IsAnswer, is_within_limits, shown_by, answer_for, answer_to}
 use Rattle.decimal_lines.proofs.Displaying.{compact-is, compact-only}
 use Rattle.fixed_decimal.proofs.Readings.{reading-reads, reading-spells, reading-nothing, nothing-reading, reads_nothing}
 
+-- a number within the limits passes the test
 pub is_within-limits : (d : Unsigned) → IsWithinLimits d → is_within_limits d ≡ true
 is_within-limits d w =
     let high : nat_le (length d.digits) (d.scale + 32768) ≡ true = grind (arith, nat_tests, w.high_limit) in
     let low : nat_le d.scale 32768 ≡ true = grind (arith, nat_tests, w.low_limit) in
     rw (high, low) refl
 
+-- and one that passes it is within them
 pub limits-is_within : (d : Unsigned) → is_within_limits d ≡ true → IsWithinLimits d
 limits-is_within d e = go (nat_le (length d.digits) (d.scale + 32768)) (nat_le d.scale 32768) refl refl e
   where
@@ -75,15 +80,18 @@ shown_by-is : (mode : Mode) → HasTable mode → (s : Sign) (d : Unsigned) → 
 shown_by-is (Plain format) has s d is = refl
 shown_by-is (Compact format) has s d is = compact-is format s d is has
 
+-- and nothing else
 shown_by-only : (mode : Mode) (s : Sign) (d : Unsigned) (answer : List ℕ) → IsShown mode s d answer → answer ≡ shown_by mode s d
 shown_by-only (Plain format) s d answer shows = shows
 shown_by-only (Compact format) s d answer shows = compact-only format s d answer shows
 
 module _ (mode : Mode) (text : List ℕ) where
+  -- the answer is that to what is read
   by_reading : (o : Option (Sign × Unsigned)) → reading text ≡ o → answer_to mode text ≡ answer_for mode o
   unfolding answer_to
   by_reading o e = ap (answer_for mode) e
 
+  -- the answer to a decimal within the limits
   pub answer_to-within : (s : Sign) (d : Unsigned) → Reads text s d → IsWithinLimits d → answer_to mode text ≡ shown_by mode s d
   answer_to-within s d r w = by_reading (Some (s, d)) (reading-reads text s d r) ∙ rw (is_within-limits d w) refl
 
@@ -107,6 +115,7 @@ module _ (mode : Mode) (text : List ℕ) where
       go true e = answer_to-within s d r (limits-is_within d e)
       go false e = absurd (not_past (s, d, r, λ w. absurd (false≢true (sym e ∙ is_within-limits d w))))
 
+  -- bytes that are no text spell no decimal
   pub answer_to-no_text : ¬ (IsUtf8 text) → answer_to mode text ≡ codes "error: not a decimal"
   answer_to-no_text not_text = answer_to-nothing (reads_nothing text not_text)
 
@@ -149,4 +158,5 @@ pub appended : {T E : Type 0} (r : Result T E) (new old more : List ℕ) → new
 appended (Ok v) new old more h = h
 appended (Err e) new old more h = tt
 
+-- the answers that the proof of `push_answer` cites
 pub ruleset answering = (answer_to-nothing, answer_to-past, answer_to-decimal, answer_to-no_text)

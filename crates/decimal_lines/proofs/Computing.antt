@@ -1,4 +1,9 @@
 -- The computed compact number and decimal are what the relations ask for.
+-- That `rounded_units` is nearest is one of four lemmas of fixed_decimal's Nearness: by whether the rest is below half a unit, above it, or just half
+-- behind an even or an odd number of units. What digits weigh is shown by induction on their count, together with the rest below the last
+-- place (`weighed-between`): without the rest the equation is false in the step, where fewer digits no longer hold all of x.
+-- `scale_up_to` goes down from the most digits below power 0 to the first that is needed. That these are enough (`scale-enough`) and that
+-- no fewer are (`scale-least`) are two inductions; the second gives that the last digit isn't 0.
 use Rattle.std.proofs.Common.{
   ◌≡◌,
   ℕ,
@@ -86,11 +91,13 @@ rest_more x p some =
     let parts : x ≡ q / 10 * (10 * p) + (q % 10 * p + x % p) = whole ∙ ap (λ n. n * p + x % p) tens ∙ omega arith in
     sym (ap (λ n. n % (10 * p)) parts ∙ mod-mul-add (q / 10) (10 * p) (q % 10 * p + x % p) below)
 
+-- there are as many digits as are asked for
 pub length-digits_from : (x e n : ℕ) → length (digits_from x e n) ≡ n
 unfolding digits_from
 length-digits_from x e zero = refl
 length-digits_from x e (suc n) = ap suc (length-digits_from x e n)
 
+-- each of them is below ten
 pub digits_from-digits : (x e n : ℕ) → AreDigits (digits_from x e n)
 unfolding digits_from
 digits_from-digits x e zero = All-nil (λ d. d < 10)
@@ -105,6 +112,7 @@ weighed-between x e (suc n) =
     let more : 10 ^ (e + suc n) ≡ 10 * 10 ^ (e + n) = ap (λ k. 10 ^ k) (omega arith) ∙ ten_more (e + n) in
     rw (length-digits_from x e n, more) (omega (arith, weighed-between x e n, rest_more x (10 ^ (e + n)) (ten_pos (e + n))))
 
+-- where they hold all of x, they weigh x
 pub weighed-digits_from : (x e n : ℕ) → x % 10 ^ e ≡ 0 → x < 10 ^ (e + n) → weighed e (digits_from x e n) ≡ x
 weighed-digits_from x e n whole below = omega (arith, weighed-between x e n, mod-eq_of_lt below)
 
@@ -114,6 +122,7 @@ unfolding digits_from
 last-digits_from x e zero = ap (λ k. x / 10 ^ k % 10) (omega arith)
 last-digits_from x e (suc n) = last-digits_from x e n
 
+-- the digits below power 0 are at most as many as are allowed
 scale-le : (x n : ℕ) → scale_up_to x n ≤ n
 unfolding scale_up_to
 scale-le x zero = omega arith
@@ -123,6 +132,7 @@ scale-le x (suc n) = go (x % 10 ^ (finest - n) == 0) (scale-le x n)
     go true h = omega (arith, h)
     go false h = omega arith
 
+-- they are enough
 scale-enough : (x n : ℕ) → x % 10 ^ (finest - n) ≡ 0 → x % 10 ^ (finest - scale_up_to x n) ≡ 0
 unfolding scale_up_to
 scale-enough x zero h = h

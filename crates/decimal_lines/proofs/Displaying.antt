@@ -1,4 +1,9 @@
 -- What is computed of a decimal in compact form is what is displayed of it, and the only such text.
+-- That it is displayed: `nearest_number` is rounded at the size's own magnitude (Computing), so by `nearest_compact_from_rounded` of
+-- icu_decimal it is the nearest compact number. Ten to the entry's exponent divides it and leaves no digit below power -32768 (`exact`), and
+-- the quotient fits in the digits that `displayed_high` counts (`fits`), so Computing's `decimal_of` is its significand. The limits are
+-- needed here alone: past them no decimal holds the quotient. That it is the only such text: nearest compact numbers are unique, the entry
+-- is a function of the size, and a trimmed decimal is determined by its size and its count of integer digits (`trimmed_told` of icu_decimal).
 use Rattle.std.proofs.Common.{
   ◌≡◌,
   ℕ,
@@ -42,14 +47,14 @@ use Rattle.std.proofs.lemmas.Nat.{pow-add}
 use Rattle.std.proofs.Math.Nat.{mul-mod_left, mul-div_cancel, mul-le-mul_left}
 use Rattle.fixed_decimal.specs.declared.signs.Sign.{Sign}
 use Rattle.fixed_decimal.specs.Unsigned.{Unsigned, IsUnsigned, integer_count, high}
-use Rattle.fixed_decimal.specs.Size.{finest, weighed, size, magnitude, magnitude_power, ten_to}
+use Rattle.fixed_decimal.specs.Size.{finest, weighed, size, magnitude_place, magnitude, ten_to}
 use Rattle.fixed_decimal.specs.Trimming.{IsTrimmed}
 use Rattle.fixed_decimal.specs.Nearest.{IsMultiple}
 use Rattle.fixed_decimal.proofs.Weights.{ten_pos, ten_mono, weighed_units}
 use Rattle.fixed_decimal.proofs.Rounds.{finest_large}
-use Rattle.fixed_decimal.proofs.MagnitudePowers.{size_lt}
-use Rattle.fixed_decimal.proofs.MagnitudeLemmas.{magnitude_high, ten_multiple}
-use Rattle.icu_base.specs.Events.{Event, text_of}
+use Rattle.fixed_decimal.proofs.Magnitudes.{size_lt}
+use Rattle.fixed_decimal.proofs.MagnitudePlaces.{magnitude_place_high, ten_multiple}
+use Rattle.writeable.specs.Events.{Event, text_of}
 use Rattle.icu_decimal_data.specs.CompactTable.{TableEntry, IsCompactTable, entry_for, exponent_of, exponent_for}
 use Rattle.icu_decimal.specs.CompactFormat.{CompactFormat, IsCompactFormat}
 use Rattle.icu_decimal.specs.CompactNumber.{rounding_place, rounding_place_for, IsCompactNumber, IsNearestCompact, ShowsPastLimits}
@@ -62,13 +67,16 @@ use Rattle.decimal_lines.specs.Computed.{nearest_number, decimal_of, count_up_to
 use Rattle.decimal_lines.specs.Compact.{IsCompactAnswer, events_by, events_shown, compact_text, compact_answer}
 use Rattle.decimal_lines.proofs.Computing.{rounded-nearest, decimal-unsigned, decimal-size, decimal-count, decimal-trimmed}
 
-number-rounded : (table : List TableEntry) (x : ℕ) → IsRoundedAt (rounding_place_for table (magnitude x)) x (nearest_number table x)
+-- the computed number is the size rounded at the place of its own magnitude
+number-rounded : (table : List TableEntry) (x : ℕ) → IsRoundedAt (rounding_place_for table (magnitude_place x)) x (nearest_number table x)
 unfolding nearest_number
-number-rounded table x = rounded-nearest (10 ^ rounding_place_for table (magnitude x)) x (ten_pos (rounding_place_for table (magnitude x)))
+number-rounded table x = rounded-nearest (10 ^ rounding_place_for table (magnitude_place x)) x (ten_pos (rounding_place_for table (magnitude_place x)))
 
+-- so it is the nearest compact number
 pub number-nearest : (table : List TableEntry) (x : ℕ) → IsNearestCompact table x (nearest_number table x)
 number-nearest table x = nearest_compact_from_rounded table x (nearest_number table x) (number-rounded table x)
 
+-- and the only one
 number-only : (table : List TableEntry) (x y : ℕ) → IsNearestCompact table x y → y ≡ nearest_number table x
 number-only table x y n = nearest_compact_same table x (nearest_number table x) y (number-nearest table x) n
 
@@ -91,6 +99,7 @@ rounded-multiple g p x y h r = elim (cases_lt p g) [
   | inr above ↦ IsMultiple-trans (10 ^ g) (10 ^ p) y (ten_multiple g p (omega arith)) r.allowed
 ]
 
+-- a number is rounded at a place that its exponent reaches
 place_above : (e m : ℕ) → e + finest ≤ m → finest - 32768 + e ≤ rounding_place e m
 unfolding rounding_place
 place_above e m h = go (nat_lt (e + finest) m)
@@ -101,15 +110,15 @@ place_above e m h = go (nat_lt (e + finest) m)
 
 -- a compact number has no such power over the exponent of its entry either
 compact-multiple : (table : List TableEntry) (y : ℕ) → IsCompactTable table → IsCompactNumber table y → IsMultiple (10 ^ (finest - 32768)) y →
-    IsMultiple (10 ^ (finest - 32768 + exponent_for table (magnitude y))) y
-compact-multiple table y t compact h = elim (exponent_le_magnitude table (magnitude y) t) [
+    IsMultiple (10 ^ (finest - 32768 + exponent_for table (magnitude_place y))) y
+compact-multiple table y t compact h = elim (exponent_le_magnitude table (magnitude_place y) t) [
   | inl none ↦
-      let same : finest - 32768 + exponent_for table (magnitude y) ≡ finest - 32768 = omega arith in
+      let same : finest - 32768 + exponent_for table (magnitude_place y) ≡ finest - 32768 = omega arith in
       rw same h
   | inr above ↦
-      IsMultiple-trans (10 ^ (finest - 32768 + exponent_for table (magnitude y))) (10 ^ rounding_place_for table (magnitude y)) y
-      (ten_multiple (finest - 32768 + exponent_for table (magnitude y)) (rounding_place_for table (magnitude y))
-      (place_above (exponent_for table (magnitude y)) (magnitude y) above)) compact
+      IsMultiple-trans (10 ^ (finest - 32768 + exponent_for table (magnitude_place y))) (10 ^ rounding_place_for table (magnitude_place y)) y
+      (ten_multiple (finest - 32768 + exponent_for table (magnitude_place y)) (rounding_place_for table (magnitude_place y))
+      (place_above (exponent_for table (magnitude_place y)) (magnitude_place y) above)) compact
 ]
 
 -- so the exponent leaves a whole number of units
@@ -121,23 +130,26 @@ quotient_of g e y (k, is) =
 
 -- the greatest power that is written of a significand
 high-least : (table : List TableEntry) (d : Unsigned) (y : ℕ) →
-    (pos 0 ≤ℤ displayed_high table d y) × ((magnitude_power y -ℤ pos (exponent_of (displayed_entry table y))) ≤ℤ displayed_high table d y)
+    (pos 0 ≤ℤ displayed_high table d y) × ((magnitude y -ℤ pos (exponent_of (displayed_entry table y))) ≤ℤ displayed_high table d y)
 high-least table d y =
     let e : ℕ = exponent_of (displayed_entry table y) in
     ⊎_elim (λ same. rw same (omega (arith, ints, clamps), omega (arith, ints, clamps)))
     (λ other. rw other (omega (arith, ints, clamps), omega (arith, ints, clamps)))
-    (cases_Bool (are_same_entry (displayed_entry table y) (entry_for table (magnitude (size d)))))
+    (cases_Bool (are_same_entry (displayed_entry table y) (entry_for table (magnitude_place (size d)))))
 
-high-most : (table : List TableEntry) (d : Unsigned) (y : ℕ) → high d ≤ℤ pos 32767 → magnitude_power y ≤ℤ pos 32767 →
+-- it is at most 32767 where those of the decimal and of the displayed size are
+high-most : (table : List TableEntry) (d : Unsigned) (y : ℕ) → high d ≤ℤ pos 32767 → magnitude y ≤ℤ pos 32767 →
     displayed_high table d y ≤ℤ pos 32767
 high-most table d y h m =
     ⊎_elim (λ same. rw same (omega (arith, ints, clamps))) (λ other. rw other (omega (arith, ints, clamps)))
-    (cases_Bool (are_same_entry (displayed_entry table y) (entry_for table (magnitude (size d)))))
+    (cases_Bool (are_same_entry (displayed_entry table y) (entry_for table (magnitude_place (size d)))))
 
+-- the count of the powers from 0 up to one
 count_is : (h : ℤ) → pos 0 ≤ℤ h → pos (count_up_to h) ≡ h +ℤ pos 1
 count_is (pos n) p = omega (arith, ints)
 count_is (negsuc n) p = absurd (omega (arith, ints))
 
+-- so many integer digits go up to the power one below their count
 count-high : (n : ℕ) → 0 < n → count_up_to (pos n -ℤ pos 1) ≡ n
 count-high zero some = absurd (omega arith)
 count-high (suc k) some =
@@ -175,21 +187,24 @@ displayed-told table d y entry s h =
 
 -- within the limits the computed significand is displayed
 module _ (table : List TableEntry) (d : Unsigned) (is : IsUnsigned d) (t : IsCompactTable table) (within : ¬ (ShowsPastLimits table (size d))) where
-  module _ (y : ℕ) (rounded : IsRoundedAt (rounding_place_for table (magnitude (size d))) (size d) y) where
+  module _ (y : ℕ) (rounded : IsRoundedAt (rounding_place_for table (magnitude_place (size d))) (size d) y) where
+    -- ten to the exponent divides the displayed size, and what it leaves has no digit below power -32768
     exact : (y / 10 ^ exponent_of (displayed_entry table y) * 10 ^ exponent_of (displayed_entry table y) ≡ y)
         × (y / 10 ^ exponent_of (displayed_entry table y) % 10 ^ (finest - 32768) ≡ 0)
     exact =
         let near = nearest_compact_from_rounded table (size d) y rounded in
-        let units = rounded-multiple (finest - 32768) (rounding_place_for table (magnitude (size d))) (size d) y (size-multiple d is.low_limit) rounded in
+        let units = rounded-multiple (finest - 32768) (rounding_place_for table (magnitude_place (size d))) (size d) y (size-multiple d is.low_limit) rounded in
         quotient_of (finest - 32768) (exponent_of (displayed_entry table y)) y (compact-multiple table y t near.allowed units)
 
+    -- no power above 32767 is written
     top_most : displayed_high table d y ≤ℤ pos 32767
     top_most =
-        let low = magnitude_within (rounding_place_for table (magnitude (size d))) (size d) y rounded
+        let low = magnitude_within (rounding_place_for table (magnitude_place (size d))) (size d) y rounded
         (λ past. within (past_limits_from_rounded table (size d) past)) in
         high-most table d y (omega (arith, ints, is.high_limit, is.integer_some)) (omega (arith, ints))
 
-    fits : (s e count : ℕ) → s * 10 ^ e ≡ y → magnitude y + 1 ≤ finest + count + e → s < 10 ^ (finest + count)
+    -- a significand fits in digits that reach the displayed size
+    fits : (s e count : ℕ) → s * 10 ^ e ≡ y → magnitude_place y + 1 ≤ finest + count + e → s < 10 ^ (finest + count)
     fits s e count scaled reach = elim (cases_lt s (10 ^ (finest + count))) [
       | inl below ↦ below
       | inr above ↦
@@ -197,9 +212,10 @@ module _ (table : List TableEntry) (d : Unsigned) (is : IsUnsigned d) (t : IsCom
           let joined = pow-add 10 (finest + count) e in
           let large : 10 ^ (finest + count + e) ≤ y = omega arith in
           let some : 0 < y = omega (arith, ten_pos (finest + count + e)) in
-          absurd (omega (arith, magnitude_high y some, ten_mono (magnitude y + 1) (finest + count + e) reach))
+          absurd (omega (arith, magnitude_place_high y some, ten_mono (magnitude_place y + 1) (finest + count + e) reach))
     ]
 
+    -- so the computed significand is displayed
     shown-displayed : IsDisplayed table d y (displayed_entry table y) (significand_shown table d y)
     unfolding significand_shown
     shown-displayed =
@@ -211,7 +227,7 @@ module _ (table : List TableEntry) (d : Unsigned) (is : IsUnsigned d) (t : IsCom
         let counted = count_is (displayed_high table d y) least.0 in
         let some : 0 < count_up_to (displayed_high table d y) = omega (arith, ints, least.0) in
         let few : count_up_to (displayed_high table d y) ≤ 32768 = omega (arith, ints) in
-        let reach : magnitude y + 1 ≤ finest + count_up_to (displayed_high table d y) + exponent_of (displayed_entry table y) =
+        let reach : magnitude_place y + 1 ≤ finest + count_up_to (displayed_high table d y) + exponent_of (displayed_entry table y) =
         omega (arith, ints, least.1) in
         let below = fits s e count exact.0 reach in
         record {
@@ -223,6 +239,7 @@ module _ (table : List TableEntry) (d : Unsigned) (is : IsUnsigned d) (t : IsCom
           high_is = ap (λ n. pos n -ℤ pos 1) (decimal-count count s some few exact.1 below) ∙ omega (arith, ints);
         }
 
+  -- that is what is displayed of the computed number
   pub number-displayed : IsDisplayed table d (nearest_number table (size d)) (displayed_entry table (nearest_number table (size d)))
       (significand_shown table d (nearest_number table (size d)))
   number-displayed = shown-displayed (nearest_number table (size d)) (number-rounded table (size d))
@@ -242,10 +259,12 @@ compact_text-told : (format : CompactFormat) (sign : Sign) (d s : Unsigned) (exp
 unfolding compact_text
 compact_text-told format sign d s exponent events w = ap text_of (events-told format sign d s exponent events w)
 
+-- where the nearest compact number is past the limits, the computed one is
 pub past-number : (table : List TableEntry) (x : ℕ) → ShowsPastLimits table x → ten_to (pos 32768) ≤ nearest_number table x
 past-number table x (y, near, large) = rw (number-only table x y near) at large
 
 module _ (format : CompactFormat) (sign : Sign) (d : Unsigned) where
+  -- the answer where it is within them
   answer-within : ¬ (ShowsPastLimits format.table (size d)) → compact_answer format sign d ≡ compact_text format sign d
   unfolding compact_answer
   answer-within within = go (nat_le (ten_to (pos 32768)) (nearest_number format.table (size d))) refl

@@ -1,4 +1,8 @@
 -- What an output holds after some lines were written into it.
+-- The invariant of the loop is `Fills`: the lines done, and the output filled with the output of these. One line more is `Fills-then`; a line
+-- without room ends in `Fills-full`, want of memory in `Fills-room`, an input without a rest in `Fills-all`. Each step splits on whether the
+-- line ends in a line feed or is the last one without. The bytes done aren't always whole lines, as that last line may be among them, so
+-- `boundary` says that they are or that nothing is left. Outputs are joined by `output_of-append` of Parts, which asks for whole lines.
 use Rattle.std.proofs.Common.{
   ◌≡◌,
   ℕ,
@@ -95,9 +99,11 @@ module _ (answer : List ℕ → List ℕ) where
   }
 
   module _ (input left old new : List ℕ) (n : ℕ) (f : Fills answer input left old new n) where
+    -- the output is as long as before
     pub Fills-length : length new ≡ length old
     Fills-length = filled-length old new (output_of answer f.done) n f.filled
 
+    -- what is filled lies in it
     pub Fills-within : n ≤ length new
     Fills-within = omega (arith, Fills-length, f.filled.within)
 
@@ -108,6 +114,7 @@ module _ (answer : List ℕ → List ℕ) where
         rw e f.filled
 
     module _ (some : 0 < length left) where
+      -- what is done is whole lines, as something is left
       are_whole : AreWholeLines f.done
       are_whole = go f.boundary
         where
@@ -125,6 +132,7 @@ module _ (answer : List ℕ → List ℕ) where
       Fills-room room = record { holds = Fills-stops; is_some = some; room = omega (arith, Fills-length) }
 
       module _ (line rest : List ℕ) (first : IsFirstLine left line rest) where
+        -- the output of the input, at the next line
         outputs : output_of answer input ≡ output_of answer f.done ++ (line_output answer line ++ output_of answer rest)
         outputs = ap (output_of answer) f.parts ∙ output_of-append answer f.done left are_whole
             ∙ ap (λ (k : List ℕ). output_of answer f.done ++ k) (first_output left line rest some first)
@@ -144,6 +152,7 @@ module _ (answer : List ℕ → List ℕ) where
           no_room = omega (arith, Fills-length);
         }
 
+        -- so the whole output is longer than there is room
         pub Fills-longer : length new < n + length (line_output answer line) → length old < length (output_of answer input)
         Fills-longer no_room =
             let all : length (output_of answer input) ≡ length (output_of answer f.done) +

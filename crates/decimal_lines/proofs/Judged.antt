@@ -33,4 +33,5 @@ text_judged-refused (table.WrongKind key) read is = inr (ap text_judged is)
 text_judged-refused (table.Entry key index fault) read is = inr (ap text_judged is)
 text_judged-refused table.OutOfMemory read is = inl refl
 
+-- what the proofs of `judge_text` and `judge_tables` cite
 pub ruleset judged = (tables_judged-text, tables_judged-nothing, text_judged-refused)

@@ -35,6 +35,7 @@ pub AppendsBeginning-then : (a b c : Option (List ℕ)) (x y : List ℕ) → App
 AppendsBeginning-then a b c x y p (front, q, (rest, e)) =
     (x ++ front, Appends-then a b c x front p q, (rest, rw e (sym (append_assoc x front rest))))
 
+-- a beginning of a text is one of each longer text
 pub AppendsBeginning-more : (a b : Option (List ℕ)) (x y : List ℕ) → AppendsBeginning a b x → AppendsBeginning a b (x ++ y)
 AppendsBeginning-more a b x y (front, q, (rest, e)) = (front, q, (rest ++ y, rw e (append_assoc front rest y)))
 

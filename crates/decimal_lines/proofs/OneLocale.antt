@@ -6,8 +6,10 @@ use Rattle.icu_decimal.specs.Loaded.{Provider, and_then, digits_loaded, loaded, 
 use Rattle.icu_decimal.specs.declared.options.CompactDecimalFormatterOptions.{CompactDecimalFormatterOptions}
 use Rattle.icu_decimal.specs.declared.options.DecimalFormatterOptions.{DecimalFormatterOptions}
 use Rattle.icu_decimal_data.specs.declared.decimal_symbols.DecimalSymbols.{DecimalSymbols}
+use Rattle.icu_decimal_data.specs.CompactTable.{TableEntry}
 use Rattle.icu_tables.specs.Answering.{filed_answer, optional_answer, system_answer}
 use Rattle.icu_tables.specs.ForLocale.{AnswersAs, IsFor}
+use Rattle.icu_tables.specs.Named.{NamedEntry}
 use Rattle.icu_tables.specs.Tables.{TablesData, tables_of}
 use Rattle.decimal_lines.specs.Making.{compact_options, long_mode, mode_by, mode_by_tables, mode_of, plain_mode, plain_options, short_mode, started}
 use Rattle.decimal_lines.specs.Words.{WordsData}
@@ -63,29 +65,19 @@ module _ (locale : List ℕ) (system : Option (List ℕ)) (kept all : TablesData
       }) options
   loaded_same options = and_then_both _ _ _ _ symbols_same (λ s. and_then_both _ _ _ _ (digits_same s) (λ d. refl))
 
-  short_loaded : (options : CompactDecimalFormatterOptions)
-      → loaded_compact (filed_answer kept.symbols) (λ id. system_answer kept.digits id.system) (optional_answer kept.rules) (optional_answer kept.short)
+  -- with patterns that answer alike by each identifier of the locale
+  compact_loaded : (one other : Option (List (NamedEntry (List TableEntry))))
+      → ((id : Identifier) → id.locale ≡ locale → optional_answer one id ≡ optional_answer other id) → (options : CompactDecimalFormatterOptions)
+      → loaded_compact (filed_answer kept.symbols) (λ id. system_answer kept.digits id.system) (optional_answer kept.rules) (optional_answer one)
       (record { locale_preferences = locale; numbering_system = system }) options
-      ≡ loaded_compact (filed_answer all.symbols) (λ id. system_answer all.digits id.system) (optional_answer all.rules) (optional_answer all.short)
+      ≡ loaded_compact (filed_answer all.symbols) (λ id. system_answer all.digits id.system) (optional_answer all.rules) (optional_answer other)
       (record { locale_preferences = locale; numbering_system = system }) options
-  short_loaded options = and_then_both _ _ _ _ (loaded_same (record { grouping_strategy = options.grouping_strategy })) (λ f.
+  compact_loaded one other alike options = and_then_both _ _ _ _ (loaded_same (record { grouping_strategy = options.grouping_strategy })) (λ f.
       and_then_both _ _ _ _ (answers.rules _ refl) (λ r.
-      and_then_both _ _ _ _ (preferably_same (optional_answer kept.short) (optional_answer all.short) locale system (record {
+      and_then_both _ _ _ _ (preferably_same (optional_answer one) (optional_answer other) locale system (record {
         system = None;
         locale = locale;
-      }) (λ s. answers.short _ refl) (answers.short _ refl)) (λ t. refl)))
-
-  long_loaded : (options : CompactDecimalFormatterOptions)
-      → loaded_compact (filed_answer kept.symbols) (λ id. system_answer kept.digits id.system) (optional_answer kept.rules) (optional_answer kept.long)
-      (record { locale_preferences = locale; numbering_system = system }) options
-      ≡ loaded_compact (filed_answer all.symbols) (λ id. system_answer all.digits id.system) (optional_answer all.rules) (optional_answer all.long)
-      (record { locale_preferences = locale; numbering_system = system }) options
-  long_loaded options = and_then_both _ _ _ _ (loaded_same (record { grouping_strategy = options.grouping_strategy })) (λ f.
-      and_then_both _ _ _ _ (answers.rules _ refl) (λ r.
-      and_then_both _ _ _ _ (preferably_same (optional_answer kept.long) (optional_answer all.long) locale system (record {
-        system = None;
-        locale = locale;
-      }) (λ s. answers.long _ refl) (answers.long _ refl)) (λ t. refl)))
+      }) (λ s. alike _ refl) (alike _ refl)) (λ t. refl)))
 
 module _ (words : WordsData) (kept all : TablesData) (answers : AnswersAs words.locale kept all) where
   plain_same : plain_mode words kept ≡ plain_mode words all
@@ -94,11 +86,13 @@ module _ (words : WordsData) (kept all : TablesData) (answers : AnswersAs words.
 
   short_same : short_mode words kept ≡ short_mode words all
   unfolding short_mode
-  short_same = ap (started mode.Compact) (short_loaded words.locale words.system kept all answers (compact_options words.grouping))
+  short_same = ap (started mode.Compact) (compact_loaded words.locale words.system kept all answers kept.short all.short answers.short
+      (compact_options words.grouping))
 
   long_same : long_mode words kept ≡ long_mode words all
   unfolding long_mode
-  long_same = ap (started mode.Compact) (long_loaded words.locale words.system kept all answers (compact_options words.grouping))
+  long_same = ap (started mode.Compact) (compact_loaded words.locale words.system kept all answers kept.long all.long answers.long
+      (compact_options words.grouping))
 
   -- the mode of a style
   abbrev by : TablesData → Style → Result Mode StartError

@@ -9,11 +9,11 @@ use Rattle.fixed_decimal.specs.Size.{size, ten_to}
 use Rattle.fixed_decimal.specs.Text.{Reads, ReadsNothing, ReadsPastLimits}
 use Rattle.fixed_decimal.specs.Unsigned.{Unsigned}
 use Rattle.fixed_decimal.proofs.Readings.{reading-reads, reading-nothing}
-use Rattle.icu_base.specs.Events.{Event}
+use Rattle.writeable.specs.Events.{Event}
 use Rattle.icu_decimal.specs.CompactFormat.{CompactFormat, IsCompactFormat}
 use Rattle.icu_decimal.specs.CompactNumber.{ShowsPastLimits}
 use Rattle.decimal_lines.specs.Alone.{compact_events, decimal_read, within_or}
-use Rattle.decimal_lines.specs.Answers.{is_within_limits}
+use Rattle.decimal_lines.specs.LineAnswers.{is_within_limits}
 use Rattle.decimal_lines.specs.Compact.{events_shown}
 use Rattle.decimal_lines.specs.Computed.{nearest_number}
 use Rattle.decimal_lines.specs.declared.alone.TextError.TheVariants.{NotDecimal, TooManyDigits, Overflow}

@@ -1,4 +1,8 @@
 -- The lines of bytes that are taken in parts.
+-- Bytes are taken by `lines_of` from the front, and each is put onto the first line of the rest. So the lines of `w ++ x` are those of w and
+-- those of x only where w is empty or ends in a line feed; without that, w's last line goes on into x. `ended-append` is the induction on
+-- the bytes before that line feed; a byte is put onto a line, so there has to be one (`has_line`). Outputs follow by std's `flat_map-append`.
+-- Lines are cut by `memchr`, whose clauses (`NoneBefore`, `Nowhere`) are turned into bytes without a line feed (`IsPartLine`).
 use Rattle.std.proofs.Common.{
   ◌≡◌,
   ℕ,
@@ -47,6 +51,7 @@ unfolding lines_of
 lines_of-last b [] h = rw h.0 refl
 lines_of-last b (c ∷ bs) h = rw h.0 (ap (onto_first b) (lines_of-last c bs h.1))
 
+-- bytes that end in a line feed have a line
 has_line : (bs : List ℕ) → (l : List ℕ) × (ls : List (List ℕ)) × (lines_of (bs ++ 10 ∷ []) ≡ l ∷ ls)
 unfolding lines_of
 has_line [] = ([], [], refl)
@@ -58,9 +63,11 @@ has_line (b ∷ bs) =
       | false ↦ (b ∷ h.0, h.1, ap (onto_first b) h.2)
     ]
 
+-- a byte put onto the first of some lines leaves those behind them
 onto_first-append : (b : ℕ) (l : List ℕ) (ls ms ks : List (List ℕ)) → ks ≡ l ∷ ls → onto_first b (ks ++ ms) ≡ onto_first b ks ++ ms
 onto_first-append b l ls ms ks e = rw e refl
 
+-- what ends in a line feed, and what follows it
 ended-append : (f x : List ℕ) → lines_of ((f ++ 10 ∷ []) ++ x) ≡ lines_of (f ++ 10 ∷ []) ++ lines_of x
 unfolding lines_of
 ended-append [] x = refl
@@ -72,6 +79,7 @@ ended-append (b ∷ bs) x =
       | false ↦ ap (onto_first b) (ended-append bs x) ∙ onto_first-append b h.0 h.1 (lines_of x) (lines_of (bs ++ 10 ∷ [])) h.2
     ]
 
+-- the lines of whole lines and of what follows them
 pub lines_of-append : (w x : List ℕ) → AreWholeLines w → lines_of (w ++ x) ≡ lines_of w ++ lines_of x
 unfolding lines_of
 lines_of-append w x (inl e) = rw e refl
@@ -103,6 +111,7 @@ pub AreWholeLines-append : (a b : List ℕ) → AreWholeLines a → AreWholeLine
 AreWholeLines-append a b h (inl e) = rw (e, append-nil a) h
 AreWholeLines-append a b h (inr (f, e)) = inr (a ++ f, rw e (sym (append_assoc a f (10 ∷ []))))
 
+-- a byte more that is no line feed
 pub IsPartLine-push : (p : List ℕ) (b : ℕ) → IsPartLine p → eqb b 10 ≡ false → IsPartLine (p ++ b ∷ [])
 IsPartLine-push [] b h e = (e, tt)
 IsPartLine-push (c ∷ p) b h e = (h.0, IsPartLine-push p b h.1 e)

@@ -23,4 +23,5 @@ unfolding without_return
 without_return-empty [] e = refl
 without_return-empty (b ∷ bs) e = absurd (omega arith)
 
+-- what the proof of `without_return` cites
 pub ruleset returns_dropped = (without_return-value)

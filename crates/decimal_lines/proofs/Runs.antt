@@ -69,6 +69,7 @@ module _ (answer : List ℕ → List ℕ) (w : Option (List ℕ)) where
       ap (output_of answer) parts ∙ output_of-append answer f.whole (held ++ rest) f.are_whole in
       (output_of answer f.whole, f.appends, (output_of answer (held ++ rest), e))
 
+  -- and still is after what keeps the bytes of the writer
   pub pauses_kept : (r r' w' w2 : Option (List ℕ)) (got held : List ℕ) → Consumes r r' got → Feeds answer w w' [] got held → Keeps w' w2 →
       IfSome r (λ input. AppendsBeginning w w2 (output_of answer input))
   pauses_kept r r' w' w2 got held p f k = pauses r r' w2 got held p (record {
@@ -83,6 +84,7 @@ module _ (answer : List ℕ → List ℕ) (w : Option (List ℕ)) where
     whole_output : output_of answer got ≡ output_of answer f.whole ++ output_of answer held
     whole_output = ap (output_of answer) f.parts ∙ output_of-append answer f.whole held f.are_whole
 
+    -- at the end of the input the output of all is written
     pub ends : (r r' w2 : Option (List ℕ)) → Consumes r r' got → IsAtEnd r' → Appends w1 w2 (output_of answer held) →
         IfSome r (λ input. Appends w w2 (output_of answer input) × (r' ≡ Some []))
     ends None r' w2 p q a = tt
@@ -91,6 +93,7 @@ module _ (answer : List ℕ → List ℕ) (w : Option (List ℕ)) where
         let e : input ≡ got = p ∙ ap (λ (k : List ℕ). got ++ k) q ∙ append-nil got in
         (rw (e, whole_output) (Appends-then w w1 w2 (output_of answer f.whole) (output_of answer held) f.appends a), ap Some q)
 
+    -- or a proper beginning of it
     pub ends_early : (r r' w2 : Option (List ℕ)) → Consumes r r' got → IsAtEnd r' → AppendsProperBeginning w1 w2 (output_of answer held) →
         IfSome r (λ input. AppendsProperBeginning w w2 (output_of answer input))
     ends_early None r' w2 p q a = tt
@@ -99,6 +102,7 @@ module _ (answer : List ℕ → List ℕ) (w : Option (List ℕ)) where
         let e : input ≡ got = p ∙ ap (λ (k : List ℕ). got ++ k) q ∙ append-nil got in
         rw (e, whole_output) (AppendsProperBeginning-then w w1 w2 (output_of answer f.whole) (output_of answer held) f.appends a)
 
+    -- or a beginning
     pub ends_begun : (r r' w2 : Option (List ℕ)) → Consumes r r' got → IsAtEnd r' → AppendsBeginning w1 w2 (output_of answer held) →
         IfSome r (λ input. AppendsBeginning w w2 (output_of answer input))
     ends_begun None r' w2 p q a = tt

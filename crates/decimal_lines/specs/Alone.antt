@@ -1,4 +1,4 @@
--- What a mode shows of one text, which is no line: its events, or why there are none.
+-- What a mode shows for a single text: its events, or why there are none.
 use Rattle.std.specs.Prelude.{
   ◌≡◌,
   ℕ,
@@ -18,14 +18,14 @@ use Rattle.std.specs.Prelude.{
   if◌then◌else◌,
   pos,
 }
-use Rattle.icu_base.specs.Events.{Event, text_of}
+use Rattle.writeable.specs.Events.{Event, text_of}
 use Rattle.fixed_decimal.specs.declared.signs.Sign.{Sign}
 use Rattle.fixed_decimal.specs.Reading.{reading}
 use Rattle.fixed_decimal.specs.Size.{size, ten_to}
 use Rattle.fixed_decimal.specs.Unsigned.{Unsigned}
 use Rattle.icu_decimal.specs.CompactFormat.{CompactFormat}
 use Rattle.icu_decimal.specs.Decimal.{decimal_events}
-use Rattle.decimal_lines.specs.Answers.{is_within_limits}
+use Rattle.decimal_lines.specs.LineAnswers.{is_within_limits}
 use Rattle.decimal_lines.specs.Compact.{events_shown}
 use Rattle.decimal_lines.specs.Computed.{nearest_number}
 use Rattle.decimal_lines.specs.Filled.{IsFilled}
@@ -34,7 +34,7 @@ use Rattle.decimal_lines.specs.declared.alone.TextError.TheVariants.{NotDecimal,
 use Rattle.decimal_lines.specs.declared.mode.Mode.{Mode}
 use Rattle.decimal_lines.specs.declared.mode.Mode.TheVariants.{Plain, Compact}
 
--- a number that is read, within the limits, or why it isn't
+-- the number that is read, if it is within the limits, or why there is none
 abbrev pub within_or : Option (Sign × Unsigned) → Result (Sign × Unsigned) TextError
 within_or None = Err NotDecimal
 within_or (Some (sign, d)) = if is_within_limits d then Ok (sign, d) else Err TooManyDigits
@@ -43,26 +43,27 @@ within_or (Some (sign, d)) = if is_within_limits d then Ok (sign, d) else Err To
 unfoldable pub decimal_read : List ℕ → Result (Sign × Unsigned) TextError
 decimal_read text = within_or (reading text)
 
--- the events of the compact number that is nearest to d, or that it is ten to the power 32768 or more
+-- the events of the compact number nearest to d, or `Overflow` if it is ten to the power 32768 or more
 unfoldable pub compact_events : CompactFormat → Sign → Unsigned → Result (List Event) TextError
 compact_events format sign d =
     if nat_le (ten_to (pos 32768)) (nearest_number format.table (size d)) then Err Overflow
     else Ok (events_shown format sign d (nearest_number format.table (size d)))
 
--- what a mode shows of a decimal
+-- what a mode shows for a decimal
 abbrev pub mode_events : Mode → Sign → Unsigned → Result (List Event) TextError
 mode_events (Plain format) sign d = Ok (decimal_events format sign d)
 mode_events (Compact format) sign d = compact_events format sign d
 
+-- what a mode shows for what was read
 abbrev pub read_events : Mode → Result (Sign × Unsigned) TextError → Result (List Event) TextError
 read_events mode (Ok (sign, d)) = mode_events mode sign d
 read_events mode (Err error) = Err error
 
--- what a mode shows of a text
+-- what a mode shows for a text
 unfoldable pub events_of : Mode → List ℕ → Result (List Event) TextError
 events_of mode text = read_events mode (decimal_read text)
 
--- why nothing is shown; want of memory may come whatever there is to show
+-- why nothing is shown; `OutOfMemory` may be reported in any case
 abbrev pub IsRefusal : {X : Type 0} → Result X TextError → TextError → Type 0
 IsRefusal shown error = (error ≡ OutOfMemory) ⊎ (shown ≡ Err error)
 
@@ -71,13 +72,13 @@ abbrev pub AppendsShown : Result (List Event) TextError → List ℕ → List �
 AppendsShown (Ok events) old new = new ≡ old ++ text_of events
 AppendsShown (Err error) old new = ⊥
 
--- an output holds a text of n bytes at its front where that has room, and else what it held
+-- an output holds a text of n bytes at its front if it fits, and else what it held before
 pub record HoldsIfRoom (old new text : List ℕ) (n : ℕ) : Type 0 where
   pub count : n ≡ length text
   pub fits : n ≤ length old → IsFilled old new text n
   pub too_long : length old < n → new ≡ old
 
--- the text of what is shown
+-- the same of the text of what is shown
 abbrev pub HoldsShown : Result (List Event) TextError → List ℕ → List ℕ → ℕ → Type 0
 HoldsShown (Ok events) old new n = HoldsIfRoom old new (text_of events) n
 HoldsShown (Err error) old new n = ⊥

@@ -1,6 +1,6 @@
 -- The text of a decimal in compact form.
 use Rattle.std.specs.Prelude.{◌≡◌, ℕ, ◌⊎◌, List, Option, nat_le, if◌then◌else◌, codes, pos}
-use Rattle.icu_base.specs.Events.{Event, text_of, without_parts}
+use Rattle.writeable.specs.Events.{Event, text_of, without_parts}
 use Rattle.fixed_decimal.specs.declared.signs.Sign.{Sign}
 use Rattle.fixed_decimal.specs.Size.{size, ten_to}
 use Rattle.fixed_decimal.specs.Unsigned.{Unsigned}

@@ -20,28 +20,28 @@ use Rattle.std.specs.Prelude.{
   pos,
   negsuc,
 }
-use Rattle.fixed_decimal.specs.Size.{finest, magnitude}
+use Rattle.fixed_decimal.specs.Size.{finest, magnitude_place}
 use Rattle.fixed_decimal.specs.Unsigned.{Unsigned}
 use Rattle.icu_decimal_data.specs.CompactTable.{TableEntry, exponent_of}
 use Rattle.icu_decimal.specs.CompactNumber.{rounding_place_for}
 use Rattle.icu_decimal.specs.Displayed.{displayed_entry, displayed_high}
 
--- how many units x is rounded to: one more than there are in it where more than half a unit is left, and of two equally
--- near the even number
+-- to how many units x is rounded: one more than are in it if more than half a unit is left over, and of two equally near
+-- counts the even one
 unfoldable pub rounded_units : ℕ → ℕ → ℕ
 rounded_units unit x =
     if nat_lt (2 * (x % unit)) unit then (x / unit) else (if nat_lt unit (2 * (x % unit)) then (x / unit + 1) else (x / unit + x / unit % 2))
 
 -- the compact number nearest to a size
 unfoldable pub nearest_number : List TableEntry → ℕ → ℕ
-nearest_number table x = rounded_units (10 ^ rounding_place_for table (magnitude x)) x * 10 ^ rounding_place_for table (magnitude x)
+nearest_number table x = rounded_units (10 ^ rounding_place_for table (magnitude_place x)) x * 10 ^ rounding_place_for table (magnitude_place x)
 
--- the digits of x at so many places from place e on, that of the greatest place first
+-- the digits of x at n places from place e on, that of the greatest place first
 unfoldable pub digits_from : ℕ → ℕ → ℕ → List ℕ
 digits_from x e zero = []
 digits_from x e (suc n) = (x / 10 ^ (e + n) % 10) ∷ digits_from x e n
 
--- the fewest digits below power 0, of n at most, that leave no other digit of x behind them
+-- the fewest digits below power 0, at most n, behind which x has no other digit
 unfoldable pub scale_up_to : ℕ → ℕ → ℕ
 scale_up_to x zero = 0
 scale_up_to x (suc n) = if x % 10 ^ (finest - n) == 0 then scale_up_to x n else suc n

@@ -3,7 +3,7 @@ use Rattle.std.specs.Prelude.{◌≡◌, ℕ, ◌+◌, ◌<◌, ◌≤◌, List,
 use Rattle.decimal_lines.specs.Lines.{IsPartLine, line_output, output_of}
 use Rattle.decimal_lines.specs.Written.{AreWholeLines}
 
--- its first n bytes are this text, and those behind them are as they were
+-- the first n bytes are this text, and those behind them are unchanged
 pub record IsFilled (old new text : List ℕ) (n : ℕ) : Type 0 where
   pub bytes : new ≡ text ++ drop n old
   pub count : n ≡ length text
@@ -17,7 +17,7 @@ pub record HoldsWholeLines (answer : List ℕ → List ℕ) (input old new : Lis
   pub parts : input ≡ whole ++ rest
   pub filled : IsFilled old new (output_of answer whole) n
 
--- so it is, something of the input is left, and there is room behind what is filled
+-- so it is, some of the input is left, and there is room behind what is filled
 pub record HasRoomLeft (answer : List ℕ → List ℕ) (input old new : List ℕ) (n : ℕ) : Type 0 where
   pub holds : HoldsWholeLines answer input old new n
   pub is_some : 0 < length holds.rest
@@ -28,7 +28,7 @@ pub record IsFirstLine (bytes line rest : List ℕ) : Type 0 where
   pub is_part : IsPartLine line
   pub parts : (bytes ≡ (line ++ 10 ∷ []) ++ rest) ⊎ ((bytes ≡ line) × (rest ≡ []))
 
--- so it is, and the output of the line that follows them finds no room
+-- the output is filled with that of whole lines, and the output of the next line doesn't fit
 pub record HoldsAllThatFit (answer : List ℕ → List ℕ) (input old new : List ℕ) (n : ℕ) : Type 0 where
   pub whole : List ℕ
   pub line : List ℕ

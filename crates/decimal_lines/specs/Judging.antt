@@ -16,6 +16,6 @@ text_judged (Err error) = Err (Refused error)
 unfoldable pub tables_judged : List ℕ → Result (Unit {0}) TablesFault
 tables_judged file = if is_utf8 file then text_judged (tables_of file) else Err NotUtf8
 
--- what is told; want of memory may come whatever there is to tell
+-- the fault that is reported; `OutOfMemory` may be reported in any case
 abbrev pub IsFault : Result (Unit {0}) TablesFault → TablesFault → Type 0
 IsFault judged fault = (fault ≡ Refused OutOfMemory) ⊎ (judged ≡ Err fault)

@@ -2,7 +2,7 @@
 use Rattle.std.specs.Prelude.{◌≡◌, ℕ, All, List, [], ◌∷◌, ◌++◌}
 use Rattle.std.specs.List.{flat_map}
 use Rattle.decimal_lines.specs.declared.mode.Mode.{Mode}
-use Rattle.decimal_lines.specs.Answers.{HasTable, IsAnswer, answer_to}
+use Rattle.decimal_lines.specs.LineAnswers.{HasTable, IsAnswer, answer_to}
 use Rattle.decimal_lines.specs.Lines.{IsLines, ended, lines_of, output_of, without_return}
 use Rattle.decimal_lines.specs.Written.{AreWholeLines}
 

@@ -10,7 +10,9 @@ use Rattle.icu_decimal.specs.declared.options.GroupingStrategy.{GroupingStrategy
 use Rattle.icu_decimal.specs.declared.options.GroupingStrategy.TheVariants.{Min2}
 use Rattle.icu_decimal.specs.declared.preferences.CompactDecimalFormatterPreferences.{CompactDecimalFormatterPreferences}
 use Rattle.icu_decimal.specs.declared.preferences.DecimalFormatterPreferences.{DecimalFormatterPreferences}
+use Rattle.icu_decimal_data.specs.CompactTable.{TableEntry}
 use Rattle.icu_tables.specs.Answering.{filed_answer, optional_answer, system_answer}
+use Rattle.icu_tables.specs.Named.{NamedEntry}
 use Rattle.icu_tables.specs.Tables.{TablesData, tables_of}
 use Rattle.icu_tables.specs.declared.error.TableError.{TableError}
 use Rattle.decimal_lines.specs.Words.{WordsData}
@@ -20,18 +22,18 @@ use Rattle.decimal_lines.specs.declared.mode.StartError.{StartError}
 use Rattle.decimal_lines.specs.declared.mode.StartError.TheVariants as start
 use Rattle.decimal_lines.specs.declared.words.Style.TheVariants as style
 
--- The mode, or why there is none, is this; want of memory may come whatever it is.
+-- There is no mode for this reason; `OutOfMemory` may be reported in place of any result.
 abbrev pub Stops : {X : Type 0} → StartError → Result X StartError → Type 0
 Stops start.Tables made = made ≡ Err start.Tables
 Stops start.NoData made = made ≡ Err start.NoData
 Stops start.OutOfMemory made = Unit {0}
 
--- What a call answers is this; want of memory may come whatever it is.
+-- The result of a call is this; `OutOfMemory` may be reported in place of any result.
 abbrev pub Starts : {X : Type 0} → Result X StartError → Result X StartError → Type 0
 Starts (Ok x) made = made ≡ Ok x
 Starts (Err e) made = Stops e made
 
--- whoever names no strategy has the defaults: none for plain numbers, `min2` for compact ones
+-- the options of a strategy; without one the defaults: none for plain numbers, `min2` for compact ones
 abbrev pub plain_options : Option GroupingStrategy → DecimalFormatterOptions
 plain_options grouping = record { grouping_strategy = grouping }
 
@@ -48,7 +50,7 @@ plain_preferences words = record { locale_preferences = words.locale; numbering_
 abbrev pub compact_preferences : WordsData → CompactDecimalFormatterPreferences
 compact_preferences words = record { locale_preferences = words.locale; numbering_system = words.system }
 
--- why there is no mode where the tables refuse
+-- why there is no mode if the tables refuse
 abbrev pub start_error : DataErrorKind → StartError
 start_error refusal.IdentifierNotFound = start.NoData
 start_error refusal.MarkerNotFound = start.NoData
@@ -61,27 +63,29 @@ abbrev pub started : {X : Type 0} → (X → Mode) → Result X Refusal → Resu
 started mode_of (Ok formatter) = Ok (mode_of formatter)
 started mode_of (Err refusal) = Err (start_error refusal.kind)
 
+-- numbers in full
 unfoldable pub plain_mode : WordsData → TablesData → Result Mode StartError
 plain_mode words tables = started mode.Plain (loaded
     (filed_answer tables.symbols)
     (λ id. system_answer tables.digits id.system)
     (plain_preferences words) (plain_options words.grouping))
 
-unfoldable pub short_mode : WordsData → TablesData → Result Mode StartError
-short_mode words tables = started mode.Compact (loaded_compact
+-- numbers shortened by patterns of these tables, which may have none
+abbrev pub compact_mode : WordsData → TablesData → Option (List (NamedEntry (List TableEntry))) → Result Mode StartError
+compact_mode words tables patterns = started mode.Compact (loaded_compact
     (filed_answer tables.symbols)
     (λ id. system_answer tables.digits id.system)
     (optional_answer tables.rules)
-    (optional_answer tables.short)
+    (optional_answer patterns)
     (compact_preferences words) (compact_options words.grouping))
 
+-- by the short patterns
+unfoldable pub short_mode : WordsData → TablesData → Result Mode StartError
+short_mode words tables = compact_mode words tables tables.short
+
+-- by the long ones
 unfoldable pub long_mode : WordsData → TablesData → Result Mode StartError
-long_mode words tables = started mode.Compact (loaded_compact
-    (filed_answer tables.symbols)
-    (λ id. system_answer tables.digits id.system)
-    (optional_answer tables.rules)
-    (optional_answer tables.long)
-    (compact_preferences words) (compact_options words.grouping))
+long_mode words tables = compact_mode words tables tables.long
 
 -- by the style that is asked for
 unfoldable pub mode_by : WordsData → TablesData → Result Mode StartError
@@ -91,10 +95,11 @@ mode_by words tables = elim words.style [
   | style.Long ↦ long_mode words tables
 ]
 
+-- by the tables of a text, or what refuses it
 abbrev pub mode_by_tables : WordsData → Result TablesData TableError → Result Mode StartError
 mode_by_tables words (Ok tables) = mode_by words tables
 mode_by_tables words (Err e) = Err start.Tables
 
--- by the text of the tables; whatever refuses the text, there are no tables
+-- by the text of the tables; if the text is refused, there are no tables
 unfoldable pub mode_of : WordsData → List ℕ → Result Mode StartError
 mode_of words text = mode_by_tables words (tables_of text)

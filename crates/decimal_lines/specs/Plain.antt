@@ -1,6 +1,6 @@
 -- The plain text of a decimal, and the formatter of a run without words.
 use Rattle.std.specs.Prelude.{ℕ, List, None, codes}
-use Rattle.icu_base.specs.Events.{text_of}
+use Rattle.writeable.specs.Events.{text_of}
 use Rattle.icu_decimal_data.specs.DecimalSymbols.{english_symbols}
 use Rattle.fixed_decimal.specs.declared.signs.Sign.{Sign}
 use Rattle.fixed_decimal.specs.Unsigned.{Unsigned}

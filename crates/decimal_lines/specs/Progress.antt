@@ -10,7 +10,7 @@ pub record AnswersFirst (answer : List ℕ → List ℕ) (input old new : List �
   pub are_whole : AreWholeLines (take consumed input) ⊎ (consumed ≡ length input)
   pub filled : IsFilled old new (output_of answer (take consumed input)) n
 
--- a line follows them whose output is so long, and finds no room
+-- a line follows them whose output has this length, and doesn't fit
 pub record NextNeeds (answer : List ℕ → List ℕ) (input old : List ℕ) (consumed n needed : ℕ) : Type 0 where
   pub line : List ℕ
   pub rest : List ℕ

@@ -8,7 +8,7 @@ use Rattle.icu_decimal.specs.declared.options.GroupingStrategy.TheVariants.{Auto
 use Rattle.decimal_lines.specs.declared.words.Style.{Style}
 use Rattle.decimal_lines.specs.declared.words.Style.TheVariants.{Plain, Short, Long}
 
--- what they ask for; without a system none is preferred, without a grouping the default of the style holds
+-- what they ask for; without a system none is preferred, without a grouping the style's default applies
 pub record WordsData : Type 0 where
   pub path : List ℕ
   pub locale : List ℕ
@@ -16,6 +16,7 @@ pub record WordsData : Type 0 where
   pub style : Style
   pub grouping : Option GroupingStrategy
 
+-- goes on with what was found, if anything was
 infixl 10 ◌>>=◌
 abbrev pub ◌>>=◌ : {A B : Type 0} → Option A → (A → Option B) → Option B
 None >>= f = None
@@ -32,6 +33,7 @@ system_named word =
     else if is_numbering_system word then Some (Some word)
     else None
 
+-- the style of a word
 unfoldable pub style_named : List ℕ → Option Style
 style_named word =
     if pointwise nat_eq word (codes "plain") then Some Plain
@@ -39,6 +41,7 @@ style_named word =
     else if pointwise nat_eq word (codes "long") then Some Long
     else None
 
+-- the grouping strategy of a word
 unfoldable pub strategy_named : List ℕ → Option GroupingStrategy
 strategy_named word =
     if pointwise nat_eq word (codes "auto") then Some Auto
@@ -47,7 +50,7 @@ strategy_named word =
     else if pointwise nat_eq word (codes "min2") then Some Min2
     else None
 
--- at most one word more
+-- the grouping strategy of the last word, which may be absent
 unfoldable pub grouping_named : List (List ℕ) → Option (Option GroupingStrategy)
 grouping_named [] = Some None
 grouping_named (word ∷ []) = do
@@ -64,7 +67,7 @@ words_from path locale system style more = do
   grouping ← grouping_named more
   Some (record { path = path; locale = locale; system = system; style = style; grouping = grouping })
 
--- what the words ask for, or none where they are others
+-- what the words ask for; none for any other words
 unfoldable pub words_of : List (List ℕ) → Option WordsData
 words_of [] = None
 words_of (path ∷ []) = None

@@ -15,7 +15,7 @@ AppendsProperBeginning old new whole = (front : List ℕ) × Appends old new fro
 abbrev pub AreWholeLines : List ℕ → Type 0
 AreWholeLines bytes = (bytes ≡ []) ⊎ ((front : List ℕ) × (bytes ≡ front ++ 10 ∷ []))
 
--- bytes that were held back and new ones are whole lines, whose output was written, and what is held back now
+-- the bytes that were held back, with the new ones behind them, are whole lines, whose output was written, and what is held back now
 pub record Feeds (answer : List ℕ → List ℕ) (written written' : Option (List ℕ)) (held chunk held' : List ℕ) : Type 0 where
   pub whole : List ℕ
   pub are_whole : AreWholeLines whole
@@ -23,7 +23,7 @@ pub record Feeds (answer : List ℕ → List ℕ) (written written' : Option (Li
   pub is_part : IsPartLine held'
   pub appends : Appends written written' (output_of answer whole)
 
--- the bytes begin with whole lines, and a beginning of their output was written, not all of it
+-- the bytes begin with whole lines, and a beginning of their output was written, but not all of it
 pub record Breaks (answer : List ℕ → List ℕ) (written written' : Option (List ℕ)) (bytes : List ℕ) : Type 0 where
   pub whole : List ℕ
   pub after : List ℕ

@@ -1,4 +1,4 @@
-//! One text, which is no line: its characters, or its characters and parts.
+//! A single text instead of a line: its characters, or its characters and parts.
 
 ghost use Rattle.std.specs.Prelude.{◌≡◌, Ok, length, IfErr, IfOk, OnOk, OnErr};
 ghost use Rattle.decimal_lines.specs.Alone.{AppendsShown, HoldsIfRoom, HoldsShown, IsRefusal, compact_events, decimal_read, events_of, mode_events};
@@ -6,11 +6,11 @@ ghost use Rattle.decimal_lines.specs.Alone.{AppendsShown, HoldsIfRoom, HoldsShow
 use crate::line::push_plain;
 use crate::mode::Mode;
 use fixed_decimal::{Decimal, DecimalError};
-use icu_base::Writeable;
 use icu_decimal::CompactDecimalFormatter;
 use icu_decimal::error::FormatError;
 use std::alloc::Global;
 use thiserror::Error;
+use writeable::Writeable;
 
 /// Why a text has no formatted number.
 #[derive(Clone, Copy, Debug, PartialEq, Eq, Error)]
@@ -29,7 +29,8 @@ pub enum TextError {
     OutOfMemory,
 }
 
-/// How much room a text is given beyond its own length; one that is longer asks for more.
+/// How many bytes beyond the argument's length are reserved for a text; a longer text asks for
+/// more.
 const ROOM: usize = 64;
 
 /// The decimal that a text reads as.
@@ -68,7 +69,7 @@ fn push_compact(
     }
 }
 
-/// Appends what the mode shows of a decimal; without memory some bytes of it may stand there.
+/// Appends what the mode shows for a decimal; without memory some bytes of it may stand there.
 #[tactic(auto, unfolding(crate::specs::Plain::plain_text))]
 fn push_shown(
     alloc: Global,
@@ -91,7 +92,7 @@ fn push_shown(
     }
 }
 
-/// Copies a text to the front of the output, where that has room for it.
+/// Copies a text to the front of the output, if it fits.
 fn put_front(output: &mut [u8], text: &[u8])
     ensures { HoldsIfRoom output.old output.new text.now (length text.now) }
 {
@@ -100,8 +101,8 @@ fn put_front(output: &mut [u8], text: &[u8])
     }
 }
 
-/// Writes what the mode shows of a text to the front of the output, if there is room for it; how many bytes it has, whether
-/// or not it was written (this project's own).
+/// Writes what the mode shows for a text to the front of the output, if it fits. The result is its
+/// length in bytes, whether or not it was written (this project's own).
 ///
 /// The text is a decimal and nothing else: a line feed or a carriage return in it is refused.
 #[tactic(auto, unfolding(crate::specs::Alone::events_of))]
@@ -111,7 +112,7 @@ pub fn format_text(
     text: &[u8],
     output: &mut [u8],
 ) -> Result<usize, TextError>
-    // Where the text has room, the output holds it, and else what it held.
+    // If the text fits, the output holds it, and else what it held before.
     ensures ok { IfOk result (λ n.
         HoldsShown (events_of mode.now text.now) output.old output.new n) }
 

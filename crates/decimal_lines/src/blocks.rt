@@ -1,7 +1,7 @@
 //! Lines cut out of blocks of input.
 
 ghost use Rattle.std.specs.Prelude.{◌++◌, ◌∷◌, [], Some, OnOk};
-ghost use Rattle.decimal_lines.specs.Answers.{answer_to};
+ghost use Rattle.decimal_lines.specs.LineAnswers.{answer_to};
 ghost use Rattle.decimal_lines.specs.Lines.{IsPartLine};
 ghost use Rattle.decimal_lines.specs.Written.{Feeds};
 
@@ -10,7 +10,7 @@ use crate::mode::Mode;
 use memchr::memchr;
 use std::alloc::{AllocError, Global};
 
-/// The rest of a line whose start may be held back: its output goes to `out`.
+/// Ends a line whose first bytes may have been held back: its output is appended to `out`.
 fn end_line(
     alloc: Global,
     mode: &Mode,
@@ -33,7 +33,8 @@ fn end_line(
     Ok(())
 }
 
-/// Cuts the lines out of a block: the output of each whole one goes to `out`, and what is left over is held back.
+/// Cuts a block into lines: the output of each whole one is appended to `out`, and the rest is held
+/// back.
 pub fn take_block(
     alloc: Global,
     mode: &Mode,

@@ -1,7 +1,7 @@
 //! From bytes to bytes, without a reader or a writer.
 
 ghost use Rattle.std.specs.Prelude.{◌≡◌, ◌+◌, ◌<◌, ◌≤◌, ◌++◌, take, drop, length, Err, IfErr, IfOk, OnOk, OnErr};
-ghost use Rattle.decimal_lines.specs.Answers.{answer_to};
+ghost use Rattle.decimal_lines.specs.LineAnswers.{answer_to};
 ghost use Rattle.decimal_lines.specs.Filled.{HasRoomLeft, HoldsAllThatFit, HoldsWholeLines, IsFilled, IsFirstLine};
 ghost use Rattle.decimal_lines.specs.Lines.{line_output, output_of};
 
@@ -25,9 +25,9 @@ pub enum FillError {
 /// How far an output is filled (this project's own).
 #[derive(Clone, Copy, Debug, PartialEq, Eq)]
 pub struct Filled {
-    /// How many bytes of it are written, from its front; they end at a line's end.
+    /// How many bytes are written, from the front of the output; they end with a line.
     pub written: usize,
-    /// Whether these are the answers to all lines, or why not.
+    /// Whether these bytes are the answers to all lines, or why not.
     pub outcome: Result<(), FillError>,
 }
 
@@ -44,7 +44,7 @@ pub(crate) fn first_line(bytes: &[u8]) -> (&[u8], &[u8])
     }
 }
 
-/// Copies a text to a place in the output, if there is room for it; where it ends. Nothing but the room is judged here.
+/// Copies a text to a byte offset of the output, if it fits. The result is where it ends.
 pub(crate) fn place(output: &mut [u8], at: usize, text: &[u8]) -> Result<usize, FillError>
     requires { at ≤ length output.old }
     ensures fits { IfOk result (λ end. (end ≡ at + length text.now)
@@ -63,8 +63,8 @@ pub(crate) fn place(output: &mut [u8], at: usize, text: &[u8]) -> Result<usize, 
     Ok(end)
 }
 
-/// Writes the answer to a line at a place in the output, if there is room for it; where it ends. A full output is told before
-/// memory is asked for.
+/// Writes the answer to a line at a byte offset of the output, if it fits. The result is where it
+/// ends. A full output is reported before any allocation.
 #[tactic(auto, using(crate::proofs::FilledLines::line_some))]
 fn put_line(
     alloc: Global,
@@ -97,11 +97,12 @@ fn put_line(
     place(output, at, text)
 }
 
-/// Formats all lines of the input into the output: for each line the decimal in the mode's form, or an error line, and a
-/// line feed (this project's own).
+/// Formats all lines of the input into the output: for each line the decimal in the mode's form, or
+/// an error line, and a line feed (this project's own).
 ///
-/// What lines are is said at [`run`](crate::run). An output that is too small holds the answers to as many lines as fit. Want
-/// of memory comes before the room for the next line is judged, but a full output is told as too small.
+/// Lines are those of [`run`](crate::run). An output that is too small holds the answers to as many
+/// lines as fit. If an allocation is refused, `OutOfMemory` is reported even if the next answer
+/// wouldn't fit; but a full output is reported as `TooSmall`.
 pub fn format_lines(alloc: Global, mode: &Mode, input: &[u8], output: &mut [u8]) -> Filled
     // The output of the whole input was written.
     ensures ok { OnOk result.outcome
@@ -111,13 +112,13 @@ pub fn format_lines(alloc: Global, mode: &Mode, input: &[u8], output: &mut [u8])
     ensures err { OnErr result.outcome
         (HoldsWholeLines (answer_to mode.now) input.now output.old output.new result.written) }
 
-    // it's too small for the whole output, and so for the next line's.
+    // the output is too small for the whole, and for the next line's answer.
     ensures too_small { result.outcome ≡ Err FillError.TooSmall
         → length output.old < length (output_of (answer_to mode.now) input.now) }
     ensures full { result.outcome ≡ Err FillError.TooSmall
         → HoldsAllThatFit (answer_to mode.now) input.now output.old output.new result.written }
 
-    // Where memory is wanting, a line is left, and so is some room.
+    // If memory is refused, a line is left, and so is some room.
     ensures memory { result.outcome ≡ Err FillError.OutOfMemory
         → HasRoomLeft (answer_to mode.now) input.now output.old output.new result.written }
 {

@@ -34,7 +34,7 @@ fn judge_text(alloc: Global, text: &str) -> Result<(), TablesFault>
 
 /// Whether the bytes of a file of tables are accepted, or why not (this project's own).
 ///
-/// The same files are accepted as by [`Mode::make`](crate::Mode::make), whatever the words are.
+/// The same files are accepted as by [`Mode::make`](crate::Mode::make), for any words.
 #[tactic(auto, using(crate::proofs::Judged::judged))]
 pub fn judge_tables(alloc: Global, file: &[u8]) -> Result<(), TablesFault>
     ensures ok { OnOk result (tables_judged file.now ≡ Ok tt) }

@@ -1,12 +1,13 @@
-//! What the computed definitions mean: each gives the one value that a relation allows.
+//! What the computed definitions mean: each is the only value that a relation allows.
 
-ghost use Rattle.decimal_lines.specs.Answers.{HasTable};
+ghost use Rattle.decimal_lines.specs.LineAnswers.{HasTable};
 ghost use Rattle.decimal_lines.specs.Laws.{AnswerIsAnAnswer, AnswerIsUnique, InputHasLines, LinesAreUnique, OutputAnswersEachLine, PiecesAreAnsweredApart, TwoAreAnsweredApart};
 
 use crate::mode::Mode;
 use icu_decimal::laws::table_is_compact;
 
-/// A text has one answer in each mode whose entries are a compact table; with any entries it has no other one.
+/// A text has an answer in each mode whose entries are a compact table; with any entries it has no
+/// other answer.
 pub fn texts_have_one_answer()
     ensures exists { AnswerIsAnAnswer }
     ensures unique { AnswerIsUnique }
@@ -18,7 +19,8 @@ pub fn inputs_have_one_list_of_lines()
     ensures unique { LinesAreUnique }
 {}
 
-/// The entries of a compact mode are a compact table, as `exists` of [`texts_have_one_answer`] asks.
+/// The entries of a compact mode are a compact table, as `exists` of [`texts_have_one_answer`]
+/// asks.
 pub fn mode_has_table(mode: &Mode)
     ensures { HasTable mode.now }
 {
@@ -28,18 +30,19 @@ pub fn mode_has_table(mode: &Mode)
     }
 }
 
-/// What `run` writes of an input has one answer for each line and nothing else: for a decimal its text in the mode. In a
-/// compact mode that is the text of the compact number that is nearest to the decimal among those of all magnitudes.
+/// The output of `run` is one answer for each line of the input and nothing else; the answer to a
+/// decimal is its text in the mode. In a compact mode that is the text of the compact number, of
+/// all magnitudes, that is nearest to the decimal.
 pub fn each_line_is_answered(mode: &Mode)
     ensures { OutputAnswersEachLine mode.now }
 {
     mode_has_table(mode);
 }
 
-/// Lines are answered apart: the output of two inputs, one behind the other, is that of the first and then that of the
-/// second, in every mode, where the first is empty or ends in a line feed. So an input may be cut behind any line feeds,
-/// and its pieces be run apart, in whatever order and on whatever machines: their outputs, put together in the order of
-/// the pieces, are the output of the whole.
+/// Lines are answered apart. If the first of two inputs is empty or ends in a line feed, then in
+/// every mode the output of both together is the output of the first followed by that of the
+/// second. So an input may be cut behind any line feeds and its pieces run apart, in any order and
+/// on any machines: their outputs, in the order of the pieces, are the output of the whole.
 pub fn lines_are_answered_apart()
     ensures two { TwoAreAnsweredApart }
     ensures pieces { PiecesAreAnsweredApart }

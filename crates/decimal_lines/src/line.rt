@@ -1,19 +1,19 @@
 //! The answer to a line.
 
 ghost use Rattle.std.specs.Prelude.{◌≡◌, ◌++◌, ◌∷◌, [], OnOk, codes};
-ghost use Rattle.decimal_lines.specs.Answers.{answer_to, shown_by};
+ghost use Rattle.decimal_lines.specs.LineAnswers.{answer_to, shown_by};
 ghost use Rattle.decimal_lines.specs.Compact.{compact_answer};
 ghost use Rattle.decimal_lines.specs.Lines.{without_return, line_output};
 ghost use Rattle.decimal_lines.specs.Plain.{plain_text};
 
 use crate::mode::Mode;
 use fixed_decimal::{Decimal, DecimalError};
-use icu_base::Writeable;
 use icu_decimal::error::FormatError;
 use icu_decimal::{CompactDecimalFormatter, DecimalFormatter};
 use std::alloc::{AllocError, Global};
+use writeable::Writeable;
 
-/// Without one carriage return at the end.
+/// The line without one carriage return at its end.
 #[tactic(auto, using(crate::proofs::Returns::returns_dropped))]
 fn without_return(line: &[u8]) -> &[u8]
     ensures { result.now ≡ without_return line.now }
@@ -42,7 +42,8 @@ pub(crate) fn push_plain(
     }
 }
 
-/// Appends the compact text of a decimal, or that it is past the limits; without memory some bytes of it may stand there.
+/// Appends the compact text of a decimal, or `error: overflow`; without memory some bytes of it may
+/// stand there.
 fn push_compact(
     alloc: Global,
     formatter: &CompactDecimalFormatter,
@@ -62,7 +63,7 @@ fn push_compact(
     }
 }
 
-/// Appends what the mode shows of a decimal; without memory some bytes of it may stand there.
+/// Appends what the mode shows for a decimal; without memory some bytes of it may stand there.
 fn push_decimal(
     alloc: Global,
     mode: &Mode,

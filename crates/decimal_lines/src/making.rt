@@ -1,17 +1,17 @@
 //! The mode that the words and the file of tables make.
 
 ghost use Rattle.std.specs.Prelude.{◌≡◌, IfOk};
-ghost use Rattle.decimal_lines.specs.Answers.{HasTable};
+ghost use Rattle.decimal_lines.specs.LineAnswers.{HasTable};
 ghost use Rattle.decimal_lines.specs.Making.{Starts, compact_options, compact_preferences, long_mode, mode_by, mode_of, plain_mode, plain_options, plain_preferences, short_mode, start_error};
 
 use crate::mode::{Mode, StartError};
 use crate::words::{Style, Words};
-use icu_base::{DataError, DataErrorKind};
 use icu_decimal::options::{
     CompactDecimalFormatterOptions, DecimalFormatterOptions, GroupingStrategy,
 };
 use icu_decimal::preferences::{CompactDecimalFormatterPreferences, DecimalFormatterPreferences};
 use icu_decimal::{CompactDecimalFormatter, DecimalFormatter};
+use icu_provider::{DataError, DataErrorKind};
 use icu_tables::{TableError, Tables};
 use std::alloc::Global;
 use std::str;
@@ -36,7 +36,7 @@ fn compact_options(grouping: Option<GroupingStrategy>) -> CompactDecimalFormatte
     }
 }
 
-/// For whom compact numbers are written.
+/// The preferences for compact numbers.
 fn compact_preferences(words: &Words<'_>) -> CompactDecimalFormatterPreferences
     ensures { result ≡ compact_preferences words.now }
 {
@@ -46,7 +46,7 @@ fn compact_preferences(words: &Words<'_>) -> CompactDecimalFormatterPreferences
     }
 }
 
-/// For whom plain numbers are written.
+/// The preferences for plain numbers.
 fn plain_preferences(words: &Words<'_>) -> DecimalFormatterPreferences
     ensures { result ≡ plain_preferences words.now }
 {
@@ -56,7 +56,7 @@ fn plain_preferences(words: &Words<'_>) -> DecimalFormatterPreferences
     }
 }
 
-/// Why there is no mode where the tables refuse.
+/// Why there is no mode if the tables refuse.
 fn start_error(error: DataError) -> StartError
     ensures { result ≡ start_error error.kind }
 {
@@ -148,8 +148,8 @@ impl Mode {
 
     /// The mode that the words ask for, by the bytes of the file of tables (this project's own).
     ///
-    /// `Tables` where the file isn't UTF-8 or its text is refused; `NoData` where it says nothing of what the formatter
-    /// of the locale needs; `OutOfMemory` wherever memory is wanting.
+    /// `Tables` if the file isn't UTF-8 or its text is refused; `NoData` if the tables lack data
+    /// that the locale's formatter needs; `OutOfMemory` if an allocation is refused.
     pub fn make(alloc: Global, words: &Words<'_>, file: &[u8]) -> Result<Mode, StartError>
         ensures text { IsUtf8 file.now → Starts result (mode_of words.now file.now) }
         ensures no_text { ¬ (IsUtf8 file.now) → result ≡ Err StartError.Tables }

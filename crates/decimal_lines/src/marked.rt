@@ -1,4 +1,4 @@
-//! One text, which is no line, with the parts of its number.
+//! A single text instead of a line, with the parts of its number.
 
 ghost use Rattle.std.specs.Prelude.{◌≡◌, Ok, IfErr, IfOk};
 ghost use Rattle.icu_decimal.specs.Decimal.{decimal_events};
@@ -7,10 +7,10 @@ ghost use Rattle.decimal_lines.specs.Alone.{IsRefusal, compact_events, events_of
 use crate::alone::{TextError, read};
 use crate::mode::Mode;
 use fixed_decimal::Decimal;
-use icu_base::{PartsText, Writeable};
 use icu_decimal::error::FormatError;
 use icu_decimal::{CompactDecimalFormatter, DecimalFormatter};
 use std::alloc::Global;
+use writeable::{PartsText, Writeable};
 
 /// A decimal in full with its parts.
 fn mark_plain(
@@ -53,7 +53,7 @@ fn mark_compact(
     }
 }
 
-/// What the mode shows of a decimal with its parts.
+/// What the mode shows for a decimal, with its parts.
 fn mark_shown(alloc: Global, mode: &Mode, decimal: &Decimal) -> Result<PartsText, TextError>
     ensures ok { IfOk result (λ text.
         mode_events mode.now decimal.now.sign decimal.now.absolute ≡ Ok text.events) }
@@ -66,10 +66,10 @@ fn mark_shown(alloc: Global, mode: &Mode, decimal: &Decimal) -> Result<PartsText
     }
 }
 
-/// What the mode shows of a text, with the bytes of its parts (this project's own).
+/// What the mode shows for a text, with the byte offsets of its parts (this project's own).
 ///
-/// The text is a decimal and nothing else, as for [`format_text`](crate::format_text). The parts are those of `icu_decimal`;
-/// a compact number has its sign's alone.
+/// The text is a decimal and nothing else, as for [`format_text`](crate::format_text). The parts
+/// are those of `icu_decimal`; in a compact number the sign alone has a part.
 #[tactic(auto, unfolding(crate::specs::Alone::events_of))]
 pub fn format_parts(alloc: Global, mode: &Mode, text: &[u8]) -> Result<PartsText, TextError>
     ensures ok { IfOk result (λ parts. events_of mode.now text.now ≡ Ok parts.events) }

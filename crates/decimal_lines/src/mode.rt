@@ -1,11 +1,11 @@
 //! How each line is formatted.
 
-use icu_base::ASCII_DIGITS;
 use icu_decimal::options::DecimalFormatterOptions;
 use icu_decimal::provider::DecimalSymbols;
 use icu_decimal::{CompactDecimalFormatter, DecimalFormatter};
 use std::alloc::Global;
 use thiserror::Error;
+use writeable::ASCII_DIGITS;
 
 /// Why there is no formatter.
 #[derive(Clone, Copy, Debug, PartialEq, Eq, Error)]
@@ -13,7 +13,7 @@ pub enum StartError {
     /// The file of tables isn't UTF-8, or its text is refused.
     #[error("tables refused")]
     Tables,
-    /// The tables don't say what the formatter needs.
+    /// The tables lack data that the formatter needs.
     #[error("no data")]
     NoData,
     /// An allocation was refused.

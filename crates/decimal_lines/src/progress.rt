@@ -1,7 +1,7 @@
 //! An input that is answered piece by piece, each in an output of limited size.
 
 ghost use Rattle.std.specs.Prelude.{◌≡◌, ◌<◌, ◌⊎◌, Err, length, OnErr, OnOk};
-ghost use Rattle.decimal_lines.specs.Answers.{answer_to};
+ghost use Rattle.decimal_lines.specs.LineAnswers.{answer_to};
 ghost use Rattle.decimal_lines.specs.Lines.{line_output};
 ghost use Rattle.decimal_lines.specs.Progress.{AnswersFirst, NextNeeds};
 
@@ -13,11 +13,11 @@ use std::alloc::{AllocError, Global};
 /// How far an input is answered (this project's own).
 #[derive(Clone, Copy, Debug, PartialEq, Eq)]
 pub struct Progress {
-    /// How many bytes of the input are answered, from its front; they end at a line's end.
+    /// How many bytes of the input are answered, from its front; they end with a line.
     pub consumed: usize,
-    /// How many bytes of the output are written, from its front: the answers to these.
+    /// How many bytes of the output are written, from its front: the answers to the consumed bytes.
     pub written: usize,
-    /// How long the answer is that found no room, with its line feed; else 0.
+    /// The length of the answer that didn't fit, with its line feed; else 0.
     pub needed: usize,
     /// Whether the whole input is answered, or why not.
     pub outcome: Result<(), FillError>,
@@ -36,7 +36,7 @@ fn answer_line(
     push_line(alloc, mode, line, text)
 }
 
-/// How far an input is answered that isn't answered whole.
+/// The progress in an input that isn't answered to its end.
 fn stopped(consumed: usize, written: usize, needed: usize, error: FillError) -> Progress
     ensures { result ≡ record {
       consumed = consumed;
@@ -53,13 +53,14 @@ fn stopped(consumed: usize, written: usize, needed: usize, error: FillError) -> 
     }
 }
 
-/// Formats as many lines of the input into the output as have room; how far that is, and how much room the next line needs
-/// (this project's own).
+/// Formats as many lines of the input into the output as fit. The result says how far that is, and
+/// how much room the next answer needs (this project's own).
 ///
-/// A caller goes on behind the bytes that are consumed, with any output that holds one line. What lines and answers are is
-/// said at [`run`](crate::run). Want of memory comes before the room for a line is judged.
+/// The caller continues behind the consumed bytes, with any output that has room for one answer.
+/// Lines and answers are those of [`run`](crate::run). If an allocation is refused, `OutOfMemory`
+/// is reported even if the answer wouldn't fit.
 pub fn format_some(alloc: Global, mode: &Mode, input: &[u8], output: &mut [u8]) -> Progress
-    // Whatever the outcome, what was written is the output of what is consumed.
+    // Whatever the outcome, what was written is the output of the consumed bytes.
     ensures holds { AnswersFirst (answer_to mode.now) input.now output.old output.new
         result.consumed result.written }
 
@@ -67,12 +68,12 @@ pub fn format_some(alloc: Global, mode: &Mode, input: &[u8], output: &mut [u8]) 
     ensures ok { OnOk result.outcome (result.consumed ≡ length input.now) }
     ensures err { OnErr result.outcome (result.consumed < length input.now) }
 
-    // The next line's answer is so long and finds no room.
+    // The next line's answer is `needed` bytes long and doesn't fit.
     ensures too_small { result.outcome ≡ Err FillError.TooSmall
         → NextNeeds (answer_to mode.now) input.now output.old result.consumed result.written
         result.needed }
 
-    // Otherwise none is needed.
+    // Otherwise `needed` is 0.
     ensures unneeded { (result.outcome ≡ Err FillError.TooSmall) ⊎ (result.needed ≡ 0) }
 {
     let mut text = Vec::new(alloc);

@@ -2,7 +2,7 @@
 
 ghost use Rattle.std.specs.Prelude.{◌≡◌, ◌≢◌, ◌<◌, [], Some, Err, OnOk, OnErr, IfSome, IfOk, length, vec_len};
 ghost use Rattle.std.specs.Io.KnownBytes.{Appends};
-ghost use Rattle.decimal_lines.specs.Answers.{answer_to};
+ghost use Rattle.decimal_lines.specs.LineAnswers.{answer_to};
 ghost use Rattle.decimal_lines.specs.Lines.{output_of, IsPartLine};
 ghost use Rattle.decimal_lines.specs.Written.{AppendsBeginning, AppendsProperBeginning, StopsBetween};
 

@@ -3,8 +3,8 @@
 ghost use Rattle.std.specs.Prelude.{◌≡◌, map};
 ghost use Rattle.decimal_lines.specs.Words.{grouping_named, locale_named, strategy_named, style_named, system_named, words_from, words_of};
 
-use icu_base::{DataLocale, NumberingSystem};
 use icu_decimal::options::GroupingStrategy;
+use icu_provider::{DataLocale, NumberingSystem};
 use std::marker::Model;
 
 /// How numbers are written: in full, or shortened by the short or the long patterns of the tables.
@@ -29,7 +29,7 @@ pub struct Words<'a> {
     pub system: Option<NumberingSystem>,
     /// How numbers are written.
     pub style: Style,
-    /// When separators are written; `None` leaves it to the default of the style.
+    /// When separators are written; `None` is the default of the style.
     pub grouping: Option<GroupingStrategy>,
 }
 
@@ -58,7 +58,7 @@ fn locale_named(word: &str) -> Option<DataLocale>
     }
 }
 
-/// The numbering system of a word, none for a hyphen.
+/// The numbering system of a word; none for a hyphen.
 #[tactic(auto, unfolding(crate::specs::Words::system_named))]
 fn system_named(word: &str) -> Option<Option<NumberingSystem>>
     ensures { result ≡ system_named word.now }
@@ -99,7 +99,7 @@ fn strategy_named(word: &str) -> Option<GroupingStrategy>
     }
 }
 
-/// The grouping strategy of at most one word more.
+/// The grouping strategy of the last word, which may be absent.
 #[tactic(auto, unfolding(crate::specs::Words::grouping_named))]
 fn grouping_named(more: &[&str]) -> Option<Option<GroupingStrategy>>
     ensures { result ≡ grouping_named (map (λ w. w.now) more.now) }
@@ -111,7 +111,7 @@ fn grouping_named(more: &[&str]) -> Option<Option<GroupingStrategy>>
     }
 }
 
-/// What the first four words and those after them ask for.
+/// What the first four words and the others after them ask for.
 #[tactic(auto, unfolding(crate::specs::Words::words_from))]
 fn words_from<'a>(
     path: &'a str,
@@ -132,11 +132,11 @@ fn words_from<'a>(
     })
 }
 
-/// What the words after the program's name ask for: `TABLES LOCALE NU|- plain|short|long`, and where it is given one of
-/// `auto`, `never`, `always` and `min2` (this project's own).
+/// What the words after the program's name ask for: `TABLES LOCALE NU|- plain|short|long`, and
+/// where it is given one of `auto`, `never`, `always` and `min2` (this project's own).
 ///
-/// `None` where they are others: fewer or more, a locale or a numbering system that can't be one, another style or
-/// strategy. No words at all are `None` too.
+/// `None` for any other words: a wrong count, also 0; an ill-formed locale or numbering system; an
+/// unknown style or strategy.
 #[tactic(auto, unfolding(crate::specs::Words::words_of))]
 pub fn parse_words<'a>(words: &[&'a str]) -> Option<Words<'a>>
     ensures { result ≡ words_of (map (λ w. w.now) words.now) }

@@ -1,5 +1,5 @@
-//! Rows of text against their output. Values live in functions that answer whether they hold; what was refused memory is
-//! asked once more.
+//! Rows of text against their output. Values live in functions that answer whether they hold; what
+//! was refused memory is asked once more.
 
 mod apart;
 mod by_tables;
@@ -43,7 +43,8 @@ fn english(alloc: Global) -> Result<Mode, StartError> {
     }
 }
 
-/// Whether a run over these bytes, of which `good` can be read, into a writer with this room ends so and leaves this.
+/// Whether a run over these bytes, of which `good` can be read, into a writer with this room ends
+/// so and leaves this there.
 fn seen_slowly(
     alloc: Global,
     mode: &Mode,

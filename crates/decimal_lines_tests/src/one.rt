@@ -1,10 +1,10 @@
-//! One text, which is no line: its characters in rooms of each length, and its parts. Values live in functions that answer
-//! whether they hold; what was refused memory is asked once more.
+//! A single text instead of a line: its characters in rooms of each length, and its parts. Values
+//! live in functions that answer whether they hold; what was refused memory is asked once more.
 
 use decimal_lines::{Mode, StartError, TextError, Words, format_parts, format_text, parse_words};
-use icu_base::PartsText;
 use sample_tables::SAMPLE;
 use std::alloc::{AllocError, Global};
+use writeable::PartsText;
 
 /// Which mode a row asks for.
 #[derive(Clone, Copy)]

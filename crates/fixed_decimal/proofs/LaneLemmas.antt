@@ -1,4 +1,10 @@
 -- From the mask of sixteen lanes to the digits that they begin with.
+-- A mask shifted by k is the mask of the lanes after the first k (`mask_l-drop`, by induction on k: halving drops a lane),
+-- and the count of its trailing zeros, from std, is the number of lanes before the first that stops. Whether a lane stops
+-- is `top 7 (ge 10 (sub x 48))`, a subtraction that wraps and a comparison: that a lane goes on exactly at `is_ascii_digit`
+-- is computed for all 256 bytes (`agree_below`) where the lemma is used. The operations of a lane are therefore variables
+-- here; arithmetic on bits would be needed to show the agreement for a byte that is a variable. Below that are lists alone:
+-- a short text with zeros behind it, copied by its two ends, and longer texts in steps of sixteen.
 use Rattle.std.proofs.Common.{◌≡◌, ℕ, ◌+◌, ◌-◌, ◌*◌, ◌%◌, ◌/◌, ◌^◌, ◌<◌, ◌≤◌, Bool, true, false, not, cond, List, []}
 use Rattle.std.proofs.Common.{◌∷◌, map, length, get_or, take, drop, Fits, w8, refl, sym, ap, ◌∙◌, arith, zero, suc, replicate, ◌++◌}
 use Rattle.std.proofs.lemmas.Bool.{agree_below, agree_below_at}
@@ -32,7 +38,7 @@ mask_l-drop (suc k) (m ∷ ms) =
     ∙ ap (λ n. n / 2 ^ k) (lowest m (mask_l ms))
     ∙ mask_l-drop k ms
 
--- the same lanes pass two tests that agree on bytes
+-- two tests that agree on bytes are passed by the same lanes at the front
 prefix_len-agrees : (p q : ℕ → Bool) → ((x : ℕ) → x < 256 → p x ≡ q x) → (xs : List ℕ) → Each1 (λ x. x < 256) xs →
     prefix_len p xs ≡ prefix_len q xs
 prefix_len-agrees p q same [] h = refl
@@ -63,19 +69,19 @@ module _ (sub ge : ℕ → ℕ → ℕ) (agree : agree_below (λ x. not (top 7 (
   digits_are = prefix_len-agrees (λ x. not (stops x)) is_ascii_digit (λ x small. agree_below_at (λ x. not (stops x)) is_ascii_digit 256 x agree small)
       (drop start v) (Each1-from_get_or (λ x. x < 256) (drop start v) 0 (λ k h. rw (get_or-drop start v k 0) (fits (start + k)).fits))
 
-  -- where no lane behind the start stops, all of them are digits
+  -- where no lane from the start on stops, all of them are digits
   pub none_stops : mask % 2 ^ 64 / 2 ^ start ≡ 0 → 16 - start ≡ prefix_len is_ascii_digit (drop start v)
   none_stops none =
       omega (arith, leading_from_mask_l stops (drop start v) (sym mask_is ∙ none), length-drop start v, long, digits_are)
 
-  -- else the first that stops ends the digits
+  -- where some lane stops, the first of them ends the digits
   pub one_stops : (mask % 2 ^ 64 / 2 ^ start ≡ 0 → ⊥) → count_trailing_zeros 64 (mask % 2 ^ 64 / 2 ^ start) ≡ prefix_len is_ascii_digit (drop start v)
   one_stops some =
       ap (count_trailing_zeros 64) mask_is
       ∙ trailing_mask_l stops 64 (drop start v) (omega (arith, length-drop start v, long)) (omega (arith, mask_is, some))
       ∙ digits_are
 
--- what is taken from digits gives their values
+-- the subtraction gives the values of the lanes that are digits
 pub values_are : (sub : ℕ → ℕ → ℕ) → agree_below (λ x. if is_ascii_digit x then sub x 48 == x - 48 else true) (λ _. true) 256 ≡ true →
     (v : List ℕ) → length v ≡ 16 → (n : ℕ) → AllPass is_ascii_digit (take n v)
     → take n (zip2 sub (chunk 0 16 v) (replicate 16 48)) ≡ digit_values (take n v)
@@ -94,7 +100,7 @@ values_are sub agree v long n digits =
         rw (here x (All-head (λ x. is_ascii_digit x ≡ true) x (take n v) digits), go v n (All-tail (λ x. is_ascii_digit x ≡ true) x (take n v) digits))
         refl
 
--- as many bytes of a text's beginning as of its end, written over zeros, are the text and zeros behind it
+-- the first n and the last n bytes of a text, written over zeros, are the text and zeros behind it
 pub both_ends : (text zeros first last front result : List ℕ) (n : ℕ) → n ≤ length text → length text ≤ n + n → length text ≤ 16 →
     zeros ≡ replicate 16 0 → first ≡ take n text → last ≡ drop (length text - n) text
     → front ≡ first ++ drop (0 + length first) zeros → result ≡ take (length text - n) front ++ (last ++ drop (length text - n + length last) front) →
@@ -121,7 +127,7 @@ both_ends text zeros first last front result n part both short e0 e1 e2 eg er =
     ∙ sym (append_assoc (take (length text - n) text) (drop (length text - n) text) (replicate (16 - length text) 0))
     ∙ ap (λ (l : List ℕ). l ++ replicate (16 - length text) 0) (take-append-drop (length text - n) text)
 
--- zeros behind two texts
+-- the lanes behind two texts are still zeros
 pub both_left : (front back zeros part : List ℕ) → part ≡ drop (length front) zeros → zeros ≡ replicate 16 0 → length front + length back ≤ 16 →
     drop (length back) part ≡ replicate (16 - (length front + length back)) 0
 both_left front back zeros part e f le =
@@ -144,7 +150,7 @@ padded_digits text n zero le = go text
 padded_digits [] n (suc start) le = absurd (omega arith)
 padded_digits (x ∷ text) n (suc start) le = padded_digits text n start (omega arith)
 
--- digits that end inside a part are all that stand there
+-- digits that end inside of the first n items are all the digits at the front
 pub part_ends : (n : ℕ) (xs : List ℕ) → prefix_len is_ascii_digit (take n xs) < length (take n xs) →
     prefix_len is_ascii_digit xs ≡ prefix_len is_ascii_digit (take n xs)
 part_ends zero xs some = absurd (omega arith)
@@ -157,7 +163,7 @@ part_ends (suc n) (x ∷ xs) some = go (is_ascii_digit x) (part_ends n xs) some
     go true more some = ap (λ k. 1 + k) (more (omega arith))
     go false more some = refl
 
--- digits that fill a part go on behind it
+-- where the first n items are digits, the digits at the front go on behind them
 pub part_full : (n : ℕ) (xs : List ℕ) → prefix_len is_ascii_digit (take n xs) ≡ n →
     prefix_len is_ascii_digit xs ≡ n + prefix_len is_ascii_digit (drop n xs)
 part_full zero xs all = omega arith
@@ -170,7 +176,7 @@ part_full (suc n) (x ∷ xs) all = go (is_ascii_digit x) (part_full n xs) all
     go true more all = omega (arith, more (omega arith))
     go false more all = absurd (omega arith)
 
--- one more step over sixteen bytes, of which this many are digits
+-- one more step, over the sixteen bytes from `count` on, which begin with `run` digits
 module _ (text : List ℕ) (count run : ℕ) (inside : count + 16 ≤ length text)
     (found : run ≡ prefix_len is_ascii_digit (take (count + 16 - count) (drop count text))) where
   pub step_long : length (take 16 (drop count text)) ≡ 16
@@ -185,12 +191,12 @@ module _ (text : List ℕ) (count run : ℕ) (inside : count + 16 ≤ length tex
   pub step_within : run ≤ 16
   step_within = omega (arith, step_found, step_long, prefix_len-le-length is_ascii_digit (take 16 (drop count text)))
 
-  -- with fewer the digits end there
+  -- with fewer than sixteen digits in a step, the digits of the text end in it
   pub step_ends : run < 16 → prefix_len is_ascii_digit text ≡ count + prefix_len is_ascii_digit (drop count text) →
       count + run ≡ prefix_len is_ascii_digit text
   step_ends short so_far = omega (arith, so_far, step_found, part_ends 16 (drop count text) (omega (arith, step_found, step_long)))
 
-  -- with sixteen they may go on
+  -- with sixteen digits in a step, the digits of the text go on behind it as far as those of the rest
   pub step_goes_on : 16 ≤ run → prefix_len is_ascii_digit text ≡ count + prefix_len is_ascii_digit (drop count text) →
       prefix_len is_ascii_digit text ≡ count + run + prefix_len is_ascii_digit (drop (count + run) text)
   step_goes_on full so_far =

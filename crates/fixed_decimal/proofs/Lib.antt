@@ -1,12 +1,12 @@
 pub mod Weights
-pub mod MagnitudeLemmas
+pub mod MagnitudePlaces
 pub mod Nearness
 pub mod Halves
 pub mod Places
 pub mod Numerals
 pub mod Readings
 pub mod Rounds
-pub mod MagnitudePowers
+pub mod Magnitudes
 pub mod Rounded
 pub mod NumberDigits
 pub mod Moved

@@ -16,7 +16,7 @@ use Rattle.fixed_decimal.proofs.Rounds.{finest_large, weighed-zeros}
 use Rattle.fixed_decimal.proofs.Rounded.{power_is}
 use Rattle.fixed_decimal.proofs.Places.{digit_at-moved}
 
--- zeros before and behind, and each digit k powers higher: 10 ^ k times as much
+-- with zeros before and behind the digits, and each digit k powers higher, the size is ten to k times the size before
 pub moved_size : (ds : List ℕ) (s : ℕ) (k : ℤ) (f b s' : ℕ) → s ≤ finest → s' ≤ finest → pos s' ≡ (pos s -ℤ k) +ℤ pos b →
     weighed (finest - s') (replicate f 0 ++ (ds ++ replicate b 0)) * 10 ^ scale_at k ≡ weighed (finest - s) ds * 10 ^ zeros_at k
 moved_size ds s k f b s' fine fine' scale =

@@ -12,7 +12,7 @@ multiple_cases u q k = elim (cases_lt q k) [
   | inr h ↦ inl (omega (arith, mul-le-mul_left u h))
 ]
 
--- less than half a unit above q units
+-- q units are nearest to q units and a rest of less than half a unit
 pub nearest_below : (u q r : ℕ) → 2 * r < u → IsNearest (IsMultiple u) u (q * u + r) (q * u)
 nearest_below u q r h = record {
   allowed = (q, refl);
@@ -20,7 +20,7 @@ nearest_below u q r h = record {
   even = λ z (k, e) other same. absurd (elim (multiple_cases u q k) [ inl g ↦ other (omega arith) | inr g ↦ omega arith ]);
 }
 
--- more than half a unit above q units
+-- q + 1 units are nearest to q units and a rest of more than half a unit
 pub nearest_above : (u q r : ℕ) → r ≤ u → u < 2 * r → IsNearest (IsMultiple u) u (q * u + r) ((q + 1) * u)
 nearest_above u q r le h = record {
   allowed = (q + 1, refl);
@@ -28,7 +28,7 @@ nearest_above u q r le h = record {
   even = λ z (k, e) other same. absurd (elim (multiple_cases u q k) [ inl g ↦ omega arith | inr g ↦ other (omega arith) ]);
 }
 
--- half a unit above an even number of units
+-- q units are nearest to q units and half a unit, where q is even
 pub nearest_tie_even : (u q r j : ℕ) → 2 * r ≡ u → q ≡ 2 * j → IsNearest (IsMultiple u) u (q * u + r) (q * u)
 nearest_tie_even u q r j h even = record {
   allowed = (q, refl);
@@ -36,7 +36,7 @@ nearest_tie_even u q r j h even = record {
   even = λ z _ _ _. (j, ap (λ n. n * u) even);
 }
 
--- half a unit above an odd number of units
+-- q + 1 units are nearest to q units and half a unit, where q is odd
 pub nearest_tie_odd : (u q r j : ℕ) → 2 * r ≡ u → q + 1 ≡ 2 * j → IsNearest (IsMultiple u) u (q * u + r) ((q + 1) * u)
 nearest_tie_odd u q r j h even = record {
   allowed = (q + 1, refl);
@@ -44,7 +44,7 @@ nearest_tie_odd u q r j h even = record {
   even = λ z _ _ _. (j, ap (λ n. n * u) even);
 }
 
--- no two sizes are both nearest
+-- at most one multiple is nearest
 pub nearest-unique : (u x y z : ℕ) → 0 < u → IsNearest (IsMultiple u) u x y → IsNearest (IsMultiple u) u x z → y ≡ z
 nearest-unique u x y z some ny nz =
     elim (cases_eq y z) [

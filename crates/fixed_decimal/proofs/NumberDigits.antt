@@ -8,10 +8,10 @@ use Rattle.std.proofs.Math.Nat.{mul-le-mul_left}
 use Rattle.std.proofs.lemmas.Int.{ints}
 use Rattle.fixed_decimal.specs.Unsigned.{AreDigits, IsUnsigned}
 use Rattle.fixed_decimal.specs.Size.{weighed, finest}
-use Rattle.fixed_decimal.proofs.MagnitudePowers.{IsMagnitude, magnitude_first}
+use Rattle.fixed_decimal.proofs.Magnitudes.{IsMagnitude, magnitude_first}
 use Rattle.fixed_decimal.proofs.Weights.{ten_pos, ten_mono, ten_more, same_power, weighed_units}
 
--- the digits found so far, the last one first, the rest and the whole number
+-- a number is the digits found so far, the last one first, and the rest, which stands before them
 pub record IsSplit (number rest : ℕ) (found : List ℕ) : Type 0 where
   pub sum : rest * 10 ^ length found + weighed 0 (reverse found) ≡ number
   pub below_ten : AreDigits found
@@ -46,7 +46,7 @@ split_more number rest found some is =
       first = λ e h. rw back (λ f. omega arith);
     }
 
--- a number of 64 bits has few digits
+-- while something is left of a number of 64 bits, fewer than twenty digits are found
 pub split_short : (number rest : ℕ) (found : List ℕ) → 0 < rest → number < 2 ^ 64 → IsSplit number rest found → length found < 20
 split_short number rest found some small is =
     elim (cases_lt (length found) 20) [
@@ -57,7 +57,7 @@ split_short number rest found some small is =
     one : 1 ≤ rest
     one = some
 
--- at the end
+-- where nothing is left, the digits write the number
 pub split_number : (number rest : ℕ) (found : List ℕ) → rest ≤ 0 → IsSplit number rest found → weighed 0 (reverse found) ≡ number
 split_number number rest found none is =
     let zero : rest ≡ 0 = omega arith in
@@ -71,6 +71,7 @@ split_size number rest found ds e none is =
     let same : finest - 0 ≡ finest + 0 = omega arith in
     rw (e, same) (weighed_units (finest + 0) (reverse found) ∙ ap (λ n. n * 10 ^ (finest + 0)) (split_number number rest found none is))
 
+-- digits in reverse order are digits
 pub AreDigits-reverse : (ds : List ℕ) → AreDigits ds → AreDigits (reverse ds)
 AreDigits-reverse ds h k d l =
     let inside : k < length ds = omega (arith, length-reverse ds) in
@@ -88,7 +89,7 @@ split_valid number rest found ds e few is =
       low_limit = omega arith;
     }
 
--- the greatest power of the digits that were split off
+-- the magnitude of the number is the greatest power of the digits that were split off
 pub split_high : (number rest : ℕ) (found ds : List ℕ) (m : ℤ) → ds ≡ reverse found → rest ≤ 0 → IsSplit number rest found →
     m ≡ pos (length ds - 0) -ℤ pos 1 → IsMagnitude (weighed (finest - 0) ds) m
 split_high number rest found ds m e none is at_high =

@@ -1,4 +1,10 @@
 -- A text is a numeral in at most one way, which the digits that it begins with tell.
+-- What follows the digits before the point is nothing or the point, which is no digit; so the count of leading digits (std's
+-- `prefix_len`) is the length of the first list, and both lists are functions of the text. Comparing two spellings item by
+-- item would have to rule out that one goes on with a digit where the other has the point.
+-- Then both ways of the test in `split_numeral`: where it passes, the text is a numeral (`whole_numeral`, `pointed_numeral`),
+-- and of a numeral it passes (`has_point`, `has_fraction`, `fraction_passes`); the next module has this for the code's slices.
+-- The rest adds the sign, which is determined since a numeral begins with none, and the limits.
 use Rattle.std.proofs.Common.{◌≡◌, ◌≢◌, ℕ, ◌+◌, ◌-◌, ◌<◌, ◌≤◌, ◌⊎◌, inl, inr, List, [], ◌∷◌, ◌++◌, length, take}
 use Rattle.std.proofs.Common.{drop, get_or, refl, sym, ◌∙◌, ap, arith, add-zero, length-append, max, true}
 use Rattle.std.proofs.lemmas.List.{append-nil, take_rest, get_or-drop, length-map, take_at, drop_at, drop-drop, drop_all, take_all, length-take, length-drop}
@@ -18,14 +24,16 @@ use Rattle.fixed_decimal.proofs.Weights.{AreDigits-head, AreDigits-tail}
 pub digit_passes : (d : ℕ) → d < 10 → is_ascii_digit (48 + d) ≡ true
 digit_passes d h = grind (arith, nat_tests)
 
-pub prefix_len-numeral : (before after : List ℕ) → AreDigits before →
+-- the digits that the text of a numeral begins with are those before the point
+prefix_len-numeral : (before after : List ℕ) → AreDigits before →
     prefix_len is_ascii_digit (digits_text before ++ fraction_text after) ≡ length before
 prefix_len-numeral [] [] h = refl
 prefix_len-numeral [] (a ∷ after) h = refl
 prefix_len-numeral (b ∷ before) after h =
     rw (digit_passes b (AreDigits-head b before h), prefix_len-numeral before after (AreDigits-tail b before h)) (omega arith)
 
-pub prefix_len-digits : (ds : List ℕ) → AreDigits ds → prefix_len is_ascii_digit (digits_text ds) ≡ length (digits_text ds)
+-- a text of digits alone begins with all of them
+prefix_len-digits : (ds : List ℕ) → AreDigits ds → prefix_len is_ascii_digit (digits_text ds) ≡ length (digits_text ds)
 prefix_len-digits [] h = refl
 prefix_len-digits (d ∷ ds) h =
     rw (digit_passes d (AreDigits-head d ds h), prefix_len-digits ds (AreDigits-tail d ds h)) (omega arith)
@@ -47,7 +55,7 @@ module _ (text before after : List ℕ) (is : IsNumeral text before after) where
   rest_is : drop (prefix_len is_ascii_digit text) text ≡ fraction_text after
   rest_is = rw (count_is, is.spelled) (drop_at (digits_text before) (fraction_text after) (length before) (length-map before (λ d. 48 + d)))
 
--- so both lists of digits are told by the text
+-- a text is the numeral of one list of digits before the point and of one after it
 pub IsNumeral-unique : (text b a b' a' : List ℕ) → IsNumeral text b a → IsNumeral text b' a' → (b ≡ b') × (a ≡ a')
 IsNumeral-unique text b a b' a' is is' =
     let fronts : digits_text b ≡ digits_text b' = sym (front_is text b a is) ∙ front_is text b' a' is' in
@@ -68,6 +76,7 @@ IsNumeral-unique text b a b' a' is is' =
 abbrev pub BeginsUnsigned : List ℕ → Type 0
 BeginsUnsigned n = (x : ℕ) (xs : List ℕ) → n ≡ x ∷ xs → (x ≢ 43) × (x ≢ 45)
 
+-- a numeral begins with a digit or the point, and so with no sign
 pub begins_unsigned : (n b a : List ℕ) → IsNumeral n b a → BeginsUnsigned n
 begins_unsigned n [] [] is x xs e = absurd (omega (arith, is.some_digit))
 begins_unsigned n [] (a ∷ aa) is x xs e =
@@ -77,20 +86,20 @@ begins_unsigned n (b ∷ bs) aa is x xs e =
     let digit : x ≡ 48 + b = ap (λ l. get_or l 0 0) (sym e ∙ is.spelled) in
     (omega arith, omega arith)
 
--- what follows the sign is told by the text too
-pub same_numeral : (s s' : Sign) (n n' : List ℕ) → BeginsUnsigned n → BeginsUnsigned n' → sign_text s ++ n ≡ sign_text s' ++ n' → n ≡ n'
-same_numeral None None n n' h h' e = e
-same_numeral None Negative n n' h h' e = absurd ((h 45 n' e).1 refl)
-same_numeral None Positive n n' h h' e = absurd ((h 43 n' e).0 refl)
-same_numeral Negative None n n' h h' e = absurd ((h' 45 n (sym e)).1 refl)
-same_numeral Positive None n n' h h' e = absurd ((h' 43 n (sym e)).0 refl)
-same_numeral Negative Negative n n' h h' e = ap (drop 1) e
-same_numeral Positive Positive n n' h h' e = ap (drop 1) e
-same_numeral Negative Positive n n' h h' e = absurd (different (ap (λ l. get_or l 0 0) e))
+-- a text is a sign and what begins with no sign in one way at most
+same_signed : (s s' : Sign) (n n' : List ℕ) → BeginsUnsigned n → BeginsUnsigned n' → sign_text s ++ n ≡ sign_text s' ++ n' → (s ≡ s') × (n ≡ n')
+same_signed None None n n' h h' e = (refl, e)
+same_signed None Negative n n' h h' e = absurd ((h 45 n' e).1 refl)
+same_signed None Positive n n' h h' e = absurd ((h 43 n' e).0 refl)
+same_signed Negative None n n' h h' e = absurd ((h' 45 n (sym e)).1 refl)
+same_signed Positive None n n' h h' e = absurd ((h' 43 n (sym e)).0 refl)
+same_signed Negative Negative n n' h h' e = (refl, ap (drop 1) e)
+same_signed Positive Positive n n' h h' e = (refl, ap (drop 1) e)
+same_signed Negative Positive n n' h h' e = absurd (different (ap (λ l. get_or l 0 0) e))
   where
     different : ◌≡◌ {A = ℕ} 45 43 → ⊥
     different h = omega arith
-same_numeral Positive Negative n n' h h' e = absurd (different (ap (λ l. get_or l 0 0) e))
+same_signed Positive Negative n n' h h' e = absurd (different (ap (λ l. get_or l 0 0) e))
   where
     different : ◌≡◌ {A = ℕ} 43 45 → ⊥
     different h = omega arith
@@ -99,18 +108,19 @@ same_numeral Positive Negative n n' h h' e = absurd (different (ap (λ l. get_or
 abbrev pub number_of : List ℕ → List ℕ → Unsigned
 number_of before after = record { digits = integer_of before ++ after; scale = length after }
 
+-- where a text is a sign and a numeral, the number that it spells is that of this numeral
 pub Reads-unique : (text : List ℕ) (s s' : Sign) (n b a : List ℕ) (d : Unsigned) → text ≡ sign_text s ++ n → IsNumeral n b a → Reads text s' d →
     d ≡ number_of b a
 Reads-unique text s s' n b a d signed is r =
-    let numerals : n ≡ r.numeral = same_numeral s s' n r.numeral (begins_unsigned n b a is) (begins_unsigned r.numeral r.before r.after r.spelled)
-    (sym signed ∙ r.signed) in
+    let numerals : n ≡ r.numeral =
+    (same_signed s s' n r.numeral (begins_unsigned n b a is) (begins_unsigned r.numeral r.before r.after r.spelled) (sym signed ∙ r.signed)).1 in
     let same : (b ≡ r.before) × (a ≡ r.after) = IsNumeral-unique n b a r.before r.after is (rw numerals r.spelled) in
     made d b a (rw (same.0, same.1) r.digits) (rw same.1 r.scale)
   where
     made : (u : Unsigned) (b a : List ℕ) → u.digits ≡ integer_of b ++ a → u.scale ≡ length a → u ≡ number_of b a
     made u b a e f = λ i. record { digits = e i; scale = f i }
 
--- bytes that pass the test write their values
+-- bytes that pass the test of a digit are the text of their values
 pub digits_text-values : (bs : List ℕ) → AllPass is_ascii_digit bs → digits_text (digit_values bs) ≡ bs
 digits_text-values [] h = refl
 digits_text-values (b ∷ bs) h =
@@ -132,14 +142,14 @@ pub fraction_bytes : (bs : List ℕ) → AllPass is_ascii_digit bs → 0 < lengt
 fraction_bytes [] h some = absurd (omega arith)
 fraction_bytes (b ∷ bs) h some = ap (λ l. 46 ∷ l) (digits_text-values (b ∷ bs) h)
 
--- what the digits at the front and behind the point decide
+-- which texts are numerals, by the digits at the front and behind the point
 module _ (text : List ℕ) where
   front_passes : AllPass is_ascii_digit (take (prefix_len is_ascii_digit text) text)
   front_passes = All-from_get_or (λ x. is_ascii_digit x ≡ true) _ 0 (λ k h.
       let inside : k < prefix_len is_ascii_digit text = omega (arith, length-take (prefix_len is_ascii_digit text) text) in
       rw get_or-take (prefix_len_passes is_ascii_digit text k 0 inside))
 
-  -- a tail of which every byte passes
+  -- where the digits of a tail are all of it, each of its bytes passes
   pub tail_passes : (n : ℕ) → prefix_len is_ascii_digit (drop n text) ≡ length (drop n text) → AllPass is_ascii_digit (drop n text)
   tail_passes n all = All-from_get_or (λ x. is_ascii_digit x ≡ true) _ 0 (λ k h. prefix_len_passes is_ascii_digit (drop n text) k 0 (omega arith))
 
@@ -203,7 +213,7 @@ module _ (text : List ℕ) where
         prefix_len is_ascii_digit (drop (prefix_len is_ascii_digit text + 1) text) ≡ length (drop (prefix_len is_ascii_digit text + 1) text)
     fraction_passes inside = rw (after_is inside) (prefix_len-digits after is.after_digits)
 
--- the same, as the code names the parts: n is the count of leading digits
+-- the same with the parts as the code has them: n is the count of leading digits
 module _ (text : List ℕ) (n : ℕ) (e : n ≡ prefix_len is_ascii_digit text) where
   -- a text of leading digits alone is the numeral of these digits, which are its integer
   pub whole : n ≡ length text → 0 < n → IsNumeral text (digit_values (take n text)) (digit_values (take (length text - n) (drop n text)))
@@ -248,7 +258,7 @@ module _ (text : List ℕ) (n : ℕ) (e : n ≡ prefix_len is_ascii_digit text) 
           ≡ length (take (length text - (n + 1)) (drop (n + 1) text))
       fraction_passes_at = rw (take_rest, e) (fraction_passes text before after is inside_prefix)
 
--- the number is one that the limits allow
+-- a number with at most 32768 digits before the point and as many after it is a decimal
 pub number_valid : (b a : List ℕ) → AreDigits b → AreDigits a → length b ≤ 32768 → length a ≤ 32768 → IsUnsigned (number_of b a)
 number_valid b a hb ha lb la = record {
   below_ten = All-append (λ d. d < 10) (integer_of b) a (integer_digits b hb) ha;
@@ -270,6 +280,7 @@ pub limits_iff : (b a : List ℕ) → IsWithinLimits (number_of b a) → (length
 limits_iff [] a h = (omega arith, h.low_limit)
 limits_iff (x ∷ b) a h = (omega (arith, h.high_limit, length-append (x ∷ b) a), h.low_limit)
 
+-- a sign and a numeral spell the number of the numeral
 pub Reads-here : (text : List ℕ) (s : Sign) (n b a : List ℕ) → text ≡ sign_text s ++ n → IsNumeral n b a → Reads text s (number_of b a)
 Reads-here text s n b a signed is = record { numeral = n; before = b; after = a; signed = signed; spelled = is; digits = refl; scale = refl }
 
@@ -291,7 +302,7 @@ not_past_limits text s n b a signed is lb la (t, d, r, past) =
 pub reads_something : (text : List ℕ) (s : Sign) (n b a : List ℕ) → text ≡ sign_text s ++ n → IsNumeral n b a → ¬ (ReadsNothing text)
 reads_something text s n b a signed is none = none s (number_of b a) (Reads-here text s n b a signed is)
 
--- the same of written digits
+-- a number with at most 32768 written digits before the point and as many after it is a decimal
 pub text_valid : (before after : List ℕ) → AllPass is_ascii_digit before → AllPass is_ascii_digit after → length before ≤ 32768 →
     length after ≤ 32768 → IsUnsigned (record { digits = integer_of (digit_values before) ++ digit_values after; scale = length after })
 text_valid before after hb ha lb la =
@@ -299,28 +310,10 @@ text_valid before after hb ha lb la =
     rw same at (number_valid (digit_values before) (digit_values after) (AreDigits-values before hb) (AreDigits-values after ha)
     (omega (arith, length-map before (λ c. c - 48))) (omega (arith, same)))
 
--- the sign is told by the text
-same_sign : (s s' : Sign) (n n' : List ℕ) → BeginsUnsigned n → BeginsUnsigned n' → sign_text s ++ n ≡ sign_text s' ++ n' → s ≡ s'
-same_sign None None n n' h h' e = refl
-same_sign None Negative n n' h h' e = absurd ((h 45 n' e).1 refl)
-same_sign None Positive n n' h h' e = absurd ((h 43 n' e).0 refl)
-same_sign Negative None n n' h h' e = absurd ((h' 45 n (sym e)).1 refl)
-same_sign Positive None n n' h h' e = absurd ((h' 43 n (sym e)).0 refl)
-same_sign Negative Negative n n' h h' e = refl
-same_sign Positive Positive n n' h h' e = refl
-same_sign Negative Positive n n' h h' e = absurd (different (ap (λ l. get_or l 0 0) e))
-  where
-    different : ◌≡◌ {A = ℕ} 45 43 → ⊥
-    different h = omega arith
-same_sign Positive Negative n n' h h' e = absurd (different (ap (λ l. get_or l 0 0) e))
-  where
-    different : ◌≡◌ {A = ℕ} 43 45 → ⊥
-    different h = omega arith
-
 -- a text spells one sign and one number at most
 pub Reads-one : (text : List ℕ) (s s' : Sign) (d d' : Unsigned) → Reads text s d → Reads text s' d' → (s ≡ s') × (d ≡ d')
 Reads-one text s s' d d' r r' = (
-  same_sign s s' r.numeral r'.numeral (begins_unsigned r.numeral r.before r.after r.spelled) (begins_unsigned r'.numeral r'.before r'.after r'.spelled)
-      (sym r.signed ∙ r'.signed),
+  (same_signed s s' r.numeral r'.numeral (begins_unsigned r.numeral r.before r.after r.spelled) (begins_unsigned r'.numeral r'.before r'.after r'.spelled)
+      (sym r.signed ∙ r'.signed)).0,
   Reads-unique text s s r.numeral r.before r.after d r.signed r.spelled r ∙ sym (Reads-unique text s s' r.numeral r.before r.after d' r.signed r.spelled r'),
 )

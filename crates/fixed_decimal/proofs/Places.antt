@@ -7,14 +7,14 @@ use Rattle.std.proofs.lemmas.List.{get_or-append_right, length-take-le, length-r
 use Rattle.std.proofs.lemmas.Bool.{cases_lt}
 use Rattle.fixed_decimal.specs.Unsigned.{Unsigned, digit_at, integer_count}
 
--- zeros read as nothing does
+-- each item of zeros is 0, as past the end
 zero_at : (n i : ℕ) → get_or {A = ℕ} (replicate n 0) i 0 ≡ 0
 zero_at n i = elim (cases_lt i n) [
   | inl inside ↦ get_or-replicate n i 0 0 inside
   | inr past ↦ get_or_past (replicate n 0) i 0 (omega (arith, length-replicate {A = ℕ} n 0))
 ]
 
--- zeros around a list read as the list does
+-- with zeros before and behind a list, its items are those of the list, moved, and else 0
 padded : (ds : List ℕ) (f b i : ℕ) → get_or (replicate f 0 ++ (ds ++ replicate b 0)) (f + i) 0 ≡ get_or ds i 0
 padded ds f b i =
     let l : length {A = ℕ} (replicate f 0) ≡ f = length-replicate {A = ℕ} f 0 in
@@ -30,7 +30,7 @@ padded ds f b i =
 zeros_first : (ds : List ℕ) (f i : ℕ) → i < f → get_or (replicate f 0 ++ ds) i 0 ≡ 0
 zeros_first ds f i h = get_or_append_left (replicate f 0) ds 0 i (omega (arith, length-replicate {A = ℕ} f 0)) ∙ zero_at f i
 
--- the digit at a written power, by its place in the list
+-- the digit at a power, by its index in the list of digits
 pub digit_at_place : (d : Unsigned) (p : ℤ) (i : ℕ) → d.scale < length d.digits → pos i ≡ (pos (integer_count d) -ℤ pos 1) -ℤ p →
     digit_at d p ≡ get_or d.digits i 0
 digit_at_place d (pos n) i some e =
@@ -53,13 +53,13 @@ digit_at_above d (pos n) some e =
     get_or_past (reverse (take m d.digits)) n 0 (omega (arith, ints, length-reverse (take m d.digits)))
 digit_at_above d (negsuc n) some e = absurd (omega (arith, ints))
 
--- zeros before and behind the digits move each digit, and stand at every power besides
+-- y has the digits of d with f zeros before and b zeros behind them, and f + k digits more before the point
 module _ (d y : Unsigned) (f b : ℕ) (k : ℤ) (some : d.scale < length d.digits) (some' : y.scale < length y.digits)
     (digits : y.digits ≡ replicate f 0 ++ (d.digits ++ replicate b 0)) (count : pos (integer_count y) ≡ (pos (integer_count d) +ℤ k) +ℤ pos f) where
   behind : (i : ℕ) → get_or y.digits (f + i) 0 ≡ get_or d.digits i 0
   behind i = ap (λ l. get_or l (f + i) 0) digits ∙ padded d.digits f b i
 
-  -- the digit at a power stands at the moved power
+  -- so each digit of d stands k powers higher in y
   pub digit_at-moved : (p : ℤ) → digit_at y (p +ℤ k) ≡ digit_at d p
   digit_at-moved p = go ((pos (integer_count d) -ℤ pos 1) -ℤ p) refl
     where

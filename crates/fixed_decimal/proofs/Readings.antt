@@ -1,4 +1,10 @@
 -- What a text reads as, computed and as a relation.
+-- From the relation to what is computed (`reading-reads`): the text is written as sign, digits and fraction, and each step of
+-- the computation takes its part off the front, by induction on the digits; that it stops there needs that no digit follows.
+-- Back (`reading-spells`): by cases on each test of the computation, where `go` has the answer of the test as a variable and
+-- its equation besides, since `if` is computed only at true and false. Each case gives the parts of which the text consists.
+-- That nothing is computed exactly where nothing is spelled follows from both. Uniqueness (proofs/Numerals) is not needed:
+-- both directions name the parts.
 use Rattle.std.proofs.Common.{◌≡◌, ℕ, ◌<◌, ◌+◌, ◌-◌, Bool, true, false, List, [], ◌∷◌, ◌++◌, length, refl, sym, ap, ◌∙◌}
 use Rattle.std.proofs.Common.{subst, arith, ne_eqb, Option, Some, None, append-nil, All}
 use Rattle.std.specs.Prelude.{◌==◌, if◌then◌else◌}
@@ -14,9 +20,9 @@ use Rattle.fixed_decimal.specs.declared.signs.Sign.TheVariants.{None as no_sign,
 use Rattle.fixed_decimal.specs.Unsigned.{Unsigned, AreDigits}
 use Rattle.fixed_decimal.specs.Text.{sign_text, digits_text, fraction_text, integer_of, IsNumeral, Reads, ReadsNothing}
 use Rattle.fixed_decimal.specs.Reading.{Digits, digit_before, leading_digits, number, with_fraction, after_integer, unsigned_reading, signed, reading}
-use Rattle.fixed_decimal.proofs.Numerals.{digit_passes}
+use Rattle.fixed_decimal.proofs.Numerals.{digit_passes, BeginsUnsigned, begins_unsigned}
 
--- no digit stands first
+-- the list does not begin with a digit
 abbrev BeginsNoDigit : List ℕ → Type 0
 BeginsNoDigit [] = Unit {0}
 BeginsNoDigit (b ∷ bs) = is_ascii_digit b ≡ false
@@ -48,36 +54,30 @@ unsigned_reading-text before after some h k =
     ap (λ (d : Digits). after_integer d.values d.rest) (leading_digits-text before (fraction_text after) h (fraction_begins after))
     ∙ after_integer-text before after some k
 
--- no sign stands first
-abbrev BeginsUnsigned : List ℕ → Type 0
-BeginsUnsigned [] = Unit {0}
-BeginsUnsigned (b ∷ bs) = ((b == 45) ≡ false) × ((b == 43) ≡ false)
-
-numeral_begins : (before after : List ℕ) → BeginsUnsigned (digits_text before ++ fraction_text after)
-numeral_begins [] [] = tt
-numeral_begins [] (x ∷ xs) = (refl, refl)
-numeral_begins (d ∷ ds) after = (ne_eqb (48 + d) 45 (λ e. omega arith), ne_eqb (48 + d) 43 (λ e. omega arith))
-
+-- the sign is split off, where what follows it begins with none
 reading-signed : (s : Sign) (n : List ℕ) → BeginsUnsigned n → reading (sign_text s ++ n) ≡ signed s (unsigned_reading n)
 unfolding reading
 reading-signed no_sign [] h = refl
-reading-signed no_sign (b ∷ bs) h = rw (h.0, h.1) refl
+reading-signed no_sign (b ∷ bs) h =
+    let no_sign_first = h b bs refl in
+    rw (ne_eqb b 45 no_sign_first.1, ne_eqb b 43 no_sign_first.0) refl
 reading-signed Negative n h = refl
 reading-signed Positive n h = refl
 
--- what a text reads as is what is computed
+-- what a text spells is computed of it
 pub reading-reads : (text : List ℕ) (s : Sign) (d : Unsigned) → Reads text s d → reading text ≡ Some (s, d)
 reading-reads text s d r =
     let is = r.spelled in
-    ap reading (r.signed ∙ ap (λ (n : List ℕ). sign_text s ++ n) is.spelled)
-    ∙ reading-signed s (digits_text r.before ++ fraction_text r.after) (numeral_begins r.before r.after)
+    ap reading r.signed
+    ∙ reading-signed s r.numeral (begins_unsigned r.numeral r.before r.after is)
+    ∙ ap (λ (n : List ℕ). signed s (unsigned_reading n)) is.spelled
     ∙ ap (signed s) (unsigned_reading-text r.before r.after is.some_digit is.before_digits is.after_digits)
     ∙ ap (λ (u : Unsigned). Some (s, u)) (same d (integer_of r.before ++ r.after) (length r.after) r.digits r.scale)
   where
     same : (u : Unsigned) (ds : List ℕ) (n : ℕ) → u.digits ≡ ds → u.scale ≡ n → record { digits = ds; scale = n } ≡ u
     same u ds n e f = λ i. record { digits = (sym e) i; scale = (sym f) i }
 
--- and the other way round: the digits that are split off spell the text
+-- a byte that passes the test of a digit is the text of its value, which is a digit
 digit_back : (b : ℕ) → is_ascii_digit b ≡ true → (48 + (b - 48) ≡ b) × (b - 48 < 10)
 digit_back b h = (grind (arith, nat_tests), grind (arith, nat_tests))
 

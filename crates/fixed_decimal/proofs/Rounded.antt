@@ -1,4 +1,10 @@
 -- Each way that rounding goes gives a rounded decimal.
+-- The ways are those of `round_digits`: no digit is kept, every digit is kept, the rest is cut off, a digit is raised, or a
+-- carry through nothing but nines makes one digit more. That the result is nearest is cited from proofs/Rounds (`nothing`,
+-- `exact`, `down`, `up`); here it is shown to be a decimal (`valid_of`) with the range that `IsRounded` asks for. Its highest
+-- power depends on the magnitude of the result: the digits before the point bound it (`rounded_within`), and after a carry
+-- it reaches the first of them (`rounded_carry`). A power is taken as zeros_at less scale_at, of which one is 0 (`power_is`,
+-- `one_is_none`), so that `omega` needs no case for its sign; `finest` stays folded, with `finest_large` for its bound.
 use Rattle.std.proofs.Common.{◌≡◌, ◌≢◌, ℕ, suc, zero, ◌+◌, ◌-◌, ◌^◌, ◌<◌, ◌≤◌, ◌⊎◌, inl, inr, List, [], ◌∷◌}
 use Rattle.std.proofs.Common.{◌++◌, length, take, drop, get_or, replicate, length-append, refl, ◌∙◌, ap, arith, ℤ, pos, negsuc, ◌-ℤ◌}
 use Rattle.std.proofs.Common.{◌≤ℤ◌}
@@ -7,14 +13,14 @@ use Rattle.std.proofs.lemmas.Int.{ints, clamps}
 use Rattle.std.proofs.lemmas.List.{length-replicate, length-take-le}
 use Rattle.std.proofs.lemmas.List.Elements.{All-append, All-take, All-push, All-get_or, All-drop, All-replicate, All-cons, All-nil}
 use Rattle.fixed_decimal.specs.Unsigned.{Unsigned, IsUnsigned, AreDigits, integer_count}
-use Rattle.fixed_decimal.specs.Size.{weighed, finest, place, ten_to, magnitude_power, size}
+use Rattle.fixed_decimal.specs.Size.{weighed, finest, place, ten_to, magnitude, size}
 use Rattle.fixed_decimal.specs.Rounding.{RoundsUp, RoundsDown, IsRounded, IsNearestMultiple, RoundsPastLimits, scale_at, zeros_at}
 use Rattle.fixed_decimal.proofs.Weights.{same_power, ten_pos, ten_mono}
 use Rattle.fixed_decimal.proofs.Nearness.{nearest-unique}
 use Rattle.fixed_decimal.proofs.Rounds.{finest_large, down, up, exact, nothing, raised, carried}
-use Rattle.fixed_decimal.proofs.MagnitudePowers.{place_is, magnitude_has, magnitude_ge, magnitude_le-high, size_lt}
+use Rattle.fixed_decimal.proofs.Magnitudes.{place_is, magnitude_has, magnitude_ge, magnitude_le-high, size_lt}
 
--- a power, by its zeros and its scale
+-- a power is its zeros less its scale
 pub power_is : (p : ℤ) → pos (zeros_at p) -ℤ pos (scale_at p) ≡ p
 power_is (pos n) = omega (arith, ints)
 power_is (negsuc n) = omega (arith, ints)
@@ -24,20 +30,21 @@ pub one_is_none : (p : ℤ) → (zeros_at p ≡ 0) ⊎ (scale_at p ≡ 0)
 one_is_none (pos n) = inr refl
 one_is_none (negsuc n) = inl refl
 
-pub low_scale : (p : ℤ) → pos 0 -ℤ pos (scale_at p) ≡ int_min p (pos 0)
+-- the lowest power of a decimal rounded at p is the lower of p and 0
+low_scale : (p : ℤ) → pos 0 -ℤ pos (scale_at p) ≡ int_min p (pos 0)
 low_scale (pos n) = omega (arith, ints, clamps)
 low_scale (negsuc n) = omega (arith, ints, clamps)
 
--- where the range goes no higher than the power below or the old range
+-- the result is rounded where it has as many digits before the point as d, or as many as the power where that is more
 pub rounded_within : (d y : Unsigned) (p : ℤ) → IsUnsigned d → IsUnsigned y → y.scale ≡ scale_at p →
     pos (integer_count y) ≡ int_max (pos (integer_count d)) p → IsNearestMultiple p (size d) (size y) → IsRounded d p y
 rounded_within d y p isd isy s c near = record {
   nearest = near;
   low_is = rw s (low_scale p);
-  high_is = omega (arith, ints, clamps, magnitude_le-high y (magnitude_power (size y)) isy (magnitude_has (size y)));
+  high_is = omega (arith, ints, clamps, magnitude_le-high y (magnitude (size y)) isy (magnitude_has (size y)));
 }
 
--- where it goes one higher, and is reached
+-- the result is rounded where it has one digit more before the point than d, and reaches the power of that digit
 pub rounded_carry : (d y : Unsigned) (p : ℤ) → IsUnsigned d → IsUnsigned y → y.scale ≡ scale_at p → integer_count y ≡ integer_count d + 1 →
     p ≤ℤ pos (integer_count d) → 10 ^ (finest + integer_count d) ≤ size y → IsNearestMultiple p (size d) (size y) → IsRounded d p y
 rounded_carry d y p isd isy s c below reached near = record {
@@ -47,8 +54,8 @@ rounded_carry d y p isd isy s c below reached near = record {
     arith,
     ints,
     clamps,
-    magnitude_le-high y (magnitude_power (size y)) isy (magnitude_has (size y)),
-    magnitude_ge (size y) (magnitude_power (size y)) (integer_count d) reached (magnitude_has (size y)),
+    magnitude_le-high y (magnitude (size y)) isy (magnitude_has (size y)),
+    magnitude_ge (size y) (magnitude (size y)) (integer_count d) reached (magnitude_has (size y)),
   );
 }
 
@@ -76,7 +83,7 @@ module _ (ds : List ℕ) (s : ℕ) (p : ℤ) (is : IsUnsigned (record { digits =
   fine' : scale_at p ≤ finest
   fine' = omega (arith, finest_large, scale_small)
 
-  -- what is true of digits that are to be the result
+  -- these digits, with the scale that the power gives, are a decimal, and the one that is rounded
   abbrev pub Gives : List ℕ → Type 0
   Gives ys = IsUnsigned (record { digits = ys; scale = scale_at p })
       × IsRounded (record { digits = ds; scale = s }) p (record { digits = ys; scale = scale_at p })
@@ -190,7 +197,7 @@ module _ (ds : List ℕ) (s : ℕ) (p : ℤ) (is : IsUnsigned (record { digits =
         pub past_limits : length ds - s ≡ 32768 → RoundsPastLimits (record { digits = ds; scale = s }) p
         past_limits full = (weighed (finest - scale_at p) (1 ∷ replicate (kept + zeros_at p) 0), near_carry, rw full at reaches)
 
--- where none is left but nines, all were nines
+-- where no digit is left in front of the nines, all kept digits are nines
 pub all_nines : (ds : List ℕ) (kept left : ℕ) → left ≤ 0 → take kept ds ≡ take left ds ++ replicate (kept - left) 9 →
     take kept ds ≡ replicate kept 9
 all_nines ds kept zero h e =

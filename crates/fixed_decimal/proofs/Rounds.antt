@@ -12,19 +12,19 @@ use Rattle.fixed_decimal.proofs.Weights.{ten_more, ten_mono, same_power}
 use Rattle.fixed_decimal.proofs.Nearness.{nearest_below}
 use Rattle.fixed_decimal.proofs.Halves.{up_nearest, down_nearest}
 
--- the finest unit lies below every written power
+-- the power of the unit lies below every written power
 pub finest_large : 32768 ≤ finest
 unfolding finest
 finest_large = omega arith
 
--- digits and then zeros
+-- the weight of digits with zeros behind them
 pub weighed-zeros : (e k n : ℕ) (ds : List ℕ) → weighed e (ds ++ replicate (k + n) 0) ≡ weighed k ds * 10 ^ (e + n)
 weighed-zeros e k n ds =
     let split = weighed-append e ds (replicate (k + n) 0) in
     let same : e + length {A = ℕ} (replicate (k + n) 0) ≡ k + (e + n) = rw (length-replicate {A = ℕ} (k + n) 0) (omega arith) in
     rw (split, same, weighed-replicate_zero e (k + n), weighed_times k (e + n) ds) (add-zero _)
 
--- a digit that is no 9, and nines behind it: one more
+-- where a digit has nothing but nines behind it, raising it and dropping them adds one
 pub raised : (ds : List ℕ) (kept left : ℕ) → 0 < left → left ≤ kept → kept ≤ length ds →
     take kept ds ≡ take left ds ++ replicate (kept - left) 9 →
     weighed (kept - left) (take (left - 1) ds ++ (get_or ds (left - 1) 0 + 1) ∷ []) ≡ weighed 0 (take kept ds) + 1
@@ -42,7 +42,7 @@ raised ds kept left some le within nines =
     let more = weighed-append k front ((x + 1) ∷ []) in
     rw (nines, split, same, last, one, more) (omega (arith, rw none at nine, ap (λ n. 10 ^ n) (add-zero k)))
 
--- nothing but nines: one more
+-- one more than nothing but nines is a 1 at the next power
 pub carried : (ds : List ℕ) (kept : ℕ) → take kept ds ≡ replicate kept 9 → weighed kept (1 ∷ []) ≡ weighed 0 (take kept ds) + 1
 carried ds kept nines =
     let none : 0 + kept ≡ kept = zero-add kept in
@@ -89,7 +89,7 @@ module _ (ds : List ℕ) (s c kept n s' e : ℕ) (len : s + c ≡ length ds) (fi
         rw (size_split keep within, y, unit_split keep within)
         (up_nearest (10 ^ length (drop kept ds)) (weighed 0 (take kept ds)) (weighed 0 (drop kept ds)) (10 ^ (finest - s)) (ten_pos (finest - s)) small half)
 
-    -- a power at or below the last digit's: nothing is lost
+    -- where the power is at most that of the last digit, zeros are added and the number stays
     pub exact : s + n ≤ s' → IsNearest (IsMultiple (10 ^ e)) (10 ^ e) (weighed (finest - s) ds) (weighed (finest - s') (ds ++ replicate (s' - s) 0))
     exact finer =
         let r = s' - s - n in
@@ -103,7 +103,7 @@ module _ (ds : List ℕ) (s c kept n s' e : ℕ) (len : s + c ≡ length ds) (fi
         y ∙ ap (λ k. weighed 0 ds * 10 ^ k) back ∙ rw power (omega arith) in
         rw (x, y') (rw add-zero at (nearest_below (10 ^ e) q 0 (omega (arith, ten_pos e))))
 
-    -- a power above the one over the first digit: nothing is left
+    -- where the power is more than one above that of the first digit, zero is nearest
     pub nothing : AreDigits ds → c + s' < n → IsNearest (IsMultiple (10 ^ e)) (10 ^ e) (weighed (finest - s) ds) (weighed (finest - s') (replicate n 0))
     nothing digits above =
         let x = weighed (finest - s) ds in

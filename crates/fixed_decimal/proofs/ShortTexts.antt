@@ -10,7 +10,7 @@ use Rattle.fixed_decimal.specs.Unsigned.{Unsigned, IsUnsigned, IsWithinLimits}
 use Rattle.fixed_decimal.specs.Text.{digit_values, digits_text, integer_of, sign_text, IsNumber, Reads, ReadsNothing, ReadsPastLimits}
 use Rattle.fixed_decimal.proofs.Numerals.{digits_text-values, AreDigits-values, tail_passes, Reads-one}
 
--- the digits of a text as its lanes give them
+-- the first values of the lanes are those of a text of digits that the lanes begin with
 pub lane_values : (text lanes values rest : List ℕ) → lanes ≡ text ++ rest → AllPass is_ascii_digit text
     → ((k : ℕ) → AllPass is_ascii_digit (take k lanes) → take k values ≡ digit_values (take k lanes))
     → take (length text) values ≡ digit_values text
@@ -18,12 +18,12 @@ lane_values text lanes values rest e digits given =
     let front : take (length text) lanes ≡ text = ap (take (length text)) e ∙ take_at text rest (length text) refl in
     given (length text) (subst (λ (l : List ℕ). AllPass is_ascii_digit l) (sym front) digits) ∙ ap digit_values front
 
--- some digits are the digits at power 0 and above
+-- where there is a digit before the point, `integer_of` gives the digits before the point
 some_integer : (bs : List ℕ) → 0 < length bs → digit_values bs ≡ integer_of (digit_values bs)
 some_integer [] some = absurd (omega arith)
 some_integer (b ∷ bs) some = refl
 
--- the digits of two texts as their lanes give them
+-- the first values of the lanes are those of two texts of digits that the lanes begin with
 pub both_values : (integer fraction lanes values rest : List ℕ) → lanes ≡ integer ++ (fraction ++ rest) → 0 < length integer →
     AllPass is_ascii_digit integer → AllPass is_ascii_digit fraction
     → ((k : ℕ) → AllPass is_ascii_digit (take k lanes) → take k values ≡ digit_values (take k lanes))
@@ -45,7 +45,7 @@ whole_valid bs digits some short = record {
   low_limit = omega arith;
 }
 
--- a text whose digits go to its end
+-- where a text begins with as many digits as it has bytes, each byte is a digit
 pub all_digits : (text : List ℕ) → length text ≡ prefix_len is_ascii_digit text → AllPass is_ascii_digit text
 all_digits text all = tail_passes text 0 (sym all)
 
@@ -65,7 +65,7 @@ whole_number text d digits some e f = record {
   scale = f;
 }
 
--- a number behind a sign is what the text reads as
+-- a text of a sign and a number reads as these
 pub signed_number : (text n : List ℕ) (s : Sign) (d : Unsigned) → text ≡ sign_text s ++ n → IsNumber n d → Reads text s d
 signed_number text n s d signed is = record {
   numeral = n;
@@ -78,17 +78,17 @@ signed_number text n s d signed is = record {
   scale = is.scale;
 }
 
--- so the text reads as something
+-- a text of a sign and a number reads as some decimal
 pub signed_reads : (text n : List ℕ) (s : Sign) (d : Unsigned) → text ≡ sign_text s ++ n → IsNumber n d → ¬ (ReadsNothing text)
 signed_reads text n s d signed is none = none s d (signed_number text n s d signed is)
 
--- and where it is valid, not as something past the limits
+-- where its number is within the limits, a text of a sign and a number isn't past the limits
 pub signed_within : (text n : List ℕ) (s : Sign) (d : Unsigned) → text ≡ sign_text s ++ n → IsNumber n d → IsUnsigned d → ¬ (ReadsPastLimits text)
 signed_within text n s d signed is valid (t, e, r, past) =
     let same = Reads-one text s t d e (signed_number text n s d signed is) r in
     past (subst IsWithinLimits same.1 (record { high_limit = valid.high_limit; low_limit = valid.low_limit }))
 
--- the front of a text as its lanes have it
+-- the lanes of a text begin with each front of it
 pub front_lanes : (text lanes rest : List ℕ) (n : ℕ) → lanes ≡ text ++ rest → n ≤ length text → take (length (take n text)) lanes ≡ take n text
 front_lanes text lanes rest n e inside =
     ap (λ (k : ℕ). take k lanes) (length-take-le n text inside) ∙ ap (take n) e ∙ take-append-le n text rest inside

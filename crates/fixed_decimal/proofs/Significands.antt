@@ -11,10 +11,10 @@ use Rattle.fixed_decimal.specs.Trimming.{IsTrimmed}
 use Rattle.fixed_decimal.specs.Significand.{IsRoundedSignificand}
 use Rattle.fixed_decimal.proofs.Weights.{weighed_times}
 use Rattle.fixed_decimal.proofs.Rounds.{finest_large}
-use Rattle.fixed_decimal.proofs.MagnitudePowers.{weighed_trimmed}
+use Rattle.fixed_decimal.proofs.Magnitudes.{weighed_trimmed}
 use Rattle.fixed_decimal.proofs.Places.{digit_at_place}
 
--- a last digit that is no zero below power 0, or none there
+-- a decimal is trimmed where it has no digit below power 0 or its last digit isn't 0
 pub trimmed_last : (s : Unsigned) → IsUnsigned s → (s.scale ≡ 0) ⊎ (get_or s.digits (length s.digits - 1) 0 ≢ 0) → IsTrimmed s
 trimmed_last s is (inl none) = inl (omega (arith, ints))
 trimmed_last s is (inr last) =
@@ -22,7 +22,8 @@ trimmed_last s is (inr last) =
     digit_at_place s (low s) (length s.digits - 1) is.integer_some (omega (arith, ints, is.integer_some)) in
     inr (rw at last)
 
--- the rounded digits ys, of which `hs` are left, with the scale s, without so many zeros among the last `moved`
+-- The rounded digits ys, of which the last `moved` stand below power 0 after the division by ten to e, are hs and zeros;
+-- of hs the last s digits stand below power 0.
 module _ (d : Unsigned) (p : ℤ) (e : ℕ) (ys hs : List ℕ) (s moved : ℕ) (is : IsUnsigned (record { digits = ys; scale = scale_at p }))
     (moved_is : moved ≡ scale_at p + e) (le : s ≤ moved) (zeros : ys ≡ hs ++ replicate (moved - s) 0) (some : moved < length ys) (small : moved ≤ 32768)
   where
@@ -41,7 +42,7 @@ module _ (d : Unsigned) (p : ℤ) (e : ℕ) (ys hs : List ℕ) (s moved : ℕ) (
       low_limit = omega arith;
     }
 
-    -- times ten to the exponent it is what the rounded digits are
+    -- the size of hs times ten to the exponent is that of the rounded digits
     significand_size : weighed (finest - s) hs * 10 ^ e ≡ weighed (finest - scale_at p) ys
     significand_size =
         let trimmed : weighed (finest - s) hs ≡ weighed (finest - moved) ys =

@@ -36,7 +36,7 @@ AreDigits-tail x xs h = All-tail (λ d. d < 10) x xs h
 pub AreDigits-head : (x : ℕ) (xs : List ℕ) → AreDigits (x ∷ xs) → x < 10
 AreDigits-head x xs h = All-head (λ d. d < 10) x xs h
 
--- digits in two parts: the first is weighed above the second
+-- the weight of two lists joined: the first list stands above the second
 pub weighed-append : (e : ℕ) (xs ys : List ℕ) → weighed e (xs ++ ys) ≡ weighed (e + length ys) xs + weighed e ys
 weighed-append e [] ys = sym (zero-add _)
 weighed-append e (x ∷ xs) ys =
@@ -53,18 +53,18 @@ weighed_lt e (x ∷ xs) h =
     ap (λ n. 10 ^ n) (omega arith) ∙ ten_more (e + length xs) in
     omega (arith, more, mul-le-mul_left (10 ^ (e + length xs)) small)
 
--- a shift of every power by k
+-- digits k places higher weigh ten to k times as much
 pub weighed_times : (e k : ℕ) (ds : List ℕ) → weighed (e + k) ds ≡ weighed e ds * 10 ^ k
 weighed_times e k [] = omega arith
 weighed_times e k (x ∷ xs) =
     let same : e + k + length xs ≡ (e + length xs) + k = omega arith in
     rw (same, weighed_times e k xs, pow-add 10 (e + length xs) k) (omega arith)
 
--- an equation of exponents
+-- equal exponents give equal powers of ten
 pub same_power : (i j : ℕ) → i ≡ j → 10 ^ i ≡ 10 ^ j
 same_power i j e = ap (λ n. 10 ^ n) e
 
--- the weight as so many times a power
+-- the weight as a multiple of the power at the last digit's place
 pub weighed_units : (e : ℕ) (ds : List ℕ) → weighed e ds ≡ weighed 0 ds * 10 ^ e
 weighed_units e ds = ap (λ n. weighed n ds) (sym (zero-add e)) ∙ weighed_times 0 e ds
 
@@ -73,34 +73,34 @@ pub weighed-replicate_zero : (e n : ℕ) → weighed e (replicate n 0) ≡ 0
 weighed-replicate_zero e zero = refl
 weighed-replicate_zero e (suc n) = omega (arith, weighed-replicate_zero e n)
 
--- nines, and one more
+-- n nines and one at the place of the last make the next power of ten
 pub weighed-replicate_nine : (e n : ℕ) → weighed e (replicate n 9) + 10 ^ e ≡ 10 ^ (e + n)
 weighed-replicate_nine e zero = rw (add-zero) (zero-add (10 ^ e))
 weighed-replicate_nine e (suc n) =
     let more : 10 ^ (e + suc n) ≡ 10 * 10 ^ (e + n) = ap (λ k. 10 ^ k) (omega arith) ∙ ten_more (e + n) in
     rw (length-replicate {A = ℕ} n 9) (omega (arith, more, weighed-replicate_nine e n))
 
--- the first digit against the half of the next power
+-- digits that begin below five weigh less than half of the next power
 pub low_below : (e d : ℕ) (ds : List ℕ) → AreDigits (d ∷ ds) → d < 5 → 2 * weighed e (d ∷ ds) < 10 ^ (e + length (d ∷ ds))
 low_below e d ds h s =
     let more : 10 ^ (e + suc (length ds)) ≡ 10 * 10 ^ (e + length ds) = ap (λ k. 10 ^ k) (omega arith) ∙ ten_more (e + length ds) in
     let five : suc d ≤ 5 = s in
     omega (arith, more, weighed_lt e ds (AreDigits-tail d ds h), mul-le-mul_left (10 ^ (e + length ds)) five)
 
--- digits that begin above five weigh more than half
+-- digits that begin above five weigh more than half of the next power
 pub low_above : (e d : ℕ) (ds : List ℕ) → 5 < d → 10 ^ (e + length (d ∷ ds)) < 2 * weighed e (d ∷ ds)
 low_above e d ds s =
     let more : 10 ^ (e + suc (length ds)) ≡ 10 * 10 ^ (e + length ds) = ap (λ k. 10 ^ k) (omega arith) ∙ ten_more (e + length ds) in
     let six : 6 ≤ d = s in
     omega (arith, more, ten_pos (e + length ds), mul-le-mul_left (10 ^ (e + length ds)) six)
 
--- digits that begin with five weigh half and the rest
+-- digits that begin with five weigh half of the next power and what the rest weighs
 pub low_five : (e : ℕ) (ds : List ℕ) → 2 * weighed e (5 ∷ ds) ≡ 10 ^ (e + length (5 ∷ ds)) + 2 * weighed e ds
 low_five e ds =
     let more : 10 ^ (e + suc (length ds)) ≡ 10 * 10 ^ (e + length ds) = ap (λ k. 10 ^ k) (omega arith) ∙ ten_more (e + length ds) in
     omega (arith, more)
 
--- no digit but 0: nothing; any other digit: something
+-- digits that are all 0 weigh nothing
 pub weighed_none : (e : ℕ) (ds : List ℕ) → All (λ d. d ≡ 0) ds → weighed e ds ≡ 0
 weighed_none e [] h = refl
 weighed_none e (d ∷ ds) h =
@@ -119,6 +119,6 @@ none_weighed e (d ∷ ds) h =
     zero_factor zero k z = refl
     zero_factor (suc a) k z = absurd (omega (arith, ten_pos k))
 
--- the first digit at its power
+-- digits weigh at least what the first one does
 pub first_weighed : (e d : ℕ) (ds : List ℕ) → d * 10 ^ (e + length ds) ≤ weighed e (d ∷ ds)
 first_weighed e d ds = omega arith

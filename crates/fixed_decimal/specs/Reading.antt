@@ -11,7 +11,7 @@ pub record Digits : Type 0 where
   pub values : List ℕ
   pub rest : List ℕ
 
--- one digit more in front
+-- the same with one more digit in front
 abbrev pub digit_before : ℕ → Digits → Digits
 digit_before b d = record { values = (b - digit_zero) ∷ d.values; rest = d.rest }
 
@@ -20,22 +20,22 @@ abbrev pub leading_digits : List ℕ → Digits
 leading_digits [] = record { values = []; rest = [] }
 leading_digits (b ∷ bs) = if is_ascii_digit b then digit_before b (leading_digits bs) else record { values = []; rest = b ∷ bs }
 
--- the number of these digits before the point and these after it
+-- the number with these digits before the point and these after it
 abbrev pub number : List ℕ → List ℕ → Option Unsigned
 number before after = Some (record { digits = integer_of before ++ after; scale = length after })
 
--- without a point there has to be a digit
+-- the number with these digits and no point; there has to be a digit
 abbrev pub whole_number : List ℕ → Option Unsigned
 whole_number [] = None
 whole_number (d ∷ ds) = number (d ∷ ds) []
 
--- after the point there has to be a digit, and nothing but digits
+-- the number with these digits before and after the point; there has to be a digit after it, and nothing behind
 abbrev pub with_fraction : List ℕ → List ℕ → List ℕ → Option Unsigned
 with_fraction before [] rest = None
 with_fraction before (d ∷ ds) [] = number before (d ∷ ds)
 with_fraction before (d ∷ ds) (b ∷ bs) = None
 
--- the number whose digits before the point are given, by what follows them
+-- the number that these digits before the point and the bytes that follow them spell
 abbrev pub after_integer : List ℕ → List ℕ → Option Unsigned
 after_integer before [] = whole_number before
 after_integer before (b ∷ bs) =
@@ -45,7 +45,7 @@ after_integer before (b ∷ bs) =
 abbrev pub unsigned_reading : List ℕ → Option Unsigned
 unsigned_reading text = after_integer (leading_digits text).values (leading_digits text).rest
 
--- the number with a sign
+-- the sign with the number, if there is one
 abbrev pub signed : Sign → Option Unsigned → Option (Sign × Unsigned)
 signed sign None = None
 signed sign (Some d) = Some (sign, d)

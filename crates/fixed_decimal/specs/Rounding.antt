@@ -2,7 +2,7 @@
 use Rattle.std.specs.Prelude.{◌≡◌, ℕ, ◌+◌, ◌*◌, ◌<◌, ◌≤◌, ◌⊎◌, ℤ, pos, negsuc, ◌-ℤ◌}
 use Rattle.std.specs.Int.{int_min, int_max}
 use Rattle.fixed_decimal.specs.Unsigned.{Unsigned, low, high}
-use Rattle.fixed_decimal.specs.Size.{size, ten_to, magnitude_power}
+use Rattle.fixed_decimal.specs.Size.{size, ten_to, magnitude}
 use Rattle.fixed_decimal.specs.Nearest.{IsNearest, IsMultiple}
 
 -- how many digits stand below power 0 in a decimal rounded at a power
@@ -10,7 +10,7 @@ abbrev pub scale_at : ℤ → ℕ
 scale_at (pos n) = 0
 scale_at (negsuc n) = n + 1
 
--- how many zeros stand at power 0 and above in it
+-- how many zeros stand below the power, at power 0 and above, in a decimal rounded at a power
 abbrev pub zeros_at : ℤ → ℕ
 zeros_at (pos n) = n
 zeros_at (negsuc n) = 0
@@ -19,21 +19,21 @@ zeros_at (negsuc n) = 0
 abbrev pub IsNearestMultiple : ℤ → ℕ → ℕ → Type 0
 IsNearestMultiple power x y = IsNearest (IsMultiple (ten_to power)) (ten_to power) x y
 
--- the decimal y is d rounded at a power; its range goes down to that power or to 0, and up to the greatest of
--- the range of d, the power below and the magnitude reached
+-- The decimal y is d rounded at a power. The lowest power of y is the lower of that power and 0; the highest is the greatest
+-- of the highest power of d, the power below the one of rounding, and the magnitude of y.
 pub record IsRounded (d : Unsigned) (power : ℤ) (y : Unsigned) : Type 0 where
   pub nearest : IsNearestMultiple power (size d) (size y)
   pub low_is : low y ≡ int_min power (pos 0)
-  pub high_is : high y ≡ int_max (int_max (high d) (power -ℤ pos 1)) (magnitude_power (size y))
+  pub high_is : high y ≡ int_max (int_max (high d) (power -ℤ pos 1)) (magnitude (size y))
 
--- rounding reaches ten to the power 32768
+-- d rounded at a power is at least ten to the power 32768
 abbrev pub RoundsPastLimits : Unsigned → ℤ → Type 0
 RoundsPastLimits d power = (y : ℕ) × IsNearestMultiple power (size d) y × (ten_to (pos 32768) ≤ y)
 
--- more than half a unit above q units, or just half above an odd number of them
+-- beside q units the rest is more than half a unit, or just half a unit where q is odd
 abbrev pub RoundsUp : ℕ → ℕ → ℕ → Type 0
 RoundsUp unit q rest = (unit < 2 * rest) ⊎ ((2 * rest ≡ unit) × ((j : ℕ) × (q + 1 ≡ 2 * j)))
 
--- less than half a unit above q units, or just half above an even number of them
+-- beside q units the rest is less than half a unit, or just half a unit where q is even
 abbrev pub RoundsDown : ℕ → ℕ → ℕ → Type 0
 RoundsDown unit q rest = (2 * rest < unit) ⊎ ((2 * rest ≡ unit) × ((j : ℕ) × (q ≡ 2 * j)))

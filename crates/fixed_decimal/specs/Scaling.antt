@@ -10,7 +10,7 @@ pub record IsMoved (d : Unsigned) (k : ℤ) (y : Unsigned) : Type 0 where
   pub high_is : high y ≡ int_max (pos 0) (high d +ℤ k)
   pub low_is : low y ≡ int_min (pos 0) (low d +ℤ k)
 
--- the size y is x times ten to the power k, as an equation of two products: the power of a k below 0 stands with y
+-- the size y is x times ten to the power k; where k is below 0, the power of ten stands on the side of y
 abbrev pub IsTimesTenTo : ℤ → ℕ → ℕ → Type 0
 IsTimesTenTo k x y = y * 10 ^ scale_at k ≡ x * 10 ^ zeros_at k
 

@@ -17,7 +17,7 @@ minus_or_plus None = Positive
 minus_or_plus Negative = Negative
 minus_or_plus Positive = Positive
 
--- the sign shown, of a number that is zero or not and has this sign
+-- the sign that is shown of a number with this sign; `zero` says whether the number is zero
 abbrev pub displayed_sign : SignDisplay → Bool → Sign → Sign
 displayed_sign Auto zero sign = minus_or_none sign
 displayed_sign Never zero sign = None

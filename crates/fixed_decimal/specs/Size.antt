@@ -1,5 +1,5 @@
--- Sizes: the number that digits write, as a whole number of units so small that every decimal has one, and the
--- magnitude of a size. Sizes stand in contracts alone: no call computes one, and no proof writes out their powers of ten.
+-- Sizes: the number that a decimal writes, counted in units so small that it is a whole number, and the magnitude of a
+-- size. Sizes stand in contracts alone: no call computes one, and no proof writes out their powers of ten.
 use Rattle.std.specs.Prelude.{ℕ, zero, suc, ◌+◌, ◌-◌, ◌*◌, ◌^◌, List, [], ◌∷◌, length, ℤ, pos, negsuc, ◌-ℤ◌, nat_le}
 use Rattle.std.specs.Prelude.{if◌then◌else◌}
 use Rattle.fixed_decimal.specs.Unsigned.{Unsigned}
@@ -8,7 +8,7 @@ use Rattle.fixed_decimal.specs.Unsigned.{Unsigned}
 unfoldable pub finest : ℕ
 finest = 33024
 
--- the place of a power: the power counted from that of the unit, a whole number for each power of a decimal
+-- the place of a power: how far it lies above the power of the unit, a natural number for each power of a decimal
 abbrev pub place : ℤ → ℕ
 place (pos n) = finest + n
 place (negsuc n) = finest - (n + 1)
@@ -30,16 +30,16 @@ weighed e (x ∷ xs) = x * 10 ^ (e + length xs) + weighed e xs
 abbrev pub size : Unsigned → ℕ
 size d = weighed (finest - d.scale) d.digits
 
--- the greatest place up to `top` whose power of ten is at most x, or 0
+-- the greatest place up to a given one whose power of ten is at most x, or 0
 unfoldable pub place_up_to : ℕ → ℕ → ℕ
 place_up_to x zero = 0
 place_up_to x (suc p) = if nat_le (10 ^ suc p) x then suc p else place_up_to x p
 
--- the magnitude of a size: the greatest place whose power of ten is at most the size; that of power 0 for the size 0
-unfoldable pub magnitude : ℕ → ℕ
-magnitude zero = finest
-magnitude (suc n) = place_up_to (suc n) (suc n)
+-- the place of a size's magnitude: the greatest place whose power of ten is at most the size; for the size 0 the place of power 0
+unfoldable pub magnitude_place : ℕ → ℕ
+magnitude_place zero = finest
+magnitude_place (suc n) = place_up_to (suc n) (suc n)
 
--- the magnitude as a power: that of the first digit that isn't 0, and 0 for the size 0
-abbrev pub magnitude_power : ℕ → ℤ
-magnitude_power x = power_at (magnitude x)
+-- the magnitude of a size, a power: that of the first digit that isn't 0; for the size 0 it is 0
+abbrev pub magnitude : ℕ → ℤ
+magnitude x = power_at (magnitude_place x)

@@ -5,7 +5,7 @@ use Rattle.fixed_decimal.specs.declared.signs.Sign.{Sign}
 use Rattle.fixed_decimal.specs.declared.signs.Sign.TheVariants.{None, Negative, Positive}
 use Rattle.fixed_decimal.specs.Unsigned.{Unsigned, AreDigits, IsWithinLimits}
 
--- the bytes of the text form
+-- the byte of a plus sign
 abbrev pub plus_sign : ℕ
 plus_sign = 43
 
@@ -27,28 +27,28 @@ sign_text None = []
 sign_text Negative = minus_sign ∷ []
 sign_text Positive = plus_sign ∷ []
 
--- how digits are written, and what written digits stand for
+-- how digits are written
 abbrev pub digits_text : List ℕ → List ℕ
 digits_text ds = map (λ d. digit_zero + d) ds
 
--- what written digits stand for
+-- the values of written digits
 abbrev pub digit_values : List ℕ → List ℕ
 digit_values bytes = map (λ c. c - digit_zero) bytes
 
--- a point and the fraction's digits; without a digit no point
+-- how a fraction is written: a point and its digits; nothing where it has no digits
 abbrev pub fraction_text : List ℕ → List ℕ
 fraction_text [] = []
 fraction_text (d ∷ ds) = point ∷ digits_text (d ∷ ds)
 
--- the text is the digits before the point, then the point with the digits after it, if there are any;
--- some digit is written
+-- the text is the digits before the point and then, where there are any after it, the point and these; at least one digit
+-- is written
 pub record IsNumeral (text before after : List ℕ) : Type 0 where
   pub spelled : text ≡ digits_text before ++ fraction_text after
   pub some_digit : 0 < length before + length after
   pub before_digits : AreDigits before
   pub after_digits : AreDigits after
 
--- a number whose text begins with the point has the digit 0 at power 0
+-- the digits at power 0 and above: those before the point, or the digit 0 where the text begins with the point
 abbrev pub integer_of : List ℕ → List ℕ
 integer_of [] = 0 ∷ []
 integer_of (d ∷ ds) = d ∷ ds

@@ -6,7 +6,7 @@ use Rattle.fixed_decimal.specs.Unsigned.{Unsigned, low, digit_at}
 abbrev pub IsTrimmed : Unsigned → Type 0
 IsTrimmed d = (low d ≡ pos 0) ⊎ (digit_at d (low d) ≢ 0)
 
--- y is d without some zeros at its end, so many fewer digits below power 0, and has none left to leave out
+-- y is d without the zeros at its end that stand below power 0; it has as many digits less below power 0
 pub record IsTrimmedEnd (d y : Unsigned) : Type 0 where
   pub zeros : ℕ
   pub same : d.digits ≡ y.digits ++ replicate zeros 0

@@ -6,7 +6,7 @@ use Rattle.std.specs.Prelude.{◌-ℤ◌, All}
 abbrev pub AreDigits : List ℕ → Type 0
 AreDigits ds = All (λ d. d < 10) ds
 
--- every written digit, that of the greatest power first; the last `scale` of them stand below power 0
+-- the written digits, from the greatest power down; the last `scale` of them stand below power 0
 pub record Unsigned : Type 0 where
   pub digits : List ℕ
   pub scale : ℕ
@@ -41,7 +41,7 @@ pub record IsWithinLimits (d : Unsigned) : Type 0 where
   pub high_limit : length d.digits ≤ d.scale + 32768
   pub low_limit : d.scale ≤ 32768
 
--- what every decimal keeps: digits, at least the one at power 0, and no power outside -32768 to 32767
+-- what holds of every decimal: each digit is 0 to 9, power 0 is written, and no power outside -32768 to 32767 is
 pub record IsUnsigned (d : Unsigned) : Type 0 where
   pub below_ten : AreDigits d.digits
   pub integer_some : d.scale < length d.digits

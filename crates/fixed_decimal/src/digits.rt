@@ -39,7 +39,8 @@ pub fn leading_zeros(digits: &[u8]) -> usize
     first
 }
 
-/// How many digits are left without the zeros at their end, of which the first `least` stay.
+/// How many digits are left without the zeros at their end; the first `least` digits stay in any
+/// case.
 pub fn without_zeros(digits: &[u8], least: usize) -> usize
     requires { least ≤ length digits.now }
     ensures least { least ≤ result }
@@ -80,7 +81,7 @@ pub fn push_zeros(digits: &mut Digits, count: usize)
     }
 }
 
-/// Writes zeros before and behind the digits; where memory is refused the digits are as they were.
+/// Writes zeros before and behind the digits; where memory is refused the digits are unchanged.
 pub fn widen(digits: &mut Digits, front: usize, back: usize) -> Result<(), DecimalError>
     requires { small_vec_len digits.old + (front + back) < 2 ^ 32 }
     ensures items { OnOk result (digits.new.items ≡ replicate front 0
@@ -95,7 +96,7 @@ pub fn widen(digits: &mut Digits, front: usize, back: usize) -> Result<(), Decim
     Ok(())
 }
 
-/// Turns the order of the digits around.
+/// Reverses the order of the digits.
 pub fn reverse_digits(digits: &mut Digits)
     ensures { digits.new.items ≡ reverse digits.old.items }
 {

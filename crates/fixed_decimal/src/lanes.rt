@@ -1,4 +1,4 @@
-//! Short texts, looked at whole: sixteen bytes in one step.
+//! Short texts, tested whole: sixteen bytes in one step.
 
 ghost use Rattle.std.specs.Prelude.{◌≡◌, ◌+◌, ◌-◌, ◌≤◌, ◌++◌, length, take, drop, replicate, ℕ};
 ghost use Rattle.std.specs.List.{prefix_len, AllPass};
@@ -7,7 +7,7 @@ ghost use Rattle.fixed_decimal.specs.Text.{digit_values};
 
 use std::simd::prelude::*;
 
-/// How many bytes are looked at in one step. As many digits fit in a decimal without memory.
+/// How many bytes are tested in one step. A decimal of as many digits takes no memory.
 pub(crate) const LANES: usize = 16;
 
 /// A text, and zeros behind it.
@@ -23,8 +23,8 @@ pub(crate) fn padded(text: &[u8]) -> [u8; LANES]
     }
 }
 
-/// A text, and zeros behind it, out of as many bytes of its beginning as of its end: copies of a length that the caller
-/// writes as a number take one load and one store each.
+/// A text, and zeros behind it, by copies of its first `part` bytes and of its last, which may
+/// overlap. Where the caller gives `part` as a constant, each copy is one load and one store.
 #[inline(always)]
 fn by_ends(text: &[u8], part: usize) -> [u8; LANES]
     requires part { part ≤ length text.now }
@@ -50,7 +50,7 @@ pub(crate) fn both_padded(front: &[u8], back: &[u8]) -> [u8; LANES]
     lanes
 }
 
-/// The lanes with a text from a place on.
+/// The lanes with a text written over them from index `place` on.
 pub(crate) fn with_text(mut lanes: [u8; LANES], place: usize, text: &[u8]) -> [u8; LANES]
     requires { place + length text.now ≤ LANES }
     ensures { result ≡ take place lanes ++ (text.now ++ drop (place + length text.now) lanes) }
@@ -59,7 +59,7 @@ pub(crate) fn with_text(mut lanes: [u8; LANES], place: usize, text: &[u8]) -> [u
     lanes
 }
 
-/// How many digits stand from a place on, before the first byte that is none.
+/// How many digits the lanes have from index `start` on, before the first byte that is no digit.
 pub(crate) fn digits_from(lanes: &[u8], start: usize) -> usize
     requires lanes { length lanes.now ≡ LANES }
     requires start { start ≤ LANES }
@@ -74,8 +74,8 @@ pub(crate) fn digits_from(lanes: &[u8], start: usize) -> usize
     }
 }
 
-/// How many digits stand in a text from a place on, before the first byte that is none. Its lanes tell; the text is for the
-/// contract alone.
+/// How many digits a text has from index `start` on, before the first byte that is no digit. Only
+/// its lanes are read; the text is an argument for the contract.
 pub(crate) fn digits_in(text: &[u8], lanes: &[u8], start: usize) -> usize
     requires short { length text.now ≤ LANES }
     requires lanes { lanes.now ≡ text.now ++ replicate (LANES - length text.now) 0 }
@@ -87,7 +87,7 @@ pub(crate) fn digits_in(text: &[u8], lanes: &[u8], start: usize) -> usize
     digits_from(lanes, start)
 }
 
-/// What the lanes stand for, where they are digits.
+/// The values of the lanes that are digits; of the others nothing is said.
 pub(crate) fn values_of(lanes: &[u8]) -> [u8; LANES]
     requires { length lanes.now ≡ LANES }
     ensures { (n : ℕ) → AllPass is_ascii_digit (take n lanes.now)

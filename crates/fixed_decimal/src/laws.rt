@@ -1,11 +1,13 @@
-//! What holds of all sizes, texts and decimals: each function does nothing, and its contract is the law.
+//! What holds of all sizes, texts and decimals: each function does nothing, and its contract is the
+//! law.
 
 ghost use Rattle.std.specs.Prelude.{◌≡◌, ◌↔◌, IsTrue};
 ghost use Rattle.fixed_decimal.specs.Laws.{MagnitudeIsReached, MagnitudeIsGreatest, MagnitudeIsUnique, MagnitudeIsMonotone, MagnitudeOfZero, SomeMultipleIsNearest, OneMultipleIsNearest, TextReadsOneDecimal, ReadingIsSpelled, ReadingOfNothing};
 
 use crate::{Decimal, UnsignedDecimal};
 
-/// The magnitude of a size is the greatest power of ten that it reaches, and that of power 0 for nothing.
+/// The magnitude of a size is the greatest place whose power of ten is at most the size; for zero,
+/// the place of power 0.
 pub fn magnitude_is_the_greatest_power()
     ensures reached { MagnitudeIsReached }
     ensures greatest { MagnitudeIsGreatest }
@@ -25,7 +27,7 @@ pub fn text_reads_one_decimal()
     ensures { TextReadsOneDecimal }
 {}
 
-/// What is computed of a text is what it spells.
+/// `reading` computes the sign and the number that a text spells.
 pub fn reading_is_what_is_spelled()
     ensures spelled { ReadingIsSpelled }
     ensures nothing { ReadingOfNothing }

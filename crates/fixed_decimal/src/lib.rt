@@ -1,4 +1,5 @@
-//! Decimals: a sign, a written range of powers of ten from -32768 to 32767, and a digit at each power of the range.
+//! Decimals: a sign, a written range of powers of ten from -32768 to 32767, and a digit at each
+//! power of the range.
 //!
 //! A port of the part of ICU4X's `fixed_decimal` on which its number formatters stand.
 //!

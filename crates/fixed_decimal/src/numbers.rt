@@ -2,7 +2,7 @@
 
 ghost use Rattle.std.specs.Prelude.{◌≡◌, ◌*◌, IfOk, IsOkUnless, pos};
 ghost use Rattle.fixed_decimal.specs.Unsigned.{IsUnsigned, low, high, one};
-ghost use Rattle.fixed_decimal.specs.Size.{size, ten_to, magnitude_power};
+ghost use Rattle.fixed_decimal.specs.Size.{size, ten_to, magnitude};
 
 use crate::digits::reverse_digits;
 use crate::{DecimalError, UnsignedDecimal};
@@ -17,7 +17,7 @@ impl UnsignedDecimal {
     pub fn from_u64(alloc: Global, value: u64) -> Result<Self, DecimalError>
         ensures size { IfOk result (λ d. size d ≡ value * ten_to (pos 0)) }
         ensures low { IfOk result (λ d. low d ≡ pos 0) }
-        ensures high { IfOk result (λ d. high d ≡ magnitude_power (size d)) }
+        ensures high { IfOk result (λ d. high d ≡ magnitude (size d)) }
         ensures valid { IfOk result (λ d. IsUnsigned d) }
         ensures memory { IsOkUnless result DecimalError.OutOfMemory }
     {

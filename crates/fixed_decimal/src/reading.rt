@@ -15,11 +15,12 @@ use smallvec::SmallVec;
 use std::alloc::{AllocError, Global};
 
 impl Decimal {
-    /// Reads the text form: an optional `+` or `-`; then ASCII digits, optionally with a point and digits behind it,
-    /// or a point and digits (ICU4X `Decimal::try_from_str`, without exponents).
+    /// Reads the text form: an optional `+` or `-`; then ASCII digits, optionally with a point and
+    /// digits behind it, or a point and digits (ICU4X `Decimal::try_from_str`, without exponents).
     ///
-    /// Each written digit widens the range: `0012` goes up to power 3, `1.20` down to -2, and `.5` has the digits 0
-    /// and 5. `Syntax` is judged before `Limit`, and both before memory is asked for.
+    /// Each written digit widens the range: `0012` goes up to power 3, `1.20` down to -2, and `.5`
+    /// has the digits 0 and 5. `Syntax` is determined before `Limit`, and both before memory is
+    /// asked for.
     pub fn try_from_str(alloc: Global, text: &str) -> Result<Decimal, DecimalError>
         ensures reads { IfOk result (λ d. Reads text.now d.sign d.absolute) }
         ensures valid { IfOk result (λ d. IsUnsigned d.absolute) }
@@ -29,8 +30,8 @@ impl Decimal {
         Decimal::try_from_utf8(alloc, text.as_bytes())
     }
 
-    /// Reads the text form out of bytes, as `try_from_str` does (ICU4X `Decimal::try_from_utf8`). Bytes that are no UTF-8
-    /// spell no decimal: `Syntax`.
+    /// Reads the text form out of bytes, as `try_from_str` does (ICU4X `Decimal::try_from_utf8`).
+    /// Bytes that are no UTF-8 spell no decimal: `Syntax`.
     pub fn try_from_utf8(alloc: Global, text: &[u8]) -> Result<Decimal, DecimalError>
         ensures reads { IfOk result (λ d. Reads text.now d.sign d.absolute) }
         ensures valid { IfOk result (λ d. IsUnsigned d.absolute) }
@@ -61,7 +62,7 @@ impl Decimal {
     }
 }
 
-/// The sign that a text begins with, and the rest.
+/// The sign that a text begins with, and the rest of the text.
 fn split_sign(text: &[u8]) -> (Sign, &[u8])
     ensures signed { text.now ≡ sign_text result.0 ++ result.1.now }
     ensures unsigned { result.0 ≡ Sign.None → (slice_index text.now 0 ≢ plus_sign)
@@ -74,7 +75,7 @@ fn split_sign(text: &[u8]) -> (Sign, &[u8])
     }
 }
 
-/// How many digits a text begins with; sixteen bytes are judged in one step.
+/// How many digits a text begins with; sixteen bytes are tested in one step.
 fn leading_digits(text: &[u8]) -> usize
     ensures count { result ≡ prefix_len is_ascii_digit text.now }
     ensures within { result ≤ length text.now }
@@ -116,7 +117,7 @@ fn split_numeral(text: &[u8]) -> Option<(&[u8], &[u8])>
     }
 }
 
-/// The decimal of these digits before and after the point.
+/// The decimal with these digits before and after the point.
 fn from_digits_text(
     alloc: Global,
     before: &[u8],
@@ -137,7 +138,7 @@ fn from_digits_text(
     copied(alloc, before, after)
 }
 
-/// The decimal of these digits at power 0 and above, of which there are some, and below it.
+/// The decimal with these digits at power 0 and above, at least one, and these below power 0.
 fn copied(alloc: Global, integer: &[u8], fraction: &[u8]) -> Result<UnsignedDecimal, AllocError>
     requires some { 0 < length integer.now }
     requires integer_digits { AllPass is_ascii_digit integer.now }
@@ -159,7 +160,7 @@ fn copied(alloc: Global, integer: &[u8], fraction: &[u8]) -> Result<UnsignedDeci
     })
 }
 
-/// Makes written digits what they stand for.
+/// Turns written digits into their values.
 fn make_values(digits: &mut [u8])
     requires { AllPass is_ascii_digit digits.old }
     ensures { digits.new ≡ digit_values digits.old }

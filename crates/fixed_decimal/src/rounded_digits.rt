@@ -8,10 +8,12 @@ use crate::digits::{Digits, push_zeros, without_zeros};
 use smallvec::SmallVec;
 use std::alloc::{AllocError, Global};
 
-/// More digits than rounding leaves of any decimal, and few enough that their counts can be added up.
+/// More digits than rounding leaves of any decimal, and few enough that sums of such counts do not
+/// overflow.
 pub(crate) const TOO_MANY_DIGITS: usize = 200_000;
 
-/// Digits as rounding leaves them: the first ones of a value, then one that a carry raised, then zeros.
+/// Digits as rounding leaves them: the first ones of a value, then one that a carry raised, then
+/// zeros.
 #[derive(Clone, Copy)]
 pub(crate) struct RoundedDigits {
     pub(crate) kept: usize,
@@ -31,7 +33,7 @@ impl RoundedDigits {
         }
     }
 
-    /// Leaves of a value's digits just these; where memory is refused they are as they were.
+    /// Turns a value's digits into these; where memory is refused they are unchanged.
     pub(crate) fn leave(self, digits: &mut Digits) -> Result<(), AllocError>
         requires kept { self.kept ≤ small_vec_len digits.old }
         requires small { self.kept + self.zeros < TOO_MANY_DIGITS }
@@ -46,7 +48,7 @@ impl RoundedDigits {
         Ok(())
     }
 
-    /// These of a value's digits, in memory of their own.
+    /// What rounding leaves of a value's digits, as a new list.
     pub(crate) fn gathered(self, alloc: Global, digits: &[u8]) -> Result<Digits, AllocError>
         requires kept { self.kept ≤ length digits.now }
         requires small { self.kept + self.zeros < TOO_MANY_DIGITS }
@@ -59,7 +61,7 @@ impl RoundedDigits {
         Ok(gathered)
     }
 
-    /// Writes what stands behind the first digits, for which there is room.
+    /// Appends the raised digit and the zeros, for which there is room.
     fn push_rest(self, digits: &mut Digits)
         requires { HasRoomFor digits.old (self.zeros + 1) }
         ensures { digits.new.items ≡ (digits.old.items ++ option_to_list self.raised)
@@ -71,7 +73,8 @@ impl RoundedDigits {
         push_zeros(digits, self.zeros);
     }
 
-    /// What is left without the zeros at the end among the last `scale` digits, and how many of those are left.
+    /// The same without those zeros at the end that are among the last `scale` digits, and how many
+    /// of these `scale` digits are left.
     pub(crate) fn without_last_zeros(self, digits: &[u8], scale: usize) -> (Self, usize)
         requires kept { self.kept ≤ length digits.now }
         requires small { self.kept + self.zeros < TOO_MANY_DIGITS }

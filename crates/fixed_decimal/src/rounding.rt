@@ -13,8 +13,8 @@ use crate::{DecimalError, UnsignedDecimal};
 impl UnsignedDecimal {
     /// The nearest multiple of ten to the power, the even one of two equally near.
     ///
-    /// Where a carry would need power 32768 the answer is `Limit`, before memory is asked for; a value that is refused
-    /// is handed back.
+    /// Where a carry would need power 32768 the answer is `Limit`, before memory is asked for; a
+    /// value that is refused is handed back.
     pub fn rounded(mut self, power: i16) -> Result<Self, (Self, DecimalError)>
         ensures rounded { IfOk result (λ y. IsRounded self power y) }
         ensures valid { MatchResult result (λ y. IsUnsigned y) (λ e. IsUnsigned e.0) }
@@ -36,7 +36,8 @@ impl UnsignedDecimal {
     }
 }
 
-/// What rounding leaves of digits of which `scale` stand below power 0; none where a carry would need power 32768.
+/// What rounding at the power leaves of the digits, the last `scale` of which stand below power 0;
+/// none where a carry would need power 32768.
 pub(crate) fn round_digits(digits: &[u8], scale: u16, power: i16) -> Option<RoundedDigits>
     requires { IsUnsigned (record { digits = digits.now; scale = scale }) }
     ensures kept { IfSome result (λ r. r.kept ≤ length digits.now) }
@@ -86,7 +87,7 @@ pub(crate) fn round_digits(digits: &[u8], scale: u16, power: i16) -> Option<Roun
     })
 }
 
-/// Whether the digits from index `kept` on round the digits before it up, half to even.
+/// Whether the first `kept` digits are rounded up, half to even, because of the digits behind them.
 fn rounds_up(digits: &[u8], kept: usize) -> bool
     requires some_dropped { kept < length digits.now }
     requires below_ten { All (λ d. d < 10) digits.now }
@@ -122,7 +123,8 @@ pub(crate) fn scale_below(power: i16) -> u16
     (-(power.min(0) as i32)) as u16
 }
 
-/// How many digits stand at the power and above, if it is not above the one over the first digit.
+/// How many digits stand at the power and above; none where the power is more than one above that
+/// of the first digit.
 fn kept_count(integer_count: usize, power: i16) -> Option<usize>
     requires { integer_count ≤ MAX_DIGITS }
     ensures none { IfNone result ((pos integer_count -ℤ power) ≤ℤ negsuc 0) }

@@ -10,10 +10,10 @@ use crate::digits::{MAX_DIGITS, widen};
 use crate::{DecimalError, UnsignedDecimal};
 
 impl UnsignedDecimal {
-    /// The number times ten to the power: each digit so many powers higher, and the range widened to include 0
-    /// (ICU4X `multiplied_pow10`).
+    /// The number times ten to the power: each digit so many powers higher, and the range widened
+    /// to include 0 (ICU4X `multiplied_pow10`).
     ///
-    /// `Limit` is judged before memory is asked for; a value that is refused is handed back.
+    /// `Limit` is determined before memory is asked for; a value that is refused is handed back.
     pub fn multiplied_pow10(mut self, power: i16) -> Result<Self, (Self, DecimalError)>
         ensures moved { IfOk result (λ y. IsMoved self power y) }
         ensures size { IfOk result (λ y. IsTimesTenTo power (size self) (size y)) }
@@ -29,7 +29,7 @@ impl UnsignedDecimal {
         }
     }
 
-    /// The same in place; after a refusal the value is as it was.
+    /// The same in place; a refusal leaves the value unchanged.
     pub(crate) fn multiply_pow10(&mut self, power: i16) -> Result<(), DecimalError>
         ensures moved { OnOk result (IsMoved self.old power self.new) }
         ensures size { OnOk result (IsTimesTenTo power (size self.old) (size self.new)) }
@@ -48,10 +48,11 @@ impl UnsignedDecimal {
     }
 }
 
-/// How many powers a decimal may have at 0 and above, and how many below.
+/// How many powers a decimal may have at 0 and above, and how many below 0.
 const MAX_POWERS: i32 = 32768;
 
-/// How many zeros a moved range takes before and behind the digits, and how many digits then stand below power 0.
+/// How many zeros a moved range needs before and behind the digits, and how many digits then stand
+/// below power 0.
 #[derive(Clone, Copy)]
 struct MovedRange {
     front: usize,

@@ -1,4 +1,4 @@
-//! Reading short texts: their bytes are judged and made digits in a few steps, without a step for each.
+//! Reading short texts: all bytes are tested and turned into digits at once.
 
 ghost use Rattle.std.specs.Prelude.{◌≡◌, ◌+◌, ◌-◌, ◌<◌, ◌≤◌, ◌++◌, length, take, replicate, max, IfSome, IfNone, List, ℕ};
 ghost use Rattle.std.specs.List.{AllPass};
@@ -12,7 +12,7 @@ use crate::lanes::{LANES, both_padded, digits_in, padded, values_of, with_text};
 /// The digits of a short text.
 #[derive(Clone, Copy)]
 pub(crate) struct ShortDigits {
-    /// The digits, that of the greatest power first, and more lanes behind them.
+    /// The digits, from the greatest power down, in the first lanes.
     pub(crate) values: [u8; LANES],
     /// How many of the lanes are digits.
     pub(crate) count: usize,
@@ -20,7 +20,7 @@ pub(crate) struct ShortDigits {
     pub(crate) scale: usize,
 }
 
-/// The number that a short text writes, as its digits.
+/// The digits of the number that a short text writes, if it writes one.
 pub(crate) fn short_digits(text: &[u8]) -> Option<ShortDigits>
     requires { length text.now ≤ LANES }
     ensures spelled { IfSome result (λ s.
@@ -49,7 +49,7 @@ pub(crate) fn short_digits(text: &[u8]) -> Option<ShortDigits>
     }
 }
 
-/// The whole number of a text of digits, which stand in its lanes too.
+/// The whole number of a text of digits; the lanes begin with the text.
 fn whole(text: &[u8], lanes: &[u8]) -> ShortDigits
     requires some { 0 < length text.now }
     requires short { length text.now ≤ LANES }
@@ -67,7 +67,7 @@ fn whole(text: &[u8], lanes: &[u8]) -> ShortDigits
     }
 }
 
-/// The number of the digits before and after a point. Those before it are the first lanes.
+/// The number with these digits before and after a point; the lanes begin with those before it.
 fn pointed(lanes: [u8; LANES], before: &[u8], after: &[u8]) -> ShortDigits
     requires lanes { take (length before.now) lanes ≡ before.now }
     requires before_digits { AllPass is_ascii_digit before.now }
@@ -85,7 +85,8 @@ fn pointed(lanes: [u8; LANES], before: &[u8], after: &[u8]) -> ShortDigits
     joined(with_text(lanes, before.len(), after), before, after)
 }
 
-/// The number of these digits at power 0 and above, of which there are some, and below it. They are the first lanes.
+/// The number with these digits at power 0 and above, at least one, and these below power 0; the
+/// lanes begin with all of them.
 fn joined(lanes: [u8; LANES], integer: &[u8], fraction: &[u8]) -> ShortDigits
     requires lanes { (rest : List ℕ) × (lanes ≡ integer.now ++ (fraction.now ++ rest)) }
     requires some { 0 < length integer.now }

@@ -2,7 +2,7 @@
 
 ghost use Rattle.std.specs.Prelude.{◌≡◌, ◌≢◌, ◌*◌, ◌↔◌, ◌==◌, ◌<ℤ◌, IfOk, IfErr, OnOk, OnErr, IsErrAnd, IsErrOf, IsOkUnless, MatchBool, MatchResult, pos, unsigned_abs, int_lt};
 ghost use Rattle.fixed_decimal.specs.Unsigned.{IsUnsigned, low, high};
-ghost use Rattle.fixed_decimal.specs.Size.{size, ten_to, magnitude_power};
+ghost use Rattle.fixed_decimal.specs.Size.{size, ten_to, magnitude};
 ghost use Rattle.fixed_decimal.specs.Rounding.{IsRounded, RoundsPastLimits};
 ghost use Rattle.fixed_decimal.specs.Scaling.{IsMoved, IsTimesTenTo, MovesPastLimits};
 ghost use Rattle.fixed_decimal.specs.SignDisplay.{displayed_sign};
@@ -26,7 +26,7 @@ impl Decimal {
         ensures sign { IfOk result (λ d. d.sign ≡ Sign.None) }
         ensures size { IfOk result (λ d. size d.absolute ≡ value * ten_to (pos 0)) }
         ensures low { IfOk result (λ d. low d.absolute ≡ pos 0) }
-        ensures high { IfOk result (λ d. high d.absolute ≡ magnitude_power (size d.absolute)) }
+        ensures high { IfOk result (λ d. high d.absolute ≡ magnitude (size d.absolute)) }
         ensures valid { IfOk result (λ d. IsUnsigned d.absolute) }
         ensures memory { IsOkUnless result DecimalError.OutOfMemory }
     {
@@ -37,13 +37,14 @@ impl Decimal {
         })
     }
 
-    /// The digits of a whole number, without leading zeros; `Negative` below zero, else without a sign.
+    /// The digits of a whole number, without leading zeros; `Negative` below zero, else without a
+    /// sign.
     pub fn from_i64(alloc: Global, value: i64) -> Result<Self, DecimalError>
         ensures sign { IfOk result (λ d.
             MatchBool (int_lt value (pos 0)) (d.sign ≡ Sign.Negative) (d.sign ≡ Sign.None)) }
         ensures size { IfOk result (λ d. size d.absolute ≡ unsigned_abs value * ten_to (pos 0)) }
         ensures low { IfOk result (λ d. low d.absolute ≡ pos 0) }
-        ensures high { IfOk result (λ d. high d.absolute ≡ magnitude_power (size d.absolute)) }
+        ensures high { IfOk result (λ d. high d.absolute ≡ magnitude (size d.absolute)) }
         ensures valid { IfOk result (λ d. IsUnsigned d.absolute) }
         ensures memory { IsOkUnless result DecimalError.OutOfMemory }
     {
@@ -56,10 +57,10 @@ impl Decimal {
         Ok(Decimal { sign, absolute })
     }
 
-    /// Multiplies by ten to the power, the sign kept (ICU4X `multiply_pow10`): each digit so many powers higher, and
-    /// the range widened to include 0.
+    /// Multiplies by ten to the power, the sign kept (ICU4X `multiply_pow10`): each digit so many
+    /// powers higher, and the range widened to include 0.
     ///
-    /// `Limit` is judged before memory is asked for; after a refusal the value is as it was.
+    /// `Limit` is determined before memory is asked for; a refusal leaves the value unchanged.
     pub fn multiply_pow10(&mut self, power: i16) -> Result<(), DecimalError>
         ensures moved { OnOk result (IsMoved self.old.absolute power self.new.absolute) }
         ensures size { OnOk result
@@ -76,8 +77,8 @@ impl Decimal {
 
     /// The nearest multiple of ten to the power, the even one of two equally near, the sign kept.
     ///
-    /// Where a carry would need power 32768 the answer is `Limit`, before memory is asked for; a value that is refused
-    /// is handed back.
+    /// Where a carry would need power 32768 the answer is `Limit`, before memory is asked for; a
+    /// value that is refused is handed back.
     pub fn rounded(self, power: i16) -> Result<Self, (Self, DecimalError)>
         ensures rounded { IfOk result (λ y. IsRounded self.absolute power y.absolute) }
         ensures sign { IfOk result (λ y. y.sign ≡ self.sign) }

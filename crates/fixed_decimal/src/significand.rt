@@ -10,11 +10,12 @@ use crate::{DecimalError, UnsignedDecimal};
 use std::alloc::Global;
 
 impl UnsignedDecimal {
-    /// The significand of the number rounded at the power, half to even: it times ten to the exponent is the rounded
-    /// number, and it has no zeros at its end below power 0.
+    /// The significand of the number rounded at the power, half to even: it times ten to the
+    /// exponent is the rounded number, and it has no zeros at its end below power 0.
     ///
-    /// It is what `rounded` at the power, `multiplied_pow10` by the exponent taken off and `trimmed_end` give one after
-    /// another, in one new value. Where a carry would need power 32768 the answer is `Limit`, before memory is asked for.
+    /// It is one new value, equal to what `rounded` at the power, `multiplied_pow10` by the negated
+    /// exponent and `trimmed_end` give one after another. Where a carry would need power 32768 the
+    /// answer is `Limit`, before memory is asked for.
     pub fn rounded_significand(
         &self,
         alloc: Global,

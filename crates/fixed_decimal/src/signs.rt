@@ -29,7 +29,7 @@ pub enum SignDisplay {
     Negative,
 }
 
-/// The sign shown, of a number that is zero or not and has this sign.
+/// The sign that is shown of a number with this sign; `is_zero` says whether the number is zero.
 pub(crate) fn displayed_sign(display: SignDisplay, is_zero: bool, sign: Sign) -> Sign
     ensures { result ≡ displayed_sign display is_zero sign }
 {
@@ -43,7 +43,7 @@ pub(crate) fn displayed_sign(display: SignDisplay, is_zero: bool, sign: Sign) ->
     }
 }
 
-/// A minus, or else the other sign.
+/// A minus where the sign is one, and the other sign where it is not.
 fn minus_or(sign: Sign, other: Sign) -> Sign
     ensures negative { sign ≡ Sign.Negative → result ≡ Sign.Negative }
     ensures other { sign ≢ Sign.Negative → result ≡ other }

@@ -7,12 +7,14 @@ use crate::digits::{Digits, digit_or_zero, is_all_zero, leading_zeros};
 use std::marker::Model;
 use std::ops::RangeInclusive;
 
-/// A decimal without a sign: a written range of powers that includes 0, and a digit at each power of the range.
+/// A decimal without a sign: a written range of powers that includes 0, and a digit at each power
+/// of the range.
 ///
-/// `0012`, `12` and `12.0` are the same number and three values: leading and trailing zeros are written digits.
+/// `0012`, `12` and `12.0` are the same number and three values: leading and trailing zeros are
+/// written digits.
 #[derive(Debug, Drop)]
 pub struct UnsignedDecimal {
-    /// The digits, that of the greatest power first.
+    /// The digits, from the greatest power down.
     pub(crate) digits: Digits,
     /// How many of them stand below power 0.
     pub(crate) scale: u16,
@@ -30,7 +32,7 @@ impl Model for UnsignedDecimal {
 
 impl UnsignedDecimal {
     ghost use Rattle.fixed_decimal.specs.Unsigned.{IsUnsigned, digit_at, high, low, integer, fraction};
-    ghost use Rattle.fixed_decimal.specs.Size.{size, magnitude_power};
+    ghost use Rattle.fixed_decimal.specs.Size.{size, magnitude};
 
     /// The least and the greatest written power (ICU4X `magnitude_range`).
     pub fn magnitude_range(&self) -> RangeInclusive<i16>
@@ -45,9 +47,10 @@ impl UnsignedDecimal {
         low..=high
     }
 
-    /// The power of the first digit that is not 0, and 0 for zero (ICU4X `nonzero_magnitude_start`).
+    /// The power of the first digit that is not 0, and 0 for zero (ICU4X
+    /// `nonzero_magnitude_start`).
     pub fn nonzero_magnitude_start(&self) -> i16
-        ensures power { result ≡ magnitude_power (size self.now) }
+        ensures power { result ≡ magnitude (size self.now) }
         ensures valid { IsUnsigned self.now }
     {
         let integer_count = self.digits.len() - self.scale as usize;

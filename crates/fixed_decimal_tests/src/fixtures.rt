@@ -1,5 +1,5 @@
-//! What the tests are made with: decimals, and whether numbers are written as wanted. What was refused memory is asked
-//! once more.
+//! Helpers of the tests: they make decimals, and compare numbers with texts. A call that was
+//! refused memory is made once more.
 
 use fixed_decimal::{Decimal, DecimalError, Sign, UnsignedDecimal};
 use std::alloc::{AllocError, Global};
@@ -21,7 +21,7 @@ pub(crate) fn number(rt: &impl Abort, alloc: Global, text: &str) -> UnsignedDeci
     }
 }
 
-/// A text of the same character so many times, made once more where memory was refused.
+/// A text of `count` equal bytes, made once more where memory was refused.
 pub(crate) fn repeated(alloc: Global, byte: u8, count: usize) -> Result<Vec<u8>, AllocError> {
     match Vec::from_elem(alloc, byte, count) {
         Ok(bytes) => Ok(bytes),
@@ -29,7 +29,7 @@ pub(crate) fn repeated(alloc: Global, byte: u8, count: usize) -> Result<Vec<u8>,
     }
 }
 
-/// Whether the number is written so, digit by digit over its whole range.
+/// Whether the number has the digits of the text, over its whole range.
 pub(crate) fn is_written(number: &UnsignedDecimal, text: &str) -> bool {
     let mut bytes = text.bytes();
     for power in number.magnitude_range().rev() {
@@ -43,7 +43,7 @@ pub(crate) fn is_written(number: &UnsignedDecimal, text: &str) -> bool {
     bytes.next().is_none()
 }
 
-/// Whether the number is there, and written so.
+/// Whether a number was made, with the digits of the text.
 pub(crate) fn is_made(made: &Result<UnsignedDecimal, DecimalError>, text: &str) -> bool {
     match made {
         Ok(number) => is_written(number, text),
@@ -51,7 +51,7 @@ pub(crate) fn is_made(made: &Result<UnsignedDecimal, DecimalError>, text: &str) 
     }
 }
 
-/// Whether the decimal is there, with this sign, and its number written so.
+/// Whether a decimal was made, with this sign and these digits.
 pub(crate) fn is_signed(made: &Result<Decimal, DecimalError>, sign: Sign, digits: &str) -> bool {
     match made {
         Ok(decimal) => decimal.sign == sign && is_written(&decimal.absolute, digits),

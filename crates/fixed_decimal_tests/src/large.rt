@@ -1,4 +1,5 @@
-//! Decimals with as many digits as there may be: each call that wants memory gives its usual answer.
+//! Decimals with as many digits as there may be: each call that wants memory gives its usual
+//! answer.
 
 use crate::fixtures::read;
 use crate::rounding::{rounded, rounded_signed};
@@ -9,10 +10,10 @@ use std::alloc::{AllocError, Global};
 use std::ops::RangeInclusive;
 use std::str;
 
-/// How many digits stand before the point, and how many behind it, at most.
+/// The most digits that may stand before the point, and the most behind it.
 const MOST: usize = 32768;
 
-/// A text of so many ones before a point and so many behind it; without a point if there are none.
+/// A text of `integer` ones and, where there are any, a point and `fraction` ones.
 fn ones_once(alloc: Global, integer: usize, fraction: usize) -> Result<Vec<u8>, AllocError> {
     let mut text = Vec::new(alloc);
     for _ in 0..integer {
@@ -35,7 +36,7 @@ fn ones(alloc: Global, integer: usize, fraction: usize) -> Result<Vec<u8>, Alloc
     }
 }
 
-/// The decimal of so many ones, read once more where memory was refused.
+/// The decimal of such a text, read once more where memory was refused.
 fn decimal(alloc: Global, integer: usize, fraction: usize) -> Result<Decimal, DecimalError> {
     let Ok(bytes) = ones(alloc, integer, fraction) else {
         return Err(DecimalError::OutOfMemory);
@@ -46,7 +47,7 @@ fn decimal(alloc: Global, integer: usize, fraction: usize) -> Result<Decimal, De
     }
 }
 
-/// The same as a number.
+/// The number of such a text.
 fn number(alloc: Global, integer: usize, fraction: usize) -> Result<UnsignedDecimal, DecimalError> {
     match decimal(alloc, integer, fraction) {
         Ok(decimal) => Ok(decimal.absolute),
@@ -54,7 +55,7 @@ fn number(alloc: Global, integer: usize, fraction: usize) -> Result<UnsignedDeci
     }
 }
 
-/// Whether a number is that of so many ones.
+/// Whether a number was made, and equals that of such a text.
 fn is_ones(
     alloc: Global,
     made: &Result<UnsignedDecimal, DecimalError>,
@@ -67,7 +68,7 @@ fn is_ones(
     }
 }
 
-/// Whether the text of as many ones as there may be is read as they are.
+/// Whether the longest text of ones is read as a text.
 fn reads_text(alloc: Global) -> bool {
     match ones(alloc, MOST, MOST) {
         Ok(bytes) => {
@@ -88,7 +89,7 @@ fn has_ones(number: &UnsignedDecimal, range: &RangeInclusive<i16>) -> bool {
         && number.fraction().iter().all(|digit| *digit == 1)
 }
 
-/// Whether the bytes of them are read, with the whole range.
+/// Whether the longest text of ones is read as bytes, with the whole range.
 fn reads_bytes(alloc: Global) -> bool {
     match decimal(alloc, MOST, MOST) {
         Ok(decimal) => has_ones(&decimal.absolute, &(-32768..=32767)),
@@ -110,7 +111,7 @@ fn equals_its_copies(alloc: Global, decimal: &Decimal) -> bool {
     }
 }
 
-/// The same of all digits, asked once more where memory was refused.
+/// The same of the decimal with the most digits, asked once more where memory was refused.
 fn copies(alloc: Global) -> bool {
     match decimal(alloc, MOST, MOST) {
         Ok(decimal) => equals_its_copies(alloc, &decimal) || equals_its_copies(alloc, &decimal),
@@ -123,7 +124,7 @@ fn copies_all_digits(rt: HostRuntime) {
     assert!(rt; copies(rt.alloc()));
 }
 
-/// So many ones, rounded; once more where memory was refused.
+/// The number of such a text, rounded; once more where memory was refused.
 fn rounded_ones(
     alloc: Global,
     integer: usize,
@@ -136,7 +137,7 @@ fn rounded_ones(
     }
 }
 
-/// The same with a sign.
+/// The decimal of such a text, rounded; once more where memory was refused.
 fn rounded_signed_ones(
     alloc: Global,
     integer: usize,
@@ -152,7 +153,8 @@ fn rounded_signed_ones(
     }
 }
 
-/// Whether ones without a fraction have as many zeros below the point as there may be.
+/// Whether a number was made of ones before the point and of zeros behind it, as many as there may
+/// be.
 fn has_zeros(made: &Result<UnsignedDecimal, DecimalError>) -> bool {
     match made {
         Ok(number) => {
@@ -177,7 +179,7 @@ fn rounds_to_all_digits(rt: HostRuntime) {
     assert!(rt; has_zeros(&rounded_signed_ones(rt.alloc(), MOST, 0, -32768)));
 }
 
-/// The significand of so many ones.
+/// The significand of such a text's number.
 fn significand_of_ones(
     alloc: Global,
     integer: usize,
@@ -199,7 +201,7 @@ fn gives_significands_of_all_digits(rt: HostRuntime) {
     assert!(rt; is_ones(alloc, &divided, MOST - 255, 255));
 }
 
-/// So many ones times ten to a power.
+/// The number of `integer` ones times ten to a power.
 fn scaled_ones(alloc: Global, integer: usize, power: i16) -> Result<UnsignedDecimal, DecimalError> {
     match number(alloc, integer, 0) {
         Ok(number) => scaled(number, power),
@@ -207,7 +209,7 @@ fn scaled_ones(alloc: Global, integer: usize, power: i16) -> Result<UnsignedDeci
     }
 }
 
-/// Whether one is multiplied in place by the greatest power, and then is read as it is written.
+/// Whether 1 is multiplied in place by ten to the greatest power.
 fn scales_in_place(alloc: Global) -> bool {
     let Ok(mut decimal) = decimal(alloc, 1, 0) else {
         return false;

@@ -1,11 +1,11 @@
-//! What numbers tell of themselves; trimmed, with the signs that are displayed, copied and compared.
+//! Magnitudes, digits and trimmed numbers; signs that are displayed, copies and comparisons.
 
 use crate::fixtures::{is_written, number, read};
 use fixed_decimal::{Decimal, Sign, SignDisplay, UnsignedDecimal};
 use std::alloc::Global;
 use std::process::Abort;
 
-/// Whether each power has this digit.
+/// Whether the number has each of these digits at its power.
 fn has_digits(number: &UnsignedDecimal, digits: &[(i16, u8)]) -> bool {
     for (power, digit) in digits {
         if number.digit_at(*power) != *digit {
@@ -53,7 +53,7 @@ const MAGNITUDES: [(&str, i16, bool); 5] = [
 
 #[test]
 fn tells_the_magnitude(rt: HostRuntime) {
-    for (text, magnitude, is_zero) in MAGNITUDES {
+    for &(text, magnitude, is_zero) in &MAGNITUDES {
         assert!(rt; tells(&rt, rt.alloc(), text, magnitude, is_zero), "{text}");
     }
 }
@@ -72,12 +72,12 @@ const TRIMMED: [(&str, &str); 5] = [
 
 #[test]
 fn trims_zeros_below_the_point(rt: HostRuntime) {
-    for (text, want) in TRIMMED {
+    for &(text, want) in &TRIMMED {
         assert!(rt; trims(&rt, rt.alloc(), text, want), "{text}");
     }
 }
 
-/// The sign that a text shows.
+/// The sign that is displayed of a text's decimal.
 fn shown_sign(alloc: Global, text: &str, display: SignDisplay) -> Option<Sign> {
     match read(alloc, text) {
         Ok(decimal) => Some(decimal.with_sign_display(display).sign),
@@ -103,7 +103,7 @@ const SHOWN: [(SignDisplay, [Sign; 6]); 5] = [
 
 #[test]
 fn displays_signs(rt: HostRuntime) {
-    for (display, signs) in SHOWN {
+    for &(display, signs) in &SHOWN {
         for (text, sign) in SIGNED.iter().zip(signs) {
             assert!(rt;
                 shown_sign(rt.alloc(), text, display) == Some(sign),
@@ -124,7 +124,8 @@ fn equals_its_copy(alloc: Global, decimal: &Decimal) -> bool {
     }
 }
 
-/// Whether the decimals that two texts spell are equal, each to its copy too.
+/// Whether the decimals that two texts spell are equal; none where one is refused, or the first
+/// differs from its copy.
 fn are_equal(alloc: Global, left: &str, right: &str) -> Option<bool> {
     match (read(alloc, left), read(alloc, right)) {
         (Ok(left), Ok(right)) => {
@@ -149,7 +150,7 @@ const COMPARED: [(&str, &str, bool); 6] = [
 
 #[test]
 fn compares_sign_range_and_digits(rt: HostRuntime) {
-    for (left, right, want) in COMPARED {
+    for &(left, right, want) in &COMPARED {
         assert!(rt;
             are_equal(rt.alloc(), left, right) == Some(want),
             "{left} and {right}"

@@ -7,7 +7,7 @@ use std::ops::RangeInclusive;
 use std::process::Abort;
 use std::str;
 
-/// Rounds, once more where memory was refused.
+/// Rounds a number, once more where memory was refused.
 pub(crate) fn rounded(
     number: UnsignedDecimal,
     power: i16,
@@ -43,7 +43,7 @@ const ROUNDED: [(&str, i16, &str); 12] = [
 
 #[test]
 fn rounds_half_to_even(rt: HostRuntime) {
-    for (text, power, want) in ROUNDED {
+    for &(text, power, want) in &ROUNDED {
         assert!(rt;
             rounds(&rt, rt.alloc(), text, power, want),
             "{text} at {power}"
@@ -74,7 +74,7 @@ fn rounds_at_the_greatest_power(rt: HostRuntime) {
     assert!(rt; rounds_to_zero(&rt, rt.alloc(), ("5", 32767), &(0..=32766)));
 }
 
-/// Whether the least decimal stays at the least power.
+/// Whether rounding at the least power leaves the least decimal as it is.
 fn least_stays(rt: &impl Abort, alloc: Global) -> bool {
     let Ok(mut least) = repeated(alloc, b'0', 32769) else {
         return false;
@@ -119,7 +119,7 @@ fn refuses_a_carry_past_the_limit(rt: HostRuntime) {
     assert!(rt; refuses_a_carry(&rt, rt.alloc()));
 }
 
-/// Rounds with a sign, once more where memory was refused.
+/// Rounds a decimal, once more where memory was refused.
 pub(crate) fn rounded_signed(decimal: Decimal, power: i16) -> Result<Decimal, DecimalError> {
     match decimal.rounded(power) {
         Ok(decimal) => Ok(decimal),
@@ -131,7 +131,7 @@ pub(crate) fn rounded_signed(decimal: Decimal, power: i16) -> Result<Decimal, De
     }
 }
 
-/// Whether a text is rounded to a negative number that is written so.
+/// Whether a text's decimal is rounded to a negative one with the digits of `want`.
 fn rounds_negative(alloc: Global, text: &str, power: i16, want: &str) -> bool {
     match read(alloc, text) {
         Ok(decimal) => match rounded_signed(decimal, power) {

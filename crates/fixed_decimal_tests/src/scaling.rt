@@ -6,7 +6,7 @@ use std::alloc::Global;
 use std::ops::RangeInclusive;
 use std::process::Abort;
 
-/// Scales, once more where memory was refused.
+/// Multiplies by a power of ten, once more where memory was refused.
 pub(crate) fn scaled(number: UnsignedDecimal, power: i16) -> Result<UnsignedDecimal, DecimalError> {
     match number.multiplied_pow10(power) {
         Ok(number) => Ok(number),
@@ -33,7 +33,7 @@ const SCALED: [(&str, i16, &str); 6] = [
 
 #[test]
 fn scales_by_powers_of_ten(rt: HostRuntime) {
-    for (text, power, want) in SCALED {
+    for &(text, power, want) in &SCALED {
         assert!(rt;
             scales(&rt, rt.alloc(), text, power, want),
             "{text} by {power}"
@@ -72,7 +72,8 @@ fn refuses_to_scale_past_the_limit(rt: HostRuntime) {
     assert!(rt; refuses_to_scale(&rt, rt.alloc(), "10", 32767));
 }
 
-/// Whether -10 is refused to be scaled past the limit and stays, and is then scaled, once more where memory was refused.
+/// Whether scaling -10 past the limit is refused and leaves it unchanged, and a second scaling
+/// succeeds, made once more where memory was refused.
 fn scales_negative(alloc: Global) -> bool {
     let Ok(mut decimal) = read(alloc, "-10") else {
         return false;

@@ -6,7 +6,8 @@ use std::alloc::Global;
 use std::process::Abort;
 use std::str;
 
-/// The significand, asked for once more where memory was refused; `Syntax` where it may not be asked for.
+/// The significand, asked for once more where memory was refused; `Syntax` where the arguments do
+/// not meet what the call requires.
 pub(crate) fn significand(
     alloc: Global,
     number: &UnsignedDecimal,
@@ -48,7 +49,7 @@ const SIGNIFICANDS: [(&str, i16, u8, &str); 15] = [
 
 #[test]
 fn rounds_to_significands(rt: HostRuntime) {
-    for row in SIGNIFICANDS {
+    for &row in &SIGNIFICANDS {
         assert!(rt;
             gives(&rt, rt.alloc(), &row),
             "{} at {} over {}",

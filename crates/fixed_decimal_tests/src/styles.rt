@@ -12,7 +12,7 @@ fn is_text(made: Result<String, AllocError>, want: &str) -> bool {
     }
 }
 
-/// Whether a value is displayed so under each of these options.
+/// Whether a value is displayed as this text under each of these options.
 fn is_styled_once<T: Display>(alloc: Global, value: &T, want: &str) -> bool {
     is_text(format!(in alloc; "{value:>80}"), want)
         && is_text(format!(in alloc; "{value:*^80}"), want)
@@ -33,7 +33,7 @@ const ERRORS: [(DecimalError, &str); 3] = [
 
 #[test]
 fn displays_errors_under_every_style(rt: HostRuntime) {
-    for (error, want) in ERRORS {
+    for &(error, want) in &ERRORS {
         assert!(rt; is_styled(rt.alloc(), &error, want), "{want}");
     }
 }

@@ -5,7 +5,8 @@ use fixed_decimal::{Decimal, DecimalError, Sign};
 use std::alloc::Global;
 use std::str;
 
-/// The last seven stand on both sides of sixteen bytes, which are read in one step.
+/// Texts, and the sign and the digits of each. The last seven have sixteen bytes and more without
+/// their sign; up to sixteen are read in one step.
 const TEXTS: [(&str, Sign, &str); 14] = [
     ("1000007", Sign::None, "1000007"),
     ("-987654.321", Sign::Negative, "987654.321"),
@@ -29,7 +30,7 @@ const TEXTS: [(&str, Sign, &str); 14] = [
 
 #[test]
 fn reads_each_written_digit(rt: HostRuntime) {
-    for (text, sign, digits) in TEXTS {
+    for &(text, sign, digits) in &TEXTS {
         assert!(rt; is_signed(&read(rt.alloc(), text), sign, digits), "{text}");
     }
 }
@@ -44,7 +45,7 @@ fn read_bytes(alloc: Global, text: &[u8]) -> Result<Decimal, DecimalError> {
 
 #[test]
 fn reads_bytes_as_their_text(rt: HostRuntime) {
-    for (text, sign, digits) in TEXTS {
+    for &(text, sign, digits) in &TEXTS {
         assert!(rt;
             is_signed(&read_bytes(rt.alloc(), text.as_bytes()), sign, digits),
             "{text}"
@@ -57,7 +58,7 @@ const NO_TEXTS: [&[u8]; 3] = [b"\xff", b"1\x80", b"1\xef\xbc"];
 
 #[test]
 fn refuses_bytes_that_are_no_text(rt: HostRuntime) {
-    for text in NO_TEXTS {
+    for &text in &NO_TEXTS {
         let refusal = read_bytes(rt.alloc(), text).err();
         assert!(rt; refusal == Some(DecimalError::Syntax), "{text:?}");
     }
@@ -98,7 +99,7 @@ fn refuses_other_texts(rt: HostRuntime) {
     }
 }
 
-/// Whether a text of nines with these ends is read, or refused so.
+/// Whether a text of nines between two other bytes is read, or refused with this error.
 fn is_judged(
     alloc: Global,
     (first, count, last): (u8, usize, u8),
@@ -128,7 +129,7 @@ const LONG_TEXTS: [((u8, usize, u8), Option<DecimalError>); 5] = [
 
 #[test]
 fn reads_up_to_the_limits(rt: HostRuntime) {
-    for (given, want) in LONG_TEXTS {
+    for &(given, want) in &LONG_TEXTS {
         assert!(rt; is_judged(rt.alloc(), given, want), "{}", given.1);
     }
 }

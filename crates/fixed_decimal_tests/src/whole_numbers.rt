@@ -49,7 +49,7 @@ const WHOLE: [(u64, &str); 4] = [
 
 #[test]
 fn makes_whole_numbers(rt: HostRuntime) {
-    for (value, want) in WHOLE {
+    for &(value, want) in &WHOLE {
         assert!(rt;
             is_signed(&from_u64(rt.alloc(), value), Sign::None, want),
             "{value}"
@@ -58,7 +58,7 @@ fn makes_whole_numbers(rt: HostRuntime) {
     assert!(rt; is_made(&one(rt.alloc()), "1"));
 }
 
-/// Whether a whole number is made without a sign and copied, both written so.
+/// Whether a whole number is made without a sign and copied, both with the digits of the text.
 fn is_copied(alloc: Global, value: u64, want: &str) -> bool {
     match unsigned_from_u64(alloc, value) {
         Ok(number) => is_written(&number, want) && is_made(&copy(alloc, &number), want),
@@ -68,7 +68,7 @@ fn is_copied(alloc: Global, value: u64, want: &str) -> bool {
 
 #[test]
 fn makes_and_copies_unsigned_whole_numbers(rt: HostRuntime) {
-    for (value, want) in WHOLE {
+    for &(value, want) in &WHOLE {
         assert!(rt; is_copied(rt.alloc(), value, want), "{value}");
     }
 }
@@ -82,7 +82,7 @@ const SIGNED_WHOLE: [(i64, Sign, &str); 4] = [
 
 #[test]
 fn makes_signed_whole_numbers(rt: HostRuntime) {
-    for (value, sign, want) in SIGNED_WHOLE {
+    for &(value, sign, want) in &SIGNED_WHOLE {
         assert!(rt;
             is_signed(&from_i64(rt.alloc(), value), sign, want),
             "{value}"

@@ -1,4 +1,4 @@
-//! What holds of all events and operands.
+//! The laws of events and operands.
 
 pub use icu_plurals::laws::{exactly_is_the_number, moving_the_point_multiplies};
 pub use writeable::laws::{

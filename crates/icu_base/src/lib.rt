@@ -1,5 +1,6 @@
-//! One door to the crates that all above share: text with parts (`writeable`), patterns (`icu_pattern`), plural rules
-//! (`icu_plurals`), and locales, numbering systems and providers of data (`icu_provider`).
+//! One door to the crates that all above share: text with parts (`writeable`), patterns
+//! (`icu_pattern`), plural rules (`icu_plurals`), and locales, numbering systems and providers of
+//! data (`icu_provider`).
 #![tactic(auto)]
 
 pub mod laws;

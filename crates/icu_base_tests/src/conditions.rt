@@ -1,8 +1,8 @@
 //! Texts of conditions: where they are refused, and what the others are read as.
-use plural_conditions::condition::Item::{Range, Value};
-use plural_conditions::condition::Operand::{I, N, V};
-use plural_conditions::condition::{Alternative, Item, Operand, Relation};
-use plural_conditions::{Condition, RulesError, first_fault, read_condition};
+use icu_plurals_conditions::condition::Item::{Range, Value};
+use icu_plurals_conditions::condition::Operand::{I, N, V};
+use icu_plurals_conditions::condition::{Alternative, Item, Operand, Relation};
+use icu_plurals_conditions::{Condition, RulesError, first_fault, read_condition};
 use std::alloc::{AllocError, Global};
 use std::str;
 
@@ -26,14 +26,14 @@ fn tells_the_first_fault(rt: HostRuntime) {
     }
 }
 
-/// A relation: its operand, its modulus, whether it is denied, and its items.
+/// A relation: its operand, its modulus, whether it is negated, and its values and ranges.
 type Wanted = (Operand, Option<u64>, bool, &'static [Item]);
 
 fn is_relation(relation: &Relation, want: &Wanted) -> bool {
-    relation.subject == want.0
+    relation.operand == want.0
         && relation.modulus == want.1
-        && relation.denied == want.2
-        && relation.items.as_slice() == want.3
+        && relation.negated == want.2
+        && relation.ranges.as_slice() == want.3
 }
 
 fn are_relations(alternative: &Alternative, want: &[Wanted]) -> bool {
@@ -50,7 +50,7 @@ fn is_condition(condition: &Condition, want: &[&[Wanted]]) -> bool {
             .all(|(a, w)| are_relations(a, w))
 }
 
-/// What a text is read as, unless it has a fault; asked once more where memory was refused.
+/// What a text is read as, unless it has a fault; the call is repeated if an allocation failed.
 fn condition_of(alloc: Global, text: &str) -> Option<Condition> {
     if first_fault(text).is_some() {
         return None;
@@ -61,7 +61,7 @@ fn condition_of(alloc: Global, text: &str) -> Option<Condition> {
     }
 }
 
-/// A copy, asked for once more where memory was refused.
+/// A copy; the call is repeated if an allocation failed.
 fn copy_of(alloc: Global, condition: &Condition) -> Option<Condition> {
     match condition.copy(alloc) {
         Err(RulesError::OutOfMemory) => condition.copy(alloc).ok(),
@@ -102,7 +102,7 @@ fn reads_conditions_as_they_are_spelled(rt: HostRuntime) {
     }
 }
 
-/// A relation so many times, with this between each and the next.
+/// A relation that many times, with this between each and the next.
 fn joined_once(alloc: Global, joint: &[u8], count: usize) -> Result<Vec<u8>, AllocError> {
     let mut text = Vec::new(alloc);
     for index in 0..count {
@@ -114,7 +114,7 @@ fn joined_once(alloc: Global, joint: &[u8], count: usize) -> Result<Vec<u8>, All
     Ok(text)
 }
 
-/// The same, made once more where memory was refused.
+/// The same; the call is repeated if an allocation failed.
 fn joined(alloc: Global, joint: &[u8], count: usize) -> Result<Vec<u8>, AllocError> {
     match joined_once(alloc, joint, count) {
         Ok(text) => Ok(text),
@@ -125,7 +125,7 @@ fn joined(alloc: Global, joint: &[u8], count: usize) -> Result<Vec<u8>, AllocErr
 /// The relation as it is read.
 const JOINED: Wanted = (N, Some(10), true, &[Range(3, 5), Value(9)]);
 
-/// Whether a condition has so many alternatives, each of so many times the relation.
+/// Whether a condition has that many alternatives, each of that many times the relation.
 fn has_relations(condition: &Condition, alternatives: usize, relations: usize) -> bool {
     condition.alternatives.len() == alternatives
         && condition.alternatives.iter().all(|alternative| {
@@ -137,7 +137,7 @@ fn has_relations(condition: &Condition, alternatives: usize, relations: usize) -
         })
 }
 
-/// Whether a text is read as so many alternatives of so many relations, and so is its copy.
+/// Whether a text is read as that many alternatives of that many relations, and so is its copy.
 fn reads_relations(alloc: Global, text: &[u8], alternatives: usize, relations: usize) -> bool {
     let text = str::from_utf8(text).unwrap_or_default();
     let Some(condition) = condition_of(alloc, text) else {

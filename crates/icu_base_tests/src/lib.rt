@@ -1,5 +1,6 @@
-//! The tests of the public calls of the crates to which icu_base is the door, and of plural_conditions below them; the
-//! library itself offers nothing. Those of writeable, which look at private parts, stand in it.
+//! The tests of the public calls of the crates to which icu_base is the door, and of
+//! icu_plurals_conditions below them; the library itself offers nothing. Those of writeable, which look
+//! at private parts, stand in it.
 #![tactic(auto)]
 
 #[cfg(test)]

@@ -1,5 +1,5 @@
-//! The paths through modules lead to the same items as the paths of the crate's root: each function here takes an item
-//! by the one and answers it by the other.
+//! The paths through modules lead to the same items as the paths of the crate's root: each function
+//! here takes an item by the one and answers it by the other.
 
 use icu_base::plurals::category;
 use std::test::Fail;

@@ -1,4 +1,4 @@
-//! Worked patterns, and what their tests share: patterns asked for again where memory was wanting.
+//! Worked patterns, and what their tests share: patterns the call is repeated if memory ran out.
 mod filled;
 mod patterns;
 
@@ -7,7 +7,7 @@ use std::alloc::Global;
 use std::fmt;
 use std::process::Abort;
 
-/// What is answered for a pattern, asked for again where memory was wanting.
+/// What is answered for a pattern; the call is repeated if memory ran out.
 fn judged<P: PatternBackend>(
     alloc: Global,
     place: Option<usize>,
@@ -42,7 +42,7 @@ fn is_displayed<T: fmt::Display>(alloc: Global, value: &T, text: &str) -> bool {
     }
 }
 
-/// Whether a pattern is lent as this place and this literal.
+/// Whether a pattern is borrowed as this place and this literal.
 fn is_lent<P: PatternBackend>(pattern: &Pattern<P>, place: Option<usize>, literal: &str) -> bool {
     let lent = pattern.as_ref();
     lent.place() == place && lent.literal() == literal

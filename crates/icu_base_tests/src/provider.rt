@@ -1,4 +1,5 @@
-//! Locales and numbering systems by their texts, identifiers made of them, refusals, and providers that are asked.
+//! Locales and numbering systems by their texts, identifiers made of them, refusals, and providers
+//! that are asked.
 mod errors;
 mod identifiers;
 mod locales;

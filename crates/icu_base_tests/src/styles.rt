@@ -1,8 +1,8 @@
 //! Errors under a width, a fill, a precision and the alternate form: the same characters, unpadded.
 
 use icu_pattern::PatternError;
+use icu_plurals_conditions::RulesError;
 use icu_provider::{BadLocale, BadNumberingSystem, DataError, DataErrorKind};
-use plural_conditions::RulesError;
 use std::alloc::{AllocError, Global};
 use std::fmt::Display;
 
@@ -22,7 +22,7 @@ fn is_styled_once<T: Display>(alloc: Global, value: &T, want: &str) -> bool {
         && is_text(format!(in alloc; "{value:#}"), want)
 }
 
-/// The same, asked once more where memory was refused.
+/// The same; the call is repeated if an allocation failed.
 fn is_styled<T: Display>(alloc: Global, value: &T, want: &str) -> bool {
     is_styled_once(alloc, value, want) || is_styled_once(alloc, value, want)
 }
@@ -37,7 +37,7 @@ const PATTERNS: [(PatternError, &str); 2] = [
 
 #[test]
 fn displays_errors_of_patterns_under_every_style(rt: HostRuntime) {
-    for (error, want) in PATTERNS {
+    for &(error, want) in &PATTERNS {
         assert!(rt; is_styled(rt.alloc(), &error, want), "{want}");
     }
 }
@@ -52,7 +52,7 @@ const RULES: [(RulesError, &str); 2] = [
 
 #[test]
 fn displays_errors_of_rules_under_every_style(rt: HostRuntime) {
-    for (error, want) in RULES {
+    for &(error, want) in &RULES {
         assert!(rt; is_styled(rt.alloc(), &error, want), "{want}");
     }
 }
@@ -70,12 +70,12 @@ const KINDS: [(DataErrorKind, &str); 5] = [
 
 #[test]
 fn displays_kinds_of_errors_under_every_style(rt: HostRuntime) {
-    for (error, want) in KINDS {
+    for &(error, want) in &KINDS {
         assert!(rt; is_styled(rt.alloc(), &error, want), "{want}");
     }
 }
 
-/// What a provider says of a refusal, and the whole text.
+/// The context of a provider's error, and the whole text.
 const CONTEXTS: [(&str, &str); 2] = [
     ("", "the provider failed"),
     (
@@ -94,7 +94,7 @@ fn is_error_styled(alloc: Global, context: &'static str, want: &str) -> bool {
 
 #[test]
 fn displays_errors_with_their_context_under_every_style(rt: HostRuntime) {
-    for (context, want) in CONTEXTS {
+    for &(context, want) in &CONTEXTS {
         assert!(rt; is_error_styled(rt.alloc(), context, want), "{want}");
     }
 }

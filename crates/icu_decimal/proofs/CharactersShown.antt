@@ -4,20 +4,15 @@ use Rattle.std.specs.Str.{chars}
 use Rattle.fixed_decimal.specs.declared.signs.Sign.{Sign}
 use Rattle.fixed_decimal.specs.declared.signs.Sign.TheVariants.{Negative, Positive, None as NoSign}
 use Rattle.fixed_decimal.specs.Unsigned.{Unsigned, integer, fraction}
-use Rattle.icu_base.specs.Events.{Event, characters, text_events, digit_events}
-use Rattle.icu_base.specs.Events.Event.{Char, Open, Close}
+use Rattle.writeable.specs.Events.{Event, characters, text_events, digit_events}
+use Rattle.writeable.specs.Events.Event.{Close}
 use Rattle.icu_decimal.specs.Decimal.{DecimalFormat, strategy_of, integer_events, fraction_events, unsigned_events, signed_events}
 use Rattle.icu_decimal_options.specs.Grouping.{digit_groups, joined, joined_after}
 use Rattle.icu_decimal.specs.Part.{in_decimal_part}
 use Rattle.icu_decimal_readable.specs.Readable.{affixes}
 use Rattle.writeable.proofs.EventLemmas.{characters-map_Char}
+use Rattle.writeable.specs.Writes.{characters-append}
 use Rattle.icu_decimal.proofs.Runs.{fraction_text}
-
-characters-append : (xs ys : List Event) → characters (xs ++ ys) ≡ characters xs ++ characters ys
-characters-append [] ys = refl
-characters-append (Char c ∷ xs) ys = ap (λ l. c ∷ l) (characters-append xs ys)
-characters-append (Open category value ∷ xs) ys = characters-append xs ys
-characters-append (Close ∷ xs) ys = characters-append xs ys
 
 characters-in_part : (value : List ℕ) (es : List Event) → characters (in_decimal_part value es) ≡ characters es
 characters-in_part value es = characters-append es (Close ∷ []) ∙ append-nil (characters es)

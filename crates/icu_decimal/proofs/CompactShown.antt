@@ -3,8 +3,8 @@ use Rattle.std.proofs.Common.{◌≡◌, ℕ, List, Option, sym, ap, ap₂, subs
 use Rattle.fixed_decimal.specs.declared.signs.Sign.{Sign}
 use Rattle.fixed_decimal.specs.declared.signs.Sign.TheVariants.{None}
 use Rattle.fixed_decimal.specs.Unsigned.{Unsigned}
-use Rattle.icu_base.specs.Events.{Event, without_parts}
-use Rattle.icu_base.specs.Patterns.{PatternText}
+use Rattle.writeable.specs.Events.{Event, without_parts}
+use Rattle.icu_pattern.specs.Patterns.{PatternText}
 use Rattle.icu_decimal_data.specs.CompactTable.{TableEntry, exponent_of}
 use Rattle.icu_decimal.specs.CompactFormat.{CompactFormat, FilledNumber, FormattedCompact, IsCompactFormat, IsCompacted, filled_events, pattern_of}
 use Rattle.icu_decimal.specs.CompactFormat.{significand_of, compact_shown, signed_compact_shown}

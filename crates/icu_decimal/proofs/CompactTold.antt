@@ -5,13 +5,13 @@ use Rattle.std.specs.Str.{chars}
 use Rattle.std.proofs.lemmas.Bool.{cases_Bool}
 use Rattle.fixed_decimal.specs.declared.signs.Sign.{Sign}
 use Rattle.fixed_decimal.specs.Unsigned.{Unsigned}
-use Rattle.icu_base.specs.Elements.{explicit_value, category_value, is_exactly, selected}
-use Rattle.icu_base.specs.Events.{Event, characters, text_events, without_parts}
-use Rattle.icu_base.specs.Operands.{Operands, operands_of}
-use Rattle.icu_base.specs.Patterns.{PatternText, around}
-use Rattle.icu_base.specs.Rules.{category_of}
-use Rattle.icu_base.specs.declared.plurals.category.PluralCategory.{PluralCategory}
-use Rattle.icu_base.specs.declared.plurals.category.PluralCategory.TheVariants.{Zero, One, Two, Few, Many, Other}
+use Rattle.icu_plurals.specs.Elements.{explicit_value, category_value, is_exactly, selected}
+use Rattle.writeable.specs.Events.{Event, characters, text_events, without_parts}
+use Rattle.icu_plurals.specs.Operands.{Operands, operands_of}
+use Rattle.icu_pattern.specs.Patterns.{PatternText, around}
+use Rattle.icu_plurals.specs.Rules.{category_of}
+use Rattle.icu_plurals.specs.declared.category.PluralCategory.{PluralCategory}
+use Rattle.icu_plurals.specs.declared.category.PluralCategory.TheVariants.{Zero, One, Two, Few, Many, Other}
 use Rattle.icu_decimal_data.specs.CompactTable.{PatternElements, TableEntry}
 use Rattle.writeable.proofs.EventLemmas.{characters-map_Char}
 use Rattle.writeable.proofs.LawLemmas.{characters-without_parts}
@@ -49,6 +49,7 @@ module _ (e : PatternElements) where
   explicit_or None category of = by_category category
   explicit_or (Some p) category of = of p refl
 
+  -- the pattern that operands pick is one of the entry
   pub selected_is : (o : Operands) (category : PluralCategory) → HasPattern e (selected e o category)
   selected_is o category = explicit_or (explicit_value e o) category (λ p h. explicit p h)
     where
@@ -86,16 +87,17 @@ module _ (f : CompactFormat) (sign : Sign) (by : Option TableEntry) (significand
   inside = characters (unsigned_events f.decimal significand)
 
   -- events between the affixes of the sign, with the characters of the number in its pattern
-  between : (es : List Event) → IsSome (pattern_of f by significand).place → characters es ≡ characters (filled_events f by significand)
+  between : (es : List Event) → IsSome (pattern_of f by significand).placeholder → characters es ≡ characters (filled_events f by significand)
       → characters (signed_events f.decimal.symbols sign es) ≡ around_it.before ++ (inside ++ around_it.after)
   between es some same =
       let a = affixes f.decimal.symbols.strings sign in
       let p = pattern_of f by significand in
       characters-signed f.decimal sign es
-      ∙ ap (λ l. a.before ++ (l ++ a.after)) (same ∙ characters-placed p.place p.literal (unsigned_events f.decimal significand) some)
+      ∙ ap (λ l. a.before ++ (l ++ a.after)) (same ∙ characters-placed p.placeholder p.literal (unsigned_events f.decimal significand) some)
       ∙ regroup a.before (sides p).before inside (sides p).after a.after
 
-  pub characters-written : (es : List Event) → IsSome (pattern_of f by significand).place → IsWrittenBy f sign by significand es →
+  -- the characters of a number that is written by an entry, in either way
+  pub characters-written : (es : List Event) → IsSome (pattern_of f by significand).placeholder → IsWrittenBy f sign by significand es →
       characters es ≡ around_it.before ++ (inside ++ around_it.after)
   characters-written es some (inl shown) = ap characters shown
       ∙ between (without_parts (filled_events f by significand)) some (characters-without_parts (filled_events f by significand))

@@ -12,6 +12,7 @@ use Rattle.icu_decimal.proofs.GroupRuns.{runs-groups, some_groups}
 use Rattle.icu_decimal_options.proofs.GroupingLaws.{concatenated-digit_groups}
 use Rattle.icu_decimal.proofs.Runs.{Every, Runs, every_of_all, every_before, every_after, every_map, runs_map, concatenated-map}
 
+-- a digit
 abbrev pub IsDigit : ℕ → Type 0
 IsDigit x = x < 10
 
@@ -42,6 +43,7 @@ module _ (f : DecimalFormat) (h : IsReadable f.symbols.strings f.digits) where
       let tails : digit_characters f xs ≡ digit_characters f ys = cc in
       ap₂ ◌∷◌ (character_tells x y hx.0 hy.0 heads) (characters_tell xs ys hx.1 hy.1 tails)
 
+  -- a digit's character is one of the formatter's
   pub character_is : (x : ℕ) → IsDigit x → IsDigitOf f (slice_index f.digits x)
   character_is x hx =
       let within : x < length f.digits = omega (arith, h.ten) in
@@ -52,6 +54,7 @@ module _ (c : Unsigned) (h : IsUnsigned c) where
   both_below : Every IsDigit (integer c ++ fraction c)
   both_below = subst (Every IsDigit) (sym (take-append-drop (integer_count c) c.digits)) (every_of_all IsDigit c.digits h.below_ten)
 
+  -- the integer's digits are digits
   pub integer_below : Every IsDigit (integer c)
   integer_below = every_before IsDigit (integer c) (fraction c) both_below
 
@@ -62,9 +65,11 @@ module _ (c : Unsigned) (h : IsUnsigned c) where
   integer_some : 0 < length (integer c)
   integer_some = rw (length-take (integer_count c) c.digits) (omega (arith, h.integer_some))
 
+  -- there are as many fraction digits as the scale says
   pub fraction_length : length (fraction c) ≡ c.scale
   fraction_length = length-drop (integer_count c) c.digits ∙ omega (arith, h.integer_some)
 
+  -- the groups of a decimal have digits, and there is one at least
   pub groups_some : (f : DecimalFormat) → Runs IsDigit (groups_of f c) × (groups_of f c ≢ [])
   groups_some f = go (integer c) integer_below integer_some
     where

@@ -1,7 +1,7 @@
 -- The events of digits and of fractions, step by step.
 use Rattle.std.proofs.Common.{◌≡◌, ℕ, ◌<◌, List, [], ◌∷◌, ◌++◌, length, refl, sym, arith, codes, Option, Some, None, true, false}
 use Rattle.std.proofs.Common.{append-nil}
-use Rattle.icu_base.specs.Events.{Event, text_events, digit_events}
+use Rattle.writeable.specs.Events.{Event, text_events, digit_events}
 use Rattle.icu_decimal.specs.Decimal.{DecimalFormat, fraction_events, grouped_events, group_events, separator_events, strategy_of}
 use Rattle.icu_decimal_options.specs.Grouping.{is_grouped, cut, joined, secondary_size}
 use Rattle.icu_decimal.specs.Part.{in_decimal_part}

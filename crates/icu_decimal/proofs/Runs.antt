@@ -1,4 +1,10 @@
 -- A text of runs of digits between texts without one is read in one way.
+-- Induction on the first run: where two equal texts begin with characters of one kind and go on with the other kind, the runs are equal,
+-- and so are the rests (`split_run`). So a number's text is read from the left: what stands before, the groups, the decimal separator with
+-- the fraction, what stands after. Groups are compared two by two; where one list ends first, its decimal separator would be the other's
+-- grouping separator, or a digit would stand behind the number (`no_group`). An empty grouping separator is a case of its own, in which
+-- all groups are one run (`integer_tells`).
+-- Lengths don't help: nothing is known of how long separators are, nor that both numbers have equally many groups.
 use Rattle.std.proofs.Common.{◌≡◌, ◌≢◌, ℕ, suc, arith, refl, sym, ap, ap₂, ◌∙◌, subst, List, [], ◌∷◌, ◌++◌, append_assoc, All}
 use Rattle.std.proofs.Common.{map}
 use Rattle.std.proofs.lemmas.List.{map-append}
@@ -39,6 +45,7 @@ abbrev pub Begins : (ℕ → Type 0) → List ℕ → Type 0
 Begins P [] = Unit {0}
 Begins P (x ∷ xs) = P x
 
+-- what holds of every character holds of the first
 pub begins_every : (P : ℕ → Type 0) (xs : List ℕ) → Every P xs → Begins P xs
 begins_every P [] h = tt
 begins_every P (x ∷ xs) h = h.0
@@ -69,10 +76,12 @@ pub joined_after-nothing : (gs : List (List ℕ)) → joined_after [] gs ≡ con
 joined_after-nothing [] = refl
 joined_after-nothing (g ∷ gs) = ap (λ l. g ++ l) (joined_after-nothing gs)
 
+-- so do groups that are joined by an empty separator
 pub joined-nothing : (gs : List (List ℕ)) → joined [] gs ≡ concatenated gs
 joined-nothing [] = refl
 joined-nothing (g ∷ gs) = ap (λ l. g ++ l) (joined_after-nothing gs)
 
+-- what holds of each group's characters holds of those of all groups together
 pub every_concatenated : (P : ℕ → Type 0) (gs : List (List ℕ)) → Runs P gs → Every P (concatenated gs)
 every_concatenated P [] h = tt
 every_concatenated P ([] ∷ gs) h = absurd h
@@ -98,9 +107,11 @@ concatenated-map f (g ∷ gs) = ap (λ l. map f g ++ l) (concatenated-map f gs) 
 -- D: a digit; N: any other character
 module _ (D N : ℕ → Type 0) (clash : (c : ℕ) → D c → N c → ⊥) (decimal : List ℕ) (decimal_none : Every N decimal)
     (decimal_some : decimal ≢ []) where
+  -- two texts that begin with digits and go on with another character have the same digits and the same rest
   split_digits : (xs ys us vs : List ℕ) → Every D xs → Every D ys → Begins N us → Begins N vs → xs ++ us ≡ ys ++ vs → (xs ≡ ys) × (us ≡ vs)
   split_digits xs ys us vs hx hy hu hv e = split_run D N clash xs ys us vs hx hy hu hv e
 
+  -- and so it is of two that begin with other characters and go on with a digit
   pub split_others : (xs ys us vs : List ℕ) → Every N xs → Every N ys → Begins D us → Begins D vs → xs ++ us ≡ ys ++ vs →
       (xs ≡ ys) × (us ≡ vs)
   split_others xs ys us vs hx hy hu hv e = split_run N D (λ c n d. clash c d n) xs ys us vs hx hy hu hv e
@@ -109,6 +120,7 @@ module _ (D N : ℕ → Type 0) (clash : (c : ℕ) → D c → N c → ⊥) (dec
   abbrev pub ending : List ℕ → List ℕ → List ℕ
   ending fs u = fraction_text decimal fs ++ u
 
+  -- what follows begins with no digit
   ending_begins : (fs u : List ℕ) → Every N u → Begins N (ending fs u)
   ending_begins [] u hu = begins_every N u hu
   ending_begins (x ∷ fs) u hu = go decimal decimal_none decimal_some
@@ -141,10 +153,12 @@ module _ (D N : ℕ → Type 0) (clash : (c : ℕ) → D c → N c → ⊥) (dec
         differ (split_others decimal (s ∷ group) (y ∷ (fs ++ u)) (x ∷ ws) decimal_none group_none hf.0 hx
         (sym (append_assoc decimal (y ∷ fs) u) ∙ e)).0
 
+    -- nor do groups behind a separator, with what follows them
     after_begins : (gs : List (List ℕ)) (fs u : List ℕ) → Every N u → Begins N (joined_after (s ∷ group) gs ++ ending fs u)
     after_begins [] fs u hu = ending_begins fs u hu
     after_begins (g ∷ gs) fs u hu = group_none.0
 
+    -- groups behind separators tell their digits and what follows them
     pub after_tells : (gs hs : List (List ℕ)) (fs ks u v : List ℕ) → Runs D gs → Runs D hs → Every D fs → Every D ks → Every N u → Every N v
         → joined_after (s ∷ group) gs ++ ending fs u ≡ joined_after (s ∷ group) hs ++ ending ks v →
         (concatenated gs ≡ concatenated hs) × (ending fs u ≡ ending ks v)
@@ -169,6 +183,7 @@ module _ (D N : ℕ → Type 0) (clash : (c : ℕ) → D c → N c → ⊥) (dec
         let rest = after_tells gs hs fs ks u v hg.2 hh.2 hf hk hu hv first.1 in
         (ap₂ ◌++◌ first.0 rest.0, rest.1)
 
+    -- and so do groups of which the first has no separator before it
     pub joined_tells : (gs hs : List (List ℕ)) (fs ks u v : List ℕ) → Runs D gs → Runs D hs → gs ≢ [] → hs ≢ [] → Every D fs →
         Every D ks → Every N u → Every N v
         → joined (s ∷ group) gs ++ ending fs u ≡ joined (s ∷ group) hs ++ ending ks v →
@@ -191,6 +206,7 @@ module _ (D N : ℕ → Type 0) (clash : (c : ℕ) → D c → N c → ⊥) (dec
   integer_tells (s ∷ group) none differ gs hs fs ks u v hg hh gsome hsome hf hk hu hv e =
       joined_tells s group none differ gs hs fs ks u v hg hh gsome hsome hf hk hu hv e
 
+  -- joined groups begin with a digit
   joined_begins : (group : List ℕ) (gs : List (List ℕ)) (ws : List ℕ) → Runs D gs → gs ≢ [] → Begins D (joined group gs ++ ws)
   joined_begins group [] ws h some = absurd (some refl)
   joined_begins group ([] ∷ gs) ws h some = absurd h

@@ -1,4 +1,10 @@
 -- What is shown of a decimal is shown again in the same way.
+-- The shown size is a compact number, so it is its own nearest one, and it has the same entry. The significand is the same too where no
+-- decimal has leading padding: then `displayed_high` is a function of the shown size alone (`high_unpadded`, by cases on whether the entry
+-- is that of the decimal's own magnitude). That nothing else is written comes from `displayed_is_one` of DisplayedOnce.
+-- For `format_with_exponent` the magnitude of significand and exponent together has to have the same entry (`given_entry`). A significand 0
+-- is a case of its own, as its magnitude is that of 1: there the exponent is 0. That call keeps the parts of the number and `format` doesn't,
+-- so the two are compared without parts.
 use Rattle.std.proofs.Common.{◌≡◌, ℕ, zero, suc, ◌+◌, ◌*◌, ◌^◌, ◌≤◌, ◌⊎◌, ⊎_elim, inl, inr, refl, arith, sym, ap, ◌∙◌}
 use Rattle.std.proofs.Common.{List, [], ◌∷◌, ◌++◌, Option, codes, pos, ◌+ℤ◌, ◌-ℤ◌}
 use Rattle.std.specs.Int.{int_max}
@@ -7,12 +13,12 @@ use Rattle.std.proofs.lemmas.Bool.{cases_Bool, cases_eq}
 use Rattle.std.proofs.lemmas.Int.{ints, clamps}
 use Rattle.fixed_decimal.specs.declared.signs.Sign.{Sign}
 use Rattle.fixed_decimal.specs.declared.signs.Sign.TheVariants.{None, Negative, Positive}
-use Rattle.fixed_decimal.specs.Size.{finest, place, size, magnitude, magnitude_power}
+use Rattle.fixed_decimal.specs.Size.{finest, place, size, magnitude_place, magnitude}
 use Rattle.fixed_decimal.specs.Unsigned.{Unsigned, high}
 use Rattle.fixed_decimal.proofs.Weights.{ten_pos}
-use Rattle.fixed_decimal.proofs.MagnitudeLemmas.{magnitude_monotone, magnitude-ten, magnitude-zero, magnitude_times}
-use Rattle.icu_base.specs.Events.{Event, text_events, without_parts, characters}
-use Rattle.icu_base.specs.Events.Event.{Char, Open, Close}
+use Rattle.fixed_decimal.proofs.MagnitudePlaces.{magnitude_place_monotone, magnitude_place-ten, magnitude_place-zero, magnitude_place_times}
+use Rattle.writeable.specs.Events.{Event, text_events, without_parts, characters}
+use Rattle.writeable.specs.Events.Event.{Char, Open, Close}
 use Rattle.icu_decimal_data.specs.CompactTable.{TableEntry, IsCompactTable, entry_for, exponent_of}
 use Rattle.icu_decimal_data.specs.declared.decimal_symbols.DecimalSymbols.{DecimalSymbols}
 use Rattle.icu_decimal.specs.CompactFormat.{CompactFormat, filled_events, magnitude_with, given_events}
@@ -22,32 +28,37 @@ use Rattle.icu_decimal.specs.Displayed.{are_same_entry, displayed_entry, display
 use Rattle.icu_decimal.specs.CompactLaws.{IsUnpadded, IsWrittenAlone, IsShownAgain, ShownIsGiven}
 use Rattle.icu_decimal.specs.Part.{in_decimal_part}
 use Rattle.writeable.proofs.LawLemmas.{characters-without_parts}
+use Rattle.writeable.specs.Writes.{without_parts-append}
 use Rattle.icu_decimal.proofs.CompactCore.{exponent_le_magnitude}
 use Rattle.icu_decimal.proofs.DisplayedOnce.{displayed_is_one}
 use Rattle.icu_decimal.specs.NearestLemmas.{nearest_to_itself, itself_nearest, nearest_within, zero_is_compact}
 use Rattle.icu_decimal.proofs.PowerPlaces.{place_is}
 
 -- a nearest compact number has no lower magnitude
-pub magnitude_shown : (table : List TableEntry) (x y : ℕ) → IsNearestCompact table x y → magnitude x ≤ magnitude y
+pub magnitude_shown : (table : List TableEntry) (x y : ℕ) → IsNearestCompact table x y → magnitude_place x ≤ magnitude_place y
 magnitude_shown table zero y n =
-    let none : y ≡ 0 = itself_nearest (IsCompactNumber table) (10 ^ rounding_place_for table (magnitude 0)) 0 y (zero_is_compact table) n in
+    let none : y ≡ 0 = itself_nearest (IsCompactNumber table) (10 ^ rounding_place_for table (magnitude_place 0)) 0 y (zero_is_compact table) n in
     rw none (omega arith)
 magnitude_shown table (suc k) y n =
     let bottom = (nearest_within table (suc k) (omega arith) y n).0 in
-    omega (arith, magnitude_monotone (10 ^ magnitude (suc k)) y (ten_pos (magnitude (suc k))) bottom, magnitude-ten (magnitude (suc k)))
+    omega (
+      arith,
+      magnitude_place_monotone (10 ^ magnitude_place (suc k)) y (ten_pos (magnitude_place (suc k))) bottom,
+      magnitude_place-ten (magnitude_place (suc k)),
+    )
 
 -- and is its own nearest one
 nearest_again : (table : List TableEntry) (x y z : ℕ) → IsNearestCompact table x y → z ≡ y → IsNearestCompact table z y
-nearest_again table x y z n same = rw same (nearest_to_itself (IsCompactNumber table) (10 ^ rounding_place_for table (magnitude y)) y n.allowed)
+nearest_again table x y z n same = rw same (nearest_to_itself (IsCompactNumber table) (10 ^ rounding_place_for table (magnitude_place y)) y n.allowed)
 
 -- what is displayed of an unpadded decimal has no padding, by whichever entry
-pub high_unpadded : (table : List TableEntry) (d : Unsigned) (y : ℕ) → IsUnpadded d → magnitude (size d) ≤ magnitude y →
-    displayed_high table d y ≡ int_max (pos 0) (magnitude_power y -ℤ pos (exponent_of (displayed_entry table y)))
+pub high_unpadded : (table : List TableEntry) (d : Unsigned) (y : ℕ) → IsUnpadded d → magnitude_place (size d) ≤ magnitude_place y →
+    displayed_high table d y ≡ int_max (pos 0) (magnitude y -ℤ pos (exponent_of (displayed_entry table y)))
 high_unpadded table d y unpadded rises =
     ⊎_elim (λ same. rw same (widest (exponent_of (displayed_entry table y)))) (λ other. rw other refl)
-    (cases_Bool (are_same_entry (displayed_entry table y) (entry_for table (magnitude (size d)))))
+    (cases_Bool (are_same_entry (displayed_entry table y) (entry_for table (magnitude_place (size d)))))
   where
-    widest : (e : ℕ) → int_max (pos 0) (int_max (high d) (magnitude_power y) -ℤ pos e) ≡ int_max (pos 0) (magnitude_power y -ℤ pos e)
+    widest : (e : ℕ) → int_max (pos 0) (int_max (high d) (magnitude y) -ℤ pos e) ≡ int_max (pos 0) (magnitude y -ℤ pos e)
     widest e = omega (arith, ints, clamps, unpadded)
 
 -- so what is displayed of it is displayed of every unpadded decimal of the shown size
@@ -100,7 +111,7 @@ shown_again format sign d again unpadded unpadded_again = record {
         ShowsPastLimits format.table (size d)
     past_again y near same (z, other, large) =
         let allowed : IsCompactNumber format.table (size again) = rw same near.allowed in
-        let itself : z ≡ size again = itself_nearest (IsCompactNumber format.table) (10 ^ rounding_place_for format.table (magnitude (size again)))
+        let itself : z ≡ size again = itself_nearest (IsCompactNumber format.table) (10 ^ rounding_place_for format.table (magnitude_place (size again)))
         (size again) z allowed other in
         (y, near, omega arith)
 
@@ -110,19 +121,19 @@ together m e = place_is ((pos m -ℤ pos finest) +ℤ pos e) (m + e) (omega (ari
 
 -- the entry of that magnitude is the one that was displayed
 given_entry : (table : List TableEntry) (s : Unsigned) (y : ℕ) (entry : Option TableEntry) → IsCompactTable table →
-    entry ≡ entry_for table (magnitude y) → size s * 10 ^ exponent_of entry ≡ y →
+    entry ≡ entry_for table (magnitude_place y) → size s * 10 ^ exponent_of entry ≡ y →
     entry_for table (place (magnitude_with s (exponent_of entry))) ≡ entry
-given_entry table s y entry t is scaled = ap (entry_for table) (together (magnitude (size s)) (exponent_of entry)) ∙ go (cases_eq (size s) 0)
+given_entry table s y entry t is scaled = ap (entry_for table) (together (magnitude_place (size s)) (exponent_of entry)) ∙ go (cases_eq (size s) 0)
   where
-    go : (size s ≡ 0) ⊎ (¬ (size s ≡ 0)) → entry_for table (magnitude (size s) + exponent_of entry) ≡ entry
-    go (inr some) = ap (entry_for table) (sym (magnitude_times (size s) (exponent_of entry) (omega arith)) ∙ ap magnitude scaled) ∙ sym is
+    go : (size s ≡ 0) ⊎ (¬ (size s ≡ 0)) → entry_for table (magnitude_place (size s) + exponent_of entry) ≡ entry
+    go (inr some) = ap (entry_for table) (sym (magnitude_place_times (size s) (exponent_of entry) (omega arith)) ∙ ap magnitude_place scaled) ∙ sym is
     go (inl nothing) =
         let none : y ≡ 0 = sym scaled ∙ rw nothing (omega arith) in
-        let least : magnitude y ≡ finest = ap magnitude none ∙ magnitude-zero in
+        let least : magnitude_place y ≡ finest = ap magnitude_place none ∙ magnitude_place-zero in
         let here : entry ≡ entry_for table finest = is ∙ ap (entry_for table) least in
         let zero_exponent : exponent_of entry ≡ 0 = no_exponent (exponent_le_magnitude table finest t) (ap exponent_of here) in
-        let same : magnitude (size s) ≡ finest = ap magnitude nothing ∙ magnitude-zero in
-        let sum : magnitude (size s) + exponent_of entry ≡ finest = omega arith in
+        let same : magnitude_place (size s) ≡ finest = ap magnitude_place nothing ∙ magnitude_place-zero in
+        let sum : magnitude_place (size s) + exponent_of entry ≡ finest = omega arith in
         ap (entry_for table) sum ∙ sym here
       where
         no_exponent : (exponent_of (entry_for table finest) ≡ 0) ⊎ (exponent_of (entry_for table finest) + finest ≤ finest) →
@@ -130,13 +141,7 @@ given_entry table s y entry t is scaled = ap (entry_for table) (together (magnit
         no_exponent (inl e) f = f ∙ e
         no_exponent (inr h) f = omega arith
 
--- without parts, joined events are joined
-without_parts-append : (xs ys : List Event) → without_parts (xs ++ ys) ≡ without_parts xs ++ without_parts ys
-without_parts-append [] ys = refl
-without_parts-append (Char c ∷ xs) ys = ap (λ l. Char c ∷ l) (without_parts-append xs ys)
-without_parts-append (Open category value ∷ xs) ys = without_parts-append xs ys
-without_parts-append (Close ∷ xs) ys = without_parts-append xs ys
-
+-- events without parts have no parts to leave out
 without_parts-twice : (es : List Event) → without_parts (without_parts es) ≡ without_parts es
 without_parts-twice [] = refl
 without_parts-twice (Char c ∷ es) = ap (λ l. Char c ∷ l) (without_parts-twice es)
@@ -153,6 +158,7 @@ between before after es =
         without_parts-append es after ∙ ap (λ l. l ++ without_parts after) (sym (without_parts-twice es))
         ∙ sym (without_parts-append (without_parts es) after)
 
+-- and so it is between the affixes of a sign
 signed_without_parts : (symbols : DecimalSymbols) (sign : Sign) (es : List Event) →
     without_parts (signed_events symbols sign es) ≡ without_parts (signed_events symbols sign (without_parts es))
 signed_without_parts symbols None es = sym (without_parts-twice es)

@@ -5,9 +5,9 @@ use Rattle.std.specs.Int.{int_max}
 use Rattle.std.specs.Option.{option_or}
 use Rattle.std.specs.Str.{encode_utf8_all}
 use Rattle.fixed_decimal.specs.declared.signs.Sign.{Sign}
-use Rattle.fixed_decimal.specs.Size.{magnitude, magnitude_power, size}
+use Rattle.fixed_decimal.specs.Size.{magnitude_place, magnitude, size}
 use Rattle.fixed_decimal.specs.Unsigned.{Unsigned, high}
-use Rattle.icu_base.specs.Events.{Event, characters, without_parts}
+use Rattle.writeable.specs.Events.{Event, characters, without_parts}
 use Rattle.icu_decimal_data.specs.CompactTable.{TableEntry, entry_for, exponent_of, type_place}
 use Rattle.icu_decimal.specs.CompactFormat.{CompactFormat, IsCompactFormat, filled_events}
 use Rattle.icu_decimal.specs.CompactLaws.{IsUnpadded}
@@ -35,11 +35,11 @@ entry_in (e ∷ es) m = go (entry_for es m) (entry_in es m)
 
 -- so does the entry that is displayed
 shown_in : (f : CompactFormat) (s : Sign) (c x : Unsigned) (m : ℕ) (es : List Event) (h : IsCompactFormat f s c x m es) → IsEntryOf f.table h.entry
-shown_in f s c x m es h = rw h.displayed.entry_is (entry_in f.table (magnitude h.shown))
+shown_in f s c x m es h = rw h.displayed.entry_is (entry_in f.table (magnitude_place h.shown))
 
 -- how far the significand of an unpadded decimal is written
 high_of : (f : CompactFormat) (s : Sign) (c x : Unsigned) (m : ℕ) (es : List Event) (h : IsCompactFormat f s c x m es) → IsUnpadded c
-    → high x ≡ int_max (pos 0) (magnitude_power h.shown -ℤ pos (exponent_of (displayed_entry f.table h.shown)))
+    → high x ≡ int_max (pos 0) (magnitude h.shown -ℤ pos (exponent_of (displayed_entry f.table h.shown)))
 high_of f s c x m es h unpadded = h.displayed.high_is ∙ high_unpadded f.table c h.shown unpadded
     (magnitude_shown f.table (size c) h.shown h.displayed.nearest)
 
@@ -55,7 +55,7 @@ shown_tells f s t c d x y m n es fs readable unpadded_c unpadded_d first second 
       let entries : first.entry ≡ second.entry = first.displayed.entry_is ∙ ap (displayed_entry f.table) same.1 ∙ sym second.displayed.entry_is in
       let highs : high x ≡ high y =
       high_of f s c x m es first unpadded_c
-      ∙ ap (λ z. int_max (pos 0) (magnitude_power z -ℤ pos (exponent_of (displayed_entry f.table z)))) same.1
+      ∙ ap (λ z. int_max (pos 0) (magnitude z -ℤ pos (exponent_of (displayed_entry f.table z)))) same.1
       ∙ sym (high_of f t d y n fs second unpadded_d) in
       let significands : x ≡ y =
       trimmed_told x y first.displayed.is_decimal second.displayed.is_decimal first.displayed.trimmed second.displayed.trimmed

@@ -3,7 +3,7 @@ use Rattle.std.proofs.Common.{◌≡◌, ℕ, sym, ap, ap₂, ◌∙◌, List, �
 use Rattle.std.specs.Str.{chars}
 use Rattle.std.proofs.lemmas.Str.{encodes_same}
 use Rattle.fixed_decimal.specs.Unsigned.{Unsigned, IsUnsigned, fraction}
-use Rattle.icu_base.specs.Events.{Event, characters, text_of}
+use Rattle.writeable.specs.Events.{Event, characters, text_of}
 use Rattle.icu_decimal.specs.Decimal.{DecimalFormat, decimal_events, unsigned_events}
 use Rattle.icu_decimal_readable.specs.Readable.{Surroundings, affixes, IsFreeOfDigits, IsReadable}
 use Rattle.icu_decimal.specs.ReadableLaws.{EqualTextsTellTheDecimal, TextTellsTheDecimal}

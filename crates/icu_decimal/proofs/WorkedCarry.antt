@@ -5,9 +5,9 @@ use Rattle.std.proofs.lemmas.Nat.{pow-add}
 use Rattle.std.proofs.lemmas.List.Elements.{All-nil, All-cons}
 use Rattle.fixed_decimal.specs.declared.signs.Sign.TheVariants.{None as NoSign}
 use Rattle.fixed_decimal.specs.Unsigned.{Unsigned, IsUnsigned, one}
-use Rattle.fixed_decimal.specs.Size.{finest, weighed, size, magnitude}
-use Rattle.fixed_decimal.proofs.MagnitudeLemmas.{magnitude-ten}
-use Rattle.icu_base.specs.Events.{Event, characters, text_of, without_parts}
+use Rattle.fixed_decimal.specs.Size.{finest, weighed, size, magnitude_place}
+use Rattle.fixed_decimal.proofs.MagnitudePlaces.{magnitude_place-ten}
+use Rattle.writeable.specs.Events.{Event, characters, text_of, without_parts}
 use Rattle.icu_decimal_data.specs.CompactTable.{TableEntry, entry_for}
 use Rattle.icu_decimal.specs.CompactFormat.{CompactFormat, IsCompactFormat, filled_events}
 use Rattle.icu_decimal.specs.CompactNumber.{rounding_place, rounding_place_for, IsCompactNumber, IsNearestCompact}
@@ -15,7 +15,7 @@ use Rattle.icu_decimal.specs.Decimal.{signed_events}
 use Rattle.icu_decimal.specs.Displayed.{IsDisplayed}
 use Rattle.icu_decimal.specs.NearestLemmas.{nearest_compact_from_rounded, nearest_to_itself, ten_is_compact}
 use Rattle.icu_decimal.proofs.ShownTold.{equal_shown_texts_tell, shown_tells}
-use Rattle.icu_decimal.proofs.WorkedAgain.{number, number_is, number_magnitude, number_rounded, number_unpadded}
+use Rattle.icu_decimal.proofs.WorkedAgain.{carried, carried_is, carried_magnitude, carried_rounded, carried_unpadded}
 use Rattle.icu_decimal.proofs.WorkedAgain.{whole, million, million_is, million_magnitude, million_power, million_unpadded}
 use Rattle.icu_decimal.proofs.WorkedEnglish.{row_entry, short_rows, with_table, english_short_readable}
 
@@ -59,35 +59,35 @@ unfolding entry_for finest
 mega_there = refl
 
 -- 999500 is carried to a million, which stays as it is
-number_nearest : IsNearestCompact table (size number) (10 ^ (finest + 6))
-number_nearest =
-    nearest_compact_from_rounded table (size number) (10 ^ (finest + 6))
-    (rw (number_magnitude, thousands, number_is) number_rounded)
+carried_nearest : IsNearestCompact table (size carried) (10 ^ (finest + 6))
+carried_nearest =
+    nearest_compact_from_rounded table (size carried) (10 ^ (finest + 6))
+    (rw (carried_magnitude, thousands, carried_is) carried_rounded)
 
 million_nearest : IsNearestCompact table (size million) (10 ^ (finest + 6))
 million_nearest =
-    let unit = 10 ^ rounding_place_for table (magnitude (10 ^ (finest + 6))) in
+    let unit = 10 ^ rounding_place_for table (magnitude_place (10 ^ (finest + 6))) in
     rw million_is (nearest_to_itself (IsCompactNumber table) unit (10 ^ (finest + 6)) (ten_is_compact table (finest + 6)))
 
 -- both are displayed as 1M
-number_displayed : IsDisplayed table number (10 ^ (finest + 6)) (Some mega) one
-number_displayed = record {
-  nearest = number_nearest;
-  entry_is = rw (magnitude-ten (finest + 6), mega_there) refl;
+carried_displayed : IsDisplayed table carried (10 ^ (finest + 6)) (Some mega) one
+carried_displayed = record {
+  nearest = carried_nearest;
+  entry_is = rw (magnitude_place-ten (finest + 6), mega_there) refl;
   scaled = one_scaled;
   is_decimal = one_is_decimal;
   trimmed = inl refl;
-  high_is = rw (number_magnitude, magnitude-ten (finest + 6), mega_there, kilo_here, million_power) refl;
+  high_is = rw (carried_magnitude, magnitude_place-ten (finest + 6), mega_there, kilo_here, million_power) refl;
 }
 
 million_displayed : IsDisplayed table million (10 ^ (finest + 6)) (Some mega) one
 million_displayed = record {
   nearest = million_nearest;
-  entry_is = rw (magnitude-ten (finest + 6), mega_there) refl;
+  entry_is = rw (magnitude_place-ten (finest + 6), mega_there) refl;
   scaled = one_scaled;
   is_decimal = one_is_decimal;
   trimmed = inl refl;
-  high_is = rw (million_magnitude, magnitude-ten (finest + 6), mega_there, million_power) refl;
+  high_is = rw (million_magnitude, magnitude_place-ten (finest + 6), mega_there, million_power) refl;
 }
 
 abbrev format : CompactFormat
@@ -112,28 +112,30 @@ displayed_is_one_m d displayed = record {
   characters_are = refl;
 }
 
-pub number_is_one_m : IsOneM number
-number_is_one_m = displayed_is_one_m number number_displayed
+-- 999500 is written so
+pub carried_is_one_m : IsOneM carried
+carried_is_one_m = displayed_is_one_m carried carried_displayed
 
+-- and so is the million
 pub million_is_one_m : IsOneM million
 million_is_one_m = displayed_is_one_m million million_displayed
 
-abbrev number_events : List Event
-number_events = number_is_one_m.written_as
+abbrev carried_events : List Event
+carried_events = carried_is_one_m.written_as
 
 abbrev million_events : List Event
 million_events = million_is_one_m.written_as
 
-same_shown : number_is_one_m.written.shown ≡ million_is_one_m.written.shown
-same_shown = number_is_one_m.shown_is ∙ sym million_is_one_m.shown_is
+same_shown : carried_is_one_m.written.shown ≡ million_is_one_m.written.shown
+same_shown = carried_is_one_m.shown_is ∙ sym million_is_one_m.shown_is
 
 -- so the law tells that their characters are the same, and that their texts are
-pub carry_told : (characters number_events ≡ characters million_events) × (text_of number_events ≡ text_of million_events)
+pub carry_told : (characters carried_events ≡ characters million_events) × (text_of carried_events ≡ text_of million_events)
 carry_told =
-    let first = number_is_one_m.written in
+    let first = carried_is_one_m.written in
     let second = million_is_one_m.written in
-    let alike = shown_tells format NoSign NoSign number million one one 6 6 number_events million_events
-    english_short_readable number_unpadded million_unpadded first second in
-    let texts_alike = equal_shown_texts_tell format NoSign NoSign number million one one 6 6 number_events million_events
-    (text_of number_events) (text_of million_events) english_short_readable number_unpadded million_unpadded first second refl refl in
+    let alike = shown_tells format NoSign NoSign carried million one one 6 6 carried_events million_events
+    english_short_readable carried_unpadded million_unpadded first second in
+    let texts_alike = equal_shown_texts_tell format NoSign NoSign carried million one one 6 6 carried_events million_events
+    (text_of carried_events) (text_of million_events) english_short_readable carried_unpadded million_unpadded first second refl refl in
     (alike.1 (refl, same_shown), texts_alike.1 (refl, same_shown))

@@ -1,12 +1,16 @@
 -- English with its short and with its long compact table is readable: instances of the laws of texts.
+-- A table is made of rows, each an exponent and the literal behind the number; a number without an entry counts as a row with an empty
+-- literal. Such a table is readable where no literal has a digit and no two are alike (`rows_readable`). Both are tests that compute
+-- (`are_free`, `are_told`), shown by induction on the rows to mean what the relations ask; at a given table `refl` proves them.
+-- Without the tests each pair of patterns would be a case. English affixes of a sign stand before the number alone (`nothing_after`).
 use Rattle.std.proofs.Common.{◌≡◌, ℕ, zero, suc, ◌<◌, arith, refl, sym, ap, ap₂, append-nil, ◌∙◌, subst, Bool, true, false, ◌==◌, List}
 use Rattle.std.proofs.Common.{[], ◌∷◌, ◌++◌, length, map, slice_index_or, Option, Some, None, IsSome, inl, inr, if◌then◌else◌, codes}
 use Rattle.std.specs.Str.{chars}
 use Rattle.std.proofs.lemmas.Bool.{eq-eqb}
 use Rattle.fixed_decimal.specs.declared.signs.Sign.{Sign}
 use Rattle.fixed_decimal.specs.declared.signs.Sign.TheVariants.{Negative, Positive, None as NoSign}
-use Rattle.icu_base.specs.Elements.{only_other}
-use Rattle.icu_base.specs.Patterns.{PatternText}
+use Rattle.icu_plurals.specs.Elements.{only_other}
+use Rattle.icu_pattern.specs.Patterns.{PatternText}
 use Rattle.icu_decimal_data.specs.CompactTable.{TableEntry, exponent_of}
 use Rattle.icu_decimal_data.specs.DecimalSymbols.{english_symbols}
 use Rattle.icu_decimal_readable.specs.Readable.{Surroundings, affixes, sides, sides_at, surroundings, HasPattern, IsFreeOfDigits, IsPatternBy, IsReadableTable}
@@ -19,9 +23,11 @@ pub record Row : Type 0 where
   pub exponent : ℕ
   pub literal : List ℕ
 
+-- the pattern of a row
 abbrev pub row_pattern : Row → PatternText
-row_pattern r = record { place = Some 0; literal = r.literal }
+row_pattern r = record { placeholder = Some 0; literal = r.literal }
 
+-- the entry of a row
 abbrev pub row_entry : Row → TableEntry
 row_entry r = record { log10_type = r.exponent; exponent = r.exponent; elements = only_other (row_pattern r) }
 
@@ -143,7 +149,7 @@ around s r =
 rows_readable : (rows : List Row) → are_free (alone ∷ rows) ≡ true → are_told (alone ∷ rows) ≡ true →
     IsReadableTable texts digits (map row_entry rows)
 rows_readable rows frees tells = record {
-  placed = λ by p h. let k = picked rows by p h in subst (λ (q : PatternText). IsSome q.place) (sym k.4) refl;
+  placed = λ by p h. let k = picked rows by p h in subst (λ (q : PatternText). IsSome q.placeholder) (sym k.4) refl;
   sides_free = λ by p h.
       let k = picked rows by p h in
       let behind = none_of digits (tail k.1) (free (alone ∷ rows) k.0 k.1 frees k.2) in
@@ -160,6 +166,7 @@ rows_readable rows frees tells = record {
       (sign_told s t (ap₂ of before (nothing_after s ∙ sym (nothing_after t))), k.3 ∙ ap (λ (r : Row). r.exponent) rows_same ∙ sym l.3);
 }
 
+-- the English formatter with the table of these rows
 abbrev pub with_table : List Row → CompactFormat
 with_table rows = record {
   decimal = record { symbols = english_symbols; digits = digits; options = record { grouping_strategy = None } };

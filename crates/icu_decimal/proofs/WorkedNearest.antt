@@ -5,13 +5,13 @@ use Rattle.std.proofs.lemmas.Int.{ints}
 use Rattle.std.proofs.lemmas.Nat.{pow-add}
 use Rattle.std.proofs.lemmas.List.Elements.{All-nil, All-cons}
 use Rattle.fixed_decimal.specs.Unsigned.{Unsigned, AreDigits}
-use Rattle.fixed_decimal.specs.Size.{finest, weighed, size, magnitude}
+use Rattle.fixed_decimal.specs.Size.{finest, weighed, size, magnitude_place}
 use Rattle.fixed_decimal.specs.Nearest.{IsMultiple, IsNearest}
 use Rattle.fixed_decimal.proofs.Weights.{ten_pos, same_power}
-use Rattle.fixed_decimal.proofs.MagnitudeLemmas.{magnitude_is}
+use Rattle.fixed_decimal.proofs.MagnitudePlaces.{magnitude_place_is}
 use Rattle.fixed_decimal.proofs.Nearness.{nearest_below}
 use Rattle.fixed_decimal.proofs.Rounds.{finest_large}
-use Rattle.icu_base.specs.Elements.{only_other}
+use Rattle.icu_plurals.specs.Elements.{only_other}
 use Rattle.icu_decimal_data.specs.CompactTable.{TableEntry, entry_for}
 use Rattle.icu_decimal.specs.CompactNumber.{rounding_place, rounding_place_for, IsCompactNumber, IsNearestCompact}
 use Rattle.icu_decimal.specs.Displayed.{IsDisplayed}
@@ -19,7 +19,7 @@ use Rattle.icu_decimal.specs.NearestLemmas.{nearest_to_itself, nearest_compact_f
 
 -- `0K` from a thousand on
 abbrev pub kilo : TableEntry
-kilo = record { log10_type = 3; exponent = 3; elements = only_other (record { place = Some 0; literal = 75 ∷ [] }) }
+kilo = record { log10_type = 3; exponent = 3; elements = only_other (record { placeholder = Some 0; literal = 75 ∷ [] }) }
 
 -- the table of this entry alone
 abbrev pub table : List TableEntry
@@ -44,20 +44,20 @@ number_is : size number ≡ 12 * 10 ^ (finest + 2) + 34 * 10 ^ finest
 number_is = let whole : finest - 0 ≡ finest = omega arith in ap (λ f. weighed f (1 ∷ 2 ∷ 3 ∷ 4 ∷ [])) whole ∙ four_digits finest
 
 -- their magnitudes
-thousands : (f x : ℕ) → 10 ^ (f + 3) ≤ x → x < 10 ^ (f + 4) → magnitude x ≡ f + 3
-thousands f x l h = let same : 10 ^ (f + 4) ≡ 10 ^ (f + 3 + 1) = same_power (f + 4) (f + 3 + 1) (omega arith) in magnitude_is x (f + 3) l (omega arith)
+thousands : (f x : ℕ) → 10 ^ (f + 3) ≤ x → x < 10 ^ (f + 4) → magnitude_place x ≡ f + 3
+thousands f x l h = let same : 10 ^ (f + 4) ≡ 10 ^ (f + 3 + 1) = same_power (f + 4) (f + 3 + 1) (omega arith) in magnitude_place_is x (f + 3) l (omega arith)
 
-number_magnitude : magnitude (size number) ≡ finest + 3
-number_magnitude = ap magnitude number_is ∙ thousands finest (12 * 10 ^ (finest + 2) + 34 * 10 ^ finest)
+number_magnitude : magnitude_place (size number) ≡ finest + 3
+number_magnitude = ap magnitude_place number_is ∙ thousands finest (12 * 10 ^ (finest + 2) + 34 * 10 ^ finest)
     (omega (arith, pow-add 10 finest 3, pow-add 10 finest 2, ten_pos finest))
     (omega (arith, pow-add 10 finest 4, pow-add 10 finest 2, ten_pos finest))
 
-displayed_magnitude : magnitude (12 * 10 ^ (finest + 2)) ≡ finest + 3
+displayed_magnitude : magnitude_place (12 * 10 ^ (finest + 2)) ≡ finest + 3
 displayed_magnitude = thousands finest (12 * 10 ^ (finest + 2))
     (omega (arith, pow-add 10 finest 3, pow-add 10 finest 2, ten_pos finest))
     (omega (arith, pow-add 10 finest 4, pow-add 10 finest 2, ten_pos finest))
 
-next_magnitude : magnitude (13 * 10 ^ (finest + 2)) ≡ finest + 3
+next_magnitude : magnitude_place (13 * 10 ^ (finest + 2)) ≡ finest + 3
 next_magnitude = thousands finest (13 * 10 ^ (finest + 2))
     (omega (arith, pow-add 10 finest 3, pow-add 10 finest 2, ten_pos finest))
     (omega (arith, pow-add 10 finest 4, pow-add 10 finest 2, ten_pos finest))
@@ -115,5 +115,6 @@ in_order = record {
   greater = omega (arith, number_is, pow-add 10 finest 2, ten_pos finest);
   nearest = number_nearest;
   compact = next_compact;
-  next = nearest_to_itself (IsCompactNumber table) (10 ^ rounding_place_for table (magnitude (13 * 10 ^ (finest + 2)))) (13 * 10 ^ (finest + 2)) next_compact;
+  next = nearest_to_itself (IsCompactNumber table) (10 ^ rounding_place_for table (magnitude_place (13 * 10 ^ (finest + 2))))
+      (13 * 10 ^ (finest + 2)) next_compact;
 }

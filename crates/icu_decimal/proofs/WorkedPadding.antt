@@ -5,10 +5,10 @@ use Rattle.std.proofs.lemmas.Int.{ints}
 use Rattle.std.proofs.lemmas.List.Elements.{All-nil, All-cons}
 use Rattle.fixed_decimal.specs.declared.signs.Sign.{Sign}
 use Rattle.fixed_decimal.specs.Unsigned.{Unsigned, AreDigits, one, high}
-use Rattle.fixed_decimal.specs.Size.{finest, weighed, size, magnitude}
-use Rattle.fixed_decimal.proofs.MagnitudeLemmas.{magnitude-ten}
-use Rattle.icu_base.specs.Events.{Event, without_parts}
-use Rattle.icu_base.specs.Rules.{Rule}
+use Rattle.fixed_decimal.specs.Size.{finest, weighed, size, magnitude_place}
+use Rattle.fixed_decimal.proofs.MagnitudePlaces.{magnitude_place-ten}
+use Rattle.writeable.specs.Events.{Event, without_parts}
+use Rattle.icu_plurals.specs.Rules.{Rule}
 use Rattle.icu_decimal_data.specs.CompactTable.{TableEntry, entry_for}
 use Rattle.icu_decimal.specs.CompactFormat.{CompactFormat, IsCompactFormat, filled_events}
 use Rattle.icu_decimal.specs.CompactLaws.{IsUnpadded, IsShownAgain}
@@ -43,7 +43,7 @@ no_power : pos finest -ℤ pos finest ≡ pos 0
 no_power = omega (arith, ints)
 
 padded_nearest : IsNearestCompact no_entries (size padded) (10 ^ finest)
-padded_nearest = rw padded_is (nearest_to_itself (IsCompactNumber no_entries) (10 ^ rounding_place_for no_entries (magnitude (10 ^ finest))) (10 ^ finest)
+padded_nearest = rw padded_is (nearest_to_itself (IsCompactNumber no_entries) (10 ^ rounding_place_for no_entries (magnitude_place (10 ^ finest))) (10 ^ finest)
     (ten_is_compact no_entries finest))
 
 padded_displayed : IsDisplayed no_entries padded (10 ^ finest) None padded
@@ -54,19 +54,19 @@ padded_displayed = record {
   scaled = omega (arith, padded_is);
   is_decimal = record { below_ten = two; integer_some = omega arith; high_limit = omega arith; low_limit = omega arith };
   trimmed = inl refl;
-  high_is = rw (magnitude-ten finest, no_power) refl;
+  high_is = rw (magnitude_place-ten finest, no_power) refl;
 }
   where
     two : AreDigits (0 ∷ 1 ∷ [])
     two = All-cons (λ d. d < 10) 0 (1 ∷ []) (omega arith) (All-cons (λ d. d < 10) 1 [] (omega arith) (All-nil (λ d. d < 10)))
 
 one_unpadded : IsUnpadded one
-one_unpadded = rw (one_is, magnitude-ten, no_power) refl
+one_unpadded = rw (one_is, magnitude_place-ten, no_power) refl
 
 -- 1 is displayed without padding
 one_high : (y : ℕ) → y ≡ 10 ^ finest → displayed_high no_entries one y ≡ pos 0
 unfolding entry_for
-one_high y is = rw (is, magnitude-ten, no_power) refl
+one_high y is = rw (is, magnitude_place-ten, no_power) refl
 
 module _ (decimal : DecimalFormat) (rules : List Rule) (sign : Sign) where
   abbrev format : CompactFormat

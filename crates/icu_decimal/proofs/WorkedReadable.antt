@@ -28,6 +28,7 @@ abbrev pub has_none_of : List ℕ → List ℕ → Bool
 has_none_of ds [] = true
 has_none_of ds (c ∷ cs) = if is_among ds c then false else has_none_of ds cs
 
+-- whether no character comes twice, computed
 abbrev pub has_no_repeat : List ℕ → Bool
 has_no_repeat [] = true
 has_no_repeat (d ∷ ds) = if is_among ds d then false else has_no_repeat ds

@@ -1,12 +1,12 @@
 -- What a compact formatter writes for a decimal (ICU4X `CompactDecimalFormatter`; UTS 35 Part 3, Compact Number Formats).
 use Rattle.std.specs.Prelude.{◌≡◌, ℕ, List, Option, ℤ, pos, ◌+ℤ◌}
 use Rattle.fixed_decimal.specs.declared.signs.Sign.{Sign}
-use Rattle.fixed_decimal.specs.Size.{place, size, magnitude_power}
+use Rattle.fixed_decimal.specs.Size.{place, size, magnitude}
 use Rattle.fixed_decimal.specs.Unsigned.{Unsigned}
-use Rattle.icu_base.specs.Events.{Event, without_parts}
-use Rattle.icu_base.specs.Operands.{operands_of}
-use Rattle.icu_base.specs.Patterns.{PatternText, interpolated}
-use Rattle.icu_base.specs.Rules.{Rule, category_of}
+use Rattle.writeable.specs.Events.{Event, without_parts}
+use Rattle.icu_plurals.specs.Operands.{operands_of}
+use Rattle.icu_pattern.specs.Patterns.{PatternText, interpolated}
+use Rattle.icu_plurals.specs.Rules.{Rule, category_of}
 use Rattle.icu_decimal_data.specs.CompactTable.{TableEntry, entry_for, exponent_for, exponent_of}
 use Rattle.icu_decimal_data.specs.Faithful.{pattern_for}
 use Rattle.icu_decimal.specs.Decimal.{DecimalFormat, signed_events, unsigned_events}
@@ -14,14 +14,14 @@ use Rattle.icu_decimal.specs.Displayed.{IsDisplayed}
 use Rattle.icu_decimal.specs.Formatted.{FormattedNumber, unsigned_shown}
 use Rattle.icu_decimal.specs.Signed.{Signed, affixed_events, affixes_for}
 
--- all that a compact formatter writes with: what its numbers are written with, plural rules, and a compact table
+-- what determines the output of a compact formatter: the format of plain numbers, plural rules, and a compact table
 pub record CompactFormat : Type 0 where
   pub decimal : DecimalFormat
   pub rules : List Rule
   pub table : List TableEntry
 
--- the pattern of an entry for a significand, by the operands of the significand as it is written, without exponent;
--- without an entry the number alone
+-- the pattern of an entry for a significand, by the plural operands of the significand without exponent; without an entry
+-- that of the number alone
 abbrev pub pattern_of : CompactFormat → Option TableEntry → Unsigned → PatternText
 pattern_of format entry significand =
     pattern_for (operands_of significand 0) (category_of format.rules (operands_of significand 0)) entry
@@ -40,9 +40,9 @@ pub record IsCompactFormat (format : CompactFormat) (sign : Sign) (d significand
   pub exponent_is : exponent ≡ exponent_of entry
   pub events_are : events ≡ signed_events format.decimal.symbols sign (without_parts (filled_events format entry significand))
 
--- the magnitude of a significand with an exponent, as a power
+-- the magnitude of a significand with an exponent
 abbrev pub magnitude_with : Unsigned → ℕ → ℤ
-magnitude_with significand exponent = magnitude_power (size significand) +ℤ pos exponent
+magnitude_with significand exponent = magnitude (size significand) +ℤ pos exponent
 
 -- the exponent that a significand with an exponent needs: that of its magnitude
 abbrev pub exponent_needed : CompactFormat → Unsigned → ℕ → ℕ

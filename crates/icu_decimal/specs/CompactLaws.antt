@@ -2,9 +2,9 @@
 use Rattle.std.specs.Prelude.{◌≡◌, ◌↔◌, ℕ, ◌^◌, ◌<◌, ◌≤◌, List, Option, pos}
 use Rattle.std.specs.Int.{int_max}
 use Rattle.fixed_decimal.specs.declared.signs.Sign.{Sign}
-use Rattle.fixed_decimal.specs.Size.{magnitude, magnitude_power, size}
+use Rattle.fixed_decimal.specs.Size.{magnitude_place, magnitude, size}
 use Rattle.fixed_decimal.specs.Unsigned.{Unsigned, high}
-use Rattle.icu_base.specs.Events.{Event, without_parts, text_of}
+use Rattle.writeable.specs.Events.{Event, without_parts, text_of}
 use Rattle.icu_decimal_data.specs.CompactTable.{TableEntry, IsCompactTable}
 use Rattle.icu_decimal.specs.CompactFormat.{CompactFormat, IsCompactFormat, exponent_needed, given_events}
 use Rattle.icu_decimal.specs.CompactNumber.{IsCompactNumber, IsNearestCompact, ShowsPastLimits, rounding_place_for}
@@ -19,7 +19,7 @@ OneCompactNumberIsNearest = (table : List TableEntry) (x : ℕ) →
 -- the nearest compact number of a size, among those of all magnitudes, is just the nearest multiple of ten to the rounding
 -- place of the size's own magnitude, the even one of two equally near
 abbrev pub NearestIsRounded : Type 0
-NearestIsRounded = (table : List TableEntry) (x y : ℕ) → IsNearestCompact table x y ↔ IsRoundedAt (rounding_place_for table (magnitude x)) x y
+NearestIsRounded = (table : List TableEntry) (x y : ℕ) → IsNearestCompact table x y ↔ IsRoundedAt (rounding_place_for table (magnitude_place x)) x y
 
 -- what is displayed of a decimal is one: of any two the sizes, the entries and the significands agree
 abbrev pub DisplayedIsOne : Type 0
@@ -32,7 +32,7 @@ NearestKeepsOrder = (table : List TableEntry) (x x' y y' : ℕ) → x < x' → I
 
 -- a size other than zero is shown as the power of ten of its magnitude at least, so never as zero
 abbrev pub MagnitudeIsShown : Type 0
-MagnitudeIsShown = (table : List TableEntry) (x y : ℕ) → 0 < x → IsNearestCompact table x y → 10 ^ magnitude x ≤ y
+MagnitudeIsShown = (table : List TableEntry) (x y : ℕ) → 0 < x → IsNearestCompact table x y → 10 ^ magnitude_place x ≤ y
 
 -- a compact number is its own nearest one, and no other is
 abbrev pub CompactNumberIsItsNearest : Type 0
@@ -41,10 +41,10 @@ CompactNumberIsItsNearest = (table : List TableEntry) (x y : ℕ) → IsCompactN
 -- without leading padding: the greatest power that is written is that of the first digit that isn't 0, or power 0 where
 -- that one is lower
 abbrev pub IsUnpadded : Unsigned → Type 0
-IsUnpadded d = high d ≡ int_max (pos 0) (magnitude_power (size d))
+IsUnpadded d = high d ≡ int_max (pos 0) (magnitude (size d))
 
--- these are written of the decimal by `format`: a significand and an exponent as these events, shown as this size by this
--- entry; and nothing else is written of it
+-- `format` writes these events for the decimal, with a significand and an exponent, shown as this size by this entry; and
+-- it writes nothing else for it
 pub record IsWrittenAlone (format : CompactFormat) (sign : Sign) (d significand : Unsigned) (exponent : ℕ) (events : List Event) (shown : ℕ)
     (entry : Option TableEntry) : Type 0 where
   pub written : IsCompactFormat format sign d significand exponent events

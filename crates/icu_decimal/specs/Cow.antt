@@ -1,4 +1,4 @@
--- A value that is lent or kept.
+-- A value that is borrowed or owned.
 use Rattle.icu_decimal.specs.declared.cow.Cow.{Cow}
 use Rattle.icu_decimal.specs.declared.cow.Cow.TheVariants.{Borrowed, Owned}
 

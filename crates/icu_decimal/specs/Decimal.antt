@@ -1,7 +1,7 @@
 -- What a plain formatter writes for a decimal, as one list of events (ICU4X `DecimalFormatter`; UTS 35, Number Formatting).
 use Rattle.std.specs.Prelude.{ℕ, List, [], ◌∷◌, ◌++◌, codes, unwrap_or}
-use Rattle.icu_base.specs.Events.{Event, text_events, digit_events}
-pub use Rattle.icu_base.specs.Groups.{group_events}
+use Rattle.writeable.specs.Events.{Event, text_events, digit_events}
+pub use Rattle.writeable.specs.Groups.{group_events}
 use Rattle.icu_decimal_data.specs.declared.decimal_symbols.DecimalSymbols.{DecimalSymbols}
 use Rattle.fixed_decimal.specs.declared.signs.Sign.{Sign}
 use Rattle.fixed_decimal.specs.Unsigned.{Unsigned, integer, fraction}
@@ -12,7 +12,7 @@ use Rattle.icu_decimal_options.specs.Grouping.{digit_groups, joined}
 use Rattle.icu_decimal.specs.Part.{in_decimal_part}
 use Rattle.icu_decimal.specs.Signed.{affixes_for, affixed_events}
 
--- all that a plain formatter writes with: the symbols of a locale, the character of each digit, and the options
+-- what determines the output of a plain formatter: the symbols of a locale, the character of each digit, and the options
 pub record DecimalFormat : Type 0 where
   pub symbols : DecimalSymbols
   pub digits : List ℕ

@@ -3,7 +3,7 @@ use Rattle.std.specs.Prelude.{◌≡◌, ℕ, ◌*◌, ◌^◌, List, Bool, nat_
 use Rattle.std.specs.Option.{option_eq}
 use Rattle.std.specs.Ordering.{on}
 use Rattle.std.specs.Int.{int_max}
-use Rattle.fixed_decimal.specs.Size.{magnitude, magnitude_power, size}
+use Rattle.fixed_decimal.specs.Size.{magnitude_place, magnitude, size}
 use Rattle.fixed_decimal.specs.Trimming.{IsTrimmed}
 use Rattle.fixed_decimal.specs.Unsigned.{Unsigned, IsUnsigned, high}
 use Rattle.icu_decimal_data.specs.CompactTable.{TableEntry, entry_for, exponent_of}
@@ -15,7 +15,7 @@ are_same_entry = option_eq (on (λ (e : TableEntry). e.log10_type) nat_eq)
 
 -- the entry by which a size is displayed as y, after a carry too: that of y's magnitude
 abbrev pub displayed_entry : List TableEntry → ℕ → Option TableEntry
-displayed_entry table y = entry_for table (magnitude y)
+displayed_entry table y = entry_for table (magnitude_place y)
 
 -- The greatest power that is written of d's significand, where d is displayed as y: that of y, less the exponent of the
 -- displayed entry; where this is also the entry of d's own magnitude, the greatest one that d writes or y has, less the
@@ -23,7 +23,7 @@ displayed_entry table y = entry_for table (magnitude y)
 abbrev pub displayed_high : List TableEntry → Unsigned → ℕ → ℤ
 displayed_high table d y =
     let entry = displayed_entry table y in
-    let top = if are_same_entry entry (entry_for table (magnitude (size d))) then int_max (high d) (magnitude_power y) else magnitude_power y in
+    let top = if are_same_entry entry (entry_for table (magnitude_place (size d))) then int_max (high d) (magnitude y) else magnitude y in
     int_max (pos 0) (top -ℤ pos (exponent_of entry))
 
 -- d is displayed as the size y, by an entry or none, with a significand: y is the nearest compact number, the entry is the

@@ -1,7 +1,7 @@
 -- Formatted numbers, and what they show.
 use Rattle.std.specs.Prelude.{List}
 use Rattle.fixed_decimal.specs.Unsigned.{Unsigned}
-use Rattle.icu_base.specs.Events.{Event}
+use Rattle.writeable.specs.Events.{Event}
 use Rattle.icu_decimal.specs.Decimal.{DecimalFormat, unsigned_events}
 use Rattle.icu_decimal.specs.Signed.{Signed, affixed_events}
 

@@ -2,8 +2,8 @@
 use Rattle.std.specs.Prelude.{◌≡◌, ◌↔◌, ℕ, List, Option, Some, None}
 use Rattle.fixed_decimal.specs.declared.signs.Sign.{Sign}
 use Rattle.fixed_decimal.specs.Unsigned.{Unsigned}
-use Rattle.icu_base.specs.Events.{Event}
-use Rattle.icu_base.specs.Rules.{Rule}
+use Rattle.writeable.specs.Events.{Event}
+use Rattle.icu_plurals.specs.Rules.{Rule}
 use Rattle.icu_decimal_data.specs.CompactTable.{TableEntry}
 use Rattle.icu_decimal_data.specs.declared.decimal_symbols.DecimalSymbols.{DecimalSymbols}
 use Rattle.icu_decimal_options.specs.declared.options.GroupingStrategy.{GroupingStrategy}

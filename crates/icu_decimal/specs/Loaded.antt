@@ -1,9 +1,9 @@
 -- What formatters are made of: the answers of a provider, in the order in which it is asked (ICU4X, the constructors
 -- `try_new_unstable`, `try_new_short_unstable` and `try_new_long_unstable`).
 use Rattle.std.specs.Prelude.{ℕ, List, map, codes, Some, Result, Ok, Err}
-use Rattle.icu_base.specs.Answer.{Refusal}
-use Rattle.icu_base.specs.Identifier.{Identifier}
-use Rattle.icu_base.specs.Rules.{Rule}
+use Rattle.icu_provider.specs.Answer.{Refusal}
+use Rattle.icu_provider.specs.Identifier.{Identifier}
+use Rattle.icu_plurals.specs.Rules.{Rule}
 use Rattle.icu_decimal_data.specs.CompactTable.{TableEntry}
 use Rattle.icu_decimal_data.specs.Decided.{decided}
 use Rattle.icu_decimal_data.specs.declared.decimal_symbols.DecimalSymbols.{DecimalSymbols}
@@ -19,7 +19,7 @@ use Rattle.icu_decimal_options.specs.declared.preferences.CompactDecimalFormatte
 abbrev pub Provider : Type 0 → Type 0
 Provider X = Identifier → Result X Refusal
 
--- the next answer, made with what was answered, or the refusal
+-- what is made of an answer, or its refusal
 abbrev pub and_then : {X Y : Type 0} → Result X Refusal → (X → Result Y Refusal) → Result Y Refusal
 and_then (Ok x) next = next x
 and_then (Err refusal) next = Err refusal

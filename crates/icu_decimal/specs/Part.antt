@@ -1,7 +1,7 @@
 -- Events inside a part.
 use Rattle.std.specs.Prelude.{ℕ, List, [], ◌∷◌, ◌++◌, codes}
-use Rattle.icu_base.specs.Events.{Event}
-use Rattle.icu_base.specs.Events.Event.{Open, Close}
+use Rattle.writeable.specs.Events.{Event}
+use Rattle.writeable.specs.Events.Event.{Open, Close}
 
 -- the events with a part of this category and value around them
 abbrev pub in_part : List ℕ → List ℕ → List Event → List Event

@@ -1,8 +1,8 @@
--- What a readable text tells; each is the contract of a function of `laws`.
+-- What a readable text determines; each is the contract of a function of `laws`.
 use Rattle.std.specs.Prelude.{◌≡◌, ◌⊎◌, ◌↔◌, ℕ, List, Option}
 use Rattle.fixed_decimal.specs.declared.signs.Sign.{Sign}
 use Rattle.fixed_decimal.specs.Unsigned.{Unsigned, IsUnsigned}
-use Rattle.icu_base.specs.Events.{Event, characters, text_of, without_parts}
+use Rattle.writeable.specs.Events.{Event, characters, text_of, without_parts}
 use Rattle.icu_decimal_data.specs.CompactTable.{TableEntry, exponent_of}
 use Rattle.icu_decimal.specs.CompactFormat.{CompactFormat, IsCompactFormat, filled_events}
 use Rattle.icu_decimal.specs.CompactLaws.{IsUnpadded}

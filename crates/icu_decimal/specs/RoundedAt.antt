@@ -1,4 +1,4 @@
--- Rounding at a place, as the calls of a decimal have it.
+-- Rounding at a place. Places reach below the powers of a decimal; at a decimal's power it is fixed_decimal's `IsNearestMultiple`.
 use Rattle.std.specs.Prelude.{ℕ, ◌^◌, ◌≤◌, pos}
 use Rattle.fixed_decimal.specs.Size.{ten_to}
 use Rattle.fixed_decimal.specs.Nearest.{IsNearest, IsMultiple}

@@ -7,8 +7,8 @@ use Rattle.std.specs.Ordering.{eq_of_both, on}
 use Rattle.std.proofs.lemmas.Cmp.{and_equiv, on_equiv, nat_list_eq_equiv}
 use Rattle.fixed_decimal.specs.declared.signs.Sign.{Sign}
 use Rattle.fixed_decimal.specs.declared.signs.Sign.TheVariants.{Negative, Positive, None as NoSign}
-use Rattle.icu_base.specs.Events.{Event, text_events}
-use Rattle.icu_base.specs.declared.sink.Part.{Part}
+use Rattle.writeable.specs.Events.{Event, text_events}
+use Rattle.writeable.specs.declared.sink.Part.{Part}
 use Rattle.icu_decimal_data.specs.declared.decimal_symbols.DecimalSymbols.{DecimalSymbols}
 use Rattle.icu_decimal.specs.Part.{in_part}
 

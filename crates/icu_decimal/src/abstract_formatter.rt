@@ -8,7 +8,7 @@ ghost use Rattle.icu_decimal.specs.Shown.{Shown, framed_shown, operands_shown, s
 ghost use Rattle.icu_decimal.specs.ShownLaws.{IsAtTheLimit, IsShownNear};
 ghost use Rattle.icu_decimal.specs.Signed.{affixes_for};
 ghost use Rattle.icu_decimal.specs.WritesSuch.{KeepsLimitSuch, WritesSuch};
-ghost use Rattle.icu_base.specs.Events.{text_of};
+ghost use Rattle.writeable.specs.Events.{text_of};
 ghost use Rattle.std.specs.String.{string_bytes};
 
 use crate::compact_formatter::CompactDecimalFormatter;
@@ -19,32 +19,36 @@ use crate::formatted_sign::FormattedSign;
 use crate::frame::{Frame, Framed};
 use crate::sealed::Sealed;
 use fixed_decimal::{Sign, UnsignedDecimal};
-use icu_base::{PartsWrite, PluralOperands, Writeable};
+use icu_plurals::PluralOperands;
 use std::alloc::Global;
+use writeable::{PartsWrite, Writeable};
 
-/// A formatter of numbers, plain or compact, on which formatters of units, currencies or ranges stand (ICU4X
-/// `AbstractFormatter`).
+/// A formatter of numbers, plain or compact, on which formatters of units, currencies or ranges
+/// stand (ICU4X `AbstractFormatter`).
 ///
-/// It shows one number of a number: a significand times ten to an exponent, and the events that are written of it.
-/// `write_unsigned` writes these events, `plural_operands` answers the operands of that significand and exponent,
-/// `write_shown` does both, and `format_sign` puts a sign around whatever is written of them. What is promised here holds
-/// of every formatter, so a caller that is generic in it needs to know no more.
+/// Each number determines what is shown for it: a significand times ten to an exponent, and the
+/// events that are written. `write_unsigned` writes these events, `plural_operands` returns the
+/// operands of that significand and exponent, `write_shown` does both, and `format_sign` puts the
+/// affixes of a sign around a value. These contracts hold for every formatter, so a caller that is
+/// generic in the formatter needs no others.
 ///
-/// The laws say which number may be shown. Sizes are counted in whole units below every power that a decimal writes.
+/// The laws say which number may be shown. They compare sizes, which count units smaller than any
+/// power of a decimal.
 pub trait AbstractFormatter: Sealed {
-    /// What is shown of a number: `shows f u n` where the formatter `f` shows `n` of the number `u`.
+    /// What is shown for a number: `shows f u n` if the formatter `f` shows `n` for the number `u`.
     ghost shows: { Self → Unsigned → Shown → Type 0 };
 
-    /// What the formatter would show of a number is too large.
+    /// What the formatter would show for a number is too large.
     ghost overflows: { Self → Unsigned → Type 0 };
 
     /// The symbols that hold the affixes of a sign.
     ghost symbols: { Self → DecimalSymbols };
 
-    /// Writes what is shown of a number, without a sign.
+    /// Writes what is shown for a number, without a sign.
     ///
-    /// `Overflow` exactly where that is too large, and `Sink` only where the sink failed in this call: it then holds a
-    /// beginning of the events besides. After the other refusals the sink is as it was.
+    /// `Overflow` exactly where that is too large. `Sink` only where the sink failed in this call,
+    /// and it then holds a beginning of the events besides. After the other errors the sink is
+    /// unchanged.
     fn write_unsigned<S: PartsWrite>(
         &self,
         alloc: Global,
@@ -64,9 +68,9 @@ pub trait AbstractFormatter: Sealed {
           value = value;
         } };
 
-    /// The plural operands of what is shown of a number.
+    /// The plural operands of what is shown for a number.
     ///
-    /// `Overflow` exactly where that is too large; `Sink` is never answered.
+    /// `Overflow` exactly where that is too large; `Sink` is never reported.
     fn plural_operands(
         &self,
         alloc: Global,
@@ -77,8 +81,8 @@ pub trait AbstractFormatter: Sealed {
         ensures overflow { IsErrOf result FormatError.Overflow ↔ overflows self.now value.now }
         ensures no_sink { IfErr result (λ e. e ≢ FormatError.Sink) };
 
-    /// Writes what is shown of a number, without a sign, as `write_unsigned` does, and answers its plural operands, as
-    /// `plural_operands` does: the number is rounded once.
+    /// Writes what is shown for a number, without a sign, as `write_unsigned` does, and returns its
+    /// plural operands, as `plural_operands` does. The number is rounded once.
     fn write_shown<S: PartsWrite>(
         &self,
         alloc: Global,
@@ -93,11 +97,12 @@ pub trait AbstractFormatter: Sealed {
             × (operands_shown n ≡ o)) }
         ensures overflow { IsErrOf result FormatError.Overflow ↔ overflows self.now value.now };
 
-    /// Writes what is shown of a number in a frame, which may ask its plural operands: the number is rounded once, and
-    /// written straight to its place.
+    /// Writes what is shown for a number in a frame, which may ask for its plural operands. The
+    /// number is rounded once, and isn't buffered.
     ///
-    /// `Overflow` exactly where what is shown is too large, and `Sink` only where the sink failed in this call: it then
-    /// holds a beginning of the events besides. After the other refusals the sink is as it was.
+    /// `Overflow` exactly where what is shown is too large. `Sink` only where the sink failed in
+    /// this call, and it then holds a beginning of the events besides. After the other errors the
+    /// sink is unchanged.
     fn write_framed<S: PartsWrite, T: Frame>(
         &self,
         alloc: Global,
@@ -111,9 +116,9 @@ pub trait AbstractFormatter: Sealed {
             (shows self.now value.now) (framed_shown (T.framed frame.now)) sink.new }
         ensures overflow { IsErrOf result FormatError.Overflow ↔ overflows self.now value.now };
 
-    /// The text of what is shown of a number in a frame: its characters, without parts.
+    /// The text of what is shown for a number in a frame: its characters, without parts.
     ///
-    /// `Overflow` exactly where what is shown is too large; `Sink` is never answered.
+    /// `Overflow` exactly where what is shown is too large; `Sink` is never reported.
     fn framed_to_string<T: Frame>(
         &self,
         alloc: Global,
@@ -125,16 +130,16 @@ pub trait AbstractFormatter: Sealed {
         ensures overflow { IsErrOf result FormatError.Overflow ↔ overflows self.now value.now }
         ensures no_sink { IfErr result (λ e. e ≢ FormatError.Sink) };
 
-    /// One thing is shown of a number.
+    /// A number determines what is shown for it.
     ghost one_shown: { (f : Self) (u : Unsigned) (n m : Shown) → shows f u n → shows f u m →
         n ≡ m };
 
-    /// The significand of what is shown of a decimal is one.
+    /// The significand that is shown for a decimal is a decimal.
     ghost decimal: { (f : Self) (u : Unsigned) (n : Shown) → IsUnsigned u → shows f u n →
         IsUnsigned n.significand };
 
-    /// 0 is shown as 0, and nothing else is; any other number as a size from the power of ten of its magnitude up to the
-    /// next power of ten, both included.
+    /// 0 is shown as 0, and no other number is. Any other number is shown as a size from the power
+    /// of ten of its magnitude up to the next power of ten, both included.
     ghost near: { (f : Self) (u : Unsigned) (n : Shown) → shows f u n →
         IsShownNear (size u) (size_shown n) };
 
@@ -142,11 +147,11 @@ pub trait AbstractFormatter: Sealed {
     ghost in_order: { (f : Self) (u v : Unsigned) (n m : Shown) → shows f u n → shows f v m →
         size u ≤ size v → size_shown n ≤ size_shown m };
 
-    /// A number that is as large as a shown size shows that size.
+    /// A number whose size is a shown size is shown as that size.
     ghost again: { (f : Self) (u v : Unsigned) (n m : Shown) → shows f u n → shows f v m →
         size v ≡ size_shown n → size_shown m ≡ size_shown n };
 
-    /// And it overflows only where the number overflows of which that size is shown.
+    /// Such a number overflows only if the number overflows for which that size is shown.
     ghost again_within: { (f : Self) (u v : Unsigned) (n : Shown) → shows f u n →
         size v ≡ size_shown n → overflows f v → overflows f u };
 
@@ -159,8 +164,8 @@ impl AbstractFormatter for DecimalFormatter {
     ghost use Rattle.std.specs.Prelude.{◌≡◌, ◌≢◌, ◌↔◌, Ok, IfOk, IfErr, IsErrOf};
     ghost use Rattle.std.proofs.Common.{◌∙◌, sym};
     ghost use Rattle.std.specs.String.{string_bytes};
-    ghost use Rattle.icu_base.specs.Events.{text_of};
-    ghost use Rattle.icu_base.specs.Operands.{operands_of};
+    ghost use Rattle.writeable.specs.Events.{text_of};
+    ghost use Rattle.icu_plurals.specs.Operands.{operands_of};
     ghost use Rattle.icu_decimal.specs.Shown.{Shown, framed_shown, operands_shown, plain_shown};
     ghost use Rattle.icu_decimal.specs.WritesSuch.{KeepsLimitSuch, WritesSuch};
     ghost use Rattle.icu_decimal.specs.KeptLaws.{plain_again, plain_in_order, plain_is_decimal, plain_near};
@@ -185,7 +190,7 @@ impl AbstractFormatter for DecimalFormatter {
 
     ghost overflow_at_the_limit = { λ f u past. absurd past };
 
-    /// It takes no memory but the sink's, and fails only as the sink does.
+    /// It takes only the sink's memory, and its only error is `Sink`.
     fn write_unsigned<S: PartsWrite>(
         &self,
         alloc: Global,
@@ -229,7 +234,7 @@ impl AbstractFormatter for DecimalFormatter {
         Ok(PluralOperands::from_significand_and_exponent(value, 0))
     }
 
-    /// It takes no memory but the sink's, and fails only as the sink does.
+    /// It takes only the sink's memory, and its only error is `Sink`.
     fn write_shown<S: PartsWrite>(
         &self,
         alloc: Global,
@@ -250,7 +255,7 @@ impl AbstractFormatter for DecimalFormatter {
         self.plural_operands(alloc, value)
     }
 
-    /// It takes no memory but the sink's, and fails only as the sink does.
+    /// It takes only the sink's memory, and its only error is `Sink`.
     fn write_framed<S: PartsWrite, T: Frame>(
         &self,
         alloc: Global,
@@ -276,7 +281,7 @@ impl AbstractFormatter for DecimalFormatter {
         }
     }
 
-    /// It is refused for want of memory alone.
+    /// Its only error is `OutOfMemory`.
     fn framed_to_string<T: Frame>(
         &self,
         alloc: Global,

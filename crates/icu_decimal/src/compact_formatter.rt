@@ -4,11 +4,11 @@ ghost use Rattle.std.specs.Prelude.{◌≡◌, ◌≢◌, ◌↔◌, ◌<◌, �
 ghost use Rattle.std.specs.String.{string_bytes};
 ghost use Rattle.fixed_decimal.specs.Size.{place, size};
 ghost use Rattle.fixed_decimal.specs.declared.signs.Sign.TheVariants.{None as NoSign};
-ghost use Rattle.icu_base.specs.Elements.{selected};
-ghost use Rattle.icu_base.specs.Events.{Event, text_of};
-ghost use Rattle.icu_base.specs.Operands.{operands_of};
-ghost use Rattle.icu_base.specs.Refs.{text_of_ref};
-ghost use Rattle.icu_base.specs.Rules.{category_of};
+ghost use Rattle.icu_plurals.specs.Elements.{selected};
+ghost use Rattle.writeable.specs.Events.{Event, text_of};
+ghost use Rattle.icu_plurals.specs.Operands.{operands_of};
+ghost use Rattle.icu_pattern.specs.Refs.{text_of_ref};
+ghost use Rattle.icu_plurals.specs.Rules.{category_of};
 ghost use Rattle.icu_decimal_data.specs.CompactTable.{IsCompactTable, IsIndex, entry_at, exponent_for};
 ghost use Rattle.icu_decimal.specs.CompactNumber.{ShowsPastLimits};
 ghost use Rattle.icu_decimal.specs.CompactFormat.{IsCompactFormat, IsCompacted, pattern_of, exponent_needed, magnitude_with, given_events, given_shown, given_value, significand_of, compact_shown, signed_compact_shown};
@@ -23,13 +23,16 @@ use crate::error::{CompactExponentError, FormatError};
 use crate::formatted_compact::{FormattedUnsignedCompactDecimal, InterpolatedDecimal};
 use crate::formatted_sign::FormattedSign;
 use fixed_decimal::{Decimal, UnsignedDecimal};
-use icu_base::{PatternRef, PluralOperands, PluralRules, SinglePlaceholder, Writeable};
 use icu_decimal_data::CompactPatterns;
 use icu_decimal_data::laws::entries_are_a_compact_table;
+use icu_pattern::{PatternRef, SinglePlaceholder};
+use icu_plurals::{PluralOperands, PluralRules};
 use std::alloc::Global;
 use std::marker::Model;
+use writeable::Writeable;
 
-/// Writes decimals in compact form, as `15K` (ICU4X `CompactDecimalFormatter`; UTS 35 Part 3, Compact Number Formats).
+/// Writes decimals in compact form, as `15K` (ICU4X `CompactDecimalFormatter`; UTS 35 Part 3,
+/// Compact Number Formats).
 #[derive(Drop)]
 pub struct CompactDecimalFormatter {
     pub(crate) decimal_formatter: DecimalFormatter,
@@ -73,14 +76,14 @@ impl CompactDecimalFormatter {
 
     /// The decimal as the nearest compact number.
     ///
-    /// Compact numbers are 0 and the multiples of ten to the rounding place of their own magnitude: the place of the
-    /// exponent that the table gives the magnitude, where the magnitude is above it, and else one below the magnitude, so
-    /// that two digits are shown. What is written is the input's sign around the characters of a significand in its
-    /// pattern: significand times ten to the exponent is the compact number nearest to the input among those of all
-    /// magnitudes, of two equally near the even one.
+    /// Let e be the table's exponent for the magnitude m. The number is rounded at power e if m is
+    /// above e, else at m - 1 (two significant digits). The result is the nearest compact number of
+    /// all magnitudes, the even one of two equally near. It is written as the input's sign around
+    /// the characters of a significand in its pattern; the significand times ten to the exponent is
+    /// that number.
     ///
-    /// `Overflow` exactly where that number is ten to the power 32768 or more; memory is asked for after that. `Sink` is
-    /// never answered.
+    /// `Overflow` exactly where that number is ten to the power 32768 or more, whether or not
+    /// memory is found. `Sink` is never reported.
     pub fn format<'l>(
         &'l self,
         alloc: Global,
@@ -125,7 +128,7 @@ impl CompactDecimalFormatter {
         })
     }
 
-    /// The text of the nearest compact number. `Sink` is never answered.
+    /// The text of the nearest compact number. `Sink` is never reported.
     pub fn format_to_string(&self, alloc: Global, value: &Decimal) -> Result<String, FormatError>
         ensures nearest { IfOk result (λ t. (significand : _) × (exponent : ℕ)
             × (events : List Event)
@@ -142,10 +145,11 @@ impl CompactDecimalFormatter {
         }
     }
 
-    /// A significand with a given exponent, its digits as they are given, with their parts; this takes no memory.
+    /// A significand with a given exponent. Its digits are written as they are, with their parts;
+    /// this takes no memory.
     ///
-    /// The exponent has to be the one that the magnitude of significand and exponent together needs; a significand 0
-    /// counts with magnitude 0, to which the exponent is added.
+    /// The exponent has to be the table's for the magnitude of the significand plus the exponent.
+    /// The magnitude of a significand 0 is 0.
     pub fn format_with_exponent<'l>(
         &'l self,
         significand: &'l Decimal,
@@ -184,13 +188,15 @@ impl CompactDecimalFormatter {
         Ok(self.decimal_formatter.format_sign(significand.sign, filled))
     }
 
-    /// Whether it is readable: then each of its texts tells its sign, its significand, in range and every digit, and its
-    /// exponent, whichever of `format` and `format_with_exponent` wrote it (this project's own).
+    /// Whether the formatter is readable: each text of `format` and of `format_with_exponent` then
+    /// determines its sign, its significand, in range and every digit, and its exponent (this
+    /// project's own).
     ///
-    /// It is where plain numbers are (`DecimalFormatter::is_readable`), each pattern has a place and no digit, and what
-    /// stands around a number, affixes and pattern taken together, tells sign and exponent. Numbers that stand alone count
-    /// too, and so does each pattern of the table, also one that the plural rules never pick: so a formatter that isn't
-    /// readable may tell its numbers all the same. It takes no memory.
+    /// A formatter is readable if its plain formatter is (`DecimalFormatter::is_readable`), each
+    /// pattern has a placeholder and no digit, and affixes and pattern together determine the sign
+    /// and the exponent. Numbers without a pattern count too, and so does each pattern of the
+    /// table, even one that the plural rules never select. So a formatter that isn't readable may
+    /// still have texts that determine their numbers. This takes no memory.
     pub fn is_readable(&self) -> bool
         ensures { IsTrue result ↔ IsReadableCompact self.now }
     {
@@ -200,7 +206,8 @@ impl CompactDecimalFormatter {
         self.decimal_formatter.is_readable_by(&self.patterns)
     }
 
-    /// The exponent that numbers of a magnitude are written with; 0 where no pattern names one.
+    /// The exponent with which numbers of a magnitude are written; 0 where the table has no entry
+    /// for the magnitude.
     pub fn compact_exponent_for_magnitude(&self, magnitude: i16) -> u8
         ensures { result ≡ exponent_for self.now.table (place magnitude) }
     {
@@ -223,7 +230,8 @@ impl CompactDecimalFormatter {
         }
     }
 
-    /// The pattern of the entry at an index for a significand; where the entry has one alone, no operands are wanted.
+    /// The pattern of the entry at an index for a significand. Operands are computed only if the
+    /// entry has several.
     fn pattern_at(
         &self,
         index: usize,

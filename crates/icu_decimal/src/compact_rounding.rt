@@ -1,8 +1,9 @@
-//! The nearest compact number of a decimal: the entry by which it is displayed, and its significand.
+//! The nearest compact number of a decimal: the entry by which it is displayed, and its
+//! significand.
 
 ghost use Rattle.std.specs.Prelude.{◌≡◌, ◌≢◌, ℕ, ◌*◌, ◌^◌, ◌⊎◌, IfOk, IfErr, IsErrOf, IsOkUnless, ◌↔◌, ℤ, pos, ◌-ℤ◌, ◌≤ℤ◌, ◌<ℤ◌};
 ghost use Rattle.std.specs.Int.{int_max};
-ghost use Rattle.fixed_decimal.specs.Size.{place, ten_to, magnitude, magnitude_power, size};
+ghost use Rattle.fixed_decimal.specs.Size.{place, ten_to, magnitude_place, magnitude, size};
 ghost use Rattle.fixed_decimal.specs.Trimming.{IsTrimmed};
 ghost use Rattle.fixed_decimal.specs.Unsigned.{IsUnsigned, high};
 ghost use Rattle.icu_decimal_data.specs.CompactTable.{IsIndex, entry_at, entry_for, exponent_of};
@@ -12,8 +13,8 @@ ghost use Rattle.icu_decimal.specs.RoundedAt.{IsRoundedAt, RoundsPast};
 
 use crate::error::FormatError;
 use fixed_decimal::{DecimalError, UnsignedDecimal};
-use icu_base::PatternBackend;
 use icu_decimal_data::CompactPatterns;
+use icu_pattern::PatternBackend;
 use std::alloc::Global;
 
 /// A significand, and the entry by which it is displayed.
@@ -77,7 +78,8 @@ pub(crate) fn exponent_or_zero<P: PatternBackend>(
     }
 }
 
-/// The index of the entry at the magnitude that rounding reached; it is looked up only after a carry.
+/// The index of the entry at the magnitude that rounding reached; it is looked up only after a
+/// carry.
 fn reached_index<P: PatternBackend>(
     table: &CompactPatterns<P>,
     index: Option<usize>,
@@ -96,7 +98,7 @@ fn reached_index<P: PatternBackend>(
     }
 }
 
-/// The power of ten that a power leaves over an exponent.
+/// A power less an exponent.
 fn power_left(power: i32, exponent: u8) -> i16
     requires exponent { pos exponent ≤ℤ power }
     requires within { power ≤ℤ pos 32767 }
@@ -121,7 +123,7 @@ fn power_of_ten(alloc: Global, power: i16) -> Result<UnsignedDecimal, DecimalErr
     }
 }
 
-/// The power at which a number of a magnitude is rounded, by the exponent at that magnitude.
+/// The power at which a number of a magnitude is rounded, given the exponent for that magnitude.
 fn round_power(exponent: u8, magnitude: i16) -> i32
     ensures place { place result ≡ rounding_place exponent (place magnitude) }
     ensures below { result <ℤ magnitude }
@@ -138,26 +140,27 @@ fn round_power(exponent: u8, magnitude: i16) -> i32
     }
 }
 
-/// The significand, over ten to the exponent, of the number rounded where its magnitude and the exponent there say.
+/// The number, rounded at the power that its magnitude and the exponent determine, and divided by
+/// ten to the exponent.
 fn significand_at(
     alloc: Global,
     value: &UnsignedDecimal,
     power: i16,
     exponent: u8,
 ) -> Result<UnsignedDecimal, FormatError>
-    requires power { power ≡ magnitude_power (size value.now) }
+    requires power { power ≡ magnitude (size value.now) }
     requires valid { IsUnsigned value.now }
     requires exponent { (exponent ≡ 0) ⊎ (pos exponent ≤ℤ power) }
     ensures nearest { IfOk result (λ s.
-        IsRoundedAt (rounding_place exponent (magnitude (size value.now))) (size value.now)
+        IsRoundedAt (rounding_place exponent (magnitude_place (size value.now))) (size value.now)
         (size s * 10 ^ exponent)) }
     ensures high { IfOk result (λ s.
         high s ≡ int_max (pos 0)
-        (int_max (high value.now) (magnitude_power (size s * 10 ^ exponent)) -ℤ pos exponent)) }
+        (int_max (high value.now) (magnitude (size s * 10 ^ exponent)) -ℤ pos exponent)) }
     ensures trimmed { IfOk result (λ s. IsTrimmed s) }
     ensures valid { IfOk result (λ s. IsUnsigned s) }
     ensures overflow { IsErrOf result FormatError.Overflow
-        ↔ RoundsPast (rounding_place exponent (magnitude (size value.now))) (size value.now) }
+        ↔ RoundsPast (rounding_place exponent (magnitude_place (size value.now))) (size value.now) }
     ensures no_sink { IfErr result (λ e. e ≢ FormatError.Sink) }
 {
     let at = round_power(exponent, power);

@@ -1,16 +1,16 @@
-//! A value that is lent or kept.
+//! A value that is borrowed or owned.
 
 ghost use Rattle.std.specs.Prelude.{◌≡◌};
 ghost use Rattle.icu_decimal.specs.Cow.{value_of};
 
-use icu_base::{EventWriter, WriteFault, Writeable};
+use writeable::{EventWriter, WriteFault, Writeable};
 
-/// A value that is lent or kept (ICU4X `Cow`).
+/// A value that is borrowed or owned (ICU4X `Cow`).
 #[derive(Debug, PartialEq, Eq, Drop)]
 pub enum Cow<'a, T> {
-    /// The value is another's.
+    /// A borrowed value.
     Borrowed(&'a T),
-    /// The value is kept here.
+    /// An owned value.
     Owned(T),
 }
 

@@ -2,8 +2,8 @@
 
 ghost use Rattle.std.specs.Prelude.{◌≡◌, ◌<◌, ◌↔◌, IsTrue, All, List, IfOk, IsOkUnless, codes};
 ghost use Rattle.std.specs.String.{string_bytes};
-ghost use Rattle.icu_base.specs.Events.{Event, text_of, digit_events};
-ghost use Rattle.icu_base.specs.Groups.{grouped_events};
+ghost use Rattle.writeable.specs.Events.{Event, text_of, digit_events};
+ghost use Rattle.writeable.specs.Groups.{grouped_events};
 ghost use Rattle.icu_decimal.specs.Decimal.{decimal_events, signed_events, unsigned_events, strategy_of};
 ghost use Rattle.icu_decimal_options.specs.Grouping.{is_grouped};
 ghost use Rattle.icu_decimal_readable.specs.Readable.{IsReadable, IsReadableTable};
@@ -14,15 +14,17 @@ use crate::formatted_decimal::{FormattedDecimal, FormattedUnsignedDecimal};
 use crate::formatted_sign::FormattedSign;
 use crate::parts;
 use fixed_decimal::{Decimal, Sign, UnsignedDecimal};
-use icu_base::{ASCII_DIGITS, EventWriter, Grouping, SinglePlaceholder, WriteFault, Writeable};
 use icu_decimal_data::{CompactPatterns, DecimalSymbols};
 use icu_decimal_options::grouper::longest_ungrouped;
 use icu_decimal_options::options::{DecimalFormatterOptions, GroupingStrategy};
 use icu_decimal_readable::{are_numbers_readable, is_table_readable};
+use icu_pattern::SinglePlaceholder;
 use std::alloc::Global;
 use std::marker::Model;
+use writeable::{ASCII_DIGITS, EventWriter, Grouping, WriteFault, Writeable};
 
-/// Writes decimals in the digits, signs, separators and group sizes of a locale (ICU4X `DecimalFormatter`).
+/// Writes decimals in the digits, signs, separators and group sizes of a locale (ICU4X
+/// `DecimalFormatter`).
 #[derive(Drop)]
 pub struct DecimalFormatter {
     options: DecimalFormatterOptions,
@@ -36,7 +38,7 @@ pub struct DecimalFormatter {
 
 impl Model for DecimalFormatter {
     ghost use Rattle.std.specs.Prelude.{◌≡◌, IsTrue};
-    ghost use Rattle.icu_base.specs.Events.{ascii_characters};
+    ghost use Rattle.writeable.specs.Events.{ascii_characters};
     ghost use Rattle.icu_decimal.specs.Decimal.{DecimalFormat, strategy_of};
     ghost use Rattle.icu_decimal_options.specs.Grouping.{IsLongestUngrouped};
 
@@ -89,7 +91,8 @@ impl DecimalFormatter {
         }
     }
 
-    /// The decimal as it is to be written; this takes no memory, and writing it takes only what the sink takes.
+    /// The formatted decimal, which borrows its argument. This takes no memory, and writing it
+    /// takes only the sink's.
     pub fn format<'l>(&'l self, value: &'l Decimal) -> FormattedDecimal<'l>
         ensures value { result ≡ record {
           affixes = affixes_for self.now.symbols value.now.sign;
@@ -104,11 +107,12 @@ impl DecimalFormatter {
         }
     }
 
-    /// Whether each of its texts tells its decimal: the sign, the range and every digit (this project's own).
+    /// Whether each text determines its decimal: the sign, the range and every digit (this
+    /// project's own).
     ///
-    /// It does where the ten digits differ and none of them stands in an affix or a separator, the decimal separator isn't
-    /// empty and isn't the grouping separator, and the pairs of affixes of minus, plus and no sign differ. Characters are
-    /// compared, not bytes.
+    /// It does if the ten digits differ and none of them stands in an affix or a separator, if the
+    /// decimal separator isn't empty and isn't the grouping separator, and if the pairs of affixes
+    /// of minus, plus and no sign differ. Characters are compared, not bytes.
     pub fn is_readable(&self) -> bool
         ensures { IsTrue result ↔ IsReadable self.now.symbols.strings self.now.digits }
     {
@@ -127,7 +131,7 @@ impl DecimalFormatter {
         }
     }
 
-    /// Whether compact numbers by this table are readable, where the formatter's own numbers are.
+    /// Whether compact numbers by this table are readable, if the formatter's own numbers are.
     pub(crate) fn is_readable_by(&self, patterns: &CompactPatterns<SinglePlaceholder>) -> bool
         ensures { IsTrue result
             ↔ IsReadableTable self.now.symbols.strings self.now.digits patterns.now }
@@ -148,28 +152,28 @@ impl DecimalFormatter {
         }
     }
 
-    /// How it groups.
+    /// The options.
     pub(crate) fn options(&self) -> &DecimalFormatterOptions
         ensures { result.now ≡ self.now.options }
     {
         &self.options
     }
 
-    /// Its texts and sizes.
+    /// The symbols.
     pub(crate) fn symbols(&self) -> &DecimalSymbols
         ensures { result.now ≡ self.now.symbols }
     {
         &self.symbols
     }
 
-    /// The characters of its digits.
+    /// The characters of the digits.
     pub(crate) fn digits(&self) -> &[char; 10]
         ensures { result.now ≡ self.now.digits }
     {
         &self.digits
     }
 
-    /// Whether it groups this many digits.
+    /// Whether so many digits are grouped.
     pub(crate) fn is_grouped(&self, count: usize) -> bool
         ensures { IsTrue result
             ↔ IsTrue
@@ -178,7 +182,7 @@ impl DecimalFormatter {
         self.longest_ungrouped < count
     }
 
-    /// Writes digits by its characters.
+    /// Writes digits with the formatter's characters.
     pub(crate) fn write_digits<K: EventWriter>(
         &self,
         digits: &[u8],
@@ -193,7 +197,7 @@ impl DecimalFormatter {
         out.digits(digits, &self.digits)
     }
 
-    /// Writes digits in groups by its characters.
+    /// Writes digits in groups with the formatter's characters.
     pub(crate) fn write_groups<K: EventWriter>(
         &self,
         digits: &[u8],

@@ -21,8 +21,8 @@ pub enum FormatError {
 /// How many bytes the text of a `CompactExponentError` has at most.
 const LONGEST_TEXT: usize = 64;
 
-/// The compact exponent given for a number isn't that of its magnitude (ICU4X `CompactExponentError`). It is a small
-/// value that takes no memory.
+/// The compact exponent given for a number isn't that of its magnitude (ICU4X
+/// `CompactExponentError`). It is a small value that takes no memory.
 #[derive(Clone, Copy, Debug)]
 pub struct CompactExponentError {
     pub(crate) actual: u8,

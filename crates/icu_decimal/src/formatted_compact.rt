@@ -5,11 +5,14 @@ ghost use Rattle.std.specs.Prelude.{◌≡◌};
 use crate::cow::Cow;
 use crate::formatted_decimal::FormattedUnsignedDecimal;
 use fixed_decimal::UnsignedDecimal;
-use icu_base::{EventWriter, PatternRef, PluralOperands, SinglePlaceholder, WriteFault, Writeable};
+use icu_pattern::{PatternRef, SinglePlaceholder};
+use icu_plurals::PluralOperands;
 use std::fmt;
 use std::marker::Model;
+use writeable::{EventWriter, WriteFault, Writeable};
 
-/// A number in the pattern of its exponent, with the number's parts: what `format_with_exponent` writes inside the sign.
+/// A number in the pattern of its exponent, with the number's parts: `format_with_exponent` writes
+/// it inside the sign.
 #[derive(Drop)]
 pub struct InterpolatedDecimal<'l> {
     pub(crate) number: FormattedUnsignedDecimal<'l>,
@@ -26,7 +29,8 @@ impl<'l> Model for InterpolatedDecimal<'l> {
     ghost view = { λ f. record { pattern = pattern_or_alone f.pattern; number = f.number } };
 }
 
-/// A compact number without its sign (ICU4X `FormattedUnsignedCompactDecimal`): its characters, without parts.
+/// A compact number without its sign (ICU4X `FormattedUnsignedCompactDecimal`): its characters,
+/// without parts.
 #[derive(Drop)]
 pub struct FormattedUnsignedCompactDecimal<'l> {
     pub(crate) filled: InterpolatedDecimal<'l>,
@@ -42,7 +46,7 @@ impl<'l> Model for FormattedUnsignedCompactDecimal<'l> {
 }
 
 impl FormattedUnsignedCompactDecimal<'_> {
-    ghost use Rattle.icu_base.specs.Operands.{operands_of};
+    ghost use Rattle.icu_plurals.specs.Operands.{operands_of};
     ghost use Rattle.icu_decimal.specs.CompactFormat.{significand_of};
 
     /// The digits that are written.
@@ -59,7 +63,8 @@ impl FormattedUnsignedCompactDecimal<'_> {
         self.exponent
     }
 
-    /// The plural operands of the compact number: those of its significand and its exponent (ICU4X `plural_operands`).
+    /// The plural operands of the compact number: those of its significand and its exponent (ICU4X
+    /// `plural_operands`).
     pub fn plural_operands(&self) -> PluralOperands
         ensures { result ≡ operands_of (significand_of self.now) self.now.exponent }
     {
@@ -94,7 +99,7 @@ impl Writeable for FormattedUnsignedCompactDecimal<'_> {
 
 impl fmt::Display for InterpolatedDecimal<'_> {
     ghost use Rattle.std.specs.Prelude.{Some};
-    ghost use Rattle.icu_base.specs.Events.{text_of};
+    ghost use Rattle.writeable.specs.Events.{text_of};
     ghost use Rattle.icu_decimal.specs.CompactFormat.{filled_shown};
 
     ghost output = { λ f. Some (text_of (filled_shown f)) };
@@ -108,7 +113,7 @@ impl fmt::Display for InterpolatedDecimal<'_> {
 
 impl fmt::Display for FormattedUnsignedCompactDecimal<'_> {
     ghost use Rattle.std.specs.Prelude.{Some};
-    ghost use Rattle.icu_base.specs.Events.{text_of};
+    ghost use Rattle.writeable.specs.Events.{text_of};
     ghost use Rattle.icu_decimal.specs.CompactFormat.{compact_shown};
 
     ghost output = { λ f. Some (text_of (compact_shown f)) };

@@ -1,19 +1,19 @@
 //! Formatted decimals: what a formatter writes, as a value.
 
 ghost use Rattle.std.specs.Prelude.{◌≡◌, ◌<◌, ◌++◌, All};
-ghost use Rattle.icu_base.specs.Events.{Event, text_of};
+ghost use Rattle.writeable.specs.Events.{Event, text_of};
 
 use crate::cow::Cow;
 use crate::decimal_formatter::DecimalFormatter;
 use crate::formatted_sign::FormattedSign;
 use crate::parts;
 use fixed_decimal::UnsignedDecimal;
-use icu_base::{EventWriter, Grouping, WriteFault, Writeable};
 use icu_decimal_data::DecimalSymbols;
 use icu_decimal_options::grouper::secondary_size;
 use icu_decimal_options::options::DecimalFormatterOptions;
 use std::fmt;
 use std::marker::Model;
+use writeable::{EventWriter, Grouping, WriteFault, Writeable};
 
 /// A formatted decimal (ICU4X `FormattedDecimal`): its characters with their parts.
 #[derive(PartialEq, Drop)]
@@ -68,7 +68,8 @@ impl PartialEq for FormattedUnsignedDecimal<'_> {
         (on_per (λ f. f.format.digits) {E = ⟦<[char; 10] as PartialEq>⟧.eq}
         (Prim.search (comparing, rules))))) };
 
-    /// Whether the numbers, the options, the symbols and the digits are equal, wherever they are kept.
+    /// Whether the numbers, the options, the symbols and the digits are equal, wherever they are
+    /// kept.
     fn eq(&self, other: &Self) -> bool {
         self.value.get() == other.value.get()
             && self.format.options() == other.format.options()
@@ -131,7 +132,8 @@ impl FormattedUnsignedDecimal<'_> {
         self.format.write_groups(integer, &grouping, out)
     }
 
-    /// Writes the decimal separator and the digits below power 0, as parts; without such digits nothing.
+    /// Writes the decimal separator and the digits below power 0, as parts; without such digits
+    /// nothing.
     fn write_fraction<K: EventWriter>(&self, fraction: &[u8], out: &mut K) -> Result<(), WriteFault>
         requires { All (λ d. d < 10) fraction.now }
         ensures { K.wrote out.old result (fraction_events self.now.format fraction.now) out.new }
@@ -148,7 +150,7 @@ impl FormattedUnsignedDecimal<'_> {
 
 impl fmt::Display for FormattedDecimal<'_> {
     ghost use Rattle.std.specs.Prelude.{Some};
-    ghost use Rattle.icu_base.specs.Events.{text_of};
+    ghost use Rattle.writeable.specs.Events.{text_of};
     ghost use Rattle.icu_decimal.specs.Formatted.{decimal_shown};
 
     ghost output = { λ f. Some (text_of (decimal_shown f)) };
@@ -162,7 +164,7 @@ impl fmt::Display for FormattedDecimal<'_> {
 
 impl fmt::Display for FormattedUnsignedDecimal<'_> {
     ghost use Rattle.std.specs.Prelude.{Some};
-    ghost use Rattle.icu_base.specs.Events.{text_of};
+    ghost use Rattle.writeable.specs.Events.{text_of};
     ghost use Rattle.icu_decimal.specs.Formatted.{unsigned_shown};
 
     ghost output = { λ f. Some (text_of (unsigned_shown f)) };

@@ -4,15 +4,16 @@ ghost use Rattle.std.specs.Prelude.{◌≡◌, Option, option_map};
 ghost use Rattle.std.specs.Option.{option_eq};
 ghost use Rattle.icu_decimal.specs.Signed.{affixes_of, same_affixes};
 
-use icu_base::{EventWriter, Part, WriteFault, Writeable};
 use std::fmt;
 use std::marker::Model;
+use writeable::{EventWriter, Part, WriteFault, Writeable};
 
 /// A value with the affixes of its sign around it (ICU4X `FormattedSign`).
 #[derive(Drop)]
 pub struct FormattedSign<'l, T> {
     pub(crate) value: T,
-    /// The part around each affix, what stands before the value and what stands after it; none without a sign.
+    /// The part around each affix, what stands before the value and what stands after it; none
+    /// without a sign.
     pub(crate) sign: Option<(Part, &'l str, &'l str)>,
 }
 
@@ -73,7 +74,7 @@ fn are_same(a: &Option<(Part, &str, &str)>, b: &Option<(Part, &str, &str)>) -> b
 
 impl<T: Writeable> Writeable for FormattedSign<'_, T> {
     ghost use Rattle.std.specs.Prelude.{List};
-    ghost use Rattle.icu_base.specs.Events.{Event};
+    ghost use Rattle.writeable.specs.Events.{Event};
     ghost use Rattle.icu_decimal.specs.Signed.{affixed_events};
 
     ghost events = { λ f. affixed_events f.affixes (T.events f.value) };
@@ -111,7 +112,7 @@ impl<T> FormattedSign<'_, T> {
 
 impl<T: Writeable> fmt::Display for FormattedSign<'_, T> {
     ghost use Rattle.std.specs.Prelude.{Some};
-    ghost use Rattle.icu_base.specs.Events.{text_of};
+    ghost use Rattle.writeable.specs.Events.{text_of};
     ghost use Rattle.icu_decimal.specs.Signed.{affixed_events};
 
     ghost output = { λ f. Some (text_of (affixed_events f.affixes (T.events f.value))) };

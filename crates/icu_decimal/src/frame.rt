@@ -1,16 +1,18 @@
 //! What stands around a number that is shown: a unit, a currency, a sign.
 
 ghost use Rattle.std.specs.Prelude.{◌≡◌, List};
-ghost use Rattle.icu_base.specs.Events.{Event};
-ghost use Rattle.icu_base.specs.Operands.{Operands};
+ghost use Rattle.writeable.specs.Events.{Event};
+ghost use Rattle.icu_plurals.specs.Operands.{Operands};
 ghost use Rattle.icu_decimal.specs.Shown.{picked};
 
 use crate::formatted_compact::FormattedUnsignedCompactDecimal;
 use crate::formatted_decimal::FormattedUnsignedDecimal;
 use crate::sealed::Sealed;
-use icu_base::{EventWriter, PluralElements, PluralOperands, PluralRules, WriteFault, Writeable};
+use icu_plurals::{PluralElements, PluralOperands, PluralRules};
+use writeable::{EventWriter, WriteFault, Writeable};
 
-/// A number as a formatter shows it, without its sign: it writes its events, and tells its plural operands.
+/// A number as a formatter shows it, without its sign: it writes its events, and tells its plural
+/// operands.
 pub trait ShownNumber: Writeable + Sealed {
     /// The plural operands of the number.
     ghost operands: { Self → Operands };
@@ -19,7 +21,8 @@ pub trait ShownNumber: Writeable + Sealed {
     fn plural_operands(&self) -> PluralOperands
         ensures { result ≡ operands self.now };
 
-    /// The value that the number picks by its plural operands. Where there is one alone, they aren't worked out.
+    /// The value that plural rules pick by the number's operands. If there is only one value, no
+    /// operands are computed.
     final fn pick<'a, T>(&self, elements: &'a PluralElements<T>, rules: &PluralRules) -> &'a T
         ensures { result.now ≡ picked rules.now elements.now (operands self.now) }
     {
@@ -30,15 +33,17 @@ pub trait ShownNumber: Writeable + Sealed {
     }
 }
 
-/// What stands around a number, and may hang on its plural operands: with [`AbstractFormatter::write_framed`] units,
-/// currencies and messages stand on every formatter of numbers (this project's own).
+/// What stands around a number, and may depend on its plural operands. By
+/// [`AbstractFormatter::write_framed`] units, currencies and messages work with every formatter of
+/// numbers (this project's own).
 ///
 /// [`AbstractFormatter::write_framed`]: crate::AbstractFormatter::write_framed
 pub trait Frame {
-    /// The events of a number in the frame: a function of its plural operands and of its own events.
+    /// The events of a number in the frame: a function of its plural operands and of its own
+    /// events.
     ghost framed: { Self → Operands → List Event → List Event };
 
-    /// Writes a number in the frame. Its operands are worked out where they are asked for.
+    /// Writes a number in the frame. Its operands are computed only if they are asked for.
     fn write_framed<N: ShownNumber, K: EventWriter>(
         &self,
         number: &N,
@@ -48,7 +53,7 @@ pub trait Frame {
             (framed self.now (N.operands number.now) (N.events number.now)) out.new };
 }
 
-/// The characters of a value, without its parts, as of a number inside of another text.
+/// The characters of a value, without its parts: for a number inside another text.
 #[derive(Drop)]
 pub struct Characters<'a, T> {
     value: &'a T,
@@ -64,7 +69,7 @@ impl<'a, T: Writeable> Characters<'a, T> {
 }
 
 impl<T: Writeable> Writeable for Characters<'_, T> {
-    ghost use Rattle.icu_base.specs.Events.{without_parts};
+    ghost use Rattle.writeable.specs.Events.{without_parts};
 
     ghost events = { λ c. without_parts (T.events c.value.now) };
 
@@ -89,7 +94,7 @@ impl<T: Frame, N: ShownNumber> Writeable for Framed<'_, T, N> {
 }
 
 impl ShownNumber for FormattedUnsignedDecimal<'_> {
-    ghost use Rattle.icu_base.specs.Operands.{operands_of};
+    ghost use Rattle.icu_plurals.specs.Operands.{operands_of};
 
     ghost operands = { λ f. operands_of f.number 0 };
 
@@ -99,7 +104,7 @@ impl ShownNumber for FormattedUnsignedDecimal<'_> {
 }
 
 impl ShownNumber for FormattedUnsignedCompactDecimal<'_> {
-    ghost use Rattle.icu_base.specs.Operands.{operands_of};
+    ghost use Rattle.icu_plurals.specs.Operands.{operands_of};
     ghost use Rattle.icu_decimal.specs.CompactFormat.{significand_of};
 
     ghost operands = { λ f. operands_of (significand_of f) f.exponent };

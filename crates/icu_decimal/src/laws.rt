@@ -1,4 +1,5 @@
-//! What holds of all that a formatter writes: each function does nothing, and its contract is the law.
+//! What holds of all that a formatter writes: each function does nothing, and its contract is the
+//! law.
 
 ghost use Rattle.std.specs.Prelude.{◌≡◌, IsTrue};
 ghost use Rattle.icu_decimal.specs.Formatted.{decimal_shown, unsigned_shown};
@@ -14,14 +15,14 @@ use crate::compact_formatter::CompactDecimalFormatter;
 use crate::formatted_decimal::{FormattedDecimal, FormattedUnsignedDecimal};
 use crate::formatted_sign::FormattedSign;
 use fixed_decimal::UnsignedDecimal;
-use icu_base::Writeable;
 use icu_decimal_data::DecimalSymbols;
 pub use icu_decimal_data::laws::{entries_are_a_compact_table, kept_means_full};
 pub use icu_decimal_options::laws::{grouping_is_unique, separators_taken_out};
 use icu_decimal_options::options::DecimalFormatterOptions;
+use writeable::Writeable;
 
-/// The strategies `Auto` and `Always` write the same, and so does no strategy: plain numbers, and compact ones by `format` and
-/// `format_with_exponent`.
+/// The strategies `Auto` and `Always` write the same, and so does no strategy: plain numbers, and
+/// compact ones by `format` and `format_with_exponent`.
 pub fn auto_and_always_write_alike()
     ensures always { AutoAndAlwaysWriteAlike }
     ensures none { NoneActsAsAuto }
@@ -29,29 +30,30 @@ pub fn auto_and_always_write_alike()
     ensures compact_none { CompactNoneActsAsAuto }
 {}
 
-/// Where a plain formatter is readable, equal texts mean equal decimals: in sign, range and every digit. Texts are
-/// compared as lists of characters, and as `format_to_string` answers them.
+/// If a plain formatter is readable, equal texts mean equal decimals: in sign, range and every
+/// digit. Texts are compared as lists of characters, and as `format_to_string` returns them.
 pub fn text_tells_the_decimal()
     ensures characters { TextTellsTheDecimal }
     ensures texts { EqualTextsTellTheDecimal }
 {}
 
-/// Where a compact formatter is readable, equal texts mean equal signs, significands and exponents, whichever of `format`
-/// and `format_with_exponent` wrote them; the same of two texts that `format_to_string` answers.
+/// If a compact formatter is readable, equal texts mean equal signs, significands and exponents,
+/// whichever of `format` and `format_with_exponent` wrote them. The same holds for the texts that
+/// `format_to_string` returns.
 pub fn compact_text_tells()
     ensures characters { CompactTextTells }
     ensures texts { EqualCompactTextsTell }
 {}
 
-/// The entries of a formatter's table are a compact table, as `given` of [`shown_again`] asks: types rise, exponents don't
-/// fall, none is above its type and none is more than 15 below it.
+/// The entries of a formatter's table are a compact table, as `given` of [`shown_again`] asks:
+/// types rise, exponents don't fall, none is above its type and none is more than 15 below it.
 pub fn table_is_compact(formatter: &CompactDecimalFormatter)
     ensures { IsCompactTable formatter.now.table }
 {
     entries_are_a_compact_table(&formatter.patterns);
 }
 
-/// Values with a sign that are equal write equal events, where equal values inside do.
+/// Equal signed values write equal events, if equal values of the inner type do.
 pub fn equal_signed_values_write_equal_events<T: Writeable + PartialEq>()
     ensures { ((x y : _) → IsTrue (T.eq x y) → T.events x ≡ T.events y) →
         (a b : _) → IsTrue (⟦<FormattedSign<'static, T> as PartialEq>⟧.eq a b) →
@@ -78,30 +80,32 @@ fn equal_parts_are_the_same()
     ensures digits { (a b : _) → IsTrue (⟦<[char; 10] as PartialEq>⟧.eq a b) → a ≡ b }
 {}
 
-/// Each size has one nearest compact number by the entries of a table: it is just the nearest multiple of ten to the
-/// rounding place of the size's own magnitude, the even one of two equally near. And what is displayed of a decimal is one:
-/// the size, the entry and the significand.
+/// By any entries each size has exactly one nearest compact number: the nearest multiple of ten to
+/// the rounding place of the size's own magnitude, the even one of two equally near. And a decimal
+/// determines what is displayed: the size, the entry and the significand.
 pub fn nearest_is_unique()
     ensures nearest { OneCompactNumberIsNearest }
     ensures rounded { NearestIsRounded }
     ensures displayed { DisplayedIsOne }
 {}
 
-/// Of two sizes the smaller never has the larger nearest compact number; a size other than zero is shown as the power of
-/// ten of its magnitude at least; and a compact number is shown as itself.
+/// Of two sizes the smaller never has the larger nearest compact number. A size other than zero is
+/// shown at least as the power of ten of its magnitude. A compact number is shown as itself.
 pub fn smaller_never_shows_larger()
     ensures in_order { NearestKeepsOrder }
     ensures not_lost { MagnitudeIsShown }
     ensures itself { CompactNumberIsItsNearest }
 {}
 
-/// The number that is shown is shown again in the same way, for every table: where a decimal has no leading padding, what
-/// `format` writes of it is what it writes of every decimal without leading padding that has the shown size and the same
-/// sign, the entry, the significand and the characters. And `format_with_exponent` accepts the significand that was shown
-/// with the exponent that was shown, whatever the padding, and writes the same characters.
+/// The number that is shown is shown again in the same way, for every table. Take a decimal without
+/// leading padding, and another of the same sign whose size is the one that is shown for the first:
+/// `format` writes both with the same entry, the same significand and the same characters. And
+/// `format_with_exponent` accepts the shown significand with the shown exponent, whatever the
+/// padding, and writes the same characters.
 ///
-/// Where the formatter is readable, two decimals without leading padding are written in the same characters exactly where
-/// their signs and the numbers that are shown are the same; and so are the texts that `format_to_string` answers.
+/// If the formatter is readable, two decimals without leading padding are written in the same
+/// characters exactly if their signs and their shown numbers are the same. The same holds for the
+/// texts that `format_to_string` returns.
 pub fn shown_again()
     ensures again { (format : CompactFormat) (sign : Sign) (d again : Unsigned) → IsUnpadded d
         → IsUnpadded again → IsShownAgain format sign d again }

@@ -1,4 +1,5 @@
-//! Decimals in the digits, signs, separators and groups of a locale: a port of ICU4X's `icu_decimal`.
+//! Decimals in the digits, signs, separators and groups of a locale: a port of ICU4X's
+//! `icu_decimal`.
 //!
 //! ```
 //! let symbols = DecimalSymbols::new_en_for_testing(rt.alloc()).ok()?;

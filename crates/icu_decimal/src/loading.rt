@@ -1,8 +1,8 @@
-//! Formatters that are made of what a provider answers.
+//! Formatters that are made of a provider's data.
 
 ghost use Rattle.std.specs.Prelude.{IfOk, map, option_map};
-ghost use Rattle.icu_base.specs.Answer.{Answers};
-ghost use Rattle.icu_base.specs.Identifier.{identifier_of};
+ghost use Rattle.icu_provider.specs.Answer.{Answers};
+ghost use Rattle.icu_provider.specs.Identifier.{identifier_of};
 ghost use Rattle.icu_decimal_data.specs.CompactTable.{IsCompactTable};
 ghost use Rattle.icu_decimal_data.specs.Decided.{decided};
 ghost use Rattle.icu_decimal.specs.Loaded.{loaded, loaded_compact};
@@ -10,10 +10,6 @@ ghost use Rattle.icu_decimal_options.specs.Preferences.{asked};
 
 use crate::compact_formatter::CompactDecimalFormatter;
 use crate::decimal_formatter::DecimalFormatter;
-use icu_base::{
-    DataError, DataIdentifierBorrowed, DataMarker, DataProvider, PluralRules,
-    PluralRulesPreferences, PluralsCardinalV1, SinglePlaceholder,
-};
 use icu_decimal_data::{
     CompactPatterns, DecimalCompactLongV1, DecimalCompactShortV1, DecimalDigitsV1,
     DecimalSymbolsV1, load_with_fallback,
@@ -22,9 +18,13 @@ use icu_decimal_options::options::{CompactDecimalFormatterOptions, DecimalFormat
 use icu_decimal_options::preferences::{
     CompactDecimalFormatterPreferences, DecimalFormatterPreferences,
 };
+use icu_pattern::SinglePlaceholder;
+use icu_plurals::{PluralRules, PluralRulesPreferences, PluralsCardinalV1};
+use icu_provider::{DataError, DataIdentifierBorrowed, DataMarker, DataProvider};
 use std::alloc::Global;
 
-/// What the provider answers by the preferred identifier, if there is one and it has data by it, and else by the other.
+/// The provider's data for the preferred identifier, if there is one with data, and else for the
+/// other.
 pub fn load_preferred<M: DataMarker, D: DataProvider<M>>(
     alloc: Global,
     provider: &D,
@@ -42,14 +42,16 @@ pub fn load_preferred<M: DataMarker, D: DataProvider<M>>(
 }
 
 impl DecimalFormatter {
-    /// The formatter of what a provider answers.
+    /// The formatter of a provider's data.
     ///
-    /// The symbols are asked for by the preferred numbering system in the locale, if one is preferred, and else by the
-    /// locale. Then the digits are asked for by the preferred system in the locale, and else by the system that the
-    /// symbols name, in the undetermined locale. So digits of a preferred system stand beside the symbols of the locale
-    /// where it has none of that system, and a system that nobody knows leaves the locale its own.
+    /// The symbols are asked for by the preferred numbering system in the locale, if one is
+    /// preferred, and else by the locale. Then the digits are asked for by the preferred system in
+    /// the locale, and else by the system that the symbols name, in the undetermined locale. So
+    /// where a locale has no symbols for the preferred system, that system's digits stand with the
+    /// locale's own symbols. An unknown numbering system is ignored.
     ///
-    /// The first refusal is answered, with its context; `OutOfMemory` also where memory is wanting.
+    /// The first refusal is reported, with its context; `OutOfMemory` also where an allocation is
+    /// refused.
     pub fn try_new_unstable<D: DataProvider<DecimalSymbolsV1> + DataProvider<DecimalDigitsV1>>(
         alloc: Global,
         provider: &D,
@@ -80,11 +82,12 @@ impl DecimalFormatter {
 }
 
 impl CompactDecimalFormatter {
-    /// The formatter of what a provider answers, with the short patterns, as `15K`.
+    /// The formatter of a provider's data, with the short patterns, as `15K`.
     ///
-    /// First the plain formatter is made, as `DecimalFormatter::try_new_unstable` makes it. Then plural rules are asked
-    /// for by the locale, and then patterns by the preferred numbering system in the locale, if one is preferred, and
-    /// else by the locale. The first refusal is answered, with its context; `OutOfMemory` also where memory is wanting.
+    /// First the plain formatter is made, as `DecimalFormatter::try_new_unstable` makes it. Then
+    /// plural rules are asked for by the locale, and then patterns by the preferred numbering
+    /// system in the locale, if one is preferred, and else by the locale. The first refusal is
+    /// reported, with its context; `OutOfMemory` also where an allocation is refused.
     pub fn try_new_short_unstable<
         D: DataProvider<DecimalCompactShortV1>
             + DataProvider<DecimalSymbolsV1>

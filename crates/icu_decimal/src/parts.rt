@@ -1,6 +1,6 @@
-//! The parts of a formatted decimal, as a sink is told of them (ICU4X `parts`).
+//! The parts of a formatted decimal (ICU4X `parts`).
 
-use icu_base::Part;
+use writeable::Part;
 
 /// The part around each affix of a plus.
 pub const PLUS_SIGN: Part = Part {

@@ -1,5 +1,5 @@
-//! Private parts: numbers without a sign, and the text of an exponent's refusal. The public calls are tested in
-//! `icu_decimal_tests`.
+//! Private parts: numbers without a sign, and the text of an exponent's refusal. The public calls
+//! are tested in `icu_decimal_tests`.
 
 use crate::cow::Cow;
 use crate::decimal_formatter::DecimalFormatter;

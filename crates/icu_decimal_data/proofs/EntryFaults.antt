@@ -29,10 +29,10 @@ falls_after_nothing [] = refl
 falls_after_nothing (e ∷ es) = let here : nat_lt e.exponent 0 ≡ false = le-ltb _ _ (omega arith) in rw here refl
 
 -- no exponent falls, and no kept entry has a fault
-pub no_entry_fault : (plain : Option PatternElements) (es : List TableEntry) → fault_of plain es ≡ None →
-    (has_falling_exponents es ≡ false) × (first_entry_fault (kept plain es) ≡ None)
-no_entry_fault plain es h =
+pub no_entry_fault : (zero_magnitude : Option PatternElements) (es : List TableEntry) → fault_of zero_magnitude es ≡ None →
+    (has_falling_exponents es ≡ false) × (first_entry_fault (kept zero_magnitude es) ≡ None)
+no_entry_fault zero_magnitude es h =
     ⊎_elim
     (λ (falls : has_falling_exponents es ≡ true). absurd (let k = rw falls at h in cc))
-    (λ (rise : has_falling_exponents es ≡ false). (rise, (none_or (first_entry_fault (kept plain es)) _ (rw rise at h)).0))
+    (λ (rise : has_falling_exponents es ≡ false). (rise, (none_or (first_entry_fault (kept zero_magnitude es)) _ (rw rise at h)).0))
     (cases_Bool (has_falling_exponents es))

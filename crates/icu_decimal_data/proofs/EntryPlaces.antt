@@ -8,6 +8,7 @@ use Rattle.std.specs.Option.{option_or}
 use Rattle.fixed_decimal.specs.Size.{finest, place}
 use Rattle.icu_decimal_data.specs.CompactTable.{IsCompactTable, TableEntry, type_place, entry_for, next_entry, reached, index_after}
 
+-- there is a place below that of the power 0
 pub finest_pos : 0 < finest
 unfolding finest
 finest_pos = omega arith

@@ -1,20 +1,26 @@
 -- A table means what a faithful map means.
-use Rattle.std.proofs.Common.{◌≡◌, ℕ, zero, suc, ◌+◌, ◌*◌, ◌^◌, ◌<◌, ◌≤◌, ◌⊎◌, ⊎_elim, inl, inr, Bool, true, false, refl}
+-- The lemma `means` is an induction over the entries of the map that are left, with two entries in hand: `before`, the last one of the map, and `last`,
+-- the last one that was kept, which `Stands` for it. The next entry is above the magnitude, so that no later one counts (`last_alone`); or it
+-- is reached and repeats `before`, so that `last` stays; or it is reached and kept. `whole` goes through the skipped types before these.
+-- A repeating entry's elements may differ from the kept ones by the pattern for exactly one. A significand that is exactly one stands at the
+-- exponent's magnitude (`one_here`), which isn't above the kept type and so is below the repeating one: there it picks nothing (`alike_below`).
+-- That a fault is absent is taken apart in EntryFaults; what is exactly n, and that magnitudes are unique, are laws of the crates below.
+use Rattle.std.proofs.Common.{◌≡◌, ℕ, suc, ◌+◌, ◌*◌, ◌^◌, ◌<◌, ◌≤◌, ◌⊎◌, ⊎_elim, inl, inr, Bool, true, false, refl}
 use Rattle.std.proofs.Common.{arith, sym, ap, subst, ◌∙◌, List, [], ◌∷◌, Option, Some, None, nat_le, leb-true, leb-false, le-leb, All, AllPairs}
 use Rattle.std.proofs.Common.{slice_get, cond, pos}
 use Rattle.std.proofs.lemmas.List.Elements.{All-head, All-tail}
 use Rattle.std.specs.Option.{IfSome, option_or, unwrap_or}
 use Rattle.std.proofs.lemmas.Bool.{cases_Bool, lt-leb}
-use Rattle.std.proofs.lemmas.Grind.{pow_more}
 use Rattle.fixed_decimal.specs.Laws.{MagnitudeIsUnique}
-use Rattle.fixed_decimal.specs.Size.{finest, size, magnitude, ten_to}
+use Rattle.fixed_decimal.specs.Size.{finest, size, magnitude_place, ten_to}
 use Rattle.fixed_decimal.specs.Unsigned.{Unsigned, IsUnsigned}
-use Rattle.icu_base.specs.Elements.{without_explicit_one, selected, is_exactly, explicit_value, category_value}
-use Rattle.icu_base.specs.Laws.{ExactlyIsTheNumber}
-use Rattle.icu_base.specs.Operands.{Operands, operands_of}
-use Rattle.icu_base.specs.Patterns.{PatternText, place_alone}
-use Rattle.icu_base.specs.declared.plurals.category.PluralCategory.{PluralCategory}
-use Rattle.icu_base.specs.declared.plurals.category.PluralCategory.TheVariants.{Zero, One, Two, Few, Many, Other}
+use Rattle.fixed_decimal.proofs.Weights.{ten_more, ten_pos}
+use Rattle.icu_plurals.specs.Elements.{without_explicit_one, selected, is_exactly, explicit_value, category_value}
+use Rattle.icu_plurals.specs.Laws.{ExactlyIsTheNumber}
+use Rattle.icu_plurals.specs.Operands.{Operands, operands_of}
+use Rattle.icu_pattern.specs.Patterns.{PatternText, placeholder_alone}
+use Rattle.icu_plurals.specs.declared.category.PluralCategory.{PluralCategory}
+use Rattle.icu_plurals.specs.declared.category.PluralCategory.TheVariants.{Zero, One, Two, Few, Many, Other}
 use Rattle.icu_decimal_data.specs.CompactTable.{PatternElements, TableEntry, type_place, entry_for, exponent_of}
 use Rattle.icu_decimal_data.specs.Kept.{is_zero_magnitude, kept, skipped, unskipped, repeats, changes}
 use Rattle.icu_decimal_data.specs.CompactFaults.{entry_fault, first_entry_fault}
@@ -25,7 +31,7 @@ use Rattle.icu_decimal_data.proofs.SameEntries.{the_same}
 -- The first entry serves a number at this magnitude as the second does.
 record Alike (m : ℕ) (a b : Option TableEntry) : Type 0 where
   exponent : exponent_of a ≡ exponent_of b
-  picks : (s : Unsigned) (category : PluralCategory) → IsUnsigned s → magnitude (size s) + exponent_of a ≡ m
+  picks : (s : Unsigned) (category : PluralCategory) → IsUnsigned s → magnitude_place (size s) + exponent_of a ≡ m
       → pattern_for (operands_of s 0) category a ≡ pattern_for (operands_of s 0) category b
 
 alike_itself : (m : ℕ) (a : Option TableEntry) → Alike m a a
@@ -57,7 +63,7 @@ without_one o category e h = by_value (same_explicit (is_exactly 0 o)) (same_cat
 
 -- a number that is exactly one stands at the place of power 0
 one_here : ExactlyIsTheNumber → MagnitudeIsUnique → (s : Unsigned) → IsUnsigned s → is_exactly 1 (operands_of s 0) ≡ true →
-    magnitude (size s) ≡ finest
+    magnitude_place (size s) ≡ finest
 one_here exact unique s is h =
     let whole : size s ≡ 1 * ten_to (pos 0) = exact s 1 is h in
     let here : size s ≡ 10 ^ finest = whole ∙ at_power finest in
@@ -72,12 +78,8 @@ one_here exact unique s is h =
         one_times : (n : ℕ) → 1 * n ≡ n
         one_times n = omega arith
 
-    some : (p : ℕ) → 0 < 10 ^ p
-    some zero = omega arith
-    some (suc p) = omega (arith, some p)
-
     below : (p : ℕ) → 10 ^ p < 10 ^ (p + 1)
-    below p = omega (arith, pow_more 10 p, some p)
+    below p = omega (arith, ten_more p, ten_pos p)
 
 -- The last kept entry stands for the one just before: it is that one, or its type is below, its exponent is
 -- the same and so are its elements but for the explicit one.
@@ -229,15 +231,15 @@ module _ (exact : ExactlyIsTheNumber) (unique : MagnitudeIsUnique) where
   -- ---- skipped types
 
   abbrev IsAlone : Option PatternText → Type 0
-  IsAlone s = IfSome s (λ p. p ≡ place_alone)
+  IsAlone s = IfSome s (λ p. p ≡ placeholder_alone)
 
-  unwrap_alone : (s : Option PatternText) (p : PatternText) → IsAlone s → p ≡ place_alone → unwrap_or s p ≡ place_alone
+  unwrap_alone : (s : Option PatternText) (p : PatternText) → IsAlone s → p ≡ placeholder_alone → unwrap_or s p ≡ placeholder_alone
   unwrap_alone None p h e = e
   unwrap_alone (Some q) p h e = h
 
-  alone : (o : Operands) (category : PluralCategory) (e : TableEntry) → IsPassThrough e → pattern_for o category (Some e) ≡ place_alone
+  alone : (o : Operands) (category : PluralCategory) (e : TableEntry) → IsPassThrough e → pattern_for o category (Some e) ≡ placeholder_alone
   alone o category e h =
-      let other : e.elements.other ≡ place_alone = h.alone 7 None (omega arith) in
+      let other : e.elements.other ≡ placeholder_alone = h.alone 7 None (omega arith) in
       unwrap_alone (explicit_value e.elements o) _ (explicit (is_exactly 0 o) (is_exactly 1 o))
       (unwrap_alone (category_value e.elements category) _ (own category) other)
     where
@@ -263,25 +265,26 @@ module _ (exact : ExactlyIsTheNumber) (unique : MagnitudeIsUnique) where
     picks = λ number category is at. s.picks number category is at ∙ sym (alone (operands_of number 0) category e h);
   }
 
-  whole : (plain : Option PatternElements) (es : List TableEntry) (m : ℕ) → AllPairs (λ (a b : TableEntry). a.log10_type < b.log10_type) es →
-      Small (kept plain es)
-      → RepeatsKeepExponent (unskipped plain es) → All IsPassThrough (skipped plain es) → Alike m (entry_for (kept plain es) m) (entry_for es m)
+  whole : (zero_magnitude : Option PatternElements) (es : List TableEntry) (m : ℕ) → AllPairs (λ (a b : TableEntry). a.log10_type < b.log10_type) es →
+      Small (kept zero_magnitude es)
+      → RepeatsKeepExponent (unskipped zero_magnitude es) → All IsPassThrough (skipped zero_magnitude es)
+      → Alike m (entry_for (kept zero_magnitude es) m) (entry_for es m)
   unfolding entry_for
-  whole plain [] m up c2 keep none = alike_itself m None
-  whole plain (e ∷ es) m up c2 keep none =
+  whole zero_magnitude [] m up c2 keep none = alike_itself m None
+  whole zero_magnitude (e ∷ es) m up c2 keep none =
       ⊎_elim
-      (λ (z : is_zero_magnitude plain e.elements ≡ true).
-      let c2' : Small (kept plain es) = rw z at c2 in
-      let keep' : RepeatsKeepExponent (unskipped plain es) = rw z at keep in
-      let none' : All IsPassThrough (e ∷ skipped plain es) = rw z at none in
-      let rest = whole plain es m (λ i j d l g. up (suc i) (suc j) d (omega arith) (omega arith)) c2' keep'
-      (All-tail IsPassThrough e (skipped plain es) none') in
-      rw z (over_skipped m _ (entry_for es m) e (nat_le (type_place e) m) (All-head IsPassThrough e (skipped plain es) none') rest))
-      (λ (z : is_zero_magnitude plain e.elements ≡ false).
+      (λ (z : is_zero_magnitude zero_magnitude e.elements ≡ true).
+      let c2' : Small (kept zero_magnitude es) = rw z at c2 in
+      let keep' : RepeatsKeepExponent (unskipped zero_magnitude es) = rw z at keep in
+      let none' : All IsPassThrough (e ∷ skipped zero_magnitude es) = rw z at none in
+      let rest = whole zero_magnitude es m (λ i j d l g. up (suc i) (suc j) d (omega arith) (omega arith)) c2' keep'
+      (All-tail IsPassThrough e (skipped zero_magnitude es) none') in
+      rw z (over_skipped m _ (entry_for es m) e (nat_le (type_place e) m) (All-head IsPassThrough e (skipped zero_magnitude es) none') rest))
+      (λ (z : is_zero_magnitude zero_magnitude e.elements ≡ false).
       let c2' : (e.exponent ≤ e.log10_type) × Small (changes e es) = rw z at c2 in
       let keep' : RepeatsKeepExponent (e ∷ es) = rw z at keep in
       rw z (first e es m (rises e es up) c2'.0 c2'.1 (keeps e es keep')))
-      (cases_Bool (is_zero_magnitude plain e.elements))
+      (cases_Bool (is_zero_magnitude zero_magnitude e.elements))
     where
       first : (e : TableEntry) (es : List TableEntry) (m : ℕ) → Rises e.log10_type es → e.exponent ≤ e.log10_type → Small (changes e es) →
           Keep e es → Alike m (entry_for (e ∷ changes e es) m) (entry_for (e ∷ es) m)
@@ -296,7 +299,7 @@ module _ (exact : ExactlyIsTheNumber) (unique : MagnitudeIsUnique) where
 
   -- what is kept means what the whole map means
   pub kept_means_full : KeptMeansFull
-  kept_means_full plain es up none faithful m =
-      let c2 = small (kept plain es) (no_entry_fault plain es none).1 in
-      let alike = whole plain es m up c2 faithful.dropped_repeat faithful.skipped_alone in
+  kept_means_full zero_magnitude es up none faithful m =
+      let c2 = small (kept zero_magnitude es) (no_entry_fault zero_magnitude es none).1 in
+      let alike = whole zero_magnitude es m up c2 faithful.dropped_repeat faithful.skipped_alone in
       (alike.exponent, alike.picks)

@@ -58,13 +58,14 @@ pairs_changes R before (e ∷ es) h =
     (cases_Bool (repeats before e))
 
 -- what holds of all pairs of a map holds of those that are kept
-pub pairs_kept : (R : TableEntry → TableEntry → Type 0) (plain : Option PatternElements) (es : List TableEntry) → Pairs R es → Pairs R (kept plain es)
-pairs_kept R plain [] h = tt
-pairs_kept R plain (e ∷ es) h =
+pub pairs_kept : (R : TableEntry → TableEntry → Type 0) (zero_magnitude : Option PatternElements) (es : List TableEntry) → Pairs R es
+    → Pairs R (kept zero_magnitude es)
+pairs_kept R zero_magnitude [] h = tt
+pairs_kept R zero_magnitude (e ∷ es) h =
     ⊎_elim
-    (λ (z : is_zero_magnitude plain e.elements ≡ true). rw z (pairs_kept R plain es h.1))
-    (λ (z : is_zero_magnitude plain e.elements ≡ false). rw z (each_changes (R e) e es h.0, pairs_changes R e es h.1))
-    (cases_Bool (is_zero_magnitude plain e.elements))
+    (λ (z : is_zero_magnitude zero_magnitude e.elements ≡ true). rw z (pairs_kept R zero_magnitude es h.1))
+    (λ (z : is_zero_magnitude zero_magnitude e.elements ≡ false). rw z (each_changes (R e) e es h.0, pairs_changes R e es h.1))
+    (cases_Bool (is_zero_magnitude zero_magnitude e.elements))
 
 types_above : (k : ℕ) (es : List (ℕ × (ℕ × PatternElements))) → AllByRecursion (λ y. nat_cmp k y ≡ Less) (keys_of es) →
     Each (λ e. k < e.log10_type) (given es)
@@ -81,19 +82,19 @@ types_rise [] h = tt
 types_rise (e ∷ es) h = (types_above e.0 es (sorted_head nat_cmp e.0 (keys_of es) h), types_rise es (sorted_tail nat_cmp e.0 (keys_of es) h))
 
 -- without a fall exponents rise from a lower bound on
-exponents_rise : (low : ℕ) (es : List TableEntry) → falls_after low es ≡ false →
+exponents_never_fall : (low : ℕ) (es : List TableEntry) → falls_after low es ≡ false →
     Each (λ e. low ≤ e.exponent) es × Pairs (λ e f. e.exponent ≤ f.exponent) es
-exponents_rise low [] h = (tt, tt)
-exponents_rise low (e ∷ es) h =
+exponents_never_fall low [] h = (tt, tt)
+exponents_never_fall low (e ∷ es) h =
     let parts = or_parts (nat_lt e.exponent low) (falls_after e.exponent es) h in
-    let rest = exponents_rise e.exponent es parts.1 in
+    let rest = exponents_never_fall e.exponent es parts.1 in
     let on : low ≤ e.exponent = ltb-false e.exponent low parts.0 in
     ((on, each_weaker (λ f. e.exponent ≤ f.exponent) (λ f. low ≤ f.exponent) (λ f g. omega arith) es rest.0), rest)
 
 -- without a fall exponents rise
 pub without_a_fall : (es : List TableEntry) → has_falling_exponents es ≡ false → Pairs (λ e f. e.exponent ≤ f.exponent) es
 without_a_fall [] h = tt
-without_a_fall (e ∷ es) h = exponents_rise e.exponent es h
+without_a_fall (e ∷ es) h = exponents_never_fall e.exponent es h
 
 -- without a fault at an entry each exponent is near its type
 pub sound : (es : List TableEntry) → first_entry_fault es ≡ None → Each (λ e. (e.exponent ≤ e.log10_type) × (e.log10_type ≤ e.exponent + 15)) es
@@ -102,14 +103,15 @@ sound (e ∷ es) h =
     let both = none_or (entry_fault e) (first_entry_fault es) h in
     (sound_entry e both.0, sound es both.1)
 
-pub kept_is_table : (plain : Option PatternElements) (es : List (ℕ × (ℕ × PatternElements))) → IsStrictlySortedBy nat_cmp (keys_of es) →
-    fault_of plain (given es) ≡ None → IsCompactTable (kept plain (given es))
-kept_is_table plain es sorted none =
-    let faults = no_entry_fault plain (given es) none in
-    let small = sound (kept plain (given es)) faults.1 in
+-- what is kept of a sorted map without a fault is a compact table
+pub kept_is_table : (zero_magnitude : Option PatternElements) (es : List (ℕ × (ℕ × PatternElements))) → IsStrictlySortedBy nat_cmp (keys_of es) →
+    fault_of zero_magnitude (given es) ≡ None → IsCompactTable (kept zero_magnitude (given es))
+kept_is_table zero_magnitude es sorted none =
+    let faults = no_entry_fault zero_magnitude (given es) none in
+    let small = sound (kept zero_magnitude (given es)) faults.1 in
     record {
-      types_rise = all_pairs _ _ (pairs_kept (λ e f. e.log10_type < f.log10_type) plain (given es) (types_rise es sorted));
-      exponents_rise = all_pairs _ _ (pairs_kept (λ e f. e.exponent ≤ f.exponent) plain (given es) (without_a_fall (given es) faults.0));
-      exponents_small = all_each _ _ (each_weaker _ (λ e. e.exponent ≤ e.log10_type) (λ e h. h.0) (kept plain (given es)) small);
-      shifts_small = all_each _ _ (each_weaker _ (λ e. e.log10_type ≤ e.exponent + 15) (λ e h. h.1) (kept plain (given es)) small);
+      types_rise = all_pairs _ _ (pairs_kept (λ e f. e.log10_type < f.log10_type) zero_magnitude (given es) (types_rise es sorted));
+      exponents_never_fall = all_pairs _ _ (pairs_kept (λ e f. e.exponent ≤ f.exponent) zero_magnitude (given es) (without_a_fall (given es) faults.0));
+      exponents_small = all_each _ _ (each_weaker _ (λ e. e.exponent ≤ e.log10_type) (λ e h. h.0) (kept zero_magnitude (given es)) small);
+      shifts_small = all_each _ _ (each_weaker _ (λ e. e.log10_type ≤ e.exponent + 15) (λ e h. h.1) (kept zero_magnitude (given es)) small);
     }

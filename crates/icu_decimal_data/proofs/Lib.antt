@@ -6,8 +6,8 @@ pub mod EntryPlaces
 pub mod KeptMeaning
 pub mod Worked
 pub mod TableBasics
-pub mod SlotLaws
-pub mod SlotsLaws
+pub mod OneSlotLaws
+pub mod SlotListLaws
 pub mod RecordLaws
 pub mod RecordRepeats
 pub mod TableLoops

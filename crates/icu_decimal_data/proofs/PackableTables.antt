@@ -1,7 +1,7 @@
 -- Every table that can be packed is made of a map: of its own entries.
 use Rattle.std.proofs.Common.{◌≡◌, ◌+◌, ◌≤◌, Bool, false, refl, arith, ap, ◌∙◌, List, [], ◌∷◌, Option, Some, None, nat_lt}
 use Rattle.std.proofs.lemmas.Bool.{le-ltb}
-use Rattle.icu_base.specs.Patterns.{PatternText}
+use Rattle.icu_pattern.specs.Patterns.{PatternText}
 use Rattle.icu_decimal_data.specs.CompactTable.{TableEntry}
 use Rattle.icu_decimal_data.specs.Kept.{kept, changes, repeats}
 use Rattle.icu_decimal_data.specs.CompactFaults.{falls_after, has_falling_exponents, first_entry_fault, literals_size}

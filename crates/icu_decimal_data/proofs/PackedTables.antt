@@ -1,4 +1,8 @@
 -- Tables: what is read is written so, and what is written is read.
+-- The inductions are in RecordLaws; here the head of four bytes is put before the records. Read: `table_read` takes `table_step` apart, test
+-- by test, with `unless_ok` and `bind_ok` of TableBasics, and `table_taken` puts head, records and pool together as the bytes. Written:
+-- `table_again` puts the table's pool, count and records into `table_step` one after another, each by an equation of its own (`pool_is`,
+-- `count_is`, `rest_is`), and `table_steps` puts in the answers of the tests. The last part is what `CompactView::parse` cites.
 use Rattle.std.proofs.Common.{◌≡◌, ℕ, zero, suc, ◌+◌, ◌-◌, ◌*◌, ◌/◌, ◌%◌, ◌<◌, ◌≤◌, ◌^◌, Bool, true, false, not, min}
 use Rattle.std.proofs.Common.{IsTrue, IsOk, List, [], ◌∷◌, ◌++◌, length, take, drop, slice_index, Option, Some, None, Result, Ok, Err, eqb, ltb, refl}
 use Rattle.std.proofs.Common.{sym, ap, ◌∙◌, arith, subst}
@@ -6,13 +10,13 @@ use Rattle.std.proofs.lemmas.Bool.{eqb-true, ltb-false, le-ltb, eq-eqb}
 use Rattle.std.proofs.lemmas.List.{length-append, length-drop, drop_at, drop-drop, take_all, take-append-drop, append-nil}
 use Rattle.std.specs.Prelude.{IfSome, IsSome}
 use Rattle.std.specs.Str.{IsCharBoundary}
-use Rattle.icu_base.specs.Patterns.{PatternText, PlaceFits, place_alone}
+use Rattle.icu_pattern.specs.Patterns.{PatternText, PlaceholderFits, placeholder_alone}
 use Rattle.icu_decimal_data.specs.PackedTable.{IsBackend}
 use Rattle.icu_decimal_data.specs.CompactTable.{TableEntry}
 use Rattle.icu_decimal_data.specs.PackedTable.{literals, IsPackable}
 use Rattle.icu_decimal_data.specs.TableBytes.{number_bytes, records_bytes, table_bytes}
-use Rattle.icu_decimal_data.specs.TableReading.{number, entries_in, count_in, pool_start, pool_in, table_in, unless, ◌>>=◌, records_step, whole_len}
-use Rattle.icu_decimal_data.specs.TableReading.{table_step}
+use Rattle.icu_decimal_data.specs.TableReading.{two_byte_number, entries_in, count_in, pool_start, pool_in, table_in, unless, ◌>>=◌, records_step}
+use Rattle.icu_decimal_data.specs.TableReading.{whole_len, table_step}
 use Rattle.icu_decimal_data.proofs.TableBasics.{IsBytes, IsBytes-drop, bind_ok, unless_ok, not_false, low_is, high_is, joined_is}
 use Rattle.icu_decimal_data.proofs.RecordLaws.{TakenRecords, records_taken, records_again, length-records}
 
@@ -23,7 +27,7 @@ length-entries pool (suc n) bytes = omega (arith, length-entries pool n (drop 58
 
 -- ---- what is read is written so
 
-front_four : (bytes : List ℕ) (n l : ℕ) → 4 ≤ length bytes → IsBytes bytes → n ≡ number bytes 0 → l ≡ number bytes 2 →
+front_four : (bytes : List ℕ) (n l : ℕ) → 4 ≤ length bytes → IsBytes bytes → n ≡ two_byte_number bytes 0 → l ≡ two_byte_number bytes 2 →
     number_bytes n ++ (number_bytes l ++ drop 4 bytes) ≡ bytes
 front_four [] n l h fits en el = absurd (omega arith)
 front_four (a ∷ []) n l h fits en el = absurd (omega arith)
@@ -44,7 +48,7 @@ pub record TakenTable (accepts : PatternText → Bool) (bytes : List ℕ) : Type
   pub long : 4 ≤ length bytes
   pub few : count_in bytes ≤ 256
   pub whole : length bytes ≡ whole_len bytes
-  pub records : TakenRecords accepts (pool_in bytes) (pool_start bytes) None (count_in bytes) 0 (drop 4 bytes) (number bytes 2)
+  pub records : TakenRecords accepts (pool_in bytes) (pool_start bytes) None (count_in bytes) 0 (drop 4 bytes) (two_byte_number bytes 2)
 
 -- bytes that are passed have their lengths, and records of their pool
 pub table_read : (accepts : PatternText → Bool) (bytes : List ℕ) (last : ℕ) → IsBytes bytes → table_step accepts bytes ≡ Ok last →
@@ -52,7 +56,7 @@ pub table_read : (accepts : PatternText → Bool) (bytes : List ℕ) (last : ℕ
 unfolding table_step
 table_read accepts bytes last fits e =
     let n = count_in bytes in
-    let len = number bytes 2 in
+    let len = two_byte_number bytes 2 in
     let pool = pool_in bytes in
     let a = unless_ok (ltb (length bytes) 4) (length bytes) _ last e in
     let b = unless_ok (ltb 256 n) 0 _ last a.1 in
@@ -76,13 +80,14 @@ table_read accepts bytes last fits e =
           subst (λ (s : ℕ). TakenRecords accepts pool (pool_start bytes) None n 0 (drop 4 bytes) s) all t;
     }
 
+-- the table in bytes that are passed can be packed, and is written in these bytes
 pub table_taken : (accepts : PatternText → Bool) (bytes : List ℕ) (last : ℕ) → IsBytes bytes → table_step accepts bytes ≡ Ok last →
     IsPackable accepts (table_in bytes) × (table_bytes (table_in bytes) ≡ bytes)
 unfolding table_in table_bytes
 table_taken accepts bytes last fits e =
     let r = table_read accepts bytes last fits e in
     let n = count_in bytes in
-    let len = number bytes 2 in
+    let len = two_byte_number bytes 2 in
     let pool = pool_in bytes in
     let whole = r.whole in
     let few = r.few in
@@ -106,11 +111,11 @@ table_taken accepts bytes last fits e =
 
 table_steps : (accepts : PatternText → Bool) (bytes : List ℕ) (sum : ℕ) → ltb (length bytes) 4 ≡ false → ltb 256 (count_in bytes) ≡ false →
     eqb (length bytes) (whole_len bytes) ≡ true
-    → records_step accepts (pool_in bytes) (pool_start bytes) (count_in bytes) None 4 0 (drop 4 bytes) ≡ Ok sum → eqb sum (number bytes 2) ≡ true →
-    table_step accepts bytes ≡ Ok sum
+    → records_step accepts (pool_in bytes) (pool_start bytes) (count_in bytes) None 4 0 (drop 4 bytes) ≡ Ok sum →
+    eqb sum (two_byte_number bytes 2) ≡ true → table_step accepts bytes ≡ Ok sum
 unfolding table_step
 table_steps accepts bytes sum a b c d e =
-    let len = number bytes 2 in
+    let len = two_byte_number bytes 2 in
     let later : Result ℕ ℕ → Result ℕ ℕ = λ (r : Result ℕ ℕ). r >>= λ s. unless (not (eqb s len)) (pool_start bytes + s) (Ok s) in
     let rest = later (records_step accepts (pool_in bytes) (pool_start bytes) (count_in bytes) None 4 0 (drop 4 bytes)) in
     ap (λ (x : Bool). unless x (length bytes) (unless (ltb 256 (count_in bytes)) 0
@@ -122,14 +127,14 @@ table_steps accepts bytes sum a b c d e =
 
 module _ (accepts : PatternText → Bool) (backend : IsBackend accepts) (t : List TableEntry) (h : IsPackable accepts t) where
   bytes_are : (n l : ℕ) (rest : List ℕ) → (count_in (number_bytes n ++ (number_bytes l ++ rest)) ≡ n)
-      × (number (number_bytes n ++ (number_bytes l ++ rest)) 2 ≡ l)
+      × (two_byte_number (number_bytes n ++ (number_bytes l ++ rest)) 2 ≡ l)
   bytes_are n l rest = (joined_is n, joined_is l)
 
   count_is : count_in (table_bytes t) ≡ length t
   unfolding table_bytes
   count_is = joined_is (length t)
 
-  len_is : number (table_bytes t) 2 ≡ length (literals t)
+  len_is : two_byte_number (table_bytes t) 2 ≡ length (literals t)
   unfolding table_bytes
   len_is = joined_is (length (literals t))
 
@@ -182,9 +187,9 @@ module _ (accepts : PatternText → Bool) (backend : IsBackend accepts) (t : Lis
 -- ---- what a view needs
 
 -- the laws of a backend say what packing needs
-pub backend_is : (accepts : PatternText → Bool) → ((p : PatternText) → IsTrue (accepts p) → PlaceFits p) →
-    ((p : PatternText) → IsTrue (accepts p) → IsSome p.place → IsTrue (accepts place_alone)) → IsBackend accepts
-backend_is accepts fits opens = record { inside = λ p h. go p.place p.literal (fits p h); opened = opens }
+pub backend_is : (accepts : PatternText → Bool) → ((p : PatternText) → IsTrue (accepts p) → PlaceholderFits p) →
+    ((p : PatternText) → IsTrue (accepts p) → IsSome p.placeholder → IsTrue (accepts placeholder_alone)) → IsBackend accepts
+backend_is accepts fits opens = record { inside = λ p h. go p.placeholder p.literal (fits p h); opened = opens }
   where
     go : (o : Option ℕ) (literal : List ℕ) → IfSome o (λ k. IsCharBoundary literal k) → IfSome o (λ k. k ≤ length literal)
     go None literal h = tt
@@ -208,9 +213,11 @@ pub is_only : (accepts : PatternText → Bool) (bytes : List ℕ) (t : List Tabl
     bytes ≡ table_bytes t → table_in bytes ≡ t
 is_only accepts bytes t backend h e = ap table_in e ∙ (table_again accepts backend t h).1
 
+-- bytes that are written of a table that can be packed have no damage
 pub is_no_fault : (accepts : PatternText → Bool) (bytes : List ℕ) (t : List TableEntry) (byte : ℕ) → IsBackend accepts → IsPackable accepts t →
     bytes ≡ table_bytes t → table_step accepts bytes ≡ Err byte → ⊥
 is_no_fault accepts bytes t byte backend h e f = let g : table_step accepts bytes ≡ Ok (0 + length (literals t)) =
     ap (table_step accepts) e ∙ (table_again accepts backend t h).0 in let x : Ok (0 + length (literals t)) ≡ Err byte = sym g ∙ f in cc
 
+-- what `CompactView::parse` needs
 pub ruleset tables = (backend_is, is_found, is_only, is_no_fault)

@@ -1,4 +1,8 @@
 -- The records: what is read is written so, and what is written is read.
+-- Two inductions over the records, `records_taken` (read) and `records_again` (written), stand on `record_taken` and `record_again` for one
+-- record, which put type and exponent before the slots of SlotListLaws. The check compares a record with the bytes before it, and a table an entry
+-- with the entry before it; both inductions carry `IsBefore`, that bytes and entry agree, and `follows_passes` and `passes_follows` go
+-- between the two. The pool stays whole, as slots name places in it: `sum` is where the literals of the records that are left begin.
 use Rattle.std.proofs.Common.{◌≡◌, ℕ, zero, suc, ◌+◌, ◌-◌, ◌*◌, ◌<◌, ◌≤◌, ◌^◌, Bool, true, false, ◌&&◌, ◌||◌, List}
 use Rattle.std.proofs.Common.{[], ◌∷◌, ◌++◌, length, take, drop, slice_index, slice_range, Option, Some, None, Result, Ok, ltb, refl, sym, ap}
 use Rattle.std.proofs.Common.{◌∙◌, arith, subst}
@@ -6,9 +10,9 @@ use Rattle.std.specs.Prelude.{⊤}
 use Rattle.std.proofs.lemmas.Bool.{ltb-false, le-ltb, leb-false, lt-leb, or_parts}
 use Rattle.std.proofs.lemmas.List.{length-append, append_assoc, length-take, length-drop, take_at, drop_at, drop-drop, take_all}
 use Rattle.std.proofs.Math.Seq.{take-add}
-use Rattle.icu_base.specs.Patterns.{PatternText, same_pattern}
+use Rattle.icu_pattern.specs.Patterns.{PatternText, same_pattern}
 use Rattle.icu_decimal_data.specs.PackedTable.{IsBackend}
-use Rattle.icu_base.specs.Elements.{slots}
+use Rattle.icu_plurals.specs.Elements.{slots}
 use Rattle.icu_decimal_data.specs.CompactTable.{TableEntry}
 use Rattle.icu_decimal_data.specs.PackedTable.{Follows, IsEntry, AreEntries, ArePatterns, slot_literals, literals}
 use Rattle.icu_decimal_data.specs.TableReading.{same_slots, slots_without_explicit_one}
@@ -17,7 +21,7 @@ use Rattle.icu_decimal_data.specs.TableBytes.{slots_bytes, record_bytes, records
 use Rattle.icu_decimal_data.specs.TableReading.{slots_in, entry_in, entries_in, unless, ◌>>=◌, slots_step, is_wrong_type, is_falling, is_wrong_exponent}
 use Rattle.icu_decimal_data.specs.TableReading.{is_repeated, record_step, records_step}
 use Rattle.icu_decimal_data.proofs.TableBasics.{IsBytes, IsBytes-drop, IsBytes-take, bind_ok, unless_ok, ok_is, range_split}
-use Rattle.icu_decimal_data.proofs.SlotsLaws.{TakenSlots, slots_taken, slots_again, length-slots, slots_are, elements_are}
+use Rattle.icu_decimal_data.proofs.SlotListLaws.{TakenSlots, slots_taken, slots_again, length-slots, slots_are, elements_are}
 
 -- a record's bytes stand for an entry
 pub record IsRecord (pool bytes : List ℕ) (e : TableEntry) : Type 0 where
@@ -32,6 +36,7 @@ IsBefore pool None (Some e) = ⊥
 IsBefore pool (Some bytes) None = ⊥
 IsBefore pool (Some bytes) (Some e) = IsRecord pool bytes e
 
+-- a record passes the tests that compare it with the one before, if there is one
 pub record Passes (pool : List ℕ) (before : Option (List ℕ)) (bytes : List ℕ) : Type 0 where
   pub rises : is_wrong_type before bytes ≡ false
   pub holds : is_falling before bytes ≡ false

@@ -2,17 +2,17 @@
 use Rattle.std.proofs.Common.{◌≡◌, ℕ, suc, arith, ◌+◌, ◌-◌, ◌<◌, ◌≤◌, Bool, true, false, cond, ◌&&◌, List, [], ◌∷◌, drop}
 use Rattle.std.proofs.Common.{slice_index, Option, Some, None, eqb, refl, sym, ap, ◌∙◌}
 use Rattle.std.specs.Option.{option_eq}
-use Rattle.icu_base.specs.Patterns.{PatternText, same_pattern}
+use Rattle.icu_pattern.specs.Patterns.{PatternText, same_pattern}
 use Rattle.icu_decimal_data.specs.PackedTable.{is_pattern}
 use Rattle.icu_decimal_data.specs.TableReading.{same_slots, slots_without_explicit_one}
 use Rattle.icu_decimal_data.specs.TableReading.{pattern_in, slot_in, slots_in, slot_at, is_repeated, same_at, same_from}
-use Rattle.icu_decimal_data.proofs.SlotsLaws.{slots_by_place}
+use Rattle.icu_decimal_data.proofs.SlotListLaws.{slots_by_place}
 
 -- whether a pattern is good, by its place and its literal
-pub good_is : (accepts : PatternText → Bool) (p : PatternText) (place : Option ℕ) (literal : List ℕ) (b : Bool) → place ≡ p.place →
-    literal ≡ p.literal → b ≡ is_pattern accepts (record { place = place; literal = literal }) → b ≡ is_pattern accepts p
-good_is accepts p place literal b e f h = h ∙ ap (λ (o : Option ℕ). is_pattern accepts (record { place = o; literal = literal })) e
-    ∙ ap (λ (l : List ℕ). is_pattern accepts (record { place = p.place; literal = l })) f
+pub good_is : (accepts : PatternText → Bool) (p : PatternText) (place : Option ℕ) (literal : List ℕ) (b : Bool) → place ≡ p.placeholder →
+    literal ≡ p.literal → b ≡ is_pattern accepts (record { placeholder = place; literal = literal }) → b ≡ is_pattern accepts p
+good_is accepts p place literal b e f h = h ∙ ap (λ (o : Option ℕ). is_pattern accepts (record { placeholder = o; literal = literal })) e
+    ∙ ap (λ (l : List ℕ). is_pattern accepts (record { placeholder = p.placeholder; literal = l })) f
 
 absent_is : (b : Bool) (p : PatternText) → option_eq same_pattern None (cond b None (Some p)) ≡ b
 absent_is true p = refl
@@ -51,6 +51,7 @@ module _ (pool before bytes : List ℕ) (j : ℕ) (r : Bool) (h : same_from pool
   pub same_done : 8 ≤ j → true ≡ r
   same_done le = let e : 8 - j ≡ 0 = omega arith in sym (ap (same_from pool before bytes j) e) ∙ h
 
+-- the steps of the loop over the later slots
 pub ruleset repeats = (same_goes_on, same_ends, same_done)
 
 -- whether a slot is the same in two records, by their bytes

@@ -6,8 +6,8 @@ use Rattle.std.specs.Cmp.Lexicographic.{pointwise}
 use Rattle.std.proofs.lemmas.Bool.Decides.{Decides-eqb}
 use Rattle.std.proofs.lemmas.Slice.Eq.{bytes_eq-Decides}
 use Rattle.std.proofs.lemmas.Bool.{and_parts, and_from}
-use Rattle.icu_base.specs.Patterns.{PatternText, same_pattern}
-use Rattle.icu_base.specs.Elements.{Elements, same_elements}
+use Rattle.icu_pattern.specs.Patterns.{PatternText, same_pattern}
+use Rattle.icu_plurals.specs.Elements.{Elements, same_elements}
 use Rattle.icu_decimal_data.specs.CompactTable.{PatternElements, TableEntry}
 use Rattle.icu_decimal_data.specs.Kept.{same_patterns}
 use Rattle.icu_decimal_data.specs.SameTable.{same_entry, same_table}
@@ -51,19 +51,21 @@ module _ {T : Type 0} where
         ((d a.other b.other).1 (ap (λ (e : Elements T). e.other) h)))))))),
   )
 
+-- patterns are found equal exactly where they are the same
 pub same_pattern-Decides : (p q : PatternText) → Decides (same_pattern p q) (p ≡ q)
 same_pattern-Decides p q = (
   λ h.
-      let r = and_parts (option_eq nat_eq p.place q.place) _ h in
+      let r = and_parts (option_eq nat_eq p.placeholder q.placeholder) _ h in
       λ i. record {
-        place = (option_eq-Decides nat_eq Decides-eqb p.place q.place).0 r.0 i;
+        placeholder = (option_eq-Decides nat_eq Decides-eqb p.placeholder q.placeholder).0 r.0 i;
         literal = (bytes_eq-Decides p.literal q.literal).0 r.1 i;
       },
   λ h.
-      and_from _ _ ((option_eq-Decides nat_eq Decides-eqb p.place q.place).1 (ap (λ (e : PatternText). e.place) h))
+      and_from _ _ ((option_eq-Decides nat_eq Decides-eqb p.placeholder q.placeholder).1 (ap (λ (e : PatternText). e.placeholder) h))
       ((bytes_eq-Decides p.literal q.literal).1 (ap (λ (e : PatternText). e.literal) h)),
 )
 
+-- the same of the patterns of an entry
 pub same_patterns-Decides : (a b : PatternElements) → Decides (same_patterns a b) (a ≡ b)
 same_patterns-Decides = same_elements-Decides same_pattern same_pattern-Decides
 
@@ -71,6 +73,7 @@ same_patterns-Decides = same_elements-Decides same_pattern same_pattern-Decides
 pub the_same : (a b : PatternElements) → same_patterns a b ≡ true → a ≡ b
 the_same a b = (same_patterns-Decides a b).0
 
+-- lists are found equal exactly where they are the same, if their elements are
 pub pointwise-Decides : {T : Type 0} (eq : T → T → Bool) → ((x y : T) → Decides (eq x y) (x ≡ y)) → (xs ys : List T) →
     Decides (pointwise eq xs ys) (xs ≡ ys)
 pointwise-Decides eq d [] [] = (λ _. refl, λ _. refl)
@@ -83,6 +86,7 @@ pointwise-Decides eq d (x ∷ xs) (y ∷ ys) = (
   λ h. and_from _ _ ((d x y).1 (cc)) ((pointwise-Decides eq d xs ys).1 (cc)),
 )
 
+-- entries are found equal exactly where they are the same
 pub same_entry-Decides : (e f : TableEntry) → Decides (same_entry e f) (e ≡ f)
 same_entry-Decides e f = (
   λ h.

@@ -1,4 +1,8 @@
 -- What is asked of a table in its bytes.
+-- The parts serve calls of `CompactPatterns`. `is_compact`: `AreEntries` relates neighbours and `IsCompactTable` all pairs, so `each_above`
+-- is an induction that carries the lower entry on. `same_bytes`: no slots are compared, as the bytes are those in which the table is
+-- written (`bytes_are`, of PackedTables). `reached_is`: an induction over the entries with the count that the search found.
+-- `sole_is_selected`: seven absent slots, taken apart one by one, then the three cases of exactly zero, exactly one and the category.
 use Rattle.std.proofs.Common.{◌≡◌, ℕ, zero, suc, ◌+◌, ◌*◌, ◌<◌, ◌≤◌, Bool, true, false, List, [], ◌∷◌, length, slice_get}
 use Rattle.std.proofs.Common.{slice_index, Option, Some, None, nat_le, nat_eq, cond, refl, sym, ap, ◌∙◌, arith, subst}
 use Rattle.std.specs.Prelude.{is_none, IfSome, if◌then◌else◌, unwrap_or}
@@ -8,16 +12,16 @@ use Rattle.std.specs.Option.{option_map}
 use Rattle.std.proofs.lemmas.List.Sums.{sum_by-cons}
 use Rattle.std.proofs.lemmas.Slice.Eq.{bytes_eq-Decides}
 use Rattle.std.proofs.lemmas.Bool.{and_parts}
-use Rattle.icu_base.specs.Elements.{selected, sole_value, is_exactly, category_value}
-use Rattle.icu_base.specs.Operands.{Operands}
-use Rattle.icu_base.specs.Patterns.{PatternText}
-use Rattle.icu_base.specs.declared.plurals.category.PluralCategory.{PluralCategory}
-use Rattle.icu_base.specs.declared.plurals.category.PluralCategory.TheVariants.{Zero, One, Two, Few, Many, Other}
+use Rattle.icu_plurals.specs.Elements.{selected, sole_value, is_exactly, category_value}
+use Rattle.icu_plurals.specs.Operands.{Operands}
+use Rattle.icu_pattern.specs.Patterns.{PatternText}
+use Rattle.icu_plurals.specs.declared.category.PluralCategory.{PluralCategory}
+use Rattle.icu_plurals.specs.declared.category.PluralCategory.TheVariants.{Zero, One, Two, Few, Many, Other}
 use Rattle.icu_decimal_data.specs.CompactTable.{PatternElements, TableEntry, IsCompactTable, type_place, reached, log10_type_of, exponent_of}
 use Rattle.icu_decimal_data.specs.SameTable.{same_table}
 use Rattle.icu_decimal_data.specs.PackedTable.{IsBackend, IsPackable, AreEntries}
 use Rattle.icu_decimal_data.specs.TableBytes.{table_bytes}
-use Rattle.icu_decimal_data.specs.TableReading.{entry_of, count_in, type_in, table_in, table_step, IsTableBytes, IsReached}
+use Rattle.icu_decimal_data.specs.TableReading.{entry_of, count_in, type_in, exponent_in, table_in, table_step, IsTableBytes, IsReached}
 use Rattle.icu_decimal_data.proofs.TableBasics.{IsBytes}
 use Rattle.icu_decimal_data.proofs.KeptTables.{Each, Pairs, each_weaker, all_each, all_pairs}
 use Rattle.icu_decimal_data.proofs.SameEntries.{same_table-Decides}
@@ -59,7 +63,7 @@ module _ (accepts : PatternText → Bool) where
       let near = all_near None (table_in bytes) entries in
       record {
         types_rise = all_pairs _ _ rise.0;
-        exponents_rise = all_pairs _ _ rise.1;
+        exponents_never_fall = all_pairs _ _ rise.1;
         exponents_small = all_each _ _ near.0;
         shifts_small = all_each _ _ near.1;
       }
@@ -117,10 +121,12 @@ reached_is bytes m k r =
 pub index_inside : (bytes : List ℕ) (i : ℕ) → i < length (table_in bytes) → i < count_in bytes
 index_inside bytes i h = omega (arith, length-table bytes)
 
+-- the byte of a type is the type of the table's entry
 pub type_at_index : (bytes : List ℕ) (i : ℕ) → i < count_in bytes → type_in bytes i ≡ log10_type_of (slice_get (table_in bytes) i)
 type_at_index bytes i h = type_is bytes i ∙ sym (ap log10_type_of (entry_at bytes i h))
 
-pub exponent_at_index : (bytes : List ℕ) (i : ℕ) → i < count_in bytes → slice_index bytes (5 + 58 * i) ≡ exponent_of (slice_get (table_in bytes) i)
+-- the byte of an exponent is the exponent of the table's entry
+pub exponent_at_index : (bytes : List ℕ) (i : ℕ) → i < count_in bytes → exponent_in bytes i ≡ exponent_of (slice_get (table_in bytes) i)
 exponent_at_index bytes i h = exponent_is bytes i ∙ sym (ap exponent_of (entry_at bytes i h))
 
 -- what holds of the entry in the bytes holds of the table's entry
@@ -128,6 +134,7 @@ pub of_entry : (bytes : List ℕ) (i : ℕ) (Q : TableEntry → Type 0) → i < 
     IfSome (slice_get (table_in bytes) i) Q
 of_entry bytes i Q h q = subst (λ (o : Option TableEntry). IfSome o Q) (sym (entry_at bytes i h)) q
 
+-- a table of length 0 has no entry
 pub nothing_is : (t : List TableEntry) → length t ≡ 0 → t ≡ []
 nothing_is [] h = refl
 nothing_is (e ∷ es) h = absurd (omega arith)
@@ -138,6 +145,7 @@ none_there : (o : Option PatternText) → is_none o ≡ true → o ≡ None
 none_there None h = refl
 none_there (Some p) h = absurd cc
 
+-- a pattern for all numbers and no other is what every number picks
 pub sole_is_selected : (e : PatternElements) (p : PatternText) → sole_value e ≡ Some p → (o : Operands) (category : PluralCategory) →
     selected e o category ≡ p
 sole_is_selected e p h o category = go (list_all is_none (e.explicit_zero ∷ e.explicit_one ∷ e.zero ∷ e.one ∷ e.two ∷ e.few ∷ e.many ∷ [])) refl h
@@ -178,4 +186,5 @@ pub sole_picked : {R : Type 0} (r : Option R) (text : R → PatternText) (e : Pa
 sole_picked None text e h = tt
 sole_picked (Some x) text e h = λ o category. sole_is_selected e (text x) (sym h) o category
 
+-- what most calls of `CompactPatterns` need
 pub ruleset calls = (searchable, is_compact, bytes_are, index_inside, type_at_index, exponent_at_index, nothing_is, length-table)

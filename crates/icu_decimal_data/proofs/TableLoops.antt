@@ -3,7 +3,7 @@ use Rattle.std.proofs.Common.{◌≡◌, ℕ, suc, ◌+◌, ◌-◌, ◌*◌, �
 use Rattle.std.proofs.Common.{Err, eqb, sym, ap, ◌∙◌, arith, inl, inr}
 use Rattle.std.proofs.lemmas.List.{drop-drop}
 use Rattle.std.proofs.lemmas.Bool.{eq-eqb, ne_eqb, cases_eq}
-use Rattle.icu_base.specs.Patterns.{PatternText}
+use Rattle.icu_pattern.specs.Patterns.{PatternText}
 use Rattle.icu_decimal_data.specs.TableReading.{slot_step, slots_step, record_step, records_step, ◌>>=◌}
 
 range_is : (bytes : List ℕ) (a b : ℕ) → take b (drop a bytes) ≡ slice_range bytes a (a + b)
@@ -96,6 +96,8 @@ module _ (accepts : PatternText → Bool) (pool : List ℕ) (pool_at : ℕ) wher
   records_done n i sum before bytes r le h = let e : n - i ≡ 0 = omega arith in
       sym h ∙ ap (λ (m : ℕ). records_step accepts pool pool_at m before (4 + 58 * i) sum (drop (58 * i) bytes)) e
 
+-- the steps of the loop over the slots of a record
 pub ruleset slots_loop = (slots_go_on, slots_end, slots_done)
 
+-- the steps of the loop over the records
 pub ruleset records_loop = (records_go_on, records_end, records_done)

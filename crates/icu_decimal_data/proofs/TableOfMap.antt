@@ -1,4 +1,9 @@
 -- What is kept of a map without a fault can be packed.
+-- Neighbours differ by induction over `kept_since`, with the last kept entry as a parameter (`since_differ`). Types and exponents rise in what is
+-- kept as they do in the map (`pairs_kept` of KeptTables), and each kept entry is sound where no fault is found. `entries_after` puts these
+-- together by induction, with the entry before as a parameter, since `AreEntries` relates neighbours and `Pairs` all pairs.
+-- At most 256 entries are kept, as types rise below 256 (`bounded`); the pool is short since `TooLarge` isn't the fault, by the count of the
+-- literals (`all_size`).
 use Rattle.std.proofs.Common.{◌≡◌, ℕ, ◌+◌, ◌<◌, ◌≤◌, ◌^◌, ⊎_elim, Bool, true, false, refl, arith, List, [], ◌∷◌, length}
 use Rattle.std.proofs.Common.{Option, Some, None, nat_lt, ltb-false, subst, length-append, sum_by}
 use Rattle.std.specs.Prelude.{⊤, if◌then◌else◌}
@@ -7,8 +12,8 @@ use Rattle.std.specs.Map.{keys_of}
 use Rattle.std.specs.Ordering.{nat_cmp}
 use Rattle.std.proofs.lemmas.Bool.{cases_Bool}
 use Rattle.std.proofs.lemmas.List.Sums.{sum_by-cons}
-use Rattle.icu_base.specs.Elements.{slots}
-use Rattle.icu_base.specs.Patterns.{PatternText}
+use Rattle.icu_plurals.specs.Elements.{slots}
+use Rattle.icu_pattern.specs.Patterns.{PatternText}
 use Rattle.icu_decimal_data.specs.CompactTable.{PatternElements, TableEntry}
 use Rattle.icu_decimal_data.specs.Kept.{given, kept, repeats, is_zero_magnitude}
 use Rattle.icu_decimal_data.specs.KeptSince.{kept_since}
@@ -25,25 +30,26 @@ abbrev Differ : TableEntry → List TableEntry → Type 0
 Differ before [] = ⊤
 Differ before (e ∷ es) = (repeats before e ≡ false) × Differ e es
 
-since_differ : (plain : Option PatternElements) (last : TableEntry) (es : List TableEntry) → Differ last (kept_since plain (Some last.elements) es)
-since_differ plain last [] = tt
-since_differ plain last (e ∷ es) =
+since_differ : (zero_magnitude : Option PatternElements) (last : TableEntry) (es : List TableEntry)
+    → Differ last (kept_since zero_magnitude (Some last.elements) es)
+since_differ zero_magnitude last [] = tt
+since_differ zero_magnitude last (e ∷ es) =
     ⊎_elim
-    (λ (r : repeats last e ≡ true). rw r (since_differ plain last es))
-    (λ (r : repeats last e ≡ false). rw r (r, since_differ plain e es))
+    (λ (r : repeats last e ≡ true). rw r (since_differ zero_magnitude last es))
+    (λ (r : repeats last e ≡ false). rw r (r, since_differ zero_magnitude e es))
     (cases_Bool (repeats last e))
 
 abbrev FirstDiffer : List TableEntry → Type 0
 FirstDiffer [] = ⊤
 FirstDiffer (e ∷ es) = Differ e es
 
-kept_differ : (plain : Option PatternElements) (es : List TableEntry) → FirstDiffer (kept_since plain None es)
-kept_differ plain [] = tt
-kept_differ plain (e ∷ es) =
+kept_differ : (zero_magnitude : Option PatternElements) (es : List TableEntry) → FirstDiffer (kept_since zero_magnitude None es)
+kept_differ zero_magnitude [] = tt
+kept_differ zero_magnitude (e ∷ es) =
     ⊎_elim
-    (λ (z : is_zero_magnitude plain e.elements ≡ true). rw z (kept_differ plain es))
-    (λ (z : is_zero_magnitude plain e.elements ≡ false). rw z (since_differ plain e es))
-    (cases_Bool (is_zero_magnitude plain e.elements))
+    (λ (z : is_zero_magnitude zero_magnitude e.elements ≡ true). rw z (kept_differ zero_magnitude es))
+    (λ (z : is_zero_magnitude zero_magnitude e.elements ≡ false). rw z (since_differ zero_magnitude e es))
+    (cases_Bool (is_zero_magnitude zero_magnitude e.elements))
 
 -- ---- at most 256
 
@@ -116,35 +122,39 @@ within n h =
     (λ (under : nat_lt 65535 n ≡ false). ltb-false 65535 n under)
     (cases_Bool (nat_lt 65535 n))
 
-module _ (plain : Option PatternElements) (map : List (ℕ × (ℕ × PatternElements))) where
+module _ (zero_magnitude : Option PatternElements) (map : List (ℕ × (ℕ × PatternElements))) where
   -- without a fault the kept literals are short
-  pub short_kept : fault_of plain (given map) ≡ None → length (literals (kept plain (given map))) < 2 ^ 16
+  pub short_kept : fault_of zero_magnitude (given map) ≡ None → length (literals (kept zero_magnitude (given map))) < 2 ^ 16
   short_kept none =
-      let faults = no_entry_fault plain (given map) none in
-      let parts = none_or (first_entry_fault (kept plain (given map))) _ (rw faults.0 at none) in
-      let limit : literals_size (kept plain (given map)) ≤ 65535 = within (literals_size (kept plain (given map))) parts.1 in
-      omega (arith, all_size (kept plain (given map)))
+      let faults = no_entry_fault zero_magnitude (given map) none in
+      let parts = none_or (first_entry_fault (kept zero_magnitude (given map))) _ (rw faults.0 at none) in
+      let limit : literals_size (kept zero_magnitude (given map)) ≤ 65535 = within (literals_size (kept zero_magnitude (given map))) parts.1 in
+      omega (arith, all_size (kept zero_magnitude (given map)))
 
-  module _ (accepts : PatternText → Bool) (sorted : IsStrictlySortedBy nat_cmp (keys_of map)) (writable : AreWritable accepts (kept plain (given map))) where
-    rising : Pairs (λ e f. e.log10_type < f.log10_type) (kept plain (given map))
-    rising = pairs_kept (λ e f. e.log10_type < f.log10_type) plain (given map) (types_rise map sorted)
+  module _ (accepts : PatternText → Bool) (sorted : IsStrictlySortedBy nat_cmp (keys_of map))
+      (writable : AreWritable accepts (kept zero_magnitude (given map))) where
+    rising : Pairs (λ e f. e.log10_type < f.log10_type) (kept zero_magnitude (given map))
+    rising = pairs_kept (λ e f. e.log10_type < f.log10_type) zero_magnitude (given map) (types_rise map sorted)
 
     -- at most 256 entries are kept
-    pub few_kept : length (kept plain (given map)) ≤ 256
+    pub few_kept : length (kept zero_magnitude (given map)) ≤ 256
     few_kept =
-        let h = bounded 0 (kept plain (given map)) (omega arith) (each_any (λ e. 0 ≤ e.log10_type) (λ e. omega arith) (kept plain (given map)))
-        (types_are_bytes accepts (kept plain (given map)) writable) rising in
+        let h = bounded 0 (kept zero_magnitude (given map)) (omega arith)
+        (each_any (λ e. 0 ≤ e.log10_type) (λ e. omega arith) (kept zero_magnitude (given map)))
+        (types_are_bytes accepts (kept zero_magnitude (given map)) writable) rising in
         omega arith
 
     -- what is kept without a fault can be packed
-    pub packable : fault_of plain (given map) ≡ None → IsPackable accepts (kept plain (given map))
+    pub packable : fault_of zero_magnitude (given map) ≡ None → IsPackable accepts (kept zero_magnitude (given map))
     packable none =
-        let faults = no_entry_fault plain (given map) none in
-        let differ : FirstDiffer (kept plain (given map)) = subst FirstDiffer (kept_since_start plain (given map)) (kept_differ plain (given map)) in
+        let faults = no_entry_fault zero_magnitude (given map) none in
+        let differ : FirstDiffer (kept zero_magnitude (given map)) =
+        subst FirstDiffer (kept_since_start zero_magnitude (given map)) (kept_differ zero_magnitude (given map)) in
         record {
           counted = few_kept;
           short = short_kept none;
-          entries = entries_are accepts (kept plain (given map)) rising
-              (pairs_kept (λ e f. e.exponent ≤ f.exponent) plain (given map) (without_a_fall (given map) faults.0)) (sound (kept plain (given map)) faults.1)
+          entries = entries_are accepts (kept zero_magnitude (given map)) rising
+              (pairs_kept (λ e f. e.exponent ≤ f.exponent) zero_magnitude (given map) (without_a_fall (given map) faults.0))
+              (sound (kept zero_magnitude (given map)) faults.1)
               differ writable;
         }

@@ -1,15 +1,19 @@
 -- The records of a table that is read, and the search among them.
+-- The search knows only `IsSearchable`: types rise between any two indices. `searchable` has it of a table that was read, by `rising`, an
+-- induction over the entries, which relate to their neighbours only. `goes_up` and `goes_down` are the two branches of the loop. `entry_for`
+-- goes through the entries and knows no index: by `entry_at_count`, an induction over entries and count, it is the entry before the count
+-- where all types before the count are reached and none from it on; `before` and `front` are EntryPlaces'.
 use Rattle.std.proofs.Common.{◌≡◌, ℕ, zero, suc, ◌+◌, ◌-◌, ◌*◌, ◌<◌, ◌≤◌, Bool, true, false, List, [], ◌∷◌, length, get_or}
 use Rattle.std.proofs.Common.{take, drop, slice_index, slice_get, Option, Some, None, nat_le, refl, sym, ap, ◌∙◌, arith, inl, inr, leb-true, leb-false}
 use Rattle.std.proofs.Common.{le-leb}
 use Rattle.std.proofs.lemmas.Bool.{lt-leb, cases_lt}
 use Rattle.std.proofs.lemmas.List.{get_or-drop, get_or-take, drop-drop}
 use Rattle.fixed_decimal.specs.Size.{finest}
-use Rattle.icu_base.specs.Patterns.{PatternText}
+use Rattle.icu_pattern.specs.Patterns.{PatternText}
 use Rattle.icu_decimal_data.specs.CompactTable.{TableEntry, type_place, entry_for}
 use Rattle.icu_decimal_data.specs.PackedTable.{AreEntries}
 use Rattle.icu_decimal_data.specs.TableReading.{entry_in, entries_in, entry_of, count_in, pool_in, table_in, type_in, table_step, IsTableBytes, IsSearchable}
-use Rattle.icu_decimal_data.specs.TableReading.{IsReached}
+use Rattle.icu_decimal_data.specs.TableReading.{exponent_in, IsReached}
 use Rattle.icu_decimal_data.proofs.PackedTables.{length-entries, ok_value, is_found, table_read}
 use Rattle.icu_decimal_data.proofs.EntryPlaces.{before, front}
 
@@ -42,7 +46,7 @@ pub type_is : (bytes : List ℕ) (i : ℕ) → type_in bytes i ≡ (entry_of byt
 type_is bytes i = sym (byte_of_record bytes i 0 (omega arith) ∙ ap (λ (k : ℕ). slice_index bytes k) (omega arith))
 
 -- the byte of an exponent
-pub exponent_is : (bytes : List ℕ) (i : ℕ) → slice_index bytes (5 + 58 * i) ≡ (entry_of bytes i).exponent
+pub exponent_is : (bytes : List ℕ) (i : ℕ) → exponent_in bytes i ≡ (entry_of bytes i).exponent
 exponent_is bytes i = sym (byte_of_record bytes i 1 (omega arith) ∙ ap (λ (k : ℕ). slice_index bytes k) (omega arith))
 
 -- ---- types rise
@@ -86,6 +90,7 @@ module _ (accepts : PatternText → Bool) where
 
 -- ---- the search
 
+-- where the middle entry is reached, so are all before it
 pub goes_up : (bytes : List ℕ) (m middle : ℕ) → IsSearchable bytes → middle < count_in bytes → nat_le (type_in bytes middle + finest) m ≡ true →
     (i : ℕ) → i < middle + 1 → nat_le (type_in bytes i + finest) m ≡ true
 goes_up bytes m middle s inside on i h =
@@ -95,6 +100,7 @@ goes_up bytes m middle s inside on i h =
       | inr le ↦ let same : i ≡ middle = omega arith in rw same on
     ]
 
+-- where the middle entry isn't reached, none after it is
 pub goes_down : (bytes : List ℕ) (m middle : ℕ) → IsSearchable bytes → nat_le (type_in bytes middle + finest) m ≡ false → (i : ℕ) →
     middle ≤ i → i < count_in bytes → nat_le (type_in bytes i + finest) m ≡ false
 goes_down bytes m middle s off i h inside =
@@ -144,13 +150,16 @@ found_at bytes m k r =
     entry_at_count (table_in bytes) m k (omega (arith, r.within)) (λ i e p lt. place_here bytes m i e p ∙ r.below i lt)
     (λ i e p le. place_here bytes m i e p ∙ r.above i le (entry_index_in bytes i e p))
 
+-- where no entry is reached, the magnitude has none
 pub none_found : (bytes : List ℕ) (m k : ℕ) → IsReached bytes m k → k ≡ 0 → None ≡ entry_for (table_in bytes) m
 none_found bytes m k r e = sym (found_at bytes m k r ∙ ap (before (table_in bytes)) e)
 
+-- where entries are reached, the last of them is the magnitude's
 pub some_found : (bytes : List ℕ) (m k : ℕ) → IsReached bytes m k → 0 < k → Some (entry_of bytes (k - 1)) ≡ entry_for (table_in bytes) m
 some_found bytes m zero r some = absurd (omega arith)
 some_found bytes m (suc k) r some =
     let at : suc k - 1 ≡ k = omega arith in
     rw at (sym (found_at bytes m (suc k) r ∙ entry_at bytes k (omega (arith, r.within))))
 
+-- what the search needs, and what reads an entry that was found
 pub ruleset searching = (searchable, type_is, exponent_is, goes_up, goes_down, none_found, some_found)

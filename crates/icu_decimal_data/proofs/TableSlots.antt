@@ -1,4 +1,8 @@
 -- The slots of an entry in a table's bytes.
+-- What each record shows is `table_read` of PackedTables. `slot_is` takes a slot of it: `slot_in_list`, an induction over the slots, finds it
+-- in the record's bytes, and `slot_here` finds these in the table's bytes, by equations of `take` and `drop`. That a pattern is one of the
+-- backend comes from the table's entries (`slot_pattern`), not from the steps of the check. Then the same is said of the bytes that the code
+-- has in hand, which equal the slot's (`found`). `sole_steps` are the cases of the loop over the first seven slots.
 use Rattle.std.proofs.Common.{◌≡◌, ℕ, zero, suc, ◌+◌, ◌-◌, ◌*◌, ◌<◌, Bool, true, false, not, ◌&&◌, List, [], ◌∷◌, length}
 use Rattle.std.proofs.Common.{take, drop, drop-cons, add-one, slice_index, slice_index_or, slice_get, Option, Some, None, IsTrue, eqb, refl, sym, ap, ◌∙◌}
 use Rattle.std.proofs.Common.{arith, subst, inl, inr}
@@ -8,8 +12,8 @@ use Rattle.std.specs.Str.{is_utf8, IsUtf8}
 use Rattle.std.proofs.lemmas.Bool.{cases_Bool, eqb-true, eq-eqb, and_parts}
 use Rattle.std.proofs.lemmas.List.{drop-drop, take-take, drop-take}
 use Rattle.std.proofs.lemmas.Str.{IsUtf8-from_is_utf8}
-use Rattle.icu_base.specs.Patterns.{PatternText}
-use Rattle.icu_base.specs.Elements.{slots}
+use Rattle.icu_pattern.specs.Patterns.{PatternText}
+use Rattle.icu_plurals.specs.Elements.{slots}
 use Rattle.icu_decimal_data.specs.CompactTable.{TableEntry}
 use Rattle.icu_decimal_data.specs.PackedTable.{is_pattern, ArePatterns, IsEntry, AreEntries}
 use Rattle.icu_decimal_data.specs.TableReading.{pattern_in, slot_in, slots_in, entry_of, count_in, pool_in, table_in, table_step, slot_of, IsTableBytes}
@@ -80,6 +84,7 @@ module _ (accepts : PatternText → Bool) where
 pub slot_some : (pool slot : List ℕ) → eqb (slice_index slot 0) 0 ≡ false → slot_in pool slot ≡ Some (pattern_in pool slot)
 slot_some pool slot h = rw h refl
 
+-- an absent slot has no pattern
 pub slot_none : (pool slot : List ℕ) → eqb (slice_index slot 0) 0 ≡ true → slot_in pool slot ≡ None
 slot_none pool slot h = rw h refl
 
@@ -194,4 +199,5 @@ module _ {T : Type 0} where
   pub sole_done : (ss : List (Option T)) (k : ℕ) (all : Bool) → k ≡ 7 → list_all is_none (take (7 - k) (drop k ss)) ≡ all → true ≡ all
   sole_done ss k all e h = let none : 7 - k ≡ 0 = omega arith in sym (ap (λ (n : ℕ). list_all is_none (take n (drop k ss))) none) ∙ h
 
+-- the steps of the loop over the first seven slots
 pub ruleset sole_steps = (sole_ends, sole_goes_on, sole_done)

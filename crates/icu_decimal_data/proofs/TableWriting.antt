@@ -1,9 +1,13 @@
 -- The byte string of a table, as it is written.
+-- Loops write at the end, and the byte string is defined from the front. So an invariant says that what is written, followed by what is left,
+-- is the whole: of slots in `pool_more` and `records_more`, of entries in `IsWritten`. Each round moves the first of what is left over
+-- (`entry_written`), by `append_assoc` alone, and at the end nothing is left (`all_records`, `all_pool`). A slot names where its literal begins,
+-- so the records that are left depend on the pool so far. The entries left are `kept_since`; one that isn't kept changes nothing.
 use Rattle.std.proofs.Common.{◌≡◌, ℕ, ◌+◌, ◌*◌, ◌/◌, ◌<◌, ◌≤◌, ◌^◌, Bool, true, List, [], ◌∷◌, ◌++◌, length, drop}
 use Rattle.std.proofs.Common.{drop-cons, add-one, slice_index_or, Option, Some, None, Result, Ok, Err, IsTrue, refl, sym, ap, ◌∙◌, arith, subst}
 use Rattle.std.proofs.Common.{append_assoc, append-nil, length-append}
-use Rattle.icu_base.specs.Patterns.{PatternText, PlaceFits}
-use Rattle.icu_base.specs.Elements.{slots}
+use Rattle.icu_pattern.specs.Patterns.{PatternText, PlaceholderFits}
+use Rattle.icu_plurals.specs.Elements.{slots}
 use Rattle.std.specs.Prelude.{IfSome, OnOk}
 use Rattle.std.specs.Str.{IsCharBoundary, IsUtf8, is_utf8}
 use Rattle.std.proofs.lemmas.Str.{is_utf8-from_IsUtf8}
@@ -14,8 +18,8 @@ use Rattle.icu_decimal_data.specs.TableBytes.{number_bytes, slot_bytes, slots_by
 use Rattle.icu_decimal_data.proofs.RecordLaws.{length-records}
 
 -- a place lies in its literal
-pub place_inside : (p : PatternText) (place : ℕ) → PlaceFits p → p.place ≡ Some place → place ≤ length p.literal
-place_inside p place fits is = go p.place is fits
+pub place_inside : (p : PatternText) (place : ℕ) → PlaceholderFits p → p.placeholder ≡ Some place → place ≤ length p.literal
+place_inside p place fits is = go p.placeholder is fits
   where
     go : (o : Option ℕ) → o ≡ Some place → IfSome o (λ k. IsCharBoundary p.literal k) → place ≤ length p.literal
     go None e h = absurd cc
@@ -126,30 +130,33 @@ module _ (accepts : PatternText → Bool) (e : TableEntry) (left whole : List Ta
       }
 
 -- an entry that is kept of those that are left
-module _ (accepts : PatternText → Bool) (plain last : Option PatternElements) (e : TableEntry) (es whole : List TableEntry) (records pool : List ℕ)
-    (kept : stays plain last e.elements ≡ true) (h : IsWritten accepts (kept_since plain last (e ∷ es)) whole records pool) where
-  now_left : IsWritten accepts (e ∷ kept_since plain (Some e.elements) es) whole records pool
+module _ (accepts : PatternText → Bool) (zero_magnitude last : Option PatternElements) (e : TableEntry) (es whole : List TableEntry) (records pool : List ℕ)
+    (kept : stays zero_magnitude last e.elements ≡ true) (h : IsWritten accepts (kept_since zero_magnitude last (e ∷ es)) whole records pool) where
+  now_left : IsWritten accepts (e ∷ kept_since zero_magnitude (Some e.elements) es) whole records pool
   now_left = rw kept at h
 
   -- there is room for the literals of a kept entry
   pub kept_room : length (literals whole) < 2 ^ 16 → length pool + length (slot_literals (slots e.elements)) < 2 ^ 16
-  kept_room = entry_room accepts e (kept_since plain (Some e.elements) es) whole records pool now_left
+  kept_room = entry_room accepts e (kept_since zero_magnitude (Some e.elements) es) whole records pool now_left
 
   -- a kept entry is written
   pub kept_written : (later next : List ℕ) → later ≡ ((records ++ e.log10_type ∷ []) ++ e.exponent ∷ [])
       ++ slots_bytes (length pool) (slots e.elements) → next ≡ pool ++ slot_literals (slots e.elements) → e.log10_type < 256 →
       ArePatterns accepts (slots e.elements)
-      → IsWritten accepts (kept_since plain (Some e.elements) es) whole later next
-  kept_written = entry_written accepts e (kept_since plain (Some e.elements) es) whole records pool now_left
+      → IsWritten accepts (kept_since zero_magnitude (Some e.elements) es) whole later next
+  kept_written = entry_written accepts e (kept_since zero_magnitude (Some e.elements) es) whole records pool now_left
 
+-- where no entry is left, the records are those of the whole table
 pub all_records : (accepts : PatternText → Bool) (whole : List TableEntry) (records pool : List ℕ) → IsWritten accepts [] whole records pool →
     records ≡ records_bytes 0 whole
 all_records accepts whole records pool h = sym (append-nil records) ∙ h.records_left
 
+-- where no entry is left, the pool is the literals of the whole table
 pub all_pool : (accepts : PatternText → Bool) (whole : List TableEntry) (records pool : List ℕ) → IsWritten accepts [] whole records pool →
     pool ≡ literals whole
 all_pool accepts whole records pool h = sym (append-nil pool) ∙ h.pool_left
 
+-- where no entry is left, the whole table is writable
 pub all_writable : (accepts : PatternText → Bool) (whole : List TableEntry) (records pool : List ℕ) → IsWritten accepts [] whole records pool →
     AreWritable accepts whole
 all_writable accepts whole records pool h = h.writable_left tt
@@ -167,4 +174,5 @@ pub whole_is : (table : List TableEntry) (records pool : List ℕ) (count len : 
 unfolding table_bytes
 whole_is table records pool count len r p c l = rw (c, l, r, p) refl
 
+-- what the writing of a table needs
 pub ruleset writing = (place_inside, none_written, entry_room, all_records, all_pool, all_writable)

@@ -5,10 +5,10 @@ use Rattle.std.proofs.lemmas.List.Elements.{All-nil, All-cons, All-from_recursio
 use Rattle.std.proofs.lemmas.Option.{same_Some, none-some}
 use Rattle.fixed_decimal.specs.Size.{finest}
 use Rattle.fixed_decimal.specs.Unsigned.{Unsigned}
-use Rattle.icu_base.specs.Elements.{only_other, slots}
-use Rattle.icu_base.specs.Operands.{operands_of}
-use Rattle.icu_base.specs.Patterns.{PatternText, place_alone}
-use Rattle.icu_base.specs.declared.plurals.category.PluralCategory.TheVariants.{Other}
+use Rattle.icu_plurals.specs.Elements.{only_other, slots}
+use Rattle.icu_plurals.specs.Operands.{operands_of}
+use Rattle.icu_pattern.specs.Patterns.{PatternText, placeholder_alone}
+use Rattle.icu_plurals.specs.declared.category.PluralCategory.TheVariants.{Other}
 use Rattle.icu_decimal_data.specs.CompactTable.{PatternElements, TableEntry, entry_for, exponent_for}
 use Rattle.icu_decimal_data.specs.Kept.{kept, skipped}
 use Rattle.icu_decimal_data.specs.CompactFaults.{fault_of}
@@ -16,10 +16,10 @@ use Rattle.icu_decimal_data.specs.Faithful.{IsFaithful, IsPassThrough, RepeatsKe
 use Rattle.icu_decimal_data.proofs.KeptTables.{all_pairs}
 
 abbrev thousand : PatternText
-thousand = record { place = Some 0; literal = 75 ∷ [] }
+thousand = record { placeholder = Some 0; literal = 75 ∷ [] }
 
 abbrev word : PatternText
-word = record { place = None; literal = 109 ∷ [] }
+word = record { placeholder = None; literal = 109 ∷ [] }
 
 abbrev only : PatternElements
 only = only_other thousand
@@ -86,10 +86,10 @@ met = (mille_rises, mille_is_accepted, mille_is_faithful)
 -- Japanese long patterns begin so: numbers that are not shortened stand alone, and so do thousands, whose type is skipped.
 -- From ten thousand on numbers have `万`, and the type 5 is dropped.
 abbrev alone : PatternElements
-alone = only_other place_alone
+alone = only_other placeholder_alone
 
 abbrev man : PatternElements
-man = only_other (record { place = Some 0; literal = 228 ∷ 184 ∷ 135 ∷ [] })
+man = only_other (record { placeholder = Some 0; literal = 228 ∷ 184 ∷ 135 ∷ [] })
 
 abbrev japanese : List TableEntry
 japanese = entry 3 0 alone ∷ entry 4 4 man ∷ entry 5 4 man ∷ []
@@ -107,7 +107,7 @@ japanese_keeps_one : kept (Some alone) japanese ≡ entry 4 4 man ∷ []
 japanese_keeps_one = refl
 
 abbrev IsAlone : Option PatternText → Type 0
-IsAlone s = IfSome s (λ p. p ≡ place_alone)
+IsAlone s = IfSome s (λ p. p ≡ placeholder_alone)
 
 thousands_pass : IsPassThrough (entry 3 0 alone)
 thousands_pass = record { no_exponent = refl; alone = All-from_recursion IsAlone (slots alone) (tt, (tt, (tt, (tt, (tt, (tt, (tt, (refl, tt)))))))) }

@@ -3,8 +3,8 @@ use Rattle.std.specs.Prelude.{ℕ, ◌+◌, ◌≤◌, ◌<◌, List, [], ◌∷
 use Rattle.std.specs.Prelude.{AllPairs, count_by, slice_get, length}
 use Rattle.std.specs.Option.{option_or, option_map_or}
 use Rattle.fixed_decimal.specs.Size.{finest}
-use Rattle.icu_base.specs.Elements.{Elements}
-use Rattle.icu_base.specs.Patterns.{PatternText}
+use Rattle.icu_plurals.specs.Elements.{Elements}
+use Rattle.icu_pattern.specs.Patterns.{PatternText}
 
 -- a pattern for exactly zero and exactly one, for each plural category that has its own, and for all other numbers
 abbrev pub PatternElements : Type 0
@@ -24,15 +24,15 @@ shift_limit = 15
 -- Types rise, exponents do not fall, no exponent is above its type, and none is more than 15 below it.
 pub record IsCompactTable (table : List TableEntry) : Type 0 where
   pub types_rise : AllPairs (λ (e f : TableEntry). e.log10_type < f.log10_type) table
-  pub exponents_rise : AllPairs (λ (e f : TableEntry). e.exponent ≤ f.exponent) table
+  pub exponents_never_fall : AllPairs (λ (e f : TableEntry). e.exponent ≤ f.exponent) table
   pub exponents_small : All (λ (e : TableEntry). e.exponent ≤ e.log10_type) table
   pub shifts_small : All (λ (e : TableEntry). e.log10_type ≤ e.exponent + shift_limit) table
 
--- the place of an entry's type; a magnitude is a place too, as that of a size
+-- the place of an entry's type, as that of a size's magnitude
 abbrev pub type_place : TableEntry → ℕ
 type_place e = e.log10_type + finest
 
--- the entry of a magnitude: the last one whose type is not above it
+-- the entry of the magnitude at a place: the last one whose type is not above it
 unfoldable pub entry_for : List TableEntry → ℕ → Option TableEntry
 entry_for [] m = None
 entry_for (e ∷ es) m = option_or (entry_for es m) (if nat_le (type_place e) m then Some e else None)
@@ -45,7 +45,7 @@ next_entry table m = find (λ e. nat_lt m (type_place e)) table
 abbrev pub exponent_of : Option TableEntry → ℕ
 exponent_of e = option_map_or (λ (e : TableEntry). e.exponent) e 0
 
--- the exponent of a magnitude
+-- the exponent of the magnitude at a place
 abbrev pub exponent_for : List TableEntry → ℕ → ℕ
 exponent_for table m = exponent_of (entry_for table m)
 

@@ -2,8 +2,8 @@
 use Rattle.std.specs.Prelude.{◌≡◌, ℕ, ◌+◌, ◌≤◌, ◌<◌, ◌^◌, Bool, false, ◌&&◌, List, [], ◌∷◌, ◌++◌, length, Option, Some}
 use Rattle.std.specs.Prelude.{None, IsTrue, IsSome, IfSome, ⊤}
 use Rattle.std.specs.Str.{is_utf8}
-use Rattle.icu_base.specs.Patterns.{PatternText, place_alone}
-use Rattle.icu_base.specs.Elements.{slots}
+use Rattle.icu_pattern.specs.Patterns.{PatternText, placeholder_alone}
+use Rattle.icu_plurals.specs.Elements.{slots}
 use Rattle.icu_decimal_data.specs.CompactTable.{TableEntry, shift_limit}
 use Rattle.icu_decimal_data.specs.CompactFaults.{fault_of}
 use Rattle.icu_decimal_data.specs.Kept.{kept, repeats}
@@ -11,10 +11,10 @@ use Rattle.icu_decimal_data.specs.Kept.{kept, repeats}
 -- What packing needs of a backend, by its test: a place that it accepts lies in the literal, and where it accepts any
 -- pattern with a place, it accepts the place alone.
 pub record IsBackend (accepts : PatternText → Bool) : Type 0 where
-  pub inside : (p : PatternText) → IsTrue (accepts p) → IfSome p.place (λ k. k ≤ length p.literal)
-  pub opened : (p : PatternText) → IsTrue (accepts p) → IsSome p.place → IsTrue (accepts place_alone)
+  pub inside : (p : PatternText) → IsTrue (accepts p) → IfSome p.placeholder (λ k. k ≤ length p.literal)
+  pub opened : (p : PatternText) → IsTrue (accepts p) → IsSome p.placeholder → IsTrue (accepts placeholder_alone)
 
--- whether the literal is UTF-8, and the backend accepts the pattern
+-- whether a pattern's literal is UTF-8 and the backend accepts the pattern
 abbrev pub is_pattern : (PatternText → Bool) → PatternText → Bool
 is_pattern accepts p = is_utf8 p.literal && accepts p
 
@@ -29,8 +29,8 @@ abbrev pub AreWritable : (PatternText → Bool) → List TableEntry → Type 0
 AreWritable accepts [] = ⊤
 AreWritable accepts (e ∷ es) = (e.log10_type < 256) × ArePatterns accepts (slots e.elements) × AreWritable accepts es
 
--- what an entry may be after another: its type is above, its exponent isn't below, and it doesn't repeat its patterns,
--- that one's pattern for exactly one taken away
+-- An entry may follow another if its type is above, its exponent isn't below, and it doesn't repeat the other's patterns
+-- without that for exactly one.
 abbrev pub Follows : Option TableEntry → TableEntry → Type 0
 Follows None e = ⊤
 Follows (Some before) e = (before.log10_type < e.log10_type) × (before.exponent ≤ e.exponent) × (repeats before e ≡ false)
@@ -47,7 +47,7 @@ abbrev pub AreEntries : (PatternText → Bool) → Option TableEntry → List Ta
 AreEntries accepts before [] = ⊤
 AreEntries accepts before (e ∷ es) = IsEntry accepts e × Follows before e × AreEntries accepts (Some e) es
 
--- the literals one after another, in the order of entries and slots
+-- the literal of a slot, or nothing
 abbrev pub literal_of : Option PatternText → List ℕ
 literal_of None = []
 literal_of (Some p) = p.literal
@@ -57,7 +57,7 @@ abbrev pub slot_literals : List (Option PatternText) → List ℕ
 slot_literals [] = []
 slot_literals (s ∷ ss) = literal_of s ++ slot_literals ss
 
--- the literals of all entries
+-- the literals of all entries, in the order of entries and slots
 abbrev pub literals : List TableEntry → List ℕ
 literals [] = []
 literals (e ∷ es) = slot_literals (slots e.elements) ++ literals es

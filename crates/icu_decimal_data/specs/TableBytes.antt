@@ -1,9 +1,25 @@
--- The one byte string of a table: the number of entries, the length of the pool, a record for each entry, the pool.
+-- The byte string of a table: the number of entries, the length of the pool, a record for each entry, the pool.
 use Rattle.std.specs.Prelude.{ℕ, ◌+◌, ◌/◌, ◌%◌, List, [], ◌∷◌, ◌++◌, length, Option, Some, None}
-use Rattle.icu_base.specs.Patterns.{PatternText}
-use Rattle.icu_base.specs.Elements.{slots}
+use Rattle.icu_pattern.specs.Patterns.{PatternText}
+use Rattle.icu_plurals.specs.Elements.{slots}
 use Rattle.icu_decimal_data.specs.CompactTable.{TableEntry}
 use Rattle.icu_decimal_data.specs.PackedTable.{literal_of, slot_literals, literals}
+
+-- how long the two numbers in front are
+abbrev pub head_len : ℕ
+head_len = 4
+
+-- how long a record is: its type, its exponent and eight slots
+abbrev pub record_len : ℕ
+record_len = 58
+
+-- where the slots of the first record begin
+abbrev pub slots_start : ℕ
+slots_start = 6
+
+-- how long a slot is
+abbrev pub slot_len : ℕ
+slot_len = 7
 
 -- a number below 65,536, the low byte first
 abbrev pub number_bytes : ℕ → List ℕ
@@ -22,9 +38,9 @@ place_number (Some k) = k
 -- seven bytes: kind, start in the pool, length of the literal, place in it
 abbrev pub slot_bytes : ℕ → Option PatternText → List ℕ
 slot_bytes start None = 0 ∷ 0 ∷ 0 ∷ 0 ∷ 0 ∷ 0 ∷ 0 ∷ []
-slot_bytes start (Some p) = kind_of p.place ∷ (number_bytes start ++ (number_bytes (length p.literal) ++ number_bytes (place_number p.place)))
+slot_bytes start (Some p) = kind_of p.placeholder ∷ (number_bytes start ++ (number_bytes (length p.literal) ++ number_bytes (place_number p.placeholder)))
 
--- the slots, where the first literal begins at a place in the pool
+-- slots whose first literal begins at a place in the pool
 abbrev pub slots_bytes : ℕ → List (Option PatternText) → List ℕ
 slots_bytes start [] = []
 slots_bytes start (s ∷ ss) = slot_bytes start s ++ slots_bytes (start + length (literal_of s)) ss
@@ -38,5 +54,6 @@ abbrev pub records_bytes : ℕ → List TableEntry → List ℕ
 records_bytes start [] = []
 records_bytes start (e ∷ es) = record_bytes start e ++ records_bytes (start + length (slot_literals (slots e.elements))) es
 
+-- the two numbers, the records and the pool
 unfoldable pub table_bytes : List TableEntry → List ℕ
 table_bytes t = number_bytes (length t) ++ (number_bytes (length (literals t)) ++ (records_bytes 0 t ++ literals t))

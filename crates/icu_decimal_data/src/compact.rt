@@ -4,11 +4,11 @@
 
 ghost use Rattle.std.specs.Prelude.{◌≡◌, ◌↔◌, ◌<◌, IfOk, IfSome, IsErrOf, IsTrue, MatchOption, IsOkUnless, None, [], length, option_map, slice_get, slice_index_or};
 ghost use Rattle.fixed_decimal.specs.Size.{place};
-ghost use Rattle.icu_base.specs.Elements.{slots, selected, sole_value};
-ghost use Rattle.icu_base.specs.Operands.{Operands};
-ghost use Rattle.icu_base.specs.declared.plurals.category.PluralCategory.{PluralCategory};
-ghost use Rattle.icu_base.specs.Refs.{text_of_ref};
-ghost use Rattle.icu_base.specs.Rules.{category_of};
+ghost use Rattle.icu_plurals.specs.Elements.{slots, selected, sole_value};
+ghost use Rattle.icu_plurals.specs.Operands.{Operands};
+ghost use Rattle.icu_plurals.specs.declared.category.PluralCategory.{PluralCategory};
+ghost use Rattle.icu_pattern.specs.Refs.{text_of_ref};
+ghost use Rattle.icu_plurals.specs.Rules.{category_of};
 ghost use Rattle.icu_decimal_data.specs.CompactTable.{IsCompactTable, IsIndex, entry_at, entry_for, next_entry, index_after, log10_type_of, exponent_of};
 ghost use Rattle.icu_decimal_data.specs.PackedTable.{IsPackable};
 ghost use Rattle.icu_decimal_data.specs.TableBytes.{table_bytes};
@@ -22,16 +22,18 @@ use crate::table_bytes::number_at;
 use crate::table_search::{exponent_at, reached, type_at};
 use crate::table_slots::{pattern_at, pick, sole_pattern};
 use crate::table_writing::table_of;
-use icu_base::{Pattern, PatternBackend, PatternRef, PluralElements, PluralOperands, PluralRules};
+use icu_pattern::{Pattern, PatternBackend, PatternRef};
+use icu_plurals::{PluralElements, PluralOperands, PluralRules};
 use std::alloc::Global;
 use std::collections::BTreeMap;
 use std::marker::{Model, PhantomData};
 
-/// The compact patterns of a locale (ICU4X, `CompactPatterns`; UTS 35 Part 3, Compact Number Formats): entries by rising
-/// type, each with its exponent and its patterns.
+/// The compact patterns of a locale (ICU4X, `CompactPatterns`; UTS 35 Part 3, Compact Number
+/// Formats): entries in the order of their types, each with an exponent and patterns.
 ///
-/// A type is the power of ten at which an entry begins, its exponent the power of ten that its patterns name: with type 4
-/// and exponent 3, numbers from ten thousand on are written in thousands. They are held in one byte string.
+/// The type is the power of ten at which the entry begins, and the exponent is the power of ten
+/// that its patterns name: with type 4 and exponent 3, numbers from ten thousand on are written in
+/// thousands. All is held in one byte string.
 #[derive(Drop)]
 pub struct CompactPatterns<P: PatternBackend> {
     bytes: Vec<u8>,
@@ -73,9 +75,10 @@ impl<P: PatternBackend> Eq for CompactPatterns<P> {
 impl<P: PatternBackend> CompactPatterns<P> {
     /// The table of a map from types to exponents and patterns.
     ///
-    /// The leading types with the patterns of `zero_magnitude`, where given, are skipped. Of the others the first is
-    /// kept, and each later one whose patterns differ from those of the type just before it in the map, that one's
-    /// pattern for exactly one taken away. Exponents aren't compared. The map is dropped, also where it is refused.
+    /// The leading types whose patterns equal `zero_magnitude`, if it is given, are skipped. Of the
+    /// rest, the first is kept. A later type is kept unless its patterns equal its predecessor's;
+    /// the predecessor's pattern for exactly one is ignored in that comparison. Exponents aren't
+    /// compared. The map is dropped, even when an error is returned.
     pub fn new(
         alloc: Global,
         patterns: BTreeMap<u8, (u8, PluralElements<Pattern<P>>)>,
@@ -96,21 +99,21 @@ impl<P: PatternBackend> CompactPatterns<P> {
         })
     }
 
-    /// How many entries there are.
+    /// The number of entries.
     pub fn len(&self) -> usize
         ensures { result ≡ length self.now }
     {
         number_at(&self.bytes, 0)
     }
 
-    /// Whether there is no entry.
+    /// Whether there are no entries.
     pub fn is_empty(&self) -> bool
         ensures { IsTrue result ↔ (self.now ≡ []) }
     {
         self.len() == 0
     }
 
-    /// The index of a magnitude's entry: the last one whose type is not above the magnitude.
+    /// The index of the entry for a magnitude: the last one whose type isn't above the magnitude.
     pub fn entry_index(&self, magnitude: i32) -> Option<usize>
         ensures entry { entry_at self.now result ≡ entry_for self.now (place magnitude) }
         ensures next { slice_get self.now (index_after result)
@@ -124,7 +127,7 @@ impl<P: PatternBackend> CompactPatterns<P> {
         }
     }
 
-    /// The entries are a compact table: this does nothing, and its contract is a law.
+    /// States that the entries are a compact table. It does nothing: it is its contract.
     pub(crate) fn is_compact_table(&self)
         ensures { IsCompactTable self.now }
     {
@@ -147,8 +150,8 @@ impl<P: PatternBackend> CompactPatterns<P> {
         exponent_at(&self.bytes, index)
     }
 
-    /// The pattern of an entry in a slot, counted from 0: those for exactly zero and exactly one, for the categories
-    /// zero, one, two, few and many, and for all other numbers.
+    /// The pattern in a slot of an entry. The slots are, from 0: exactly zero, exactly one, the
+    /// categories zero, one, two, few and many, and all other numbers.
     pub fn slot(&self, index: usize, slot: u8) -> Option<PatternRef<'_, P>>
         requires index { index < length self.now }
         requires slot { slot < 8 }
@@ -158,7 +161,8 @@ impl<P: PatternBackend> CompactPatterns<P> {
         pattern_at(&self.bytes, index, slot as usize)
     }
 
-    /// The pattern of an entry that has one for all numbers and no other: what `pick` answers for every number.
+    /// The pattern of an entry for all other numbers, if it has no other pattern. `pick` then
+    /// returns it for every number.
     pub fn sole_pattern(&self, index: usize) -> Option<PatternRef<'_, P>>
         requires { index < length self.now }
         ensures pattern { IfSome (slice_get self.now index) (λ e. option_map text_of_ref result
@@ -170,9 +174,9 @@ impl<P: PatternBackend> CompactPatterns<P> {
         sole_pattern(&self.bytes, index)
     }
 
-    /// The pattern of an entry for a number of these operands: that for exactly zero or exactly one, where it is present
-    /// and the number is just this one; else that of the number's plural category, where it is present; else the one for
-    /// all other numbers. It takes no memory.
+    /// The pattern of an entry for a number with these operands: the one for exactly zero or
+    /// exactly one, if it is present and the number is exactly that; else the one for the number's
+    /// plural category, if it is present; else the one for all other numbers. It takes no memory.
     pub fn pick(
         &self,
         index: usize,
@@ -186,7 +190,7 @@ impl<P: PatternBackend> CompactPatterns<P> {
         pick(&self.bytes, index, operands, rules)
     }
 
-    /// An equal table, with memory of its own.
+    /// A copy of the table, with its own memory.
     pub fn copy(&self, alloc: Global) -> Result<Self, CompactError>
         ensures equal { IfOk result (λ table. table ≡ self.now) }
         ensures memory { IsOkUnless result OutOfMemory }
@@ -197,7 +201,7 @@ impl<P: PatternBackend> CompactPatterns<P> {
         })
     }
 
-    /// The one byte string of the table (docs/FORMATS.md). `CompactView::parse` reads it.
+    /// The byte string of the table (docs/FORMATS.md). `CompactView::parse` accepts it.
     pub fn as_bytes(&self) -> &[u8]
         ensures bytes { result.now ≡ table_bytes self.now }
         ensures packable { IsPackable P.accepted self.now }
@@ -205,7 +209,7 @@ impl<P: PatternBackend> CompactPatterns<P> {
         &self.bytes
     }
 
-    /// A copy of the table's one byte string.
+    /// A copy of the table's byte string.
     pub fn pack(&self, alloc: Global) -> Result<Vec<u8>, CompactError>
         ensures bytes { IfOk result (λ v. v.items ≡ table_bytes self.now) }
         ensures memory { IsOkUnless result OutOfMemory }

@@ -1,10 +1,10 @@
-//! Compact tables in bytes that are lent.
+//! Compact tables in borrowed bytes.
 
 ghost use Rattle.std.specs.Prelude.{◌≡◌, ◌≤◌, ◌<◌, List, None, IfOk, IfErr, IsOk, IsOkAnd, MatchResult, Err, length, slice_index_or, ⊤};
 ghost use Rattle.std.specs.Option.{option_map};
-ghost use Rattle.icu_base.specs.Elements.{slots, selected};
-ghost use Rattle.icu_base.specs.Refs.{text_of_ref};
-ghost use Rattle.icu_base.specs.Rules.{category_of};
+ghost use Rattle.icu_plurals.specs.Elements.{slots, selected};
+ghost use Rattle.icu_pattern.specs.Refs.{text_of_ref};
+ghost use Rattle.icu_plurals.specs.Rules.{category_of};
 ghost use Rattle.icu_decimal_data.specs.CompactTable.{TableEntry, entry_for, exponent_for};
 ghost use Rattle.icu_decimal_data.specs.PackedTable.{IsPackable};
 ghost use Rattle.icu_decimal_data.specs.TableBytes.{table_bytes};
@@ -15,11 +15,13 @@ use crate::error::Damaged;
 use crate::table_damage::check;
 use crate::table_search::{exponent_at, reached, type_at};
 use crate::table_slots::{pattern_at, pick};
-use icu_base::{PatternBackend, PatternRef, PluralOperands, PluralRules};
+use icu_pattern::{PatternBackend, PatternRef};
+use icu_plurals::{PluralOperands, PluralRules};
 use std::alloc::AllocError;
 use std::marker::PhantomData;
 
-/// A compact table in its byte string. Its patterns are lent for as long as the bytes are. No call takes memory.
+/// A compact table in its byte string. Patterns are borrowed for as long as the bytes are. No call
+/// takes memory.
 pub struct CompactView<'a, P: PatternBackend> {
     bytes: &'a [u8],
     backend: PhantomData<P>,
@@ -41,11 +43,12 @@ impl<P: PatternBackend> Copy for CompactView<'_, P> {}
 impl<'a, P: PatternBackend> CompactView<'a, P> {
     ghost use Rattle.icu_decimal_data.specs.TableShown.{table_shown, entry_shown};
 
-    /// The table that has these bytes.
+    /// The table with these bytes.
     ///
-    /// Damage is told by its byte, and the first that is met is told: fewer than four bytes, at their number; more than
-    /// 256 entries, at 0; another length than the first four bytes say, at the smaller of the two; then record by
-    /// record and slot by slot what can't stand there; then bytes that no slot names, at the first.
+    /// The first damage is reported by its byte offset, in this order: fewer than four bytes, at
+    /// their number; more than 256 entries, at 0; another length than the first four bytes give, at
+    /// the smaller of the two; then, record by record and slot by slot, values that can't be; then
+    /// literal bytes that no slot uses, at the first of them.
     #[tactic(auto, using(crate::proofs::PackedTables::tables))]
     pub fn parse(bytes: &'a [u8]) -> Result<Self, Damaged>
         ensures found { IfOk result (λ v. IsPackable P.accepted (table_shown v)
@@ -63,7 +66,8 @@ impl<'a, P: PatternBackend> CompactView<'a, P> {
         })
     }
 
-    /// The entry of a magnitude, found by binary search: the last one whose type is not above the magnitude.
+    /// The entry for a magnitude, found by binary search: the last one whose type isn't above the
+    /// magnitude.
     #[tactic(auto, using(crate::proofs::TableSearch::searching))]
     pub fn entry_for_magnitude(&self, magnitude: i16) -> Option<EntryView<'a, P>>
         ensures { option_map entry_shown result
@@ -79,7 +83,7 @@ impl<'a, P: PatternBackend> CompactView<'a, P> {
         }
     }
 
-    /// The exponent of a magnitude: that of its entry, and 0 where it has none.
+    /// The exponent for a magnitude: that of its entry, or 0 if it has none.
     pub fn exponent_for_magnitude(&self, magnitude: i16) -> u8
         ensures { result ≡ exponent_for (table_shown self.now) (place magnitude) }
     {
@@ -90,7 +94,8 @@ impl<'a, P: PatternBackend> CompactView<'a, P> {
     }
 }
 
-/// An entry of a compact table in its byte string. Its patterns are lent for as long as the bytes are. No call takes memory.
+/// An entry of a compact table in its byte string. Patterns are borrowed for as long as the bytes
+/// are. No call takes memory.
 pub struct EntryView<'a, P: PatternBackend> {
     bytes: &'a [u8],
     index: usize,
@@ -130,8 +135,8 @@ impl<'a, P: PatternBackend> EntryView<'a, P> {
         exponent_at(self.bytes, self.index)
     }
 
-    /// The pattern in a slot, counted from 0: those for exactly zero and exactly one, for the categories zero, one, two,
-    /// few and many, and for all other numbers.
+    /// The pattern in a slot. The slots are, from 0: exactly zero, exactly one, the categories
+    /// zero, one, two, few and many, and all other numbers.
     pub fn slot(&self, slot: u8) -> Option<PatternRef<'a, P>>
         requires { slot < 8 }
         ensures { option_map text_of_ref result
@@ -140,9 +145,9 @@ impl<'a, P: PatternBackend> EntryView<'a, P> {
         pattern_at(self.bytes, self.index, slot as usize)
     }
 
-    /// The pattern for a number of these operands: that for exactly zero or exactly one, where it is present and the number
-    /// is just this one; else that of the number's plural category, where it is present; else the one for all other
-    /// numbers.
+    /// The pattern for a number with these operands: the one for exactly zero or exactly one, if it
+    /// is present and the number is exactly that; else the one for the number's plural category, if
+    /// it is present; else the one for all other numbers.
     pub fn pick(&self, operands: &PluralOperands, rules: &PluralRules) -> PatternRef<'a, P>
         ensures { text_of_ref result ≡ selected (entry_shown self.now).elements operands.now
             (category_of rules.now operands.now) }

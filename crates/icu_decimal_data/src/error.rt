@@ -1,4 +1,4 @@
-//! Why compact tables are refused; symbols and bytes are refused as the crate below says.
+//! Errors of compact tables, and those of symbols and of bytes from `icu_decimal_symbols`.
 
 pub use icu_decimal_symbols::{Damaged, SymbolsError};
 use std::alloc::{AllocError, AllocFailed};
@@ -7,7 +7,7 @@ use thiserror::Error;
 /// Why a table of compact patterns was not made.
 #[derive(Clone, Copy, Debug, PartialEq, Eq, Error)]
 pub enum CompactError {
-    /// Somewhere in the given map an exponent is below that of the type just before.
+    /// In the map an exponent is below that of the preceding type.
     #[error("Compact exponents should be nondecreasing")]
     ExponentsFall,
     /// A kept type has an exponent above it.

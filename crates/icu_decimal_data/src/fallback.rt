@@ -1,4 +1,4 @@
-//! In which order a provider is asked.
+//! Loading data by several identifiers in turn.
 
 ghost use Rattle.std.specs.Prelude.{map};
 ghost use Rattle.icu_provider.specs.Answer.{Answers};
@@ -10,11 +10,11 @@ use icu_provider::{
 };
 use std::alloc::Global;
 
-/// What a provider answers by the first of the identifiers by which it has data.
+/// The data for the first of the identifiers that the provider has data for.
 ///
-/// The identifiers are asked in their order, all but the last silently. An answer other than `IdentifierNotFound` ends
-/// the search, so later identifiers aren't asked then; the last one's answer stands whatever it is. Without identifiers
-/// this is no request, and `InvalidRequest`.
+/// The identifiers are requested in their order, all but the last silently. The search ends with
+/// the first answer other than `IdentifierNotFound`, or with the last one's answer. Without
+/// identifiers the error is `InvalidRequest`.
 pub fn load_with_fallback<M: DataMarker, D: DataProvider<M>>(
     alloc: Global,
     provider: &D,

@@ -1,4 +1,4 @@
-//! Which types of a map a compact table keeps, and what refuses the map.
+//! The types of a map that a compact table keeps, and the errors of a map.
 
 ghost use Rattle.std.specs.Prelude.{◌≡◌, ◌+◌, min};
 ghost use Rattle.std.specs.Option.{option_map};
@@ -7,18 +7,19 @@ ghost use Rattle.icu_decimal_data.specs.CompactFaults.{has_falling_exponents, fa
 ghost use Rattle.icu_decimal_data.specs.KeptSince.{stays};
 
 use crate::error::CompactError;
-use icu_base::{Pattern, PatternBackend, PluralElements};
+use icu_pattern::{Pattern, PatternBackend};
+use icu_plurals::PluralElements;
 use std::collections::BTreeMap;
 
-/// The most bytes that the literals of the kept patterns may have together.
+/// The greatest length in bytes of all literals of the kept patterns together.
 const MAX_LITERAL_BYTES: usize = 65535;
 
-/// The most that a type may be above its exponent.
+/// The greatest difference of a type and its exponent.
 pub(crate) const MAX_ZEROS: u8 = 15;
 
 pub(crate) type Elements<P> = PluralElements<Pattern<P>>;
 
-/// Whether an exponent is below that of the type just before.
+/// Whether some exponent is below that of the preceding type.
 fn exponents_fall<P: PatternBackend>(map: &BTreeMap<u8, (u8, Elements<P>)>) -> bool
     ensures { result ≡ has_falling_exponents (given map.now.entries) }
 {
@@ -32,7 +33,7 @@ fn exponents_fall<P: PatternBackend>(map: &BTreeMap<u8, (u8, Elements<P>)>) -> b
     false
 }
 
-/// What is wrong with a type and its exponent.
+/// The error of a type and its exponent, if there is one.
 fn fault_at(log10_type: u8, exponent: u8) -> Option<CompactError>
     ensures { result ≡ fault_at log10_type exponent }
 {
@@ -45,7 +46,8 @@ fn fault_at(log10_type: u8, exponent: u8) -> Option<CompactError>
     }
 }
 
-/// Whether elements are kept after the last kept ones, if any were kept before.
+/// Whether elements are kept: they differ from the last kept ones or, before any is kept, from
+/// `zero_magnitude`.
 pub(crate) fn stays<P: PatternBackend>(
     zero_magnitude: Option<&Elements<P>>,
     last: Option<&Elements<P>>,
@@ -60,7 +62,7 @@ pub(crate) fn stays<P: PatternBackend>(
     }
 }
 
-/// The bytes of a pattern's literal.
+/// The length of a pattern's literal in bytes.
 fn literal_size<P: PatternBackend>(slot: Option<&Pattern<P>>) -> usize
     ensures { result ≡ slot_size (option_map (λ p. p.now) slot.entry) }
 {
@@ -70,7 +72,7 @@ fn literal_size<P: PatternBackend>(slot: Option<&Pattern<P>>) -> usize
     }
 }
 
-/// The size with the bytes of all literals added, as far as it fits.
+/// The size plus the length of all literals, at most `usize::MAX`.
 fn with_literals<P: PatternBackend>(size: usize, elements: &Elements<P>) -> usize
     ensures { result ≡ min (size + elements_size elements.now) usize.MAX }
 {
@@ -81,7 +83,7 @@ fn with_literals<P: PatternBackend>(size: usize, elements: &Elements<P>) -> usiz
     size
 }
 
-/// The first fault of a map, if it has one.
+/// The first error of a map, if it has one.
 pub(crate) fn first_fault<P: PatternBackend>(
     map: &BTreeMap<u8, (u8, Elements<P>)>,
     zero_magnitude: Option<&Elements<P>>,

@@ -1,4 +1,4 @@
-//! What holds of all symbols and compact tables. The functions do nothing: each is its contract.
+//! Laws of all symbols and compact tables. The functions do nothing: each is its contract.
 
 ghost use Rattle.std.specs.Prelude.{◌≡◌, ◌↔◌, List, IsOk, IsTrue};
 ghost use Rattle.icu_decimal_data.specs.CompactTable.{IsCompactTable, TableEntry};
@@ -9,15 +9,16 @@ ghost use Rattle.icu_decimal_data.specs.TableReading.{table_in, table_step};
 
 use crate::compact::CompactPatterns;
 use fixed_decimal::laws::magnitude_is_the_greatest_power;
-use icu_base::PatternBackend;
-use icu_base::laws::exactly_is_the_number;
 pub use icu_decimal_symbols::laws::symbols_are_read_again;
+use icu_pattern::PatternBackend;
+use icu_plurals::laws::exactly_is_the_number;
 
-/// What a table keeps of a map means what the whole map means: at each magnitude it has the map's exponent, and each
-/// significand picks the same pattern.
+/// A table means the same as the map that it is made of: at each magnitude it has the map's
+/// exponent, and each significand selects the same pattern.
 ///
-/// It holds of each map that `CompactPatterns::new` accepts, whose types that repeat the patterns of the type before them
-/// have its exponent, and whose skipped types have exponent 0 and no text.
+/// This holds of each map that `CompactPatterns::new` accepts, if each type that repeats the
+/// patterns of its predecessor has the same exponent, and each skipped type has exponent 0 and no
+/// text in its patterns.
 pub fn kept_means_full()
     ensures { KeptMeansFull }
 {
@@ -25,33 +26,34 @@ pub fn kept_means_full()
     magnitude_is_the_greatest_power();
 }
 
-/// The entries of every table are a compact table: types rise, exponents don't fall, none is above its type and none is
-/// more than 15 below it.
+/// The entries of every table are a compact table: types rise, exponents don't fall, none is above
+/// its type and none is more than 15 below it.
 pub fn entries_are_a_compact_table<P: PatternBackend>(table: &CompactPatterns<P>)
     ensures { IsCompactTable table.now }
 {
     table.is_compact_table();
 }
 
-/// Two tables are equal exactly where their entries are the same.
+/// Two tables are equal exactly if their entries are the same.
 pub fn equal_tables_are_the_same<P: PatternBackend>()
     ensures { (a b : _) → IsTrue (⟦<CompactPatterns<P> as PartialEq>⟧.eq a b) ↔ (a ≡ b) }
 {}
 
-/// Two tables are equal exactly where their byte strings are.
+/// Two tables are equal exactly if their byte strings are.
 pub fn equal_tables_have_equal_bytes<P: PatternBackend>()
     ensures { (a b : List TableEntry) → IsPackable P.accepted a → IsPackable P.accepted b
         → IsTrue (⟦<CompactPatterns<P> as PartialEq>⟧.eq a b) ↔ (table_bytes a ≡ table_bytes b) }
 {}
 
-/// The byte string of a table, which `CompactPatterns::as_bytes` lends and `pack` copies, is read by `CompactView::parse`,
-/// and the view shows the table.
+/// `CompactView::parse` accepts the byte string of a table, which `CompactPatterns::as_bytes`
+/// borrows and `pack` copies, and the view shows the table.
 pub fn tables_are_read_again<P: PatternBackend>()
     ensures { (t : List TableEntry) → IsPackable P.accepted t
         → IsOk (table_step P.accepted (table_bytes t)) × (table_in (table_bytes t) ≡ t) }
 {}
 
-/// Every table that `CompactView::parse` reads is one that `CompactPatterns::new` makes: of the map of its own entries.
+/// `CompactPatterns::new` makes every table that `CompactView::parse` accepts, from the map of the
+/// table's own entries.
 pub fn packable_tables_are_made()
     ensures { PackableIsMade }
 {}

@@ -1,5 +1,5 @@
-//! Number symbols and compact patterns of a locale, as ICU4X's data provider hands them to a decimal formatter; their
-//! markers, and the order in which a provider is asked for them.
+//! Number symbols and compact patterns of a locale, as ICU4X's data provider gives them to a
+//! decimal formatter; their markers, and loading them by several identifiers in turn.
 //!
 //! ```
 //! let symbols = DecimalSymbols::new_en_for_testing(rt.alloc()).ok()?;

@@ -1,8 +1,8 @@
-//! The kinds of data that formatters are made of.
+//! The markers of the data that formatters use.
 
 use crate::compact::CompactPatterns;
-use icu_base::SinglePlaceholder;
 use icu_decimal_symbols::DecimalSymbols;
+use icu_pattern::SinglePlaceholder;
 use icu_provider::DataMarker;
 
 /// The symbols of a locale, or of a numbering system in a locale (ICU4X, `DecimalSymbolsV1`).
@@ -12,9 +12,9 @@ impl DataMarker for DecimalSymbolsV1 {
     type DataStruct = DecimalSymbols;
 }
 
-/// The characters of the digits 0 to 9 of a numbering system (ICU4X, `DecimalDigitsV1`). They are asked for by the
-/// preferred system in the locale, where one is preferred, and else by the system that the symbols name, in the
-/// undetermined locale; so too where nothing is found by the preferred one.
+/// The characters of the digits 0 to 9 of a numbering system (ICU4X, `DecimalDigitsV1`). They are
+/// requested for the preferred system in the locale, if there is one. Without it, or if nothing is
+/// found, they are requested for the system that the symbols name, in the undetermined locale.
 pub struct DecimalDigitsV1;
 
 impl DataMarker for DecimalDigitsV1 {

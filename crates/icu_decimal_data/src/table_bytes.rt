@@ -1,18 +1,22 @@
-//! What stands in the bytes of a compact table.
+//! The layout of a compact table in bytes.
 
 ghost use Rattle.std.specs.Prelude.{◌≡◌, ℕ, ◌+◌, ◌<◌, ◌^◌, length, slice_index};
-ghost use Rattle.icu_decimal_data.specs.TableReading.{number, place_in, pattern_in};
+ghost use Rattle.icu_decimal_data.specs.TableReading.{two_byte_number, place_in, pattern_in};
 
-/// How long the two numbers in front are: how many entries there are, and how long the pool is.
+/// The length of the two numbers in front: the number of entries, and the length of the pool.
 pub(crate) const HEAD_LEN: usize = 4;
 
-/// How long the record of an entry is: its type, its exponent and eight slots.
+/// The length of an entry's record: its type, its exponent and eight slots.
 pub(crate) const RECORD_LEN: usize = 58;
 
 /// Where the first slot of the first record begins.
 pub(crate) const SLOTS_START: usize = 6;
 
-/// How long a slot is: its kind, and three numbers, where its literal begins in the pool, how long that is, and its place.
+/// The length of a record's eight slots.
+pub(crate) const SLOTS_LEN: usize = 56;
+
+/// The length of a slot: its kind, and three numbers, which are the start and the length of its
+/// literal in the pool, and its place.
 pub(crate) const SLOT_LEN: usize = 7;
 
 /// The kind of a slot without a pattern.
@@ -24,17 +28,17 @@ pub(crate) const WITHOUT_PLACE: u8 = 1;
 /// The kind of a slot whose pattern has a place.
 pub(crate) const WITH_PLACE: u8 = 2;
 
-/// Bytes are below 256. The function does nothing: it says what the type of a slice does.
+/// States that bytes are below 256. It does nothing: it is its contract.
 pub(crate) fn are_below_256(bytes: &[u8])
     ensures { (i : ℕ) → slice_index bytes.now i < 256 }
 {
     let _ = bytes;
 }
 
-/// The number in two bytes, the low one first.
+/// The number in two bytes, the low byte first.
 pub(crate) fn number_at(bytes: &[u8], at: usize) -> usize
     requires { at + 1 < length bytes.now }
-    ensures is { result ≡ number bytes.now at }
+    ensures is { result ≡ two_byte_number bytes.now at }
     ensures small { result < 2 ^ 16 }
 {
     bytes[at] as usize + 256 * (bytes[at + 1] as usize)
@@ -42,7 +46,7 @@ pub(crate) fn number_at(bytes: &[u8], at: usize) -> usize
 
 /// The place of a slot's pattern.
 pub(crate) fn place_of(slot: &[u8]) -> Option<usize>
-    requires { length slot.now ≡ 7 }
+    requires { length slot.now ≡ SLOT_LEN }
     ensures { result ≡ place_in slot.now }
 {
     if slot[0] == WITH_PLACE {
@@ -54,7 +58,7 @@ pub(crate) fn place_of(slot: &[u8]) -> Option<usize>
 
 /// The literal of a slot's pattern, as far as the pool goes.
 pub(crate) fn literal_of<'a>(pool: &'a [u8], slot: &[u8]) -> &'a [u8]
-    requires { length slot.now ≡ 7 }
+    requires { length slot.now ≡ SLOT_LEN }
     ensures { result.now ≡ (pattern_in pool.now slot.now).literal }
 {
     let start = number_at(slot, 1);

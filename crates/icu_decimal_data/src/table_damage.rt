@@ -1,30 +1,31 @@
-//! Whether bytes are those of a compact table, and where not: they are judged record by record and slot by slot, up to
-//! the first damage that is met.
+//! Checks whether bytes are those of a compact table, record by record and slot by slot, up to the
+//! first damage.
 
 #![tactic(auto, using(crate::proofs::TableSteps::steps), unfolding(crate::specs::TableReading::slot_step, crate::specs::TableReading::record_step, crate::specs::TableReading::table_step))]
 
 ghost use Rattle.std.specs.Prelude.{◌≡◌, Bool, ℕ, ◌+◌, ◌*◌, ◌<◌, ◌≤◌, ◌^◌, List, Option, drop, take, length, slice_index, slice_range, IsTrue, ◌↔◌, Some, None, Ok, Err, ◌==◌, ◌&&◌, nat_eq, IfSome, IfOk};
 ghost use Rattle.std.specs.List.{list_all};
 ghost use Rattle.std.specs.Option.{option_map, option_eq};
-ghost use Rattle.icu_base.specs.Patterns.{same_pattern};
+ghost use Rattle.icu_pattern.specs.Patterns.{same_pattern};
 ghost use Rattle.icu_decimal_data.specs.PackedTable.{is_pattern};
 ghost use Rattle.std.specs.Cmp.Lexicographic.{pointwise};
-ghost use Rattle.icu_decimal_data.specs.TableAnswers.{Gives, Passes};
-ghost use Rattle.icu_decimal_data.specs.TableReading.{number, slot_step, slots_step, record_step, records_step, table_step, is_wrong_kind, is_wrong_place, is_wrong_type, is_wrong_exponent, is_repeated, same_at, same_from, place_in, pattern_in, slot_in, slot_at, count_in, pool_start, pool_in, whole_len};
+ghost use Rattle.icu_decimal_data.specs.TableAnswers.{GivesNumber, Passes};
+ghost use Rattle.icu_decimal_data.specs.TableReading.{two_byte_number, slot_step, slots_step, record_step, records_step, table_step, is_wrong_kind, is_wrong_place, is_wrong_type, is_wrong_exponent, is_repeated, same_at, same_from, place_in, pattern_in, slot_in, slot_at, count_in, pool_start, pool_in, whole_len};
 
 use crate::error::Damaged;
 use crate::kept::MAX_ZEROS;
 use crate::table_bytes::{
-    ABSENT, HEAD_LEN, RECORD_LEN, SLOT_LEN, WITH_PLACE, WITHOUT_PLACE, literal_of, number_at,
-    place_of,
+    ABSENT, HEAD_LEN, RECORD_LEN, SLOT_LEN, SLOTS_LEN, WITH_PLACE, WITHOUT_PLACE, literal_of,
+    number_at, place_of,
 };
-use icu_base::PatternBackend;
+use icu_pattern::PatternBackend;
 use std::str;
 
-/// The most entries that a table has: one for each type.
+/// The greatest number of entries: one for each type.
 const MAX_ENTRIES: usize = 256;
 
-/// Whether a slot may not be of this kind: it is none, the last slot is absent, or the backend knows no place.
+/// Whether a slot's kind is wrong: no kind at all, absent in the last slot, or with a place where
+/// the backend has no places.
 fn is_kind_wrong<P: PatternBackend>(is_last: bool, kind: u8) -> bool
     ensures { result ≡ is_wrong_kind P.accepted is_last kind }
 {
@@ -33,9 +34,10 @@ fn is_kind_wrong<P: PatternBackend>(is_last: bool, kind: u8) -> bool
         || (kind == WITH_PLACE && !P::accepts(Some(0), ""))
 }
 
-/// Whether a slot's place is past its literal, or named where the pattern has none.
+/// Whether a slot's place is after the end of its literal, or isn't 0 although the pattern has no
+/// place.
 fn is_place_wrong(slot: &[u8]) -> bool
-    requires { length slot.now ≡ 7 }
+    requires { length slot.now ≡ SLOT_LEN }
     ensures { result ≡ is_wrong_place slot.now }
 {
     number_at(slot, 3) < number_at(slot, 5) || (slot[0] == WITHOUT_PLACE && number_at(slot, 5) != 0)
@@ -48,9 +50,10 @@ fn are_zero(bytes: &[u8]) -> bool
     bytes.iter().all(|b| *b == 0)
 }
 
-/// Whether a literal is a text, and the backend takes it with this place.
+/// Whether a literal is UTF-8, and the backend accepts it with this place.
 fn is_good_pattern<P: PatternBackend>(place: Option<usize>, literal: &[u8]) -> bool
-    ensures { result ≡ is_pattern P.accepted (record { place = place; literal = literal.now }) }
+    ensures { result ≡ is_pattern P.accepted
+        (record { placeholder = place; literal = literal.now }) }
 {
     match str::from_utf8(literal) {
         Ok(literal) => P::accepts(place, literal),
@@ -58,15 +61,15 @@ fn is_good_pattern<P: PatternBackend>(place: Option<usize>, literal: &[u8]) -> b
     }
 }
 
-/// Whether the pattern of a slot is one of the backend.
+/// Whether the backend accepts the pattern of a slot.
 fn is_slot_good<P: PatternBackend>(pool: &[u8], slot: &[u8]) -> bool
-    requires { length slot.now ≡ 7 }
+    requires { length slot.now ≡ SLOT_LEN }
     ensures { result ≡ is_pattern P.accepted (pattern_in pool.now slot.now) }
 {
     is_good_pattern::<P>(place_of(slot), literal_of(pool, slot))
 }
 
-/// One slot: how many bytes the literals have after it.
+/// Checks a slot, and returns the length of the literals up to its own.
 fn check_slot<P: PatternBackend>(
     pool: &[u8],
     pool_start: usize,
@@ -75,12 +78,12 @@ fn check_slot<P: PatternBackend>(
     sum: usize,
     slot: &[u8],
 ) -> Result<usize, Damaged>
-    requires seven { length slot.now ≡ 7 }
-    requires room { at + 7 < 2 ^ 64 }
+    requires seven { length slot.now ≡ SLOT_LEN }
+    requires room { at + SLOT_LEN < 2 ^ 64 }
     requires pool_room { pool_start + 2 ^ 16 < 2 ^ 64 }
     requires sum_room { sum ≤ length pool.now }
     ensures inside { IfOk result (λ n. n ≤ length pool.now) }
-    ensures gives { Gives result
+    ensures gives { GivesNumber result
         (slot_step P.accepted pool.now pool_start is_last at sum slot.now) }
 {
     if is_kind_wrong::<P>(is_last, slot[0]) {
@@ -111,7 +114,7 @@ fn check_slot<P: PatternBackend>(
     Ok(sum + len)
 }
 
-/// The slots of a record.
+/// Checks the slots of a record.
 #[tactic(auto, using(crate::proofs::TableLoops::slots_loop))]
 fn check_slots<P: PatternBackend>(
     pool: &[u8],
@@ -120,12 +123,13 @@ fn check_slots<P: PatternBackend>(
     sum: usize,
     bytes: &[u8],
 ) -> Result<usize, Damaged>
-    requires slots { length bytes.now ≡ 56 }
-    requires room { at + 56 < 2 ^ 64 }
+    requires slots { length bytes.now ≡ SLOTS_LEN }
+    requires room { at + SLOTS_LEN < 2 ^ 64 }
     requires pool_room { pool_start + 2 ^ 16 < 2 ^ 64 }
     requires sum_room { sum ≤ length pool.now }
     ensures inside { IfOk result (λ n. n ≤ length pool.now) }
-    ensures gives { Gives result (slots_step P.accepted pool.now pool_start 8 at sum bytes.now) }
+    ensures gives { GivesNumber result
+        (slots_step P.accepted pool.now pool_start 8 at sum bytes.now) }
 {
     let mut total = sum;
     for j in 0..8 {
@@ -137,18 +141,18 @@ fn check_slots<P: PatternBackend>(
 
 /// A slot of a record.
 fn slot(bytes: &[u8], index: usize) -> &[u8]
-    requires len { length bytes.now ≡ 58 }
+    requires len { length bytes.now ≡ RECORD_LEN }
     requires inside { index < 8 }
     ensures slot { result.now ≡ slot_at (drop 2 bytes.now) index }
-    ensures seven { length result.now ≡ 7 }
+    ensures seven { length result.now ≡ SLOT_LEN }
 {
     &bytes[2 + SLOT_LEN * index..2 + SLOT_LEN * index + SLOT_LEN]
 }
 
 /// Whether the places in two slots are the same.
 fn is_same_place(a: &[u8], b: &[u8]) -> bool
-    requires a { length a.now ≡ 7 }
-    requires b { length b.now ≡ 7 }
+    requires a { length a.now ≡ SLOT_LEN }
+    requires b { length b.now ≡ SLOT_LEN }
     ensures { result ≡ option_eq nat_eq (place_in a.now) (place_in b.now) }
 {
     place_of(a) == place_of(b)
@@ -156,8 +160,8 @@ fn is_same_place(a: &[u8], b: &[u8]) -> bool
 
 /// Whether the literals of two slots are the same.
 fn is_same_literal(pool: &[u8], a: &[u8], b: &[u8]) -> bool
-    requires a { length a.now ≡ 7 }
-    requires b { length b.now ≡ 7 }
+    requires a { length a.now ≡ SLOT_LEN }
+    requires b { length b.now ≡ SLOT_LEN }
     ensures { result ≡ pointwise nat_eq (pattern_in pool.now a.now).literal
         (pattern_in pool.now b.now).literal }
 {
@@ -166,8 +170,8 @@ fn is_same_literal(pool: &[u8], a: &[u8], b: &[u8]) -> bool
 
 /// Whether the patterns of two slots are the same.
 fn is_same_pattern(pool: &[u8], a: &[u8], b: &[u8]) -> bool
-    requires a { length a.now ≡ 7 }
-    requires b { length b.now ≡ 7 }
+    requires a { length a.now ≡ SLOT_LEN }
+    requires b { length b.now ≡ SLOT_LEN }
     ensures { result ≡ same_pattern (pattern_in pool.now a.now) (pattern_in pool.now b.now) }
 {
     is_same_place(a, b) && is_same_literal(pool, a, b)
@@ -175,8 +179,8 @@ fn is_same_pattern(pool: &[u8], a: &[u8], b: &[u8]) -> bool
 
 /// Whether two slots are the same: both absent, or of the same pattern.
 fn is_same_slot(pool: &[u8], a: &[u8], b: &[u8]) -> bool
-    requires a { length a.now ≡ 7 }
-    requires b { length b.now ≡ 7 }
+    requires a { length a.now ≡ SLOT_LEN }
+    requires b { length b.now ≡ SLOT_LEN }
     ensures { result ≡ option_eq same_pattern (slot_in pool.now a.now) (slot_in pool.now b.now) }
 {
     if a[0] == ABSENT || b[0] == ABSENT {
@@ -189,8 +193,8 @@ fn is_same_slot(pool: &[u8], a: &[u8], b: &[u8]) -> bool
 /// Whether the slots from the third on are the same.
 #[tactic(auto, using(crate::proofs::RecordRepeats::repeats))]
 fn are_later_same(pool: &[u8], before: &[u8], bytes: &[u8]) -> bool
-    requires before { length before.now ≡ 58 }
-    requires len { length bytes.now ≡ 58 }
+    requires before { length before.now ≡ RECORD_LEN }
+    requires len { length bytes.now ≡ RECORD_LEN }
     ensures { result ≡ same_from pool.now before.now bytes.now 2 6 }
 {
     for j in 2..8 {
@@ -203,8 +207,8 @@ fn are_later_same(pool: &[u8], before: &[u8], bytes: &[u8]) -> bool
 
 /// Whether the first slots are the same, there is no second one, and the later ones are the same.
 fn are_slots_repeated(pool: &[u8], before: &[u8], bytes: &[u8]) -> bool
-    requires before { length before.now ≡ 58 }
-    requires len { length bytes.now ≡ 58 }
+    requires before { length before.now ≡ RECORD_LEN }
+    requires len { length bytes.now ≡ RECORD_LEN }
     ensures { result
         ≡ (same_at pool.now before.now bytes.now 0
         && ((slice_index (slot_at (drop 2 bytes.now) 1) 0 == 0)
@@ -215,16 +219,17 @@ fn are_slots_repeated(pool: &[u8], before: &[u8], bytes: &[u8]) -> bool
         && are_later_same(pool, before, bytes)
 }
 
-/// Whether a record has the elements of the one before it, with that one's explicit one taken away.
+/// Whether a record has the patterns of the one before it, without that one's pattern for exactly
+/// one.
 fn is_repeating(pool: &[u8], before: &[u8], bytes: &[u8]) -> bool
-    requires before { length before.now ≡ 58 }
-    requires len { length bytes.now ≡ 58 }
+    requires before { length before.now ≡ RECORD_LEN }
+    requires len { length bytes.now ≡ RECORD_LEN }
     ensures { result ≡ is_repeated pool.now (Some before.now) bytes.now }
 {
     are_slots_repeated(pool, before, bytes)
 }
 
-/// One record.
+/// Checks a record.
 fn check_record<P: PatternBackend>(
     pool: &[u8],
     pool_start: usize,
@@ -233,13 +238,13 @@ fn check_record<P: PatternBackend>(
     sum: usize,
     bytes: &[u8],
 ) -> Result<usize, Damaged>
-    requires len { length bytes.now ≡ 58 }
-    requires before { IfSome before (λ b. length b.now ≡ 58) }
-    requires room { at + 58 < 2 ^ 64 }
+    requires len { length bytes.now ≡ RECORD_LEN }
+    requires before { IfSome before (λ b. length b.now ≡ RECORD_LEN) }
+    requires room { at + RECORD_LEN < 2 ^ 64 }
     requires pool_room { pool_start + 2 ^ 16 < 2 ^ 64 }
     requires sum_room { sum ≤ length pool.now }
     ensures inside { IfOk result (λ n. n ≤ length pool.now) }
-    ensures gives { Gives result
+    ensures gives { GivesNumber result
         (record_step P.accepted pool.now pool_start
         (option_map (λ b. b.now) before.entry) at sum bytes.now) }
 {
@@ -267,7 +272,7 @@ fn check_record<P: PatternBackend>(
     Ok(total)
 }
 
-/// The records.
+/// Checks all records.
 #[tactic(auto, using(crate::proofs::TableLoops::records_loop))]
 fn check_records<P: PatternBackend>(
     pool: &[u8],
@@ -275,11 +280,11 @@ fn check_records<P: PatternBackend>(
     count: usize,
     records: &[u8],
 ) -> Result<usize, Damaged>
-    requires len { 58 * count ≤ length records.now }
+    requires len { RECORD_LEN * count ≤ length records.now }
     requires few { count ≤ 256 }
     requires pool_room { pool_start + 2 ^ 16 < 2 ^ 64 }
     ensures inside { IfOk result (λ n. n ≤ length pool.now) }
-    ensures gives { Gives result
+    ensures gives { GivesNumber result
         (records_step P.accepted pool.now pool_start count None 4 0 records.now) }
 {
     let mut total = 0;
@@ -299,7 +304,7 @@ fn check_records<P: PatternBackend>(
     Ok(total)
 }
 
-/// That bytes are those of a table; or the byte of the first damage that is met.
+/// Checks that the bytes are those of a table; else reports the byte of the first damage.
 pub(crate) fn check<P: PatternBackend>(bytes: &[u8]) -> Result<(), Damaged>
     ensures { Passes result (table_step P.accepted bytes.now) }
 {

@@ -4,15 +4,16 @@
 
 ghost use Rattle.std.specs.Prelude.{◌≡◌, ◌<◌, None, length, take, is_some, is_none, slice_index_or, option_map};
 ghost use Rattle.std.specs.List.{list_all};
-ghost use Rattle.icu_base.specs.Elements.{slots, presence, selected, sole_value};
-ghost use Rattle.icu_base.specs.Rules.{category_of};
-ghost use Rattle.icu_base.specs.Refs.{text_of_ref};
+ghost use Rattle.icu_plurals.specs.Elements.{slots, presence, selected, sole_value};
+ghost use Rattle.icu_plurals.specs.Rules.{category_of};
+ghost use Rattle.icu_pattern.specs.Refs.{text_of_ref};
 ghost use Rattle.icu_decimal_data.specs.TableReading.{IsTableBytes, IsSearchable, count_in, entry_of, pool_in, slot_of};
 
 use crate::table_bytes::{
     ABSENT, HEAD_LEN, RECORD_LEN, SLOT_LEN, SLOTS_START, literal_of, number_at, place_of,
 };
-use icu_base::{PatternBackend, PatternRef, PluralOperands, PluralRules};
+use icu_pattern::{PatternBackend, PatternRef};
+use icu_plurals::{PluralOperands, PluralRules};
 use std::str;
 
 /// The pool: the bytes behind the records.
@@ -29,7 +30,7 @@ fn slot_of(bytes: &[u8], index: usize, slot: usize) -> &[u8]
     requires inside { index < count_in bytes.now }
     requires slot { slot < 8 }
     ensures bytes { result.now ≡ slot_of bytes.now index slot }
-    ensures seven { length result.now ≡ 7 }
+    ensures seven { length result.now ≡ SLOT_LEN }
 {
     let start = SLOTS_START + RECORD_LEN * index + SLOT_LEN * slot;
     &bytes[start..start + SLOT_LEN]
@@ -64,8 +65,8 @@ fn presence<P: PatternBackend>(bytes: &[u8], index: usize) -> [bool; 8]
     ]
 }
 
-/// The pattern of an entry in a slot. The literal isn't checked again to be UTF-8, which every number that is written would
-/// pay for: that it is follows from `table`, and the prover asks for it.
+/// The pattern in a slot of an entry. The literal isn't checked again to be UTF-8, which would cost
+/// time for every number that is formatted: that it is UTF-8 is proved from `table`.
 pub(crate) fn pattern_at<P: PatternBackend>(
     bytes: &[u8],
     index: usize,

@@ -6,7 +6,7 @@ ghost use Rattle.std.specs.Prelude.{◌≡◌, ℕ, ◌+◌, ◌<◌, ◌^◌, �
 ghost use Rattle.std.specs.List.Sorted.{IsStrictlySortedBy};
 ghost use Rattle.std.specs.Map.{keys_of};
 ghost use Rattle.std.specs.Ordering.{nat_cmp};
-ghost use Rattle.icu_base.specs.Elements.{slots};
+ghost use Rattle.icu_plurals.specs.Elements.{slots};
 ghost use Rattle.icu_decimal_data.specs.Kept.{given, kept, at};
 ghost use Rattle.icu_decimal_data.specs.PackedTable.{ArePatterns, AreWritable, literal_of, slot_literals, literals};
 ghost use Rattle.icu_decimal_data.specs.TableBytes.{number_bytes, slot_bytes, slots_bytes, records_bytes, table_bytes};
@@ -15,7 +15,7 @@ use crate::kept::{Elements, stays};
 use crate::table_bytes::{
     ABSENT, HEAD_LEN, RECORD_LEN, SLOT_LEN, WITH_PLACE, WITHOUT_PLACE, are_below_256,
 };
-use icu_base::{Pattern, PatternBackend};
+use icu_pattern::{Pattern, PatternBackend};
 use std::alloc::{AllocError, Global};
 use std::collections::BTreeMap;
 
@@ -108,7 +108,8 @@ fn records_and_pool<P: PatternBackend>(
     Ok((records, pool))
 }
 
-/// The byte string of the entries that are kept of a map, whose literals are less than 65,536 bytes.
+/// The byte string of the entries that are kept of a map, whose literals are less than 65,536
+/// bytes.
 pub(crate) fn table_of<P: PatternBackend>(
     alloc: Global,
     map: &BTreeMap<u8, (u8, Elements<P>)>,

@@ -5,8 +5,8 @@ use crate::tables::{
     LONG_BANGLA, LONG_ENGLISH, LONG_JAPANESE, Row, SHORT_ENGLISH, Table, copy_of, french_table,
     table_of, table_of_literal, table_without_place,
 };
-use icu_base::NoPlaceholder;
 use icu_decimal_data::{CompactError, CompactPatterns};
+use icu_pattern::NoPlaceholder;
 use std::alloc::{AllocError, Global};
 use std::str;
 
@@ -154,7 +154,7 @@ fn refuses_other_maps(rt: HostRuntime) {
     }
 }
 
-/// So many letters, asked for again where memory was wanting.
+/// That many letters; the call is repeated if memory ran out.
 fn letters(alloc: Global, count: usize) -> Result<Vec<u8>, AllocError> {
     match Vec::from_elem(alloc, b'K', count) {
         Ok(letters) => Ok(letters),
@@ -173,8 +173,8 @@ fn table_of_size(alloc: Global, size: usize) -> Result<Table, CompactError> {
     }
 }
 
-/// Whether a literal of this many bytes is kept: beside it the table's byte string has 62, and it is read again, copied
-/// and packed.
+/// Whether a literal of this many bytes is kept: beside it the table's byte string has 62, and it
+/// is read again, copied and packed.
 fn keeps_bytes(alloc: Global, size: usize) -> bool {
     match table_of_size(alloc, size) {
         Ok(table) => {
@@ -246,7 +246,7 @@ fn holds_patterns_without_a_place(rt: HostRuntime) {
     assert!(rt; holds_without_place(rt.alloc(), "kilo"));
 }
 
-/// Whether an error is told so, asked again where memory was wanting.
+/// Whether an error is reported so; the call is repeated if memory ran out.
 fn is_told(alloc: Global, error: CompactError, want: &str) -> bool {
     let told: Result<String, AllocError> = error.to_string(alloc);
     match told {

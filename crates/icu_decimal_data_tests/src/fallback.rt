@@ -1,14 +1,14 @@
-//! In which order a provider is asked, and which of its answers counts.
+//! The order in which a provider is asked, and which of its answers counts.
 
 ghost use Rattle.std.specs.Prelude.{Ok, [], if◌then◌else◌, bytes_eq, codes, length, unwrap_or, map, slice_index_or};
-ghost use Rattle.icu_base.specs.Answer.{refused, told};
-ghost use Rattle.icu_base.specs.declared.provider.error.DataErrorKind.TheVariants.{IdentifierNotFound};
+ghost use Rattle.icu_provider.specs.Answer.{refused, told};
+ghost use Rattle.icu_provider.specs.declared.error.DataErrorKind.TheVariants.{IdentifierNotFound};
 
-use icu_base::{
+use icu_decimal_data::load_with_fallback;
+use icu_provider::{
     DataError, DataErrorKind, DataIdentifierBorrowed, DataLocale, DataMarker, DataProvider,
     DataRequest,
 };
-use icu_decimal_data::load_with_fallback;
 use std::alloc::Global;
 use std::cell::Cell;
 
@@ -24,8 +24,8 @@ type Answer = Result<u8, DataError>;
 /// Systems whose names are as long as their places.
 const SYSTEMS: [&str; 3] = ["", "a", "ab"];
 
-/// Answers as it is told, one system after another, and keeps what it hears: a digit for each request, 2 where it is
-/// silent, else 1.
+/// Answers as it is told, one system after another, and keeps what it hears: a digit for each
+/// request, 2 where it is silent, else 1.
 #[derive(Drop)]
 struct Told {
     answers: &'static [Answer],

@@ -43,7 +43,8 @@ const GREATEST: GroupingSizes = GroupingSizes {
 /// Stands for no separator.
 const NOWHERE: i16 = -1;
 
-/// The magnitude of a first digit, sizes, a strategy, and the magnitudes below it that a separator follows.
+/// The magnitude of a first digit, sizes, a strategy, and the magnitudes below it that a separator
+/// follows.
 const SEPARATED: [(i16, GroupingSizes, GroupingStrategy, [i16; 2]); 19] = [
     (6, ENGLISH, GroupingStrategy::Auto, [3, 6]),
     (6, INDIC, GroupingStrategy::Auto, [3, 5]),
@@ -92,7 +93,8 @@ fn checks_each_magnitude(rt: HostRuntime) {
     }
 }
 
-/// The magnitude of a first digit, one that the number has no digit at, and whether a separator would follow there.
+/// The magnitude of a first digit, one that the number has no digit at, and whether a separator
+/// would follow there.
 const BEYOND: [(i16, i16, bool); 4] = [(3, 6, true), (2, 3, false), (6, -3, false), (-1, 3, false)];
 
 #[test]

@@ -1,8 +1,10 @@
-//! What a compact table answers: the entry of a magnitude, the pattern of a slot, and what a number picks.
+//! What a compact table answers: the entry of a magnitude, the pattern of a slot, and what a number
+//! picks.
 
 use crate::tables::{Row, SHORT_ENGLISH, Table, french_rules, french_table, operands_of, table_of};
-use icu_base::{PluralRules, SinglePlaceholder};
 use icu_decimal_data::CompactView;
+use icu_pattern::SinglePlaceholder;
+use icu_plurals::PluralRules;
 use std::alloc::Global;
 
 /// Whether a magnitude has the entry of this index and exponent in short English.

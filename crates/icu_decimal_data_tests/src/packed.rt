@@ -1,19 +1,20 @@
-//! The one byte string of a compact table: what it is, that it is read again, and that the entries of a view make a table of
-//! just the view's bytes.
+//! The one byte string of a compact table: what it is, that it is read again, and that the entries
+//! of a view make a table of just the view's bytes.
 
 ghost use Rattle.std.specs.Prelude.{◌<◌};
 
 use crate::symbol_bytes::refused_allocation;
 use crate::table_bytes::{JAPANESE, ONE_ENTRY};
 use crate::tables::{Elements, LONG_JAPANESE, Map, Row, Table, copy_of, made, pattern, table_of};
-use icu_base::{Pattern, PatternError, PluralElements, SinglePlaceholder};
 use icu_decimal_data::{CompactError, CompactPatterns, CompactView, EntryView};
+use icu_pattern::{Pattern, PatternError, SinglePlaceholder};
+use icu_plurals::PluralElements;
 use std::alloc::Global;
 use std::collections::BTreeMap;
 
 type View<'a> = CompactView<'a, SinglePlaceholder>;
 
-/// The bytes of a table, asked for again where memory was wanting.
+/// The bytes of a table; the call is repeated if memory ran out.
 fn packed(alloc: Global, table: &Table) -> Result<Vec<u8>, CompactError> {
     match table.pack(alloc) {
         Err(CompactError::OutOfMemory) => table.pack(alloc),
@@ -21,7 +22,7 @@ fn packed(alloc: Global, table: &Table) -> Result<Vec<u8>, CompactError> {
     }
 }
 
-/// Whether a table is lent and packed as these bytes.
+/// Whether a table is borrowed and packed as these bytes.
 fn has_bytes(alloc: Global, table: &Table, bytes: &[u8]) -> bool {
     match packed(alloc, table) {
         Ok(packed) => table.as_bytes() == bytes && packed.as_slice() == bytes,
@@ -174,7 +175,7 @@ fn elements_of(
     }
 }
 
-/// The map with an entry; none where memory was wanting.
+/// The map with an entry; none if memory ran out.
 fn with_entry(
     alloc: Global,
     mut map: Map<SinglePlaceholder>,
@@ -199,7 +200,7 @@ fn entry_of(view: View<'_>, log10_type: u8) -> Option<EntryView<'_, SinglePlaceh
     }
 }
 
-/// The map of a view's entries; none where memory was wanting.
+/// The map of a view's entries; none if memory ran out.
 fn map_of(alloc: Global, view: View<'_>) -> Option<Map<SinglePlaceholder>> {
     let mut map = BTreeMap::new(alloc);
     for log10_type in 0..=255 {
@@ -210,7 +211,7 @@ fn map_of(alloc: Global, view: View<'_>) -> Option<Map<SinglePlaceholder>> {
     Some(map)
 }
 
-/// The table of a view's entries, made again where memory was wanting.
+/// The table of a view's entries; the call is repeated if memory ran out.
 fn remade(alloc: Global, view: View<'_>) -> Result<Table, CompactError> {
     match made(alloc, map_of(alloc, view), None) {
         Err(CompactError::OutOfMemory) => made(alloc, map_of(alloc, view), None),
@@ -262,7 +263,8 @@ fn refused_copy(alloc: Global, table: &Table) -> u64 {
     refused
 }
 
-/// Which call is refused of one that makes the table without entries and four that copy it, counted from 1 on; none is 0.
+/// Which call is refused of one that makes the table without entries and four that copy it, counted
+/// from 1 on; none is 0.
 fn refused_call(alloc: Global) -> u64 {
     let made: Result<Table, CompactError> = CompactPatterns::new(alloc, BTreeMap::new(alloc), None);
     match made {
@@ -271,8 +273,8 @@ fn refused_call(alloc: Global) -> u64 {
     }
 }
 
-/// Where the run tells which allocation is refused, it is the call of that number that is refused: so no call asks for a
-/// second one.
+/// Where the run tells which allocation is refused, it is the call of that number that is refused:
+/// so no call asks for a second one.
 #[test]
 fn a_copy_is_one_allocation(rt: HostRuntime) {
     let refused = refused_call(rt.alloc());

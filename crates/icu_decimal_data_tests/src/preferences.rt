@@ -1,4 +1,4 @@
-//! What is asked by first, and what preferences become.
+//! What is requested first, and what preferences become.
 
 use icu_decimal_options::preferences::{
     CompactDecimalFormatterPreferences, DecimalFormatterPreferences, NumberingSystem,
@@ -17,7 +17,7 @@ fn preferences(locale: &str, system: Option<&str>) -> CompactDecimalFormatterPre
     }
 }
 
-/// A preferred system in a locale of Egypt and the system and the locale of what is asked by first.
+/// A preferred system in a locale of Egypt and the system and the locale of the first request.
 const PREFERRED: [(Option<&str>, Option<(Option<&str>, &str)>); 2] = [
     (None, None),
     (Some("thai"), Some((Some("thai"), "ar-EG"))),

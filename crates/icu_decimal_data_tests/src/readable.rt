@@ -1,4 +1,4 @@
-//! Which symbols, digits and compact tables tell their numbers.
+//! Which symbols, digits and compact tables determine their numbers.
 
 use crate::symbols::english;
 use crate::tables::{LONG_ENGLISH, Row, table_of};
@@ -10,7 +10,7 @@ const LATIN: [char; 10] = ['0', '1', '2', '3', '4', '5', '6', '7', '8', '9'];
 /// Two digits have one character.
 const REPEATED: [char; 10] = ['0', '1', '1', '3', '4', '5', '6', '7', '8', '9'];
 
-/// Whether English symbols with these digits tell their numbers.
+/// Whether English symbols with these digits determine their numbers.
 fn are_told(alloc: Global, digits: [char; 10]) -> Option<bool> {
     match english(alloc) {
         Ok(symbols) => Some(are_numbers_readable(&symbols, &digits)),
@@ -27,7 +27,7 @@ fn symbols_tell_their_numbers(rt: HostRuntime) {
     }
 }
 
-/// Whether a table of these rows with English symbols tells its numbers.
+/// Whether a table of these rows with English symbols determines its numbers.
 fn are_compact_told(alloc: Global, rows: &[Row]) -> Option<bool> {
     match (english(alloc), table_of(alloc, rows, None)) {
         (Ok(symbols), Ok(table)) => Some(is_table_readable(&table, &symbols, &LATIN)),
@@ -35,7 +35,8 @@ fn are_compact_told(alloc: Global, rows: &[Row]) -> Option<bool> {
     }
 }
 
-/// A text without a number, numbers that stand as those without an entry, and a digit after a number.
+/// A text without a number, numbers that stand as those without an entry, and a digit after a
+/// number.
 const HIDDEN: [Row; 3] = [
     (3, 3, Some("mille"), " mille"),
     (3, 3, None, ""),

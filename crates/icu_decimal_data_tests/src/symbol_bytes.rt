@@ -1,4 +1,5 @@
-//! Symbols in one byte string: what is packed, what is read, and which byte of a damaged string is told.
+//! Symbols in one byte string: what is packed, what is read, and which byte of a damaged string is
+//! reported.
 
 use crate::symbols::{Texts, builder, built};
 use icu_decimal_data::{DecimalSymbolStrsBuilder, DecimalSymbols, SymbolsView};
@@ -64,7 +65,7 @@ fn lengths_then_texts(rt: HostRuntime) {
     }
 }
 
-/// Which byte is told, if any.
+/// The byte that is reported, if any.
 fn damage(bytes: &[u8]) -> Option<usize> {
     SymbolsView::parse(bytes).err().map(|damaged| damaged.byte)
 }
@@ -148,7 +149,7 @@ fn is_told(alloc: Global, bytes: &[u8]) -> bool {
     }
 }
 
-/// The first value with which a byte of the Arabic string isn't told.
+/// The first value with which a byte of the Arabic string isn't reported.
 fn untold(alloc: Global, index: usize) -> Option<u8> {
     if index >= ARABIC.len() {
         return None;
@@ -181,7 +182,8 @@ fn refused_copy(alloc: Global, symbols: &DecimalSymbols) -> u64 {
     refused
 }
 
-/// Which call is refused of one that makes symbols and four that copy them, counted from 1 on; none is 0.
+/// Which call is refused of one that makes symbols and four that copy them, counted from 1 on; none
+/// is 0.
 fn refused_call(alloc: Global) -> u64 {
     match DecimalSymbols::new_en_for_testing(alloc) {
         Ok(symbols) => refused_copy(alloc, &symbols),
@@ -195,8 +197,8 @@ pub(crate) fn refused_allocation(rt: &HostRuntime) -> Option<u64> {
     text.trim().parse().ok()
 }
 
-/// Where the run tells which allocation is refused, it is the call of that number that is refused: so no call asks for a
-/// second one.
+/// Where the run tells which allocation is refused, it is the call of that number that is refused:
+/// so no call asks for a second one.
 #[test]
 fn each_call_is_one_allocation(rt: HostRuntime) {
     let refused = refused_call(rt.alloc());
@@ -236,8 +238,8 @@ fn refused_build(alloc: Global) -> u64 {
     refused
 }
 
-/// Where the run tells which allocation is refused, it is the build of that number that is refused: so none asks for a
-/// second one.
+/// Where the run tells which allocation is refused, it is the build of that number that is refused:
+/// so none asks for a second one.
 #[test]
 fn each_build_is_one_allocation(rt: HostRuntime) {
     let refused = refused_build(rt.alloc());

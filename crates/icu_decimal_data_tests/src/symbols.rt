@@ -59,7 +59,7 @@ fn nearly_empty<'a>(decimal_separator: &'a str, numsys: &'a str) -> DecimalSymbo
     }
 }
 
-/// The answer, or the second answer where memory was refused once.
+/// The answer, or the second answer if an allocation failed.
 pub(crate) fn built(
     alloc: Global,
     builder: &DecimalSymbolStrsBuilder<'_>,
@@ -148,7 +148,7 @@ fn holds_and_gives_back_the_seven_texts(rt: HostRuntime) {
     }
 }
 
-/// Why symbols with a separator of so many bytes are refused, if they are.
+/// Why symbols with a separator of that many bytes are refused, if they are.
 fn refusal(alloc: Global, len: usize, numsys: &str) -> Option<SymbolsError> {
     let bytes = [b'x'; 300];
     if len > bytes.len() {
@@ -318,7 +318,7 @@ const FULL: Texts = [
     "abcdefgh",
 ];
 
-/// Whether the first call builds them or is refused for want of memory, and then the second builds them.
+/// Whether the first call builds them or runs out of memory, and then the second builds them.
 fn builds_alone(alloc: Global) -> bool {
     match builder(FULL).build(alloc) {
         Ok(symbols) => holds_texts(&symbols, FULL),

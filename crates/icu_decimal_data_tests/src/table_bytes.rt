@@ -1,7 +1,7 @@
-//! Compact tables in one byte string: what is read, and which byte of a damaged string is told.
+//! Compact tables in one byte string: what is read, and which byte of a damaged string is reported.
 
-use icu_base::{NoPlaceholder, PatternBackend, SinglePlaceholder};
 use icu_decimal_data::CompactView;
+use icu_pattern::{NoPlaceholder, PatternBackend, SinglePlaceholder};
 
 /// Types 4 and 8 of long Japanese.
 pub(crate) const JAPANESE: [u8; 126] = *b"\x02\x00\x06\x00\
@@ -14,7 +14,7 @@ pub(crate) const ONE_ENTRY: [u8; 63] = *b"\x01\x00\x01\x00\
 \x05\x04\0\0\0\0\0\0\0\0\0\0\0\0\0\0\0\0\0\0\0\0\0\0\0\0\0\0\0\0\0\0\0\0\0\0\0\0\0\0\0\0\0\0\0\0\0\0\0\0\0\x02\x00\x00\x01\x00\x00\x00\
 W";
 
-/// Which byte is told, if any.
+/// The byte that is reported, if any.
 fn damage<P: PatternBackend>(bytes: &[u8]) -> Option<usize> {
     CompactView::<P>::parse(bytes)
         .err()
@@ -44,7 +44,7 @@ fn a_beginning_is_damaged_where_it_ends(rt: HostRuntime) {
     }
 }
 
-/// A byte of long Japanese, another value of it, and the byte that is told.
+/// A byte of long Japanese, another value of it, and the byte that is reported.
 const CHANGED: [(usize, u8, usize); 8] = [
     (62, 4, 62),
     (63, 3, 63),
@@ -70,7 +70,7 @@ fn each_fault_tells_its_byte(rt: HostRuntime) {
     }
 }
 
-/// A byte of the table of one entry, another value of it, and the byte that is told.
+/// A byte of the table of one entry, another value of it, and the byte that is reported.
 const CHANGED_ENTRY: [(usize, u8, usize); 5] = [
     (5, 6, 5),
     (55, 0, 55),
@@ -93,7 +93,7 @@ fn each_fault_of_one_entry_tells_its_byte(rt: HostRuntime) {
     }
 }
 
-/// Which byte is told of the table of one entry with one byte more.
+/// The byte that is reported for the table of one entry with one byte more.
 fn damage_of_one_entry_and_a_byte() -> Option<usize> {
     let mut bytes = [b'W'; 64];
     bytes[..63].copy_from_slice(&ONE_ENTRY);
@@ -106,7 +106,8 @@ fn another_length_is_told_at_the_smaller_one(rt: HostRuntime) {
     assert!(rt; damage_of_one_entry_and_a_byte() == Some(63));
 }
 
-/// Which byte is told of long Japanese with one byte more, that the length of the literals counts.
+/// The byte that is reported for long Japanese with one byte more, that the length of the literals
+/// counts.
 fn damage_of_a_counted_byte() -> Option<usize> {
     let mut bytes = [0x41; 127];
     bytes[..126].copy_from_slice(&JAPANESE);
@@ -136,7 +137,7 @@ fn is_told_inside(bytes: &[u8]) -> bool {
     }
 }
 
-/// The first value with which a byte of long Japanese is told past the end.
+/// The first value with which a byte of long Japanese is reported past the end.
 fn untold(index: usize) -> Option<u8> {
     if index >= JAPANESE.len() {
         return None;

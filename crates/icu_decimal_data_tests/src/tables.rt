@@ -1,11 +1,9 @@
-//! The tables that the tests are made with, and what is asked for again where memory was wanting.
+//! The tables that the tests are made with, and what is the call is repeated if memory ran out.
 
 use fixed_decimal::{Decimal, DecimalError};
-use icu_base::{
-    NoPlaceholder, Pattern, PatternBackend, PatternError, PluralCategory, PluralElements,
-    PluralOperands, PluralRules, RulesError, SinglePlaceholder,
-};
 use icu_decimal_data::{CompactError, CompactPatterns};
+use icu_pattern::{NoPlaceholder, Pattern, PatternBackend, PatternError, SinglePlaceholder};
+use icu_plurals::{PluralCategory, PluralElements, PluralOperands, PluralRules, RulesError};
 use std::alloc::Global;
 use std::collections::BTreeMap;
 
@@ -13,7 +11,8 @@ pub(crate) type Elements<P> = PluralElements<Pattern<P>>;
 
 pub(crate) type Map<P> = BTreeMap<u8, (u8, Elements<P>)>;
 
-/// A type, its exponent, the text for exactly one, and for all other numbers the text before which a number stands.
+/// A type, its exponent, the text for exactly one, and for all other numbers the text before which
+/// a number stands.
 pub(crate) type Row = (u8, u8, Option<&'static str>, &'static str);
 
 pub(crate) type Table = CompactPatterns<SinglePlaceholder>;
@@ -48,7 +47,7 @@ pub(crate) const LONG_BANGLA: [Row; 3] = [
 
 pub(crate) const LONG_JAPANESE: [Row; 3] = [(3, 0, None, ""), (4, 4, None, "万"), (8, 8, None, "億")];
 
-/// A pattern, asked for again where memory was wanting.
+/// A pattern; the call is repeated if memory ran out.
 pub(crate) fn pattern<P: PatternBackend>(
     alloc: Global,
     place: Option<usize>,
@@ -88,7 +87,7 @@ fn elements(alloc: Global, row: Row) -> Result<Elements<SinglePlaceholder>, Patt
     }
 }
 
-/// The map of the rows; none where memory was wanting.
+/// The map of the rows; none if memory ran out.
 fn map_of(alloc: Global, rows: &[Row]) -> Option<Map<SinglePlaceholder>> {
     let mut map = BTreeMap::new(alloc);
     for row in rows {
@@ -114,7 +113,7 @@ pub(crate) fn made<P: PatternBackend>(
     }
 }
 
-/// The table of the rows, made again where memory was wanting.
+/// The table of the rows; the call is repeated if memory ran out.
 fn made_of(
     alloc: Global,
     rows: &[Row],
@@ -148,7 +147,7 @@ pub(crate) fn copy_of(alloc: Global, table: &Table) -> Result<Table, CompactErro
     }
 }
 
-/// The map of the type 3 with these patterns; none where memory was wanting.
+/// The map of the type 3 with these patterns; none if memory ran out.
 fn map_of_elements<P: PatternBackend>(alloc: Global, elements: Elements<P>) -> Option<Map<P>> {
     let mut map = BTreeMap::new(alloc);
     match map.insert(3, (3, elements)) {
@@ -169,7 +168,7 @@ fn map_of_one<P: PatternBackend>(
     }
 }
 
-/// A table of one entry with a literal, made again where memory was wanting.
+/// A table of one entry with a literal; the call is repeated if memory ran out.
 pub(crate) fn table_of_literal(alloc: Global, literal: &str) -> Result<Table, CompactError> {
     match made(alloc, map_of_one(alloc, Some(0), literal), None) {
         Err(CompactError::OutOfMemory) => made(alloc, map_of_one(alloc, Some(0), literal), None),
@@ -177,7 +176,7 @@ pub(crate) fn table_of_literal(alloc: Global, literal: &str) -> Result<Table, Co
     }
 }
 
-/// A table of one entry without a place, made again where memory was wanting.
+/// A table of one entry without a place; the call is repeated if memory ran out.
 pub(crate) fn table_without_place(
     alloc: Global,
     literal: &str,
@@ -196,7 +195,7 @@ const FRENCH_RULES: [(PluralCategory, &str); 2] = [
     ),
 ];
 
-/// The French rules, asked for again where memory was wanting.
+/// The French rules; the call is repeated if memory ran out.
 pub(crate) fn french_rules(alloc: Global) -> Result<PluralRules, RulesError> {
     match PluralRules::from_rules(alloc, &FRENCH_RULES) {
         Err(RulesError::OutOfMemory) => PluralRules::from_rules(alloc, &FRENCH_RULES),
@@ -204,7 +203,7 @@ pub(crate) fn french_rules(alloc: Global) -> Result<PluralRules, RulesError> {
     }
 }
 
-/// The operands of a decimal, read again where memory was wanting.
+/// The operands of a decimal; the call is repeated if memory ran out.
 pub(crate) fn operands_of(alloc: Global, text: &str) -> Result<PluralOperands, DecimalError> {
     let decimal = match Decimal::try_from_str(alloc, text) {
         Err(DecimalError::OutOfMemory) => Decimal::try_from_str(alloc, text)?,
@@ -228,7 +227,7 @@ const FRENCH_THOUSANDS: [Row; 3] = [
     (5, 3, None, " mille"),
 ];
 
-/// The map with such millions as a type; none where memory was wanting.
+/// The map with such millions as a type; none if memory ran out.
 fn with_millions(
     alloc: Global,
     mut map: Map<SinglePlaceholder>,
@@ -243,8 +242,8 @@ fn with_millions(
     }
 }
 
-/// The six types of the long French table: thousands with a word for exactly one, and such millions; none where memory
-/// was wanting.
+/// The six types of the long French table: thousands with a word for exactly one, and such
+/// millions; none if memory ran out.
 fn french_map(alloc: Global) -> Option<Map<SinglePlaceholder>> {
     let thousands = map_of(alloc, &FRENCH_THOUSANDS)?;
     let with_six = with_millions(alloc, thousands, 6)?;
@@ -252,7 +251,7 @@ fn french_map(alloc: Global) -> Option<Map<SinglePlaceholder>> {
     with_millions(alloc, with_seven, 8)
 }
 
-/// The long French table, made again where memory was wanting.
+/// The long French table; the call is repeated if memory ran out.
 pub(crate) fn french_table(alloc: Global) -> Result<Table, CompactError> {
     match made(alloc, french_map(alloc), None) {
         Err(CompactError::OutOfMemory) => made(alloc, french_map(alloc), None),

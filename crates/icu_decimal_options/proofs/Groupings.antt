@@ -6,6 +6,7 @@ use Rattle.icu_decimal_options.specs.Grouping.{concatenated, put_before, cut, En
 pub use Rattle.writeable.proofs.Groupings.{is_full, FirstGroup, FirstGroup-cut, is_full-FirstGroup}
 pub use Rattle.writeable.specs.Counted.{IsDue}
 
+-- an element put before groups is put before what they make together
 pub concatenated-put_before : {A : Type 0} (p s : ℕ) (x : A) (gs : List (List A)) → concatenated (put_before p s x gs) ≡ x ∷ concatenated gs
 concatenated-put_before p s x [] = refl
 concatenated-put_before p s x (g ∷ []) = elim (length g == p) as

@@ -28,7 +28,7 @@ pub record IsGrouping {A : Type 0} (digits : List A) (primary secondary : ℕ) (
 abbrev pub secondary_size : GroupingSizes → ℕ
 secondary_size sizes = if sizes.secondary == 0 then sizes.primary else sizes.secondary
 
--- how many digits have to stand before the last group at least
+-- the least number of digits that have to stand before the last group
 abbrev pub least_before : GroupingStrategy → GroupingSizes → ℕ
 least_before Auto sizes = max 1 sizes.min_grouping
 least_before Never sizes = max 1 sizes.min_grouping

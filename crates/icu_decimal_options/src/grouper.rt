@@ -6,11 +6,12 @@ ghost use Rattle.icu_decimal_options.specs.Grouping.{digit_groups, EndsGroup, Ha
 use crate::options::GroupingStrategy;
 use icu_decimal_symbols::GroupingSizes;
 
-/// Whether a separator follows the digit at a magnitude, in a number whose first digit stands at `upper`.
+/// Whether a separator follows the digit at `magnitude`, in a number whose first digit is at the
+/// magnitude `upper`.
 ///
-/// At magnitudes above `upper` the rule of the sizes goes on; below 0 there are no separators.
+/// Above `upper` the answer is that of the group sizes alone; below 0 there are no separators.
 pub fn check(upper: i16, magnitude: i16, strategy: GroupingStrategy, sizes: GroupingSizes) -> bool
-    // Exactly where the groups end one, other than the last, with the digit at the magnitude.
+    // True exactly where the digit at the magnitude is the last of a group, but not of the last group.
     ensures groups { (digits : List ℕ) (m : ℕ) → pos (length digits) ≡ upper +ℤ pos 1
         → magnitude ≡ pos m → m < length digits
         → (IsTrue result ↔ EndsGroup (digit_groups digits sizes strategy) m) }
@@ -29,7 +30,7 @@ fn natural(number: i16) -> Option<usize>
     usize::try_from(number).ok()
 }
 
-/// How many digits have to stand before the last group at least.
+/// The least number of digits that have to stand before the last group.
 fn least_before(strategy: GroupingStrategy, sizes: GroupingSizes) -> usize
     ensures { result ≡ least_before strategy sizes }
 {
@@ -40,8 +41,8 @@ fn least_before(strategy: GroupingStrategy, sizes: GroupingSizes) -> usize
     usize::from(sizes.min_grouping).max(least)
 }
 
-/// The greatest count of digits that are not grouped, so that whether digits are is one comparison. Where none ever are,
-/// this is the greatest `usize`.
+/// The greatest number of digits that aren't grouped; more digits are. If digits are never grouped,
+/// this is `usize::MAX`.
 pub fn longest_ungrouped(strategy: GroupingStrategy, sizes: GroupingSizes) -> usize
     ensures { IsLongestUngrouped result sizes strategy }
 {
@@ -62,7 +63,8 @@ fn is_grouped(count: usize, strategy: GroupingStrategy, sizes: GroupingSizes) ->
         && least_before(strategy, sizes) <= count.saturating_sub(primary)
 }
 
-/// The size of the groups before the last one: the secondary size, or the primary one where that is 0.
+/// The size of the groups before the last one: the secondary size, or the primary size if that is
+/// 0.
 pub fn secondary_size(sizes: GroupingSizes) -> usize
     ensures { result ≡ secondary_size sizes }
 {
@@ -73,7 +75,7 @@ pub fn secondary_size(sizes: GroupingSizes) -> usize
     }
 }
 
-/// Whether whole groups are left below the digit at a magnitude.
+/// Whether the digits below a magnitude make whole groups.
 fn ends_group(magnitude: usize, sizes: GroupingSizes) -> bool
     requires { 0 < sizes.primary }
     ensures { IsTrue result ↔ ((sizes.primary ≤ magnitude)

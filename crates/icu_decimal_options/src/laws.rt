@@ -1,14 +1,14 @@
-//! What holds of digits in groups, whatever the sizes and the strategy: each function does nothing, and its contract is
-//! the law.
+//! Laws of digit groups, for all sizes and strategies. The functions do nothing: each is its
+//! contract.
 
 ghost use Rattle.icu_decimal_options.specs.GroupingLaws.{SeparatorsTakenOut, DigitsHaveAGrouping, DigitsHaveOneGrouping};
 
-/// Taking out the separators gives the integer's digits in order.
+/// Without the separators the text is the integer's digits, in order.
 pub fn separators_taken_out()
     ensures { SeparatorsTakenOut }
 {}
 
-/// More digits than the primary size have one grouping by the sizes.
+/// Digits that are more than the primary size have exactly one grouping by the sizes.
 pub fn grouping_is_unique()
     ensures some { DigitsHaveAGrouping }
     ensures one { DigitsHaveOneGrouping }

@@ -1,4 +1,4 @@
-//! What a formatter is asked: for whom, how, and by both where the groups of an integer end.
+//! Preferences and options of formatters, and where they end the groups of an integer.
 //!
 //! ```
 //! let sizes = GroupingSizes {

@@ -1,15 +1,15 @@
-//! How a formatter is asked to group (ICU4X `options`).
+//! Options of formatters: how they group digits (ICU4X `options`).
 
-/// Whether and from how many digits on an integer is grouped (ICU4X `GroupingStrategy`).
+/// Whether an integer is grouped, and from how many digits on (ICU4X `GroupingStrategy`).
 #[derive(Clone, Copy, Debug, PartialEq, Eq, Hash)]
 pub enum GroupingStrategy {
-    /// As the locale's sizes say.
+    /// As the locale's group sizes say.
     Auto,
     /// No separators.
     Never,
-    /// As the locale's sizes say.
+    /// As the locale's group sizes say.
     Always,
-    /// As the locale's sizes say, but with at least two digits before the last group.
+    /// As the locale's group sizes say, but only with at least two digits before the last group.
     Min2,
 }
 
@@ -25,14 +25,14 @@ impl Default for GroupingStrategy {
     }
 }
 
-/// How a decimal formatter writes (ICU4X `DecimalFormatterOptions`).
+/// Options of a decimal formatter (ICU4X `DecimalFormatterOptions`).
 #[derive(Clone, Copy, Debug, PartialEq, Eq, Hash)]
 pub struct DecimalFormatterOptions {
     /// When separators are written; `None` acts as `Auto`.
     pub grouping_strategy: Option<GroupingStrategy>,
 }
 
-/// The default names no strategy.
+/// The default has no strategy.
 impl Default for DecimalFormatterOptions {
     ghost use Rattle.std.specs.Prelude.{◌≡◌, None};
 
@@ -58,14 +58,15 @@ impl From<GroupingStrategy> for DecimalFormatterOptions {
     }
 }
 
-/// How a compact decimal formatter writes (ICU4X `CompactDecimalFormatterOptions`).
+/// Options of a compact decimal formatter (ICU4X `CompactDecimalFormatterOptions`).
 #[derive(Debug, Clone, PartialEq, Eq, Drop)]
 pub struct CompactDecimalFormatterOptions {
-    /// When separators are written; `None` acts as `Auto`, though ICU4X's documentation names `Min2` for it.
+    /// When separators are written; `None` acts as `Auto`, although ICU4X's documentation says
+    /// `Min2`.
     pub grouping_strategy: Option<GroupingStrategy>,
 }
 
-/// The default asks for `Min2`.
+/// The default strategy is `Min2`.
 impl Default for CompactDecimalFormatterOptions {
     ghost use Rattle.std.specs.Prelude.{◌≡◌, Some};
     ghost use Rattle.icu_decimal_options.specs.declared.options.GroupingStrategy.TheVariants.{Min2};

@@ -1,4 +1,4 @@
-//! For whom formatters are made (ICU4X `preferences`).
+//! The locales and numbering systems to format for (ICU4X `preferences`).
 
 ghost use Rattle.std.specs.Prelude.{◌≡◌, None, codes, option_map};
 ghost use Rattle.icu_provider.specs.Identifier.{identifier_of};
@@ -8,10 +8,11 @@ use icu_plurals::PluralRulesPreferences;
 pub use icu_provider::NumberingSystem;
 use icu_provider::{DataIdentifierBorrowed, DataLocale};
 
-/// For whom a decimal formatter is made (ICU4X `DecimalFormatterPreferences`).
+/// The locale and the numbering system to format for (ICU4X `DecimalFormatterPreferences`).
 #[derive(Debug, Clone, Copy, PartialEq, Eq)]
 pub struct DecimalFormatterPreferences {
-    /// The locale. Its text goes to the provider as it is: a numbering system in it, as `-u-nu-thai`, isn't read.
+    /// The locale. Its text is passed to the provider unchanged: a numbering system in it, as
+    /// `-u-nu-thai`, has no effect.
     pub locale_preferences: DataLocale,
     /// The preferred numbering system; `None` leaves the choice to the locale.
     pub numbering_system: Option<NumberingSystem>,
@@ -31,7 +32,8 @@ impl Default for DecimalFormatterPreferences {
 }
 
 impl DecimalFormatterPreferences {
-    /// What data is asked by first: the preferred numbering system in the locale, where a system is preferred.
+    /// The identifier to request data by first: the preferred numbering system in the locale. None
+    /// without a preferred system.
     pub fn nu_id<'a>(&'a self, locale: &'a DataLocale) -> Option<DataIdentifierBorrowed<'a>>
         ensures { option_map identifier_of result
             ≡ preferred_id self.entry.now.numbering_system locale.entry.now }
@@ -46,10 +48,11 @@ impl DecimalFormatterPreferences {
     }
 }
 
-/// For whom a compact decimal formatter is made (ICU4X `CompactDecimalFormatterPreferences`).
+/// The locale and the numbering system to format for in compact form (ICU4X
+/// `CompactDecimalFormatterPreferences`).
 #[derive(Debug, Clone, Copy, PartialEq, Eq)]
 pub struct CompactDecimalFormatterPreferences {
-    /// The locale, whose text goes to the provider as it is.
+    /// The locale. Its text is passed to the provider unchanged.
     pub locale_preferences: DataLocale,
     /// The preferred numbering system; `None` leaves the choice to the locale.
     pub numbering_system: Option<NumberingSystem>,

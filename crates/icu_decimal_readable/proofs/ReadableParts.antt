@@ -11,6 +11,7 @@ use Rattle.icu_decimal_readable.specs.Readable.{Surroundings, affixes, IsFreeOfD
 abbrev pub pair : List ℕ → List ℕ → Surroundings
 pair a b = record { before = chars a; after = chars b }
 
+-- texts of the same characters make the same pair
 pub same_pair : (a b c d : List ℕ) → (chars a ≡ chars c) × (chars b ≡ chars d) → pair a b ≡ pair c d
 same_pair a b c d h = let of : List ℕ → List ℕ → Surroundings = λ x y. record { before = x; after = y } in ap₂ of h.0 h.1
 

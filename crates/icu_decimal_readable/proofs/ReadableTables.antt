@@ -1,11 +1,16 @@
 -- What holds of each pattern of a table, slot by slot and entry by entry.
+-- The code's one loop serves three tests, so the lemmas are about any property P of exponents and patterns. A pattern of an entry stands in one
+-- of eight fields (`HasPattern`), and the loop counts slots: `in_slots` and `slot_of` go between them, eight cases each. There is no induction:
+-- a loop has all slots or entries before its index, and `entry_failed` and `slot_failed` have the one at the index.
+-- The rest carries a claim along an equation, since the code has two texts where the definition has the sides of a pattern: `subst`, with the
+-- family of claims written out.
 use Rattle.std.proofs.Common.{◌≡◌, ℕ, zero, suc, ◌<◌, ◌↔◌, arith, refl, sym, ap, subst, List, [], ◌∷◌, length, slice_get}
 use Rattle.std.proofs.Common.{slice_index_or, Option, Some, None, IfSome, IsSome, Bool, true, false, IsTrue, inl, inr}
 use Rattle.std.proofs.lemmas.Option.{get_or_from_slice_get, slice_get_read, slice_get-get_or, slice_get_within}
 use Rattle.fixed_decimal.specs.declared.signs.Sign.{Sign}
 use Rattle.fixed_decimal.specs.declared.signs.Sign.TheVariants.{Negative, Positive, None as NoSign}
-use Rattle.icu_base.specs.Elements.{slots}
-use Rattle.icu_base.specs.Patterns.{PatternText, place_alone}
+use Rattle.icu_plurals.specs.Elements.{slots}
+use Rattle.icu_pattern.specs.Patterns.{PatternText, placeholder_alone}
 use Rattle.icu_decimal_data.specs.CompactTable.{PatternElements, TableEntry}
 use Rattle.icu_decimal_readable.specs.Readable.{Surroundings, sides, HasNoDigit, HasPattern, IsFreeOfDigits, IsReadableTable}
 use Rattle.icu_decimal_readable.specs.declared.readable_table.Number.{Number}
@@ -14,7 +19,7 @@ use Rattle.icu_decimal_readable.specs.ReadableTable.{TellsNumbers}
 use Rattle.icu_decimal_data.specs.Symbols.{SymbolTexts}
 
 -- a pattern with a place and no digit
-pub placed_of : (digits : List ℕ) (p : PatternText) (a : Surroundings) → a ≡ sides p → IsSome p.place → HasNoDigit digits a.before →
+pub placed_of : (digits : List ℕ) (p : PatternText) (a : Surroundings) → a ≡ sides p → IsSome p.placeholder → HasNoDigit digits a.before →
     HasNoDigit digits a.after → HasPlaceAndNoDigit digits p
 placed_of digits p a is some before after = record {
   placed = some;
@@ -79,7 +84,7 @@ module _ (P : ℕ → PatternText → Type 0) where
   slot_passed (Some e) k b t h = h.0 t
 
   -- of each entry and of the place alone
-  pub throughout : (table : List TableEntry) → P 0 place_alone → ((k : ℕ) → k < length table → IfSome (slice_get table k) (HoldsOfEntry P)) →
+  pub throughout : (table : List TableEntry) → P 0 placeholder_alone → ((k : ℕ) → k < length table → IfSome (slice_get table k) (HoldsOfEntry P)) →
       HoldsThroughout P table
   throughout table alone each None p is = subst (P 0) (sym is) alone
   throughout table alone each (Some e) p ((k, within, is), has) =
@@ -118,6 +123,7 @@ readable_table_of texts digits table placed told = record {
   told = λ s t by to p q h i e. told by p h s to q i t e;
 }
 
+-- in a readable table each pattern has a place and no digit
 pub placed_throughout : (texts : SymbolTexts) (digits : List ℕ) (table : List TableEntry) → IsReadableTable texts digits table →
     HoldsThroughout (λ m p. HasPlaceAndNoDigit digits p) table
 placed_throughout texts digits table h = λ by p is. record { placed = h.placed by p is; sides_free = h.sides_free by p is }

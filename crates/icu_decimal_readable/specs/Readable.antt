@@ -1,9 +1,9 @@
--- Symbols, digits and compact tables whose texts tell their numbers.
+-- Symbols, digits and compact tables with which the texts of numbers determine the numbers.
 use Rattle.std.specs.Prelude.{◌≡◌, ◌≢◌, ◌⊎◌, ℕ, List, [], ◌++◌, length, take, drop, All, AllPairs, Contains, IsSome, Option, Some, None}
 use Rattle.std.specs.Str.{chars}
 use Rattle.fixed_decimal.specs.declared.signs.Sign.{Sign}
 use Rattle.fixed_decimal.specs.declared.signs.Sign.TheVariants.{Negative, Positive, None as NoSign}
-use Rattle.icu_base.specs.Patterns.{PatternText, place_alone}
+use Rattle.icu_pattern.specs.Patterns.{PatternText, placeholder_alone}
 use Rattle.icu_decimal_data.specs.CompactTable.{PatternElements, TableEntry, exponent_of}
 use Rattle.icu_decimal_data.specs.Symbols.{SymbolTexts}
 
@@ -22,7 +22,7 @@ affixes s Positive = record { before = chars s.plus_sign_prefix; after = chars s
 abbrev pub HasNoDigit : List ℕ → List ℕ → Type 0
 HasNoDigit digits cs = All (λ c. ¬ (Contains digits c)) cs
 
--- nor is one before the number or after it
+-- no character before the number or after it is one of the digits
 pub record IsFreeOfDigits (digits : List ℕ) (a : Surroundings) : Type 0 where
   pub before_free : HasNoDigit digits a.before
   pub after_free : HasNoDigit digits a.after
@@ -43,7 +43,8 @@ pub record IsReadable (texts : SymbolTexts) (digits : List ℕ) : Type 0 where
   pub separators_differ : chars texts.decimal_separator ≢ chars texts.grouping_separator
   pub sign_told : SignsDiffer texts
 
--- Parts of this, each with a test of its own.
+-- ---- parts of this, each with a test of its own
+
 -- no affix and no separator has a digit
 pub record IsFreeThroughout (texts : SymbolTexts) (digits : List ℕ) : Type 0 where
   pub minus_prefix_free : HasNoDigit digits (chars texts.minus_sign_prefix)
@@ -53,19 +54,19 @@ pub record IsFreeThroughout (texts : SymbolTexts) (digits : List ℕ) : Type 0 w
   pub decimal_free : HasNoDigit digits (chars texts.decimal_separator)
   pub grouping_free : HasNoDigit digits (chars texts.grouping_separator)
 
--- the decimal separator shows, and differs from the grouping separator
+-- the decimal separator isn't empty, and differs from the grouping separator
 pub record SeparatorsTold (texts : SymbolTexts) : Type 0 where
   pub decimal_some : chars texts.decimal_separator ≢ []
   pub separators_differ : chars texts.decimal_separator ≢ chars texts.grouping_separator
 
--- what a pattern has before its place and after it; without a place all of it stands before
+-- the literal of a pattern before and after its place; without a place all of it is before
 abbrev pub sides_at : Option ℕ → List ℕ → Surroundings
 sides_at None literal = record { before = chars literal; after = [] }
 sides_at (Some n) literal = record { before = chars (take n literal); after = chars (drop n literal) }
 
--- what a pattern has on both sides of its place
+-- the two sides of a pattern
 abbrev pub sides : PatternText → Surroundings
-sides p = sides_at p.place p.literal
+sides p = sides_at p.placeholder p.literal
 
 -- a sign's affixes around a pattern's sides
 abbrev pub surroundings : SymbolTexts → Sign → PatternText → Surroundings
@@ -85,15 +86,15 @@ abbrev pub IsEntryOf : List TableEntry → Option TableEntry → Type 0
 IsEntryOf table None = Unit {0}
 IsEntryOf table (Some e) = Contains table e
 
--- a number may stand in the pattern by this entry of the table; by none it is written alone
+-- the pattern is one of this entry of the table; without an entry it is the place alone
 abbrev pub IsPatternBy : List TableEntry → Option TableEntry → PatternText → Type 0
-IsPatternBy table None p = p ≡ place_alone
+IsPatternBy table None p = p ≡ placeholder_alone
 IsPatternBy table (Some e) p = Contains table e × HasPattern e.elements p
 
--- What a compact table adds: each pattern has a place and no digit; and what stands around a number, affixes and sides
--- taken together, tells the sign and the exponent.
+-- What a compact table adds: each pattern has a place and no digit; and the affixes and the sides of the pattern together
+-- determine the sign and the exponent.
 pub record IsReadableTable (texts : SymbolTexts) (digits : List ℕ) (table : List TableEntry) : Type 0 where
-  pub placed : (by : Option TableEntry) (p : PatternText) → IsPatternBy table by p → IsSome p.place
+  pub placed : (by : Option TableEntry) (p : PatternText) → IsPatternBy table by p → IsSome p.placeholder
   pub sides_free : (by : Option TableEntry) (p : PatternText) → IsPatternBy table by p → IsFreeOfDigits digits (sides p)
   pub told : (s t : Sign) (by to : Option TableEntry) (p q : PatternText) → IsPatternBy table by p → IsPatternBy table to q
       → surroundings texts s p ≡ surroundings texts t q → (s ≡ t) × (exponent_of by ≡ exponent_of to)

@@ -2,7 +2,7 @@
 use Rattle.std.specs.Prelude.{◌≡◌, ℕ, List, ◌++◌, Option, IsSome}
 use Rattle.std.specs.Str.{chars}
 use Rattle.fixed_decimal.specs.declared.signs.Sign.{Sign}
-use Rattle.icu_base.specs.Patterns.{PatternText}
+use Rattle.icu_pattern.specs.Patterns.{PatternText}
 use Rattle.icu_decimal_data.specs.CompactTable.{TableEntry, exponent_of}
 use Rattle.icu_decimal_readable.specs.Readable.{Surroundings, affixes, sides, HasPattern, IsFreeOfDigits, IsPatternBy}
 use Rattle.icu_decimal_data.specs.Symbols.{SymbolTexts}
@@ -21,30 +21,30 @@ around texts sign a = record {
 
 -- a pattern has a place and no digit
 pub record HasPlaceAndNoDigit (digits : List ℕ) (p : PatternText) : Type 0 where
-  pub placed : IsSome p.place
+  pub placed : IsSome p.placeholder
   pub sides_free : IsFreeOfDigits digits (sides p)
 
 -- a property of exponents and patterns holds of each pattern of an entry
 abbrev pub HoldsOfEntry : (ℕ → PatternText → Type 0) → TableEntry → Type 0
 HoldsOfEntry P e = (p : PatternText) → HasPattern e.elements p → P e.exponent p
 
--- it holds of each pattern that a number may stand in
+-- a property of exponents and patterns holds of each pattern that a number may have
 abbrev pub HoldsThroughout : (ℕ → PatternText → Type 0) → List TableEntry → Type 0
 HoldsThroughout P table = (by : Option TableEntry) (p : PatternText) → IsPatternBy table by p → P (exponent_of by) p
 
--- numbers with these signs and exponents, between these, have the same around them only where sign and exponent are the
--- same
+-- two numbers with these signs, exponents and sides have the same characters around them only if they have the same sign
+-- and exponent
 abbrev pub AreTold : SymbolTexts → Sign → ℕ → Surroundings → Sign → ℕ → Surroundings → Type 0
 AreTold texts s m a t n b = around texts s a ≡ around texts t b → (s ≡ t) × (m ≡ n)
 
--- a number is told from those of each sign
+-- a number is distinguished from a second one, whatever the sign of that
 abbrev pub IsToldFrom : SymbolTexts → Sign → ℕ → Surroundings → ℕ → Surroundings → Type 0
 IsToldFrom texts s m a n b = (t : Sign) → AreTold texts s m a t n b
 
--- it is told from those in each pattern
+-- a number is distinguished from those of each pattern
 abbrev pub IsToldThroughout : SymbolTexts → List TableEntry → Sign → ℕ → Surroundings → Type 0
 IsToldThroughout texts table s m a = HoldsThroughout (λ n q. IsToldFrom texts s m a n (sides q)) table
 
--- so are the numbers of each sign in a pattern with this exponent
+-- the numbers of a pattern with this exponent are distinguished from those of each pattern, whatever their sign
 abbrev pub TellsNumbers : SymbolTexts → List TableEntry → ℕ → PatternText → Type 0
 TellsNumbers texts table m p = (s : Sign) → IsToldThroughout texts table s m (sides p)

@@ -1,4 +1,4 @@
-//! When the texts of numbers tell their numbers, said and tested of symbols, digits and compact tables.
+//! Whether a formatted number can be read back: tests of symbols, digits and compact tables.
 //!
 //! ```
 //! let symbols = DecimalSymbols::new_en_for_testing(rt.alloc()).ok()?;

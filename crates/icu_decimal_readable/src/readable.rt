@@ -1,4 +1,4 @@
-//! Whether texts tell their numbers.
+//! Whether the texts of numbers determine the numbers.
 
 ghost use Rattle.std.specs.Prelude.{◌≡◌, ◌≢◌, ◌↔◌, ◌<◌, ℕ, IsTrue, AllPairs, chars, length, slice_index_or};
 ghost use Rattle.icu_decimal_data.specs.Given.{texts_given};
@@ -98,7 +98,7 @@ fn is_free_of_digits(texts: &DecimalSymbolStrsBuilder<'_>, digits: &[char]) -> b
     has_no_digit(digits, texts.grouping_separator)
 }
 
-/// Whether the decimal separator shows, and differs from the grouping separator.
+/// Whether the decimal separator has a character and differs from the grouping separator.
 fn are_separators_told(texts: &DecimalSymbolStrsBuilder<'_>) -> bool
     ensures { IsTrue result ↔ SeparatorsTold (texts_given texts.now) }
 {
@@ -124,12 +124,12 @@ fn are_readable(texts: &DecimalSymbolStrsBuilder<'_>, digits: &[char; 10]) -> bo
     signs_differ(texts)
 }
 
-/// Whether numbers with these symbols and digits are readable: then their texts tell the sign, the range and every digit
-/// (this project's own).
+/// Whether numbers with these symbols and digits are readable: their texts determine the sign, the
+/// range and every digit (this project's own).
 ///
-/// They are where the ten digits differ and none of them stands in an affix or a separator, the decimal separator isn't
-/// empty and isn't the grouping separator, and the pairs of affixes of minus, plus and no sign differ. Characters are
-/// compared, not bytes. It takes no memory.
+/// They are readable if the ten digits differ, none of them occurs in an affix or a separator, the
+/// decimal separator isn't empty and differs from the grouping separator, and the pairs of affixes
+/// of minus, plus and no sign differ. Characters are compared, not bytes. It takes no memory.
 pub fn are_numbers_readable(symbols: &DecimalSymbols, digits: &[char; 10]) -> bool
     ensures { IsTrue result ↔ IsReadable symbols.now.strings digits.now }
 {

@@ -1,16 +1,16 @@
-//! Whether compact texts tell their numbers.
+//! Whether the texts of compact numbers determine the numbers.
 
 ghost use Rattle.std.specs.Prelude.{◌≡◌, ◌↔◌, ◌++◌, ◌<◌, ℕ, IsTrue, IfSome, None, chars, length, slice_get, slice_index_or};
-ghost use Rattle.icu_base.specs.Elements.{slots};
-ghost use Rattle.icu_base.specs.Patterns.{PatternText, PlaceFits};
+ghost use Rattle.icu_plurals.specs.Elements.{slots};
+ghost use Rattle.icu_pattern.specs.Patterns.{PatternText, PlaceholderFits};
 ghost use Rattle.icu_decimal_data.specs.Given.{texts_given};
 ghost use Rattle.icu_decimal_readable.specs.Readable.{affixes, sides_at, sides, IsReadableTable};
 ghost use Rattle.icu_decimal_readable.specs.ReadableTable.{surroundings_of, around, AreTold, HasPlaceAndNoDigit, HoldsOfEntry, HoldsThroughout, IsToldFrom, IsToldThroughout, TellsNumbers};
 
 use crate::readable::has_no_digit;
 use fixed_decimal::Sign;
-use icu_base::SinglePlaceholder;
 use icu_decimal_data::{CompactPatterns, DecimalSymbolStrsBuilder, DecimalSymbols};
+use icu_pattern::SinglePlaceholder;
 
 /// What stands before a number and after it.
 #[derive(Clone, Copy)]
@@ -19,9 +19,9 @@ struct Sides<'a> {
     after: &'a str,
 }
 
-/// What a pattern has before its place and after it; without a place all of it stands before.
+/// The literal of a pattern before and after its place; without a place all of it is before.
 fn sides_of<'a>(place: Option<usize>, literal: &'a str) -> Sides<'a>
-    requires { PlaceFits (record { place = place; literal = literal.now }) }
+    requires { PlaceholderFits (record { placeholder = place; literal = literal.now }) }
     ensures { surroundings_of result ≡ sides_at place literal.now }
 {
     match place {
@@ -56,7 +56,7 @@ fn affixes<'a>(texts: &DecimalSymbolStrsBuilder<'a>, sign: Sign) -> Sides<'a>
     }
 }
 
-/// Whether a text is two others, one after the other.
+/// Whether a text is the concatenation of two others.
 fn is_joined(text: &str, front: &str, back: &str) -> bool
     ensures { IsTrue result ↔ (text.now ≡ front.now ++ back.now) }
 {
@@ -66,7 +66,7 @@ fn is_joined(text: &str, front: &str, back: &str) -> bool
     }
 }
 
-/// Whether two texts, one after the other, have the same characters as two others.
+/// Whether the concatenation of two texts has the same characters as that of two others.
 fn are_joined_alike(a: &str, b: &str, c: &str, d: &str) -> bool
     ensures { IsTrue result ↔ (chars a.now ++ chars b.now ≡ chars c.now ++ chars d.now) }
 {
@@ -79,7 +79,8 @@ fn are_joined_alike(a: &str, b: &str, c: &str, d: &str) -> bool
     false
 }
 
-/// A number, by all of it that isn't digits: its sign, its exponent, and what its pattern has on both sides.
+/// What a number's text has beside its digits: the sign, the exponent, and the two sides of the
+/// pattern.
 #[derive(Clone, Copy)]
 struct Number<'a> {
     sign: Sign,
@@ -114,16 +115,16 @@ fn have_same_surroundings(
     are_joined_alike(b.after, a.after, d.after, c.after)
 }
 
-/// What is tested of each pattern of a table.
+/// A test of a pattern of a table.
 trait PatternTest {
-    /// What is to hold of a pattern with an exponent.
+    /// The property of an exponent and a pattern that is tested.
     ghost holds: { Self → ℕ → PatternText → Type 0 };
 
-    /// Whether it holds of the pattern with this place and this literal.
+    /// Whether a pattern passes the test.
     fn passes(&self, exponent: u8, place: Option<usize>, literal: &str) -> bool
-        requires { PlaceFits (record { place = place; literal = literal.now }) }
+        requires { PlaceholderFits (record { placeholder = place; literal = literal.now }) }
         ensures { IsTrue result
-            ↔ holds self.now exponent (record { place = place; literal = literal.now }) };
+            ↔ holds self.now exponent (record { placeholder = place; literal = literal.now }) };
 }
 
 /// Whether the pattern in a slot of an entry passes a test, if there is one.
@@ -162,7 +163,7 @@ fn entry_passes<T: PatternTest>(
     true
 }
 
-/// Whether all patterns pass a test, also that of numbers without an entry.
+/// Whether all patterns pass a test, and the place alone, which numbers without an entry have.
 fn all_pass<T: PatternTest>(patterns: &CompactPatterns<SinglePlaceholder>, test: &T) -> bool
     ensures { IsTrue result ↔ HoldsThroughout (T.holds test.now) patterns.now }
 {
@@ -200,7 +201,7 @@ impl PatternTest for Placed<'_> {
     }
 }
 
-/// Whether two numbers with the same around them have the same sign and exponent.
+/// Whether two numbers have the same sign and exponent, or different characters around them.
 fn are_told(texts: &DecimalSymbolStrsBuilder<'_>, first: Number<'_>, second: Number<'_>) -> bool
     ensures { IsTrue result ↔ AreTold (texts_given texts.now) first.entry.sign first.entry.exponent
         (surroundings_of first.entry.sides) second.entry.sign second.entry.exponent
@@ -212,7 +213,7 @@ fn are_told(texts: &DecimalSymbolStrsBuilder<'_>, first: Number<'_>, second: Num
     !have_same_surroundings(texts, first, second)
 }
 
-/// Whether a number is told from those of each sign that have the second number's exponent and sides.
+/// Whether a number is distinguished from the second number, whatever the sign of that.
 fn is_told_from(texts: &DecimalSymbolStrsBuilder<'_>, first: Number<'_>, second: Number<'_>) -> bool
     ensures { IsTrue result ↔ IsToldFrom
         (texts_given texts.now) first.entry.sign first.entry.exponent
@@ -228,7 +229,7 @@ fn is_told_from(texts: &DecimalSymbolStrsBuilder<'_>, first: Number<'_>, second:
     are_told(texts, first, second.with_sign(Sign::Positive))
 }
 
-/// Tests that a number is told from all that may stand in a pattern.
+/// Tests that a number is distinguished from all numbers that have the pattern.
 #[derive(Clone, Copy)]
 struct ToldFrom<'a> {
     texts: &'a DecimalSymbolStrsBuilder<'a>,
@@ -253,7 +254,7 @@ impl PatternTest for ToldFrom<'_> {
     }
 }
 
-/// Whether a number is told from all that may stand in a pattern of the table.
+/// Whether a number is distinguished from all numbers that have a pattern of the table.
 fn is_told(
     texts: &DecimalSymbolStrsBuilder<'_>,
     patterns: &CompactPatterns<SinglePlaceholder>,
@@ -266,7 +267,8 @@ fn is_told(
     all_pass(patterns, &ToldFrom { texts, number })
 }
 
-/// Tests that all numbers in a pattern are told.
+/// Tests that all numbers that have the pattern are distinguished from those of each pattern of the
+/// table.
 #[derive(Clone, Copy)]
 struct Told<'a> {
     texts: &'a DecimalSymbolStrsBuilder<'a>,
@@ -295,13 +297,13 @@ impl PatternTest for Told<'_> {
     }
 }
 
-/// Whether compact numbers by this table are readable, where numbers with these symbols and digits are: each pattern has a
-/// place and no digit, and what stands around a number, affixes and pattern together, tells its sign and its exponent (this
-/// project's own).
+/// Whether compact numbers by this table are readable, if numbers with these symbols and digits
+/// are: each pattern has a place and no digit, and the affixes and the pattern around a number
+/// together determine its sign and its exponent (this project's own).
 ///
-/// Numbers without an entry count too, which stand alone; and so does each pattern of an entry, also one that the plural
-/// rules of no language pick. Each pattern is compared with each, so the time grows with the square of the table's size;
-/// no memory is taken.
+/// Numbers without an entry, which have no pattern around them, are included, and so is every
+/// pattern of an entry, even one that no language's plural rules pick. Each pattern is compared
+/// with each, so the time grows with the square of the table's size. It takes no memory.
 pub fn is_table_readable(
     table: &CompactPatterns<SinglePlaceholder>,
     symbols: &DecimalSymbols,

@@ -1,4 +1,8 @@
 -- Bytes without damage are those of symbols.
+-- The five tests of `first_damage`, in order, have a field each in `IsSymbolBytes`, so `no_damage` and `undamaged` go test by test (`or_none` takes
+-- one away). Two of the tests recur: `passing_none` and `none_passing` are inductions over the lengths, with the sum so far; `texts_none` and
+-- `none_texts` are inductions over the texts, with the index so far. `are_bytes` and `may_be` go between the bytes and the texts in them, by
+-- the list `texts_from`; that packing and reading are inverse is SymbolPacking's (`read_back`, `written`).
 use Rattle.std.proofs.Common.{◌≡◌, ℕ, zero, suc, ◌+◌, ◌<◌, ◌≤◌, IsTrue, Bool, true, false, Option, Some, None, List, [], ◌∷◌, All}
 use Rattle.std.proofs.Common.{length, take, map, refl, inl, inr, cond, eqb, ltb, arith, ap, sym, subst, ◌∙◌, zero-add}
 use Rattle.std.specs.Prelude.{sum}
@@ -53,6 +57,7 @@ or_none : (a b : Option ℕ) → or_else a b ≡ None → (a ≡ None) × (b ≡
 or_none None b e = (refl, e)
 or_none (Some x) b e = absurd cc
 
+-- bytes in which no damage is found are those of symbols
 pub no_damage : (bytes : List ℕ) → first_damage bytes ≡ None → IsSymbolBytes bytes
 unfolding first_damage
 no_damage bytes e =
@@ -83,6 +88,7 @@ no_damage bytes e =
     is_none_then true byte e = refl
     is_none_then false byte e = absurd cc
 
+-- in the bytes of symbols no damage is found
 pub undamaged : (bytes : List ℕ) → IsSymbolBytes bytes → first_damage bytes ≡ None
 unfolding first_damage
 undamaged bytes h =
@@ -130,9 +136,11 @@ may_be bytes h =
     texts_at bytes k (suc n) h zero d lt = h k (omega arith)
     texts_at bytes k (suc n) h (suc i) d lt = texts_at bytes (k + 1) n (λ j l. h j (omega arith)) i d (omega arith)
 
+-- in bytes that are written of symbols no damage is found
 pub read_only : (bytes : List ℕ) (s : SymbolTexts) → IsSymbolTexts s → bytes ≡ symbol_bytes s → first_damage bytes ≡ None
 read_only bytes s h e = rw e (undamaged (symbol_bytes s) (are_bytes s h))
 
+-- bytes in which no damage is found are written of the texts in them, which are symbols
 pub is_found : (bytes : List ℕ) → first_damage bytes ≡ None → IsSymbolTexts (texts_in bytes) × (bytes ≡ symbol_bytes (texts_in bytes))
 is_found bytes e = let h = no_damage bytes e in (may_be bytes h, sym (written bytes h.counted h.whole))
 
@@ -144,6 +152,7 @@ is_only bytes s e = rw e (read_back s)
 pub is_read_again : (s : SymbolTexts) → IsSymbolTexts s → IsReadAgain s
 is_read_again s h = (undamaged (symbol_bytes s) (are_bytes s h), read_back s)
 
+-- what `SymbolsView::parse` needs
 pub ruleset damage = (no_damage, read_only, is_found, is_only)
 
 -- ---- symbols that hold bytes

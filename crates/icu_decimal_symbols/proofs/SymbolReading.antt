@@ -10,6 +10,7 @@ use Rattle.std.proofs.lemmas.Bool.{lt-ltb, le-ltb}
 use Rattle.icu_decimal_symbols.specs.SymbolBytes.{text_start, text_at, first_passing, first_no_text}
 use Rattle.icu_decimal_symbols.proofs.TextStarts.{sum_more, start_more, start_mono}
 
+-- behind a text that is UTF-8 the search for one that isn't goes on
 pub no_text_goes_on : (bytes : List ℕ) (i : ℕ) (r : Option ℕ) → i < 7 → is_utf8 (text_at bytes i) ≡ true → first_no_text bytes i (7 - i) ≡ r →
     first_no_text bytes (i + 1) (7 - (i + 1)) ≡ r
 no_text_goes_on bytes i r lt t h =
@@ -17,6 +18,7 @@ no_text_goes_on bytes i r lt t h =
     let one : first_no_text bytes i (suc (7 - (i + 1))) ≡ first_no_text bytes (i + 1) (7 - (i + 1)) = rw t refl in
     sym one ∙ ap (first_no_text bytes i) (sym e) ∙ h
 
+-- a text that isn't UTF-8 ends the search at its first byte
 pub no_text_ends : (bytes : List ℕ) (i : ℕ) (r : Option ℕ) → i < 7 → is_utf8 (text_at bytes i) ≡ false → first_no_text bytes i (7 - i) ≡ r →
     r ≡ Some (text_start bytes i)
 no_text_ends bytes i r lt t h =
@@ -24,6 +26,7 @@ no_text_ends bytes i r lt t h =
     let one : first_no_text bytes i (suc (7 - (i + 1))) ≡ Some (text_start bytes i) = rw t refl in
     sym h ∙ ap (first_no_text bytes i) e ∙ one
 
+-- behind the last text the search has found none
 pub no_text_done : (bytes : List ℕ) (i : ℕ) (r : Option ℕ) → 7 ≤ i → first_no_text bytes i (7 - i) ≡ r → r ≡ None
 no_text_done bytes i r le h = let e : 7 - i ≡ 0 = omega arith in sym h ∙ ap (first_no_text bytes i) e
 
@@ -47,6 +50,7 @@ module _ (bytes : List ℕ) (i before : ℕ) (r : Option ℕ) (lt : i < 7) (long
       let one : first_passing i before (slice_index bytes i ∷ drop (i + 1) (take 7 bytes)) ≡ Some i = rw t refl in
       sym h ∙ ap (first_passing i before) at_length ∙ one
 
+-- behind the last length no sum is above 255
 pub passing_done : (bytes : List ℕ) (i before : ℕ) (r : Option ℕ) → 7 ≤ i → first_passing i before (drop i (take 7 bytes)) ≡ r → r ≡ None
 passing_done bytes i before r le h = sym h ∙ ap (first_passing i before) (drop_all i (take 7 bytes) (omega (arith, length-take 7 bytes)))
 
@@ -61,6 +65,7 @@ pub concat_more : (xs : List (Bor (List ℕ))) (i : ℕ) (d : Bor (List ℕ)) �
 concat_more xs i d lt = ap concat (map_more (λ (t : Bor (List ℕ)). t.now) xs i d lt)
     ∙ concat_push (map (λ (t : Bor (List ℕ)). t.now) (take i xs)) (get_or xs i d).now
 
+-- the steps of the loops over the texts
 pub ruleset reading = (
   IsUtf8-from_is_utf8,
   is_utf8-from_IsUtf8,

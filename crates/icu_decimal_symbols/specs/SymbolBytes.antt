@@ -20,11 +20,11 @@ symbol_bytes s = packed (texts_of s)
 abbrev pub text_start : List ℕ → ℕ → ℕ
 text_start bytes index = 7 + sum (take index bytes)
 
--- the text at an index, as the lengths say
+-- the text at an index, by the lengths
 abbrev pub text_at : List ℕ → ℕ → List ℕ
 text_at bytes index = slice_range bytes (text_start bytes index) (text_start bytes (index + 1))
 
--- the seven texts, as the lengths say
+-- the seven texts, by their lengths
 abbrev pub texts_in : List ℕ → SymbolTexts
 texts_in bytes = record {
   minus_sign_prefix = text_at bytes 0;
@@ -52,16 +52,16 @@ abbrev pub or_else : Option ℕ → Option ℕ → Option ℕ
 or_else None second = second
 or_else (Some byte) second = Some byte
 
--- the place, counted on from `at`, of the length with which the sum, counted on from `before`, passes 255
+-- the index of the length with which the sum exceeds 255; indices count from `at` on, and the sum from `before` on
 abbrev pub first_passing : ℕ → ℕ → List ℕ → Option ℕ
 first_passing at before [] = None
 first_passing at before (n ∷ ns) = if nat_lt 255 (before + n) then Some at else first_passing (at + 1) (before + n) ns
 
--- bytes that aren't as many as the lengths say are damaged where the shorter of the two ends
+-- bytes whose number isn't the one that the lengths give are damaged where the shorter of the two ends
 abbrev pub wrong_length : List ℕ → Option ℕ
 wrong_length bytes = if length bytes == text_start bytes 7 then None else Some (min (length bytes) (text_start bytes 7))
 
--- where the first of so many texts from an index on begins that isn't UTF-8 by itself
+-- where the first of n texts from an index on that isn't UTF-8 by itself begins
 abbrev pub first_no_text : List ℕ → ℕ → ℕ → Option ℕ
 first_no_text bytes index zero = None
 first_no_text bytes index (suc n) = if is_utf8 (text_at bytes index) then first_no_text bytes (index + 1) n else Some (text_start bytes index)
@@ -70,9 +70,9 @@ first_no_text bytes index (suc n) = if is_utf8 (text_at bytes index) then first_
 abbrev pub wrong_system : List ℕ → Option ℕ
 wrong_system bytes = if is_numbering_system (text_at bytes 6) then None else Some (text_start bytes 6)
 
--- The byte at which bytes are first found not to be those of symbols: fewer than seven; then lengths of more than 255
--- together; then another length than they say; then a text that isn't UTF-8; then a last one that names no numbering
--- system. None where they are symbols.
+-- The offset of the first damage, or none in the bytes of symbols. In order: fewer than seven bytes; lengths of more than 255
+-- together; another number of bytes than the lengths give; a text that isn't UTF-8; a last text that names no numbering
+-- system.
 unfoldable pub first_damage : List ℕ → Option ℕ
 first_damage bytes =
     if nat_lt (length bytes) 7 then Some (length bytes)

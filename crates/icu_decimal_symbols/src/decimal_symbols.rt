@@ -9,7 +9,7 @@ use crate::grouping_sizes::GroupingSizes;
 use crate::symbols::{DecimalSymbolStrsBuilder, DecimalSymbolsStrs};
 use std::alloc::Global;
 
-/// All that a locale says about plain numbers but their digits.
+/// What a locale says about plain numbers, except their digits.
 #[derive(Drop)]
 pub struct DecimalSymbols {
     /// The seven texts.
@@ -47,7 +47,7 @@ impl DecimalSymbols {
         })
     }
 
-    /// Equal symbols with memory of their own.
+    /// A copy of the symbols, with its own memory.
     pub fn copy(&self, alloc: Global) -> Result<Self, SymbolsError>
         ensures copied { IfOk result (λ symbols. symbols ≡ self.now) }
         ensures memory { IsOkUnless result OutOfMemory }
@@ -86,7 +86,7 @@ impl DecimalSymbols {
         self.strings.plus_sign_suffix()
     }
 
-    /// What stands between integer and fraction.
+    /// What stands between the integer and the fraction.
     pub fn decimal_separator(&self) -> &str
         ensures { result.now ≡ self.now.strings.decimal_separator }
     {

@@ -1,4 +1,4 @@
-//! Why symbols are refused, and byte strings.
+//! Errors of symbols and of byte strings.
 
 use std::alloc::{AllocError, AllocFailed};
 use thiserror::Error;
@@ -39,11 +39,11 @@ impl<T: Drop> From<AllocFailed<T>> for SymbolsError {
     }
 }
 
-/// Bytes aren't those of symbols, or of a compact table.
+/// The bytes aren't those of symbols or of a compact table.
 #[derive(Clone, Copy, Debug, PartialEq, Eq, Error)]
 #[error("the bytes are damaged at byte {byte}")]
 pub struct Damaged {
-    /// The byte at which that shows: where a length or a text stands that can't be, or where bytes end too early or too
-    /// late.
+    /// The offset of the byte with the error: where an impossible length or text begins, or where
+    /// the bytes are too few or too many.
     pub byte: usize,
 }

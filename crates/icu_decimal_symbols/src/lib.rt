@@ -1,4 +1,5 @@
-//! Symbols: the texts of signs and separators that a locale writes numbers with, and the sizes of its digit groups.
+//! Symbols: the texts of signs and separators that a locale writes numbers with, and the sizes of
+//! its digit groups.
 //!
 //! ```
 //! let builder = DecimalSymbolStrsBuilder {

@@ -14,8 +14,8 @@ pub(crate) const COUNT: usize = 7;
 /// The longest that the seven texts may be together, in bytes.
 pub(crate) const MAX_LEN: usize = 255;
 
-/// How long texts are together, where these are at most 255 bytes. A sum past that is never made, since it could pass the
-/// largest `usize`.
+/// The length of the texts together, if it is at most 255 bytes. Larger sums aren't computed, since
+/// they could exceed `usize::MAX`.
 pub(crate) fn short_len(texts: &[&str]) -> Option<usize>
     ensures some { IfSome result (λ len. (len ≡ sum_by (λ t. length t.now) texts.now)
         × (len ≤ MAX_LEN)) }
@@ -94,8 +94,9 @@ fn range_of(bytes: &[u8], index: usize) -> (usize, usize)
     (start, start + bytes[index] as usize)
 }
 
-/// The text of symbols at an index, cut out of their bytes. It isn't checked again to be UTF-8, which every number that is
-/// written would pay for: that it is follows from `symbols`, and the prover asks for it.
+/// The text of symbols at an index, a part of their bytes. It isn't checked again to be UTF-8,
+/// which would cost time for every number that is formatted: that it is UTF-8 is proved from
+/// `symbols`.
 #[tactic(auto, using(crate::proofs::SymbolReading::reading))]
 pub(crate) fn text(bytes: &[u8], index: usize) -> &str
     requires symbols { IsSymbolBytes bytes.now }

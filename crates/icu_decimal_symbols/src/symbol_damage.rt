@@ -1,4 +1,4 @@
-//! Whether bytes are those of symbols, and where not: five tests, in order.
+//! Whether bytes are those of symbols, by five tests in order, or the byte of the first that fails.
 
 ghost use Rattle.std.specs.Prelude.{◌≡◌, ℕ, ◌+◌, ◌≤◌, length, take, IsTrue, MatchResult, None, Some};
 ghost use Rattle.std.specs.Str.{is_utf8};
@@ -30,7 +30,7 @@ fn names_system(bytes: &[u8]) -> bool
     }
 }
 
-/// Where the last text ends, as the lengths say; or the first length with which they pass 255 together.
+/// Where the last text ends by the lengths, or the first length with which their sum exceeds 255.
 fn end_of(bytes: &[u8]) -> Result<usize, Damaged>
     requires { 7 ≤ length bytes.now }
     ensures { MatchResult
@@ -48,7 +48,7 @@ fn end_of(bytes: &[u8]) -> Result<usize, Damaged>
     Ok(COUNT + total)
 }
 
-/// That each text is UTF-8; or where the first begins that isn't.
+/// Checks that each text is UTF-8; else reports where the first that isn't begins.
 #[tactic(auto, using(crate::proofs::SymbolReading::reading))]
 fn check_texts(bytes: &[u8]) -> Result<(), Damaged>
     requires counted { 7 ≤ length bytes.now }
@@ -69,7 +69,7 @@ fn check_texts(bytes: &[u8]) -> Result<(), Damaged>
     Ok(())
 }
 
-/// That the last text names a numbering system; or where it begins.
+/// Checks that the last text names a numbering system; else reports where it begins.
 fn check_system(bytes: &[u8]) -> Result<(), Damaged>
     requires counted { 7 ≤ length bytes.now }
     requires whole { length bytes.now ≡ text_start bytes.now 7 }
@@ -86,7 +86,7 @@ fn check_system(bytes: &[u8]) -> Result<(), Damaged>
     Ok(())
 }
 
-/// That bytes are those of symbols; or the byte of the first test that fails.
+/// Checks that the bytes are those of symbols; else reports the byte of the first test that fails.
 #[tactic(auto, unfolding(crate::specs::SymbolBytes::first_damage))]
 pub(crate) fn check(bytes: &[u8]) -> Result<(), Damaged>
     ensures { MatchResult

@@ -23,7 +23,7 @@ pub struct DecimalSymbolStrsBuilder<'data> {
     pub plus_sign_prefix: &'data str,
     /// What stands after a number that is marked as positive.
     pub plus_sign_suffix: &'data str,
-    /// What stands between integer and fraction, as `.`.
+    /// What stands between the integer and the fraction, as `.`.
     pub decimal_separator: &'data str,
     /// What stands between groups of integer digits, as `,`.
     pub grouping_separator: &'data str,
@@ -34,8 +34,8 @@ pub struct DecimalSymbolStrsBuilder<'data> {
 impl<'data> DecimalSymbolStrsBuilder<'data> {
     ghost use Rattle.icu_decimal_symbols.specs.Given.{texts_given};
 
-    /// Symbols with copies of these texts. Both refusals are judged before memory is asked for, so one that
-    /// stands is answered however little memory is left.
+    /// Symbols with copies of these texts. Both errors are checked before memory is allocated, so
+    /// they are reported even when no memory is left.
     pub fn build(&self, alloc: Global) -> Result<DecimalSymbolsStrs, SymbolsError>
         ensures made { IfOk result (λ symbols. symbols ≡ texts_given self.now) }
         ensures accepted { IsOk result → IsSymbolTexts (texts_given self.now) }
@@ -64,8 +64,8 @@ impl<'data> DecimalSymbolStrsBuilder<'data> {
     }
 }
 
-/// The seven texts of symbols: at most 255 bytes together, the last the name of a numbering system. They are held in one
-/// byte string.
+/// The seven texts of symbols: at most 255 bytes together, the last the name of a numbering system.
+/// They are held in one byte string.
 #[derive(Drop)]
 pub struct DecimalSymbolsStrs {
     bytes: Vec<u8>,
@@ -83,8 +83,8 @@ impl Model for DecimalSymbolsStrs {
 }
 
 impl DecimalSymbolsStrs {
-    /// The byte string that holds the seven texts: seven lengths, a byte each, then the texts. `SymbolsView::parse`
-    /// reads it. It takes no memory.
+    /// The byte string that holds the seven texts: seven lengths, a byte each, then the texts.
+    /// `SymbolsView::parse` reads it. It takes no memory.
     #[tactic(auto, using(crate::proofs::SymbolDamage::held_bytes))]
     pub fn as_bytes(&self) -> &[u8]
         ensures packed { result.now ≡ symbol_bytes self.now }
@@ -93,7 +93,7 @@ impl DecimalSymbolsStrs {
         self.bytes.as_slice()
     }
 
-    /// Equal symbols with a byte string of their own, in one allocation.
+    /// A copy with its own byte string, in one allocation.
     pub(crate) fn copy(&self, alloc: Global) -> Result<Self, AllocError>
         ensures { IfOk result (λ symbols. symbols ≡ self.now) }
     {
@@ -129,7 +129,7 @@ impl DecimalSymbolsStrs {
         text(&self.bytes, 3)
     }
 
-    /// What stands between integer and fraction.
+    /// What stands between the integer and the fraction.
     pub fn decimal_separator(&self) -> &str
         ensures { result.now ≡ self.now.decimal_separator }
     {
@@ -157,7 +157,7 @@ impl<'data> From<&'data DecimalSymbolsStrs> for DecimalSymbolStrsBuilder<'data> 
     ghost use Rattle.icu_decimal_symbols.specs.Given.{texts_given};
     ghost use Rattle.icu_decimal_symbols.specs.Symbols.{IsSymbolTexts};
 
-    /// The seven texts, of which symbols may be made.
+    /// The seven texts, from which symbols can be built.
     ghost from_gives = { λ s b. (texts_given b ≡ s.now) × IsSymbolTexts s.now };
 
     fn from(symbols: &'data DecimalSymbolsStrs) -> DecimalSymbolStrsBuilder<'data> {

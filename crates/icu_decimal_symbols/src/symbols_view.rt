@@ -1,4 +1,4 @@
-//! Symbols in bytes that are lent.
+//! Symbols in borrowed bytes.
 
 ghost use Rattle.std.specs.Prelude.{◌≡◌, IfOk, IsOkAnd, MatchResult, Some, None};
 ghost use Rattle.icu_provider.specs.NumberingSystem.{IsNumberingSystem};
@@ -10,8 +10,8 @@ use crate::symbol_bytes::text;
 use crate::symbol_damage::check;
 use std::alloc::AllocError;
 
-/// The seven texts of symbols, in the byte string that `DecimalSymbolsStrs::as_bytes` gives. The texts are lent for as
-/// long as the bytes are. No call takes memory.
+/// The seven texts of symbols, in the byte string that `DecimalSymbolsStrs::as_bytes` returns. The
+/// texts are borrowed for as long as the bytes are. No call takes memory.
 pub struct SymbolsView<'a> {
     bytes: &'a [u8],
     ghost packed: { IsSymbolBytes bytes.now },
@@ -34,12 +34,14 @@ impl Copy for SymbolsView<'_> {}
 impl<'a> SymbolsView<'a> {
     ghost use Rattle.icu_decimal_symbols.specs.SymbolsShown.{texts_shown};
 
-    /// The symbols that have these bytes.
+    /// The symbols with these bytes.
     ///
-    /// Five tests are made in order, and the first that fails tells the damaged byte: at least seven bytes, else their
-    /// number; lengths of at most 255 together, else the place of the length that passes it; as many bytes as the lengths
-    /// say, else the smaller of the two numbers; each text UTF-8 by itself, else where it begins; the last one the name of
-    /// a numbering system, else where it begins.
+    /// There are five tests, in this order, and the first that fails determines the byte of the
+    /// error. There have to be at least seven bytes; else it is their number. The lengths have to
+    /// be at most 255 together; else it is the offset of the length with which they exceed it. The
+    /// lengths have to give the number of bytes; else it is the smaller of the two. Each text has
+    /// to be UTF-8, and the last one the name of a numbering system; else it is where the text
+    /// begins.
     #[tactic(auto, using(crate::proofs::SymbolDamage::damage))]
     pub fn parse(bytes: &'a [u8]) -> Result<Self, Damaged>
         ensures found { IfOk result (λ v. IsSymbolTexts (texts_shown v)
@@ -81,7 +83,7 @@ impl<'a> SymbolsView<'a> {
         text(self.bytes, 3)
     }
 
-    /// What stands between integer and fraction.
+    /// What stands between the integer and the fraction.
     pub fn decimal_separator(&self) -> &'a str
         ensures { result.now ≡ (texts_shown self.now).decimal_separator }
     {

@@ -3,7 +3,7 @@ use Rattle.std.proofs.Common.{◌≡◌, ℕ, ◌*◌, ◌^◌, List, sym, ap, a
 use Rattle.fixed_decimal.specs.declared.signs.Sign.{Sign}
 use Rattle.fixed_decimal.specs.Size.{size}
 use Rattle.fixed_decimal.specs.Unsigned.{Unsigned}
-use Rattle.icu_base.specs.Events.{Event}
+use Rattle.writeable.specs.Events.{Event}
 use Rattle.icu_decimal.specs.CompactFormat.{CompactFormat, IsCompactFormat}
 use Rattle.icu_decimal.specs.CompactLaws.{OneCompactNumberIsNearest}
 use Rattle.icu_decimal.specs.CompactNumber.{IsNearestCompact}
@@ -22,6 +22,7 @@ of_shown f s t c d x y m n es fs first second same = record {
   of_other = subst (λ (z : ℕ). IsNearestCompact f.table (size d) z) (sym same) second.displayed.nearest;
 }
 
+-- so where significands and exponents are the same, one size is nearest to both
 pub of_same : (f : CompactFormat) (s t : Sign) (c d x y : Unsigned) (m n : ℕ) (es fs : List Event)
     → IsCompactFormat f s c x m es → IsCompactFormat f t d y n fs → x ≡ y → m ≡ n → ShowOneSize f (size c) (size d)
 of_same f s t c d x y m n es fs first second significands exponents =

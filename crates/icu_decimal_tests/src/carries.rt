@@ -1,4 +1,5 @@
-//! Carries: a number that is rounded to the next power of ten is written by what stands there, and then written again.
+//! Carries: a number that is rounded up to a power of ten is written by the entry of that power,
+//! and its shown number is written again.
 
 use crate::compact::is_value;
 use crate::fixtures::read;
@@ -29,7 +30,8 @@ fn gives(
     is_accepted(alloc, &formatter, &significand, given.1, want)
 }
 
-/// A number that is rounded up, the size that is shown of it, its significand and exponent, and the text of all three.
+/// A number that is rounded up, its shown size, the significand and the exponent, and the text of
+/// all three.
 type Row = (
     Language,
     &'static str,
@@ -133,7 +135,7 @@ const BELOW_A_CARRY: Row = (
     "999K",
 );
 
-/// Whether the number, the size that is shown of it, and the significand with its exponent are written alike.
+/// Whether the number, its shown size, and the significand with its exponent are written alike.
 fn is_shown_again(rt: &impl Abort, alloc: Global, row: &Row) -> bool {
     writes_number(rt, alloc, row) && writes_shown(rt, alloc, row) && gives_shown(rt, alloc, row)
 }
@@ -143,7 +145,8 @@ fn what_is_shown_without_a_carry_is_shown_again(rt: HostRuntime) {
     assert!(rt; is_shown_again(&rt, rt.alloc(), &BELOW_A_CARRY));
 }
 
-/// Padding is kept where the entry stays, so the number that is shown, without it, is written otherwise.
+/// Padding is kept if the entry stays, so the shown number, which has no padding, is written
+/// differently.
 const PADDED: [(&str, &str); 4] = [
     ("0999499", "0999K"),
     ("999499", "999K"),

@@ -4,7 +4,6 @@ use crate::fixtures::{is_annotated, is_displayed, nines, read};
 use crate::languages::Language;
 use crate::making::{compact, compact_with};
 use fixed_decimal::{Decimal, SignDisplay};
-use icu_base::{Part, PartsText, Writeable};
 use icu_decimal::error::FormatError;
 use icu_decimal::options::{
     CompactDecimalFormatterOptions, DecimalFormatterOptions, GroupingStrategy,
@@ -12,6 +11,7 @@ use icu_decimal::options::{
 use icu_decimal::{CompactDecimalFormatter, FormattedSign, FormattedUnsignedCompactDecimal, parts};
 use std::alloc::Global;
 use std::process::Abort;
+use writeable::{Part, PartsText, Writeable};
 
 /// The compact number, asked for once more where memory was refused.
 pub(crate) fn formatted<'l>(
@@ -161,8 +161,8 @@ fn shows_other_languages(rt: HostRuntime) {
     }
 }
 
-/// Numbers below the first type that is kept, and at and between the two: the type 3 is skipped, since it shows its numbers
-/// as those of magnitude 0 are shown.
+/// Numbers below the first kept type, and at and between the two kept ones. The type 3 is skipped,
+/// since its numbers are shown as those of magnitude 0.
 const JAPANESE: [(&str, &str); 7] = [
     ("999", "999"),
     ("1234", "1234"),
@@ -190,7 +190,7 @@ fn shows_a_table_with_a_skipped_type(rt: HostRuntime) {
     }
 }
 
-/// A strategy, or none for the default options, and ten to the fifteenth and to the sixteenth as they are written with it.
+/// A strategy, or none for the default options, and how 10^15 and 10^16 are written with it.
 const GROUPED: [(Language, Option<GroupingStrategy>, &str, &str); 8] = [
     (Language::ShortEnglish, None, "1000T", "10,000T"),
     (
@@ -277,7 +277,8 @@ fn is_in_a_sink(
     value.write_to_parts(&mut sink).is_ok() && is_annotated(alloc, &sink, text, want)
 }
 
-/// Whether a decimal is written as this text with these spans; asked once more where memory was refused.
+/// Whether a decimal is written as this text with these spans; asked once more where memory was
+/// refused.
 fn is_marked(
     alloc: Global,
     formatter: &CompactDecimalFormatter,

@@ -1,16 +1,17 @@
-//! Compact numbers at the ends of what a decimal can hold: the least power, and as many digits as there may be before a
-//! number that just doesn't overflow.
+//! Compact numbers at the limits of a decimal: the least power, and as many digits as a number may
+//! have that just doesn't overflow.
 
 use crate::compact::formatted;
 use crate::fixtures::{english, is_displayed};
 use crate::languages::Language;
 use crate::making::compact;
 use fixed_decimal::{Decimal, DecimalError};
-use icu_base::{PluralRules, SinglePlaceholder};
 use icu_decimal::CompactDecimalFormatter;
 use icu_decimal::error::FormatError;
 use icu_decimal::options::GroupingStrategy;
 use icu_decimal::provider::CompactPatterns;
+use icu_pattern::SinglePlaceholder;
+use icu_plurals::PluralRules;
 use std::alloc::{AllocError, Global};
 use std::collections::BTreeMap;
 use std::process::Abort;
@@ -146,7 +147,7 @@ fn nines(rt: &impl Abort, alloc: Global, count: usize) -> Vec<u8> {
     }
 }
 
-/// Whether a number that just has room, with this behind its nines, is written as the nines in groups.
+/// Whether a number at the limit, nines with this behind them, is written as the nines in groups.
 fn writes_the_greatest(rt: &impl Abort, alloc: Global, behind: &[u8]) -> bool {
     let formatter = without_patterns(rt, alloc);
     let given = bytes(rt, alloc, b"", (b'9', 32768), behind);
@@ -155,7 +156,8 @@ fn writes_the_greatest(rt: &impl Abort, alloc: Global, behind: &[u8]) -> bool {
     want.len() == 43690 && is_written(alloc, &formatter, &greatest, &want)
 }
 
-/// Whether the nines with a half behind them, which round up to a power that no decimal has, overflow.
+/// Whether the nines with a half behind them, which round up to a power that no decimal has,
+/// overflow.
 fn overflows_by_a_half(rt: &impl Abort, alloc: Global) -> bool {
     let formatter = without_patterns(rt, alloc);
     let given = bytes(rt, alloc, b"", (b'9', 32768), b".5");

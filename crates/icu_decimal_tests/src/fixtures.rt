@@ -1,8 +1,7 @@
-//! What the tests are made with: decimals, symbols and plain formatters, and whether texts are as wanted. What was refused
-//! memory is asked once more.
+//! What the tests are made with: decimals, symbols and plain formatters, and whether texts are as
+//! wanted. What was refused memory is asked once more.
 
 use fixed_decimal::{Decimal, DecimalError};
-use icu_base::{Part, PartsText};
 use icu_decimal::DecimalFormatter;
 use icu_decimal::options::{DecimalFormatterOptions, GroupingStrategy};
 use icu_decimal::provider::{DecimalSymbolStrsBuilder, DecimalSymbols, GroupingSizes};
@@ -10,6 +9,7 @@ use std::alloc::{AllocError, Global};
 use std::fmt::Display;
 use std::process::Abort;
 use std::str;
+use writeable::{Part, PartsText};
 
 pub(crate) const LATIN: [char; 10] = ['0', '1', '2', '3', '4', '5', '6', '7', '8', '9'];
 

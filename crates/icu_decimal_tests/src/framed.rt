@@ -1,23 +1,22 @@
 //! Numbers in a frame, by callers that know no more of a formatter.
 
 ghost use Rattle.std.specs.Prelude.{◌++◌};
-ghost use Rattle.icu_base.specs.Elements.{selected};
-ghost use Rattle.icu_base.specs.Events.{text_events, without_parts};
-ghost use Rattle.icu_base.specs.Patterns.{interpolated};
-ghost use Rattle.icu_base.specs.Rules.{category_of};
+ghost use Rattle.icu_plurals.specs.Elements.{selected};
+ghost use Rattle.writeable.specs.Events.{text_events, without_parts};
+ghost use Rattle.icu_pattern.specs.Patterns.{interpolated};
+ghost use Rattle.icu_plurals.specs.Rules.{category_of};
 
 use crate::fixtures::{english, is_annotated, nines, read};
 use crate::languages::Language;
 use crate::making::compact;
 use fixed_decimal::UnsignedDecimal;
-use icu_base::{
-    EventWriter, Part, PartsText, Pattern, PluralCategory, PluralElements, PluralRules,
-    SinglePlaceholder, WriteFault, Writeable,
-};
 use icu_decimal::error::FormatError;
 use icu_decimal::options::GroupingStrategy;
 use icu_decimal::{AbstractFormatter, Characters, Frame, ShownNumber, parts};
+use icu_pattern::{Pattern, SinglePlaceholder};
+use icu_plurals::{PluralCategory, PluralElements, PluralRules};
 use std::alloc::Global;
+use writeable::{EventWriter, Part, PartsText, WriteFault, Writeable};
 
 /// Texts around a number with its parts, and then its characters once more.
 #[derive(Drop)]

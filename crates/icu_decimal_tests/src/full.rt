@@ -1,17 +1,18 @@
-//! Compact numbers in sinks that are full after a number of events: they hold a beginning, and the call says so.
+//! Compact numbers in sinks that are full after a number of events: they hold a beginning, and the
+//! call says so.
 
 use crate::compact::formatted;
 use crate::fixtures::read;
 use crate::languages::Language;
 use crate::making::compact;
 use fixed_decimal::Decimal;
-use icu_base::{PartsText, Writeable};
 use icu_decimal::options::GroupingStrategy;
 use icu_decimal::{
     CompactDecimalFormatter, FormattedSign, FormattedUnsignedCompactDecimal, InterpolatedDecimal,
 };
 use std::alloc::Global;
 use std::process::Abort;
+use writeable::{PartsText, Writeable};
 
 /// Whether a sink of so many events holds this beginning of a compact number of so many.
 fn is_beginning(
@@ -25,7 +26,8 @@ fn is_beginning(
     is_whole == (limit >= events) && sink.text() == want
 }
 
-/// Whether a sink holds this beginning of a decimal in compact form; asked once more where memory was refused.
+/// Whether a sink holds this beginning of a decimal in compact form; asked once more where memory
+/// was refused.
 fn holds(
     alloc: Global,
     formatter: &CompactDecimalFormatter,
@@ -70,7 +72,8 @@ fn is_given_beginning(
     is_whole == (limit >= events) && sink.text() == want
 }
 
-/// Whether a sink holds this beginning of a significand with the exponent three; asked once more where memory was refused.
+/// Whether a sink holds this beginning of a significand with the exponent three; asked once more
+/// where memory was refused.
 fn holds_given(
     alloc: Global,
     formatter: &CompactDecimalFormatter,
@@ -87,14 +90,16 @@ fn holds_given(
     }
 }
 
-/// Whether a sink of so many events holds this beginning of 2.5 with the exponent three, which has ten.
+/// Whether a sink of so many events holds this beginning of 2.5 with the exponent three, which has
+/// ten.
 fn leaves_given(rt: &impl Abort, alloc: Global, limit: usize, want: &str) -> bool {
     let formatter = compact(rt, alloc, Language::ShortEnglish, GroupingStrategy::Min2);
     let significand = read(rt, alloc, "2.5");
     holds_given(alloc, &formatter, &significand, (limit, 10), want)
 }
 
-/// What a sink holds of 2.5 with the exponent three after so many events: each part is opened and closed.
+/// What a sink with room for so many events holds of 2.5 with the exponent three: each part is
+/// opened and closed.
 const GIVEN_BEGINNINGS: [&str; 12] = [
     "", "", "2", "2", "2", "2.", "2.", "2.", "2.5", "2.5", "2.5K", "2.5K",
 ];

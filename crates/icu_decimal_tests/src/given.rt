@@ -1,14 +1,15 @@
-//! Compact numbers whose exponent is given: significands with it, and the exponent of each magnitude.
+//! Compact numbers whose exponent is given: significands with it, and the exponent of each
+//! magnitude.
 
 use crate::fixtures::{is_annotated, is_displayed, read, scaled};
 use crate::languages::Language;
 use crate::making::compact;
 use fixed_decimal::Decimal;
-use icu_base::{Part, PartsText, Writeable};
 use icu_decimal::options::GroupingStrategy;
 use icu_decimal::{CompactDecimalFormatter, FormattedSign, InterpolatedDecimal, parts};
 use std::alloc::Global;
 use std::process::Abort;
+use writeable::{Part, PartsText, Writeable};
 
 /// Whether a given number is displayed so.
 fn is_value(alloc: Global, value: &FormattedSign<'_, InterpolatedDecimal<'_>>, want: &str) -> bool {

@@ -4,12 +4,13 @@ use crate::fixtures::{english, is_annotated, is_displayed, nines, read};
 use crate::languages::Language;
 use crate::making::{compact, rules};
 use fixed_decimal::{Sign, UnsignedDecimal};
-use icu_base::{Part, PartsText, PluralCategory, PluralElements, PluralOperands, PluralRules};
 use icu_decimal::error::FormatError;
 use icu_decimal::options::GroupingStrategy;
 use icu_decimal::{AbstractFormatter, FormattedSign, parts};
+use icu_plurals::{PluralCategory, PluralElements, PluralOperands, PluralRules};
 use std::alloc::Global;
 use std::process::Abort;
+use writeable::{Part, PartsText};
 
 /// What a call answers, and the text and the parts that its sink then holds.
 type Wanted<'a> = (Result<(), FormatError>, &'a str, &'a [(usize, usize, Part)]);
@@ -104,8 +105,8 @@ const INTEGER_AND_POINT: &[(usize, usize, Part)] = &[
     (1, 2, parts::DECIMAL),
 ];
 
-/// What a sink that takes so many events holds of 1.5, for each number that is less than all. A part that isn't closed has
-/// no span.
+/// What a sink with room for so many events holds of 1.5, for each number that is less than all. A
+/// part that isn't closed has no span.
 const BEGINNINGS: [(&str, &[(usize, usize, Part)]); 9] = [
     ("", &[]),
     ("", &[]),

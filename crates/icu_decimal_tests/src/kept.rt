@@ -1,14 +1,13 @@
 //! What a provider of the tests may keep, made of rows and copied for each answer.
 
 ghost use Rattle.std.specs.Prelude.{Ok};
-ghost use Rattle.icu_base.specs.Answer.{Answers};
+ghost use Rattle.icu_provider.specs.Answer.{Answers};
 
 use crate::fixtures::ENGLISH;
-use icu_base::{
-    DataError, DataErrorKind, Pattern, PluralCategory, PluralElements, PluralRules,
-    SinglePlaceholder,
-};
 use icu_decimal::provider::{CompactPatterns, DecimalSymbolStrsBuilder, DecimalSymbols};
+use icu_pattern::{Pattern, SinglePlaceholder};
+use icu_plurals::{PluralCategory, PluralElements, PluralRules};
+use icu_provider::{DataError, DataErrorKind};
 use std::alloc::Global;
 use std::collections::BTreeMap;
 
@@ -93,7 +92,8 @@ impl Kept for PluralRules {
 
 type Elements = PluralElements<Pattern<SinglePlaceholder>>;
 
-/// The patterns of texts that stand after one thousand and after other numbers of thousands; none where memory is wanting.
+/// The patterns of the texts behind one thousand and behind other numbers of thousands; none where
+/// an allocation is refused.
 fn elements_of(alloc: Global, one: &str, other: &str) -> Option<Elements> {
     match Pattern::try_new(alloc, Some(0), other) {
         Ok(other) => match Pattern::try_new(alloc, Some(0), one) {

@@ -1,11 +1,11 @@
 //! The languages whose compact formatters the tests use: what each is made of.
 
 use crate::fixtures::{BENGALI, ENGLISH, INDIC, LATIN};
-use icu_base::PluralCategory;
 use icu_decimal::provider::GroupingSizes;
+use icu_plurals::PluralCategory;
 
-/// A type, its exponent, the text for exactly one, and the texts that follow a number of the category one and all other
-/// numbers.
+/// A type, its exponent, the text for exactly one, and the texts behind a number of the category
+/// one and behind all others.
 pub(crate) type Row = (
     u8,
     u8,

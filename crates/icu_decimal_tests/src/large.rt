@@ -1,4 +1,5 @@
-//! Numbers of as many digits as there may be, plain and compact: each call that wants memory gives its usual answer.
+//! Numbers of as many digits as there may be, plain and compact: each call that wants memory gives
+//! its usual answer.
 
 use crate::compact::is_text;
 use crate::fixtures::{ENGLISH, LATIN, english, nines, symbols};
@@ -8,12 +9,12 @@ use crate::languages::Language;
 use crate::making::compact;
 use crate::plain::{is_copied, is_written};
 use fixed_decimal::{Decimal, DecimalError};
-use icu_base::PartsText;
 use icu_decimal::options::{DecimalFormatterOptions, GroupingStrategy};
 use icu_decimal::{AbstractFormatter, CompactDecimalFormatter, DecimalFormatter};
 use std::alloc::{AllocError, Global};
 use std::process::Abort;
 use std::str;
+use writeable::PartsText;
 
 /// How many digits stand before the point, and how many behind it, at most.
 const MOST: usize = 32768;

@@ -1,8 +1,8 @@
-//! Formatters that are made of what a provider answers: which data they take, and which refusal is answered.
+//! Formatters that are made of a provider's data: which data they take, and which refusal is
+//! reported.
 
 use crate::shelf::{Bare, KEPT_AWAY, Refusals, Shelf, WANT_OF_MEMORY};
 use fixed_decimal::Decimal;
-use icu_base::{DataError, DataErrorKind, DataLocale};
 use icu_decimal::options::{
     CompactDecimalFormatterOptions, DecimalFormatterOptions, GroupingStrategy,
 };
@@ -10,6 +10,7 @@ use icu_decimal::preferences::{
     CompactDecimalFormatterPreferences, DecimalFormatterPreferences, NumberingSystem,
 };
 use icu_decimal::{CompactDecimalFormatter, DecimalFormatter};
+use icu_provider::{DataError, DataErrorKind, DataLocale};
 use std::alloc::Global;
 
 /// Which formatter is made.
@@ -243,8 +244,8 @@ const KINDS: [DataErrorKind; 5] = [
     DataErrorKind::OutOfMemory,
 ];
 
-/// Whether a refusal of the symbols, the digits, the rules and the patterns each is answered with its text, whatever is
-/// refused after it.
+/// Whether a refusal of the symbols, of the digits, of the rules and of the patterns is reported
+/// with its text, whatever is refused after it.
 fn is_answered(alloc: Global, style: Style, kind: DataErrorKind, other: DataErrorKind) -> bool {
     let asked = (style, "en", None, None);
     let error = DataError {

@@ -2,10 +2,11 @@
 
 use crate::fixtures::symbols;
 use crate::languages::{Language, Parts, Row, parts_of};
-use icu_base::{Pattern, PluralCategory, PluralElements, PluralRules, SinglePlaceholder};
 use icu_decimal::options::{DecimalFormatterOptions, GroupingStrategy};
 use icu_decimal::provider::{CompactError, CompactPatterns};
 use icu_decimal::{CompactDecimalFormatter, DecimalFormatter};
+use icu_pattern::{Pattern, SinglePlaceholder};
+use icu_plurals::{PluralCategory, PluralElements, PluralRules};
 use std::alloc::Global;
 use std::collections::BTreeMap;
 use std::process::Abort;

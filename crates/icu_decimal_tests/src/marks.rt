@@ -1,13 +1,14 @@
 //! Plain numbers in sinks: the parts that are marked, and what a full sink holds.
 
 use crate::fixtures::{ENGLISH, LATIN, english, is_annotated, read, symbols};
-use icu_base::{Part, PartsText, Writeable};
 use icu_decimal::options::DecimalFormatterOptions;
 use icu_decimal::{DecimalFormatter, parts};
 use std::alloc::Global;
 use std::process::Abort;
+use writeable::{Part, PartsText, Writeable};
 
-/// A sink that holds so many events, with what could be written of a decimal; and whether all could.
+/// A sink with room for so many events, with what could be written of a decimal; and whether all
+/// could.
 fn annotated(
     rt: &impl Abort,
     alloc: Global,
@@ -33,7 +34,8 @@ fn is_marked(
     is_whole && is_annotated(alloc, &sink, want, spans)
 }
 
-/// Whether a decimal is written so with these affixes of a minus; asked once more where memory was refused.
+/// Whether a decimal is written so with these affixes of a minus; asked once more where memory was
+/// refused.
 fn marks(
     rt: &impl Abort,
     alloc: Global,
@@ -130,7 +132,8 @@ fn leaves_a_beginning_in_a_full_sink(rt: HostRuntime) {
     }
 }
 
-/// Whether a sink of five events holds the beginning of `-1.5` with the one part that is closed there.
+/// Whether a sink of five events holds the beginning of `-1.5` with the one part that is closed
+/// there.
 fn is_sign_marked(rt: &impl Abort, alloc: Global, formatter: &DecimalFormatter) -> bool {
     let (sink, is_whole) = annotated(rt, alloc, formatter, "-1.5", 5);
     !is_whole && is_annotated(alloc, &sink, "-1", &[(0, 1, parts::MINUS_SIGN)])

@@ -1,21 +1,21 @@
 //! A provider of the reader's own, as README shows it, and formatters made from it.
 
 ghost use Rattle.std.specs.Prelude.{Ok, Some, None, codes, if◌then◌else◌};
-ghost use Rattle.icu_base.specs.Answer.{refused};
-ghost use Rattle.icu_base.specs.Identifier.{same_identifier};
-ghost use Rattle.icu_base.specs.declared.provider.error.DataErrorKind.TheVariants.{IdentifierNotFound};
+ghost use Rattle.icu_provider.specs.Answer.{refused};
+ghost use Rattle.icu_provider.specs.Identifier.{same_identifier};
+ghost use Rattle.icu_provider.specs.declared.error.DataErrorKind.TheVariants.{IdentifierNotFound};
 
 use crate::fixtures::LATIN;
 use fixed_decimal::Decimal;
-use icu_base::{
-    DataError, DataErrorKind, DataIdentifierBorrowed, DataLocale, DataProvider, DataRequest,
-};
 use icu_decimal::DecimalFormatter;
 use icu_decimal::options::{DecimalFormatterOptions, GroupingStrategy};
 use icu_decimal::preferences::DecimalFormatterPreferences;
 use icu_decimal::provider::{
     DecimalDigitsV1, DecimalSymbolStrsBuilder, DecimalSymbols, DecimalSymbolsV1, GroupingSizes,
     SymbolsError,
+};
+use icu_provider::{
+    DataError, DataErrorKind, DataIdentifierBorrowed, DataLocale, DataProvider, DataRequest,
 };
 use std::alloc::Global;
 
@@ -56,8 +56,8 @@ impl DataProvider<DecimalDigitsV1> for OneLocale {
     }
 }
 
-/// A provider of one locale, whose numbers have points and these separators and sizes of groups; none where memory is
-/// wanting.
+/// A provider of one locale, whose numbers have points and these separators and sizes of groups;
+/// none where memory is wanting.
 fn provider(
     alloc: Global,
     locale: &str,
@@ -150,7 +150,8 @@ fn a_provider_of_the_readers_own(rt: HostRuntime) {
     }
 }
 
-/// Why no formatter of a locale is made of a provider of German in Switzerland; none where memory is wanting.
+/// Why no formatter of a locale is made of a provider of German in Switzerland; none where memory
+/// is wanting.
 fn refusal(alloc: Global, locale: &str) -> Option<DataErrorKind> {
     let provider = provider(alloc, "de-CH", "’", (3, 3, 1))?;
     let prefs = DecimalFormatterPreferences {
@@ -205,7 +206,8 @@ const WESTERN_MIN3: [&str; 4] = ["1000", "10000", "100,000", "1,000,000"];
 
 const UNGROUPED: [&str; 4] = ["1000", "10000", "100000", "1000000"];
 
-/// The primary and the secondary size and the least digits before a group, the strategy, and what is written.
+/// The primary and the secondary size and the least digits before a group, the strategy, and what
+/// is written.
 const GROUPED: [((u8, u8, u8), GroupingStrategy, [&str; 4]); 10] = [
     ((3, 3, 1), GroupingStrategy::Auto, WESTERN),
     ((3, 3, 1), GroupingStrategy::Min2, WESTERN_MIN2),

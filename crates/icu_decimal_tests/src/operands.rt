@@ -5,9 +5,9 @@ use crate::fixtures::read;
 use crate::languages::Language;
 use crate::making::{compact, rules};
 use fixed_decimal::Decimal;
-use icu_base::{PluralCategory, PluralElements, PluralOperands, PluralRules};
 use icu_decimal::CompactDecimalFormatter;
 use icu_decimal::options::GroupingStrategy;
+use icu_plurals::{PluralCategory, PluralElements, PluralOperands, PluralRules};
 use std::alloc::Global;
 use std::process::Abort;
 
@@ -62,7 +62,8 @@ fn are_told(rules: &PluralRules, shown: Option<PluralOperands>, given: PluralOpe
     }
 }
 
-/// Whether the French rules tell the operands of a decimal shown by this formatter from those of the decimal.
+/// Whether the French rules distinguish the operands of a decimal, as this formatter shows it, from
+/// those of the decimal itself.
 fn tells(rt: &impl Abort, alloc: Global, shown: Option<PluralOperands>, decimal: &Decimal) -> bool {
     let given = PluralOperands::from_significand_and_exponent(&decimal.absolute, 0);
     are_told(&rules(rt, alloc, Language::LongFrench), shown, given)

@@ -203,7 +203,8 @@ fn has_commas(text: &str, length: usize, commas: usize) -> bool {
     text.len() == length && text.bytes().filter(|byte| *byte == b',').count() == commas
 }
 
-/// Whether the formatter writes a decimal in so many bytes with so many commas; asked once more where memory was refused.
+/// Whether the formatter's text of a decimal has so many bytes and so many commas; asked once more
+/// where memory was refused.
 fn is_long(
     alloc: Global,
     formatter: &DecimalFormatter,

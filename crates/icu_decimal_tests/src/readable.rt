@@ -170,8 +170,8 @@ fn readable_compact_numbers(rt: HostRuntime) {
     }
 }
 
-/// Whether the compact formatter of a language but for the affixes of a minus isn't readable, and writes two numbers as
-/// this text.
+/// Whether the compact formatter of a language, with other affixes of a minus, isn't readable, and
+/// writes two numbers as this text.
 fn is_compact_hidden(
     rt: &impl Abort,
     alloc: Global,
@@ -194,8 +194,9 @@ type Hidden = (
     &'static str,
 );
 
-/// A pattern without a place; numbers that stand alone and those in a pattern; affixes that look like a pattern; plain
-/// numbers that aren't readable; a digit in a pattern; and one pattern of two exponents.
+/// A pattern without a placeholder; numbers without a pattern and with one; affixes that look like
+/// a pattern; plain numbers that aren't readable; a digit in a pattern; and one pattern for two
+/// exponents.
 const HIDDEN_COMPACT: [Hidden; 6] = [
     (
         (Language::LongFrench, ("-", "")),

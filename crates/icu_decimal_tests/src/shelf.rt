@@ -2,20 +2,18 @@
 
 ghost use Rattle.std.specs.Prelude.{◌≡◌, Ok, find, option_map, unwrap_or};
 ghost use Rattle.std.specs.Option.{option_copied};
-ghost use Rattle.icu_base.specs.Answer.{Answers, refused, told};
-ghost use Rattle.icu_base.specs.Identifier.{identifier_of, same_identifier};
-ghost use Rattle.icu_base.specs.declared.provider.error.DataErrorKind.TheVariants.{IdentifierNotFound};
+ghost use Rattle.icu_provider.specs.Answer.{Answers, refused, told};
+ghost use Rattle.icu_provider.specs.Identifier.{identifier_of, same_identifier};
+ghost use Rattle.icu_provider.specs.declared.error.DataErrorKind.TheVariants.{IdentifierNotFound};
 
 use crate::fixtures::LATIN;
 use crate::kept::{Kept, Table, Texts, Thousands};
-use icu_base::{
-    DataError, DataErrorKind, DataIdentifierBorrowed, DataProvider, DataRequest, PluralCategory,
-    PluralRules, PluralsCardinalV1,
-};
 use icu_decimal::provider::{
     CompactPatterns, DecimalCompactLongV1, DecimalCompactShortV1, DecimalDigitsV1, DecimalSymbols,
     DecimalSymbolsV1,
 };
+use icu_plurals::{PluralCategory, PluralRules, PluralsCardinalV1};
+use icu_provider::{DataError, DataErrorKind, DataIdentifierBorrowed, DataProvider, DataRequest};
 use std::alloc::Global;
 use std::collections::BTreeMap;
 
@@ -151,7 +149,8 @@ impl DataProvider<DecimalCompactLongV1> for Shelf {
     }
 }
 
-/// What is answered by English and by the rest, kind by kind: the symbols, the digits, the rules and the patterns.
+/// What is answered by English and by the rest, kind by kind: the symbols, the digits, the rules
+/// and the patterns.
 pub(super) type Refusals = [Option<DataError>; 4];
 
 const ENGLISH_TEXTS: Texts = (".", ",", "latn");
@@ -165,7 +164,8 @@ pub(super) const KEPT_AWAY: DataError = DataError {
     context: "kept away",
 };
 
-/// Memory was wanting for what is kept: no refusal of a row, nor one that is asked for, is this one.
+/// Memory was wanting for what is kept: no refusal of a row, nor one that is asked for, is this
+/// one.
 pub(super) const WANT_OF_MEMORY: DataError = DataError {
     kind: DataErrorKind::OutOfMemory,
     context: "",
@@ -275,7 +275,8 @@ impl Shelf {
     }
 }
 
-/// A provider of the same by every identifier, and of hardly anything, so that memory is wanted for copies before long.
+/// A provider of the same data for every identifier, and of hardly any, so that copies soon need
+/// memory.
 #[derive(Drop)]
 pub(super) struct Bare {
     symbols: DecimalSymbols,

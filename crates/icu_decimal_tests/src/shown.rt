@@ -1,19 +1,21 @@
-//! What is shown of a number, written and told by one call, by callers that know no more of a formatter.
+//! What is shown for a number, written by one call that also returns its operands: callers that are
+//! generic in the formatter.
 
 use crate::fixtures::{english, is_annotated, nines, read, scaled};
 use crate::interface::holds;
 use crate::languages::Language;
 use crate::making::compact;
 use fixed_decimal::UnsignedDecimal;
-use icu_base::{Part, PartsText, PluralOperands};
 use icu_decimal::error::FormatError;
 use icu_decimal::options::GroupingStrategy;
 use icu_decimal::{AbstractFormatter, parts};
+use icu_plurals::PluralOperands;
 use std::alloc::Global;
 use std::process::Abort;
+use writeable::{Part, PartsText};
 
-/// The text of a number in a sink with this limit, or without one, its parts, and a condition that holds of its operands or
-/// why there are none.
+/// The text of a number in a sink with this limit, or without one, its parts, and a condition that
+/// holds of its operands or why there are none.
 type Wanted<'a> = (
     Option<usize>,
     &'a str,
@@ -110,7 +112,8 @@ fn a_plain_formatter_tells_the_number_that_it_writes(rt: HostRuntime) {
     }
 }
 
-/// UTS 35, Part 3, Plural Operand Meanings: `c` is the exponent, and the other operands are those of the whole number.
+/// UTS 35, Part 3, Plural Operand Meanings: `c` is the exponent, and the other operands are those
+/// of the whole number.
 const SHORT: [(&str, Wanted<'static>); 6] = [
     ("0", (None, "0", &[], Ok("i = 0 and c = 0"))),
     ("999", (None, "999", &[], Ok("i = 999 and c = 0"))),

@@ -1,4 +1,5 @@
-//! Formatted values and errors under a width, a fill, a precision and other options: the same characters, unpadded.
+//! Formatted values and errors under a width, a fill, a precision and other options: the same
+//! characters, unpadded.
 
 use crate::fixtures::{english, read};
 use crate::languages::Language;
@@ -35,7 +36,8 @@ fn is_uncut<T: Display>(alloc: Global, value: &T, want: &str) -> bool {
         && is_text(format!(in alloc; "{value:*>80.1}"), want)
 }
 
-/// Whether a value is displayed so under each of these options; asked once more where memory was refused.
+/// Whether a value is displayed so under each of these options; asked once more where memory was
+/// refused.
 fn is_styled<T: Display>(alloc: Global, value: &T, want: &str) -> bool {
     (is_unpadded(alloc, value, want) || is_unpadded(alloc, value, want))
         && (is_uncut(alloc, value, want) || is_uncut(alloc, value, want))

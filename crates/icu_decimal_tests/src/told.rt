@@ -16,7 +16,8 @@ use icu_decimal::options::GroupingStrategy;
 use icu_decimal::{CompactDecimalFormatter, DecimalFormatter};
 use std::alloc::Global;
 
-/// Whether two decimals have one text: then they are one. None where the formatter isn't readable or memory is wanting.
+/// Whether two decimals have one text: then they are equal. None if the formatter isn't readable or
+/// memory is refused.
 fn have_one_text(
     alloc: Global,
     formatter: &DecimalFormatter,
@@ -41,8 +42,8 @@ fn have_one_text(
     Some(first == second)
 }
 
-/// Whether two decimals have one compact text: then they have one sign, and one nearest compact number. None where the
-/// formatter isn't readable, a number is too large or memory is wanting.
+/// Whether two decimals have one compact text: then they have one sign, and one nearest compact
+/// number. None if the formatter isn't readable, a number is too large or memory is refused.
 fn have_one_compact_text(
     alloc: Global,
     formatter: &CompactDecimalFormatter,
@@ -77,9 +78,9 @@ fn is_unpadded(number: &UnsignedDecimal) -> bool
     written == 0
 }
 
-/// Whether two decimals without leading padding have one compact text: just where they have one sign, and one nearest
-/// compact number. None where one has such padding, the formatter isn't readable, a number is too large or memory is
-/// wanting.
+/// Whether two decimals without leading padding have one compact text: exactly if they have one
+/// sign, and one nearest compact number. None if one has such padding, the formatter isn't
+/// readable, a number is too large or memory is refused.
 fn show_one_number(
     alloc: Global,
     formatter: &CompactDecimalFormatter,

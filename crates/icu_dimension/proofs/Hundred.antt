@@ -64,6 +64,7 @@ sized e n i f h =
     let up = weighed_times n 2 i in
     rw (front, back, whole, before, ← h) (omega (arith, part, rw (← h) at up))
 
+-- a hundred times a number is a hundred times as large
 pub size-hundredfold : (u : Unsigned) → IsUnsigned u → size (hundredfold u) ≡ 100 * size u
 size-hundredfold u is =
     let f = fraction u in
@@ -78,15 +79,18 @@ trimmed_first : (d : ℕ) (ds : List ℕ) → (length (trimmed (d ∷ ds)) ≡ 1
 trimmed_first d [] = inl refl
 trimmed_first d (x ∷ ds) = elim (cases_Bool (nat_eq d 0)) [ inl t ↦ rw t (trimmed_first x ds) | inr f ↦ rw f (inr (eqb-false d 0 f)) ]
 
+-- the same of any digits
 trimmed_begins : (ds : List ℕ) → 0 < length ds → (length (trimmed ds) ≡ 1) ⊎ (slice_index (trimmed ds) 0 ≢ 0)
 trimmed_begins [] h = absurd (omega arith)
 trimmed_begins (d ∷ ds) h = trimmed_first d ds
 
+-- more digits behind them leave the first as it is
 begins : (xs ys : List ℕ) → (length xs ≡ 1) ⊎ (slice_index xs 0 ≢ 0) → (length (xs ++ ys) - length ys ≡ 1) ⊎ (slice_index (xs ++ ys) 0 ≢ 0)
 begins xs ys (inl one) = inl (omega (arith, one, length-append xs ys))
 begins [] ys (inr other) = absurd (other refl)
 begins (x ∷ xs) ys (inr other) = inr other
 
+-- its first digit is its only one at power 0 and above, or isn't 0
 pub hundredfold_first : (u : Unsigned) → (integer_count (hundredfold u) ≡ 1) ⊎ (slice_index (hundredfold u).digits 0 ≢ 0)
 hundredfold_first u =
     let ab = digit_at u (negsuc 0) ∷ digit_at u (negsuc 1) ∷ [] in

@@ -18,7 +18,8 @@ trimmed_left : (ds : List ℕ) → 0 < length ds → (integer_of (trimmed ds) �
 trimmed_left [] h = absurd (omega arith)
 trimmed_left (d ∷ ds) h = trimmed_some d ds
 
-integer_left : (ds : List ℕ) (a b : ℕ)
+-- of digits with two more behind them some are left
+pub integer_left : (ds : List ℕ) (a b : ℕ)
     → (integer_of (trimmed (ds ++ a ∷ b ∷ [])) ≡ trimmed (ds ++ a ∷ b ∷ []))
     × (0 < length (trimmed (ds ++ a ∷ b ∷ [])))
 integer_left ds a b = trimmed_left (ds ++ a ∷ b ∷ []) (omega (arith, length-append ds (a ∷ b ∷ [])))

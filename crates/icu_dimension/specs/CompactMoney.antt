@@ -1,10 +1,10 @@
--- Compact amounts of money: for each sign a compact formatter, whose table has the sign and the symbol in its patterns, and
--- the patterns of money for numbers that no compact pattern shortens.
+-- Compact amounts of money: for each sign a compact formatter, whose patterns have the sign and the symbol in them; and the
+-- patterns of money, for numbers that no compact pattern shortens.
 use Rattle.std.specs.Prelude.{◌==◌, List, if◌then◌else◌}
 use Rattle.fixed_decimal.specs.declared.signs.Sign.{Sign}
 use Rattle.fixed_decimal.specs.declared.signs.Sign.TheVariants.{None as NoSign, Negative, Positive}
-use Rattle.icu_base.specs.Events.{Event}
-use Rattle.icu_base.specs.Rules.{Rule}
+use Rattle.writeable.specs.Events.{Event}
+use Rattle.icu_plurals.specs.Rules.{Rule}
 use Rattle.icu_decimal_data.specs.CompactTable.{TableEntry}
 use Rattle.icu_decimal.specs.CompactFormat.{CompactFormat, FormattedCompact, compact_shown}
 use Rattle.icu_decimal.specs.Decimal.{DecimalFormat}
@@ -25,7 +25,7 @@ formatter_of f NoSign = f.none
 formatter_of f Negative = f.minus
 formatter_of f Positive = f.plus
 
--- what is written of a compact number: its characters, where its exponent is 0 in the pattern of the sign
+-- what is written for a compact number: its characters; if its exponent is 0, in the pattern of the sign
 abbrev pub compact_events : Signed → Sign → FormattedCompact → List Event
 compact_events patterns sign number =
     if number.exponent == 0 then sign_framed patterns sign (compact_shown number) else compact_shown number

@@ -3,6 +3,8 @@ pub mod CurrencyData
 pub mod GivenNames
 pub mod Loaded
 pub mod Money
+pub mod MoneyLaws
+pub mod MoneyReadable
 pub mod Names
 pub mod Percent
 pub mod PercentLaws

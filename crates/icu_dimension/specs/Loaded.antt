@@ -1,8 +1,8 @@
 -- What formatters of money, percents and units are made of: the answers of a provider, in the order in which it is asked.
 use Rattle.std.specs.Prelude.{ℕ, List, Some, Result, Ok}
-use Rattle.icu_base.specs.Answer.{Refusal}
-use Rattle.icu_base.specs.Identifier.{Identifier}
-use Rattle.icu_base.specs.Rules.{Rule}
+use Rattle.icu_provider.specs.Answer.{Refusal}
+use Rattle.icu_provider.specs.Identifier.{Identifier}
+use Rattle.icu_plurals.specs.Rules.{Rule}
 use Rattle.icu_decimal_data.specs.Decided.{or_else}
 use Rattle.icu_decimal_data.specs.declared.decimal_symbols.DecimalSymbols.{DecimalSymbols}
 use Rattle.icu_decimal.specs.Decimal.{DecimalFormat}
@@ -23,7 +23,7 @@ use Rattle.icu_dimension.specs.declared.options.Width.TheVariants.{Short}
 abbrev pub named_id : List ℕ → List ℕ → Identifier
 named_id name locale = record { system = Some name; locale = locale }
 
--- by an identifier the symbols of numbers of money, where there are such, and else those of numbers
+-- for an identifier the symbols for numbers of money, if there are any, and else those for numbers
 abbrev pub money_symbols : Provider DecimalSymbols → Provider DecimalSymbols → Provider DecimalSymbols
 money_symbols money plain id = or_else (money id) (plain id)
 
@@ -47,7 +47,7 @@ loaded_percent symbols digits patterns prefs options =
     and_then (preferably patterns prefs (locale_id prefs.locale_preferences)) (λ p.
     Ok (record { formatter = f; patterns = p })))
 
--- what hangs on plural categories: the plain formatter, then the rules by the locale, then what has this name in the
+-- what depends on plural categories: the plain formatter, then the rules by the locale, then the data of this name in the
 -- locale; or the first refusal
 abbrev pub loaded_plural : {X Y : Type 0} → Provider DecimalSymbols → Provider (List ℕ) → Provider (List Rule) → Provider X
     → DecimalFormatterPreferences → List ℕ → DecimalFormatterOptions → (DecimalFormat → List Rule → X → Y) → Result Y Refusal

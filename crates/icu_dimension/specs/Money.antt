@@ -1,7 +1,7 @@
--- Amounts of money: what is written of them.
+-- Amounts of money: what is written for them.
 use Rattle.std.specs.Prelude.{List}
 use Rattle.fixed_decimal.specs.declared.signs.Sign.{Sign}
-use Rattle.icu_base.specs.Events.{Event}
+use Rattle.writeable.specs.Events.{Event}
 use Rattle.icu_decimal.specs.Shown.{Shown}
 use Rattle.icu_dimension_data.specs.Resolved.{Signed, affixes_of}
 use Rattle.icu_dimension_data.specs.Surrounding.{surrounded}
@@ -15,6 +15,6 @@ pub record SignedFormat (F : Type 0) : Type 0 where
 abbrev pub sign_framed : Signed → Sign → List Event → List Event
 sign_framed patterns sign es = surrounded (record { affixes = affixes_of patterns sign; texts = patterns.texts }) es
 
--- what is written of a number as it is shown: its events, with their parts, in the pattern of its sign
+-- what is written for a number as it is shown: its events, with their parts, in the pattern of its sign
 abbrev pub money_events : Signed → Sign → Shown → List Event
 money_events patterns sign number = sign_framed patterns sign number.events

@@ -1,10 +1,10 @@
 -- Amounts of money with the name of their currency (UTS 35 Part 3, Currency Formatting, unit patterns).
 use Rattle.std.specs.Prelude.{ℕ, Bool, List, ◌++◌, codes, if◌then◌else◌}
 use Rattle.fixed_decimal.specs.declared.signs.Sign.{Sign}
-use Rattle.icu_base.specs.Elements.{Elements}
-use Rattle.icu_base.specs.Events.{Event, text_events}
-use Rattle.icu_base.specs.Operands.{Operands}
-use Rattle.icu_base.specs.Rules.{Rule}
+use Rattle.icu_plurals.specs.Elements.{Elements}
+use Rattle.writeable.specs.Events.{Event, text_events}
+use Rattle.icu_plurals.specs.Operands.{Operands}
+use Rattle.icu_plurals.specs.Rules.{Rule}
 use Rattle.icu_decimal_data.specs.declared.decimal_symbols.DecimalSymbols.{DecimalSymbols}
 use Rattle.icu_decimal.specs.Decimal.{signed_events}
 use Rattle.icu_decimal.specs.Shown.{Shown, operands_shown, picked}
@@ -38,6 +38,6 @@ with_name t es = if t.number_first then number_then_name t es else name_then_num
 abbrev pub names_framed : DecimalSymbols → List Rule → Elements NameText → Sign → Operands → List Event → List Event
 names_framed symbols rules elements sign operands es = with_name (picked rules elements operands) (signed_events symbols sign es)
 
--- what is written of a number as it is shown
+-- what is written for a number as it is shown
 abbrev pub names_events : DecimalSymbols → List Rule → Elements NameText → Sign → Shown → List Event
 names_events symbols rules elements sign number = names_framed symbols rules elements sign (operands_shown number) number.events

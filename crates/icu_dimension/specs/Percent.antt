@@ -1,4 +1,4 @@
--- Percents: a hundred times a number, and what is written of it.
+-- Percents: a hundred times a number, and what is written for it.
 use Rattle.std.specs.Prelude.{ℕ, ◌==◌, ◌⊎◌, List, [], ◌∷◌, ◌++◌, drop, length, negsuc, if◌then◌else◌}
 use Rattle.fixed_decimal.specs.Unsigned.{Unsigned, IsWithinLimits, digit_at, fraction, integer}
 
@@ -16,10 +16,10 @@ integer_hundredfold u = trimmed (integer u ++ digit_at u (negsuc 0) ∷ digit_at
 abbrev pub fraction_hundredfold : Unsigned → List ℕ
 fraction_hundredfold u = drop 2 (fraction u)
 
--- a hundred times a number: the point is two places further, and no zero stands at the front but at power 0
+-- a hundred times a number: the point is two places further right, and no leading zero stands but at power 0
 abbrev pub hundredfold : Unsigned → Unsigned
 hundredfold u = record { digits = integer_hundredfold u ++ fraction_hundredfold u; scale = length (fraction_hundredfold u) }
 
--- a hundred times the number has too many digits, or a formatter overflows by it
+-- a hundred times the number has too many digits, or a formatter overflows for it
 abbrev pub IsTooLarge : {F : Type 0} → (F → Unsigned → Type 0) → F → Unsigned → Type 0
 IsTooLarge overflows f u = (¬ IsWithinLimits (hundredfold u)) ⊎ overflows f (hundredfold u)

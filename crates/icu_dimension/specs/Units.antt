@@ -1,11 +1,11 @@
 -- Numbers with a unit, the sign beside the number (UTS 35 Part 2, Unit Elements: a pattern by the number's plural category).
 use Rattle.std.specs.Prelude.{List}
 use Rattle.fixed_decimal.specs.declared.signs.Sign.{Sign}
-use Rattle.icu_base.specs.Elements.{Elements}
-use Rattle.icu_base.specs.Events.{Event}
-use Rattle.icu_base.specs.Operands.{Operands}
-use Rattle.icu_base.specs.Patterns.{PatternText, interpolated}
-use Rattle.icu_base.specs.Rules.{Rule}
+use Rattle.icu_plurals.specs.Elements.{Elements}
+use Rattle.writeable.specs.Events.{Event}
+use Rattle.icu_plurals.specs.Operands.{Operands}
+use Rattle.icu_pattern.specs.Patterns.{PatternText, interpolated}
+use Rattle.icu_plurals.specs.Rules.{Rule}
 use Rattle.icu_decimal_data.specs.declared.decimal_symbols.DecimalSymbols.{DecimalSymbols}
 use Rattle.icu_decimal.specs.Decimal.{signed_events}
 use Rattle.icu_decimal.specs.Shown.{Shown, operands_shown, picked}
@@ -15,6 +15,6 @@ abbrev pub units_framed : DecimalSymbols → List Rule → Elements PatternText 
 units_framed symbols rules elements sign operands es =
     interpolated (picked rules elements operands) (signed_events symbols sign es)
 
--- what is written of a number as it is shown
+-- what is written for a number as it is shown
 abbrev pub units_events : DecimalSymbols → List Rule → Elements PatternText → Sign → Shown → List Event
 units_events symbols rules elements sign number = units_framed symbols rules elements sign (operands_shown number) number.events

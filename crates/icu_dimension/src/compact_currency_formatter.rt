@@ -3,7 +3,7 @@
 ghost use Rattle.std.specs.Prelude.{◌≡◌, ◌≢◌, ◌↔◌, IfErr, IfOk, IsErrOf, IsOkUnless};
 ghost use Rattle.std.specs.String.{string_bytes};
 ghost use Rattle.fixed_decimal.specs.Size.{size};
-ghost use Rattle.icu_base.specs.Events.{text_of};
+ghost use Rattle.writeable.specs.Events.{text_of};
 ghost use Rattle.icu_decimal.specs.CompactFormat.{FormattedCompact, IsCompacted};
 ghost use Rattle.icu_decimal.specs.CompactNumber.{ShowsPastLimits};
 ghost use Rattle.icu_decimal.specs.WritesSuch.{KeepsLimitSuch, WritesSuch};
@@ -13,18 +13,21 @@ use crate::compact_currency_patterns::CompactCurrencyPatterns;
 use crate::currency_formatter::CurrencyFormatter;
 use crate::frame::Lent;
 use fixed_decimal::{Decimal, Sign};
-use icu_base::{EventWriter, PartsWrite, PluralRules, WriteFault, Writeable};
 use icu_decimal::error::FormatError;
 use icu_decimal::{CompactDecimalFormatter, DecimalFormatter, FormattedUnsignedCompactDecimal};
 use icu_dimension_data::SignedPatterns;
+use icu_plurals::PluralRules;
 use std::alloc::Global;
 use std::marker::Model;
+use writeable::{EventWriter, PartsWrite, WriteFault, Writeable};
 
-/// Writes amounts of money in compact form with the symbol of their currency, as `$1.5M` or `€ -1,5 mln.`: the compact
-/// number that is nearest to the amount, by the compact formatter of its sign.
+/// Writes amounts of money in compact form with the symbol of their currency, as `$1.5M` or
+/// `€ -1,5 mln.`: the compact number that is nearest to the amount, by the compact formatter of its
+/// sign.
 ///
-/// CLDR's short patterns of money are patterns of their own, and no compact numbers in a pattern of money; signs and symbol
-/// stand in them. What they don't shorten, a compact number of exponent 0 as `$0.5`, stands in the pattern of money.
+/// CLDR has short patterns for money, with signs and symbol in them; they aren't made of compact
+/// numbers and a pattern of money. A compact number of exponent 0, which they don't shorten, is
+/// written in the pattern of money: `$0.5`.
 #[derive(Drop)]
 pub struct CompactCurrencyFormatter {
     none: CompactDecimalFormatter,
@@ -63,8 +66,9 @@ fn copied(
 }
 
 impl CompactCurrencyFormatter {
-    /// The formatter of amounts with the compact patterns of a currency: numbers are written as the formatter of money
-    /// writes them, and plural rules choose among the patterns of an entry. Numbers and rules are copied twice.
+    /// The formatter of amounts with the compact patterns of a currency: numbers are written as the
+    /// formatter of money writes them, and plural rules choose among the patterns of an entry.
+    /// Numbers and rules are copied twice.
     pub fn from_parts(
         alloc: Global,
         money: CurrencyFormatter<DecimalFormatter>,
@@ -100,11 +104,12 @@ impl CompactCurrencyFormatter {
         }
     }
 
-    /// Writes an amount: the characters of the nearest compact number, and where its exponent is 0 the parts of the sign and
-    /// of the symbol around it.
+    /// Writes an amount: the characters of the nearest compact number and, if its exponent is 0,
+    /// the parts of the sign and of the symbol around it.
     ///
-    /// After `Overflow` and `OutOfMemory` the sink is as it was; `Sink` is answered only where the sink failed in this
-    /// call, and it then holds a beginning of the events besides. `Overflow` exactly where the compact number is too large.
+    /// After `Overflow` and `OutOfMemory` the sink is unchanged. `Sink` only where the sink failed
+    /// in this call, and it then holds a beginning of the events besides. `Overflow` exactly where
+    /// the compact number is too large.
     pub fn write<S: PartsWrite>(
         &self,
         alloc: Global,
@@ -133,7 +138,7 @@ impl CompactCurrencyFormatter {
         }
     }
 
-    /// The characters that `write` writes, as a text. `Sink` is never answered.
+    /// The characters that `write` writes, as a text. `Sink` is never reported.
     pub fn write_to_string(&self, alloc: Global, value: &Decimal) -> Result<String, FormatError>
         ensures text { IfOk result (λ t. (n : FormattedCompact)
             × IsCompacted (formatter_of self.now value.now.sign) value.now.absolute n
@@ -156,7 +161,7 @@ impl CompactCurrencyFormatter {
     }
 }
 
-/// A compact number, where its exponent is 0 in the pattern of a sign.
+/// A compact number; if its exponent is 0, in the pattern of a sign.
 #[derive(Drop)]
 struct CompactAmount<'a, 'l> {
     patterns: &'a SignedPatterns,

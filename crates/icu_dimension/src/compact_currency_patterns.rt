@@ -1,10 +1,11 @@
 //! The compact patterns of a currency.
 
-use icu_base::SinglePlaceholder;
 use icu_decimal_data::CompactPatterns;
+use icu_pattern::SinglePlaceholder;
 
-/// The compact patterns of a currency in a locale, as `$0M`, for numbers without a sign, with a minus and with a plus. Signs
-/// and symbol stand in them ([`SignedPattern::to_pattern`]).
+/// The compact patterns of a currency in a locale, as `$0M`, for numbers without a sign, with a
+/// minus and with a plus. They have the signs and the symbol in them
+/// ([`SignedPattern::to_pattern`]).
 ///
 /// [`SignedPattern::to_pattern`]: icu_dimension_data::SignedPattern::to_pattern
 #[derive(Drop)]

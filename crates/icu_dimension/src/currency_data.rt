@@ -48,7 +48,8 @@ impl CurrencySymbols {
     ghost use Rattle.std.specs.Prelude.{◌≡◌, IfOk};
     ghost use Rattle.icu_dimension.specs.CurrencyData.{symbol_of};
 
-    /// The symbols of a currency: the one that tells it from others, as `US$`, and the one alone, as `$`.
+    /// The symbols of a currency: the one that distinguishes it from others, as `US$`, and the
+    /// narrow one, as `$`.
     pub fn new(alloc: Global, short: &str, narrow: &str) -> Result<Self, AllocError>
         ensures { IfOk result (λ s. s ≡ record { short = short.now; narrow = narrow.now }) }
     {
@@ -73,7 +74,8 @@ impl CurrencyPatterns {
     ghost use Rattle.std.specs.Prelude.{◌≡◌, IfOk};
     ghost use Rattle.icu_dimension.specs.CurrencyData.{money_patterns, pattern_for};
 
-    /// The patterns of money of a locale, as `¤#,##0.00` and `¤#,##0.00;(¤#,##0.00)`, and its signs.
+    /// The patterns of money of a locale, as `¤#,##0.00` and `¤#,##0.00;(¤#,##0.00)`, and its
+    /// signs.
     pub fn new(
         alloc: Global,
         standard: CldrPattern,

@@ -2,26 +2,27 @@
 
 ghost use Rattle.std.specs.Prelude.{◌≡◌, ◌↔◌, IfOk, IsErrOf, IfErr, ◌≢◌};
 ghost use Rattle.std.specs.String.{string_bytes};
-ghost use Rattle.icu_base.specs.Events.{text_of};
+ghost use Rattle.writeable.specs.Events.{text_of};
 ghost use Rattle.icu_decimal.specs.Shown.{Shown};
 ghost use Rattle.icu_decimal.specs.WritesSuch.{KeepsLimitSuch, WritesSuch};
 ghost use Rattle.icu_dimension.specs.Money.{money_events};
 
 use crate::frame::SignFrame;
 use fixed_decimal::Decimal;
-use icu_base::PartsWrite;
 use icu_decimal::AbstractFormatter;
 use icu_decimal::error::FormatError;
 use icu_dimension_data::SignedPatterns;
 use std::alloc::Global;
 use std::marker::Model;
+use writeable::PartsWrite;
 
-/// Writes amounts of money with the symbol of their currency, as `-$1,234.50` or `($1,234.50)`: the number in the
-/// pattern of its sign.
+/// Writes amounts of money with the symbol of their currency, as `-$1,234.50` or `($1,234.50)`: the
+/// number in the pattern of its sign.
 ///
-/// The patterns are those of the currency's symbol, short or narrow, in the locale's standard or accounting pattern
-/// ([`CldrPattern::resolve`]); the formatter of numbers has the locale's separators of money where it has such. How
-/// many digits an amount has isn't changed: it is rounded before ([`rounded_to`]).
+/// The patterns are those of the currency's symbol, short or narrow, in the locale's standard or
+/// accounting pattern ([`CldrPattern::resolve`]); the formatter of numbers has the locale's
+/// separators for money, if it has such. The digits of an amount aren't changed: it is rounded
+/// before ([`rounded_to`]).
 ///
 /// [`CldrPattern::resolve`]: icu_dimension_data::CldrPattern::resolve
 /// [`rounded_to`]: icu_dimension_data::rounded_to
@@ -52,9 +53,9 @@ impl<F: AbstractFormatter> CurrencyFormatter<F> {
 
     /// Writes an amount: the parts of the number, and those of the sign and of the symbol.
     ///
-    /// After `Overflow` and `OutOfMemory` the sink is as it was; `Sink` is answered only where the sink failed in
-    /// this call, and it then holds a beginning of the events besides. `Overflow` exactly where the formatter
-    /// overflows.
+    /// After `Overflow` and `OutOfMemory` the sink is unchanged. `Sink` only where the sink failed
+    /// in this call, and it then holds a beginning of the events besides. `Overflow` exactly where
+    /// the formatter overflows.
     pub fn write<S: PartsWrite>(
         &self,
         alloc: Global,
@@ -78,7 +79,7 @@ impl<F: AbstractFormatter> CurrencyFormatter<F> {
             .write_framed(alloc, &value.absolute, &frame, sink)
     }
 
-    /// The characters that `write` writes, as a text. `Sink` is never answered.
+    /// The characters that `write` writes, as a text. `Sink` is never reported.
     pub fn write_to_string(&self, alloc: Global, value: &Decimal) -> Result<String, FormatError>
         ensures text { IfOk result (λ t. (n : Shown)
             × F.shows self.now.formatter value.now.absolute n

@@ -1,11 +1,11 @@
 //! What stands around numbers of one sign.
 
 use fixed_decimal::Sign;
-use icu_base::{EventWriter, WriteFault, Writeable};
 use icu_decimal::{Frame, ShownNumber};
 use icu_dimension_data::SignedPatterns;
+use writeable::{EventWriter, WriteFault, Writeable};
 
-/// A value that is lent, with its parts.
+/// A borrowed value, with its parts.
 #[derive(Drop)]
 pub(crate) struct Lent<'a, T> {
     pub(crate) value: &'a T,

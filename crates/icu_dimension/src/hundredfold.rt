@@ -83,7 +83,7 @@ fn hundredfold_text(alloc: Global, value: &UnsignedDecimal) -> Result<Vec<u8>, A
     Ok(text)
 }
 
-/// A hundred times the number; `Overflow` where that has too many digits.
+/// A hundred times the number; `Overflow` if that has too many digits.
 pub(crate) fn hundredfold(
     alloc: Global,
     value: &UnsignedDecimal,

@@ -1,8 +1,8 @@
-//! Formatters that are made of what a provider answers.
+//! Formatters that are made of a provider's data.
 
 ghost use Rattle.std.specs.Prelude.{codes};
-ghost use Rattle.icu_base.specs.Answer.{Answers};
-ghost use Rattle.icu_base.specs.Identifier.{identifier_of};
+ghost use Rattle.icu_provider.specs.Answer.{Answers};
+ghost use Rattle.icu_provider.specs.Identifier.{identifier_of};
 ghost use Rattle.icu_decimal.specs.Loaded.{loaded, preferably};
 ghost use Rattle.icu_decimal_options.specs.Preferences.{locale_id};
 ghost use Rattle.icu_dimension.specs.Loaded.{loaded_compact_money, loaded_currency, loaded_percent, loaded_plural};
@@ -18,20 +18,21 @@ use crate::markers::{
 use crate::options::{CurrencyFormatterOptions, CurrencySign, Width};
 use crate::percent_formatter::PercentFormatter;
 use crate::units_formatter::UnitsFormatter;
-use icu_base::{
-    DataError, DataErrorKind, DataIdentifierBorrowed, DataLocale, DataMarker, DataProvider,
-    DataRequest, Pattern, PluralElements, PluralRules, PluralRulesPreferences, PluralsCardinalV1,
-    SinglePlaceholder,
-};
 use icu_decimal::DecimalFormatter;
 use icu_decimal::options::DecimalFormatterOptions;
 use icu_decimal::preferences::DecimalFormatterPreferences;
 use icu_decimal::provider::load_preferred;
 use icu_decimal_data::{DecimalDigitsV1, DecimalSymbols, DecimalSymbolsV1};
 use icu_dimension_data::{CurrencyCode, CurrencyDigits};
+use icu_pattern::{Pattern, SinglePlaceholder};
+use icu_plurals::{PluralElements, PluralRules, PluralRulesPreferences, PluralsCardinalV1};
+use icu_provider::{
+    DataError, DataErrorKind, DataIdentifierBorrowed, DataLocale, DataMarker, DataProvider,
+    DataRequest,
+};
 use std::alloc::Global;
 
-/// What the provider answers by an identifier.
+/// The provider's data for an identifier.
 fn load<M: DataMarker, D: DataProvider<M>>(
     alloc: Global,
     provider: &D,
@@ -42,7 +43,7 @@ fn load<M: DataMarker, D: DataProvider<M>>(
     provider.load(alloc, request)
 }
 
-/// What the provider answers by a name in the locale.
+/// The provider's data for a name in the locale.
 fn load_named<M: DataMarker, D: DataProvider<M>>(
     alloc: Global,
     provider: &D,
@@ -55,8 +56,8 @@ fn load_named<M: DataMarker, D: DataProvider<M>>(
     provider.load(alloc, &DataRequest { id, silent: false })
 }
 
-/// What the provider answers by the preferred numbering system in the locale, if there is one and it has data by it, and
-/// else by the locale.
+/// The provider's data for the preferred numbering system in the locale, if there is one with data,
+/// and else for the locale.
 fn load_preferred_in<M: DataMarker, D: DataProvider<M>>(
     alloc: Global,
     provider: &D,
@@ -84,7 +85,7 @@ fn load_rules<D: DataProvider<PluralsCardinalV1>>(
     PluralRules::try_new_cardinal_unstable::<D>(alloc, provider, prefs)
 }
 
-/// A provider as it is asked for numbers of money.
+/// A provider, asked for numbers of money.
 #[derive(Drop)]
 struct MoneyNumbers<'a, D> {
     provider: &'a D,
@@ -143,12 +144,14 @@ fn load_money_numbers<
 }
 
 impl CurrencyFormatter<DecimalFormatter> {
-    /// The formatter of amounts of a currency, of what a provider answers.
+    /// The formatter of amounts of a currency, of a provider's data.
     ///
-    /// First the numbers of money are loaded, as [`DecimalFormatter::try_new_unstable`] loads numbers, but that symbols of
-    /// money are asked for before each question for symbols. Then patterns are asked for by the preferred numbering system
-    /// in the locale, if one is preferred, and else by the locale, and then the symbols by the currency's code in the locale.
-    /// The first refusal is answered, with its context; `OutOfMemory` also where memory is wanting.
+    /// First the numbers of money are loaded, as [`DecimalFormatter::try_new_unstable`] loads
+    /// numbers; but before each request for symbols the provider is asked for symbols of money.
+    /// Then patterns are asked for by the preferred numbering system in the locale, if one is
+    /// preferred, and else by the locale, and then the symbols by the currency's code in the
+    /// locale. The first refusal is reported, with its context; `OutOfMemory` also where an
+    /// allocation is refused.
     pub fn try_new_unstable<
         D: DataProvider<CurrencyDecimalSymbolsV1>
             + DataProvider<DecimalSymbolsV1>
@@ -183,11 +186,12 @@ impl CurrencyFormatter<DecimalFormatter> {
 }
 
 impl LongCurrencyFormatter<DecimalFormatter> {
-    /// The formatter of amounts with the name of a currency, of what a provider answers.
+    /// The formatter of amounts with the name of a currency, of a provider's data.
     ///
-    /// First the numbers of money are loaded, as [`CurrencyFormatter::try_new_unstable`] loads them. Then plural rules are
-    /// asked for by the locale, and then names by the currency's code in the locale. The first refusal is answered, with its
-    /// context; `OutOfMemory` also where memory is wanting.
+    /// First the numbers of money are loaded, as [`CurrencyFormatter::try_new_unstable`] loads
+    /// them. Then plural rules are asked for by the locale, and then names by the currency's code
+    /// in the locale. The first refusal is reported, with its context; `OutOfMemory` also where an
+    /// allocation is refused.
     pub fn try_new_unstable<
         D: DataProvider<CurrencyDecimalSymbolsV1>
             + DataProvider<DecimalSymbolsV1>
@@ -219,11 +223,12 @@ impl LongCurrencyFormatter<DecimalFormatter> {
 }
 
 impl CompactCurrencyFormatter {
-    /// The formatter of compact amounts of a currency, of what a provider answers.
+    /// The formatter of compact amounts of a currency, of a provider's data.
     ///
-    /// First the formatter of money is made, as [`CurrencyFormatter::try_new_unstable`] makes it with the short symbol and the
-    /// standard pattern. Then plural rules are asked for by the locale, and then compact patterns by the currency's code in
-    /// the locale. The first refusal is answered, with its context; `OutOfMemory` also where memory is wanting.
+    /// First the formatter of money is made, as [`CurrencyFormatter::try_new_unstable`] makes it
+    /// with the short symbol and the standard pattern. Then plural rules are asked for by the
+    /// locale, and then compact patterns by the currency's code in the locale. The first refusal is
+    /// reported, with its context; `OutOfMemory` also where an allocation is refused.
     pub fn try_new_unstable<
         D: DataProvider<CurrencyDecimalSymbolsV1>
             + DataProvider<DecimalSymbolsV1>
@@ -274,11 +279,12 @@ impl CompactCurrencyFormatter {
 }
 
 impl PercentFormatter<DecimalFormatter> {
-    /// The formatter of percents, of what a provider answers.
+    /// The formatter of percents, of a provider's data.
     ///
-    /// First the plain formatter is made, as [`DecimalFormatter::try_new_unstable`] makes it. Then patterns are asked for by
-    /// the preferred numbering system in the locale, if one is preferred, and else by the locale. The first refusal is
-    /// answered, with its context; `OutOfMemory` also where memory is wanting.
+    /// First the plain formatter is made, as [`DecimalFormatter::try_new_unstable`] makes it. Then
+    /// patterns are asked for by the preferred numbering system in the locale, if one is preferred,
+    /// and else by the locale. The first refusal is reported, with its context; `OutOfMemory` also
+    /// where an allocation is refused.
     pub fn try_new_unstable<
         D: DataProvider<DecimalSymbolsV1>
             + DataProvider<DecimalDigitsV1>
@@ -302,11 +308,12 @@ impl PercentFormatter<DecimalFormatter> {
 }
 
 impl UnitsFormatter<DecimalFormatter> {
-    /// The formatter of numbers with a unit, of what a provider answers for the marker of a width.
+    /// The formatter of numbers with a unit, of a provider's data for the marker of a width.
     ///
-    /// First the plain formatter is made, as [`DecimalFormatter::try_new_unstable`] makes it. Then plural rules are asked
-    /// for by the locale, and then patterns by the unit in the locale. The first refusal is answered, with its context;
-    /// `OutOfMemory` also where memory is wanting.
+    /// First the plain formatter is made, as [`DecimalFormatter::try_new_unstable`] makes it. Then
+    /// plural rules are asked for by the locale, and then patterns by the unit in the locale. The
+    /// first refusal is reported, with its context; `OutOfMemory` also where an allocation is
+    /// refused.
     pub fn try_new_unstable<
         M: DataMarker<DataStruct = PluralElements<Pattern<SinglePlaceholder>>>,
         D: DataProvider<DecimalSymbolsV1>
@@ -334,7 +341,7 @@ impl UnitsFormatter<DecimalFormatter> {
     }
 }
 
-/// The digits of currencies that a provider has. It is asked once, in the undetermined locale.
+/// The digits of currencies that a provider has. It is asked once, for the undetermined locale.
 pub fn load_currency_digits<D: DataProvider<CurrencyDigitsV1>>(
     alloc: Global,
     provider: &D,

@@ -2,7 +2,7 @@
 
 ghost use Rattle.std.specs.Prelude.{◌≡◌, ◌↔◌, IsErrOf, IfOk, IfErr, ◌≢◌};
 ghost use Rattle.std.specs.String.{string_bytes};
-ghost use Rattle.icu_base.specs.Events.{text_of};
+ghost use Rattle.writeable.specs.Events.{text_of};
 ghost use Rattle.icu_decimal.specs.Shown.{Shown};
 ghost use Rattle.icu_decimal.specs.WritesSuch.{KeepsLimitSuch, WritesSuch};
 ghost use Rattle.icu_dimension.specs.Names.{names_events};
@@ -10,14 +10,15 @@ ghost use Rattle.icu_dimension.specs.Names.{names_events};
 use crate::frame::Lent;
 use crate::name_pattern::NamePattern;
 use fixed_decimal::{Decimal, Sign};
-use icu_base::{EventWriter, PartsWrite, PluralElements, PluralRules, WriteFault};
 use icu_decimal::error::FormatError;
 use icu_decimal::{AbstractFormatter, Frame, ShownNumber};
+use icu_plurals::{PluralElements, PluralRules};
 use std::alloc::Global;
 use std::marker::Model;
+use writeable::{EventWriter, PartsWrite, WriteFault};
 
-/// Writes amounts of money with the name of their currency, as `1.00 US dollars`: the number and its sign with the
-/// name that the number's plural operands pick.
+/// Writes amounts of money with the name of their currency, as `1.00 US dollars`: the number and
+/// its sign with the name that the number's plural operands pick.
 #[derive(Drop)]
 pub struct LongCurrencyFormatter<F> {
     formatter: F,
@@ -39,8 +40,8 @@ impl<F> Model for LongCurrencyFormatter<F> {
 }
 
 impl<F: AbstractFormatter> LongCurrencyFormatter<F> {
-    /// The formatter of amounts with this name: its elements are what stands around a number, by the plural category
-    /// of the number as it is shown.
+    /// The formatter of amounts with this name: its elements are what stands around a number, by
+    /// the plural category of the number as it is shown.
     pub fn new(formatter: F, rules: PluralRules, elements: PluralElements<NamePattern>) -> Self
         ensures { result ≡ record { formatter = formatter; rules = rules; elements = elements } }
     {
@@ -53,9 +54,9 @@ impl<F: AbstractFormatter> LongCurrencyFormatter<F> {
 
     /// Writes the amount: the parts of the number, of its sign and of the name.
     ///
-    /// After `Overflow` and `OutOfMemory` the sink is as it was; `Sink` is answered only where the sink failed in
-    /// this call, and it then holds a beginning of the events besides. `Overflow` exactly where the formatter
-    /// overflows.
+    /// After `Overflow` and `OutOfMemory` the sink is unchanged. `Sink` only where the sink failed
+    /// in this call, and it then holds a beginning of the events besides. `Overflow` exactly where
+    /// the formatter overflows.
     pub fn write<S: PartsWrite>(
         &self,
         alloc: Global,
@@ -81,7 +82,7 @@ impl<F: AbstractFormatter> LongCurrencyFormatter<F> {
             .write_framed(alloc, &value.absolute, &frame, sink)
     }
 
-    /// The characters that `write` writes, as a text. `Sink` is never answered.
+    /// The characters that `write` writes, as a text. `Sink` is never reported.
     pub fn write_to_string(&self, alloc: Global, value: &Decimal) -> Result<String, FormatError>
         ensures text { IfOk result (λ t. (n : Shown)
             × F.shows self.now.formatter value.now.absolute n

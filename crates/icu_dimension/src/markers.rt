@@ -1,14 +1,16 @@
-//! The kinds of data that formatters of money, percents and units are made of.
+//! The kinds of data of which formatters of money, percents and units are made.
 
 use crate::compact_currency_patterns::CompactCurrencyPatterns;
 use crate::currency_data::{CurrencyPatterns, CurrencySymbols};
 use crate::name_pattern::NamePattern;
-use icu_base::{DataMarker, Pattern, PluralElements, SinglePlaceholder};
 use icu_decimal_data::DecimalSymbols;
 use icu_dimension_data::{CurrencyDigits, SignedPatterns};
+use icu_pattern::{Pattern, SinglePlaceholder};
+use icu_plurals::PluralElements;
+use icu_provider::DataMarker;
 
-/// The symbols with which numbers of money are written where a locale has such: its `currencyDecimal` and `currencyGroup`.
-/// They are asked for just before [`DecimalSymbolsV1`], by the same identifiers.
+/// The symbols for numbers of money, if a locale has its own: `currencyDecimal` and
+/// `currencyGroup`. They are asked for just before [`DecimalSymbolsV1`], by the same identifiers.
 ///
 /// [`DecimalSymbolsV1`]: icu_decimal_data::DecimalSymbolsV1
 pub struct CurrencyDecimalSymbolsV1;
@@ -17,7 +19,8 @@ impl DataMarker for CurrencyDecimalSymbolsV1 {
     type DataStruct = DecimalSymbols;
 }
 
-/// The patterns of money, asked for by the preferred numbering system in the locale, or else by the locale.
+/// The patterns of money, asked for by the preferred numbering system in the locale, or else by the
+/// locale.
 pub struct CurrencyPatternsV1;
 
 impl DataMarker for CurrencyPatternsV1 {
@@ -52,8 +55,8 @@ impl DataMarker for CurrencyDigitsV1 {
     type DataStruct = CurrencyDigits;
 }
 
-/// The patterns of percents for the three signs, asked for by the preferred numbering system in the locale, or else by the
-/// locale.
+/// The patterns of percents for the three signs, asked for by the preferred numbering system in the
+/// locale, or else by the locale.
 pub struct PercentPatternsV1;
 
 impl DataMarker for PercentPatternsV1 {

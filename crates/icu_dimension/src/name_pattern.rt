@@ -1,11 +1,12 @@
 //! A number with the name of a currency.
 
-use icu_base::{EventWriter, WriteFault, Writeable};
 use icu_dimension_data::parts::CURRENCY;
 use std::alloc::{AllocError, Global};
 use std::marker::Model;
+use writeable::{EventWriter, WriteFault, Writeable};
 
-/// The texts of a pattern with a place for a number and one for a name, as `{0} {1}` of CLDR, lent.
+/// The texts of a pattern with a placeholder for a number and one for a name, as CLDR's `{0} {1}`,
+/// borrowed.
 #[derive(Clone, Copy)]
 pub struct NameTexts<'a> {
     /// Whether the number comes before the name, as in `{0} {1}`, or behind it, as in `{1} {0}`.

@@ -5,13 +5,13 @@ use icu_decimal::options::DecimalFormatterOptions;
 /// Which symbol a currency has.
 #[derive(Clone, Copy, Debug, PartialEq, Eq)]
 pub enum Width {
-    /// The symbol that tells it from other currencies, as `US$`.
+    /// The symbol that distinguishes it from other currencies, as `US$`.
     Short,
-    /// The symbol alone, as `$`.
+    /// The narrow symbol, as `$`.
     Narrow,
 }
 
-/// Which pattern a sign has.
+/// Which pattern writes a sign.
 #[derive(Clone, Copy, Debug, PartialEq, Eq)]
 pub enum CurrencySign {
     /// That of the standard pattern, as `-$1.00`.
@@ -27,7 +27,7 @@ pub struct CurrencyFormatterOptions {
     pub decimal: DecimalFormatterOptions,
     /// Which symbol the currency has.
     pub width: Width,
-    /// Which pattern a sign has.
+    /// Which pattern writes a sign.
     pub sign: CurrencySign,
 }
 

@@ -3,7 +3,7 @@
 ghost use Rattle.std.specs.Prelude.{◌≡◌, OnOk, IsErrOf, IfOk, IfErr, ◌≢◌};
 ghost use Rattle.std.specs.String.{string_bytes};
 ghost use Rattle.fixed_decimal.specs.Unsigned.{IsWithinLimits};
-ghost use Rattle.icu_base.specs.Events.{text_of};
+ghost use Rattle.writeable.specs.Events.{text_of};
 ghost use Rattle.icu_decimal.specs.Shown.{Shown};
 ghost use Rattle.icu_decimal.specs.WritesSuch.{KeepsLimitSuch, WritesSuch};
 ghost use Rattle.icu_dimension.specs.Money.{money_events};
@@ -12,14 +12,15 @@ ghost use Rattle.icu_dimension.specs.Percent.{IsTooLarge, hundredfold};
 use crate::frame::SignFrame;
 use crate::hundredfold::hundredfold;
 use fixed_decimal::Decimal;
-use icu_base::PartsWrite;
 use icu_decimal::AbstractFormatter;
 use icu_decimal::error::FormatError;
 use icu_dimension_data::SignedPatterns;
 use std::alloc::Global;
 use std::marker::Model;
+use writeable::PartsWrite;
 
-/// Writes numbers as percents, as `12.34%` of 0.1234: a hundred times the number in the percent pattern of its sign.
+/// Writes numbers as percents, as `12.34%` of 0.1234: a hundred times the number in the percent
+/// pattern of its sign.
 #[derive(Drop)]
 pub struct PercentFormatter<F> {
     formatter: F,
@@ -45,12 +46,13 @@ impl<F: AbstractFormatter> PercentFormatter<F> {
         }
     }
 
-    /// Writes a hundred times the number, exactly and without further zeros at its front, as a percent: the parts of
-    /// the number, and those of the sign and of the percent sign.
+    /// Writes a hundred times the number, exactly and without leading zeros, as a percent: the
+    /// parts of the number, and those of the sign and of the percent sign.
     ///
-    /// `Overflow` where a hundred times the number has more than 32768 digits at power 0 and above, or the formatter
-    /// overflows by it. After it and after `OutOfMemory` the sink is as it was; `Sink` is answered only where the
-    /// sink failed in this call, and it then holds a beginning of the events besides.
+    /// `Overflow` if a hundred times the number has more than 32768 digits at power 0 and above, or
+    /// if the formatter overflows for it. After `Overflow` and `OutOfMemory` the sink is unchanged.
+    /// `Sink` only where the sink failed in this call, and it then holds a beginning of the events
+    /// besides.
     pub fn write<S: PartsWrite>(
         &self,
         alloc: Global,
@@ -77,7 +79,7 @@ impl<F: AbstractFormatter> PercentFormatter<F> {
             .write_framed(alloc, &hundredfold, &frame, sink)
     }
 
-    /// The characters that `write` writes, as a text. `Sink` is never answered.
+    /// The characters that `write` writes, as a text. `Sink` is never reported.
     pub fn write_to_string(&self, alloc: Global, value: &Decimal) -> Result<String, FormatError>
         ensures text { IfOk result (λ t. (n : Shown)
             × F.shows self.now.formatter (hundredfold value.now.absolute) n

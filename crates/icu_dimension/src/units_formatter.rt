@@ -2,27 +2,27 @@
 
 ghost use Rattle.std.specs.Prelude.{◌≡◌, ◌↔◌, IsErrOf, IfOk, IfErr, ◌≢◌};
 ghost use Rattle.std.specs.String.{string_bytes};
-ghost use Rattle.icu_base.specs.Events.{text_of};
+ghost use Rattle.writeable.specs.Events.{text_of};
 ghost use Rattle.icu_decimal.specs.Shown.{Shown};
 ghost use Rattle.icu_decimal.specs.WritesSuch.{KeepsLimitSuch, WritesSuch};
 ghost use Rattle.icu_dimension.specs.Units.{units_events};
 
 use crate::frame::Lent;
 use fixed_decimal::{Decimal, Sign};
-use icu_base::{
-    EventWriter, PartsWrite, Pattern, PluralElements, PluralRules, SinglePlaceholder, WriteFault,
-    Writeable,
-};
 use icu_decimal::error::FormatError;
 use icu_decimal::{AbstractFormatter, Frame, ShownNumber};
+use icu_pattern::{Pattern, SinglePlaceholder};
+use icu_plurals::{PluralElements, PluralRules};
 use std::alloc::Global;
 use std::marker::Model;
+use writeable::{EventWriter, PartsWrite, WriteFault, Writeable};
 
-/// Writes numbers with a unit, as `-1 kilometer` or `ɣleti -1`: the pattern that the number's plural operands pick,
-/// with the number and its sign in its place.
+/// Writes numbers with a unit, as `-1 kilometer` or `ɣleti -1`: the pattern that the number's
+/// plural operands pick, with the number and its sign in its place.
 ///
-/// The pattern is that of CLDR for a unit and a width. `UnitFormatter` of `icu_unit` writes the sign around the
-/// whole: both are the same where the literal stands behind the number alone.
+/// The pattern is that of CLDR for a unit and a width. `UnitFormatter` of `icu_unit` writes the
+/// sign around the whole: both write the same characters if nothing stands before the number in the
+/// pattern and the sign has no suffix.
 #[derive(Drop)]
 pub struct UnitsFormatter<F> {
     formatter: F,
@@ -31,7 +31,7 @@ pub struct UnitsFormatter<F> {
 }
 
 impl<F> Model for UnitsFormatter<F> {
-    ghost use Rattle.icu_base.specs.Patterns.{PatternText};
+    ghost use Rattle.icu_pattern.specs.Patterns.{PatternText};
     ghost use Rattle.icu_dimension.specs.PluralFormat.{PluralFormat};
 
     ghost Value = { PluralFormat F PatternText };
@@ -44,8 +44,8 @@ impl<F> Model for UnitsFormatter<F> {
 }
 
 impl<F: AbstractFormatter> UnitsFormatter<F> {
-    /// The formatter of numbers with this unit: its elements are the patterns of the unit, by the plural category of
-    /// the number as it is shown.
+    /// The formatter of numbers with this unit: its elements are the patterns of the unit, by the
+    /// plural category of the number as it is shown.
     pub fn new(
         formatter: F,
         rules: PluralRules,
@@ -60,12 +60,12 @@ impl<F: AbstractFormatter> UnitsFormatter<F> {
         }
     }
 
-    /// Writes the number with its unit: the parts of the number and of its sign. A pattern without a place is its
-    /// literal.
+    /// Writes the number with its unit: the parts of the number and of its sign. A pattern without
+    /// a placeholder is written as its literal.
     ///
-    /// After `Overflow` and `OutOfMemory` the sink is as it was; `Sink` is answered only where the sink failed in
-    /// this call, and it then holds a beginning of the events besides. `Overflow` exactly where the formatter
-    /// overflows.
+    /// After `Overflow` and `OutOfMemory` the sink is unchanged. `Sink` only where the sink failed
+    /// in this call, and it then holds a beginning of the events besides. `Overflow` exactly where
+    /// the formatter overflows.
     pub fn write<S: PartsWrite>(
         &self,
         alloc: Global,
@@ -91,7 +91,7 @@ impl<F: AbstractFormatter> UnitsFormatter<F> {
             .write_framed(alloc, &value.absolute, &frame, sink)
     }
 
-    /// The characters that `write` writes, as a text. `Sink` is never answered.
+    /// The characters that `write` writes, as a text. `Sink` is never reported.
     pub fn write_to_string(&self, alloc: Global, value: &Decimal) -> Result<String, FormatError>
         ensures text { IfOk result (λ t. (n : Shown)
             × F.shows self.now.formatter value.now.absolute n

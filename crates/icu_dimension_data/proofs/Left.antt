@@ -1,4 +1,9 @@
 -- Reading by one character, and what is left of a text while it is read.
+-- The definition `reading_from` recurses on the characters that are left, and the code goes forwards by byte offsets. So the invariant speaks of the rest:
+-- reading what is left from this byte on, with this state and draft, gives what the whole text gives (`Left`). A character keeps it or ends
+-- it with the fault of the text, by what `step` answers (`left-next`, `left-stop`); at the end no character is left (`left-end`). Bytes are
+-- tied to characters by std's `chars_past_char`. The search for the first fault keeps no draft: `Looks` says that there is one, and whichever
+-- it is, the faults are the same. An invariant on what was read wouldn't do: `pattern_of` has no equation for a text that grows at its end.
 use Rattle.std.proofs.Common.{◌≡◌, ℕ, ◌+◌, ◌<◌, List, [], ◌∷◌, ◌++◌, length, chars, refl, sym, ap, ◌∙◌, arith}
 use Rattle.std.specs.Prelude.{Option, Some, None, Result, Ok, Err, IsOk, IfSome, IfNone}
 use Rattle.std.specs.Str.{IsUtf8}
@@ -64,6 +69,7 @@ left-character : (text rest after : List ℕ) (at c : ℕ) (s : State) (d : Draf
     → rest ≡ encode_utf8 c ++ after → reading_from s d at (c ∷ chars after) ≡ pattern_of text
 left-character text rest after at c s d h e = sym (ap (reading_from s d at) (chars_past_char rest after c h.utf8 e)) ∙ h.read
 
+-- what a step answers at the place of the character
 stepped : {rest after : List ℕ} {at p c next : ℕ} {s : State} {r x : Result Step PatternFault}
     → Answered rest after at p c next s r x → step s at c ≡ x
 stepped {c = c} {s = s} a = sym (ap (λ n. step s n c) a.reads.0) ∙ sym a.answer ∙ a.is
@@ -105,20 +111,24 @@ pub record Looks (text rest : List ℕ) (at : ℕ) (s : State) : Type 0 where
   pub draft : Drafted
   pub left : Left text rest at s draft
 
+-- before the first character the whole text is left
 pub looks-start : (text rest : List ℕ) (at : ℕ) (s : State) → IsUtf8 text → rest ≡ text → at ≡ 0 → s ≡ start
     → Looks text rest at s
 looks-start text rest at s utf8 a b e =
     record { draft = empty_draft; left = left-start text rest at s empty_draft utf8 a b e refl }
 
+-- behind a character that may stand there, less is left
 pub looks-next : {text rest after : List ℕ} {at p c next : ℕ} {s : State} {r : Result Step PatternFault} {t : Step}
     → Looks text rest at s → Answered rest after at p c next s r (Ok t) → Looks text after next t.state
 looks-next {t = t} h a = record { draft = with_step t h.draft; left = left-next h.left a }
 
+-- a fault is that of the text
 pub looks-stop : {text rest after : List ℕ} {at p c next : ℕ} {s : State} {r : Result Step PatternFault}
     {fault : PatternFault} → Looks text rest at s → Answered rest after at p c next s r (Err fault)
     → pattern_of text ≡ Err fault
 looks-stop h a = left-stop h.left a
 
+-- a fault of the end is what is read
 end_is_fault : (o : Option PatternFault) (d : Drafted) (r : Result PatternText PatternFault) → r ≡ ended o d
     → IfSome o (λ fault. r ≡ Err fault)
 end_is_fault None d r e = tt
@@ -130,6 +140,7 @@ pub looks-end : (text rest : List ℕ) (at : ℕ) (s : State) → Looks text res
 looks-end text rest at s h e =
     end_is_fault (end_fault s (length text)) h.draft (pattern_of text) (left-end text rest at s h.draft h.left e)
 
+-- where the end is no fault, a pattern is read
 end_is_none : (o : Option PatternFault) (d : Drafted) (r : Result PatternText PatternFault) → r ≡ ended o d → IfNone o (IsOk r)
 end_is_none None d r e = rw e refl
 end_is_none (Some fault) d r e = tt
@@ -153,6 +164,7 @@ pub left-whole : {text rest after : List ℕ} {at p c next : ℕ} {s : State} {d
     → IsOk (pattern_of text) → ⊥
 left-whole {text} {fault = fault} h a ok = no_fault (pattern_of text) fault (left-stop h a) ok
 
+-- and it is the pattern of the draft
 whole_end : (o : Option PatternFault) (d : Drafted) (x : Result PatternText PatternFault) → x ≡ ended o d → IsOk x
     → x ≡ Ok (completed d)
 whole_end None d x e ok = e

@@ -14,5 +14,6 @@ abbrev pub digits_in : List CurrencyEntry → FractionDigits → List ℕ → Fr
 digits_in [] others code = others
 digits_in (e ∷ es) others code = if pointwise nat_eq e.code code then e.digits else digits_in es others code
 
+-- the digits of a currency
 abbrev pub digits_of : Digits → List ℕ → FractionDigits
 digits_of d code = digits_in d.entries d.others code

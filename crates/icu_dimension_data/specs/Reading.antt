@@ -12,7 +12,7 @@ use Rattle.icu_dimension_data.specs.declared.stepping.Step.{Step}
 use Rattle.icu_dimension_data.specs.Patterns.{Affixes, PatternText, no_affixes}
 use Rattle.icu_dimension_data.specs.Stepping.{start, step, end_fault}
 
--- what is read so far: the first subpattern where it is whole, and the one that is read
+-- what was read so far: the first subpattern, if the second has begun, and the current one
 pub record Drafted : Type 0 where
   pub whole : Option Affixes
   pub current : Affixes
@@ -42,6 +42,7 @@ abbrev pub pattern_by : Option Affixes → Affixes → PatternText
 pattern_by None current = record { first = current; second = None }
 pattern_by (Some whole) current = record { first = whole; second = Some current }
 
+-- the pattern of a draft
 abbrev pub completed : Drafted → PatternText
 completed d = pattern_by d.whole d.current
 

@@ -12,7 +12,7 @@ use Rattle.icu_dimension_data.specs.declared.affix_token.AffixToken.{AffixToken}
 use Rattle.icu_dimension_data.specs.declared.affix_token.AffixToken.TheVariants.{Character, CurrencySymbol, MinusSign, PlusSign}
 use Rattle.icu_dimension_data.specs.Patterns.{Affixes, PatternText}
 
--- the texts that stand in the places of tokens
+-- the texts for the tokens
 pub record Texts : Type 0 where
   pub minus_sign : List ℕ
   pub plus_sign : List ℕ
@@ -40,10 +40,11 @@ abbrev pub plus_for : AffixToken → AffixToken
 plus_for MinusSign = PlusSign
 plus_for t = t
 
+-- with the plus sign in place of each minus sign
 abbrev pub with_plus : Affixes → Affixes
 with_plus a = record { before = map plus_for a.before; after = map plus_for a.after }
 
--- a sign before all that stands there
+-- with a sign in front
 abbrev pub led_by : AffixToken → Affixes → Affixes
 led_by sign a = record { before = sign ∷ a.before; after = a.after }
 
@@ -52,11 +53,12 @@ abbrev pub minus_by : Affixes → Option Affixes → Affixes
 minus_by first None = led_by MinusSign first
 minus_by first (Some second) = second
 
+-- what stands around negative numbers
 abbrev pub minus_affixes : PatternText → Affixes
 minus_affixes p = minus_by p.first p.second
 
--- what stands around negative numbers with the plus sign in the place of the minus sign; where no minus sign stands there,
--- the plus sign and the first subpattern
+-- what stands around negative numbers, with the plus sign in place of the minus sign; if no minus sign stands there, the
+-- plus sign and the first subpattern
 abbrev pub plus_affixes : PatternText → Affixes
 plus_affixes p = if has_minus (minus_affixes p) then with_plus (minus_affixes p) else led_by PlusSign p.first
 
@@ -64,15 +66,16 @@ plus_affixes p = if has_minus (minus_affixes p) then with_plus (minus_affixes p)
 abbrev pub stands_apart : ℕ → Bool
 stands_apart c = in_group Symbol (general_category c) || in_group Separator (general_category c)
 
--- a space is wanted between a number and a text that has this character on the number's side, if it has any
+-- a space is inserted between a number and a text that has this character on the number's side, if it has any
 abbrev pub needs_space : Option ℕ → Bool
 needs_space None = false
 needs_space (Some c) = not (stands_apart c)
 
--- the first and the last character of a text
+-- the first character of a text
 abbrev pub first_character : List ℕ → Option ℕ
 first_character text = slice_get (chars text) 0
 
+-- its last character
 abbrev pub last_character : List ℕ → Option ℕ
 last_character text = slice_get (chars text) (length (chars text) - 1)
 
@@ -97,6 +100,7 @@ abbrev pub spaced_after : List ℕ → List AffixToken → List AffixToken
 spaced_after currency ts =
     if is_symbol (slice_get ts 0) && needs_space (first_character currency) then no_break_space ∷ ts else ts
 
+-- on both sides of the number
 abbrev pub spaced : List ℕ → Affixes → Affixes
 spaced currency a = record { before = spaced_before currency a.before; after = spaced_after currency a.after }
 

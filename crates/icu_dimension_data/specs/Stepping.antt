@@ -68,8 +68,7 @@ per_mille = 8240
 abbrev pub is_number : ℕ → Bool
 is_number c = c == number_sign || (c == zero_digit || (c == comma || c == full_stop))
 
--- a character that means something that isn't read here: rounding to a digit, significant digits, an exponent, padding,
--- per mille
+-- a character with a meaning that isn't supported: rounding to a digit, significant digits, an exponent, padding, per mille
 abbrev pub is_reserved : ℕ → Bool
 is_reserved c = (nat_le one_digit c && nat_le c nine_digit) || (c == at_sign || (c == letter_e || (c == asterisk || c == per_mille)))
 
@@ -137,6 +136,7 @@ abbrev pub symbol_after : State → Quoting → ℕ → Result Step PatternFault
 symbol_after s AfterSymbol at = Err (ReservedAt at)
 symbol_after s q at = Ok (with_token s AfterSymbol CurrencySymbol)
 
+-- `¤` at a byte
 abbrev pub with_symbol : State → ℕ → Result Step PatternFault
 with_symbol s at = symbol_after s s.quoting at
 
@@ -149,7 +149,7 @@ unquoted_step s at Symbol = with_symbol s at
 unquoted_step s at (TokenKind t) = Ok (with_token s Outside t)
 unquoted_step s at Reserved = Err (ReservedAt at)
 
--- a character at a byte, where quoting is so
+-- a character at a byte, by how the characters before it are quoted
 abbrev pub step_in : State → Quoting → ℕ → ℕ → Result Step PatternFault
 step_in s Outside at c = unquoted_step s at (kind_of c)
 step_in s AfterSymbol at c = unquoted_step s at (kind_of c)
@@ -175,5 +175,6 @@ fault_at_end Outside section end = missing_number section end
 fault_at_end AfterSymbol section end = missing_number section end
 fault_at_end (Ended opening) section end = missing_number section end
 
+-- the fault of a text that ends at a byte
 abbrev pub end_fault : State → ℕ → Option PatternFault
 end_fault s end = fault_at_end s.quoting s.section end

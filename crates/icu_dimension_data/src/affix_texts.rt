@@ -3,7 +3,8 @@
 use std::alloc::{AllocError, Global};
 use std::marker::Model;
 
-/// The texts that stand in a pattern for its tokens, lent: those of a locale, and the symbol of a currency.
+/// The texts for the tokens of a pattern, borrowed: those of a locale, and the symbol of a
+/// currency.
 #[derive(Clone, Copy)]
 pub struct AffixTexts<'a> {
     /// The minus sign, as `-` or `−`.
@@ -16,7 +17,7 @@ pub struct AffixTexts<'a> {
     pub currency: &'a str,
 }
 
-/// The same texts, kept.
+/// The same texts, owned.
 #[derive(Drop)]
 pub(crate) struct KeptTexts {
     pub(crate) minus_sign: String,

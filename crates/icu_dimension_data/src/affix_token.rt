@@ -1,7 +1,7 @@
 //! What stands before and after the number of a pattern.
 
-/// One piece of what stands before or after a number: a character as it is, or what a locale or a currency puts in
-/// its place (UTS 35 Part 3, Number Pattern Character Definitions).
+/// One piece of what stands before or after a number: a character as it is, or what a locale or a
+/// currency puts in its place (UTS 35 Part 3, Number Pattern Character Definitions).
 #[derive(Clone, Copy, Debug, PartialEq, Eq)]
 pub enum AffixToken {
     /// A character that stands for itself.

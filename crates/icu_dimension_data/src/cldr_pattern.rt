@@ -6,8 +6,9 @@ use crate::subpattern::Subpattern;
 use std::alloc::Global;
 use std::marker::Model;
 
-/// A pattern of CLDR, as `¤#,##0.00;(¤#,##0.00)`: what stands around the number, and around a negative number where
-/// that has a subpattern of its own. How many digits and groups the number part asks for isn't kept.
+/// A pattern of CLDR, as `¤#,##0.00;(¤#,##0.00)`: what stands around the number, and around a
+/// negative number if that has a subpattern of its own. The digits and groups that the number part
+/// asks for aren't kept.
 #[derive(Drop)]
 pub struct CldrPattern {
     pub(crate) first: Subpattern,
@@ -26,12 +27,12 @@ impl CldrPattern {
     ghost use Rattle.std.specs.Prelude.{◌≡◌, Ok, Err, IfOk, IsOkUnless, MatchResult};
     ghost use Rattle.icu_dimension_data.specs.Reading.{pattern_of};
 
-    /// The pattern of a text. Faults are sought from left to right, before memory is asked for.
+    /// The pattern of a text. Faults are sought from left to right, before any allocation.
     ///
-    /// A subpattern is what stands around its number part, a run of `#`, `0`, `,` and `.`; a second one may stand
-    /// behind `;`. `¤` is the currency symbol, `-` and `+` the signs, `%` the percent sign; what stands in
-    /// apostrophes is taken as it is, and two apostrophes are one. Other characters of the syntax are refused, so
-    /// that none is written by mistake.
+    /// A subpattern is what stands around its number part, a run of `#`, `0`, `,` and `.`; a second
+    /// one may stand behind `;`. `¤` is the currency symbol, `-` and `+` the signs, `%` the percent
+    /// sign; what stands in apostrophes is taken as it is, and two apostrophes are one. Other
+    /// characters of the syntax are refused, so that none is written by mistake.
     pub fn parse(alloc: Global, text: &str) -> Result<Self, PatternFault>
         ensures read { IfOk result (λ p. pattern_of text.now ≡ Ok p) }
         ensures refused { MatchResult (pattern_of text.now) (λ _.

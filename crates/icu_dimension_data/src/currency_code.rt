@@ -13,8 +13,8 @@ use thiserror::Error;
 #[error("not the code of a currency")]
 pub struct BadCurrencyCode;
 
-/// The code of a currency in the form of ISO 4217, as `EUR`: three ASCII capitals. Whether a currency has the code
-/// isn't asked.
+/// The code of a currency in the form of ISO 4217, as `EUR`: three ASCII capitals. It isn't checked
+/// that a currency has the code.
 #[derive(Clone, Copy, Debug, PartialEq, Eq)]
 pub struct CurrencyCode {
     letters: [u8; 3],

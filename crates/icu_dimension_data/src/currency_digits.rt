@@ -45,7 +45,8 @@ impl CurrencyDigits {
     ghost use Rattle.std.specs.Prelude.{◌≡◌};
     ghost use Rattle.icu_dimension_data.specs.Digits.{digits_of};
 
-    /// The digits of these currencies, and of all others. Of several entries with one code the first counts.
+    /// The digits of these currencies, and of all others. Of several entries with one code the
+    /// first counts.
     pub fn new(entries: Vec<CurrencyEntry>, others: FractionDigits) -> Self
         ensures { result ≡ record { entries = entries.items; others = others } }
     {
@@ -72,8 +73,9 @@ fn last_power(digits: u8) -> i16
     -i16::from(digits)
 }
 
-/// The amount rounded to so many fraction digits, half to even; where it has fewer, zeros are written behind them.
-/// `Limit` and want of memory hand the amount back, as [`Decimal::rounded`] does.
+/// The amount rounded to so many fraction digits, half to even; where it has fewer, zeros are
+/// written behind them. `Limit` and want of memory hand the amount back, as [`Decimal::rounded`]
+/// does.
 pub fn rounded_to(amount: Decimal, digits: u8) -> Result<Decimal, (Decimal, DecimalError)>
     ensures rounded { IfOk result (λ y.
         IsRounded amount.absolute (pos 0 -ℤ pos digits) y.absolute) }

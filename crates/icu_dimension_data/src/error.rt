@@ -6,38 +6,39 @@ ghost use Rattle.icu_dimension_data.specs.declared.error.PatternFault.TheVariant
 use std::alloc::{AllocError, AllocFailed};
 use thiserror::Error;
 
-/// Why a text isn't read as a pattern of numbers (UTS 35 Part 3, Number Patterns): its first fault, or want of
-/// memory.
+/// Why a text isn't read as a pattern of numbers (UTS 35 Part 3, Number Patterns): its first fault,
+/// or `OutOfMemory`.
 #[derive(Clone, Copy, Debug, PartialEq, Eq, Error)]
 pub enum PatternFault {
     /// A subpattern has no number part.
     #[error("no number part before byte {byte}")]
     NoNumber {
-        /// Where the subpattern ends.
+        /// The byte offset at which the subpattern ends.
         byte: usize,
     },
     /// A subpattern has a second number part, apart from the first.
     #[error("a second number part at byte {byte}")]
     TwoNumbers {
-        /// Where the second begins.
+        /// The byte offset at which the second begins.
         byte: usize,
     },
     /// A quote isn't closed.
     #[error("the quote at byte {byte} is not closed")]
     UnclosedQuote {
-        /// The place of the quote.
+        /// The byte offset of the quote.
         byte: usize,
     },
     /// A third subpattern begins.
     #[error("a third subpattern at byte {byte}")]
     ThirdSubpattern {
-        /// The place of the semicolon before it.
+        /// The byte offset of the semicolon before it.
         byte: usize,
     },
-    /// A character that means something else in a pattern: a digit from 1 to 9, `@`, `E`, `*`, `‰`, or `¤` after `¤`.
+    /// A character that means something else in a pattern: a digit from 1 to 9, `@`, `E`, `*`, `‰`,
+    /// or `¤` after `¤`.
     #[error("the character at byte {byte} is reserved")]
     Reserved {
-        /// The place of the character.
+        /// The byte offset of the character.
         byte: usize,
     },
     /// Memory ran out.

@@ -1,4 +1,5 @@
-//! What stands around numbers of one sign as a pattern with one place, as compact tables hold patterns.
+//! What stands around numbers of one sign, as a pattern with one placeholder, as compact tables
+//! hold patterns.
 
 use crate::affix_texts::KeptTexts;
 use crate::affix_token::AffixToken;
@@ -29,8 +30,8 @@ impl SignedPattern<'_> {
     ghost use Rattle.std.specs.Prelude.{◌≡◌, IfOk, IsOkUnless};
     ghost use Rattle.icu_dimension_data.specs.Flat.{flat};
 
-    /// The pattern with one place, for a number: what stands around it, the texts of signs and symbol too, is its
-    /// literal. So a compact table holds it; the literal has no parts.
+    /// The pattern with one placeholder, for a number: all that stands around the number, the texts
+    /// of signs and symbol too, is its literal, without parts. Compact tables hold such patterns.
     #[tactic(auto, using(crate::proofs::Seams::has_seam))]
     pub fn to_pattern(&self, alloc: Global) -> Result<Pattern<SinglePlaceholder>, PatternError>
         ensures flat { IfOk result (λ p. p ≡ flat self.now) }

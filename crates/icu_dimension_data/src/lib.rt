@@ -1,5 +1,5 @@
-//! The data of money and percents: patterns of CLDR with their currency symbols and signs, and the digits of
-//! currencies.
+//! The data of money and percents: patterns of CLDR with their currency symbols and signs, and the
+//! digits of currencies.
 //!
 //! ```
 //! let texts = AffixTexts {

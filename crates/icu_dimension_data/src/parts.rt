@@ -1,4 +1,4 @@
-//! The parts of money, percents and units, as a sink is told of them.
+//! The parts of money, percents and units.
 
 use writeable::Part;
 

@@ -1,4 +1,4 @@
-//! Reading a pattern: first its fault is sought, which takes no memory, and then it is read.
+//! Reading a pattern: first a fault is sought, which takes no memory, and then the pattern is read.
 
 ghost use Rattle.std.specs.Prelude.{◌≡◌, Ok, Err, IfNone, IfSome, IfOk, IsOk, IsOkUnless};
 ghost use Rattle.icu_dimension_data.specs.Reading.{pattern_of};
@@ -27,7 +27,7 @@ pub(crate) fn first_fault(text: &str) -> Option<PatternFault>
     state.end_fault(text.len())
 }
 
-/// A pattern while it is read: the first subpattern once the second has begun, and the one that is read.
+/// A pattern while it is read: the first subpattern, if the second has begun, and the current one.
 #[derive(Drop)]
 pub(crate) struct Draft {
     whole: Option<Subpattern>,
@@ -71,7 +71,7 @@ impl Draft {
         }
     }
 
-    /// Takes what a character adds.
+    /// Adds what a character adds.
     fn take(&mut self, alloc: Global, section: Section, added: Added) -> Result<(), PatternFault>
         ensures taken { OnOk result (self.new ≡ with_added section added self.old) }
         ensures memory { IsOkUnless result PatternFault.OutOfMemory }

@@ -49,7 +49,7 @@ impl Subpattern {
     ghost use Rattle.std.specs.Prelude.{◌≡◌, IfOk};
     ghost use Rattle.icu_dimension_data.specs.Resolved.{has_minus, led_by, with_plus};
 
-    /// A sign before all that stands there.
+    /// With a sign in front.
     fn led_by(&self, alloc: Global, sign: AffixToken) -> Result<Self, AllocError>
         ensures { IfOk result (λ s. s ≡ led_by sign self.now) }
     {
@@ -108,11 +108,12 @@ impl CldrPattern {
 
     /// The patterns of the three signs, with these texts in them.
     ///
-    /// Without a sign it is the first subpattern. With a minus it is the second one, or where there is none the minus
-    /// sign and the first. With a plus it is that of minus with the plus sign in the place of the minus sign; where
-    /// no minus sign stands in it, as between parentheses, the plus sign and the first subpattern. U+00A0 stands
-    /// between the symbol and the number where they would touch and the symbol has neither a symbol nor a separator
-    /// there, as `CHF` has not.
+    /// Without a sign it is the first subpattern. With a minus it is the second one, or if there is
+    /// none the minus sign and the first. With a plus it is that of minus, with the plus sign in
+    /// place of the minus sign; if no minus sign stands there, as in `(¤0)`, it is the plus sign
+    /// and the first subpattern. Where the currency's symbol and the number would touch, U+00A0
+    /// stands between them, unless the symbol's character on that side is a symbol or a separator:
+    /// `CHF 1`, but `$1`.
     pub fn resolve(
         &self,
         alloc: Global,

@@ -9,7 +9,8 @@ use std::fmt;
 use std::marker::Model;
 use writeable::{EventWriter, WriteFault, Writeable};
 
-/// What stands around numbers without a sign, with a minus and with a plus, as [`CldrPattern::resolve`] makes it.
+/// What stands around numbers without a sign, with a minus and with a plus, as
+/// [`CldrPattern::resolve`] makes it.
 ///
 /// [`CldrPattern::resolve`]: crate::CldrPattern::resolve
 #[derive(Drop)]
@@ -48,7 +49,7 @@ impl SignedPatterns {
     }
 }
 
-/// What stands around numbers of one sign, lent.
+/// What stands around numbers of one sign, borrowed.
 #[derive(Drop)]
 pub struct SignedPattern<'a> {
     pub(crate) affixes: &'a Subpattern,
@@ -77,7 +78,8 @@ impl<'a> SignedPattern<'a> {
     }
 }
 
-/// A value with what a pattern has around it: signs, symbol and percent sign in parts of their own.
+/// A value and what a pattern has around it; signs, symbol and percent sign are in parts of their
+/// own.
 #[derive(Drop)]
 pub struct Surrounded<'a, W> {
     pattern: SignedPattern<'a>,

@@ -22,7 +22,8 @@ fn stands_apart(character: char) -> bool
         || GeneralCategoryGroup::Separator.contains(category)
 }
 
-/// Whether a space is wanted between a number and a text with this character on the number's side.
+/// Whether a space is inserted between a number and a text with this character on the number's
+/// side.
 fn needs_space(character: Option<char>) -> bool
     ensures { result ≡ needs_space character }
 {
@@ -54,7 +55,7 @@ impl Subpattern {
     ghost use Rattle.std.specs.Prelude.{◌≡◌, IfOk};
     ghost use Rattle.icu_dimension_data.specs.Resolved.{spaced};
 
-    /// With a space between the number and a symbol that stands directly beside it, where one is wanted.
+    /// With a space between the number and a symbol directly beside it, if the symbol needs one.
     pub(crate) fn spaced(mut self, currency: &str) -> Result<Self, AllocError>
         ensures { IfOk result (λ s. s ≡ spaced currency.now self) }
     {

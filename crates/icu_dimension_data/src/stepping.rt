@@ -1,4 +1,4 @@
-//! Reading a pattern by one character: what it does, and what may follow.
+//! Reading one character of a pattern: what it adds, and what may follow.
 
 ghost use Rattle.std.specs.Prelude.{◌≡◌};
 ghost use Rattle.icu_dimension_data.specs.Stepping.{start, kind_of, section_after, with_token, silent, separated};
@@ -7,7 +7,7 @@ ghost use Rattle.icu_dimension_data.specs.Stepping.{with_number, with_symbol, un
 use crate::affix_token::AffixToken;
 use crate::error::PatternFault;
 
-/// What the character before leaves: whether what follows is quoted.
+/// Whether the next character is quoted.
 #[derive(Clone, Copy)]
 pub(crate) enum Quoting {
     /// No quote is open.
@@ -18,12 +18,12 @@ pub(crate) enum Quoting {
     Opened(usize),
     /// Characters stand in the quote that was opened at this byte.
     Inside(usize),
-    /// The character before is an apostrophe in the quote that was opened at this byte: its end, or the first half of
-    /// one.
+    /// The character before is an apostrophe in the quote that was opened at this byte: its end, or
+    /// the first half of one.
     Ended(usize),
 }
 
-/// Where in a subpattern the reading is.
+/// Which section of a subpattern is read.
 #[derive(Clone, Copy)]
 pub(crate) enum Section {
     /// Before its number part.
@@ -50,7 +50,7 @@ pub(crate) enum Added {
     Subpattern,
 }
 
-/// What reading one character leaves.
+/// The result of reading one character.
 #[derive(Clone, Copy)]
 pub(crate) struct Step {
     pub(crate) state: State,
@@ -85,7 +85,7 @@ fn kind_of(character: char) -> Kind
 }
 
 impl Section {
-    /// Where the reading is after a token.
+    /// The section behind a token.
     fn after_token(self) -> Section
         ensures { result ≡ section_after self }
     {
@@ -97,7 +97,7 @@ impl Section {
 }
 
 impl State {
-    /// Where reading begins.
+    /// The state before the first character.
     pub(crate) fn start() -> State
         ensures { result ≡ start }
     {
@@ -187,7 +187,7 @@ impl State {
         }
     }
 
-    /// Reads the character that begins at a byte.
+    /// Reads the character at a byte offset.
     pub(crate) fn step(self, at: usize, character: char) -> Result<Step, PatternFault>
         ensures { result ≡ step self at character }
     {
@@ -207,7 +207,7 @@ impl State {
         }
     }
 
-    /// The fault of a text that ends at a byte, if it may not end there.
+    /// The fault of a text that ends at this byte offset, if it may not end there.
     pub(crate) fn end_fault(self, end: usize) -> Option<PatternFault>
         ensures { result ≡ end_fault self end }
     {

@@ -1,4 +1,5 @@
-//! What the contracts say of the plain formatter and of the compact one: proved callers that rest on them alone.
+//! What the contracts say of the plain formatter and of the compact one: proved callers that rest
+//! on them alone.
 
 ghost use Rattle.std.specs.Prelude.{◌≡◌, ◌↔◌, IsErrOf, OnOk};
 ghost use Rattle.fixed_decimal.specs.Size.{size};
@@ -10,11 +11,11 @@ ghost use Rattle.icu_dimension.specs.Money.{money_events};
 ghost use Rattle.icu_dimension.specs.Percent.{hundredfold};
 
 use fixed_decimal::Decimal;
-use icu_base::PartsWrite;
 use icu_decimal::error::FormatError;
 use icu_decimal::{CompactDecimalFormatter, DecimalFormatter};
 use icu_dimension::{CurrencyFormatter, PercentFormatter};
 use std::alloc::Global;
+use writeable::PartsWrite;
 
 /// Over a plain formatter, an amount is its digits as they are given, and it never overflows.
 pub(crate) fn write_plain<S: PartsWrite>(

@@ -6,6 +6,8 @@ mod instances;
 #[cfg(test)]
 mod large;
 #[cfg(test)]
+mod large_compact;
+#[cfg(test)]
 mod loaded;
 #[cfg(test)]
 mod making;

@@ -4,7 +4,6 @@ use crate::making::decimal;
 use crate::rows::{LETTERS, Rows, Whose, rows_of};
 use crate::shelf::{NOTHING, Refused, Shelf};
 use fixed_decimal::Decimal;
-use icu_base::{DataError, DataErrorKind, DataLocale, NumberingSystem};
 use icu_decimal::options::DecimalFormatterOptions;
 use icu_decimal::preferences::DecimalFormatterPreferences;
 use icu_dimension::options::{CurrencyFormatterOptions, CurrencySign, Width};
@@ -14,6 +13,7 @@ use icu_dimension::{
     UnitsFormatter,
 };
 use icu_dimension_data::CurrencyCode;
+use icu_provider::{DataError, DataErrorKind, DataLocale, NumberingSystem};
 use std::alloc::Global;
 
 /// Which formatter is made.
@@ -259,7 +259,8 @@ fn formatters_are_made_of_the_data_of_the_provider(rt: HostRuntime) {
     }
 }
 
-/// Formatters whose symbol, name or unit has 800 letters: what stands before the letters, and what behind them.
+/// Formatters whose symbol, name or unit has 800 letters: what stands before the letters and behind
+/// them.
 const LONG: [(Made, &str, &str); 4] = [
     (Made::Standard, "", "\u{a0}2"),
     (Made::Names, "2", ""),

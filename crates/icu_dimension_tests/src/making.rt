@@ -1,12 +1,13 @@
 //! Formatters of numbers and what stands around them. None is answered where memory is wanting.
 
 use fixed_decimal::Decimal;
-use icu_base::{ASCII_DIGITS, PluralCategory, PluralRules};
 use icu_decimal::options::{CompactDecimalFormatterOptions, DecimalFormatterOptions};
 use icu_decimal::{CompactDecimalFormatter, DecimalFormatter};
 use icu_decimal_data::{DecimalSymbolStrsBuilder, DecimalSymbols, GroupingSizes};
 use icu_dimension_data::{AffixTexts, CldrPattern, SignedPatterns};
+use icu_plurals::{PluralCategory, PluralRules};
 use std::alloc::Global;
+use writeable::ASCII_DIGITS;
 
 /// How the numbers of a language are written: its separators, and its minus sign.
 #[derive(Clone, Copy)]

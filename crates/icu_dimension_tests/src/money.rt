@@ -3,7 +3,6 @@
 use crate::making::{ENGLISH, GERMAN, Numbers, SWISS, decimal, patterns, plain};
 use crate::writing::is_written;
 use fixed_decimal::Decimal;
-use icu_base::{DataLocale, Part};
 use icu_decimal::options::CompactDecimalFormatterOptions;
 use icu_decimal::parts::{DECIMAL, FRACTION, GROUP, INTEGER, MINUS_SIGN, PLUS_SIGN};
 use icu_decimal::preferences::CompactDecimalFormatterPreferences;
@@ -11,9 +10,11 @@ use icu_decimal::{CompactDecimalFormatter, DecimalFormatter};
 use icu_dimension::CurrencyFormatter;
 use icu_dimension::parts::CURRENCY;
 use icu_dimension_data::rounded_to;
+use icu_provider::DataLocale;
 use icu_tables::Tables;
 use sample_tables::SAMPLE;
 use std::alloc::Global;
+use writeable::Part;
 
 /// A language, its pattern, a symbol and the digits of the currency.
 pub(crate) type Money = (Numbers, &'static str, &'static str, u8);
@@ -104,7 +105,7 @@ fn is_amount_written(
 
 #[test]
 fn amounts_are_written_with_the_symbol_of_their_currency(rt: HostRuntime) {
-    for (money, amount, text) in AMOUNTS {
+    for &(money, amount, text) in &AMOUNTS {
         assert!(rt;
             is_amount_written(rt.alloc(), money, amount, text, None),
             "{text}"
@@ -166,7 +167,7 @@ const MARKED: [(Money, &str, &str, &[(usize, usize, Part)]); 4] = [
 
 #[test]
 fn amounts_have_their_parts(rt: HostRuntime) {
-    for (money, amount, text, parts) in MARKED {
+    for &(money, amount, text, parts) in &MARKED {
         assert!(rt;
             is_amount_written(rt.alloc(), money, amount, text, Some(parts)),
             "{text}"

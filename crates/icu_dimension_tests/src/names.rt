@@ -2,12 +2,13 @@
 
 use crate::making::{ENGLISH, FRENCH, Numbers, decimal, plain};
 use crate::writing::is_written;
-use icu_base::{Part, PluralCategory, PluralElements, PluralRules};
 use icu_decimal::DecimalFormatter;
 use icu_decimal::parts::{DECIMAL, FRACTION, INTEGER, MINUS_SIGN};
 use icu_dimension::parts::CURRENCY;
 use icu_dimension::{LongCurrencyFormatter, NamePattern, NameTexts};
+use icu_plurals::{PluralCategory, PluralElements, PluralRules};
 use std::alloc::Global;
+use writeable::Part;
 
 pub(crate) const ENGLISH_RULES: [(PluralCategory, &str); 1] = [(
     PluralCategory::One,
@@ -153,7 +154,7 @@ const AMOUNTS: [(Currency, &str, &str); 9] = [
 
 #[test]
 fn amounts_are_written_with_the_name_of_their_currency(rt: HostRuntime) {
-    for (currency, amount, text) in AMOUNTS {
+    for &(currency, amount, text) in &AMOUNTS {
         assert!(rt;
             is_amount(rt.alloc(), currency, amount, text, None)
                 || is_amount(rt.alloc(), currency, amount, text, None),
@@ -185,7 +186,7 @@ const MARKED: [(Currency, &str, &str, &[(usize, usize, Part)]); 2] = [
 
 #[test]
 fn names_are_parts(rt: HostRuntime) {
-    for (currency, amount, text, parts) in MARKED {
+    for &(currency, amount, text, parts) in &MARKED {
         assert!(rt;
             is_amount(rt.alloc(), currency, amount, text, Some(parts))
                 || is_amount(rt.alloc(), currency, amount, text, Some(parts)),

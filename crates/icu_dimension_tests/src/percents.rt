@@ -2,12 +2,12 @@
 
 use crate::making::{BASQUE, ENGLISH, FRENCH, GERMAN, Numbers, decimal, patterns, plain};
 use crate::writing::is_written;
-use icu_base::Part;
 use icu_decimal::DecimalFormatter;
 use icu_decimal::parts::{DECIMAL, FRACTION, INTEGER, MINUS_SIGN};
 use icu_dimension::PercentFormatter;
 use icu_dimension::parts::PERCENT_SIGN;
 use std::alloc::Global;
+use writeable::Part;
 
 /// A language and its pattern of percents.
 pub(crate) type Percent = (Numbers, &'static str);
@@ -74,7 +74,7 @@ fn is_percent(
 
 #[test]
 fn numbers_are_written_as_percents(rt: HostRuntime) {
-    for (percent, number, text) in PERCENTS {
+    for &(percent, number, text) in &PERCENTS {
         assert!(rt;
             is_percent(rt.alloc(), percent, number, text, None)
                 || is_percent(rt.alloc(), percent, number, text, None),

@@ -1,11 +1,12 @@
-//! Which refusal of a provider is answered, by which systems it is asked, and the digits of currencies that it has.
+//! Which refusal of a provider is reported, for which systems it is asked, and the digits of
+//! currencies that it has.
 
 use crate::loaded::{Asked, Made, writes};
 use crate::rows::{Whose, rows_of};
 use crate::shelf::{KEPT_AWAY, NOTHING, Refused, Shelf};
-use icu_base::{DataError, DataErrorKind};
 use icu_dimension::provider::load_currency_digits;
 use icu_dimension_data::{CurrencyCode, FractionDigits};
+use icu_provider::{DataError, DataErrorKind};
 use std::alloc::Global;
 
 /// What is refused, and what isn't found.

@@ -2,8 +2,8 @@
 
 use crate::making::{ENGLISH, FRENCH, GERMAN, Numbers};
 use crate::names::{ENGLISH_RULES, FRENCH_RULES, behind};
-use icu_base::PluralCategory;
 use icu_dimension::NameTexts;
+use icu_plurals::PluralCategory;
 
 /// What a shelf is made of: a locale's numbers, those of money, and its texts.
 #[derive(Clone, Copy)]

@@ -1,16 +1,12 @@
 //! A provider of the data of one locale, one currency and one unit.
 
 ghost use Rattle.std.specs.Prelude.{◌≡◌, Ok, Err, None, Some, codes, if◌then◌else◌, option_map};
-ghost use Rattle.icu_base.specs.Answer.{Answers, refused, told};
-ghost use Rattle.icu_base.specs.Identifier.{identifier_of, same_identifier};
-ghost use Rattle.icu_base.specs.declared.provider.error.DataErrorKind.TheVariants.{IdentifierNotFound};
+ghost use Rattle.icu_provider.specs.Answer.{Answers, refused, told};
+ghost use Rattle.icu_provider.specs.Identifier.{identifier_of, same_identifier};
+ghost use Rattle.icu_provider.specs.declared.error.DataErrorKind.TheVariants.{IdentifierNotFound};
 ghost use Rattle.icu_dimension.specs.GivenNames.{name_given};
 
 use crate::rows::Rows;
-use icu_base::{
-    ASCII_DIGITS, DataError, DataErrorKind, DataIdentifierBorrowed, DataProvider, DataRequest,
-    Pattern, PluralElements, PluralRules, PluralsCardinalV1, SinglePlaceholder,
-};
 use icu_decimal::provider::{CompactPatterns, DecimalDigitsV1, DecimalSymbols, DecimalSymbolsV1};
 use icu_dimension::NamePattern;
 use icu_dimension::provider::{
@@ -19,7 +15,11 @@ use icu_dimension::provider::{
     PercentPatternsV1, UnitsLongV1,
 };
 use icu_dimension_data::{CldrPattern, CurrencyDigits, SignedPatterns};
+use icu_pattern::{Pattern, SinglePlaceholder};
+use icu_plurals::{PluralElements, PluralRules, PluralsCardinalV1};
+use icu_provider::{DataError, DataErrorKind, DataIdentifierBorrowed, DataProvider, DataRequest};
 use std::alloc::Global;
+use writeable::ASCII_DIGITS;
 
 /// Which kinds of data are refused.
 #[derive(Clone, Copy)]
@@ -323,11 +323,11 @@ impl DataProvider<UnitsLongV1> for Shelf {
       explicit_zero = None;
       explicit_one = None;
       zero = None;
-      one = Some (record { place = Some 0; literal = s.rows.units.0.now });
+      one = Some (record { placeholder = Some 0; literal = s.rows.units.0.now });
       two = None;
       few = None;
       many = None;
-      other = record { place = Some 0; literal = s.rows.units.1.now };
+      other = record { placeholder = Some 0; literal = s.rows.units.1.now };
     }) else refused IdentifierNotFound };
 
     fn load(

@@ -61,8 +61,8 @@ fn ends_so(alloc: Global, kind: Kind, limit: usize, text: &str, all: usize) -> b
     }
 }
 
-/// The texts after so many events: a part is opened, its characters follow, and it is closed. An affix of a sign that
-/// is empty has a part too, in the formatter's own numbers.
+/// The texts in sinks with room for so many events: a part is opened, its characters follow, and it
+/// is closed. In the formatter's own numbers an empty affix of a sign has a part too.
 const BEGINNINGS: [(Kind, &[&str]); 4] = [
     (
         Kind::Money,
@@ -94,7 +94,7 @@ const BEGINNINGS: [(Kind, &[&str]); 4] = [
 
 #[test]
 fn a_full_sink_holds_a_beginning(rt: HostRuntime) {
-    for (kind, texts) in BEGINNINGS {
+    for &(kind, texts) in &BEGINNINGS {
         let all = texts.len() - 1;
         for (limit, text) in texts.iter().enumerate() {
             assert!(rt;

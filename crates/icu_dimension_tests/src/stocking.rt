@@ -4,9 +4,10 @@ use crate::making::{patterns, symbols};
 use crate::rows::Rows;
 use crate::shelf::{Refused, Shelf};
 use fixed_decimal::Sign;
-use icu_base::{PluralElements, PluralRules, SinglePlaceholder};
 use icu_decimal::provider::CompactPatterns;
 use icu_dimension_data::{CldrPattern, CurrencyDigits, FractionDigits, SignedPatterns};
+use icu_pattern::SinglePlaceholder;
+use icu_plurals::{PluralElements, PluralRules};
 use std::alloc::Global;
 use std::collections::BTreeMap;
 

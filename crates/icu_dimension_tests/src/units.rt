@@ -2,11 +2,13 @@
 
 use crate::making::{ENGLISH, decimal, plain};
 use crate::writing::is_written;
-use icu_base::{Part, Pattern, PluralCategory, PluralElements, PluralRules, SinglePlaceholder};
 use icu_decimal::DecimalFormatter;
 use icu_decimal::parts::{INTEGER, MINUS_SIGN};
 use icu_dimension::UnitsFormatter;
+use icu_pattern::{Pattern, SinglePlaceholder};
+use icu_plurals::{PluralCategory, PluralElements, PluralRules};
 use std::alloc::Global;
+use writeable::Part;
 
 const POLISH_RULES: [(PluralCategory, &str); 3] = [
     (PluralCategory::One, "i = 1 and v = 0"),
@@ -28,7 +30,8 @@ const ARABIC_RULES: [(PluralCategory, &str); 2] = [
 /// A pattern: where its place is, and its literal.
 type Placed = (Option<usize>, &'static str);
 
-/// The unit of a language: its plural rules, and its patterns for one, two, few, many and all other numbers.
+/// The unit of a language: its plural rules, and its patterns for one, two, few, many and all other
+/// numbers.
 #[derive(Clone, Copy)]
 pub(crate) enum Unit {
     PolishKilometres,
@@ -140,7 +143,7 @@ const MEASURES: [(Unit, &str, &str); 11] = [
 
 #[test]
 fn the_sign_stands_beside_the_number(rt: HostRuntime) {
-    for (unit, number, text) in MEASURES {
+    for &(unit, number, text) in &MEASURES {
         assert!(rt;
             is_measure(rt.alloc(), unit, number, text, None)
                 || is_measure(rt.alloc(), unit, number, text, None),

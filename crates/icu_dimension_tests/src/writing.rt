@@ -1,11 +1,11 @@
 //! Whether a formatter writes a number so.
 
 use fixed_decimal::Decimal;
-use icu_base::{Part, PartsText};
 use icu_decimal::AbstractFormatter;
 use icu_decimal::error::FormatError;
 use icu_dimension::{CurrencyFormatter, LongCurrencyFormatter, PercentFormatter, UnitsFormatter};
 use std::alloc::Global;
+use writeable::{Part, PartsText};
 
 /// What all formatters here do.
 pub(crate) trait NumberWriter {
@@ -79,8 +79,8 @@ impl<F: AbstractFormatter> NumberWriter for LongCurrencyFormatter<F> {
     }
 }
 
-/// What a call answers, and the text and the parts that its sink then holds; no parts are given where they aren't
-/// asked for.
+/// What a call answers, and the text and the parts that its sink then holds; no parts are given
+/// where they aren't asked for.
 pub(crate) type Wanted<'a> = (
     Result<(), FormatError>,
     &'a str,

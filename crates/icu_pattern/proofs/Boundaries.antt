@@ -5,7 +5,7 @@ use Rattle.std.specs.Str.{IsCharBoundary}
 use Rattle.std.proofs.lemmas.Bool.{cases_Bool, le-leb, lt-leb, lt-ltb, le-ltb, cases_lt}
 use Rattle.icu_pattern.specs.Backends.{IsCharBoundary-tested}
 use Rattle.writeable.specs.Events.{Event}
-use Rattle.icu_pattern.specs.Patterns.{is_boundary, place_alone, interpolated}
+use Rattle.icu_pattern.specs.Patterns.{is_boundary, placeholder_alone, interpolated}
 use Rattle.writeable.proofs.EventLemmas.{text_events-nil}
 
 is_boundary-passed : (text : List ℕ) (k : ℕ) → IsCharBoundary text k → is_boundary text k ≡ true
@@ -22,11 +22,11 @@ is_boundary-passed text k h =
           ]
     ]
 
--- what answers whether a text may be cut at a byte is the test
+-- a `bool` that tells whether a text may be cut at byte k equals the test
 pub is_boundary_of : (text : List ℕ) (k : ℕ) (b : Bool) → (IsTrue b ↔ IsCharBoundary text k) → b ≡ is_boundary text k
 is_boundary_of text k true h = sym (is_boundary-passed text k (h.0 refl))
 is_boundary_of text k false h = elim (cases_Bool (is_boundary text k)) [ inl t ↦ h.1 (IsCharBoundary-tested text k t) ∙ sym t | inr f ↦ sym f ]
 
--- a value in the pattern that is a place alone is written as it is
-pub interpolated_alone : (es : List Event) → interpolated place_alone es ≡ es
+-- the pattern that is a placeholder alone writes a value as it is
+pub interpolated_alone : (es : List Event) → interpolated placeholder_alone es ≡ es
 interpolated_alone es = ap (λ (l : List Event). l ++ (es ++ l)) text_events-nil ∙ append-nil es

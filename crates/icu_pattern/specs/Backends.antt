@@ -8,9 +8,9 @@ use Rattle.std.specs.Str.{IsCharBoundary}
 use Rattle.std.proofs.Common.{arith, inl, inr}
 use Rattle.std.proofs.lemmas.Bool.{leb-true, ltb-true, and_parts, or_cases}
 use Rattle.std.proofs.lemmas.Cmp.{and_equiv, on_equiv, nat_eq_equiv, nat_list_eq_equiv}
-use Rattle.icu_pattern.specs.Patterns.{PatternText, PlaceFits, is_boundary, has_fitting_place, has_no_place, place_alone, same_pattern}
+use Rattle.icu_pattern.specs.Patterns.{PatternText, PlaceholderFits, is_boundary, has_fitting_placeholder, has_no_placeholder, placeholder_alone, same_pattern}
 
--- what passes the test is a place where a text may be cut
+-- where the test passes, the text may be cut at byte k
 pub IsCharBoundary-tested : (text : List ℕ) (k : ℕ) → is_boundary text k ≡ true → IsCharBoundary text k
 IsCharBoundary-tested text k e =
     let p = and_parts _ _ e in (
@@ -21,35 +21,36 @@ IsCharBoundary-tested text k e =
       ],
     )
 
--- what passes the test of no place or one that fits has no other
-pub PlaceFits-tested : (p : PatternText) → IsTrue (has_fitting_place p) → PlaceFits p
-PlaceFits-tested p h = go p.literal p.place h
+-- what passes the test of `SinglePlaceholder` has no placeholder, or one that fits
+pub PlaceholderFits-tested : (p : PatternText) → IsTrue (has_fitting_placeholder p) → PlaceholderFits p
+PlaceholderFits-tested p h = go p.literal p.placeholder h
   where
-    go : (literal : List ℕ) (place : Option ℕ) → IsTrue (option_map_or (is_boundary literal) place true) → IfSome place (λ k. IsCharBoundary literal k)
+    go : (literal : List ℕ) (placeholder : Option ℕ) → IsTrue (option_map_or (is_boundary literal) placeholder true)
+        → IfSome placeholder (λ k. IsCharBoundary literal k)
     go literal None h = tt
     go literal (Some k) h = IsCharBoundary-tested literal k h
 
--- a pattern without a place has none that doesn't fit
-pub PlaceFits-without : (p : PatternText) → IsTrue (has_no_place p) → PlaceFits p
-PlaceFits-without p h = go p.literal p.place h
+-- what passes the test of `NoPlaceholder` has no placeholder, and so fits
+pub PlaceholderFits-without : (p : PatternText) → IsTrue (has_no_placeholder p) → PlaceholderFits p
+PlaceholderFits-without p h = go p.literal p.placeholder h
   where
-    go : (literal : List ℕ) (place : Option ℕ) → IsTrue (is_none place) → IfSome place (λ k. IsCharBoundary literal k)
+    go : (literal : List ℕ) (placeholder : Option ℕ) → IsTrue (is_none placeholder) → IfSome placeholder (λ k. IsCharBoundary literal k)
     go literal None h = tt
     go literal (Some k) h = absurd (cc)
 
--- the place alone fits
-pub place_alone-fits : (p : PatternText) → IsTrue (has_fitting_place p) → IsSome p.place → IsTrue (has_fitting_place place_alone)
-place_alone-fits p h s = refl
+-- `SinglePlaceholder` accepts the placeholder alone
+pub placeholder_alone-fits : (p : PatternText) → IsTrue (has_fitting_placeholder p) → IsSome p.placeholder → IsTrue (has_fitting_placeholder placeholder_alone)
+placeholder_alone-fits p h s = refl
 
--- no pattern without a place has one
-pub place_alone-without : (p : PatternText) → IsTrue (has_no_place p) → IsSome p.place → IsTrue (has_no_place place_alone)
-place_alone-without p h s = absurd (go p.place h s)
+-- `NoPlaceholder` accepts no pattern with a placeholder, so the law on the placeholder alone asks nothing of it
+pub placeholder_alone-without : (p : PatternText) → IsTrue (has_no_placeholder p) → IsSome p.placeholder → IsTrue (has_no_placeholder placeholder_alone)
+placeholder_alone-without p h s = absurd (go p.placeholder h s)
   where
-    go : (place : Option ℕ) → IsTrue (is_none place) → IsSome place → ⊥
+    go : (placeholder : Option ℕ) → IsTrue (is_none placeholder) → IsSome placeholder → ⊥
     go None h s = absurd (cc)
     go (Some k) h s = absurd (cc)
 
 -- the equality of patterns is an equivalence
 pub same_pattern_equiv : IsEquivalence same_pattern
-same_pattern_equiv = and_equiv (on_equiv (λ (p : PatternText). p.place) (options_equiv nat_eq_equiv))
+same_pattern_equiv = and_equiv (on_equiv (λ (p : PatternText). p.placeholder) (options_equiv nat_eq_equiv))
     (on_equiv (λ (p : PatternText). p.literal) nat_list_eq_equiv)

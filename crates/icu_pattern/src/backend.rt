@@ -1,70 +1,77 @@
-//! What patterns may be.
+//! Backends: which placeholder a pattern may have.
 
 ghost use Rattle.std.specs.Prelude.{◌≡◌, ◌↔◌, Bool, None, IsSome, IsTrue};
-ghost use Rattle.icu_pattern.specs.Patterns.{PatternText, PlaceFits, has_fitting_place, has_no_place, place_alone};
-ghost use Rattle.icu_pattern.specs.Backends.{PlaceFits-tested, PlaceFits-without, place_alone-fits, place_alone-without};
+ghost use Rattle.icu_pattern.specs.Patterns.{PatternText, PlaceholderFits, has_fitting_placeholder, has_no_placeholder, placeholder_alone};
+ghost use Rattle.icu_pattern.specs.Backends.{PlaceholderFits-tested, PlaceholderFits-without, placeholder_alone-fits, placeholder_alone-without};
 
-/// What patterns may be: a test on a place and a literal.
+/// A backend of patterns: it decides which placeholder is accepted in which literal.
 ///
-/// A place is a number of bytes of the literal: a value is written after so many. Two laws hold of each backend.
+/// A placeholder is a byte offset into the literal; the value is inserted there. Two laws hold of
+/// each backend.
 pub trait PatternBackend: Eq {
     /// Whether a pattern is accepted.
     ghost accepted: { PatternText → Bool };
 
-    /// Whether this place with this literal is accepted.
-    fn accepts(place: Option<usize>, literal: &str) -> bool
-        ensures { result ≡ accepted (record { place = place; literal = literal.now }) };
+    /// Whether this placeholder, or none, is accepted in this literal.
+    fn accepts(placeholder: Option<usize>, literal: &str) -> bool
+        ensures { result ≡ accepted (record { placeholder = placeholder; literal = literal.now }) };
 
-    /// At most what `SinglePlaceholder` accepts: a place is where a character of the literal begins, or at its end.
-    ghost fits: { (p : PatternText) → IsTrue (accepted p) → PlaceFits p };
+    /// An accepted placeholder is where a character of the literal begins, or at the literal's end.
+    ghost fits: { (p : PatternText) → IsTrue (accepted p) → PlaceholderFits p };
 
-    /// The place alone, where any pattern with a place is accepted.
-    ghost opens: { (p : PatternText) → IsTrue (accepted p) → IsSome p.place →
-        IsTrue (accepted place_alone) };
+    /// Where any pattern with a placeholder is accepted, the placeholder alone is accepted too.
+    ghost opens: { (p : PatternText) → IsTrue (accepted p) → IsSome p.placeholder →
+        IsTrue (accepted placeholder_alone) };
 }
 
-/// Patterns with one place or none (ICU4X, `SinglePlaceholder`).
+/// Patterns with one placeholder or none (ICU4X, `SinglePlaceholder`).
 #[derive(Clone, Copy, Debug, PartialEq, Eq)]
 pub struct SinglePlaceholder;
 
-/// Patterns without a place: texts.
+/// Patterns without a placeholder: texts.
 #[derive(Clone, Copy, Debug, PartialEq, Eq)]
 pub struct NoPlaceholder;
 
 impl PatternBackend for SinglePlaceholder {
-    ghost accepted = { has_fitting_place };
+    ghost accepted = { has_fitting_placeholder };
 
-    ghost fits = { PlaceFits-tested };
+    ghost fits = { PlaceholderFits-tested };
 
-    ghost opens = { place_alone-fits };
+    ghost opens = { placeholder_alone-fits };
 
-    /// No place, or a place where a character of the literal begins, or at its end.
+    /// Accepts no placeholder, or one where a character of the literal begins or at the literal's
+    /// end.
     #[tactic(auto, using(crate::proofs::Boundaries::is_boundary_of))]
-    fn accepts(place: Option<usize>, literal: &str) -> bool
+    fn accepts(placeholder: Option<usize>, literal: &str) -> bool
         ensures accepted { result
-            ≡ has_fitting_place (record { place = place; literal = literal.now }) }
-        ensures fits { IsTrue result ↔ PlaceFits (record { place = place; literal = literal.now }) }
+            ≡ has_fitting_placeholder (record {
+              placeholder = placeholder;
+              literal = literal.now;
+            }) }
+        ensures fits { IsTrue result ↔ PlaceholderFits
+            (record { placeholder = placeholder; literal = literal.now }) }
     {
-        match place {
-            Some(place) => literal.is_char_boundary(place),
+        match placeholder {
+            Some(placeholder) => literal.is_char_boundary(placeholder),
             None => true,
         }
     }
 }
 
 impl PatternBackend for NoPlaceholder {
-    ghost accepted = { has_no_place };
+    ghost accepted = { has_no_placeholder };
 
-    ghost fits = { PlaceFits-without };
+    ghost fits = { PlaceholderFits-without };
 
-    ghost opens = { place_alone-without };
+    ghost opens = { placeholder_alone-without };
 
-    /// No place.
-    fn accepts(place: Option<usize>, literal: &str) -> bool
-        ensures accepted { result ≡ has_no_place (record { place = place; literal = literal.now }) }
-        ensures without { IsTrue result ↔ (place ≡ None) }
+    /// Accepts a literal without a placeholder, and nothing else.
+    fn accepts(placeholder: Option<usize>, literal: &str) -> bool
+        ensures accepted { result ≡ has_no_placeholder
+            (record { placeholder = placeholder; literal = literal.now }) }
+        ensures without { IsTrue result ↔ (placeholder ≡ None) }
     {
         let _ = literal;
-        place.is_none()
+        placeholder.is_none()
     }
 }

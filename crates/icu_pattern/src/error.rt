@@ -9,7 +9,7 @@ use thiserror::Error;
 /// Why a pattern was not made.
 #[derive(Clone, Copy, Debug, PartialEq, Eq, Error)]
 pub enum PatternError {
-    /// The place isn't one that the backend accepts in the literal.
+    /// The backend does not accept the placeholder in the literal.
     #[error("the place does not fit the literal of the pattern")]
     BadPlace,
     /// Memory ran out.

@@ -1,4 +1,4 @@
-//! A pattern with a value in its place.
+//! A pattern with a value inserted at its placeholder.
 
 use crate::backend::PatternBackend;
 use crate::pattern::{Pattern, PatternRef};
@@ -6,8 +6,8 @@ use std::fmt;
 use std::marker::Model;
 use writeable::{EventWriter, WriteFault, Writeable};
 
-/// A pattern with a value in its place: the literal before the place, the value, the literal after it; without a place
-/// the literal alone.
+/// A pattern with a value: the literal before the placeholder, the value, the literal after it;
+/// without a placeholder the literal alone.
 #[derive(Drop)]
 pub struct Interpolated<'a, P: PatternBackend, W> {
     pattern: PatternRef<'a, P>,
@@ -26,7 +26,7 @@ impl<'a, P: PatternBackend, W> Model for Interpolated<'a, P, W> {
 impl<P: PatternBackend> Pattern<P> {
     ghost use Rattle.std.specs.Prelude.{◌≡◌};
 
-    /// The pattern with a value in its place.
+    /// The pattern with a value inserted at its placeholder.
     pub fn interpolate<W: Writeable>(&self, value: W) -> Interpolated<'_, P, W>
         ensures { result ≡ record { pattern = self.now; value = value } }
     {
@@ -38,7 +38,7 @@ impl<'a, P: PatternBackend> PatternRef<'a, P> {
     ghost use Rattle.std.specs.Prelude.{◌≡◌};
     ghost use Rattle.icu_pattern.specs.Refs.{text_of_ref};
 
-    /// The pattern with a value in its place.
+    /// The pattern with a value inserted at its placeholder.
     pub fn interpolate<W: Writeable>(self, value: W) -> Interpolated<'a, P, W>
         ensures { result ≡ record { pattern = text_of_ref self.entry; value = value } }
     {
@@ -56,12 +56,12 @@ impl<P: PatternBackend, W: Writeable> Writeable for Interpolated<'_, P, W> {
 
     fn write_events<K: EventWriter>(&self, out: &mut K) -> Result<(), WriteFault> {
         let literal = self.pattern.literal();
-        let Some(place) = self.pattern.place() else {
+        let Some(placeholder) = self.pattern.place() else {
             return out.text(literal);
         };
-        out.text(&literal[..place])?;
+        out.text(&literal[..placeholder])?;
         self.value.write_events(out)?;
-        out.text(&literal[place..])
+        out.text(&literal[placeholder..])
     }
 }
 

@@ -1,4 +1,4 @@
-//! Texts with at most one place for a value, after ICU4X's crate `icu_pattern`.
+//! Patterns: texts with at most one placeholder for a value, after ICU4X's crate `icu_pattern`.
 //!
 //! ```
 //! let pattern: Pattern<SinglePlaceholder> = Pattern::try_new(rt.alloc(), Some(0), " km").ok()?;

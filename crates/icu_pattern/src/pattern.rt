@@ -1,4 +1,4 @@
-//! Patterns, kept and lent.
+//! Patterns, owned and borrowed.
 
 ghost use Rattle.std.specs.Prelude.{IsTrue};
 
@@ -11,7 +11,7 @@ use std::marker::{Model, PhantomData};
 #[derive(Drop)]
 #[derive_where(Debug)]
 pub struct Pattern<P: PatternBackend> {
-    place: Option<usize>,
+    placeholder: Option<usize>,
     literal: String,
     backend: PhantomData<P>,
 }
@@ -23,27 +23,35 @@ impl<P: PatternBackend> Model for Pattern<P> {
 
     ghost Value = { PatternText };
 
-    ghost view = { λ p. record { place = p.place; literal = string_bytes p.literal } };
+    ghost view = { λ p. record { placeholder = p.placeholder; literal = string_bytes p.literal } };
 
     ghost invariant = { λ p.
-        IsTrue (P.accepted (record { place = p.place; literal = string_bytes p.literal })) };
+        IsTrue (P.accepted (record {
+          placeholder = p.placeholder;
+          literal = string_bytes p.literal;
+        })) };
 }
 
 impl<P: PatternBackend> Pattern<P> {
     ghost use Rattle.std.specs.Prelude.{◌≡◌, ◌↔◌, false, IsTrue, IfOk, IsErrOf, IsOkUnless};
     ghost use Rattle.icu_pattern.specs.Refs.{text_of_ref};
 
-    /// The pattern with this place and this literal.
-    pub fn try_new(alloc: Global, place: Option<usize>, literal: &str) -> Result<Self, PatternError>
-        ensures given { IfOk result (λ p. p ≡ record { place = place; literal = literal.now }) }
+    /// The pattern with this placeholder and this literal.
+    pub fn try_new(
+        alloc: Global,
+        placeholder: Option<usize>,
+        literal: &str,
+    ) -> Result<Self, PatternError>
+        ensures given { IfOk result
+            (λ p. p ≡ record { placeholder = placeholder; literal = literal.now }) }
         ensures bad_place { IsErrOf result PatternError.BadPlace
-            ↔ (P.accepted (record { place = place; literal = literal.now }) ≡ false) }
+            ↔ (P.accepted (record { placeholder = placeholder; literal = literal.now }) ≡ false) }
     {
-        if !P::accepts(place, literal) {
+        if !P::accepts(placeholder, literal) {
             return Err(PatternError::BadPlace);
         }
         Ok(Pattern {
-            place,
+            placeholder,
             literal: String::from_str(alloc, literal)?,
             backend: PhantomData,
         })
@@ -54,22 +62,22 @@ impl<P: PatternBackend> Pattern<P> {
         ensures equal { IfOk result (λ p. p ≡ self.now) }
         ensures memory { IsOkUnless result PatternError.OutOfMemory }
     {
-        let place = self.place;
+        let placeholder = self.placeholder;
         let literal = String::from_str(alloc, self.literal.as_str())?;
         Ok(Pattern {
-            place,
+            placeholder,
             literal,
             backend: PhantomData,
         })
     }
 
-    /// The pattern, lent.
+    /// The pattern, borrowed.
     pub fn as_ref(&self) -> PatternRef<'_, P>
         ensures lent { text_of_ref result ≡ self.now }
         ensures accepted { IsTrue (P.accepted self.now) }
     {
         PatternRef {
-            place: self.place,
+            placeholder: self.placeholder,
             literal: self.literal.as_str(),
             backend: PhantomData,
         }
@@ -79,16 +87,16 @@ impl<P: PatternBackend> Pattern<P> {
 impl Pattern<SinglePlaceholder> {
     ghost use Rattle.std.specs.Prelude.{◌≡◌, List};
     ghost use Rattle.writeable.specs.Events.{Event};
-    ghost use Rattle.icu_pattern.specs.Patterns.{place_alone, interpolated};
+    ghost use Rattle.icu_pattern.specs.Patterns.{placeholder_alone, interpolated};
 
-    /// The pattern that is a place alone: it writes a value as it is. It takes no memory.
+    /// The pattern that is a placeholder alone: it writes a value as it is. It takes no memory.
     #[tactic(auto, using(crate::proofs::Boundaries::interpolated_alone))]
     pub fn pass_through(alloc: Global) -> Self
-        ensures alone { result ≡ place_alone }
+        ensures alone { result ≡ placeholder_alone }
         ensures as_it_is { (es : List Event) → interpolated result es ≡ es }
     {
         Pattern {
-            place: Some(0),
+            placeholder: Some(0),
             literal: String::new(alloc),
             backend: PhantomData,
         }
@@ -105,7 +113,7 @@ impl<P: PatternBackend> PartialEq for Pattern<P> {
 
     ghost laws = { partial_equiv_from_equiv same_pattern_equiv };
 
-    /// Whether both the places and the literals are equal.
+    /// Whether both the placeholders and the literals are equal.
     fn eq(&self, other: &Self) -> bool
         ensures computed { result ≡ same_pattern self.now other.now }
         ensures same { IsTrue result ↔ (self.now ≡ other.now) }
@@ -123,10 +131,11 @@ impl<P: PatternBackend> Eq for Pattern<P> {
 /// A pattern that borrows its literal.
 #[derive_where(Debug)]
 pub struct PatternRef<'a, P: PatternBackend> {
-    place: Option<usize>,
+    placeholder: Option<usize>,
     literal: &'a str,
     backend: PhantomData<P>,
-    ghost accepted: { IsTrue (P.accepted (record { place = place; literal = literal.now })) },
+    ghost accepted: { IsTrue (P.accepted
+        (record { placeholder = placeholder; literal = literal.now })) },
 }
 
 impl<P: PatternBackend> Clone for PatternRef<'_, P> {
@@ -147,17 +156,17 @@ impl<'a, P: PatternBackend> PatternRef<'a, P> {
     ghost use Rattle.std.specs.Prelude.{◌≡◌, ◌↔◌, false, IfOk, IsErrOf, IsOkUnless, IsTrue};
     ghost use Rattle.icu_pattern.specs.Refs.{text_of_ref};
 
-    /// The pattern with this place in a literal that is borrowed. It takes no memory.
-    pub fn try_new(place: Option<usize>, literal: &'a str) -> Result<Self, PatternError>
+    /// The pattern with this placeholder in a borrowed literal. It takes no memory.
+    pub fn try_new(placeholder: Option<usize>, literal: &'a str) -> Result<Self, PatternError>
         ensures given { IfOk result (λ p.
-            text_of_ref p ≡ record { place = place; literal = literal.now }) }
+            text_of_ref p ≡ record { placeholder = placeholder; literal = literal.now }) }
         ensures bad_place { IsErrOf result PatternError.BadPlace
-            ↔ (P.accepted (record { place = place; literal = literal.now }) ≡ false) }
+            ↔ (P.accepted (record { placeholder = placeholder; literal = literal.now }) ≡ false) }
         ensures no_memory { IsOkUnless result PatternError.BadPlace }
     {
-        if P::accepts(place, literal) {
+        if P::accepts(placeholder, literal) {
             Ok(PatternRef {
-                place,
+                placeholder,
                 literal,
                 backend: PhantomData,
             })
@@ -166,12 +175,13 @@ impl<'a, P: PatternBackend> PatternRef<'a, P> {
         }
     }
 
-    /// How many bytes of the literal stand before the value; none where the pattern has no place.
+    /// The placeholder, if the pattern has one: how many bytes of the literal stand before the
+    /// value.
     pub fn place(&self) -> Option<usize>
-        ensures place { result ≡ (text_of_ref self.now).place }
+        ensures place { result ≡ (text_of_ref self.now).placeholder }
         ensures accepted { IsTrue (P.accepted (text_of_ref self.now)) }
     {
-        self.place
+        self.placeholder
     }
 
     /// The literal.
@@ -195,12 +205,12 @@ impl<P: PatternBackend> PartialEq for PatternRef<'_, P> {
 
     ghost laws = { partial_equiv_from_equiv (on_equiv text_of_ref same_pattern_equiv) };
 
-    /// Whether both the places and the literals are equal.
+    /// Whether both the placeholders and the literals are equal.
     fn eq(&self, other: &Self) -> bool
         ensures computed { result ≡ same_pattern (text_of_ref self.now) (text_of_ref other.now) }
         ensures same { IsTrue result ↔ (text_of_ref self.now ≡ text_of_ref other.now) }
     {
-        (self.place, self.literal) == (other.place, other.literal)
+        (self.placeholder, self.literal) == (other.placeholder, other.literal)
     }
 }
 

@@ -1,20 +1,25 @@
 -- The first bad rule is the one that is sought, and rules without one are read.
+-- The search `bad_rule_from k` counts on from k, and `IsFirstBadRule` counts from the front of the list, so both inductions over the rules go by any k:
+-- `found_at` finds a place relative to k (`FoundAt`), and `bad_at` goes back. Each splits by whether the first rule has a fault; that this is
+-- the fault of its text, or that its text is a condition, is cited from `icu_plurals_conditions.proofs.Judged`.
+-- `rest_of` is that case split as a function, so that an equation of the fault can be put into it with `ap`.
+-- `read_more` and `none_more` are one round of the loop of `rules::read_rules`.
 use Rattle.std.proofs.Common.{◌≡◌, ◌↔◌, ℕ, zero, suc, ◌+◌, ◌<◌, List, [], ◌∷◌, ◌++◌, map, take, drop, length, get_or, Bor}
 use Rattle.std.proofs.Common.{Option, Some, None, Result, Ok, Err, IsOkUnless, IsErrOf, add-one, refl, sym, ap, subst, ◌∙◌, arith}
 use Rattle.std.specs.List.{AllZip}
 use Rattle.std.proofs.Math.Seq.{drop-cons, take-suc}
 use Rattle.std.proofs.lemmas.List.{map-append}
 use Rattle.icu_plurals.specs.declared.category.PluralCategory.{PluralCategory}
-use Rattle.plural_conditions.specs.declared.error.RulesError.{RulesError}
-use Rattle.plural_conditions.specs.declared.error.RulesError.TheVariants.{BadRule, OutOfMemory}
-use Rattle.plural_conditions.specs.declared.condition.Condition.{Condition as OwnedCondition}
+use Rattle.icu_plurals_conditions.specs.declared.error.RulesError.{RulesError}
+use Rattle.icu_plurals_conditions.specs.declared.error.RulesError.TheVariants.{BadRule, OutOfMemory}
+use Rattle.icu_plurals_conditions.specs.declared.condition.Condition.{Condition as OwnedCondition}
 use Rattle.icu_plurals.specs.declared.rules.Rule.{Rule as OwnedRule}
-use Rattle.plural_conditions.specs.Owned.{condition_in}
-use Rattle.plural_conditions.specs.Grammar.{Condition, IsConditionText, IsTextFault}
-use Rattle.plural_conditions.specs.Reading.{condition_of, fault_byte}
+use Rattle.icu_plurals_conditions.specs.Owned.{condition_in}
+use Rattle.icu_plurals_conditions.specs.Grammar.{Condition, IsConditionText, IsTextFault}
+use Rattle.icu_plurals_conditions.specs.Reading.{condition_of, fault_byte}
 use Rattle.icu_plurals.specs.Rules.{Rule, GivenRule, given_rule, given_rules, IsReadFrom, IsFirstBadRule, rule_of, bad_rule_from}
-use Rattle.plural_conditions.proofs.Judged.{found_is_fault, none_is_condition, fault_is_found, condition_has_none, read_is_text}
-use Rattle.plural_conditions.proofs.Answered.{some, none, some_is, none_is}
+use Rattle.icu_plurals_conditions.proofs.Judged.{found_is_fault, none_is_condition, fault_is_found, condition_has_none, read_is_text}
+use Rattle.icu_plurals_conditions.proofs.Answered.{some, none, some_is, none_is}
 
 abbrev rest_of : ℕ → List GivenRule → Option ℕ → Option (ℕ × ℕ)
 rest_of k gs None = bad_rule_from (suc k) gs

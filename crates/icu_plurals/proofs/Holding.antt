@@ -1,11 +1,11 @@
 -- A condition holds where its values do.
 use Rattle.std.proofs.Common.{◌≡◌, ◌<◌, Bool, true, ◌&&◌, ◌||◌, List, [], ◌∷◌, map, length, refl, ap, ◌∙◌, arith}
 use Rattle.std.specs.List.{list_any, list_all}
-use Rattle.plural_conditions.specs.declared.condition.Relation.{Relation as OwnedRelation}
-use Rattle.plural_conditions.specs.declared.condition.Alternative.{Alternative}
+use Rattle.icu_plurals_conditions.specs.declared.condition.Relation.{Relation as OwnedRelation}
+use Rattle.icu_plurals_conditions.specs.declared.condition.Alternative.{Alternative}
 use Rattle.icu_plurals.specs.Operands.{Operands}
 use Rattle.icu_plurals.specs.Meaning.{relation_holds, holds}
-use Rattle.plural_conditions.specs.Owned.{relation_of, relations_of}
+use Rattle.icu_plurals_conditions.specs.Owned.{relation_of, relations_of}
 
 all-map : (o : Operands) (rs : List OwnedRelation) → list_all (λ r. relation_holds o (relation_of r)) rs ≡ list_all (relation_holds o) (map relation_of rs)
 all-map o [] = refl
@@ -23,6 +23,7 @@ pub one-holds : (o : Operands) (xs : List Alternative) → 0 < length xs → one
 one-holds o [] h = absurd (omega arith)
 one-holds o (x ∷ xs) h = any-map o (x ∷ xs)
 
+-- without alternatives a condition holds
 pub none-holds : (o : Operands) (xs : List Alternative) → length xs ≡ 0 → true ≡ holds o (map relations_of xs)
 none-holds o [] h = refl
 none-holds o (x ∷ xs) h = absurd (omega arith)

@@ -1,10 +1,14 @@
 -- Moving the point multiplies by a power of ten.
+-- A size is a natural number in units of 10^-finest, so the integer part of a multiple of it is a quotient by `10 ^ finest`. There is no
+-- induction over the places: the digits are cut once, where the point is moved to, into `before` and `rest`. `product_split` writes the
+-- multiple as `before`, with its zeros, times the unit, plus `rest` in its own weight, and `rest_small` says that this is less than a unit.
+-- It has two cases: the point is moved past the last digit, so `rest` is empty, or it isn't, so no zeros are added. `div-mul-add` ends it.
+-- Digits as numbers are std's `number_after_append` and `number_lt`; `weighed_is` leads to them from the weights of `fixed_decimal`.
 use Rattle.std.proofs.Common.{◌≡◌, ℕ, zero, suc, ◌+◌, ◌-◌, ◌*◌, ◌/◌, ◌^◌, ◌<◌, ◌≤◌, List, [], ◌∷◌, ◌++◌, length}
 use Rattle.std.proofs.Common.{take, drop, replicate, refl, sym, ◌∙◌, ap, arith, false, IsTrue, nat_le, ◌%◌, append-nil, zero-add, append_assoc}
 use Rattle.std.proofs.Common.{length-drop, ⊎_elim}
 use Rattle.std.proofs.Math.Nat.{add-mul, mul_assoc, mul-lt-mul_of_pos_left}
 use Rattle.std.proofs.lemmas.Nat.{pow-add, div-mul-add}
-use Rattle.std.proofs.lemmas.Grind.{pow_more}
 use Rattle.std.proofs.lemmas.Bool.{cases_lt}
 use Rattle.std.proofs.lemmas.Bool.Decides.{nat_tests}
 use Rattle.std.proofs.lemmas.List.{take-append-drop, length-replicate, drop_all}
@@ -13,23 +17,16 @@ use Rattle.std.proofs.lemmas.Int.Digits.{number_after_append, number_lt}
 use Rattle.std.specs.Int.Digits.{number_from_digits_after}
 use Rattle.fixed_decimal.specs.Unsigned.{Unsigned, IsUnsigned, AreDigits, integer, fraction, integer_count}
 use Rattle.fixed_decimal.specs.Size.{size, weighed, finest}
+use Rattle.fixed_decimal.proofs.Weights.{ten_more, ten_pos}
 use Rattle.icu_plurals.specs.Operands.{Operands, number_of, integer_after_moving, operands_of}
 use Rattle.icu_plurals.specs.Elements.{is_exactly}
 use Rattle.icu_plurals.specs.Laws.{MovingThePointMultiplies, ExactlyIsTheNumber}
-
--- one power more is ten times as much
-ten_more : (n : ℕ) → 10 ^ (n + 1) ≡ 10 * 10 ^ n
-ten_more n = omega (arith, pow_more 10 n)
 
 ten_suc : (n : ℕ) → 10 ^ suc n ≡ 10 * 10 ^ n
 ten_suc n = ap (λ k. 10 ^ k) next ∙ ten_more n
   where
     next : suc n ≡ n + 1
     next = omega arith
-
-ten_pos : (n : ℕ) → 0 < 10 ^ n
-ten_pos zero = omega arith
-ten_pos (suc n) = omega (arith, ten_pos n)
 
 -- a digit is worth ten to the count of what follows it
 first_digit : (n d m p q : ℕ) → q ≡ 10 * p → (n * 10 + d) * p + m ≡ n * q + ((0 * 10 + d) * p + m)

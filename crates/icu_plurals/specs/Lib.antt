@@ -1,9 +1,9 @@
-pub use Rattle.plural_conditions.specs.Drafts
-pub use Rattle.plural_conditions.specs.Grammar
-pub use Rattle.plural_conditions.specs.Lexer
-pub use Rattle.plural_conditions.specs.Owned
-pub use Rattle.plural_conditions.specs.Reading
-pub use Rattle.plural_conditions.specs.Tokens
+pub use Rattle.icu_plurals_conditions.specs.Drafts
+pub use Rattle.icu_plurals_conditions.specs.Grammar
+pub use Rattle.icu_plurals_conditions.specs.Lexer
+pub use Rattle.icu_plurals_conditions.specs.Owned
+pub use Rattle.icu_plurals_conditions.specs.Reading
+pub use Rattle.icu_plurals_conditions.specs.Tokens
 pub mod ConditionLaws
 pub mod Elements
 pub mod Laws

@@ -6,10 +6,10 @@ use Rattle.icu_plurals.specs.declared.category.PluralCategory.{PluralCategory}
 use Rattle.icu_plurals.specs.declared.category.PluralCategory.TheVariants.{Other}
 use Rattle.icu_plurals.specs.declared.rules.Rule.{Rule as OwnedRule}
 use Rattle.icu_plurals.specs.Operands.{Operands}
-use Rattle.plural_conditions.specs.Grammar.{Condition, IsTextOf, IsConditionText, IsTextFault}
+use Rattle.icu_plurals_conditions.specs.Grammar.{Condition, IsTextOf, IsConditionText, IsTextFault}
 use Rattle.icu_plurals.specs.Meaning.{holds}
-use Rattle.plural_conditions.specs.Owned.{condition_in}
-use Rattle.plural_conditions.specs.Reading.{condition_of, fault_byte}
+use Rattle.icu_plurals_conditions.specs.Owned.{condition_in}
+use Rattle.icu_plurals_conditions.specs.Reading.{condition_of, fault_byte}
 
 -- a category, and when a number has it
 pub record Rule : Type 0 where

@@ -8,10 +8,10 @@ use crate::operands::PluralOperands;
 use crate::rules::PluralRules;
 use std::marker::Model;
 
-/// A value for exactly zero and for exactly one, for each plural category that has its own, and one for all other
-/// numbers (ICU4X, `icu_plurals::PluralElements`).
+/// A value for exactly zero and for exactly one, for each plural category that has its own, and one
+/// for all other numbers (ICU4X, `icu_plurals::PluralElements`).
 ///
-/// Each value is kept as it is given, also one that equals the value for all other numbers.
+/// Each value is kept as it is given, even if it equals the value for all other numbers.
 #[derive(Debug, Drop)]
 pub struct PluralElements<T> {
     explicit_zero: Option<T>,
@@ -146,8 +146,8 @@ impl<T> PluralElements<T> {
         self
     }
 
-    /// The value in a slot, counted from 0: those for exactly zero and exactly one, for the categories zero, one, two,
-    /// few and many, and for all other numbers.
+    /// The value in a slot, counted from 0: those for exactly zero and exactly one, for the
+    /// categories zero, one, two, few and many, and for all other numbers.
     pub fn slot(&self, slot: u8) -> Option<&T>
         requires { slot < 8 }
         ensures { option_copied result ≡ slice_index_or (slots self.now) slot None }
@@ -164,7 +164,8 @@ impl<T> PluralElements<T> {
         }
     }
 
-    /// The value for all numbers, where there is no other: what `get` answers for every number.
+    /// The value for all other numbers, where no other slot has a value. `get` then returns it for
+    /// every number.
     pub fn sole(&self) -> Option<&T>
         ensures value { option_copied result ≡ sole_value self.now }
         ensures only { IfSome result (λ value. self.now ≡ only_other value.now) }
@@ -186,16 +187,17 @@ impl<T> PluralElements<T> {
         }
     }
 
-    /// The value for a number of these operands: that for exactly zero or exactly one, where it is present and the number is
-    /// just this one, written without fraction digits or an exponent; else the one of the number's plural category, where
-    /// it is present; else the one for all other numbers. It takes no memory.
+    /// The value for a number with these operands: the one for exactly zero or exactly one, if it
+    /// is present and the number is exactly that, written without fraction digits or an exponent;
+    /// else the one for the number's plural category, if it is present; else the one for all other
+    /// numbers. It takes no memory.
     pub fn get(&self, operands: PluralOperands, rules: &PluralRules) -> &T
         ensures { result.now ≡ selected self.now operands (category_of rules.now operands) }
     {
         self.select(operands, rules.category_for(operands))
     }
 
-    /// The value that a number of these operands and this category selects.
+    /// The value for a number with these operands and this category.
     pub(crate) fn select(&self, operands: PluralOperands, category: PluralCategory) -> &T
         ensures { result.now ≡ selected self.now operands category }
     {
@@ -208,7 +210,7 @@ impl<T> PluralElements<T> {
         }
     }
 
-    /// The value for just this number.
+    /// The value for exactly zero or exactly one, if the number is exactly that.
     fn explicit_value(&self, operands: PluralOperands) -> Option<&T>
         ensures { option_copied result ≡ explicit_value self.now operands }
     {
@@ -221,7 +223,7 @@ impl<T> PluralElements<T> {
         }
     }
 
-    /// The category's own value.
+    /// The value for the category, if it is present.
     fn category_value(&self, category: PluralCategory) -> Option<&T>
         ensures { option_copied result ≡ category_value self.now category }
     {
@@ -235,7 +237,7 @@ impl<T> PluralElements<T> {
         }
     }
 
-    /// Whether these values, with none for exactly one, equal the others.
+    /// Whether these values equal the others once the value for exactly one is removed from these.
     pub fn equal_without_explicit_one(&self, other: &Self) -> bool
     where
         T: PartialEq,
@@ -244,7 +246,7 @@ impl<T> PluralElements<T> {
         other.explicit_one.is_none() && self.equal_but_for_explicit_one(other)
     }
 
-    /// Whether these values equal the others, that for exactly one left aside.
+    /// Whether all values but those for exactly one are equal.
     fn equal_but_for_explicit_one(&self, other: &Self) -> bool
     where
         T: PartialEq,
@@ -261,7 +263,7 @@ impl PluralElements<u8> {
     ghost use Rattle.std.specs.Prelude.{◌≡◌};
     ghost use Rattle.icu_plurals.specs.Elements.{numbered};
 
-    /// Elements whose values are the numbers of their slots, in just these slots.
+    /// Elements with a value in exactly these slots and the last one: the number of the slot.
     pub(crate) fn numbered(present: &[bool; 8]) -> Self
         ensures { result ≡ numbered present.now }
     {
@@ -278,7 +280,7 @@ impl PluralElements<u8> {
     }
 }
 
-/// The number of a slot that is present.
+/// The number of a slot, if it is present.
 fn number_at(present: &[bool; 8], slot: u8) -> Option<u8>
     requires { slot < 8 }
     ensures { result ≡ number_at present.now slot }

@@ -1,9 +1,10 @@
-//! What holds of all operands and of all texts of conditions. The functions do nothing: each is its contract.
+//! What holds of all operands and of all texts of conditions. The functions do nothing: each is its
+//! contract.
 ghost use Rattle.icu_plurals.specs.Laws.{MovingThePointMultiplies, ExactlyIsTheNumber};
 ghost use Rattle.icu_plurals.specs.Elements.{SelectedSlotHoldsTheSelected};
 ghost use Rattle.icu_plurals.specs.ConditionLaws.{TurnedRangesAreEmpty};
 
-pub use plural_conditions::laws::{
+pub use icu_plurals_conditions::laws::{
     conditions_are_unique, each_text_is_judged_once, first_faults_are_unique,
     reading_is_what_is_spelled,
 };
@@ -13,19 +14,20 @@ pub fn turned_ranges_are_empty()
     ensures { TurnedRangesAreEmpty }
 {}
 
-/// The integer that operands are taken of is that of the number times ten to the exponent.
+/// The integer digits after the point is moved are those of the number times ten to the exponent.
 #[tactic(auto, using(crate::proofs::MovedPoint::moving_the_point_multiplies))]
 pub fn moving_the_point_multiplies()
     ensures { MovingThePointMultiplies }
 {}
 
-/// What is selected for exactly zero or exactly one is so for these numbers alone.
+/// A number that is exactly n by its operands is the number n.
 #[tactic(auto, using(crate::proofs::MovedPoint::exactly_is_the_number))]
 pub fn exactly_is_the_number()
     ensures { ExactlyIsTheNumber }
 {}
 
-/// The value that a number selects stands in the slot that it selects by what is present alone, here for texts.
+/// The slot that is selected by which slots are present holds the selected value. It is stated for
+/// values that are texts.
 #[tactic(auto, using(crate::proofs::SelectedSlots::selected_slot_holds))]
 pub fn the_selected_slot_holds_the_selected_value()
     ensures { SelectedSlotHoldsTheSelected }

@@ -1,5 +1,5 @@
-//! Plural categories, operands, rules and elements (UTS 35 Part 3, Language Plural Rules), after ICU4X's crate
-//! `icu_plurals`.
+//! Plural categories, operands, rules and elements (UTS 35 Part 3, Language Plural Rules), after
+//! ICU4X's crate `icu_plurals`.
 //!
 //! ```
 //! let rules = PluralRules::from_rules(
@@ -20,16 +20,16 @@
 
 pub mod category;
 pub mod elements;
+mod evaluation;
 pub mod laws;
 pub mod loading;
-mod meaning;
 pub mod operands;
 pub mod rules;
 mod whole_number;
 
 pub use category::PluralCategory;
 pub use elements::PluralElements;
+pub use icu_plurals_conditions::{RulesError, error};
 pub use loading::{PluralRulesPreferences, PluralsCardinalV1};
 pub use operands::PluralOperands;
-pub use plural_conditions::{RulesError, error};
 pub use rules::PluralRules;

@@ -16,10 +16,10 @@ impl DataMarker for PluralsCardinalV1 {
     type DataStruct = PluralRules;
 }
 
-/// For whom plural rules are made (ICU4X, `PluralRulesPreferences`).
+/// The locale to make plural rules for (ICU4X, `PluralRulesPreferences`).
 #[derive(Clone, Copy, Debug, PartialEq, Eq)]
 pub struct PluralRulesPreferences {
-    /// The locale, whose text goes to the provider as it is.
+    /// The locale. Its text is passed to the provider unchanged.
     pub locale_preferences: DataLocale,
 }
 
@@ -37,8 +37,8 @@ impl Default for PluralRulesPreferences {
 }
 
 impl PluralRules {
-    /// The cardinal rules that the provider answers with. It is asked once, by the locale without a numbering system, and
-    /// isn't asked to be silent.
+    /// The cardinal rules that the provider has for the locale. The provider is asked once, without
+    /// a numbering system and not silently.
     pub fn try_new_cardinal_unstable<D: DataProvider<PluralsCardinalV1>>(
         alloc: Global,
         provider: &D,

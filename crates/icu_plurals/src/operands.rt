@@ -8,11 +8,11 @@ use crate::whole_number::{WholeNumber, number, with_digits, with_zeros, without_
 use fixed_decimal::UnsignedDecimal;
 use std::marker::Model;
 
-/// How many digits of the fraction are seen.
+/// How many fraction digits the operands take into account.
 const SEEN_DIGITS: usize = 18;
 
-/// The operands of a number as it is written, by which plural rules choose a category (UTS 35 Part 3, Plural Operand
-/// Meanings). It is a small value that takes no memory.
+/// The operands of a number as it is written, by which plural rules choose a category (UTS 35 Part
+/// 3, Plural Operand Meanings). It is a small value that takes no memory.
 #[derive(Clone, Copy, Debug, PartialEq, Eq)]
 pub struct PluralOperands {
     pub(crate) i: u64,
@@ -55,9 +55,10 @@ impl PluralOperands {
     ghost use Rattle.icu_plurals.specs.Operands.{operands_of};
     ghost use Rattle.icu_plurals.specs.Elements.{is_exactly};
 
-    /// The operands of the number `significand * 10^exponent` as it is written once the point is moved `exponent` places
-    /// to the right (ICU4X `from_significand_and_exponent`). The exponent is UTS 35's operand c. Zeros before the number
-    /// don't matter, and fraction digits past the eighteenth aren't seen.
+    /// The operands of the number `significand * 10^exponent` as it is written once the point is
+    /// moved `exponent` places to the right (ICU4X `from_significand_and_exponent`). The exponent
+    /// is UTS 35's operand c. Leading zeros don't matter, and fraction digits after the eighteenth
+    /// are ignored.
     pub fn from_significand_and_exponent(significand: &UnsignedDecimal, exponent: u8) -> Self
         ensures { result ≡ operands_of significand.now exponent }
     {
@@ -75,7 +76,7 @@ impl PluralOperands {
         }
     }
 
-    /// Whether the number is this whole one, written without fraction digits or an exponent.
+    /// Whether the number is exactly this integer, written without fraction digits or an exponent.
     pub(crate) fn is_exactly(self, number: u64) -> bool
         ensures { result ≡ is_exactly number self }
     {

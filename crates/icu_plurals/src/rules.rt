@@ -6,9 +6,9 @@ ghost use Rattle.icu_plurals.specs.Rules.{given_rules, IsReadFrom, IsFirstBadRul
 
 use crate::category::PluralCategory;
 use crate::elements::PluralElements;
-use crate::meaning::condition_holds;
+use crate::evaluation::condition_holds;
 use crate::operands::PluralOperands;
-use plural_conditions::{Condition, RulesError, first_fault, read_condition};
+use icu_plurals_conditions::{Condition, RulesError, first_fault, read_condition};
 use std::alloc::Global;
 use std::marker::Model;
 
@@ -18,7 +18,8 @@ struct Rule {
     condition: Condition,
 }
 
-/// Rules that give a number its plural category (UTS 35 Part 3, Language Plural Rules), in their order.
+/// Rules that give a number its plural category (UTS 35 Part 3, Language Plural Rules), in their
+/// order.
 ///
 /// They are read once into small values; no text is kept.
 #[derive(Drop)]
@@ -48,7 +49,7 @@ fn first_bad_rule(rules: &[(PluralCategory, &str)]) -> Option<(usize, usize)>
     None
 }
 
-/// The rules of texts that are all in the grammar.
+/// The rules, where each text is in the grammar.
 fn read_rules(alloc: Global, rules: &[(PluralCategory, &str)]) -> Result<PluralRules, RulesError>
     requires { bad_rule_from 0 (given_rules rules.now) ≡ None }
     ensures read { IfOk result (λ r. AllZip IsReadFrom (given_rules rules.now) r) }
@@ -93,9 +94,10 @@ fn first_category(rules: &[Rule], operands: PluralOperands) -> PluralCategory
 }
 
 impl PluralRules {
-    /// The rules of these categories and texts. A text is a condition by the grammar of UTS 35 Part 3 (Plural rules
-    /// syntax), of which samples, from `@` on, aren't read. The texts are judged from left to right, rule by rule, before
-    /// memory is asked for, so a bad rule is told however little memory is left.
+    /// The rules with these categories and conditions. A condition is in the grammar of UTS 35 Part
+    /// 3 (Plural rules syntax); the samples after it, from `@` on, are ignored. All texts are
+    /// checked in order, from left to right, before memory is allocated, so a bad rule is reported
+    /// even when no memory is left.
     pub fn from_rules(alloc: Global, rules: &[(PluralCategory, &str)]) -> Result<Self, RulesError>
         ensures read { IfOk result (λ r. AllZip IsReadFrom (given_rules rules.now) r) }
         ensures refused { (rule byte : ℕ) → IsErrOf result (RulesError.BadRule rule byte)
@@ -107,16 +109,17 @@ impl PluralRules {
         read_rules(alloc, rules)
     }
 
-    /// The category of a number with these operands: that of the first rule whose condition holds, and `Other` where none
-    /// does. It takes no memory.
+    /// The category of a number with these operands: that of the first rule whose condition holds,
+    /// or `Other` if none does. It takes no memory.
     pub fn category_for(&self, operands: PluralOperands) -> PluralCategory
         ensures category { result ≡ category_of self.now operands }
     {
         first_category(&self.rules, operands)
     }
 
-    /// The slot, counted from 0 in the order of `PluralElements::slot`, from which a number of these operands gets its
-    /// value where just these slots are present. It takes no memory.
+    /// The slot whose value `PluralElements::get` returns for a number with these operands, if
+    /// exactly the slots in `present` have a value. Slots are counted from 0, as in
+    /// `PluralElements::slot`. It takes no memory.
     #[tactic(auto, using(crate::proofs::SelectedSlots::selected_slot_small))]
     pub fn slot_for(&self, operands: &PluralOperands, present: &[bool; 8]) -> u8
         requires { slice_index_or present.now 7 false ≡ true }
@@ -127,7 +130,7 @@ impl PluralRules {
         *PluralElements::numbered(present).get(*operands, self)
     }
 
-    /// Equal rules, with memory of their own.
+    /// A copy of the rules, with its own memory.
     pub fn copy(&self, alloc: Global) -> Result<Self, RulesError>
         ensures equal { IfOk result (λ r. r ≡ self.now) }
         ensures memory { IsOkUnless result RulesError.OutOfMemory }

@@ -1,4 +1,4 @@
--- What data is asked by.
+-- Identifiers of data.
 use Rattle.std.specs.Prelude.{ℕ, Bool, List, Option, option_map, nat_eq}
 use Rattle.std.specs.Cmp.{IsEquivalence}
 use Rattle.std.specs.Cmp.Lexicographic.{pointwise, options_equiv}
@@ -20,7 +20,7 @@ identifier_of id = record { system = option_map (λ s. s.now) id.system; locale 
 abbrev pub same_identifier : Identifier → Identifier → Bool
 same_identifier = eq_of_both (on (λ (i : Identifier). i.system) (option_eq (pointwise nat_eq))) (on (λ (i : Identifier). i.locale) (pointwise nat_eq))
 
--- this is an equivalence
+-- equality of identifiers is an equivalence
 pub same_identifier_equiv : IsEquivalence same_identifier
 same_identifier_equiv = and_equiv (on_equiv (λ (i : Identifier). i.system) (options_equiv nat_list_eq_equiv))
     (on_equiv (λ (i : Identifier). i.locale) nat_list_eq_equiv)

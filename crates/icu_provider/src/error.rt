@@ -1,20 +1,20 @@
-//! Why data is refused.
+//! Why a provider has no data.
 
 use thiserror::Error;
 
-/// Why data was not answered (ICU4X, `DataErrorKind`).
+/// The kind of a data error (ICU4X, `DataErrorKind`).
 #[derive(Clone, Copy, Debug, PartialEq, Eq, Error)]
 pub enum DataErrorKind {
-    /// The provider has data of this marker, but none by this identifier.
+    /// The provider has data for this marker, but none for this identifier.
     #[error("no data by this identifier")]
     IdentifierNotFound,
-    /// The provider has no data of this marker at all.
+    /// The provider has no data for this marker.
     #[error("no data of this marker")]
     MarkerNotFound,
     /// The request cannot be answered by any provider.
     #[error("not a request for data")]
     InvalidRequest,
-    /// Another reason, of the provider's own.
+    /// A reason of the provider's own.
     #[error("the provider failed")]
     Custom,
     /// Memory ran out.
@@ -22,13 +22,14 @@ pub enum DataErrorKind {
     OutOfMemory,
 }
 
-/// A refusal of data, with a text of the provider's own, which is empty where there is none (ICU4X, `DataError`).
+/// Why data can't be had: a kind, and a text of the provider's own, which may be empty (ICU4X,
+/// `DataError`).
 #[derive(Clone, Copy, Debug, PartialEq, Eq, Error)]
 #[error("{kind}{}{context}", separator(.context))]
 pub struct DataError {
-    /// Why the data is refused.
+    /// The kind of the error.
     pub kind: DataErrorKind,
-    /// The provider's own text, empty where there is none.
+    /// The provider's own text; empty if it has none.
     pub context: &'static str,
 }
 

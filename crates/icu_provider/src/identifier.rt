@@ -1,11 +1,11 @@
-//! What data is asked by.
+//! Identifiers of data, and requests.
 
 ghost use Rattle.icu_provider.specs.Locale.{IsLocale};
 
 use crate::locale::DataLocale;
 
-/// What data is asked by: the name of a numbering system, or none, and a locale (ICU4X, `DataIdentifierBorrowed`, whose
-/// marker attributes are the numbering system here).
+/// The identifier of data: a locale, and the name of a numbering system or none (ICU4X,
+/// `DataIdentifierBorrowed`, whose marker attributes are the numbering system here).
 #[derive(Clone, Copy, Debug)]
 pub struct DataIdentifierBorrowed<'a> {
     system: Option<&'a str>,
@@ -35,7 +35,7 @@ impl<'a> DataIdentifierBorrowed<'a> {
         Self::new(None, locale.as_str())
     }
 
-    /// A numbering system by any text, in the undetermined locale, `und`.
+    /// Any text as the numbering system, and the undetermined locale, `und`.
     #[tactic(auto, unfolding(crate::specs::Locale::is_locale))]
     pub fn for_marker_attributes(system: &'a str) -> Self
         ensures { identifier_of result ≡ record {
@@ -46,7 +46,7 @@ impl<'a> DataIdentifierBorrowed<'a> {
         Self::new(Some(system), "und")
     }
 
-    /// A numbering system by any text, in a locale.
+    /// Any text as the numbering system, and a locale.
     pub fn for_marker_attributes_and_locale(system: &'a str, locale: &'a DataLocale) -> Self
         ensures { identifier_of result ≡ record {
           system = Some system.entry.now;
@@ -100,11 +100,12 @@ impl Eq for DataIdentifierBorrowed<'_> {
     ghost laws = { on_equiv identifier_of same_identifier_equiv };
 }
 
-/// A question to a provider of data (ICU4X, `DataRequest`).
+/// A request to a data provider (ICU4X, `DataRequest`).
 #[derive(Clone, Copy, Debug)]
 pub struct DataRequest<'a> {
-    /// By which identifier the data is asked.
+    /// The identifier of the data.
     pub id: DataIdentifierBorrowed<'a>,
-    /// Whether a provider need not report that it has no data, since another identifier is asked then.
+    /// Whether the provider need not log that it has no data, because another identifier will be
+    /// tried.
     pub silent: bool,
 }

@@ -1,5 +1,5 @@
-//! What data is asked by and who answers, after ICU4X's crate `icu_provider`: locales, names of numbering systems,
-//! identifiers, requests, refusals and the trait of providers.
+//! Data requests and data providers, after ICU4X's crate `icu_provider`: locales, names of
+//! numbering systems, identifiers, requests, errors and the trait of providers.
 //!
 //! ```
 //! let locale = DataLocale::try_from_str("de-CH").ok()?;
@@ -15,6 +15,7 @@ pub mod identifier;
 pub mod locale;
 pub mod numbering_system;
 pub mod provider;
+mod short_text;
 
 pub use error::{DataError, DataErrorKind};
 pub use identifier::{DataIdentifierBorrowed, DataRequest};

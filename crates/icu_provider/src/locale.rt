@@ -5,44 +5,35 @@ ghost use Rattle.std.specs.List.{list_all};
 ghost use Rattle.icu_provider.specs.Ascii.{is_alphanumeric_or_hyphen};
 ghost use Rattle.icu_provider.specs.Locale.{is_locale, IsLocale};
 
+use crate::short_text::ShortText;
 use std::alloc::AllocError;
 use std::marker::Model;
-use std::str;
 use thiserror::Error;
 
-/// The text can name no locale: it isn't 1 to 63 ASCII letters, digits or hyphens.
+/// The text isn't that of a locale: it isn't 1 to 63 ASCII letters, digits or hyphens.
 #[derive(Clone, Copy, Debug, PartialEq, Eq, Error)]
 #[error("not the text of a locale")]
 pub struct BadLocale;
 
-/// The text of a locale, as `ar-EG`, by which data is asked (ICU4X, `DataLocale`). It is kept as it is given, letters in
-/// either case, and its subtags aren't judged. It is a small value that takes no memory.
+/// The text of a locale, as `ar-EG`, to request data for (ICU4X, `DataLocale`). It is kept as it is
+/// given, in upper and lower case, and its subtags aren't checked. It is a small value that takes
+/// no memory.
 #[derive(Debug)]
 pub struct DataLocale {
-    bytes: [u8; 63],
-    len: usize,
+    text: ShortText<63>,
 }
 
 impl Model for DataLocale {
-    ghost use Rattle.std.specs.Prelude.{ℕ, ◌-◌, List, ◌++◌, length, take, replicate};
+    ghost use Rattle.std.specs.Prelude.{ℕ, List};
     ghost use Rattle.icu_provider.specs.Locale.{IsLocale};
-    ghost use Rattle.icu_provider.specs.Padded.{IsPadded, length-text, padded-text};
 
     ghost Value = { List ℕ };
 
-    ghost view = { λ s. take s.len s.bytes };
+    ghost view = { λ s. s.text };
 
-    ghost invariant = { λ s. IsPadded IsLocale 63 s.bytes s.len };
+    ghost invariant = { λ s. IsLocale s.text };
 
-    ghost inverse = { λ text. record {
-      bytes = text ++ replicate (63 - length text) 0;
-      len = length text;
-    } };
-
-    ghost inverse_ok = { λ s h i. record {
-      bytes = padded-text IsLocale 63 s.bytes s.len h i;
-      len = length-text IsLocale 63 s.bytes s.len h i;
-    } };
+    ghost inverse = { λ text. record { text = text } };
 }
 
 fn is_alphanumeric_or_hyphen_byte(byte: u8) -> bool
@@ -72,21 +63,19 @@ impl DataLocale {
         ensures accepted { IsOk result ↔ IsLocale text.now }
         ensures text { IfOk result (λ locale. locale ≡ text.now) }
     {
-        let locale = text.as_bytes();
-        if !is_locale_text(locale) {
+        if !is_locale_text(text.as_bytes()) {
             return Err(BadLocale);
         }
-        Ok(Self::from_bytes(locale))
+        Ok(Self::of(text))
     }
 
-    fn from_bytes(locale: &[u8]) -> Self
+    fn of(locale: &str) -> Self
         requires { IsLocale locale.now }
         ensures { result ≡ locale.now }
     {
-        let len = locale.len();
-        let mut bytes = [0; 63];
-        bytes[..len].copy_from_slice(locale);
-        DataLocale { bytes, len }
+        DataLocale {
+            text: ShortText::new(locale),
+        }
     }
 
     /// The text.
@@ -94,10 +83,7 @@ impl DataLocale {
         ensures text { result.now ≡ self.now }
         ensures valid { IsLocale self.now }
     {
-        match str::from_utf8(&self.bytes[..self.len]) {
-            Ok(text) => text,
-            Err(_) => unreachable!(),
-        }
+        self.text.as_str()
     }
 }
 
@@ -107,7 +93,7 @@ impl Default for DataLocale {
     /// The undetermined locale, `und` (UTS 35, Unknown or Invalid Identifiers).
     #[tactic(auto, unfolding(crate::specs::Locale::is_locale))]
     fn default() -> Self {
-        Self::from_bytes(b"und")
+        Self::of("und")
     }
 }
 

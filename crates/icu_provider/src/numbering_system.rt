@@ -5,43 +5,35 @@ ghost use Rattle.std.specs.List.{list_all};
 ghost use Rattle.icu_provider.specs.Ascii.{is_lower_alphanumeric};
 ghost use Rattle.icu_provider.specs.NumberingSystem.{is_numbering_system, IsNumberingSystem};
 
+use crate::short_text::ShortText;
 use std::alloc::AllocError;
 use std::marker::Model;
-use std::str;
 use thiserror::Error;
 
-/// The text names no numbering system: it isn't 3 to 8 ASCII lower-case letters or digits.
+/// The text isn't the name of a numbering system: it isn't 3 to 8 ASCII lower-case letters or
+/// digits.
 #[derive(Clone, Copy, Debug, PartialEq, Eq, Error)]
 #[error("not the name of a numbering system")]
 pub struct BadNumberingSystem;
 
-/// The name of a numbering system, as `latn`: a type of the Unicode locale extension `nu` (UTS 35), in
-/// lower case. It is a small value that takes no memory.
+/// The name of a numbering system, as `latn`: a type of the Unicode locale extension `nu` (UTS 35),
+/// in lower case. It is a small value that takes no memory.
 #[derive(Debug)]
 pub struct NumberingSystem {
-    bytes: [u8; 8],
-    len: usize,
+    name: ShortText<8>,
 }
 
 impl Model for NumberingSystem {
-    ghost use Rattle.std.specs.Prelude.{ℕ, ◌-◌, List, ◌++◌, length, take, replicate};
+    ghost use Rattle.std.specs.Prelude.{ℕ, List};
     ghost use Rattle.icu_provider.specs.NumberingSystem.{IsNumberingSystem};
-    ghost use Rattle.icu_provider.specs.Padded.{IsPadded, length-text, padded-text};
 
     ghost Value = { List ℕ };
 
-    ghost view = { λ s. take s.len s.bytes };
+    ghost view = { λ s. s.name };
 
-    ghost invariant = { λ s. IsPadded IsNumberingSystem 8 s.bytes s.len };
+    ghost invariant = { λ s. IsNumberingSystem s.name };
 
-    ghost inverse = { λ text.
-        record { bytes = text ++ replicate (8 - length text) 0; len = length text } };
-
-    ghost inverse_ok = { λ s h i.
-        record {
-          bytes = padded-text IsNumberingSystem 8 s.bytes s.len h i;
-          len = length-text IsNumberingSystem 8 s.bytes s.len h i;
-        } };
+    ghost inverse = { λ text. record { name = text } };
 }
 
 fn is_lower_alphanumeric_byte(byte: u8) -> bool
@@ -69,21 +61,19 @@ impl NumberingSystem {
         ensures accepted { IsOk result ↔ IsNumberingSystem text.now }
         ensures name { IfOk result (λ system. system ≡ text.now) }
     {
-        let name = text.as_bytes();
-        if !is_name(name) {
+        if !is_name(text.as_bytes()) {
             return Err(BadNumberingSystem);
         }
-        Ok(Self::from_bytes(name))
+        Ok(Self::of(text))
     }
 
-    fn from_bytes(name: &[u8]) -> Self
+    fn of(name: &str) -> Self
         requires { IsNumberingSystem name.now }
         ensures { result ≡ name.now }
     {
-        let len = name.len();
-        let mut bytes = [0; 8];
-        bytes[..len].copy_from_slice(name);
-        NumberingSystem { bytes, len }
+        NumberingSystem {
+            name: ShortText::new(name),
+        }
     }
 
     /// The name.
@@ -91,10 +81,7 @@ impl NumberingSystem {
         ensures name { result.now ≡ self.now }
         ensures valid { IsNumberingSystem self.now }
     {
-        match str::from_utf8(&self.bytes[..self.len]) {
-            Ok(name) => name,
-            Err(_) => unreachable!(),
-        }
+        self.name.as_str()
     }
 }
 

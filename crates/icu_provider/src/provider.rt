@@ -1,4 +1,4 @@
-//! Who answers with data.
+//! Data providers.
 
 ghost use Rattle.std.specs.Prelude.{Result};
 ghost use Rattle.icu_provider.specs.Answer.{Answers, Refusal};
@@ -8,22 +8,22 @@ use crate::error::DataError;
 use crate::identifier::DataRequest;
 use std::alloc::Global;
 
-/// The name of a kind of data (ICU4X, `DataMarker`).
+/// The marker of a kind of data (ICU4X, `DataMarker`).
 pub trait DataMarker {
-    /// The type of such data.
+    /// The type of the data.
     type DataStruct;
 }
 
-/// Who answers with data of one kind (ICU4X, `DataProvider`).
+/// A provider of data of one kind (ICU4X, `DataProvider`).
 ///
-/// A provider is a function: its value and the identifier alone determine the answer, so that who asks twice is told the
-/// same. Memory may be wanting at any call.
+/// The answer is determined by the provider's value and the identifier alone, so that the same
+/// request always has the same answer. Any call may run out of memory.
 pub trait DataProvider<M: DataMarker> {
-    /// What the provider answers by each identifier, where memory suffices.
+    /// The provider's answer for each identifier, if memory suffices.
     ghost answer: { Self → Identifier → Result M.DataStruct Refusal };
 
-    /// The data by the identifier of the request, or the refusal with its text; `OutOfMemory`, without a text, also where
-    /// memory is wanting.
+    /// The data for the identifier of the request, or the error with its text. If memory runs out,
+    /// the error is `OutOfMemory` without a text.
     fn load(&self, alloc: Global, request: &DataRequest<'_>) -> Result<M::DataStruct, DataError>
         ensures { Answers result (answer self.now (identifier_of request.now.id)) };
 }

@@ -1,4 +1,10 @@
 -- The tables that are read for one locale.
+-- The loops go forwards, and `entries_at` and the grammar's `members` recurse on what is left. So the invariants `GoesOn` and `ReadsOn` are
+-- about every rest: however it is read, the whole is read as what was read so far and then that; at the end the rest is empty. `ReadsOn`
+-- also counts the steps that the grammar's bound still allows. Of each list the entries of the locale are kept, and by induction on it the
+-- first entry with an identifier of the locale is among them (`first_filed-filter`). A member of a document replaces an earlier one of the
+-- same name: what is kept under its own key comes from serde_json's `get_member-put`, what is kept under the other four keys from its
+-- `get_member-put_other`.
 use Rattle.std.proofs.Common.{◌≡◌, ℕ, ◌+◌, ◌-◌, ◌<◌, ◌≤◌, Bool, true, false, List, [], ◌∷◌, ◌++◌, length, Option}
 use Rattle.std.proofs.Common.{Some, None, option_map, Result, Ok, Err, nat_eq, refl, sym, ap, ◌∙◌, cond, true≢false, arith, append_assoc}
 use Rattle.std.proofs.Math.Bool.{and-false}
@@ -29,7 +35,7 @@ use Rattle.icu_tables.specs.ForLocale.{Adds, AnswersAs, AreEntries, FoundData, H
 use Rattle.icu_tables.specs.Compact.{compact_at}
 use Rattle.icu_tables.specs.Digits.{SystemDigits, digits_at}
 use Rattle.icu_tables.specs.Keys.{name_of}
-use Rattle.icu_tables.specs.Named.{Filed, first_filed, is_of}
+use Rattle.icu_tables.specs.Named.{NamedEntry, first_filed, is_of}
 use Rattle.icu_tables.specs.Owned.{AreItems, Is}
 use Rattle.icu_tables.specs.Reading.{◌>>=◌, entries_at, list_in, member_at, object_in, ok_or, optional, optional_at}
 use Rattle.icu_tables.specs.Rules.{rules_at}
@@ -45,6 +51,7 @@ use Rattle.icu_tables.proofs.OwnedData.{AreItems-item, members_have_float-put}
 
 -- ---- entries that are kept
 
+-- an entry, if it is kept
 abbrev pub kept_by : {A : Type 0} → Bool → A → List A
 kept_by b x = cond b (x ∷ []) []
 
@@ -60,6 +67,7 @@ GoesOn {A} read serves key all i left kept =
     × ((ds : List Data) (xs : List A) → AreRead read key i left ds xs → AreRead read key 0 all (before ++ ds) (front ++ xs))
 
 module _ {A : Type 0} (read : Place → Data → Result A TableError) (serves : A → Bool) (key : Key) where
+  -- before the first entry nothing was read
   pub begins : (all : List json.Json) → GoesOn read serves key all 0 all []
   begins all = ([], [], refl, λ ds xs are. are)
 
@@ -119,7 +127,8 @@ module _ {A : Type 0} (read : Place → Data → Result A TableError) (serves : 
 -- ---- one locale answers as before
 
 module _ {A : Type 0} (locale : List ℕ) (id : Identifier) (same : id.locale ≡ locale) where
-  first_kept : (b : Bool) (e : Filed A) (es : List (Filed A)) → is_of locale e ≡ b → first_filed id (filter (is_of locale) es) ≡ first_filed id es
+  -- one entry more in front, kept or not, makes no difference to which is found
+  first_kept : (b : Bool) (e : NamedEntry A) (es : List (NamedEntry A)) → is_of locale e ≡ b → first_filed id (filter (is_of locale) es) ≡ first_filed id es
       → first_filed id (cond b (e ∷ filter (is_of locale) es) (filter (is_of locale) es)) ≡ first_filed id (e ∷ es)
   unfolding first_filed
   first_kept true e es of rest = rw rest refl
@@ -127,7 +136,8 @@ module _ {A : Type 0} (locale : List ℕ) (id : Identifier) (same : id.locale �
       let other : pointwise nat_eq id.locale e.identifier.locale ≡ false = ap (λ x. pointwise nat_eq x e.identifier.locale) same ∙ of in
       rw (other, and-false) rest
 
-  pub first_filed-filter : (es : List (Filed A)) → first_filed id (filter (is_of locale) es) ≡ first_filed id es
+  -- by an identifier of the locale the first of all entries is the first of those that are kept
+  pub first_filed-filter : (es : List (NamedEntry A)) → first_filed id (filter (is_of locale) es) ≡ first_filed id es
   unfolding first_filed
   first_filed-filter [] = refl
   first_filed-filter (e ∷ es) = first_kept (is_of locale e) e es refl (first_filed-filter es)
@@ -141,9 +151,11 @@ ReadsOn ds ts start =
     × ((left : json.Members) (rest : List Token) → json.members (json.value 126) n ts ≡ Some (left, rest)
     → (ms : json.Members) × (json.members (json.value 126) (length start) start ≡ Some (ms, rest)) × (of_members ms no_members ≡ of_members left ds))
 
+-- before the first member nothing was read
 pub ReadsOn-start : (start : List Token) → ReadsOn no_members start start
 ReadsOn-start start = (length start, omega arith, λ left rest all. (left, all, refl))
 
+-- a member in front of those that are left is put to what was read
 put_first : (ds : Members) (k : List ℕ) (j : json.Json) (d : Data) (left : json.Members) → of_json j ≡ Some d
     → of_members (json.member k j left) ds ≡ of_members left (put k d ds)
 put_first ds k j d left is = rw is refl
@@ -181,10 +193,12 @@ whole_object text ts ds first (ms, inside, are) =
 
 -- ---- the tables of what was kept
 
+-- a filter that keeps all leaves a list as it is
 filter-all : {A : Type 0} (xs : List A) → filter (λ x. true) xs ≡ xs
 filter-all [] = refl
 filter-all {A = A} (x ∷ xs) = ap (λ (ys : List A). x ∷ ys) (filter-all xs)
 
+-- what is kept of a list that may be absent
 abbrev KeptOf : {A : Type 0} → (A → Bool) → Option (List A) → Option (List A) → Type 0
 KeptOf serves None None = Unit {0}
 KeptOf serves None (Some all) = ⊥
@@ -200,7 +214,8 @@ optional_read read serves key None (Some kept) holds = absurd holds
 optional_read read serves key (Some d) None holds = absurd holds
 optional_read read serves key (Some d) (Some kept) (all, reads, same) = (Some all, rw reads refl, same)
 
-optional_same : {A : Type 0} (locale : List ℕ) (kept all : Option (List (Filed A))) → KeptOf (is_of locale) kept all
+-- such lists answer alike by each identifier of the locale
+optional_same : {A : Type 0} (locale : List ℕ) (kept all : Option (List (NamedEntry A))) → KeptOf (is_of locale) kept all
     → (id : Identifier) → id.locale ≡ locale → optional_answer kept id ≡ optional_answer all id
 optional_same locale None None is id same = refl
 optional_same locale None (Some all) is id same = absurd is
@@ -229,7 +244,8 @@ adds_other locale name d ds f none symbols digits rules short long holds = recor
 }
 
 module _ (locale : List ℕ) (j : json.Json) (f : FoundData) where
-  pub adds_symbols : (name : List ℕ) (slot : Option (List (Filed DecimalSymbols))) → name ≡ name_of Symbols
+  -- the first member with symbols
+  pub adds_symbols : (name : List ℕ) (slot : Option (List (NamedEntry DecimalSymbols))) → name ≡ name_of Symbols
       → IsOnce symbols_at (is_of locale) Symbols j f.symbols slot → Adds locale name j f (record f { symbols = slot })
   adds_symbols name slot named (fresh, kept, same, (d, is, served)) = rw named (
     d,
@@ -244,6 +260,7 @@ module _ (locale : List ℕ) (j : json.Json) (f : FoundData) where
     },
   )
 
+  -- the first member with digits
   pub adds_digits : (name : List ℕ) (slot : Option (List (SystemDigits))) → name ≡ name_of Digits
       → IsOnce digits_at (λ entry. true) Digits j f.digits slot → Adds locale name j f (record f { digits = slot })
   adds_digits name slot named (fresh, kept, same, (d, is, served)) = rw named (
@@ -259,7 +276,8 @@ module _ (locale : List ℕ) (j : json.Json) (f : FoundData) where
     },
   )
 
-  pub adds_rules : (name : List ℕ) (slot : Option (List (Filed (List Rule)))) → name ≡ name_of Rules
+  -- the first member with rules
+  pub adds_rules : (name : List ℕ) (slot : Option (List (NamedEntry (List Rule)))) → name ≡ name_of Rules
       → IsOnce rules_at (is_of locale) Rules j f.rules slot → Adds locale name j f (record f { rules = slot })
   adds_rules name slot named (fresh, kept, same, (d, is, served)) = rw named (
     d,
@@ -274,7 +292,8 @@ module _ (locale : List ℕ) (j : json.Json) (f : FoundData) where
     },
   )
 
-  pub adds_short : (name : List ℕ) (slot : Option (List (Filed (List TableEntry)))) → name ≡ name_of Short
+  -- the first member with short patterns
+  pub adds_short : (name : List ℕ) (slot : Option (List (NamedEntry (List TableEntry)))) → name ≡ name_of Short
       → IsOnce compact_at (is_of locale) Short j f.short slot → Adds locale name j f (record f { short = slot })
   adds_short name slot named (fresh, kept, same, (d, is, served)) = rw named (
     d,
@@ -289,7 +308,8 @@ module _ (locale : List ℕ) (j : json.Json) (f : FoundData) where
     },
   )
 
-  pub adds_long : (name : List ℕ) (slot : Option (List (Filed (List TableEntry)))) → name ≡ name_of Long
+  -- the first member with long patterns
+  pub adds_long : (name : List ℕ) (slot : Option (List (NamedEntry (List TableEntry)))) → name ≡ name_of Long
       → IsOnce compact_at (is_of locale) Long j f.long slot → Adds locale name j f (record f { long = slot })
   adds_long name slot named (fresh, kept, same, (d, is, served)) = rw named (
     d,
@@ -313,8 +333,9 @@ members_step locale before after ts s r start k j (ds, holds, on) key value shor
     (put k d ds, adds ds holds, ReadsOn-member ds ts s r start k j d key value shorter is.0 on)
 
 -- the tables of members of which each list was read
-tables_read : (ds : Members) (s g : Data) (symbols : List (Filed DecimalSymbols)) (digits : List SystemDigits) (rules : Option (List (Filed (List Rule))))
-    (short long : Option (List (Filed (List TableEntry))))
+tables_read : (ds : Members) (s g : Data) (symbols : List (NamedEntry DecimalSymbols)) (digits : List SystemDigits)
+    (rules : Option (List (NamedEntry (List Rule))))
+    (short long : Option (List (NamedEntry (List TableEntry))))
     → members_have_float ds ≡ false → get_member (name_of Symbols) ds ≡ Some s → entries_in symbols_at Symbols s ≡ Ok symbols
     → get_member (name_of Digits) ds ≡ Some g → entries_in digits_at Digits g ≡ Ok digits
     → optional (entries_in rules_at Rules) (get_member (name_of Rules) ds) ≡ Ok rules
@@ -326,7 +347,7 @@ tables_read ds s g symbols digits rules short long whole has_symbols reads_symbo
     rw (whole, has_symbols, reads_symbols, has_digits, reads_digits, reads_rules, reads_short, reads_long) refl
 
 -- the tables of what was found, where the lists are that have to be
-pub tables_for : (locale text : List ℕ) (ds : Members) (f : FoundData) (symbols : List (Filed DecimalSymbols)) (digits : List SystemDigits)
+pub tables_for : (locale text : List ℕ) (ds : Members) (f : FoundData) (symbols : List (NamedEntry DecimalSymbols)) (digits : List SystemDigits)
     → Holds locale ds f → read_text text ≡ Some (object ds)
     → f.symbols ≡ Some symbols → f.digits ≡ Some digits
     → IsFor locale (record { symbols = symbols; digits = digits; rules = f.rules; short = f.short; long = f.long }) (tables_of text)

@@ -4,7 +4,7 @@ use Rattle.std.specs.List.{AllZip, AllByRecursion}
 use Rattle.icu_plurals.specs.Grammar.{Condition, IsConditionText}
 use Rattle.icu_plurals.specs.Reading.{condition_of, fault_byte}
 use Rattle.icu_plurals.specs.Rules.{Rule, GivenRule, IsReadFrom, IsFirstBadRule}
-use Rattle.plural_conditions.proofs.Judged.{text_is_read, fault_is_found}
+use Rattle.icu_plurals_conditions.proofs.Judged.{text_is_read, fault_is_found}
 use Rattle.icu_tables.specs.Named.{refused}
 use Rattle.icu_tables.specs.Rules.{rule_then, rules_from}
 use Rattle.icu_tables.specs.declared.error.EntryFault.TheVariants.{BadRule}

@@ -11,10 +11,12 @@ use Rattle.icu_tables.specs.declared.error.TableError.{TableError}
 use Rattle.icu_tables.specs.declared.error.TableError.TheVariants.{NotJson, Float, Missing, WrongKind, Entry, OutOfMemory}
 use Rattle.icu_tables.specs.Reading.{◌>>=◌, Fails, list_of, entries_at}
 
+-- the list of a list's items is the list
 pub list_of-items_of : (ds : List Data) → list_of (items_of ds) ≡ ds
 list_of-items_of [] = refl
 list_of-items_of (d ∷ ds) = ap (λ (es : List Data). d ∷ es) (list_of-items_of ds)
 
+-- what the proof of `list_in` cites
 pub ruleset list_rules = list_of-items_of
 
 -- what was read before, and what is still read

@@ -4,22 +4,23 @@ use Rattle.icu_provider.specs.Answer.{Refusal, refused}
 use Rattle.icu_provider.specs.Identifier.{Identifier}
 use Rattle.icu_provider.specs.declared.error.DataErrorKind.TheVariants.{IdentifierNotFound, MarkerNotFound}
 use Rattle.icu_tables.specs.Digits.{SystemDigits, first_digits}
-use Rattle.icu_tables.specs.Named.{Filed, first_filed}
+use Rattle.icu_tables.specs.Named.{NamedEntry, first_filed}
 
+-- what was found, or the refusal
 abbrev pub or_not_found : {A : Type 0} → Option A → Result A Refusal
 or_not_found None = refused IdentifierNotFound
 or_not_found (Some x) = Ok x
 
 -- the first entry with the identifier
-abbrev pub filed_answer : {A : Type 0} → List (Filed A) → Identifier → Result A Refusal
+abbrev pub filed_answer : {A : Type 0} → List (NamedEntry A) → Identifier → Result A Refusal
 filed_answer entries id = or_not_found (first_filed id entries)
 
--- the same under a key that may be absent: without the key there is no such data at all, whatever is asked
-abbrev pub optional_answer : {A : Type 0} → Option (List (Filed A)) → Identifier → Result A Refusal
+-- the same under a key that may be absent: without the key there is no such data for any identifier
+abbrev pub optional_answer : {A : Type 0} → Option (List (NamedEntry A)) → Identifier → Result A Refusal
 optional_answer None id = refused MarkerNotFound
 optional_answer (Some entries) id = filed_answer entries id
 
--- digits are told by their numbering system alone, in whatever locale
+-- the digits of a numbering system, in any locale
 abbrev pub system_answer : List SystemDigits → Option (List ℕ) → Result (List ℕ) Refusal
 system_answer entries None = refused IdentifierNotFound
 system_answer entries (Some system) = or_not_found (first_digits system entries)

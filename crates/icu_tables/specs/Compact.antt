@@ -9,7 +9,7 @@ use Rattle.icu_decimal_data.specs.declared.error.CompactError.{CompactError}
 use Rattle.icu_decimal_data.specs.declared.error.CompactError.TheVariants as compact
 use Rattle.icu_tables.specs.PatternTexts.{Texts}
 use Rattle.icu_tables.specs.declared.compact.GivenEntry.{GivenEntry}
-use Rattle.icu_tables.specs.Named.{Filed, refused, identifier_from}
+use Rattle.icu_tables.specs.Named.{NamedEntry, refused, identifier_from}
 use Rattle.icu_tables.specs.Reading.{◌>>=◌, object_in, optional_at, text_in, text_at, list_at, byte_in, triple_in}
 use Rattle.icu_tables.specs.Spelling.{pattern_of, optional_pattern_of}
 use Rattle.icu_tables.specs.declared.error.EntryFault.TheVariants.{ExponentsFall, ExponentAboveType, TooManyZeros, PatternsTooLarge}
@@ -19,8 +19,9 @@ use Rattle.icu_tables.specs.declared.error.Place.{Place}
 use Rattle.icu_tables.specs.declared.error.TableError.{TableError}
 use Rattle.icu_tables.specs.declared.error.TableError.TheVariants.{Float, WrongKind, OutOfMemory}
 
-unfoldable pub texts_in : Key → Data → Result Texts TableError
-texts_in key d = do
+-- the texts of an object under a key, one for each plural category
+unfoldable pub category_texts_in : Key → Data → Result Texts TableError
+category_texts_in key d = do
   d ← object_in key d
   other ← text_at Other d
   explicit_zero ← optional_at (text_in ExplicitZero) ExplicitZero d
@@ -37,13 +38,14 @@ abbrev pub rises : Option ℕ → ℕ → Result ℕ TableError
 rises None t = Ok t
 rises (Some before) t = if nat_lt before t then Ok t else Err (WrongKind Patterns)
 
+-- an entry: a list of its type, its exponent and its texts
 unfoldable pub given_entry_in : Option ℕ → Data → Result GivenEntry TableError
 given_entry_in before d = do
   triple ← triple_in Patterns d
   t ← byte_in Patterns triple.0
   log10_type ← rises before t
   exponent ← byte_in Patterns triple.1.0
-  texts ← texts_in Patterns triple.1.1
+  texts ← category_texts_in Patterns triple.1.1
   Ok (record { log10_type = log10_type; exponent = exponent; texts = texts })
 
 -- each entry in turn, its type above the one before it
@@ -54,26 +56,27 @@ given_entries_in before (d ∷ ds) = do
   es ← given_entries_in (Some e.log10_type) ds
   Ok (e ∷ es)
 
--- types rise from entry to entry, after one before them
+-- a type is above the one before it, if there is one
 abbrev pub IsAbove : Option ℕ → ℕ → Type 0
 IsAbove None t = Unit {0}
 IsAbove (Some before) t = before < t
 
--- each type is above the one before
+-- each type of a list is above the one before it
 abbrev pub Rise : Option ℕ → List GivenEntry → Type 0
 Rise before [] = Unit {0}
 Rise before (e ∷ es) = IsAbove before e.log10_type × Rise (Some e.log10_type) es
 
--- what an object says of a table, not yet judged: entries, and the texts of numbers that aren't shortened
+-- what an object says about a table, not yet judged: entries, and the texts of numbers that aren't shortened
 pub record GivenTable : Type 0 where
   pub entries : List GivenEntry
   pub zero : Option Texts
 
+-- what an object says about a table
 unfoldable pub given_table_at : Data → Result GivenTable TableError
 given_table_at d = do
   values ← list_at Patterns d
   entries ← given_entries_in None values
-  zero ← optional_at (texts_in Zero) Zero d
+  zero ← optional_at (category_texts_in Zero) Zero d
   Ok (record { entries = entries; zero = zero })
 
 -- the patterns of texts, in three parts: the one for all other numbers is judged first
@@ -85,30 +88,35 @@ first_patterns_of place t = do
   zero ← optional_pattern_of place t.zero
   Ok (record { explicit_zero = explicit_zero; explicit_one = explicit_one; zero = zero; one = None; two = None; few = None; many = None; other = other })
 
+-- with those of the categories one and two
 unfoldable pub with_one_and_two : Place → Texts → PatternElements → Result PatternElements TableError
 with_one_and_two place t e = do
   one ← optional_pattern_of place t.one
   two ← optional_pattern_of place t.two
   Ok (record e { one = one; two = two })
 
+-- with those of the categories few and many
 unfoldable pub with_few_and_many : Place → Texts → PatternElements → Result PatternElements TableError
 with_few_and_many place t e = do
   few ← optional_pattern_of place t.few
   many ← optional_pattern_of place t.many
   Ok (record e { few = few; many = many })
 
+-- the patterns of texts, or their first fault
 unfoldable pub patterns_of : Place → Texts → Result PatternElements TableError
 patterns_of place t = do
   e ← first_patterns_of place t
   e ← with_one_and_two place t e
   with_few_and_many place t e
 
+-- the patterns of texts that may be absent
 unfoldable pub optional_patterns_of : Place → Option Texts → Result (Option PatternElements) TableError
 optional_patterns_of place t = elim t [
   | None ↦ Ok None
   | Some texts ↦ (patterns_of place texts >>= λ patterns. Ok (Some patterns))
 ]
 
+-- the entries with their patterns
 unfoldable pub entries_of : Place → List GivenEntry → Result (List TableEntry) TableError
 entries_of place [] = Ok []
 entries_of place (e ∷ es) = do
@@ -116,7 +124,7 @@ entries_of place (e ∷ es) = do
   rest ← entries_of place es
   Ok (record { log10_type = e.log10_type; exponent = e.exponent; elements = elements } ∷ rest)
 
--- how a table is refused that can't be kept
+-- how a table is refused that `CompactPatterns::new` refuses
 abbrev pub compact_refusal : {A : Type 0} → Place → CompactError → Result A TableError
 compact_refusal place compact.ExponentsFall = refused place ExponentsFall
 compact_refusal place compact.ExponentAboveType = refused place ExponentAboveType
@@ -129,6 +137,7 @@ abbrev pub kept_or_refused : Place → Option PatternElements → List TableEntr
 kept_or_refused place zero entries None = Ok (kept zero entries)
 kept_or_refused place zero entries (Some fault) = compact_refusal place fault
 
+-- the table of entries, or its refusal
 unfoldable pub table_of_entries : Place → Option PatternElements → List TableEntry → Result (List TableEntry) TableError
 table_of_entries place zero entries = kept_or_refused place zero entries (fault_of zero entries)
 
@@ -140,7 +149,7 @@ table_of place given = do
   table_of_entries place zero entries
 
 -- an entry of compact tables: first the kinds of all its fields, then its name, then its table
-unfoldable pub compact_at : Place → Data → Result (Filed (List TableEntry)) TableError
+unfoldable pub compact_at : Place → Data → Result (NamedEntry (List TableEntry)) TableError
 compact_at place d = do
   d ← object_in place.key d
   locale ← text_at Locale d
@@ -150,7 +159,7 @@ compact_at place d = do
   table ← table_of place given
   Ok (record { identifier = identifier; content = table })
 
--- the table of one object; the whole value is looked through for numbers that aren't whole first
+-- the table of one object; before that the whole value is searched for numbers that aren't whole
 unfoldable pub compact_in : Data → Result (List TableEntry) TableError
 compact_in d = if has_float d then Err Float else (do
   d ← object_in Document d

@@ -15,7 +15,7 @@ use Rattle.icu_tables.specs.Answering.{filed_answer, optional_answer, system_ans
 use Rattle.icu_tables.specs.Compact.{compact_at}
 use Rattle.icu_tables.specs.Digits.{SystemDigits, digits_at}
 use Rattle.icu_tables.specs.Keys.{name_of}
-use Rattle.icu_tables.specs.Named.{Filed, is_of}
+use Rattle.icu_tables.specs.Named.{NamedEntry, is_of}
 use Rattle.icu_tables.specs.Owned.{Is}
 use Rattle.icu_tables.specs.Reading.{Fails}
 use Rattle.icu_tables.specs.Rules.{rules_at}
@@ -26,7 +26,7 @@ use Rattle.icu_tables.specs.declared.error.Key.TheVariants.{Symbols, Digits, Rul
 use Rattle.icu_tables.specs.declared.error.Place.{Place}
 use Rattle.icu_tables.specs.declared.error.TableError.{TableError}
 
--- These tables answer by each identifier of the locale as all tables do, and give the same digits in whatever locale.
+-- For each identifier of the locale the kept tables answer what all tables answer, and for digits in any locale.
 pub record AnswersAs (locale : List ℕ) (kept all : TablesData) : Type 0 where
   pub symbols : (id : Identifier) → id.locale ≡ locale → filed_answer kept.symbols id ≡ filed_answer all.symbols id
   pub digits : (system : Option (List ℕ)) → system_answer kept.digits system ≡ system_answer all.digits system
@@ -34,20 +34,20 @@ pub record AnswersAs (locale : List ℕ) (kept all : TablesData) : Type 0 where
   pub short : (id : Identifier) → id.locale ≡ locale → optional_answer kept.short id ≡ optional_answer all.short id
   pub long : (id : Identifier) → id.locale ≡ locale → optional_answer kept.long id ≡ optional_answer all.long id
 
--- tables for a locale of what was read
+-- tables for a locale, of the tables that were read
 abbrev pub IsFor : List ℕ → TablesData → Result TablesData TableError → Type 0
 IsFor locale kept read = (all : TablesData) × (read ≡ Ok all) × AnswersAs locale kept all
 
--- What a call answers for a locale is of what reading gives; want of memory may come whatever it gives.
+-- The result of a call for a locale, by what was read; `OutOfMemory` may be reported in any case.
 abbrev pub GivesFor : List ℕ → Result TablesData TableError → Result TablesData TableError → Type 0
 GivesFor locale (Ok kept) read = IsFor locale kept read
 GivesFor locale (Err e) read = Fails e read
 
--- of a list under a key those of its entries that serve
+-- the entries of a list under a key that serve
 abbrev pub IsServed : {A : Type 0} → (Place → Data → Result A TableError) → (A → Bool) → Key → Data → List A → Type 0
 IsServed {A} read serves key d kept = (all : List A) × (entries_in read key d ≡ Ok all) × (kept ≡ filter serves all)
 
--- the same of a borrowed value, which has whole numbers alone
+-- the same of a borrowed value, all of whose numbers are whole
 abbrev pub AreEntries : {A : Type 0} → (Place → Data → Result A TableError) → (A → Bool) → Key → json.Json → List A → Type 0
 AreEntries read serves key j kept = (d : Data) × Is j d × IsServed read serves key d kept
 
@@ -65,13 +65,13 @@ HoldsAt read serves key (Some d) (Some kept) = IsServed read serves key d kept
 
 -- what is kept of each list of a document
 pub record FoundData : Type 0 where
-  pub symbols : Option (List (Filed DecimalSymbols))
+  pub symbols : Option (List (NamedEntry DecimalSymbols))
   pub digits : Option (List SystemDigits)
-  pub rules : Option (List (Filed (List Rule)))
-  pub short : Option (List (Filed (List TableEntry)))
-  pub long : Option (List (Filed (List TableEntry)))
+  pub rules : Option (List (NamedEntry (List Rule)))
+  pub short : Option (List (NamedEntry (List TableEntry)))
+  pub long : Option (List (NamedEntry (List TableEntry)))
 
--- of these members it is what serves in a locale; they have whole numbers alone
+-- what is kept of these members for a locale; all their numbers are whole
 pub record Holds (locale : List ℕ) (ds : Members) (f : FoundData) : Type 0 where
   pub symbols : HoldsAt symbols_at (is_of locale) Symbols (get_member (name_of Symbols) ds) f.symbols
   pub digits : HoldsAt digits_at (λ entry. true) Digits (get_member (name_of Digits) ds) f.digits

@@ -1,4 +1,4 @@
--- The names that entries are given under: locales and numbering systems.
+-- The names of entries: locales and numbering systems.
 use Rattle.std.specs.Prelude.{ℕ, Bool, nat_eq, List, [], ◌∷◌, Option, Some, None, Result, Ok, Err, if◌then◌else◌}
 use Rattle.std.specs.Cmp.Lexicographic.{pointwise}
 use Rattle.icu_provider.specs.Identifier.{Identifier, same_identifier}
@@ -12,7 +12,7 @@ use Rattle.icu_tables.specs.declared.error.TableError.{TableError}
 use Rattle.icu_tables.specs.declared.error.TableError.TheVariants.{Entry}
 
 -- data under an identifier
-pub record Filed (A : Type 0) : Type 0 where
+pub record NamedEntry (A : Type 0) : Type 0 where
   pub identifier : Identifier
   pub content : A
 
@@ -43,10 +43,10 @@ identifier_from place locale system = do
   Ok (record { system = system; locale = locale })
 
 -- the data of the first entry with an identifier
-unfoldable pub first_filed : {A : Type 0} → Identifier → List (Filed A) → Option A
+unfoldable pub first_filed : {A : Type 0} → Identifier → List (NamedEntry A) → Option A
 first_filed id [] = None
 first_filed id (e ∷ es) = if same_identifier id e.identifier then Some e.content else first_filed id es
 
--- whether the data is of a locale, in whatever numbering system
-abbrev pub is_of : {A : Type 0} → List ℕ → Filed A → Bool
+-- whether the data is of a locale, in any numbering system
+abbrev pub is_of : {A : Type 0} → List ℕ → NamedEntry A → Bool
 is_of locale e = pointwise nat_eq locale e.identifier.locale

@@ -5,7 +5,7 @@ use Rattle.serde_json.specs.Data.{Data, Items, Members, no_members}
 use Rattle.serde_json.specs.Read.{of_items, of_json, of_members}
 use Rattle.serde_json.specs.Written.{has_float, items_have_float, members_have_float}
 
--- the data of a value, which has whole numbers alone
+-- the data of a borrowed value, all of whose numbers are whole
 abbrev pub Is : json.Json → Data → Type 0
 Is j d = (of_json j ≡ Some d) × (has_float d ≡ false)
 

@@ -1,4 +1,4 @@
--- Reading a JSON value, with the first fault that is met.
+-- Reading a JSON value, or its first fault.
 use Rattle.std.specs.Prelude.{◌≡◌, ℕ, ◌+◌, List, [], ◌∷◌, Option, Some, None, option_map, option_and_then, Result, Ok, Err, nat_lt}
 use Rattle.std.specs.Prelude.{if◌then◌else◌}
 use Rattle.serde_json.specs.Data.{Data, Items, no_items, item}
@@ -15,7 +15,7 @@ abbrev pub ◌>>=◌ : {A B : Type 0} → Result A TableError → (A → Result 
 (Ok x) >>= f = f x
 (Err e) >>= f = Err e
 
--- A refusal is what reading gives; want of memory may come whatever it gives.
+-- The error is that of the reading; `OutOfMemory` may be reported in any case.
 abbrev pub Fails : {Y : Type 0} → TableError → Result Y TableError → Type 0
 Fails NotJson read = read ≡ Err NotJson
 Fails Float read = read ≡ Err Float
@@ -24,7 +24,7 @@ Fails (WrongKind key) read = read ≡ Err (WrongKind key)
 Fails (Entry key index fault) read = read ≡ Err (Entry key index fault)
 Fails OutOfMemory read = Unit {0}
 
--- What a call answers, seen by view, is what reading gives; want of memory may come whatever it gives.
+-- The result of a call, seen by view, is that of the reading; `OutOfMemory` may be reported in any case.
 abbrev pub Gives : {X Y : Type 0} → (X → Y) → Result X TableError → Result Y TableError → Type 0
 Gives view (Ok x) read = read ≡ Ok (view x)
 Gives view (Err e) read = Fails e read
@@ -39,6 +39,7 @@ abbrev pub list_of : Items → List Data
 list_of no_items = []
 list_of (item d ds) = d ∷ list_of ds
 
+-- the value under a required key
 unfoldable pub member_at : Key → Data → Result Data TableError
 member_at key d = ok_or (get (name_of key) d) (Missing key)
 
@@ -49,6 +50,7 @@ optional read (Some d) = do
   x ← read d
   Ok (Some x)
 
+-- what is read under a key that may be absent
 unfoldable pub optional_at : {A : Type 0} → (Data → Result A TableError) → Key → Data → Result (Option A) TableError
 optional_at read key d = optional read (get (name_of key) d)
 
@@ -58,24 +60,29 @@ object_in key d = do
   members ← ok_or (as_object d) (WrongKind key)
   Ok d
 
+-- a text
 unfoldable pub text_in : Key → Data → Result (List ℕ) TableError
 text_in key d = ok_or (as_str d) (WrongKind key)
 
+-- a list
 unfoldable pub list_in : Key → Data → Result (List Data) TableError
 list_in key d = ok_or (option_map list_of (as_array d)) (WrongKind key)
 
--- a whole number below 256
+-- a number, if it is below 256
 abbrev pub as_byte : ℕ → Option ℕ
 as_byte n = if nat_lt n 256 then Some n else None
 
+-- a whole number below 256
 unfoldable pub byte_in : Key → Data → Result ℕ TableError
 byte_in key d = ok_or (option_and_then as_byte (option_and_then as_u64 (as_number d))) (WrongKind key)
 
+-- the text under a required key
 unfoldable pub text_at : Key → Data → Result (List ℕ) TableError
 text_at key d = do
   x ← member_at key d
   text_in key x
 
+-- the list under a required key
 unfoldable pub list_at : Key → Data → Result (List Data) TableError
 list_at key d = do
   x ← member_at key d
@@ -96,11 +103,13 @@ three_of key (a ∷ b ∷ []) = Err (WrongKind key)
 three_of key (a ∷ b ∷ c ∷ []) = Ok (a, (b, c))
 three_of key (a ∷ b ∷ c ∷ (d ∷ ds)) = Err (WrongKind key)
 
+-- a list of exactly two values
 unfoldable pub pair_in : Key → Data → Result (Data × Data) TableError
 pair_in key d = do
   values ← list_in key d
   two_of key values
 
+-- a list of exactly three values
 unfoldable pub triple_in : Key → Data → Result (Data × (Data × Data)) TableError
 triple_in key d = do
   values ← list_in key d
@@ -114,6 +123,7 @@ texts_in key d = do
   second ← text_in key pair.1
   Ok (first, second)
 
+-- the list of two texts under a required key
 unfoldable pub texts_at : Key → Data → Result (List ℕ × List ℕ) TableError
 texts_at key d = do
   x ← member_at key d

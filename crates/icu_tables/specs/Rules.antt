@@ -7,7 +7,7 @@ use Rattle.icu_plurals.specs.declared.category.PluralCategory.TheVariants as cat
 use Rattle.icu_plurals.specs.Grammar.{Condition}
 use Rattle.icu_plurals.specs.Reading.{condition_of}
 use Rattle.icu_plurals.specs.Rules.{Rule, GivenRule}
-use Rattle.icu_tables.specs.Named.{Filed, refused, identifier_from}
+use Rattle.icu_tables.specs.Named.{NamedEntry, refused, identifier_from}
 use Rattle.icu_tables.specs.Reading.{◌>>=◌, ok_or, object_in, text_in, text_at, list_at, pair_in, entries_at}
 use Rattle.icu_tables.specs.declared.error.EntryFault.TheVariants.{BadRule}
 use Rattle.icu_tables.specs.declared.error.Key.TheVariants.{Locale, Rules}
@@ -35,6 +35,7 @@ given_rule_in d = do
   text ← text_in Rules pair.1
   Ok (record { category = category; text = text })
 
+-- each rule in turn
 unfoldable pub given_rules_in : List Data → Result (List GivenRule) TableError
 given_rules_in ds = entries_at (λ place. given_rule_in) Rules 0 ds
 
@@ -45,13 +46,13 @@ rule_then place k g (Ok condition) after = do
   rules ← after
   Ok (record { category = g.category; condition = condition } ∷ rules)
 
--- what the rules are read as, from the k-th on; the first that isn't in the grammar is told with its place and byte
+-- what the rules are read as, from the k-th on; the first that isn't in the grammar is reported with its index and byte offset
 unfoldable pub rules_from : Place → ℕ → List GivenRule → Result (List Rule) TableError
 rules_from place k [] = Ok []
 rules_from place k (g ∷ gs) = rule_then place k g (condition_of g.text) (rules_from place (k + 1) gs)
 
 -- an entry: first the kinds of all its fields, then its name, then its rules
-unfoldable pub rules_at : Place → Data → Result (Filed (List Rule)) TableError
+unfoldable pub rules_at : Place → Data → Result (NamedEntry (List Rule)) TableError
 rules_at place d = do
   d ← object_in place.key d
   locale ← text_at Locale d

@@ -5,7 +5,7 @@ use Rattle.icu_provider.specs.NumberingSystem.{is_numbering_system}
 use Rattle.icu_decimal_data.specs.Symbols.{SymbolTexts, total_len}
 use Rattle.icu_decimal_data.specs.declared.decimal_symbols.DecimalSymbols.{DecimalSymbols}
 use Rattle.icu_decimal_data.specs.declared.grouping_sizes.GroupingSizes.{GroupingSizes}
-use Rattle.icu_tables.specs.Named.{Filed, refused, identifier_from}
+use Rattle.icu_tables.specs.Named.{NamedEntry, refused, identifier_from}
 use Rattle.icu_tables.specs.Reading.{◌>>=◌, member_at, object_in, optional_at, text_in, text_at, texts_at, byte_in, triple_in}
 use Rattle.icu_tables.specs.declared.error.EntryFault.TheVariants.{SymbolsTooLarge, BadSymbolsNumberingSystem}
 use Rattle.icu_tables.specs.declared.error.Key.{Key}
@@ -48,6 +48,7 @@ strings_at d = do
     numsys = numsys;
   })
 
+-- the fields of an entry
 unfoldable pub symbol_fields_at : Key → Data → Result SymbolFields TableError
 symbol_fields_at key d = do
   d ← object_in key d
@@ -65,7 +66,7 @@ symbols_of place strings sizes =
     else refused place BadSymbolsNumberingSystem
 
 -- an entry: first the kinds of all its fields, then its name, then its symbols
-unfoldable pub symbols_at : Place → Data → Result (Filed DecimalSymbols) TableError
+unfoldable pub symbols_at : Place → Data → Result (NamedEntry DecimalSymbols) TableError
 symbols_at place d = do
   fields ← symbol_fields_at place.key d
   identifier ← identifier_from place fields.locale fields.system

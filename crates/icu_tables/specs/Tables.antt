@@ -8,7 +8,7 @@ use Rattle.icu_decimal_data.specs.declared.decimal_symbols.DecimalSymbols.{Decim
 use Rattle.icu_decimal_data.specs.CompactTable.{TableEntry}
 use Rattle.icu_tables.specs.Compact.{compact_at}
 use Rattle.icu_tables.specs.Digits.{SystemDigits, digits_at}
-use Rattle.icu_tables.specs.Named.{Filed}
+use Rattle.icu_tables.specs.Named.{NamedEntry}
 use Rattle.icu_tables.specs.Reading.{◌>>=◌, ok_or, member_at, optional_at, object_in, list_in, entries_at}
 use Rattle.icu_tables.specs.Rules.{rules_at}
 use Rattle.icu_tables.specs.Symbols.{symbols_at}
@@ -18,13 +18,13 @@ use Rattle.icu_tables.specs.declared.error.Place.{Place}
 use Rattle.icu_tables.specs.declared.error.TableError.{TableError}
 use Rattle.icu_tables.specs.declared.error.TableError.TheVariants.{NotJson, Float}
 
--- the entries under each key of a document; none where a key that may be absent is
+-- the entries under each key of a document; none for an optional key that is absent
 pub record TablesData : Type 0 where
-  pub symbols : List (Filed DecimalSymbols)
+  pub symbols : List (NamedEntry DecimalSymbols)
   pub digits : List SystemDigits
-  pub rules : Option (List (Filed (List Rule)))
-  pub short : Option (List (Filed (List TableEntry)))
-  pub long : Option (List (Filed (List TableEntry)))
+  pub rules : Option (List (NamedEntry (List Rule)))
+  pub short : Option (List (NamedEntry (List TableEntry)))
+  pub long : Option (List (NamedEntry (List TableEntry)))
 
 -- the entries of a list
 unfoldable pub entries_in : {A : Type 0} → (Place → Data → Result A TableError) → Key → Data → Result (List A) TableError
@@ -49,7 +49,7 @@ tables_at d = do
   long ← optional_at (entries_in compact_at Long) Long d
   Ok (record { symbols = symbols; digits = digits; rules = rules; short = short; long = long })
 
--- the whole value is looked through for numbers that aren't whole first
+-- before that the whole value is searched for numbers that aren't whole
 unfoldable pub tables_in : Data → Result TablesData TableError
 tables_in d = if has_float d then Err Float else tables_at d
 

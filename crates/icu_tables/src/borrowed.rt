@@ -1,4 +1,4 @@
-//! Values that are borrowed from a text, as values of their own.
+//! Owned values of values that are borrowed from a text.
 
 ghost use Rattle.json.specs.Value.{items_view as borrowed_items, members_view as borrowed_members, value_view};
 ghost use Rattle.serde_json.specs.View.{items_view, members_view, view};
@@ -12,12 +12,12 @@ use fast_float::Numeral;
 use serde_json::{Map, Number, Value};
 use std::alloc::{AllocError, AllocFailed, Global};
 
-/// Why a text isn't read for one locale alone.
+/// Why a text isn't read for one locale only.
 #[derive(Clone, Copy, Debug, PartialEq, Eq)]
 pub enum Unread {
     /// Memory ran out.
     OutOfMemory,
-    /// It has something that is rare or refused: whoever asks reads it as a whole.
+    /// It has something rare or refused: the caller reads it as a whole.
     Other,
 }
 
@@ -57,7 +57,7 @@ impl From<TableError> for Unread {
     }
 }
 
-/// The number of a text that is digits alone, below 2 to the power 64.
+/// The number of a text that has digits only, below 2 to the power 64.
 fn natural(text: &str) -> Result<u64, Unread>
     ensures { IfOk result (λ n. number_of text.now ≡ Some (natural_number n)) }
 {
@@ -78,7 +78,7 @@ fn unsigned(numeral: &Numeral<'_>) -> Option<u64>
     numeral.to_u64()
 }
 
-/// The value, if all its numbers are natural ones of 64 bits.
+/// The owned value, if all its numbers are whole ones below 2 to the power 64.
 #[cycle(owned)]
 pub fn owned(alloc: Global, value: &json::Value<'_>) -> Result<Value, Unread>
     ensures { IfOk result (λ v. Is (value_view value.now) (view v)) }

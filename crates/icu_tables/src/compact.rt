@@ -11,9 +11,9 @@ ghost use Rattle.icu_tables.specs.Reading.{Gives};
 use crate::entries::FromEntry;
 use crate::error::{EntryFault, Key, Place, TableError};
 use crate::fields::{byte_in, list_at, object_in, optional_text_at, text_at, triple_in};
-use crate::named::{Filed, name_of};
+use crate::named::{NamedEntry, name_of};
 use crate::texts::{
-    Patterns, Texts, optional_patterns_of, optional_texts_at, patterns_of, texts_in,
+    Patterns, Texts, category_texts_in, optional_patterns_of, optional_texts_at, patterns_of,
 };
 use crate::whole_numbers::has_float;
 use icu_decimal_data::{CompactError, CompactPatterns};
@@ -32,7 +32,7 @@ struct GivenEntry<'a> {
     texts: Texts<'a>,
 }
 
-/// A type that is above the one before it.
+/// The type, if it is above the one before it.
 fn rising(before: Option<u8>, log10_type: u8) -> Result<u8, TableError>
     ensures read { Gives (λ x. x) result (rises before log10_type) }
     ensures above { IfOk result (λ t. IsAbove before t) }
@@ -53,7 +53,7 @@ fn given_entry_in(before: Option<u8>, value: &Value) -> Result<GivenEntry<'_>, T
     Ok(GivenEntry {
         log10_type: rising(before, byte_in(log10_type, Key::Patterns)?)?,
         exponent: byte_in(exponent, Key::Patterns)?,
-        texts: texts_in(texts, Key::Patterns)?,
+        texts: category_texts_in(texts, Key::Patterns)?,
     })
 }
 
@@ -72,7 +72,7 @@ fn given_entries_in(alloc: Global, values: &[Value]) -> Result<Vec<GivenEntry<'_
     Ok(found)
 }
 
-/// What an object says of a table, not yet judged.
+/// What an object says about a table, not yet judged.
 #[derive(Drop)]
 pub struct GivenTable<'a> {
     entries: Vec<GivenEntry<'a>>,
@@ -90,7 +90,7 @@ impl<'a> Model for GivenTable<'a> {
     ghost invariant = { λ t. Rise None t.entries.items };
 }
 
-/// What an object says of a table.
+/// What an object says about a table.
 #[tactic(auto, unfolding(crate::specs::Compact::given_table_at))]
 pub fn given_table_at(alloc: Global, value: &Value) -> Result<GivenTable<'_>, TableError>
     ensures { Gives (λ x. x) result (given_table_at (view value.now)) }
@@ -101,7 +101,7 @@ pub fn given_table_at(alloc: Global, value: &Value) -> Result<GivenTable<'_>, Ta
     })
 }
 
-/// The map with one entry more.
+/// Adds an entry to the map.
 fn with_entry(
     map: &mut BTreeMap<u8, (u8, Patterns)>,
     log10_type: u8,
@@ -171,7 +171,7 @@ fn table_of(
     table_of_entries(alloc, place, entries, &zero)
 }
 
-impl FromEntry for Filed<CompactPatterns<SinglePlaceholder>> {
+impl FromEntry for NamedEntry<CompactPatterns<SinglePlaceholder>> {
     ghost use Rattle.icu_tables.specs.Compact.{compact_at};
     ghost use Rattle.icu_tables.specs.Named.{is_of};
 
@@ -187,7 +187,7 @@ impl FromEntry for Filed<CompactPatterns<SinglePlaceholder>> {
         let given = given_table_at(alloc, value)?;
         let name = name_of(place, locale, system)?;
         let content = table_of(alloc, place, &given)?;
-        Ok(Filed { name, content })
+        Ok(NamedEntry { name, content })
     }
 
     fn serves(&self, locale: &DataLocale) -> bool {
@@ -195,12 +195,13 @@ impl FromEntry for Filed<CompactPatterns<SinglePlaceholder>> {
     }
 }
 
-/// The compact table of a JSON object with `patterns` and an optional `zero` (this project's own format,
-/// `docs/FORMATS.md`), or the first fault that is met in it.
+/// The compact table of a JSON object with `patterns` and an optional `zero` (this project's own
+/// format, `docs/FORMATS.md`), or its first fault.
 ///
-/// `Float` is told first, where a number isn't a whole one of 64 bits, wherever it stands in the value; then that the value
-/// is no object, as `WrongKind` of the document itself; then the kinds of all that stands in it are judged, then the
-/// patterns, then the table by [`CompactPatterns::new`]. The last two are told as faults of entry 0 of the document.
+/// Faults are reported in this order: `Float`, if anywhere in the value a number isn't a 64-bit
+/// whole number; `WrongKind` of the document, if the value is no object; wrong kinds in the object;
+/// faults of its patterns; faults of the table, which [`CompactPatterns::new`] finds. The last two
+/// are reported for entry 0 of the document.
 #[tactic(auto, unfolding(crate::specs::Compact::compact_in))]
 pub fn compact_from_value(
     alloc: Global,

@@ -29,6 +29,7 @@ impl Model for SystemDigits {
     ghost view = { λ s. record { system = s.system; digits = s.digits } };
 }
 
+/// The characters of a text.
 fn characters(alloc: Global, text: &str) -> Result<Vec<char>, AllocError>
     ensures { IfOk result (λ v. v.items ≡ chars text.now) }
 {
@@ -65,7 +66,7 @@ impl FromEntry for SystemDigits {
         Ok(SystemDigits { system, digits })
     }
 
-    /// Digits are told by their system alone, in whatever locale.
+    /// Digits depend on the system only, not on the locale.
     fn serves(&self, _locale: &DataLocale) -> bool {
         true
     }

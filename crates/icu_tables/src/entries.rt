@@ -12,19 +12,19 @@ use icu_provider::DataLocale;
 use serde_json::Value;
 use std::alloc::Global;
 
-/// What stands in a list of entries.
+/// An entry of a list.
 pub trait FromEntry: Sized {
-    /// What the entry at a place reads as.
+    /// What the value of an entry reads as.
     ghost read_at: { Place → Data → Result Self TableError };
 
-    /// Whether an entry may answer what is asked in a locale.
+    /// Whether an entry may answer a request in a locale.
     ghost serves: { List ℕ → Self → Bool };
 
-    /// The entry of a value, or the first fault that is met in it.
+    /// The entry of a value, or its first fault.
     fn from_entry(alloc: Global, place: Place, value: &Value) -> Result<Self, TableError>
         ensures { Gives (λ x. x) result (read_at place (view value.now)) };
 
-    /// Whether the entry may answer what is asked in this locale.
+    /// Whether the entry may answer a request in this locale.
     fn serves(&self, locale: &DataLocale) -> bool
         ensures { result ≡ serves locale.now self.now };
 }

@@ -29,7 +29,8 @@ pub enum Key {
     Patterns,
     ExplicitZero,
     ExplicitOne,
-    /// Of an entry, the patterns of numbers that aren't shortened; of elements, the plural category zero.
+    /// Of an entry, the patterns of numbers that aren't shortened; of elements, the plural category
+    /// zero.
     Zero,
     One,
     Two,
@@ -82,7 +83,7 @@ impl fmt::Display for Key {
     }
 }
 
-/// What an entry was refused by, once all its fields have the right kinds.
+/// Why an entry is refused, once all its fields have the right kinds.
 #[derive(Clone, Copy, Debug, PartialEq, Eq, Error)]
 pub enum EntryFault {
     /// The locale isn't 1 to 63 ASCII letters, digits and hyphens.
@@ -91,16 +92,16 @@ pub enum EntryFault {
     /// The numbering system that the entry is for isn't 3 to 8 ASCII lower-case letters and digits.
     #[error("bad numbering system")]
     BadNumberingSystem,
-    /// A pattern has two places or more.
+    /// A pattern has two placeholders or more.
     #[error("a pattern has more than one place")]
     BadPlace,
     /// The condition of a plural rule isn't in the grammar of UTS 35 Part 3 (Plural rules syntax).
     #[error("rule {rule} isn't a condition, by its byte {byte}")]
     BadRule {
-        /// The place of the rule in its list, from 0.
+        /// The index of the rule in its list.
         rule: usize,
-        /// The place of the first byte of the first token that can't stand there; the end of what is read, if the text ends
-        /// too early.
+        /// The byte offset of the first token that can't stand there; the end of what is read, if
+        /// the text ends too early.
         byte: usize,
     },
     /// The seven texts of symbols are more than 255 bytes together.
@@ -129,7 +130,7 @@ pub enum TableError {
     /// The text isn't JSON.
     #[error("not JSON")]
     NotJson,
-    /// Somewhere in the value stands a number that isn't a whole one of 64 bits.
+    /// Somewhere in the value a number isn't a 64-bit whole number.
     #[error("a number that is no 64-bit whole number")]
     Float,
     /// A required key is absent.
@@ -143,9 +144,9 @@ pub enum TableError {
     Entry {
         /// The key of the list.
         key: Key,
-        /// The place of the entry in its list, from 0.
+        /// The index of the entry in its list.
         index: usize,
-        /// What it was refused by.
+        /// Why it was refused.
         fault: EntryFault,
     },
     /// Memory ran out.
@@ -169,7 +170,7 @@ impl<T: Drop> From<AllocFailed<T>> for TableError {
     }
 }
 
-/// Where an entry stands: in the list of which key, and at which place of it.
+/// Where an entry stands: under which key, and at which index of the list.
 #[derive(Clone, Copy, Debug)]
 pub struct Place {
     pub key: Key,
@@ -177,7 +178,7 @@ pub struct Place {
 }
 
 impl Place {
-    /// The refusal of the entry by a fault.
+    /// The refusal of the entry for a fault.
     pub fn refusal(self, fault: EntryFault) -> TableError
         ensures { result ≡ Entry self.key self.index fault }
     {

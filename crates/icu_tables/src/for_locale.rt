@@ -1,4 +1,4 @@
-//! The tables of a text, of which what other locales are asked for isn't kept.
+//! The tables of a text for one locale: entries of other locales aren't kept.
 
 ghost use Rattle.std.specs.Prelude.{◌≡◌, IfOk, OnOk, Some, option_map};
 ghost use Rattle.json.specs.Value.{value_view};
@@ -11,7 +11,7 @@ use crate::borrowed::{Unread, owned};
 use crate::digits::SystemDigits;
 use crate::entries::FromEntry;
 use crate::error::{Key, Place, TableError};
-use crate::named::Filed;
+use crate::named::NamedEntry;
 use crate::tables::Tables;
 use icu_decimal_data::{CompactPatterns, DecimalSymbols};
 use icu_pattern::SinglePlaceholder;
@@ -24,14 +24,14 @@ use std::marker::Model;
 /// How deep the values under the keys of a document may nest.
 const MOST_NESTED: usize = 126;
 
-/// What the members of a document that were read so far say.
+/// What is kept of the members of a document that were read so far.
 #[derive(Drop)]
 struct Found {
-    symbols: Option<Vec<Filed<DecimalSymbols>>>,
+    symbols: Option<Vec<NamedEntry<DecimalSymbols>>>,
     digits: Option<Vec<SystemDigits>>,
-    rules: Option<Vec<Filed<PluralRules>>>,
-    short: Option<Vec<Filed<CompactPatterns<SinglePlaceholder>>>>,
-    long: Option<Vec<Filed<CompactPatterns<SinglePlaceholder>>>>,
+    rules: Option<Vec<NamedEntry<PluralRules>>>,
+    short: Option<Vec<NamedEntry<CompactPatterns<SinglePlaceholder>>>>,
+    long: Option<Vec<NamedEntry<CompactPatterns<SinglePlaceholder>>>>,
 }
 
 impl Model for Found {
@@ -49,7 +49,7 @@ impl Model for Found {
     } };
 }
 
-/// Those of the entries under a key that may answer what is asked in a locale.
+/// The entries under a key that may answer a request in a locale.
 fn served<T: FromEntry + Drop>(
     alloc: Global,
     locale: &DataLocale,
@@ -74,7 +74,7 @@ fn served<T: FromEntry + Drop>(
     Ok(found)
 }
 
-/// The same, under a key that wasn't met before.
+/// The same, for a key that wasn't met before.
 fn once<T: FromEntry + Drop>(
     alloc: Global,
     locale: &DataLocale,
@@ -92,7 +92,7 @@ fn once<T: FromEntry + Drop>(
     Ok(())
 }
 
-/// What one member more says.
+/// Adds what is kept of one more member.
 fn add(
     alloc: Global,
     locale: &DataLocale,
@@ -116,7 +116,7 @@ fn add(
     }
 }
 
-/// What all members say that are left.
+/// What is kept of all members that are left.
 fn members(alloc: Global, locale: &DataLocale, reader: &mut Reader<'_>) -> Result<Found, Unread>
     ensures { IfOk result (λ f. (ds : Members) × Holds locale.now ds f
         × AreMembersOf reader.old ds reader.new) }
@@ -135,7 +135,7 @@ fn members(alloc: Global, locale: &DataLocale, reader: &mut Reader<'_>) -> Resul
     Ok(found)
 }
 
-/// What the members of the object say that a text is.
+/// What is kept of the object that a text is.
 fn document(alloc: Global, locale: &DataLocale, text: &str) -> Result<Found, Unread>
     ensures { IfOk result (λ f. (ds : Members) × Holds locale.now ds f
         × (read text.now ≡ Some (object ds))) }
@@ -152,7 +152,7 @@ fn document(alloc: Global, locale: &DataLocale, text: &str) -> Result<Found, Unr
     Ok(found)
 }
 
-/// The tables of a text in which nothing is refused, and nothing rare.
+/// The tables of a text, if nothing in it is refused or rare.
 fn tables(alloc: Global, locale: &DataLocale, text: &str) -> Result<Tables, Unread>
     ensures { IfOk result (λ t. IsFor locale.now t (tables_of text.now)) }
 {
@@ -172,11 +172,13 @@ fn tables(alloc: Global, locale: &DataLocale, text: &str) -> Result<Tables, Unre
 impl Tables {
     ghost use Rattle.icu_tables.specs.ForLocale.{GivesFor};
 
-    /// The tables of a JSON text for one locale, or the first fault that is met in the text (this project's own).
+    /// The tables of a JSON text for one locale, or the first fault of the text (this project's
+    /// own).
     ///
-    /// The whole text is judged, as by [`Tables::from_json`]: the same texts are refused, for the same reasons. By each
-    /// identifier of the locale the tables answer as those of the whole text do, and digits in whatever locale; what they
-    /// answer in other locales isn't said. They take the memory of this locale alone.
+    /// The whole text is judged, as by [`Tables::from_json`]: the same texts are refused, for the
+    /// same faults. For each identifier of the locale the tables answer what those of the whole
+    /// text answer, and for digits in any locale. What they answer in other locales isn't
+    /// specified: unless the text has something rare, entries of other locales aren't kept.
     pub fn from_json_for_locale(
         alloc: Global,
         text: &str,

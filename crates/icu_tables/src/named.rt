@@ -1,4 +1,4 @@
-//! The names that entries are given under: locales and numbering systems.
+//! The names of entries: locales and numbering systems.
 
 ghost use Rattle.std.specs.Prelude.{◌≡◌, nat_eq, option_map};
 ghost use Rattle.std.specs.Cmp.Lexicographic.{pointwise};
@@ -75,7 +75,7 @@ pub fn name_of(place: Place, locale: &str, system: Option<&str>) -> Result<Name,
 }
 
 impl Name {
-    /// What the data under this name is asked by.
+    /// The identifier of the data under this name.
     fn identifier(&self) -> DataIdentifierBorrowed<'_>
         ensures { identifier_of result ≡ self.now }
     {
@@ -90,7 +90,7 @@ impl Name {
 }
 
 impl Name {
-    /// Whether the data under this name is of the locale, in whatever numbering system.
+    /// Whether the data under this name is of the locale, in any numbering system.
     pub fn is_of(&self, locale: &DataLocale) -> bool
         ensures { result ≡ pointwise nat_eq locale.now self.now.locale }
     {
@@ -100,13 +100,13 @@ impl Name {
 
 /// Data under a name.
 #[derive(Drop)]
-pub struct Filed<T> {
+pub struct NamedEntry<T> {
     pub name: Name,
     pub content: T,
 }
 
-impl<T> Model for Filed<T> {
-    ghost use Rattle.icu_tables.specs.Named.{Filed as FiledData};
+impl<T> Model for NamedEntry<T> {
+    ghost use Rattle.icu_tables.specs.Named.{NamedEntry as FiledData};
 
     ghost Value = { FiledData T };
 
@@ -115,7 +115,10 @@ impl<T> Model for Filed<T> {
 
 /// The data of the first entry with an identifier.
 #[tactic(auto, unfolding(crate::specs::Named::first_filed))]
-pub fn first_filed<'a, T>(entries: &'a [Filed<T>], id: &DataIdentifierBorrowed<'_>) -> Option<&'a T>
+pub fn first_filed<'a, T>(
+    entries: &'a [NamedEntry<T>],
+    id: &DataIdentifierBorrowed<'_>,
+) -> Option<&'a T>
     ensures { option_map (λ x. x.now) result ≡ first_filed (identifier_of id.now) entries.now }
 {
     for entry in entries {

@@ -1,17 +1,17 @@
-//! Patterns as they are spelled: `{0}` marks the place.
+//! Patterns as they are spelled: `{0}` is the placeholder.
 
 ghost use Rattle.std.specs.Prelude.{◌≡◌, ◌++◌, IfOk, IsOkUnless, option_map, string_bytes, true, length, Some, None};
-ghost use Rattle.icu_pattern.specs.Patterns.{has_fitting_place};
+ghost use Rattle.icu_pattern.specs.Patterns.{has_fitting_placeholder};
 ghost use Rattle.icu_tables.specs.Reading.{Gives};
-ghost use Rattle.icu_tables.specs.Spelling.{cut, pattern_of, optional_pattern_of};
+ghost use Rattle.icu_tables.specs.Spelling.{split_at_placeholder, pattern_of, optional_pattern_of};
 
 use crate::error::{EntryFault, Place, TableError};
 use icu_pattern::{Pattern, PatternError, SinglePlaceholder};
 use std::alloc::{AllocError, Global};
 
-/// What stands before the first `{0}`, and what stands after it.
-fn cut(text: &str) -> Option<(&str, &str)>
-    ensures { option_map (λ p. (p.0.now, p.1.now)) result ≡ cut text.now }
+/// The texts before and after the first `{0}`.
+fn split_at_placeholder(text: &str) -> Option<(&str, &str)>
+    ensures { option_map (λ p. (p.0.now, p.1.now)) result ≡ split_at_placeholder text.now }
 {
     text.split_once("{0}")
 }
@@ -25,14 +25,15 @@ fn joined(alloc: Global, before: &str, after: &str) -> Result<String, AllocError
     Ok(text)
 }
 
-/// The pattern of a place that fits.
+/// The pattern of a placeholder that fits.
 fn fitting(
     alloc: Global,
     place: Option<usize>,
     literal: &str,
 ) -> Result<Pattern<SinglePlaceholder>, TableError>
-    requires { has_fitting_place (record { place = place; literal = literal.now }) ≡ true }
-    ensures given { IfOk result (λ p. p ≡ record { place = place; literal = literal.now }) }
+    requires { has_fitting_placeholder (record { placeholder = place; literal = literal.now })
+        ≡ true }
+    ensures given { IfOk result (λ p. p ≡ record { placeholder = place; literal = literal.now }) }
     ensures memory { IsOkUnless result TableError.OutOfMemory }
 {
     match Pattern::try_new(alloc, place, literal) {
@@ -42,22 +43,22 @@ fn fitting(
     }
 }
 
-/// The pattern with a place between two texts.
-#[tactic(auto, using(crate::proofs::Cuts::boundary_between))]
+/// The pattern with a placeholder between two texts.
+#[tactic(auto, using(crate::proofs::Splits::boundary_between))]
 fn around(
     alloc: Global,
     before: &str,
     after: &str,
 ) -> Result<Pattern<SinglePlaceholder>, TableError>
     ensures given { IfOk result (λ p.
-        p ≡ record { place = Some (length before.now); literal = before.now ++ after.now }) }
+        p ≡ record { placeholder = Some (length before.now); literal = before.now ++ after.now }) }
     ensures memory { IsOkUnless result TableError.OutOfMemory }
 {
     let literal = joined(alloc, before, after)?;
     fitting(alloc, Some(before.len()), literal.as_str())
 }
 
-/// The pattern of a text; refused where it has more than one place.
+/// The pattern of a text; refused if it has more than one placeholder.
 #[tactic(auto, unfolding(crate::specs::Spelling::pattern_of))]
 pub fn pattern_of(
     alloc: Global,
@@ -66,10 +67,10 @@ pub fn pattern_of(
 ) -> Result<Pattern<SinglePlaceholder>, TableError>
     ensures { Gives (λ x. x) result (pattern_of place text.now) }
 {
-    let Some((before, after)) = cut(text) else {
+    let Some((before, after)) = split_at_placeholder(text) else {
         return fitting(alloc, None, text);
     };
-    if cut(after).is_some() {
+    if split_at_placeholder(after).is_some() {
         return Err(place.refusal(EntryFault::BadPlace));
     }
     around(alloc, before, after)

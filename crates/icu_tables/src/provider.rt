@@ -6,7 +6,7 @@ ghost use Rattle.icu_provider.specs.Identifier.{identifier_of};
 ghost use Rattle.icu_tables.specs.Answering.{filed_answer, optional_answer, system_answer};
 
 use crate::digits::first_digits;
-use crate::named::{Filed, first_filed};
+use crate::named::{NamedEntry, first_filed};
 use crate::tables::Tables;
 use icu_decimal_data::{
     CompactPatterns, DecimalCompactLongV1, DecimalCompactShortV1, DecimalDigitsV1, DecimalSymbols,
@@ -17,8 +17,9 @@ use icu_plurals::{PluralRules, PluralsCardinalV1};
 use icu_provider::{DataError, DataErrorKind, DataIdentifierBorrowed, DataProvider, DataRequest};
 use std::alloc::Global;
 
-/// What is copied for each answer.
+/// Data that is copied for each answer.
 trait Copied: Sized {
+    /// An equal value with memory of its own.
     fn copied(&self, alloc: Global) -> Result<Self, DataError>
         ensures { Answers result (Ok self.now) };
 }
@@ -53,7 +54,7 @@ impl Copied for CompactPatterns<SinglePlaceholder> {
 /// A copy of the first entry with the identifier.
 fn load_filed<T: Copied>(
     alloc: Global,
-    entries: &[Filed<T>],
+    entries: &[NamedEntry<T>],
     id: &DataIdentifierBorrowed<'_>,
 ) -> Result<T, DataError>
     ensures { Answers result (filed_answer entries.now (identifier_of id.now)) }
@@ -67,7 +68,7 @@ fn load_filed<T: Copied>(
 /// The same under a key that may be absent.
 fn load_optional<T: Copied>(
     alloc: Global,
-    entries: &Option<Vec<Filed<T>>>,
+    entries: &Option<Vec<NamedEntry<T>>>,
     id: &DataIdentifierBorrowed<'_>,
 ) -> Result<T, DataError>
     ensures { Answers result (optional_answer (option_map (λ v. v.items) entries.now)
@@ -84,7 +85,8 @@ impl DataProvider<DecimalSymbolsV1> for Tables {
 
     ghost answer = { λ tables id. filed_answer tables.symbols id };
 
-    /// A copy of the first entry of `symbols` with the identifier's locale and numbering system, or none.
+    /// A copy of the first entry of `symbols` with the identifier's locale and numbering system, or
+    /// none.
     fn load(&self, alloc: Global, request: &DataRequest<'_>) -> Result<DecimalSymbols, DataError> {
         load_filed(alloc, &self.symbols, &request.id)
     }
@@ -95,7 +97,7 @@ impl DataProvider<DecimalDigitsV1> for Tables {
 
     ghost answer = { λ tables id. system_answer tables.digits id.system };
 
-    /// The digits of the first pair of the identifier's numbering system; its locale isn't looked at.
+    /// The digits of the first pair with the identifier's numbering system; its locale is ignored.
     fn load(&self, _alloc: Global, request: &DataRequest<'_>) -> Result<[char; 10], DataError> {
         let digits = match request.id.system() {
             Some(system) => first_digits(&self.digits, system),
@@ -113,7 +115,8 @@ impl DataProvider<PluralsCardinalV1> for Tables {
 
     ghost answer = { λ tables id. optional_answer tables.rules id };
 
-    /// A copy of the first entry of `rules` of the identifier's locale; none for an identifier with a numbering system.
+    /// A copy of the first entry of `rules` with the identifier's locale; none for an identifier
+    /// with a numbering system.
     fn load(&self, alloc: Global, request: &DataRequest<'_>) -> Result<PluralRules, DataError> {
         load_optional(alloc, &self.rules, &request.id)
     }
@@ -124,7 +127,8 @@ impl DataProvider<DecimalCompactShortV1> for Tables {
 
     ghost answer = { λ tables id. optional_answer tables.short id };
 
-    /// A copy of the first entry of `short` with the identifier's locale and numbering system, or none.
+    /// A copy of the first entry of `short` with the identifier's locale and numbering system, or
+    /// none.
     fn load(
         &self,
         alloc: Global,
@@ -139,7 +143,8 @@ impl DataProvider<DecimalCompactLongV1> for Tables {
 
     ghost answer = { λ tables id. optional_answer tables.long id };
 
-    /// A copy of the first entry of `long` with the identifier's locale and numbering system, or none.
+    /// A copy of the first entry of `long` with the identifier's locale and numbering system, or
+    /// none.
     fn load(
         &self,
         alloc: Global,

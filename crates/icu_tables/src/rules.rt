@@ -9,7 +9,7 @@ ghost use Rattle.icu_tables.specs.Rules.{category_named, given_rule_in, given_ru
 use crate::entries::FromEntry;
 use crate::error::{EntryFault, Key, Place, TableError};
 use crate::fields::{list_at, object_in, pair_in, text_at, text_in};
-use crate::named::{Filed, name_of};
+use crate::named::{NamedEntry, name_of};
 use icu_plurals::{PluralCategory, PluralRules, RulesError};
 use icu_provider::DataLocale;
 use serde_json::Value;
@@ -76,7 +76,7 @@ fn rules_of(
     }
 }
 
-impl FromEntry for Filed<PluralRules> {
+impl FromEntry for NamedEntry<PluralRules> {
     ghost use Rattle.icu_tables.specs.Rules.{rules_at};
     ghost use Rattle.icu_tables.specs.Named.{is_of};
 
@@ -92,7 +92,7 @@ impl FromEntry for Filed<PluralRules> {
         let given = given_rules_in(alloc, rules)?;
         let name = name_of(place, locale, None)?;
         let content = rules_of(alloc, place, &given)?;
-        Ok(Filed { name, content })
+        Ok(NamedEntry { name, content })
     }
 
     fn serves(&self, locale: &DataLocale) -> bool {

@@ -11,7 +11,7 @@ use crate::error::{EntryFault, Key, Place, TableError};
 use crate::fields::{
     byte_in, member_at, object_in, optional_text_at, text_at, texts_at, triple_in,
 };
-use crate::named::{Filed, name_of};
+use crate::named::{NamedEntry, name_of};
 use icu_decimal_data::{DecimalSymbolStrsBuilder, DecimalSymbols, GroupingSizes, SymbolsError};
 use icu_provider::DataLocale;
 use serde_json::Value;
@@ -26,6 +26,7 @@ struct SymbolFields<'a> {
     grouping_sizes: GroupingSizes,
 }
 
+/// The sizes of groups.
 #[tactic(auto, unfolding(crate::specs::Symbols::sizes_at))]
 fn sizes_at(value: &Value) -> Result<GroupingSizes, TableError>
     ensures { Gives (λ x. x) result (sizes_at (view value.now)) }
@@ -41,6 +42,7 @@ fn sizes_at(value: &Value) -> Result<GroupingSizes, TableError>
     })
 }
 
+/// The seven texts.
 #[tactic(auto, unfolding(crate::specs::Symbols::strings_at))]
 fn strings_at(value: &Value) -> Result<DecimalSymbolStrsBuilder<'_>, TableError>
     ensures { Gives texts_given result (strings_at (view value.now)) }
@@ -58,6 +60,7 @@ fn strings_at(value: &Value) -> Result<DecimalSymbolStrsBuilder<'_>, TableError>
     })
 }
 
+/// The fields of an entry.
 #[tactic(auto, unfolding(crate::specs::Symbols::symbol_fields_at))]
 fn symbol_fields_at(value: &Value, key: Key) -> Result<SymbolFields<'_>, TableError>
     ensures { Gives (λ f. record {
@@ -77,6 +80,7 @@ fn symbol_fields_at(value: &Value, key: Key) -> Result<SymbolFields<'_>, TableEr
     })
 }
 
+/// The symbols, if the texts are accepted.
 #[tactic(auto, unfolding(crate::specs::Symbols::symbols_of))]
 fn symbols_of(
     alloc: Global,
@@ -99,7 +103,7 @@ fn symbols_of(
     }
 }
 
-impl FromEntry for Filed<DecimalSymbols> {
+impl FromEntry for NamedEntry<DecimalSymbols> {
     ghost use Rattle.icu_tables.specs.Symbols.{symbols_at};
     ghost use Rattle.icu_tables.specs.Named.{is_of};
 
@@ -112,7 +116,7 @@ impl FromEntry for Filed<DecimalSymbols> {
         let fields = symbol_fields_at(value, place.key)?;
         let name = name_of(place, fields.locale, fields.system)?;
         let content = symbols_of(alloc, place, &fields.strings, fields.grouping_sizes)?;
-        Ok(Filed { name, content })
+        Ok(NamedEntry { name, content })
     }
 
     fn serves(&self, locale: &DataLocale) -> bool {

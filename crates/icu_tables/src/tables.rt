@@ -9,7 +9,7 @@ use crate::digits::SystemDigits;
 use crate::entries::{FromEntry, entries};
 use crate::error::{Key, TableError};
 use crate::fields::{list_in, member_at, object_in};
-use crate::named::Filed;
+use crate::named::NamedEntry;
 use crate::whole_numbers::has_float;
 use icu_decimal_data::{CompactPatterns, DecimalSymbols};
 use icu_pattern::SinglePlaceholder;
@@ -18,15 +18,16 @@ use serde_json::Value;
 use std::alloc::Global;
 use std::marker::Model;
 
-/// The data of formatters, read from a JSON document (this project's own format, `docs/FORMATS.md`): symbols, digits,
-/// plural rules and compact patterns, each entry by its locale or numbering system.
+/// The data of formatters, read from a JSON document (this project's own format,
+/// `docs/FORMATS.md`): symbols, digits, plural rules and compact patterns, each entry by its locale
+/// or numbering system.
 #[derive(Drop)]
 pub struct Tables {
-    pub(crate) symbols: Vec<Filed<DecimalSymbols>>,
+    pub(crate) symbols: Vec<NamedEntry<DecimalSymbols>>,
     pub(crate) digits: Vec<SystemDigits>,
-    pub(crate) rules: Option<Vec<Filed<PluralRules>>>,
-    pub(crate) short: Option<Vec<Filed<CompactPatterns<SinglePlaceholder>>>>,
-    pub(crate) long: Option<Vec<Filed<CompactPatterns<SinglePlaceholder>>>>,
+    pub(crate) rules: Option<Vec<NamedEntry<PluralRules>>>,
+    pub(crate) short: Option<Vec<NamedEntry<CompactPatterns<SinglePlaceholder>>>>,
+    pub(crate) long: Option<Vec<NamedEntry<CompactPatterns<SinglePlaceholder>>>>,
 }
 
 impl Model for Tables {
@@ -100,12 +101,13 @@ fn tables_at(alloc: Global, value: &Value) -> Result<Tables, TableError>
 }
 
 impl Tables {
-    /// The tables of a JSON text, or the first fault that is met in it.
+    /// The tables of a JSON text, or its first fault.
     ///
-    /// A text that isn't JSON is refused first, then a value in which a number isn't a whole one of 64 bits, wherever it
-    /// stands; then keys are judged in the order `symbols`, `digits`, `rules`, `short`, `long`, and of each list entry by
-    /// entry. Of an entry the kinds of all its fields are judged before what they say. Unknown keys are ignored, and of
-    /// equal keys the last one counts.
+    /// A text that isn't JSON is refused first, then a value that has a number anywhere that isn't
+    /// a 64-bit whole number. Then keys are judged in the order `symbols`, `digits`, `rules`,
+    /// `short`, `long`, and each list entry by entry. In an entry the kinds of all fields are
+    /// judged before their contents. Unknown keys are ignored, and of equal keys the last one
+    /// counts.
     #[tactic(auto, unfolding(crate::specs::Tables::tables_of, crate::specs::Tables::tables_in))]
     pub fn from_json(alloc: Global, text: &str) -> Result<Tables, TableError>
         ensures { Gives (λ x. x) result (tables_of text.now) }

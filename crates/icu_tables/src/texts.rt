@@ -1,7 +1,7 @@
 //! The texts of patterns for plural categories, and their patterns.
 
 ghost use Rattle.serde_json.specs.View.{view};
-ghost use Rattle.icu_tables.specs.Compact.{first_patterns_of, with_one_and_two, with_few_and_many, patterns_of, optional_patterns_of, texts_in};
+ghost use Rattle.icu_tables.specs.Compact.{first_patterns_of, with_one_and_two, with_few_and_many, patterns_of, optional_patterns_of, category_texts_in};
 ghost use Rattle.icu_tables.specs.Reading.{Gives, optional_at};
 ghost use Rattle.std.specs.Prelude.{option_map};
 
@@ -46,9 +46,9 @@ impl<'a> Model for Texts<'a> {
 }
 
 /// The texts of an object.
-#[tactic(auto, unfolding(crate::specs::Compact::texts_in))]
-pub fn texts_in(value: &Value, key: Key) -> Result<Texts<'_>, TableError>
-    ensures { Gives (λ x. x) result (texts_in key (view value.now)) }
+#[tactic(auto, unfolding(crate::specs::Compact::category_texts_in))]
+pub fn category_texts_in(value: &Value, key: Key) -> Result<Texts<'_>, TableError>
+    ensures { Gives (λ x. x) result (category_texts_in key (view value.now)) }
 {
     let value = object_in(value, key)?;
     let other = text_at(value, Key::Other)?;
@@ -67,10 +67,10 @@ pub fn texts_in(value: &Value, key: Key) -> Result<Texts<'_>, TableError>
 /// The texts under a key that may be absent.
 #[tactic(auto, unfolding(crate::specs::Reading::optional_at))]
 pub fn optional_texts_at(value: &Value, key: Key) -> Result<Option<Texts<'_>>, TableError>
-    ensures { Gives (λ x. x) result (optional_at (texts_in key) key (view value.now)) }
+    ensures { Gives (λ x. x) result (optional_at (category_texts_in key) key (view value.now)) }
 {
     match value.get(key.name()) {
-        Some(member) => Ok(Some(texts_in(member, key)?)),
+        Some(member) => Ok(Some(category_texts_in(member, key)?)),
         None => Ok(None),
     }
 }
@@ -78,7 +78,7 @@ pub fn optional_texts_at(value: &Value, key: Key) -> Result<Option<Texts<'_>>, T
 /// Patterns for plural categories.
 pub type Patterns = PluralElements<Pattern<SinglePlaceholder>>;
 
-/// The patterns for all other numbers, for exactly zero and one, and of the category zero.
+/// The patterns of the categories other and zero, and those for exactly zero and one.
 #[tactic(auto, unfolding(crate::specs::Compact::first_patterns_of))]
 fn first_patterns_of(alloc: Global, place: Place, texts: &Texts<'_>) -> Result<Patterns, TableError>
     ensures { Gives (λ x. x) result (first_patterns_of place texts.now) }

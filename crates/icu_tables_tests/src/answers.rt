@@ -1,13 +1,13 @@
 //! What tables answer as a provider.
 
-use icu_base::{
-    DataError, DataErrorKind, DataIdentifierBorrowed, DataLocale, DataProvider, DataRequest,
-    PluralsCardinalV1,
-};
 use icu_decimal_data::{
     CompactPatterns, DecimalCompactLongV1, DecimalCompactShortV1, DecimalDigitsV1, DecimalSymbolsV1,
 };
 use icu_pattern::SinglePlaceholder;
+use icu_plurals::PluralsCardinalV1;
+use icu_provider::{
+    DataError, DataErrorKind, DataIdentifierBorrowed, DataLocale, DataProvider, DataRequest,
+};
 use icu_tables::Tables;
 use std::alloc::Global;
 
@@ -46,8 +46,8 @@ fn first_character(table: &CompactPatterns<SinglePlaceholder>) -> char {
     }
 }
 
-/// What is told of an answer: the decimal separator of symbols, that digits are Latin, that there are
-/// rules, or the first character of a table's first literal.
+/// What identifies an answer: the decimal separator of symbols, that digits are Latin, that there
+/// are rules, or the first character of a table's first literal.
 fn told(
     alloc: Global,
     tables: &Tables,

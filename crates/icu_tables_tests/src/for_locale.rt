@@ -2,7 +2,7 @@
 
 use crate::answers::{Asked, told_for};
 use crate::documents::REFUSED;
-use icu_base::{DataError, DataErrorKind, DataLocale};
+use icu_provider::{DataError, DataErrorKind, DataLocale};
 use icu_tables::{TableError, Tables};
 use std::alloc::Global;
 
@@ -104,7 +104,8 @@ fn texts_are_refused_as_for_all_locales(rt: HostRuntime) {
     }
 }
 
-/// Texts that are read, with what is rare: a key twice, of which the last counts, and numbers that no table has.
+/// Texts that are read, with something rare: a key twice, of which the last counts, and numbers
+/// that no table has.
 const RARE: [&str; 5] = [
     "{\"symbols\":[0],\"symbols\":[],\"digits\":[]}",
     "{\"digits\":[],\"symbols\":[],\"short\":0,\"short\":[]}",

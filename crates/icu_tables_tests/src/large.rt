@@ -128,7 +128,8 @@ fn push_number(text: &mut Vec<u8>, number: usize) -> Result<(), AllocError> {
     Ok(())
 }
 
-/// What stands before a list, before and behind the number of each of its entries, and behind the list.
+/// What stands before a list, before and behind the number of each of its entries, and behind the
+/// list.
 type List = (&'static str, &'static str, &'static str, &'static str);
 
 /// Puts a list of so many entries behind a text.
@@ -191,7 +192,7 @@ const EVERY_KEY: [List; 5] = [
     ),
 ];
 
-/// Whether what is asked of a document with fifty entries under each key is answered by a character.
+/// Whether a request to a document with fifty entries under each key is answered by this character.
 fn answers_of_fifty(alloc: Global, asked: Asked, id: (&str, &str), want: char) -> bool {
     match lists(alloc, &EVERY_KEY, 50) {
         Ok(bytes) => {

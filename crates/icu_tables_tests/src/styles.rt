@@ -1,4 +1,5 @@
-//! Errors and keys under a width, a fill, a precision and the alternate form: the same characters, unpadded.
+//! Errors and keys under a width, a fill, a precision and the alternate form: the same characters,
+//! unpadded.
 
 use icu_tables::{EntryFault, Key, TableError};
 use std::alloc::{AllocError, Global};

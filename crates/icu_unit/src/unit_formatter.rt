@@ -6,20 +6,19 @@ ghost use Rattle.icu_decimal.specs.WritesSuch.{KeepsLimitSuch, WritesSuch};
 ghost use Rattle.icu_unit.specs.Unit.{unit_events};
 
 use fixed_decimal::{Decimal, Sign};
-use icu_base::{
-    EventWriter, PartsWrite, Pattern, PluralElements, PluralRules, SinglePlaceholder, WriteFault,
-    Writeable,
-};
 use icu_decimal::error::FormatError;
 use icu_decimal::{AbstractFormatter, Characters, Frame, ShownNumber};
+use icu_pattern::{Pattern, SinglePlaceholder};
+use icu_plurals::{PluralElements, PluralRules};
 use std::alloc::Global;
 use std::marker::Model;
+use writeable::{EventWriter, PartsWrite, WriteFault, Writeable};
 
-/// Writes numbers with a unit, as `1.0 meters`: the sign's affixes around the pattern that the number's plural operands
-/// pick, with the number in its place.
+/// Writes numbers with a unit, as `1.0 meters`: the sign's affixes around the pattern that the
+/// number's plural operands pick, with the number in its place.
 ///
-/// It stands on what [`AbstractFormatter`] promises of every formatter, so numbers may be plain or compact: `1000 meters`,
-/// `1K meters`.
+/// It uses only what [`AbstractFormatter`] promises for every formatter, so numbers may be plain or
+/// compact: `1000 meters`, `1K meters`.
 #[derive(Drop)]
 pub struct UnitFormatter<F> {
     formatter: F,
@@ -40,8 +39,8 @@ impl<F> Model for UnitFormatter<F> {
 }
 
 impl<F: AbstractFormatter> UnitFormatter<F> {
-    /// The formatter of numbers with this unit: its elements are the patterns of the unit, by the plural category of the
-    /// number as it is shown.
+    /// The formatter of numbers with this unit: its elements are the patterns of the unit, by the
+    /// plural category of the number as it is shown.
     pub fn new(
         formatter: F,
         rules: PluralRules,
@@ -58,9 +57,10 @@ impl<F: AbstractFormatter> UnitFormatter<F> {
 
     /// Writes the number with its unit: characters, and the parts of the sign alone.
     ///
-    /// The number is rounded once, before anything is written. So after `Overflow` and `OutOfMemory` the sink is as it was;
-    /// and `Sink` is answered only where the sink failed in this call, and it then holds a beginning of the events
-    /// besides. `Overflow` exactly where the formatter overflows.
+    /// The number is rounded once, before anything is written. So after `Overflow` and
+    /// `OutOfMemory` the sink is unchanged. `Sink` only where the sink failed in this call, and it
+    /// then holds a beginning of the events besides. `Overflow` exactly where the formatter
+    /// overflows.
     pub fn write<S: PartsWrite>(
         &self,
         alloc: Global,

@@ -1,4 +1,5 @@
-//! Amounts of money: the name of a currency is a unit's, and its form is picked by the number that is shown.
+//! Amounts of money: the name of a currency is a unit's, and its form is picked by the number that
+//! is shown.
 
 use crate::making::{Language, Name};
 use crate::writing::{Numbers, Unit, is_written};

@@ -1,4 +1,5 @@
-//! What the contract says of the plain formatter and of the compact one: two proved callers that rest on it alone.
+//! What the contract says of the plain formatter and of the compact one: two proved callers that
+//! rest on it alone.
 
 ghost use Rattle.std.specs.Prelude.{◌≡◌, ◌↔◌, IsErrOf};
 ghost use Rattle.fixed_decimal.specs.Size.{size};
@@ -8,11 +9,11 @@ ghost use Rattle.icu_decimal.specs.WritesSuch.{WritesSuch};
 ghost use Rattle.icu_unit.specs.Unit.{unit_events};
 
 use fixed_decimal::Decimal;
-use icu_base::PartsWrite;
 use icu_decimal::error::FormatError;
 use icu_decimal::{CompactDecimalFormatter, DecimalFormatter};
 use icu_unit::UnitFormatter;
 use std::alloc::Global;
+use writeable::PartsWrite;
 
 /// Over a plain formatter, the number is its digits as they are given, and it never overflows.
 pub(crate) fn write_plain<S: PartsWrite>(

@@ -50,7 +50,8 @@ fn grouped(alloc: Global, shown: (u8, usize), behind: &str) -> Result<Vec<u8>, A
     }
 }
 
-/// Whether a unit writes the number of so many equal digits as these of them in groups, and a text behind them.
+/// Whether a unit writes a number of so many equal digits as these digits in groups, and this text
+/// behind them.
 fn writes_grouped(
     alloc: Global,
     unit: Unit,
@@ -69,7 +70,8 @@ fn writes_grouped(
     }
 }
 
-/// A unit, a digit, how often it stands in the number, and how often in what is written; and what is behind it there.
+/// A unit, a digit, how often it stands in the number and how often in the text, and what stands
+/// behind it there.
 const LONG: [(Unit, u8, usize, usize, &str); 6] = [
     (PLAIN_METRES, b'9', 1001, 1001, " meters"),
     (PLAIN_METRES, b'9', 32768, 32768, " meters"),

@@ -1,4 +1,5 @@
-//! Tables that are as large as they may be: symbols of 255 bytes, a rule for each category, and an entry for each type.
+//! Tables that are as large as they may be: symbols of 255 bytes, a rule for each category, and an
+//! entry for each type.
 
 use crate::loaded::{Style, compact_by, plain_by};
 use fixed_decimal::Decimal;
@@ -33,7 +34,8 @@ fn push_number(text: &mut Vec<u8>, number: usize) -> Result<(), AllocError> {
     Ok(())
 }
 
-/// Puts every type as its own exponent behind a text, with patterns that change from each to the next.
+/// Puts an entry for every type, with the type as its exponent and patterns that change from each
+/// to the next, behind a text.
 fn push_types(text: &mut Vec<u8>) -> Result<(), AllocError> {
     for log10_type in 0..256 {
         text.extend_from_slice(if log10_type > 0 { b",[" } else { b"[" })?;

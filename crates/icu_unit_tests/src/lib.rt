@@ -1,5 +1,5 @@
-//! The tests of icu_unit's public calls, and of icu_decimal's formatters, with tables read from JSON; the library itself
-//! offers nothing.
+//! The tests of icu_unit's public calls, and of icu_decimal's formatters, with tables read from
+//! JSON; the library itself offers nothing.
 #![tactic(auto)]
 
 #[cfg(test)]

@@ -1,17 +1,18 @@
-//! Formatters whose tables are read from JSON: carries, significands with an exponent, and the exponent of each magnitude.
+//! Formatters whose tables are read from JSON: carries, significands with an exponent, and the
+//! exponent of each magnitude.
 
 use fixed_decimal::Decimal;
-use icu_base::DataLocale;
 use icu_decimal::options::{CompactDecimalFormatterOptions, DecimalFormatterOptions};
 use icu_decimal::preferences::{CompactDecimalFormatterPreferences, DecimalFormatterPreferences};
 use icu_decimal::{CompactDecimalFormatter, DecimalFormatter};
+use icu_provider::DataLocale;
 use icu_tables::Tables;
 use sample_tables::SAMPLE;
 use std::alloc::Global;
 use std::fmt::Display;
 
-/// Words of ten thousand that begin at a hundred thousand; from a million on words of a hundred thousand; from ten thousand
-/// millions on thousands of millions.
+/// Words for ten thousand from a hundred thousand on, for a hundred thousand from a million on, and
+/// for thousands of millions from ten thousand millions on.
 const CARRYING: &str = "{\"symbols\":[\
 {\"locale\":\"words\",\"minus\":[\"-\",\"\"],\"plus\":[\"+\",\"\"],\"decimal\":\".\",\"group\":\",\",\"numsys\":\"latn\",\"sizes\":[3,3,1]},\
 {\"locale\":\"lakhs\",\"minus\":[\"-\",\"\"],\"plus\":[\"+\",\"\"],\"decimal\":\".\",\"group\":\",\",\"numsys\":\"latn\",\"sizes\":[3,3,1]},\
@@ -136,7 +137,8 @@ fn gives(alloc: Global, asked: Asked, given: (&str, u8), wanted: (bool, &str)) -
     gives_once(alloc, asked, given, wanted) || gives_once(alloc, asked, given, wanted)
 }
 
-/// A number that is rounded up, the size that is shown of it, its significand and exponent, and the text of all three.
+/// A number that is rounded up, its shown size, the significand and the exponent, and the text of
+/// all three.
 type Carry = (
     Asked,
     &'static str,
@@ -181,7 +183,8 @@ fn a_carry_takes_what_stands_at_the_magnitude_reached(rt: HostRuntime) {
     }
 }
 
-/// A significand, an exponent, whether both are accepted, and what is written of them or of the refusal.
+/// A significand, an exponent, whether both are accepted, and what is written of them or of the
+/// refusal.
 const GIVEN: [(Asked, &str, u8, bool, &str); 9] = [
     (SHORT_ENGLISH, "999", 3, true, "999K"),
     (SHORT_ENGLISH, "0", 3, true, "0K"),

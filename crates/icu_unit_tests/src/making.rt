@@ -1,12 +1,11 @@
-//! Units over the formatters that the tests are made with. None is answered where memory is wanting.
+//! Units over the formatters that the tests are made with. None where memory is refused.
 
-use icu_base::{
-    DataLocale, DataProvider, Pattern, PluralElements, PluralRules, PluralRulesPreferences,
-    SinglePlaceholder,
-};
 use icu_decimal::options::{CompactDecimalFormatterOptions, DecimalFormatterOptions};
 use icu_decimal::preferences::{CompactDecimalFormatterPreferences, DecimalFormatterPreferences};
 use icu_decimal::{AbstractFormatter, CompactDecimalFormatter, DecimalFormatter};
+use icu_pattern::{Pattern, SinglePlaceholder};
+use icu_plurals::{PluralElements, PluralRules, PluralRulesPreferences};
+use icu_provider::{DataLocale, DataProvider};
 use icu_tables::Tables;
 use icu_unit::UnitFormatter;
 use sample_tables::SAMPLE;

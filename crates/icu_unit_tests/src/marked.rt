@@ -1,11 +1,12 @@
-//! The parts of numbers by formatters whose tables are read from JSON, and the signs that are asked for.
+//! The parts of numbers by formatters whose tables are read from JSON, and the signs that are asked
+//! for.
 
 use crate::loaded::{Asked, LAKHS, LONG_FRENCH, SHORT_ENGLISH, compact, plain};
 use crate::writing::holds;
 use fixed_decimal::{Decimal, SignDisplay};
-use icu_base::{Part, PartsText, Writeable};
 use icu_decimal::{CompactDecimalFormatter, parts};
 use std::alloc::Global;
+use writeable::{Part, PartsText, Writeable};
 
 /// A number and which sign it shows.
 type Shown = (&'static str, SignDisplay);

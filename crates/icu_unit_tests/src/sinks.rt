@@ -2,14 +2,14 @@
 
 use crate::units::{PLAIN_METRES, SHORT_METRES};
 use crate::writing::{Unit, is_written};
-use icu_base::Part;
 use icu_decimal::error::FormatError;
 use icu_decimal::parts::MINUS_SIGN;
+use writeable::Part;
 
 const MINUS: &[(usize, usize, Part)] = &[(0, 1, MINUS_SIGN)];
 
-/// The text of -1.5 metres after so many events, for each number that is less than all. A part that isn't closed has no
-/// span.
+/// The text of -1.5 metres in sinks with room for so many events, for each number that is less than
+/// all. A part that isn't closed has no span.
 const PLAIN_BEGINNINGS: [(&str, &[(usize, usize, Part)]); 15] = [
     ("", &[]),
     ("", &[]),

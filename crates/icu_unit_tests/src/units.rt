@@ -3,11 +3,11 @@
 use crate::making::{Language, Name};
 use crate::writing::{Numbers, Unit, is_written, writes_decimal};
 use fixed_decimal::Decimal;
-use icu_base::Part;
 use icu_decimal::error::FormatError;
 use icu_decimal::parts::{MINUS_SIGN, PLUS_SIGN};
 use std::alloc::Global;
 use std::str;
+use writeable::Part;
 
 const METRES: Name = (Some(" meter"), None, " meters");
 

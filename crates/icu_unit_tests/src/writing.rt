@@ -1,12 +1,13 @@
-//! What units are written into, and whether that is as wanted. What was refused memory is asked once more.
+//! What units are written into, and whether that is as wanted. What was refused memory is asked
+//! once more.
 
 use crate::making::{Language, Name, compact, plain};
 use fixed_decimal::Decimal;
-use icu_base::{Part, PartsText};
 use icu_decimal::AbstractFormatter;
 use icu_decimal::error::FormatError;
 use icu_unit::UnitFormatter;
 use std::alloc::Global;
+use writeable::{Part, PartsText};
 
 /// Whether numbers are written in full or compactly.
 #[derive(Clone, Copy, PartialEq, Eq)]

@@ -1,5 +1,5 @@
-//! The tables of `tables/sample.json` as a text, for tests, which read no file. `tests/docs.py` compares the two byte for
-//! byte.
+//! The tables of `tables/sample.json` as a text, for tests, which read no file. `tests/docs.py`
+//! compares the two byte for byte.
 #![tactic(auto)]
 
 /// The whole file.

@@ -28,9 +28,11 @@ use Rattle.decimal_lines.proofs.mode.Mode.TheLaws.{the_loose}
 use Rattle.decimal_lines.specs.declared.mode.Mode.{Mode}
 use Rattle.decimal_lines.specs.contracts.mode.Mode.{the_row, the_type}
 
+-- a mode that is handed over has nothing to tell its caller
 pub mode-Mute : Mute (the_row.exit yes)
 mode-Mute = enum-Mute the_type no ((Mute-flat (λ x w. refl) (λ x. tt), tt), ((Mute-flat (λ x w. refl) (λ x. tt), tt), tt))
 
+-- and so it is of each parameter that is let go, where its type has nothing to tell
 pub told-nothing : {M : Type 1} {𝓤 : Ura M} (𝓛 : Logic 𝓤) (n : ℕ) (s : Slot n) (k : Kept) → ((κs : Lfts n) → Mute ((s.row κs).exit k))
     → Goes 𝓛 n s k (stay_dropped s k)
 told-nothing {M = M} {𝓤 = 𝓤} 𝓛 n s k mute κs x f vs ok = via 𝓤 (sem 𝓛 (left ((s.row κs).exit k) x f))
@@ -38,6 +40,7 @@ told-nothing {M = M} {𝓤 = 𝓤} 𝓛 n s k mute κs x f vs ok = via 𝓤 (sem
     κs).quiet M 𝓤 𝓛 x))
     (𝓛.laws.⇛_intro _)
 
+-- the row of a mode keeps the laws of rows
 pub typed-mode : {M : Type 1} {𝓤 : Ura M} (𝓛 : Logic 𝓤) → Lawful 𝓛 the_row
 typed-mode 𝓛 = loose_lawful the_type the_loose tt 𝓛
 

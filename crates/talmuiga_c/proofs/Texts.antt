@@ -10,10 +10,12 @@ use Rattle.talmuiga_c.specs.Asked.{text_in}
 pub is_no_text : (bytes : List ℕ) → is_utf8 bytes ≡ false → ¬ (IsUtf8 bytes)
 is_no_text bytes e = λ text. absurd (false≢true (sym e ∙ is_utf8-from_IsUtf8 bytes text))
 
+-- bytes that are a text are that text
 pub text_in-text : (bytes : List ℕ) → IsUtf8 bytes → text_in bytes ≡ Some bytes
 unfolding text_in
 text_in-text bytes text = rw (is_utf8-from_IsUtf8 bytes text) refl
 
+-- other bytes are none
 pub text_in-nothing : (bytes : List ℕ) → ¬ (IsUtf8 bytes) → text_in bytes ≡ None
 unfolding text_in
 text_in-nothing bytes no_text = go (is_utf8 bytes) refl
@@ -22,4 +24,5 @@ text_in-nothing bytes no_text = go (is_utf8 bytes) refl
     go true e = absurd (no_text (IsUtf8-from_is_utf8 bytes e))
     go false e = refl
 
+-- what the proofs of functions that take bytes of a caller cite
 pub ruleset texts_in = (text_in-text, text_in-nothing)

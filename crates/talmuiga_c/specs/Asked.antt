@@ -2,15 +2,10 @@
 use Rattle.std.specs.Prelude.{ℕ, List, [], ◌∷◌, Option, Some, None, Result, Err, if◌then◌else◌}
 use Rattle.std.specs.Str.{is_utf8}
 use Rattle.decimal_lines.specs.Making.{mode_of}
-use Rattle.decimal_lines.specs.Words.{WordsData, words_of}
+use Rattle.decimal_lines.specs.Words.{◌>>=◌, WordsData, words_of}
 use Rattle.decimal_lines.specs.declared.mode.Mode.{Mode}
 use Rattle.decimal_lines.specs.declared.mode.StartError.{StartError}
 use Rattle.decimal_lines.specs.declared.mode.StartError.TheVariants.{Tables}
-
-infixl 10 ◌>>=◌
-abbrev pub ◌>>=◌ : {A B : Type 0} → Option A → (A → Option B) → Option B
-None >>= f = None
-(Some x) >>= f = f x
 
 -- the text of some bytes, where they are UTF-8
 unfoldable pub text_in : List ℕ → Option (List ℕ)
@@ -21,7 +16,7 @@ abbrev pub words_in : List ℕ → List ℕ → List ℕ → List ℕ → Option
 words_in locale system style [] = words_of ([] ∷ locale ∷ system ∷ style ∷ [])
 words_in locale system style (b ∷ bs) = words_of ([] ∷ locale ∷ system ∷ style ∷ (b ∷ bs) ∷ [])
 
--- what they ask for, or none where they are others
+-- what they ask for; none for words of another form
 unfoldable pub words_asked : List ℕ → List ℕ → List ℕ → List ℕ → Option WordsData
 words_asked locale system style grouping = do
   locale ← text_in locale

@@ -1,6 +1,6 @@
 -- What a call from C leaves, by its status.
 use Rattle.std.specs.Prelude.{◌≡◌, ℕ, ◌<◌, ◌⊎◌, List, length, Option, Some, None, Result, Ok, Err}
-use Rattle.decimal_lines.specs.Answers.{answer_to}
+use Rattle.decimal_lines.specs.LineAnswers.{answer_to}
 use Rattle.decimal_lines.specs.Filled.{HasRoomLeft, HoldsAllThatFit, HoldsWholeLines, IsFilled}
 use Rattle.decimal_lines.specs.Lines.{output_of}
 use Rattle.decimal_lines.specs.Words.{WordsData}

@@ -1,7 +1,7 @@
 -- What calls with a formatter leave, by their status.
 use Rattle.std.specs.Prelude.{◌≡◌, ℕ, ◌<◌, ◌≤◌, ◌⊎◌, List, length, Option, Some, None, Result, Ok, Err}
 use Rattle.decimal_lines.specs.Alone.{HoldsShown, events_of}
-use Rattle.decimal_lines.specs.Answers.{answer_to}
+use Rattle.decimal_lines.specs.LineAnswers.{answer_to}
 use Rattle.decimal_lines.specs.Progress.{AnswersFirst, NextNeeds}
 use Rattle.decimal_lines.specs.Words.{WordsData}
 use Rattle.decimal_lines.specs.declared.alone.TextError.{TextError}

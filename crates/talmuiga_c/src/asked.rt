@@ -33,7 +33,8 @@ fn words_in<'a>(
     }
 }
 
-/// What four texts ask for: a locale, a numbering system or a hyphen, a style and a strategy or nothing.
+/// What four texts ask for: a locale, a numbering system or a hyphen, a style and a strategy or
+/// nothing.
 ///
 /// `None` where one isn't UTF-8, or is no such word.
 #[tactic(auto, unfolding(crate::specs::Asked::words_asked))]

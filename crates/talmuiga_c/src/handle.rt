@@ -1,4 +1,5 @@
-//! A formatter as C holds it: a pointer to room that C gave, in which a mode lies while the formatter is open.
+//! A formatter as C holds it: a pointer to room that C gave, in which a mode lies while the
+//! formatter is open.
 
 ghost use Rattle.std.specs.Prelude.{◌≡◌, Option};
 ghost use Rattle.decimal_lines.specs.declared.mode.Mode.{Mode};

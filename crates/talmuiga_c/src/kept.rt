@@ -18,7 +18,7 @@ pub struct Reached {
     pub consumed: usize,
     /// How many bytes of the output are written.
     pub written: usize,
-    /// How long the answer is that found no room, or 0.
+    /// The length of the answer that didn't fit, or 0.
     pub needed: usize,
 }
 
@@ -36,7 +36,7 @@ pub fn open_asked(alloc: Global, words: &Words<'_>, tables: &[u8], formatter: &m
     }
 }
 
-/// Formats as many lines in a mode as have room.
+/// Formats as many lines in a mode as fit.
 pub fn format_lines_in(
     alloc: Global,
     mode: &Mode,
@@ -60,7 +60,7 @@ pub fn format_lines_in(
     }
 }
 
-/// Formats one text in a mode, where that has room, and tells how long it is.
+/// Formats one text in a mode, if it fits, and sets its length.
 pub fn format_one_in(
     alloc: Global,
     mode: &Mode,

@@ -1,10 +1,14 @@
-//! Lines of decimals for C: `include/talmuiga.h` says what each function promises, and what its caller owes.
+//! Lines of decimals for C: `include/talmuiga.h` says what each function promises, and what its
+//! caller owes.
 #![tactic(auto)]
 
 mod asked;
 mod formatting;
 mod handle;
+mod judging;
 mod kept;
+mod marked;
+mod output;
 mod status;
 #[cfg(test)]
 mod tests;
@@ -13,8 +17,10 @@ ghost use Rattle.decimal_lines.specs.Plain.{english};
 ghost use Rattle.decimal_lines.specs.declared.mode.Mode.TheVariants.{Plain};
 ghost use Rattle.talmuiga_c.specs.Asked.{words_asked};
 ghost use Rattle.talmuiga_c.specs.Endings.{Ends, IsFormatted};
+ghost use Rattle.talmuiga_c.specs.Faults.{IsJudged};
 ghost use Rattle.talmuiga_c.specs.Handle.{empty, holding};
 ghost use Rattle.talmuiga_c.specs.Kept.{IsAnsweredSoFar, IsShown, Opens, OpensIn, version};
+ghost use Rattle.talmuiga_c.specs.Marked.{IsShownInParts};
 ghost use Rattle.std.specs.Prelude.{◌≡◌, Ok};
 ghost use Rattle.std.specs.Mem.{type_size};
 ghost use Rattle.decimal_lines.specs.contracts.mode.Mode.{the_row};
@@ -24,7 +30,9 @@ use asked::words_asked;
 use decimal_lines::Mode;
 use formatting::{format_asked, format_by};
 use handle::Formatter;
+use judging::judge_in_words;
 use kept::{Reached, format_lines_in, format_one_in, open_asked};
+use marked::{Span, format_parts_in};
 use std::alloc::Global;
 use std::mem;
 
@@ -47,7 +55,8 @@ pub extern "C" fn talmuiga_format_english_sized(
     }
 }
 
-/// Formats all lines of the input by tables, as the words of `decfmt` ask for; an empty strategy is none.
+/// Formats all lines of the input by tables, as the words of `decfmt` ask for; an empty strategy is
+/// none.
 #[unsafe(no_mangle)]
 pub extern "C" fn talmuiga_format_lines_sized(
     alloc: Global,
@@ -119,7 +128,7 @@ pub extern "C" fn talmuiga_formatter_open_sized(
     }
 }
 
-/// Formats as many lines of the input as have room.
+/// Formats as many lines of the input as fit.
 #[unsafe(no_mangle)]
 pub extern "C" fn talmuiga_formatter_format_sized(
     alloc: Global,
@@ -140,7 +149,7 @@ pub extern "C" fn talmuiga_formatter_format_sized(
     status
 }
 
-/// Formats one number, where its text has room, and tells how long that is.
+/// Formats one number, if its text fits, and sets the length of the text.
 #[unsafe(no_mangle)]
 pub extern "C" fn talmuiga_formatter_one_sized(
     alloc: Global,
@@ -160,6 +169,30 @@ pub extern "C" fn talmuiga_formatter_one_sized(
     status
 }
 
+/// Formats one number and tells the parts of its text, each where it has room, and sets the length
+/// of the text and the count of its parts.
+#[unsafe(no_mangle)]
+pub extern "C" fn talmuiga_formatter_parts_sized(
+    alloc: Global,
+    formatter: &mut Formatter,
+    text: &[u8],
+    output: &mut [u8],
+    length: &mut usize,
+    spans: &mut [Span],
+    count: &mut usize,
+) -> u32
+    ghost mode: { Mode }
+    requires open { formatter.old.held ≡ holding mode }
+    ensures shown { IsShownInParts mode text.now output.old output.new length.new spans.old
+        spans.new count.new result }
+    ensures handed_back { formatter.new.held ≡ holding mode }
+{
+    let lent = formatter.lend();
+    let status = format_parts_in(alloc, lent.mode(), text, output, length, spans, count);
+    formatter.back(lent);
+    status
+}
+
 /// Closes a formatter that is open; its room is room again.
 #[unsafe(no_mangle)]
 pub extern "C" fn talmuiga_formatter_close_sized(formatter: &mut Formatter)
@@ -168,6 +201,19 @@ pub extern "C" fn talmuiga_formatter_close_sized(formatter: &mut Formatter)
     ensures closed { formatter.new.held ≡ empty }
 {
     let _mode = formatter.take();
+}
+
+/// Judges tables, and tells in words why they are refused.
+#[unsafe(no_mangle)]
+pub extern "C" fn talmuiga_tables_fault_sized(
+    alloc: Global,
+    tables: &[u8],
+    output: &mut [u8],
+    length: &mut usize,
+) -> u32
+    ensures { IsJudged tables.now output.old output.new length.new result }
+{
+    judge_in_words(alloc, tables, output, length)
 }
 
 /// The number of the version: the first part times 10000, the second times 100, the third.

@@ -12,13 +12,13 @@ pub const DONE: u32 = 0;
 /// Memory was refused.
 pub const OUT_OF_MEMORY: u32 = 1;
 
-/// The words are others.
+/// The words have another form.
 pub const WORDS_REFUSED: u32 = 2;
 
 /// The tables aren't UTF-8, or their text is refused.
 pub const TABLES_REFUSED: u32 = 3;
 
-/// The tables don't say what a formatter of the locale needs.
+/// The tables lack data that a formatter of the locale needs.
 pub const NO_DATA: u32 = 4;
 
 /// The output has room for the first lines only.

@@ -8,12 +8,12 @@ use Rattle.writeable.specs.Events.{digit_events, text_of}
 use Rattle.writeable.specs.Events.Event.{Char}
 use Rattle.writeable.specs.Writes.{text_of-append}
 
--- the digit at an index comes before those after it
+-- the digits from an index on are the one at it and those after it
 pub digit_events-drop : (characters digits : List ℕ) (i : ℕ) → i < length digits →
     digit_events characters (drop i digits) ≡ (Char (get_or characters (get_or digits i 0) 0) ∷ []) ++ digit_events characters (drop (i + 1) digits)
 digit_events-drop characters digits i h = rw (drop_more digits i 0 h) refl
 
--- and behind those before it
+-- the digits up to an index, with the one at it, are those before it and this one
 text_of-digits_more : (characters digits : List ℕ) (i : ℕ) → i < length digits →
     text_of (digit_events characters (take (i + 1) digits)) ≡ text_of (digit_events characters (take i digits))
     ++ encode_utf8 (get_or characters (get_or digits i 0) 0)
@@ -24,7 +24,7 @@ text_of-digits_more characters digits i h =
     ∙ text_of-append (digit_events characters (take i digits)) (Char (get_or characters d 0) ∷ [])
     ∙ ap (λ l. text_of (digit_events characters (take i digits)) ++ l) (append-nil (encode_utf8 (get_or characters d 0)))
 
--- the digits in two parts
+-- the text of digits is that of the digits before an index and of those from it on
 text_of-digits_split : (characters digits : List ℕ) (i : ℕ) →
     text_of (digit_events characters (take i digits)) ++ text_of (digit_events characters (drop i digits)) ≡ text_of (digit_events characters digits)
 text_of-digits_split characters digits i =
@@ -36,7 +36,7 @@ text_of-digits_split characters digits i =
 encode_ascii : (c : ℕ) → c < 128 → encode_utf8 c ≡ c ∷ []
 encode_ascii c h = search (rules, common_steps)
 
--- bytes that grow by the digits before an index and by the one at it
+-- after the text of the digits before an index, the character of the next digit makes that of one digit more
 pub digits_grow : (old out new characters digits : List ℕ) (i : ℕ) → i < length digits →
     out ≡ old ++ text_of (digit_events characters (take i digits)) → new ≡ out ++ text_of (Char (get_or characters (get_or digits i 0) 0) ∷ []) →
     new ≡ old ++ text_of (digit_events characters (take (i + 1) digits))
@@ -46,7 +46,7 @@ digits_grow old out new characters digits i h e f =
     ∙ append_assoc old (text_of (digit_events characters (take i digits))) (encode_utf8 c)
     ∙ ap (λ l. old ++ l) (sym (text_of-digits_more characters digits i h))
 
--- one more digit is written as its character
+-- the same where the character is ASCII and so one byte
 pub ascii_digits_grow : (old out new characters digits : List ℕ) (i : ℕ) → i < length digits → get_or characters (get_or digits i 0) 0 < 128 →
     out ≡ old ++ text_of (digit_events characters (take i digits)) → new ≡ out ++ get_or characters (get_or digits i 0) 0 ∷ [] →
     new ≡ old ++ text_of (digit_events characters (take (i + 1) digits))
@@ -54,7 +54,7 @@ ascii_digits_grow old out new characters digits i h small e f =
     let c = get_or characters (get_or digits i 0) 0 in
     digits_grow old out new characters digits i h e (f ∙ ap (λ l. out ++ l) (sym (append-nil (encode_utf8 c) ∙ encode_ascii c small)))
 
--- the digits before an index and those from it on
+-- the text of the digits before an index and that of those from it on make that of all digits
 pub digits_join : (old mid new characters digits : List ℕ) (i : ℕ) → mid ≡ old ++ text_of (digit_events characters (take i digits)) →
     new ≡ mid ++ text_of (digit_events characters (drop i digits)) → new ≡ old ++ text_of (digit_events characters digits)
 digits_join old mid new characters digits i e f =
@@ -62,7 +62,7 @@ digits_join old mid new characters digits i e f =
     ∙ append_assoc old (text_of (digit_events characters (take i digits))) (text_of (digit_events characters (drop i digits)))
     ∙ ap (λ l. old ++ l) (text_of-digits_split characters digits i)
 
--- a list of one byte
+-- a list of length one is its first item
 pub one_byte : (bytes : List ℕ) → length bytes ≡ 1 → bytes ≡ get_or bytes 0 0 ∷ []
 one_byte [] e = absurd (omega arith)
 one_byte (b ∷ []) e = refl

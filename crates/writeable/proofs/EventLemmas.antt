@@ -8,7 +8,7 @@ use Rattle.std.proofs.lemmas.List.{map-append}
 use Rattle.writeable.specs.Events.{text_events, digit_events, text_of, without_parts, characters}
 use Rattle.writeable.specs.Events.Event.{Char}
 
--- the characters of characters are these
+-- the characters of a list of characters as events
 pub characters-map_Char : (cs : List ℕ) → characters (map Char cs) ≡ cs
 characters-map_Char [] = refl
 characters-map_Char (c ∷ cs) = ap (λ l. c ∷ l) (characters-map_Char cs)
@@ -37,6 +37,7 @@ text_events-append xs ys h = ap (map Char) (chars-append xs ys h) ∙ map-append
 pub text_events-encode : (c : ℕ) → IsScalar c → text_events (encode_utf8 c) ≡ Char c ∷ []
 text_events-encode c h = ap (map Char) (ap chars (sym (append-nil (encode_utf8 c))) ∙ chars-encodes (c ∷ []) (rw h refl))
 
+-- the rules for the events of a text
 pub ruleset text_steps = (text_of-text_events, without_parts-text_events)
 
 -- digits have no parts
@@ -44,4 +45,5 @@ pub without_parts-digit_events : (characters digits : List ℕ) → without_part
 without_parts-digit_events characters [] = refl
 without_parts-digit_events characters (d ∷ ds) = ap (λ l. Char (slice_index characters d) ∷ l) (without_parts-digit_events characters ds)
 
+-- the rule for the events of digits
 pub ruleset digit_steps = (without_parts-digit_events)

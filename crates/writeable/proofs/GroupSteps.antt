@@ -10,19 +10,19 @@ use Rattle.writeable.specs.Groups.{cut, put_before, joined, joined_after}
 use Rattle.writeable.specs.Counted.{IsGap, IsDue, next_size}
 use Rattle.writeable.proofs.Groupings.{is_full, is_full-FirstGroup, FirstGroup-cut}
 
--- before full groups a digit begins a group of its own
+-- before groups of which the first is full, a digit begins a group of its own
 put_before-full : {A : Type 0} (p s : ℕ) (x : A) (gs : List (List A)) → is_full p s gs ≡ true → put_before p s x gs ≡ (x ∷ []) ∷ gs
 put_before-full p s x [] e = refl
 put_before-full p s x (g ∷ []) e = rw e refl
 put_before-full p s x (g ∷ h ∷ gs) e = rw e refl
 
--- and joins a group before them that isn't full
+-- before a group that isn't full, a digit joins this group
 put_before-short : {A : Type 0} (p s : ℕ) (x : A) (h : List A) (gs : List (List A)) → is_full p s gs ≡ true → length h < s →
     put_before p s x (h ∷ gs) ≡ (x ∷ h) ∷ gs
 put_before-short p s x h [] full short = cc
 put_before-short p s x h (g ∷ gs) full short = elim (eqb_tells (length h) s) [ inl t ↦ absurd (omega (arith, t.1)) | inr f ↦ rw f.0 refl ]
 
--- a front of at most the secondary size, before which and after which a group ends, is a group
+-- a front of at most the secondary size is a group where a group ends behind it
 pub cut-append : (p s : ℕ) (g rest : List ℕ) → 0 < p → 0 < s → 0 < length g → length g ≤ s → IsDue p s (length rest) →
     cut p s (g ++ rest) ≡ g ∷ cut p s rest
 cut-append p s [] rest hp hs some few due = absurd (omega arith)
@@ -64,7 +64,7 @@ module _ (p s : ℕ) (ds : List ℕ) (n : ℕ) (hp : 0 < p) (hs : 0 < s) where
           let times : j ≡ k / s * s = omega (arith, div-add-mod' k s) in
           rw times (mul-mod_left (k / s) s)
 
-  -- the next group where one begins, and what is left after it
+  -- the next group, where a group ends before all that is left, and what is left after it
   pub next_cut : 0 < length ds → IsDue p s (length ds) → n ≡ next_size p s (length ds) →
       (cut p s ds ≡ take n ds ∷ cut p s (drop n ds)) × ((drop n ds ≡ []) ⊎ IsDue p s (length (drop n ds))) × (n ≤ length ds)
   next_cut some due size = elim (eqb_tells (length ds) p) [
@@ -93,17 +93,17 @@ module _ (p s : ℕ) (ds : List ℕ) (n : ℕ) (hp : 0 < p) (hs : 0 < s) where
       one_less : (k j : ℕ) → k ≡ j + s → k % s ≡ 0 → j % s ≡ 0
       one_less k j e z = sym (add-mod_right j s) ∙ rw e at z
 
--- what is written of the groups, the first one first
+-- the groups with separators begin with the first group
 pub joined-front : {B : Type 0} (f : List ℕ → List B) (separator : List B) (p s : ℕ) (ds g rest : List ℕ) → cut p s ds ≡ g ∷ cut p s rest →
     joined separator (map f (cut p s ds)) ≡ f g ++ joined_after separator (map f (cut p s rest))
 joined-front f separator p s ds g rest e = rw e refl
 
--- what follows a group: a separator, the next group, and the rest
+-- behind a group stand a separator, the next group, and the rest
 pub joined_after-next : {B : Type 0} (f : List ℕ → List B) (separator : List B) (p s : ℕ) (ds g rest : List ℕ) → cut p s ds ≡ g ∷ cut p s rest →
     joined_after separator (map f (cut p s ds)) ≡ separator ++ (f g ++ joined_after separator (map f (cut p s rest)))
 joined_after-next f separator p s ds g rest e = rw e refl
 
--- where something is left, whole groups are
+-- where digits are left, a group ends before them
 pub due_of : (p s : ℕ) (ds : List ℕ) → (ds ≡ []) ⊎ IsDue p s (length ds) → 0 < length ds → IsDue p s (length ds)
 due_of p s ds (inl none) some = absurd (omega (arith, ap length none))
 due_of p s ds (inr due) some = due
@@ -133,12 +133,12 @@ first_of {B = B} f separator p s ds n nil hp hs gap = elim (cases_lt p (length d
     one_of [] few = rw nil refl
     one_of (x ∷ xs) few = rw (cut-one p s (x ∷ xs) (omega arith) few) refl
 
--- a group that begins where whole groups are left, and what is left after it
+-- the next group where digits are left, and what is left after it
 pub next_of : (p s : ℕ) (ds : List ℕ) (n : ℕ) → 0 < p → 0 < s → (ds ≡ []) ⊎ IsDue p s (length ds) → 0 < length ds →
     n ≡ next_size p s (length ds) → (cut p s ds ≡ take n ds ∷ cut p s (drop n ds)) × ((drop n ds ≡ []) ⊎ IsDue p s (length (drop n ds)))
     × (n ≤ length ds)
 next_of p s ds n hp hs due some size = next_cut p s ds n hp hs some (due_of p s ds due some) size
 
--- and it has a digit
+-- the next group has a digit
 pub next_some : (p s n count : ℕ) → 0 < p → 0 < s → n ≡ next_size p s count → 0 < n
 next_some p s n count hp hs size = elim (eqb_tells count p) [ inl t ↦ omega (arith, size, (rw t.0 at size)) | inr f ↦ omega (arith, (rw f.0 at size)) ]

@@ -10,7 +10,7 @@ use Rattle.writeable.specs.Groups.{cut, joined, joined_after, group_events, grou
 use Rattle.writeable.specs.Writes.{without_parts-append, text_of-append}
 use Rattle.writeable.proofs.EventLemmas.{without_parts-text_events, without_parts-digit_events, text_of-text_events}
 
--- without parts, the separator is its text
+-- the events of a text in a part, without their parts, are those of the text
 without_parts-text_in : (part : Option Part) (text : List ℕ) → without_parts (text_in part text) ≡ text_events text
 without_parts-text_in None text = without_parts-text_events text
 without_parts-text_in (Some part) text = without_parts-append (text_events text) (Close ∷ []) ∙ append-nil (without_parts (text_events text))
@@ -35,7 +35,7 @@ without_parts-joined separator cs (g ∷ gs) =
     ∙ ap (λ (l : List Event). l ++ without_parts (joined_after separator (group_events cs gs))) (without_parts-digit_events cs g)
     ∙ ap (λ (l : List Event). digit_events cs g ++ l) (without_parts-joined_after separator cs gs)
 
--- groups without parts are groups whose separator is no part
+-- the events of digits in groups, without their parts, are those of groups whose separator is no part
 pub without_parts-grouped : (grouping other : Grouping) (cs ds : List ℕ) → other.primary ≡ grouping.primary → other.secondary ≡ grouping.secondary →
     other.separator ≡ grouping.separator → other.part ≡ None → grouped_events other cs ds ≡ without_parts (grouped_events grouping cs ds)
 without_parts-grouped grouping other cs ds e f h k =
@@ -43,6 +43,7 @@ without_parts-grouped grouping other cs ds e f h k =
     rw (e, f, h, k) (sym (without_parts-joined (separator_events grouping) cs gs
     ∙ ap (λ (l : List Event). joined l (group_events cs gs)) (without_parts-text_in grouping.part grouping.separator.now)))
 
+-- the rule for digits in groups
 pub ruleset group_steps = (without_parts-grouped)
 
 -- the text of the separator

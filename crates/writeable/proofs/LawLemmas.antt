@@ -13,17 +13,18 @@ use Rattle.writeable.specs.Spans.{spans, spans_from, span_of, end_of_part, moved
 use Rattle.writeable.specs.Writes.{text_of-append}
 use Rattle.writeable.proofs.EventLemmas.{text_events-append, text_of-text_events}
 
--- the characters stay without the parts
+-- leaving the parts out leaves the characters as they are
 pub characters-without_parts : (es : List Event) → characters (without_parts es) ≡ characters es
 characters-without_parts [] = refl
 characters-without_parts (Char c ∷ es) = ap (λ l. c ∷ l) (characters-without_parts es)
 characters-without_parts (Open category value ∷ es) = characters-without_parts es
 characters-without_parts (Close ∷ es) = characters-without_parts es
 
+-- leaving the parts out leaves the text as it is
 pub text_of-without_parts : (es : List Event) → text_of (without_parts es) ≡ text_of es
 text_of-without_parts es = ap encode_utf8_all (characters-without_parts es)
 
--- where the events begin further on, a part ends as much further on
+-- where the events begin n bytes further on, a part ends n bytes further on
 end_of_part-moved : (n inner at : ℕ) (es : List Event) → end_of_part inner (n + at) es ≡ option_map (λ e. n + e) (end_of_part inner at es)
 end_of_part-moved n inner at [] = refl
 end_of_part-moved n inner at (Char c ∷ es) =
@@ -79,10 +80,12 @@ spans_from-closed before at (Open category value ∷ es) more h =
 spans_from-closed zero at (Close ∷ es) more h = absurd h
 spans_from-closed (suc before) at (Close ∷ es) more h = spans_from-closed before at es more h
 
+-- the spans of closed events and of others behind them, joined
 pub spans-closed : (first second : List Event) → IsClosed first →
     spans (first ++ second) ≡ spans first ++ map (moved (length (text_of first))) (spans second)
 spans-closed first second h =
     let n : ℕ = length (text_of first) in
     spans_from-closed 0 0 first second h ∙ ap (λ l. spans first ++ l) (ap (λ x. spans_from x second) (omega arith) ∙ spans_from-moved n 0 second)
 
+-- the rules for the functions of `laws`
 pub ruleset law_steps = (text_events-append, text_of-text_events, text_of-append, text_of-without_parts, spans-closed)

@@ -1,4 +1,9 @@
 -- Lemmas on a text with marks.
+-- A text with marks gives its events from the front, and calls push text and marks at the end. So each lemma on pushing is an induction over
+-- the marks, for any text and any offset `from` at which that text begins; the step cuts the text at the first mark by `take` and `drop`, and
+-- `append_assoc` moves what was pushed past it. The text and the events without parts are read off by the same induction, with EventLemmas for
+-- the stretch before a mark. An induction over the text doesn't go, since several marks may stand at one offset.
+-- A limit is kept as the room that is left, so that a call takes its own room and counts no events (`limit_of-one_less`).
 use Rattle.std.specs.Prelude.{◌≡◌, ◌≤◌, ℕ, ◌+◌, ◌-◌, List, [], ◌∷◌, ◌++◌, length, take, drop, Option, Some, None, IfSome, Ok}
 use Rattle.std.specs.Option.{option_map}
 use Rattle.std.specs.Str.{IsUtf8}
@@ -69,13 +74,13 @@ AreMarks-mark from text (p ∷ ms) m e h =
     let here : mark_at m ≡ mark_at p + length (drop k text) = omega (arith, length-drop k text, h.0, h.1) in
     (h.0, h.1, h.2, AreMarks-mark (mark_at p) (drop k text) ms m here h.3)
 
--- the same for a list of marks after a push
+-- the events after a mark was pushed at the end of the text
 pub marked_events-pushed : (text : List ℕ) (old new : List Mark) (m : Mark) (e : Event) → new ≡ old ++ m ∷ [] → mark_at m ≡ 0 + length text →
     mark_event m ≡ e → AreMarks 0 text old → marked_events 0 text new ≡ marked_events 0 text old ++ e ∷ []
 marked_events-pushed text old new m e pushed end event h =
     ap (marked_events 0 text) pushed ∙ marked_events-mark 0 text old m end h ∙ ap (λ x. marked_events 0 text old ++ x ∷ []) event
 
--- a mark has no character
+-- a mark adds nothing to the text
 text_of-mark : (m : Mark) (es : List Event) → text_of (mark_event m ∷ es) ≡ text_of es
 text_of-mark (Open at part) es = refl
 text_of-mark (Close at) es = refl
@@ -92,12 +97,12 @@ text_of-marked_events from text (m ∷ ms) h =
     ∙ ap (λ l. take k text ++ l) (text_of-mark m (marked_events (mark_at m) (drop k text) ms) ∙ rest)
     ∙ take-append-drop k text
 
--- a mark is no character
+-- a mark is left out with the parts
 without_parts-mark : (m : Mark) (es : List Event) → without_parts (mark_event m ∷ es) ≡ without_parts es
 without_parts-mark (Open at part) es = refl
 without_parts-mark (Close at) es = refl
 
--- without its marks a text with marks is the text
+-- the events of a text with marks, without their parts, are those of the text
 pub without_parts-marked_events : (from : ℕ) (text : List ℕ) (ms : List Mark) → AreMarks from text ms →
     without_parts (marked_events from text ms) ≡ text_events text
 without_parts-marked_events from text [] h = without_parts-text_events text
@@ -122,11 +127,11 @@ within-limit_of : (n : ℕ) (room : Option ℕ) → IfSome (limit_of n room) (λ
 within-limit_of n None = tt
 within-limit_of n (Some l) = omega arith
 
--- what is kept is within its limit
+-- what a sink holds is within its limit
 pub IsWithinLimit-annotated : (a : Inside) → IsWithinLimit (annotated a)
 IsWithinLimit-annotated a = within-limit_of (length (kept_events a)) a.room
 
--- a call that kept all its events
+-- a call that added all its events wrote all of them
 pub WritesAll-kept : (a b : Inside) (old : Annotated) (es : List Event) → annotated a ≡ old → kept_events b ≡ kept_events a ++ es →
     b.failures ≡ a.failures → WritesAll (λ (s : Annotated). s.events) (λ s. s.failures) old es (annotated b)
 WritesAll-kept a b old es view e f = record {
@@ -135,7 +140,7 @@ WritesAll-kept a b old es view e f = record {
       f ∙ ap (λ (s : Annotated). s.failures) view;
 }
 
--- a call that kept its event, and took room for one
+-- a call that added one event, and took the room of one, keeps the limit
 pub KeepsLimit-one : (a b : Inside) (old : Annotated) (e : Event) → annotated a ≡ old → kept_events b ≡ kept_events a ++ e ∷ [] →
     option_map (λ left. left + 1) b.room ≡ a.room → b.refusals ≡ a.refusals →
     KeepsLimit (λ (s : Annotated). s.events) (λ s. s.limit) (λ s. s.refusals) old (Ok tt) (e ∷ []) (annotated b)
@@ -147,4 +152,5 @@ KeepsLimit-one a b old e view kept less same =
       fault = tt;
     }
 
+-- the rules for the functions of `parts_text`
 pub ruleset mark_steps = (text_events-nil, text_of-marked_events, without_parts-marked_events, marked_events-text, marked_events-mark)

@@ -12,14 +12,14 @@ use Rattle.writeable.specs.Events.Event.{Char, Open as OpenPart, Close as CloseP
 use Rattle.writeable.specs.Spans.{Span, spans_from, span_of, end_of_part}
 use Rattle.writeable.specs.Marks.{mark_at, mark_event, marked_events, AreMarks}
 
--- the places of the closes whose opening stands before the events, which begin at byte at
+-- the bytes at which those closes stand whose opening comes before the events; these begin at byte `at`
 abbrev pub event_closes : ℕ → List Event → List ℕ
 event_closes at [] = []
 event_closes at (Char c ∷ es) = event_closes (at + length (encode_utf8 c)) es
 event_closes at (OpenPart category value ∷ es) = drop 1 (event_closes at es)
 event_closes at (ClosePart ∷ es) = at ∷ event_closes at es
 
--- the same for marks
+-- the bytes at which those closes stand whose opening comes before the marks
 abbrev pub mark_closes : List Mark → List ℕ
 mark_closes [] = []
 mark_closes (Open at part ∷ ms) = drop 1 (mark_closes ms)
@@ -35,7 +35,7 @@ slice_get-rest : (xs : List ℕ) (k : ℕ) → slice_get (drop 1 xs) k ≡ slice
 slice_get-rest [] k = refl
 slice_get-rest (x ∷ xs) k = refl
 
--- a part ends at the close that as many parts inside of it leave
+-- a part inside of which `inner` parts are open ends at the close with index `inner` of those of `event_closes`
 pub end_of_part-event_closes : (inner at : ℕ) (es : List Event) → end_of_part inner at es ≡ slice_get (event_closes at es) inner
 end_of_part-event_closes inner at [] = refl
 end_of_part-event_closes inner at (Char c ∷ es) = end_of_part-event_closes inner (at + length (encode_utf8 c)) es
@@ -44,7 +44,7 @@ end_of_part-event_closes inner at (OpenPart category value ∷ es) =
 end_of_part-event_closes zero at (ClosePart ∷ es) = refl
 end_of_part-event_closes (suc inner) at (ClosePart ∷ es) = end_of_part-event_closes inner at es
 
--- characters move what follows
+-- behind characters the events begin further on by their bytes
 event_closes-chars : (at : ℕ) (cs : List ℕ) (es : List Event) → event_closes at (map Char cs ++ es) ≡ event_closes (at + length (encode_utf8_all cs)) es
 event_closes-chars at [] es = ap (λ n. event_closes n es) (sym (add-zero at))
 event_closes-chars at (c ∷ cs) es = event_closes-chars (at + length (encode_utf8 c)) cs es
@@ -63,7 +63,7 @@ spans_from-only_chars : (at : ℕ) (cs : List ℕ) → spans_from at (map Char c
 spans_from-only_chars at [] = refl
 spans_from-only_chars at (c ∷ cs) = spans_from-only_chars (at + length (encode_utf8 c)) cs
 
--- the characters before a mark end at its place
+-- the characters before a mark end at the byte of the mark
 place_of_mark : (from : ℕ) (text : List ℕ) (m : Mark) (ms : List Mark) → AreMarks from text (m ∷ ms) →
     from + length (encode_utf8_all (chars (take (mark_at m - from) text))) ≡ mark_at m
 place_of_mark from text m ms h =
@@ -103,7 +103,7 @@ spans_from-marked from text (Close at ∷ ms) h =
     ∙ ap (λ n. spans_from n (ClosePart ∷ rest)) (place_of_mark from text (Close at) ms h)
     ∙ spans_from-marked at (drop (at - from) text) ms h.3
 
--- a reversed list is mapped in reverse
+-- mapping and reversing a list commute
 pub map-reverse : {A : Type 0} {B : Type 0} (f : A → B) (xs : List A) → map f (reverse xs) ≡ reverse (map f xs)
 map-reverse f [] = refl
 map-reverse f (x ∷ xs) = ap (map f) (reverse-append (x ∷ []) xs) ∙ map-append f (reverse xs) (x ∷ []) ∙ ap (λ l. l ++ f x ∷ []) (map-reverse f xs)

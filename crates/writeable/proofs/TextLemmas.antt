@@ -10,7 +10,7 @@ use Rattle.writeable.specs.Writes.{Writes-then, Writes-stop, KeepsLimit-then, Ke
 use Rattle.writeable.proofs.EventLemmas.{text_events-nil}
 use Rattle.writeable.specs.declared.sink.WriteFault.{WriteFault}
 
--- a list read as far as ys, and then c
+-- a list of which ys was read, and c is the next item, is ys, c and the rest
 pub split_at_read : (all ys : List ℕ) (c : ℕ) → ys ≡ take (length ys) all → length ys < length all → c ≡ get_or all (length ys) c →
     all ≡ (ys ++ c ∷ []) ++ drop (length ys + 1) all
 split_at_read all ys c front h at =
@@ -22,7 +22,7 @@ split_at_read all ys c front h at =
 abbrev pub KeepsText : Annotated → Result (Unit {0}) WriteFault → List Event → Annotated → Type 0
 KeepsText s r es t = KeepsLimit (λ (s : Annotated). s.events) (λ s. s.limit) (λ s. s.refusals) s r es t
 
--- a character that fails leaves a beginning of the text
+-- where a character of a text fails, a beginning of the text is written
 pub Writes-stop_in_text : {S : Type 0} (events : S → List Event) (failures : S → ℕ) (s t u : S) (e : WriteFault) (r : Result (Unit {0}) WriteFault)
     (ys : List ℕ) (c : ℕ) (all rest : List ℕ) → all ≡ (ys ++ c ∷ []) ++ rest → IsErr r → Writes events failures s (Ok tt) (map Char ys) t →
     Writes events failures t (Err e) (Char c ∷ []) u → Writes events failures s r (map Char all) u
@@ -32,7 +32,7 @@ Writes-stop_in_text events failures s t u e r ys c all rest split err before fau
     rw whole (Writes-stop events failures s u e r (map Char ys ++ Char c ∷ []) (map Char rest) err
     (Writes-then events failures s t u (Err e) (map Char ys) (Char c ∷ []) before fault))
 
--- a character that fails for the limit leaves something of the text
+-- where a character of a text fails, the limit is kept as by a call that was to write the whole text
 pub KeepsLimit-stop_in_text : (s t u : Annotated) (e : WriteFault) (r : Result (Unit {0}) WriteFault) (ys : List ℕ) (c : ℕ) (all rest : List ℕ) →
     all ≡ (ys ++ c ∷ []) ++ rest → IsErr r → t.events ≡ s.events ++ map Char ys → KeepsText s (Ok tt) (map Char ys) t →
     KeepsText t (Err e) (Char c ∷ []) u → KeepsText s r (map Char all) u

@@ -10,10 +10,10 @@ pub record Annotated : Type 0 where
   pub limit : Option ℕ
   pub refusals : ℕ
 
--- it holds as many events as it may
+-- as many events are held as the limit allows
 abbrev pub IsFull : Annotated → Type 0
 IsFull s = s.limit ≡ Some (length s.events)
 
--- it holds no more events than it may
+-- no more events are held than the limit allows
 abbrev pub IsWithinLimit : Annotated → Type 0
 IsWithinLimit s = IfSome s.limit (λ n. length s.events ≤ n)

@@ -2,7 +2,8 @@
 use Rattle.std.specs.Prelude.{ℕ, List, [], ◌∷◌, map, slice_index}
 use Rattle.std.specs.Str.{chars, encode_utf8_all}
 
--- one event of an annotated text: a character, the start of a part with the texts of its category and its value, or the end of the part that was opened last
+-- one event of an annotated text: a character, the start of a part with the texts of its category and its value, or the end
+-- of the part that was opened last and is still open
 pub data Event : Type 0 where
   Char : (c : ℕ) → Event
   Open : (category value : List ℕ) → Event

@@ -5,18 +5,19 @@ use Rattle.writeable.specs.Events.Event.{Open, Close}
 use Rattle.writeable.specs.declared.groups.Grouping.{Grouping}
 use Rattle.writeable.specs.declared.sink.Part.{Part}
 
--- groups with one more digit in front: in the first group, or in one of its own where that is full
+-- groups with one more digit in front: in the first group, or in a new group where the first is full
 abbrev pub put_before : {A : Type 0} → ℕ → ℕ → A → List (List A) → List (List A)
 put_before primary secondary x [] = (x ∷ []) ∷ []
 put_before primary secondary x (g ∷ []) = if length g == primary then (x ∷ []) ∷ g ∷ [] else (x ∷ g) ∷ []
 put_before primary secondary x (g ∷ h ∷ gs) = if length g == secondary then (x ∷ []) ∷ g ∷ h ∷ gs else (x ∷ g) ∷ h ∷ gs
 
--- the one grouping of more digits than the primary size; fewer are one group
+-- the digits in groups, cut from the end: the last group has the primary size, those before it the secondary size, and
+-- the first has what is left
 abbrev pub cut : {A : Type 0} → ℕ → ℕ → List A → List (List A)
 cut primary secondary [] = []
 cut primary secondary (x ∷ xs) = put_before primary secondary x (cut primary secondary xs)
 
--- the groups, one after another, with a separator between two
+-- the groups, one after another, with a separator before each
 abbrev pub joined_after : {A : Type 0} → List A → List (List A) → List A
 joined_after separator [] = []
 joined_after separator (g ∷ gs) = separator ++ (g ++ joined_after separator gs)
@@ -34,12 +35,12 @@ group_events characters groups = map (digit_events characters) groups
 abbrev pub group_texts : List ℕ → List (List ℕ) → List (List ℕ)
 group_texts characters groups = map (λ g. text_of (digit_events characters g)) groups
 
--- a text, as a part of its own where there is one
+-- the events of a text, inside of the part where one is given
 abbrev pub text_in : Option Part → List ℕ → List Event
 text_in None text = text_events text
 text_in (Some part) text = Open part.category.now part.value.now ∷ (text_events text ++ Close ∷ [])
 
--- what stands between two groups
+-- the events of the separator
 abbrev pub separator_events : Grouping → List Event
 separator_events grouping = text_in grouping.part grouping.separator.now
 

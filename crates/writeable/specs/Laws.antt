@@ -12,7 +12,7 @@ JoinedTextsJoinTheirEvents = (first second : List ℕ) → IsUtf8 first → text
 abbrev pub EventsTellTheText : Type 0
 EventsTellTheText = (text : List ℕ) → IsUtf8 text → text_of (text_events text) ≡ text
 
--- the text of events followed by events is their texts joined
+-- the text of two lists of events joined is the text of the first and then that of the second
 abbrev pub JoinedEventsJoinTheirTexts : Type 0
 JoinedEventsJoinTheirTexts = (first second : List Event) → text_of (first ++ second) ≡ text_of first ++ text_of second
 
@@ -20,7 +20,8 @@ JoinedEventsJoinTheirTexts = (first second : List Event) → text_of (first ++ s
 abbrev pub PartsHaveNoText : Type 0
 PartsHaveNoText = (events : List Event) → text_of (without_parts events) ≡ text_of events
 
--- the spans of closed events followed by events are those of both, the second's moved by the bytes of the first's text
+-- where the first events close all their parts, the spans of both lists joined are those of the first, and then those of
+-- the second, moved by the length of the first's text
 abbrev pub ClosedEventsKeepTheirSpans : Type 0
 ClosedEventsKeepTheirSpans = (first second : List Event) → IsClosed first →
     spans (first ++ second) ≡ spans first ++ map (moved (length (text_of first))) (spans second)

@@ -21,7 +21,7 @@ abbrev pub mark_event : Mark → Event
 mark_event (Open at part) = OpenPart part.category.now part.value.now
 mark_event (Close at) = ClosePart
 
--- the event of a part that is opened, or else of a close
+-- the opening of the part; without a part a close
 abbrev pub mark_event_of : Option Part → Event
 mark_event_of (Some part) = OpenPart part.category.now part.value.now
 mark_event_of None = ClosePart
@@ -37,11 +37,11 @@ AreMarks from text [] = IsUtf8 text
 AreMarks from text (m ∷ ms) = (from ≤ mark_at m) × (mark_at m - from ≤ length text) × IsUtf8 (take (mark_at m - from) text)
     × AreMarks (mark_at m) (drop (mark_at m - from) text) ms
 
--- the events that the fields stand for
+-- the events that the sink holds, by its fields
 abbrev pub kept_events : Inside → List Event
 kept_events a = marked_events 0 (string_bytes a.text) a.marks.items
 
--- what a text with marks has taken, as events, with its failures and its room
+-- the sink as its callers see it; its limit is the number of events that it holds and its room
 abbrev pub annotated : Inside → Annotated
 annotated a = record {
   events = kept_events a;

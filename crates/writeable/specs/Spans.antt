@@ -11,7 +11,8 @@ pub record Span : Type 0 where
   pub category : List ℕ
   pub value : List ℕ
 
--- where the part ends that is open at byte at, inside of which `inner` more parts are open: none if it is never closed
+-- the byte at which a part ends, if it is ever closed; the events begin at byte `at`, inside of the part and of `inner`
+-- parts that were opened in it
 abbrev pub end_of_part : ℕ → ℕ → List Event → Option ℕ
 end_of_part inner at [] = None
 end_of_part inner at (Char c ∷ es) = end_of_part inner (at + length (encode_utf8 c)) es
@@ -19,7 +20,7 @@ end_of_part inner at (Open category value ∷ es) = end_of_part (suc inner) at e
 end_of_part zero at (Close ∷ es) = Some at
 end_of_part (suc inner) at (Close ∷ es) = end_of_part inner at es
 
--- the span of a part that is not empty
+-- the span of a part; none where the part is empty or never closed
 abbrev pub span_of : ℕ → Option ℕ → List ℕ → List ℕ → List Span
 span_of start None category value = []
 span_of start (Some end) category value = if start == end then [] else record { start = start; end = end; category = category; value = value } ∷ []
@@ -39,7 +40,7 @@ spans es = spans_from 0 es
 abbrev pub moved : ℕ → Span → Span
 moved n s = record { start = n + s.start; end = n + s.end; category = s.category; value = s.value }
 
--- the events close as many parts that were open before them, and each part that they open
+-- the events close the `before` parts that are open when they begin, each part that they open, and no others
 abbrev pub ClosesParts : ℕ → List Event → Type 0
 ClosesParts before [] = before ≡ 0
 ClosesParts before (Char c ∷ es) = ClosesParts before es
@@ -47,6 +48,6 @@ ClosesParts before (Open category value ∷ es) = ClosesParts (suc before) es
 ClosesParts zero (Close ∷ es) = ⊥
 ClosesParts (suc before) (Close ∷ es) = ClosesParts before es
 
--- each part is closed, and nothing else
+-- the events close each part that they open, and no others
 abbrev pub IsClosed : List Event → Type 0
 IsClosed es = ClosesParts 0 es

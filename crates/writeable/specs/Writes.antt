@@ -1,5 +1,11 @@
 -- Lemmas on what calls write, one after another. They stand here and not in proofs/ because the impls of `EventWriter`
 -- cite them: what a ghost member imports of its own crate has to stand in specs/.
+-- For each relation between a writer before and after there are three lemmas, which are the laws of `EventWriter`: nothing
+-- is written, one list of events and then another, and a failure in the first. `then` goes by cases on the later answer: on
+-- success lists are joined by associativity, on a failure the written events are all of the first and a beginning of the
+-- second. `stop` has nothing to show where the answer is Ok. `LentWrites` takes `Writes` and `KeepsLimit` together, since
+-- `KeepsLimit-then` needs how many events the first call left, which `Writes` says; a text and a formatter only promise
+-- something on success, so their `stop` is trivial.
 use Rattle.std.specs.Prelude.{◌≡◌, ℕ, List, [], ◌∷◌, ◌++◌, length, Option, Result, Ok, Err, OnOk, IsErr}
 use Rattle.std.specs.Borrow.{MutBor}
 use Rattle.std.specs.Fmt.{HasWrittenStyled, WritesInCalls}

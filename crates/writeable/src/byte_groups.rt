@@ -1,17 +1,18 @@
-//! Digits in groups, as bytes: where each digit and the separator are one byte, room is asked for once.
+//! Digits in groups, as bytes: where each digit and the separator are one byte, room is asked for
+//! once.
 ghost use Rattle.std.specs.Prelude.{◌≡◌, ◌+◌, ◌*◌, ◌<◌, ◌≤◌, ◌∷◌, ◌++◌, [], All, IsTrue, OnOk, length, vec_len, vec_capacity};
 ghost use Rattle.writeable.specs.Events.{digit_events, text_of};
 ghost use Rattle.writeable.specs.Groups.{cut, joined, group_texts};
 
-use crate::event_writer::{EventWriter, push_bytes};
-use crate::groups::{Grouping, first_group, next_group};
+use crate::groups::{first_group, next_group};
 use crate::sink::WriteFault;
 use std::mem;
 
 /// How many digits stand in a group of thousands.
 const THOUSANDS: usize = 3;
 
-/// Whether each of the characters is one byte. All ten are asked, so that it is computed without jumps.
+/// Whether each of the characters is one byte. All ten are tested, so that the loop has no other
+/// branch than its own.
 pub(crate) fn are_ascii(characters: &[char; 10]) -> bool
     ensures { IsTrue result → All (λ c. c < 128) characters.now }
 {
@@ -155,30 +156,4 @@ fn push_ascii(mut out: Vec<u8>, digits: &[u8], characters: &[char; 10]) -> Vec<u
         out.push_reserved(characters[digits[index] as usize] as u8);
     }
     out
-}
-
-/// Appends digits in groups, with a separator of any length between two.
-pub(crate) fn push_groups(
-    out: &mut Vec<u8>,
-    digits: &[u8],
-    grouping: &Grouping<'_>,
-    characters: &[char; 10],
-) -> Result<(), WriteFault>
-    requires primary { 0 < grouping.now.primary }
-    requires secondary { 0 < grouping.now.secondary }
-    requires below_ten { All (λ d. d < 10) digits.now }
-    ensures { OnOk result (out.new.items ≡ out.old.items
-        ++ joined grouping.now.separator.now
-        (group_texts characters.now (cut grouping.now.primary grouping.now.secondary digits.now))) }
-{
-    let (primary, secondary) = (grouping.primary, grouping.secondary);
-    let (first, mut rest) = digits.split_at(first_group(digits.len(), primary, secondary));
-    out.digits(first, characters)?;
-    'groups: while !rest.is_empty() {
-        let (group, after) = rest.split_at(next_group(rest.len(), primary, secondary));
-        push_bytes(out, grouping.separator.as_bytes())?;
-        out.digits(group, characters)?;
-        rest = after;
-    }
-    Ok(())
 }

@@ -8,7 +8,8 @@ use crate::event_writer::EventWriter;
 use crate::sink::{Part, WriteFault};
 use std::fmt;
 
-// On success a formatter that indents nothing has written the text of the events, whatever its options are (`Displays`).
+// On success a formatter that indents nothing has written the text of the events, whatever its
+// options are (`Displays`).
 impl<W: fmt::Write> EventWriter for fmt::Formatter<W> {
     ghost wrote = { λ a r es b. Displays W.write_str_gives a r es b };
 

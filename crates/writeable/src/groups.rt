@@ -29,7 +29,8 @@ pub(crate) fn first_group(count: usize, primary: usize, secondary: usize) -> usi
     }
 }
 
-/// How many digits stand in the group that the last `count` digits begin with.
+/// How many digits stand in the next group, where `count` digits are left and a group begins with
+/// them.
 pub(crate) fn next_group(count: usize, primary: usize, secondary: usize) -> usize
     ensures { result ≡ next_size primary secondary count }
 {

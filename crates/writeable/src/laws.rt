@@ -25,7 +25,8 @@ pub fn parts_have_no_text()
     ensures { PartsHaveNoText }
 {}
 
-/// What closes its parts has the same spans wherever it is written, and moves the spans of what follows.
+/// What closes its parts has the same spans wherever it is written, and moves the spans of what
+/// follows.
 #[tactic(auto, using(crate::proofs::LawLemmas::law_steps))]
 pub fn closed_events_keep_their_spans()
     ensures { ClosedEventsKeepTheirSpans }

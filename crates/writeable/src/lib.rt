@@ -1,5 +1,5 @@
-//! Text with marked parts: sinks that take characters and named parts, and values that write themselves to sinks, after
-//! ICU4X's crate `writeable`.
+//! Text with marked parts: sinks that take characters and named parts, and values that write
+//! themselves to sinks, after ICU4X's crate `writeable`.
 //!
 //! ```
 //! let mut text = PartsText::new(rt.alloc());
@@ -19,6 +19,7 @@
 #![tactic(auto)]
 
 mod byte_groups;
+mod byte_writer;
 pub mod error;
 pub mod event_writer;
 mod formatter_writer;
@@ -26,6 +27,7 @@ pub mod groups;
 pub mod laws;
 pub mod parts_text;
 pub mod sink;
+mod text_buffer;
 mod text_writer;
 pub mod writeable;
 

@@ -91,11 +91,12 @@ impl PartsText {
         self.refusals > 0
     }
 
-    /// The ranges of bytes from the opening of each part to its own close, in the order of opening, without empty ones
-    /// (as ICU4X lists the parts of a text). A close with nothing open makes none, nor does a part that is
-    /// never closed.
+    /// The ranges of bytes from the opening of each part to its own close, in the order of opening,
+    /// without empty ones (as ICU4X lists the parts of a text). A close with nothing open makes
+    /// none, nor does a part that is never closed.
     ///
-    /// One pass over the marks from the last to the first, with a stack of the closes whose opening is still to come.
+    /// One pass over the marks from the last to the first, with a stack of the closes whose opening
+    /// is still to come.
     pub fn spans(&self, alloc: Global) -> Result<Vec<(usize, usize, Part)>, OutOfMemory>
         ensures { IfOk result (λ v. map span v.items ≡ spans self.now.events) }
     {
@@ -148,7 +149,7 @@ impl PartsText {
         Ok(())
     }
 
-    /// Keeps the opening of a part, or else a close.
+    /// Keeps the opening of the part; without a part it keeps a close.
     fn keep_mark(&mut self, opened: Option<Part>) -> Result<(), WriteFault>
         ensures writes { Writes (λ s. s.events) (λ s. s.failures) self.old result
             (mark_event_of opened ∷ []) self.new }
@@ -240,7 +241,7 @@ impl PartsWrite for PartsText {
     }
 }
 
-/// The mark of a part that is opened at the byte, or else of a close.
+/// The mark at a byte for the opening of the part; without a part the mark of a close.
 fn mark_of(at: usize, opened: Option<Part>) -> Mark
     ensures place { mark_at result ≡ at }
     ensures event { mark_event result ≡ mark_event_of opened }

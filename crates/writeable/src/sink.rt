@@ -10,7 +10,7 @@ use thiserror::Error;
 /// The name of a part of a text, as `decimal` and `minusSign` (ICU4X, `writeable::Part`).
 #[derive(Debug, Clone, Copy, PartialEq, Eq)]
 pub struct Part {
-    /// What names the kind of value, as `decimal`.
+    /// The kind of value, as `decimal`.
     pub category: &'static str,
     /// Which part of such a value it is, as `minusSign`.
     pub value: &'static str,
@@ -23,10 +23,11 @@ pub struct WriteFault;
 
 /// A destination for text with parts.
 ///
-/// A sink is the list of events that it holds, and a count of its failures. A call appends its events; or it answers a
-/// fault, appends a beginning of them and counts one more failure. So a fault is answered only if the sink failed in
-/// that very call, and what a sink holds after a fault is a beginning of what was to be written. A sink may have a limit
-/// of events, which no call changes; a failure that isn't counted as a refusal leaves it full.
+/// A sink is the list of events that it holds, and a count of its failures. A call appends its
+/// events; or it answers a fault, appends a beginning of them and counts one more failure. So a
+/// fault is answered only if the sink failed in that very call, and what a sink holds after a fault
+/// is a beginning of what was to be written. A sink may have a limit of events, which no call
+/// changes; a failure that isn't counted as a refusal leaves it full.
 pub trait PartsWrite {
     /// The events that the sink holds.
     ghost events: { Self → List Event };
@@ -59,7 +60,8 @@ pub trait PartsWrite {
         ensures limited { KeepsLimit events limit refusals self.old result
             (Open part.category.now part.value.now ∷ []) self.new };
 
-    /// Closes the part that was opened last and is still open. With no part open this is an event all the same.
+    /// Closes the part that was opened last and is still open. With no part open this is an event
+    /// all the same.
     fn close_part(&mut self) -> Result<(), WriteFault>
         ensures writes { Writes events failures self.old result (Close ∷ []) self.new }
         ensures limited { KeepsLimit events limit refusals self.old result (Close ∷ []) self.new };

@@ -34,7 +34,8 @@ const FRACTION: Part = Part {
     value: "fraction",
 };
 
-/// Writes one event for each character: an opening bracket opens a part, `)` closes one, and the others are text.
+/// Writes one event for each character: an opening bracket opens a part, `)` closes one, and the
+/// others are text.
 fn write_marked(sink: &mut PartsText, marked: &str) -> Result<(), WriteFault> {
     for character in marked.chars() {
         match character {
@@ -50,7 +51,8 @@ fn write_marked(sink: &mut PartsText, marked: &str) -> Result<(), WriteFault> {
     Ok(())
 }
 
-/// The marked text in a new sink, and what the last call answered. Where a growth was refused it is written again.
+/// The marked text in a new sink, and what the last call answered. Where a growth was refused it is
+/// written again.
 fn sink_with(
     alloc: Global,
     limit: Option<usize>,

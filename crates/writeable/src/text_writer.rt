@@ -1,14 +1,14 @@
-//! A text as a writer: digits in groups stand in it with one request for room.
+//! A text as a writer: room for digits in groups is asked for once.
 ghost use Rattle.std.specs.Prelude.{◌≡◌, ◌<◌, ◌∷◌, ◌++◌, [], All, IsOk, OnOk};
 ghost use Rattle.std.specs.String.{string_bytes};
 ghost use Rattle.writeable.specs.Events.{digit_events, text_of};
-ghost use Rattle.writeable.specs.Events.Event.{Close, Open};
-ghost use Rattle.writeable.specs.Groups.{cut, joined, group_texts};
+ghost use Rattle.writeable.specs.Events.Event.{Char, Close, Open};
 ghost use Rattle.writeable.specs.Writes.{AppendsText-nothing, AppendsText-then, OnOk-stop};
 
 use crate::event_writer::EventWriter;
-use crate::groups::{Grouping, first_group, next_group};
+use crate::groups::Grouping;
 use crate::sink::{Part, WriteFault};
+use crate::text_buffer::{TextBuffer, append_groups};
 
 // On success the text of the events stands behind what the string held.
 impl EventWriter for String {
@@ -23,11 +23,11 @@ impl EventWriter for String {
 
     #[tactic(auto, using(crate::proofs::EventLemmas::text_steps))]
     fn text(&mut self, text: &str) -> Result<(), WriteFault> {
-        self.push_str(text).map_err(|_| WriteFault)
+        self.append_text(text)
     }
 
     fn character(&mut self, character: char) -> Result<(), WriteFault> {
-        self.push(character).map_err(|_| WriteFault)
+        push_character(self, character)
     }
 
     /// Asks for room once, where the characters are as long as the first.
@@ -36,7 +36,7 @@ impl EventWriter for String {
         let Ok(()) = self.reserve(room) else {
             return Err(WriteFault);
         };
-        push_characters(self, digits, characters)
+        self.append_digits(digits, characters)
     }
 
     /// Asks for room once, where the characters are as long as the first.
@@ -54,7 +54,7 @@ impl EventWriter for String {
         else {
             return Err(WriteFault);
         };
-        push_character_groups(self, digits, grouping, characters)
+        append_groups(self, digits, grouping, characters)
     }
 
     fn open(&mut self, part: Part) -> Result<(), WriteFault>
@@ -75,51 +75,26 @@ impl EventWriter for String {
     }
 }
 
-/// Appends a text.
-fn push_text(out: &mut String, text: &str) -> Result<(), WriteFault>
-    ensures { OnOk result (string_bytes out.new ≡ string_bytes out.old ++ text.now) }
-{
-    out.push_str(text).map_err(|_| WriteFault)
+// A string grows by its own characters.
+impl TextBuffer for String {
+    ghost bytes = { λ s. string_bytes s };
+
+    fn append_text(&mut self, text: &str) -> Result<(), WriteFault> {
+        self.push_str(text).map_err(|_| WriteFault)
+    }
+
+    fn append_digits(&mut self, digits: &[u8], characters: &[char; 10]) -> Result<(), WriteFault> {
+        for digit in digits {
+            push_character(self, characters[*digit as usize])?;
+        }
+        Ok(())
+    }
 }
 
-/// Appends the character of each digit.
-fn push_characters(
-    out: &mut String,
-    digits: &[u8],
-    characters: &[char; 10],
-) -> Result<(), WriteFault>
-    requires { All (λ d. d < 10) digits.now }
+/// Appends a character.
+fn push_character(out: &mut String, character: char) -> Result<(), WriteFault>
     ensures { OnOk result (string_bytes out.new ≡ string_bytes out.old
-        ++ text_of (digit_events characters.now digits.now)) }
+        ++ text_of (Char character ∷ [])) }
 {
-    for digit in digits {
-        out.character(characters[*digit as usize])?;
-    }
-    Ok(())
-}
-
-/// Appends digits in groups, with the separator between two.
-fn push_character_groups(
-    out: &mut String,
-    digits: &[u8],
-    grouping: &Grouping<'_>,
-    characters: &[char; 10],
-) -> Result<(), WriteFault>
-    requires primary { 0 < grouping.now.primary }
-    requires secondary { 0 < grouping.now.secondary }
-    requires below_ten { All (λ d. d < 10) digits.now }
-    ensures { OnOk result (string_bytes out.new ≡ string_bytes out.old
-        ++ joined grouping.now.separator.now
-        (group_texts characters.now (cut grouping.now.primary grouping.now.secondary digits.now))) }
-{
-    let (primary, secondary) = (grouping.primary, grouping.secondary);
-    let (first, mut rest) = digits.split_at(first_group(digits.len(), primary, secondary));
-    push_characters(out, first, characters)?;
-    'groups: while !rest.is_empty() {
-        let (group, after) = rest.split_at(next_group(rest.len(), primary, secondary));
-        push_text(out, grouping.separator)?;
-        push_characters(out, group, characters)?;
-        rest = after;
-    }
-    Ok(())
+    out.push(character).map_err(|_| WriteFault)
 }

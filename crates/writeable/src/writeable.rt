@@ -10,7 +10,7 @@ use std::alloc::Global;
 
 /// A value that writes itself as text with parts.
 ///
-/// A value says how it is written in `write_events` alone; every output is its events.
+/// Only `write_events` says how a value is written: every output is its events.
 pub trait Writeable {
     /// The events of the value.
     ghost events: { Self → List Event };
@@ -54,7 +54,8 @@ pub trait Writeable {
         result
     }
 
-    /// The characters as a text. A `String` refuses only for want of memory; no clause says when the call fails.
+    /// The characters as a text. A `String` refuses only for want of memory; no clause says when
+    /// the call fails.
     final fn write_to_string(&self, alloc: Global) -> Result<String, WriteFault>
         ensures { IfOk result (λ t. string_bytes t ≡ text_of (events self.now)) }
     {

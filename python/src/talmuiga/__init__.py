@@ -9,11 +9,11 @@ A `Formatter` reads its tables once, when it is made, and threads may share it.
 from __future__ import annotations
 
 from decimal import MAX_EMAX, MAX_PREC, MIN_EMIN, ROUND_HALF_EVEN, Context, Decimal, InvalidOperation
-from typing import Iterable, List, Optional, Union
+from typing import Iterable, List, Optional, Tuple, Union
 
 from . import _library
 
-__all__ = ["Formatter", "NoData", "NotFormatted", "Number", "Refused", "TablesRefused", "WordsRefused"]
+__all__ = ["Formatter", "NoData", "NotFormatted", "Number", "Refused", "TablesRefused", "WordsRefused", "tables_fault"]
 __version__ = "0.1.0"
 
 #: What is formatted: a whole number, a decimal, a text that spells one, or a float by its shortest text.
@@ -24,6 +24,9 @@ OUT_OF_MEMORY, WORDS_REFUSED, TABLES_REFUSED, NO_DATA = 1, 2, 3, 4
 
 #: Why a number isn't formatted, by its status.
 REASONS = {6: "not a decimal", 7: "too many digits", 8: "overflow"}
+
+#: The names of parts, by their numbers in the library for C.
+PARTS = {1: "minusSign", 2: "plusSign", 3: "integer", 4: "fraction", 5: "group", 6: "decimal"}
 
 #: Decimals as long as they are.
 EXACT = Context(prec=MAX_PREC, Emax=MAX_EMAX, Emin=MIN_EMIN, rounding=ROUND_HALF_EVEN)
@@ -74,12 +77,17 @@ def rounded(text: str, fraction: int) -> str:
         return text
 
 
-def refusal(status: int, words: List[str]) -> Exception:
+def tables_fault(tables: bytes) -> Optional[str]:
+    """Why tables are refused, in words for people; none where they are accepted."""
+    return _library.fault(bytes(tables)) or None
+
+
+def refusal(status: int, words: List[str], tables: bytes = b"") -> Exception:
     """The exception of a formatter that isn't opened."""
     if status == WORDS_REFUSED:
         return WordsRefused(f"no such locale, system, style or grouping: {' '.join(filter(None, words))}")
     if status == TABLES_REFUSED:
-        return TablesRefused("the tables aren't UTF-8, or their text is refused")
+        return TablesRefused(f"the tables are refused: {_library.fault(tables)}")
     if status == NO_DATA:
         return NoData(f"the tables don't say what a formatter of {words[0]} needs")
     return MemoryError("the library had no memory for a formatter")
@@ -112,12 +120,13 @@ class Formatter:
         fraction: Optional[int] = None,
     ):
         words = [locale, system or "-", style, grouping or ""]
+        tables = bytes(tables)
         try:
-            opened = _library.open(bytes(tables), *words)
+            opened = _library.open(tables, *words)
         except ValueError:  # a NUL, or half of a pair
             raise refusal(WORDS_REFUSED, words) from None
         if isinstance(opened, int):
-            raise refusal(opened, words)
+            raise refusal(opened, words, tables)
         self._opened, self._fraction = opened, fraction
 
     @classmethod
@@ -140,6 +149,19 @@ class Formatter:
         if type(shown) is int:
             raise not_formatted(0, self._text(number), shown)
         return shown
+
+    def parts(self, number: Number) -> Tuple[str, List[Tuple[int, int, str]]]:
+        """The text of one number, and of each of its parts where it begins, where it ends, and its name.
+
+        The places are those of characters in the text, so that `text[begin:end]` is the part. The names are minusSign,
+        plusSign, integer, fraction, group and decimal; the integer holds the separators of its groups, and in a compact
+        number the sign alone has a part. `NotFormatted` where the number has no text.
+        """
+        shown = _library.parts(self._opened, self._text(number))
+        if type(shown) is int:
+            raise not_formatted(0, self._text(number), shown)
+        text, spans = shown
+        return text, [(begin, end, PARTS.get(part, "other")) for begin, end, part in spans]
 
     def format_many(self, numbers: Iterable[Number], *, mark: Optional[str] = None) -> List[str]:
         """The texts of numbers, in their order, by one call of the library.

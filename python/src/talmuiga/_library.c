@@ -7,7 +7,7 @@
 
 static const char NAME[] = "talmuiga formatter";
 
-enum { ROOM = 512 };
+enum { ROOM = 512, SPANS = 64 };
 
 static void close_capsule(PyObject *capsule) {
     talmuiga_formatter_close((talmuiga_formatter *)PyCapsule_GetPointer(capsule, NAME));
@@ -36,17 +36,20 @@ static PyObject *open_english(PyObject *Py_UNUSED(module), PyObject *Py_UNUSED(n
     return opened(status, formatter);
 }
 
-/* The text that a number is formatted to, or the status where it isn't. A text with half of a pair is no decimal. */
+/* The answer to a number that isn't UTF-8: a text with half of a pair is no decimal. */
+static PyObject *no_text(void) {
+    if (!PyErr_ExceptionMatches(PyExc_UnicodeEncodeError)) return NULL;
+    PyErr_Clear();
+    return PyLong_FromLong(TALMUIGA_NOT_DECIMAL);
+}
+
+/* The text that a number is formatted to, or the status where it isn't. */
 static PyObject *shown(const talmuiga_formatter *formatter, PyObject *number) {
     char room[ROOM], *output = room;
     Py_ssize_t len;
     size_t length;
     const char *text = PyUnicode_AsUTF8AndSize(number, &len);
-    if (!text) {
-        if (!PyErr_ExceptionMatches(PyExc_UnicodeEncodeError)) return NULL;
-        PyErr_Clear();
-        return PyLong_FromLong(TALMUIGA_NOT_DECIMAL);
-    }
+    if (!text) return no_text();
     uint32_t status = talmuiga_formatter_one(formatter, text, (size_t)len, output, ROOM, &length);
     if (status == TALMUIGA_OUTPUT_TOO_SMALL) {
         output = (char *)PyMem_Malloc(length);
@@ -66,6 +69,63 @@ static PyObject *one(PyObject *Py_UNUSED(module), PyObject *words) {
     return formatter ? shown(formatter, number) : NULL;
 }
 
+/* A list of spans as triples; places in bytes become places in characters. */
+static PyObject *triples(const char *text, size_t length, const talmuiga_span *spans, size_t count) {
+    PyObject *list = NULL;
+    Py_ssize_t *characters = (Py_ssize_t *)PyMem_Malloc((length + 1) * sizeof *characters);
+    if (!characters) return PyErr_NoMemory();
+    characters[0] = 0;
+    for (size_t i = 0; i < length; i++) {
+        /* each byte begins a character that doesn't continue one */
+        characters[i + 1] = characters[i] + (((unsigned char)text[i] & 0xC0) != 0x80);
+    }
+    list = PyList_New((Py_ssize_t)count);
+    for (size_t i = 0; list && i < count; i++) {
+        PyObject *triple =
+            Py_BuildValue("(nnI)", characters[spans[i].start], characters[spans[i].end], (unsigned)spans[i].part);
+        if (!triple || PyList_SetItem(list, (Py_ssize_t)i, triple)) Py_CLEAR(list);
+    }
+    PyMem_Free(characters);
+    return list;
+}
+
+/* The text that a number is formatted to and its parts, or the status where it isn't. */
+static PyObject *shown_in_parts(const talmuiga_formatter *formatter, PyObject *number) {
+    char room[ROOM], *output = room;
+    talmuiga_span few[SPANS], *spans = few;
+    Py_ssize_t len;
+    size_t length, count;
+    PyObject *answer = NULL;
+    const char *text = PyUnicode_AsUTF8AndSize(number, &len);
+    if (!text) return no_text();
+    uint32_t status = talmuiga_formatter_parts(formatter, text, (size_t)len, output, ROOM, &length, spans, SPANS, &count);
+    if (status == TALMUIGA_OUTPUT_TOO_SMALL) {
+        output = (char *)PyMem_Malloc(length);
+        spans = (talmuiga_span *)PyMem_Malloc(count * sizeof *spans);
+        if (output && spans) {
+            status = talmuiga_formatter_parts(formatter, text, (size_t)len, output, length, &length, spans, count, &count);
+        }
+    }
+    if (!output || !spans) {
+        PyErr_NoMemory();
+    } else if (status) {
+        answer = PyLong_FromUnsignedLong(status);
+    } else {
+        PyObject *list = triples(output, length, spans, count);
+        if (list) answer = Py_BuildValue("(s#N)", output, (Py_ssize_t)length, list);
+    }
+    if (output != room) PyMem_Free(output);
+    if (spans != few) PyMem_Free(spans);
+    return answer;
+}
+
+static PyObject *parts(PyObject *Py_UNUSED(module), PyObject *words) {
+    PyObject *capsule, *number;
+    if (!PyArg_ParseTuple(words, "OU", &capsule, &number)) return NULL;
+    const talmuiga_formatter *formatter = (const talmuiga_formatter *)PyCapsule_GetPointer(capsule, NAME);
+    return formatter ? shown_in_parts(formatter, number) : NULL;
+}
+
 /* A list of what `one` answers to each text of a list. */
 static PyObject *many(PyObject *Py_UNUSED(module), PyObject *words) {
     PyObject *capsule, *numbers;
@@ -82,10 +142,31 @@ static PyObject *many(PyObject *Py_UNUSED(module), PyObject *words) {
     return answers;
 }
 
+/* Why tables are refused, in words; nothing where they are accepted. */
+static PyObject *fault(PyObject *Py_UNUSED(module), PyObject *words) {
+    char room[ROOM], *output = room;
+    const char *tables;
+    Py_ssize_t len;
+    size_t length;
+    if (!PyArg_ParseTuple(words, "y#", &tables, &len)) return NULL;
+    uint32_t status = talmuiga_tables_fault(tables, (size_t)len, output, ROOM, &length);
+    if (length > ROOM) {
+        output = (char *)PyMem_Malloc(length);
+        if (!output) return PyErr_NoMemory();
+        status = talmuiga_tables_fault(tables, (size_t)len, output, length, &length);
+    }
+    PyObject *answer = status == TALMUIGA_OUT_OF_MEMORY ? PyErr_NoMemory()
+                                                        : PyUnicode_DecodeUTF8(output, (Py_ssize_t)length, NULL);
+    if (output != room) PyMem_Free(output);
+    return answer;
+}
+
 static PyMethodDef methods[] = {
     {"open", open_by_tables, METH_VARARGS, "A formatter by tables and words, or a status."},
     {"open_english", open_english, METH_NOARGS, "A formatter in plain English, or a status."},
+    {"fault", fault, METH_VARARGS, "Why tables are refused; an empty text where they aren't."},
     {"one", one, METH_VARARGS, "What a text is formatted to, or a status."},
+    {"parts", parts, METH_VARARGS, "What a text is formatted to and its parts, in characters, or a status."},
     {"many", many, METH_VARARGS, "A list of what the texts of a list are formatted to, or of statuses."},
     {NULL, NULL, 0, NULL},
 };

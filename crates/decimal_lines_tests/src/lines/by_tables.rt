@@ -1,5 +1,5 @@
-//! Lines by the words of a program and the bytes of its tables, from the reading of both on: short and long numbers, and
-//! plain ones in other numbering systems.
+//! Lines by the words of a program and the bytes of its tables, from reading both on: short and
+//! long numbers, and plain ones in other numbering systems.
 
 use super::runs_by;
 use decimal_lines::{Mode, StartError, Words, parse_words};

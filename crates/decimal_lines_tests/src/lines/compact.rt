@@ -3,9 +3,10 @@
 use super::slow::Full;
 use super::{english, many, nines, runs_by, runs_slowly};
 use decimal_lines::{Mode, RunError};
-use icu_base::{Pattern, PluralElements, PluralRules, SinglePlaceholder};
 use icu_decimal::provider::CompactPatterns;
 use icu_decimal::{CompactDecimalFormatter, DecimalFormatter};
+use icu_pattern::{Pattern, SinglePlaceholder};
+use icu_plurals::{PluralElements, PluralRules};
 use std::alloc::{AllocError, Global};
 use std::collections::BTreeMap;
 
@@ -24,7 +25,8 @@ fn is_put_once(alloc: Global, map: &mut BTreeMap<u8, (u8, Elements)>, row: (u8, 
     }
 }
 
-/// The map of the rows, each put once more where memory was refused; with more want of memory some are left out.
+/// The map of the rows, each put once more where memory was refused; if it is refused again, some
+/// are left out.
 fn map(alloc: Global) -> BTreeMap<u8, (u8, Elements)> {
     let mut map = BTreeMap::new(alloc);
     for &row in &ROWS {
@@ -94,7 +96,8 @@ fn answers(alloc: Global, input: &[u8], want: &[u8]) -> bool {
     }
 }
 
-/// Lines and their answers: halves go to the even number, a carry takes the next pattern, small numbers show two digits.
+/// Lines and their answers: halves go to the even number, a carry takes the next pattern, small
+/// numbers show two digits.
 const LINES: [(&str, &str); 7] = [
     ("1650\n1750\n1950", "1.6K\n1.8K\n2K\n"),
     ("999499.99\n999500.00\r\n", "999K\n1M\n"),
@@ -133,8 +136,8 @@ fn refuses_numbers_past_the_limits(rt: HostRuntime) {
     assert!(rt; answers_nines(rt.alloc(), 32768, b'x', b"error: not a decimal\n"));
 }
 
-/// Whether a run over three numbers, of which so many bytes can be read, into a writer with this room ends so and leaves
-/// this.
+/// Whether a run over three numbers, of which so many bytes can be read, into a writer with this
+/// room ends so and leaves this there.
 fn ends(
     alloc: Global,
     good: usize,
@@ -150,7 +153,8 @@ fn ends(
 /// What is written of the three numbers.
 const WRITTEN: &[u8] = b"1.6K\n1.8K\n2K\n";
 
-/// Whether a writer with this room is left with a beginning, both where it fails then and where it takes no more.
+/// Whether a writer with this room is left with a beginning, if it then fails and also if it then
+/// takes no more.
 fn keeps(alloc: Global, room: usize) -> bool {
     let Some(want) = WRITTEN.get(..room) else {
         return false;

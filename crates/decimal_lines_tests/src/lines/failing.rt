@@ -17,7 +17,8 @@ const ROOMS: [(usize, &str); 6] = [
     (5, "5\n6\n7"),
 ];
 
-/// Whether a writer with this room is left with this, both where it fails then and where it takes no more.
+/// Whether a writer with this room is left with this, if it then fails and also if it then takes no
+/// more.
 fn keeps(alloc: Global, room: usize, want: &[u8]) -> bool {
     let fault = Err(RunError::Write);
     ends(

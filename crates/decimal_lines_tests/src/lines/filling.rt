@@ -33,7 +33,8 @@ fn fill(alloc: Global, input: &[u8], output: &mut [u8]) -> Option<Filled> {
     }
 }
 
-/// Whether an output with this room holds so many bytes of the answers, and behind them what it held.
+/// Whether an output with this room holds so many bytes of the answers, and behind them what it
+/// held before.
 fn fills(alloc: Global, room: usize, written: usize, cause: Option<FillError>) -> bool {
     let mut output = [b'x'; 16];
     let outcome = match cause {

@@ -1,4 +1,5 @@
-//! An input that is answered in outputs of each length: how far, and how much room the next line needs.
+//! An input that is answered in outputs of each length: how far, and how much room the next line
+//! needs.
 
 use super::{english, many};
 use decimal_lines::{FillError, Progress, format_some};
@@ -9,7 +10,8 @@ const LINES: &[u8] = b"5\n6\r\n1234";
 /// The answers, and how many bytes behind them are left as they were.
 const ALL: &[u8] = b"5\n6\n1,234\n";
 
-/// A room, and how far it takes the input: what is consumed and written, and what the next line needs, if not all is.
+/// A room, and how far it takes the input: what is consumed and written, and what the next line
+/// needs, if a line is left.
 const ROOMS: [(usize, usize, usize, usize); 9] = [
     (0, 0, 0, 2),
     (1, 0, 0, 2),
@@ -73,8 +75,8 @@ fn goes_as_far_as_the_room(rt: HostRuntime) {
     }
 }
 
-/// How many lines a large input has, how long the answers to 12,000 of them are, how many bytes these lines have, and how
-/// long the next answer is.
+/// How many lines a large input has, how long the answers to 12,000 of them are, how many bytes
+/// these lines have, and how long the next answer is.
 const COUNT: usize = 20000;
 
 const ROOM: usize = 156000;

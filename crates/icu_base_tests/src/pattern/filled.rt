@@ -35,7 +35,8 @@ impl Writeable for Twelve {
     }
 }
 
-/// The text of a value in a pattern is that of the pattern's events around the value's: that is what its contract says.
+/// The text of a value in a pattern is that of the pattern's events around the value's: that is
+/// what its contract says.
 fn text_with<P: PatternBackend, W: Writeable + Drop>(
     alloc: Global,
     pattern: &Pattern<P>,
@@ -63,7 +64,7 @@ fn is_text_with<P: PatternBackend>(
     }
 }
 
-/// Whether a sink holds this text with these spans; asked once more where memory was wanting.
+/// Whether a sink holds this text with these spans; the call is repeated if memory ran out.
 fn is_annotated(
     alloc: Global,
     sink: &PartsText,
@@ -82,7 +83,8 @@ fn is_annotated(
     }
 }
 
-/// Whether a value leaves this text with these spans in a sink; asked once more where a growth was refused.
+/// Whether a value leaves this text with these spans in a sink; the call is repeated if a growth
+/// failed.
 fn writes_parts<T: Writeable>(
     alloc: Global,
     value: &T,
@@ -99,7 +101,8 @@ fn writes_parts<T: Writeable>(
     is_annotated(alloc, &sink, text, want)
 }
 
-/// Whether a value leaves this text without spans in a sink; asked once more where a growth was refused.
+/// Whether a value leaves this text without spans in a sink; the call is repeated if a growth
+/// failed.
 fn writes_characters<T: Writeable>(alloc: Global, value: &T, text: &str) -> bool {
     let mut sink = PartsText::new(alloc);
     if value.write_to(&mut sink).is_err() {
@@ -119,7 +122,8 @@ fn is_made(made: Result<String, AllocError>, want: &str) -> bool {
     }
 }
 
-/// Whether a value is displayed with these characters, unpadded, under a width, a fill, a precision and the alternate form.
+/// Whether a value is displayed with these characters, unpadded, under a width, a fill, a precision
+/// and the alternate form.
 fn is_styled<T: fmt::Display>(alloc: Global, value: &T, want: &str) -> bool {
     is_made(format!(in alloc; "{value:>80}"), want)
         && is_made(format!(in alloc; "{value:*^80}"), want)
@@ -127,7 +131,7 @@ fn is_styled<T: fmt::Display>(alloc: Global, value: &T, want: &str) -> bool {
         && is_made(format!(in alloc; "{value:#}"), want)
 }
 
-/// The same, asked once more where memory was wanting.
+/// The same; the call is repeated if memory ran out.
 fn is_displayed_unpadded<T: fmt::Display>(alloc: Global, value: &T, want: &str) -> bool {
     is_styled(alloc, value, want) || is_styled(alloc, value, want)
 }
@@ -202,7 +206,7 @@ fn is_filled(rt: &impl Abort, alloc: Global, case: &Case) -> bool {
         && is_displayed_unpadded(alloc, &filled, case.text)
 }
 
-/// Whether the text 12 in a pattern, kept or lent, has this text.
+/// Whether the text 12 in a pattern, owned or borrowed, has this text.
 fn is_filled_text(rt: &impl Abort, alloc: Global, case: &Case) -> bool {
     let pattern = pattern_of::<SinglePlaceholder>(rt, alloc, case.place, case.literal);
     is_text_with(alloc, &pattern, "12", case.text)
@@ -247,8 +251,8 @@ fn passes_the_value_through(rt: HostRuntime) {
     assert!(rt; passes_through(rt.alloc()));
 }
 
-/// Whether a sink with this limit holds this text, and failed where the limit is less than all six events: a character,
-/// open, two characters, close, a character.
+/// Whether a sink with this limit holds this text, and failed where the limit is less than all six
+/// events: a character, open, two characters, close, a character.
 fn stops(rt: &impl Abort, alloc: Global, limit: usize, text: &str) -> bool {
     let pattern = pattern_of::<SinglePlaceholder>(rt, alloc, Some(1), "~K");
     let filled = pattern.interpolate(Twelve);

@@ -47,7 +47,8 @@ fn judges<P: PatternBackend>(
     }
 }
 
-/// Whether the backend accepts a place in a literal that is borrowed or refuses it, as its test says.
+/// Whether the backend accepts a place in a literal that is borrowed or refuses it, as its test
+/// says.
 fn judges_lent<P: PatternBackend>(place: Option<usize>, literal: &str, is_accepted: bool) -> bool {
     match PatternRef::<P>::try_new(place, literal) {
         Ok(lent) => is_accepted && lent.place() == place && lent.literal() == literal,
@@ -59,7 +60,7 @@ const PLACES: [usize; 11] = [0, 1, 2, 3, 4, 5, 6, 7, 8, 9, usize::MAX];
 
 /// Whether just the edges of the characters are places.
 fn has_edges(alloc: Global, literal: &Literal) -> bool {
-    for place in PLACES {
+    for &place in &PLACES {
         let is_edge = literal.edges.contains(&place);
         if SinglePlaceholder::accepts(Some(place), literal.text) != is_edge
             || !judges::<SinglePlaceholder>(alloc, Some(place), literal.text, is_edge)
@@ -101,7 +102,7 @@ fn accepts_no_place_where_there_is_none(rt: HostRuntime) {
     }
 }
 
-/// Whether a pattern's copy is equal to it, asked for again where memory was wanting.
+/// Whether a pattern's copy is equal to it; the call is repeated if memory ran out.
 fn is_copied<P: PatternBackend>(
     alloc: Global,
     pattern: &Pattern<P>,
@@ -128,7 +129,7 @@ fn has_a_copy<P: PatternBackend>(
     is_copied(alloc, &pattern, place, literal)
 }
 
-/// Whether two patterns, kept and lent, are equal.
+/// Whether two patterns, owned and borrowed, are equal.
 fn are_equal<P: PatternBackend>(
     rt: &impl Abort,
     alloc: Global,
@@ -156,7 +157,8 @@ const PLACED: [(Option<usize>, &str); 7] = [
 
 const UNPLACED: [(Option<usize>, &str); 4] = [(None, ""), (None, "K"), (None, "M"), (None, "K ")];
 
-/// Whether the patterns of these places and literals are each equal to themselves and to their copies, and to no other.
+/// Whether the patterns of these places and literals are each equal to themselves and to their
+/// copies, and to no other.
 fn are_different<P: PatternBackend>(
     rt: &impl Abort,
     alloc: Global,
@@ -181,7 +183,7 @@ fn equal_by_place_and_by_literal(rt: HostRuntime) {
     assert!(rt; are_different::<NoPlaceholder>(&rt, rt.alloc(), &UNPLACED));
 }
 
-/// So many letters, made once more where memory was refused.
+/// That many letters; the call is repeated if an allocation failed.
 fn letters(alloc: Global, count: usize) -> Result<Vec<u8>, AllocError> {
     match Vec::from_elem(alloc, b'K', count) {
         Ok(letters) => Ok(letters),
@@ -189,7 +191,8 @@ fn letters(alloc: Global, count: usize) -> Result<Vec<u8>, AllocError> {
     }
 }
 
-/// Whether a literal of so many letters is accepted with a place at its end, kept, lent and copied.
+/// Whether a literal of that many letters is accepted with a place at its end, owned, borrowed and
+/// copied.
 fn accepts_letters(rt: &impl Abort, alloc: Global, count: usize) -> bool {
     match letters(alloc, count) {
         Ok(letters) => {

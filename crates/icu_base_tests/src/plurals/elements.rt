@@ -169,7 +169,8 @@ const EXPLICIT: &[(&str, u8, u8)] = &[
     ("1000000000000000001", 0, 8),
 ];
 
-/// What a number, which is a decimal in text and an exponent, selects of all slots where every number has a category.
+/// What a number, which is a decimal in text and an exponent, selects of all slots where every
+/// number has a category.
 fn selected(
     rt: &impl Abort,
     alloc: Global,
@@ -248,7 +249,8 @@ fn counted_dollars() -> PluralElements<&'static str> {
         .with_explicit_one_value(Some("un dollar US"))
 }
 
-/// Whether a number, which is a decimal in text and an exponent, gets this value by the rules of French.
+/// Whether a number, which is a decimal in text and an exponent, gets this value by the rules of
+/// French.
 fn gets(
     rt: &impl Abort,
     alloc: Global,

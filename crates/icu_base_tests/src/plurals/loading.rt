@@ -10,8 +10,8 @@ use std::alloc::Global;
 use std::cell::Cell;
 use std::process::Abort;
 
-/// Has rules for French alone, asked without a numbering system; refuses all others by its error. It counts how often it
-/// is asked, and how often it isn't asked to be silent.
+/// Has rules for French alone, asked without a numbering system; refuses all others by its error.
+/// It counts how often it is asked, and how often it isn't asked to be silent.
 #[derive(Drop)]
 struct FrenchRules {
     rules: PluralRules,
@@ -65,7 +65,7 @@ fn preferences(locale: &str) -> PluralRulesPreferences {
     }
 }
 
-/// The rules for a locale, asked for again where memory was wanting.
+/// The rules for a locale; the call is repeated if memory ran out.
 fn loaded(alloc: Global, provider: &FrenchRules, locale: &str) -> Result<PluralRules, DataError> {
     match PluralRules::try_new_cardinal_unstable(alloc, provider, preferences(locale)) {
         Ok(rules) => Ok(rules),
@@ -101,7 +101,7 @@ const ANSWERED: [(&[(PluralCategory, &str)], &str, PluralCategory); 4] = [
 
 #[test]
 fn answers_the_rules_of_the_provider(rt: HostRuntime) {
-    for (rules, number, category) in ANSWERED {
+    for &(rules, number, category) in &ANSWERED {
         assert!(rt; gives(&rt, rt.alloc(), rules, number, category), "{number}");
     }
 }

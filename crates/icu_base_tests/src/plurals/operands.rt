@@ -6,7 +6,7 @@ use icu_plurals::{PluralCategory, PluralOperands};
 use std::alloc::Global;
 use std::process::Abort;
 
-/// Seven times ten to the power, tried again where memory was wanting.
+/// Seven times ten to the power; the call is repeated if memory ran out.
 fn seven_times_ten_to(rt: &impl Abort, alloc: Global, power: i16) -> Decimal {
     let mut seven = decimal_of(rt, alloc, "7");
     if seven.multiply_pow10(power).is_err() && seven.multiply_pow10(power).is_err() {
@@ -165,8 +165,9 @@ fn eighteen_fraction_digits_are_seen(rt: HostRuntime) {
     }
 }
 
-/// Numbers with more than eighteen integer digits: no list has i, and by a modulus of 10^18 - 1 it is what its eighteen
-/// lowest digits are, or 0 where these are all nines, which the modulus of 10^17 tells from all zeros.
+/// Numbers with more than eighteen integer digits: no list has i, and by a modulus of 10^18 - 1 it
+/// is what its eighteen lowest digits are, or 0 where these are all nines, which the modulus of
+/// 10^17 tells from all zeros.
 const LARGE: &[(&str, u8, &str)] = &[
     ("1000000000000000000", 0, ALL_ZEROS),
     (

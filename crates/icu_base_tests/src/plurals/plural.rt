@@ -16,7 +16,7 @@ pub(crate) const FRENCH: [(PluralCategory, &str); 2] = [
     ),
 ];
 
-/// The decimal, read again where memory was wanting.
+/// The decimal; the call is repeated if memory ran out.
 pub(crate) fn decimal_of(rt: &impl Abort, alloc: Global, text: &str) -> Decimal {
     match Decimal::try_from_str(alloc, text) {
         Ok(decimal) => decimal,
@@ -39,7 +39,7 @@ pub(crate) fn operands_of(
     PluralOperands::from_significand_and_exponent(&decimal.absolute, exponent)
 }
 
-/// The rules, asked for again where memory was wanting.
+/// The rules; the call is repeated if memory ran out.
 pub(crate) fn judged(
     alloc: Global,
     rules: &[(PluralCategory, &str)],
@@ -62,7 +62,8 @@ pub(crate) fn rules_of(
     }
 }
 
-/// The category of a number, which is a decimal in text and an exponent, by one rule for the category one.
+/// The category of a number, which is a decimal in text and an exponent, by one rule for the
+/// category one.
 pub(crate) fn category_by(
     rt: &impl Abort,
     alloc: Global,

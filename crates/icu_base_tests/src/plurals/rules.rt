@@ -144,7 +144,7 @@ fn tells_the_operands_of_a_number(rt: HostRuntime) {
     }
 }
 
-/// Equal rules, asked for again where memory was wanting.
+/// Equal rules; the call is repeated if memory ran out.
 fn copy_of(rt: &impl Abort, alloc: Global, rules: &PluralRules) -> PluralRules {
     match rules.copy(alloc) {
         Ok(copied) => copied,
@@ -182,7 +182,7 @@ fn takes_the_first_rule_that_holds(rt: HostRuntime) {
     assert!(rt; gives(&rt, rt.alloc(), &[], "1", Other));
 }
 
-/// The condition that a number isn't nine, so many times.
+/// The condition that a number isn't nine, that many times.
 fn not_nine_once(alloc: Global, count: usize) -> Result<Vec<u8>, AllocError> {
     let mut text = Vec::new(alloc);
     for _ in 0..count {
@@ -192,7 +192,7 @@ fn not_nine_once(alloc: Global, count: usize) -> Result<Vec<u8>, AllocError> {
     Ok(text)
 }
 
-/// The same, made once more where memory was refused.
+/// The same; the call is repeated if an allocation failed.
 fn not_nine(alloc: Global, count: usize) -> Result<Vec<u8>, AllocError> {
     match not_nine_once(alloc, count) {
         Ok(text) => Ok(text),
@@ -200,7 +200,8 @@ fn not_nine(alloc: Global, count: usize) -> Result<Vec<u8>, AllocError> {
     }
 }
 
-/// Whether five rules with a condition of so many relations, and their copy, give a number this category.
+/// Whether five rules with a condition of that many relations, and their copy, give a number this
+/// category.
 fn gives_by_long_rules(
     rt: &impl Abort,
     alloc: Global,

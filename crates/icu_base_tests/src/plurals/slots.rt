@@ -54,7 +54,7 @@ fn first_present(slots: &[usize], present: &[bool; 8]) -> Option<usize> {
 #[test]
 fn takes_the_first_slot_that_is_present(rt: HostRuntime) {
     let rules = rules_of(&rt, rt.alloc(), &RULES);
-    for (text, exponent, slots) in ROWS {
+    for &(text, exponent, slots) in &ROWS {
         let operands = operands_of(&rt, rt.alloc(), text, exponent);
         for bits in 0..128 {
             let present = presence(bits);

@@ -5,7 +5,7 @@ use icu_provider::{BadLocale, DataError, DataErrorKind};
 use std::alloc::Global;
 use std::fmt::Display;
 
-/// Whether a value is displayed so; asked once more where memory was refused.
+/// Whether a value is displayed so; the call is repeated if an allocation failed.
 fn is_displayed<T: Display>(alloc: Global, value: &T, want: &str) -> bool {
     match format!(in alloc; "{value}") {
         Ok(text) => text.as_str() == want,

@@ -14,7 +14,8 @@ impl DataMarker for LengthV1 {
     type DataStruct = usize;
 }
 
-/// Knows how long the texts of locales are, but not those of two bytes, and fails where a system is asked for.
+/// Knows how long the texts of locales are, but not those of two bytes, and fails where a system is
+/// asked for.
 struct Lengths;
 
 impl DataProvider<LengthV1> for Lengths {

@@ -27,7 +27,8 @@ pub(super) const ADLAM: [char; 10] = [
 /// Latin but for the nine.
 pub(super) const MIXED: [char; 10] = ['0', '1', '2', '3', '4', '5', '6', '7', '8', '৯'];
 
-/// Digits in a part, between a character and a text. Without a table they are written as '0' to '9'.
+/// Digits in a part, between a character and a text. Without a table they are written as '0' to
+/// '9'.
 fn write_parts<K: EventWriter>(
     out: &mut K,
     digits: &[u8],

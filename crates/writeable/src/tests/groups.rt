@@ -14,7 +14,8 @@ const ARABIC: [char; 10] = [
     '\u{668}', '\u{669}',
 ];
 
-/// How many digits, the sizes of the last group and of those before it, the separator, and the text with its parts.
+/// How many digits, the sizes of the last group and of those before it, the separator, and the text
+/// with its parts.
 const ROWS: [(usize, (usize, usize), &str, &str); 29] = [
     (0, (3, 3), ",", ""),
     (1, (3, 3), ",", "1"),

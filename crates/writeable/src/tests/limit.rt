@@ -45,8 +45,8 @@ fn leaves_out_the_empty_suffix(rt: HostRuntime) {
     assert!(rt; has_spans(rt.alloc(), &spans));
 }
 
-/// A sink with a limit takes just the first events of a value, unless a growth was refused to it: that is what its contract
-/// says, of every value.
+/// A sink with a limit takes just the first events of a value, unless a growth was refused to it:
+/// that is what its contract says, of every value.
 fn first_events<T: Writeable>(alloc: Global, value: &T, limit: usize) -> PartsText
     ensures { result.refusals ≡ 0 → result.events ≡ take limit (T.events value.now) }
 {
@@ -93,7 +93,8 @@ fn is_full(sink: &mut PartsText) -> bool {
         && sink.close_part() == Err(WriteFault)
 }
 
-/// Whether a sink takes the characters that fit and is full then; asked once more where a growth was refused.
+/// Whether a sink takes the characters that fit and is full then; asked once more where a growth
+/// was refused.
 fn keeps(alloc: Global, limit: usize, front: &str) -> bool {
     let mut sink = PartsText::with_limit(alloc, limit);
     let mut written = sink.write_str(FRONTS[4]);

@@ -104,7 +104,8 @@ fn is_in_parts(alloc: Global, shown: &Shown<'_>, want: &PartsText) -> bool {
     written.is_ok() && sink.text() == want.text() && equal == Ok(true)
 }
 
-/// Whether each writer gets this text, in which brackets show the parts; asked once more where memory was refused.
+/// Whether each writer gets this text, in which brackets show the parts; asked once more where
+/// memory was refused.
 pub(super) fn is_written(alloc: Global, shown: &Shown<'_>, marked: &str) -> bool {
     let (_, want) = sink_with(alloc, None, marked);
     let text = want.text();

@@ -43,7 +43,8 @@ impl fmt::Display for Grouped<'_> {
     }
 }
 
-/// Whether a value leaves this text with these spans in a sink; asked once more where a growth was refused.
+/// Whether a value leaves this text with these spans in a sink; asked once more where a growth was
+/// refused.
 fn writes_parts<T: Writeable>(
     alloc: Global,
     value: &T,
@@ -60,7 +61,8 @@ fn writes_parts<T: Writeable>(
     is_annotated(alloc, &sink, text, want)
 }
 
-/// Whether a value leaves this text without spans in a sink; asked once more where a growth was refused.
+/// Whether a value leaves this text without spans in a sink; asked once more where a growth was
+/// refused.
 fn writes_characters<T: Writeable>(alloc: Global, value: &T, text: &str) -> bool {
     let mut sink = PartsText::new(alloc);
     if value.write_to(&mut sink).is_err() {
@@ -100,7 +102,8 @@ fn is_made(made: Result<String, AllocError>, want: &str) -> bool {
     }
 }
 
-/// Whether a value is displayed with these characters, unpadded, under a width, a fill, a precision and the alternate form.
+/// Whether a value is displayed with these characters, unpadded, under a width, a fill, a precision
+/// and the alternate form.
 fn is_styled<T: fmt::Display>(alloc: Global, value: &T, want: &str) -> bool {
     is_made(format!(in alloc; "{value:>80}"), want)
         && is_made(format!(in alloc; "{value:*^80}"), want)
@@ -171,8 +174,8 @@ fn writes_a_long_text_in_each_way(rt: HostRuntime) {
     assert!(rt; writes_letters(rt.alloc(), 200000));
 }
 
-/// Whether a sink with this limit holds this text, and failed where the limit is less than all four events: open, two
-/// characters, close.
+/// Whether a sink with this limit holds this text, and failed where the limit is less than all four
+/// events: open, two characters, close.
 fn stops(alloc: Global, limit: usize, text: &str) -> bool {
     let mut sink = PartsText::with_limit(alloc, limit);
     let mut written = Grouped { text: "12" }.write_to_parts(&mut sink);

@@ -1,6 +1,6 @@
 use Rattle.std.proofs.Common.{◌≡◌, ◌++◌, ◌∷◌, [], List, ℕ, Some, length, arith, sym, ap, ◌∙◌, subst}
 use Rattle.std.proofs.lemmas.Bool.{eqb-true}
-use Rattle.decimal_lines.specs.Answers.{answer_to}
+use Rattle.decimal_lines.specs.LineAnswers.{answer_to}
 use Rattle.decimal_lines.specs.Lines.{line_output}
 use Rattle.decimal_lines.specs.Written.{Feeds}
 use Rattle.decimal_lines.proofs.Parts.{nothing_of}

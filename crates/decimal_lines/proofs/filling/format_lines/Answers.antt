@@ -1,6 +1,6 @@
 use Rattle.std.proofs.Common.{◌≡◌, ◌<◌, length, refl, arith}
 use Rattle.std.proofs.lemmas.Bool.Decides.{nat_tests}
-use Rattle.decimal_lines.specs.Answers.{answer_to}
+use Rattle.decimal_lines.specs.LineAnswers.{answer_to}
 use Rattle.decimal_lines.specs.declared.filling.FillError.TheVariants.{OutOfMemory, TooSmall}
 use Rattle.decimal_lines.proofs.FilledLines.{Fills-longer, Fills-nothing, Fills-room, Fills-then}
 use Rattle.decimal_lines.proofs.filling.format_lines.Goals as goal

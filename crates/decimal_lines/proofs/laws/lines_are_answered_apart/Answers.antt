@@ -1,4 +1,4 @@
-use Rattle.decimal_lines.specs.Answers.{answer_to}
+use Rattle.decimal_lines.specs.LineAnswers.{answer_to}
 use Rattle.decimal_lines.proofs.Apart.{pieces_apart}
 use Rattle.decimal_lines.proofs.Parts.{output_of-append}
 use Rattle.decimal_lines.proofs.laws.lines_are_answered_apart.Goals as goal

@@ -1,7 +1,7 @@
 use Rattle.std.proofs.Common.{◌≡◌, arith, refl}
 use Rattle.std.specs.Prelude.{codes}
 use Rattle.std.proofs.lemmas.Grind.{common_steps}
-use Rattle.decimal_lines.specs.Answers.{answer_to, shown_by}
+use Rattle.decimal_lines.specs.LineAnswers.{answer_to, shown_by}
 use Rattle.decimal_lines.proofs.Answering.{answer_to-nothing, answer_to-past, answer_to-decimal, appended}
 use Rattle.decimal_lines.proofs.line.push_answer.Goals as goal
 

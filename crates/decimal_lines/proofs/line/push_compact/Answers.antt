@@ -1,6 +1,6 @@
 use Rattle.std.proofs.Common.{◌≡◌, refl}
 use Rattle.std.specs.Prelude.{codes}
-use Rattle.icu_base.specs.Events.{text_of}
+use Rattle.writeable.specs.Events.{text_of}
 use Rattle.icu_decimal.specs.CompactFormat.{significand_of, signed_compact_shown}
 use Rattle.decimal_lines.specs.Compact.{compact_answer}
 use Rattle.decimal_lines.proofs.Answering.{appended}

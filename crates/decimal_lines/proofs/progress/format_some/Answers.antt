@@ -1,6 +1,6 @@
 use Rattle.std.proofs.Common.{◌≡◌, ℕ, List, ◌<◌, length, sym, ap, ◌∙◌, arith}
 use Rattle.std.proofs.lemmas.Bool.Decides.{nat_tests}
-use Rattle.decimal_lines.specs.Answers.{answer_to}
+use Rattle.decimal_lines.specs.LineAnswers.{answer_to}
 use Rattle.decimal_lines.specs.Lines.{line_output}
 use Rattle.decimal_lines.proofs.Consumed.{Fills-needs}
 use Rattle.decimal_lines.proofs.FilledLines.{Fills-nothing, Fills-then}

@@ -1,5 +1,5 @@
 use Rattle.std.proofs.Common.{length}
-use Rattle.decimal_lines.specs.Answers.{answer_to}
+use Rattle.decimal_lines.specs.LineAnswers.{answer_to}
 use Rattle.decimal_lines.proofs.FilledLines.{Fills}
 use Rattle.decimal_lines.proofs.progress.format_some.Given as goal
 

@@ -1,5 +1,5 @@
 use Rattle.std.proofs.Common.{◌≡◌, sym, ap, ◌++◌, ◌∙◌, List, ℕ}
-use Rattle.decimal_lines.specs.Answers.{answer_to}
+use Rattle.decimal_lines.specs.LineAnswers.{answer_to}
 use Rattle.decimal_lines.specs.Lines.{output_of, line_output}
 use Rattle.decimal_lines.proofs.Parts.{output_of-part, output_of-none}
 use Rattle.decimal_lines.proofs.Known.{Appends-nothing, AppendsBeginning-nothing, AppendsProperBeginning-is_beginning}

@@ -1,6 +1,6 @@
 use Rattle.std.proofs.Common.{refl, ◌++◌, [], List, ℕ, take, arith}
 use Rattle.std.proofs.lemmas.Result.{on_ok_weaker, on_err_weaker}
-use Rattle.decimal_lines.specs.Answers.{answer_to}
+use Rattle.decimal_lines.specs.LineAnswers.{answer_to}
 use Rattle.decimal_lines.specs.Written.{Feeds}
 use Rattle.decimal_lines.proofs.Known.{Consumes-then, Consumes-keeps, Consumes-nothing, Consumes-none}
 use Rattle.decimal_lines.proofs.Fed.{Feeds-nothing, Feeds-then, Feeds-breaks, Feeds-written, Feeds-unwritten}

@@ -1,6 +1,6 @@
 use Rattle.std.proofs.Common.{ℕ, List, []}
 use Rattle.std.specs.Io.KnownBytes.{Consumes}
-use Rattle.decimal_lines.specs.Answers.{answer_to}
+use Rattle.decimal_lines.specs.LineAnswers.{answer_to}
 use Rattle.decimal_lines.specs.Written.{Feeds}
 use Rattle.decimal_lines.proofs.running.run_by.Given as goal
 

@@ -1,3 +1,7 @@
+-- The goals split on whether the magnitude that rounding reached has the entry of the input's magnitude. If it has, the significand is the
+-- rounded one. If it has another entry, rounding carried, the rounded size is a power of ten, and the significand is what the other
+-- entry's exponent leaves of that power. `here` gathers in each goal what the first steps say of the input's magnitude (`IsEntryHere` of
+-- DisplayedSteps, whose lemmas do the rest). That the power is within the range of its type is known since rounding isn't past the limits.
 use Rattle.std.proofs.Common.{◌≡◌, arith, rules, ap, refl, sym, ◌∙◌, Err, Result, ℤ, FitsSigned, w16, to_z, of_z, pos, ◌+ℤ◌, ◌*◌}
 use Rattle.std.proofs.Common.{◌^◌}
 use Rattle.std.specs.Prelude.{IsErrOf}
@@ -10,26 +14,24 @@ use Rattle.icu_decimal_data.specs.CompactTable.{entry_at}
 use Rattle.icu_decimal.specs.declared.error.FormatError.{FormatError}
 use Rattle.icu_decimal.specs.declared.error.FormatError.TheVariants.{Overflow}
 use Rattle.icu_decimal.proofs.ChangedEntries.{same_index, other_index}
-use Rattle.icu_decimal.proofs.DisplayedSteps.{exponent_within, overflows, rounds_past, scaled_magnitude, displayed_same, other_within, displayed_other}
-use Rattle.icu_decimal.proofs.DisplayedSteps.{reached_within, not_refused}
+use Rattle.icu_decimal.proofs.DisplayedSteps.{entry_is_here, exponent_within, overflows, rounds_past, scaled_magnitude, displayed_same, other_within}
+use Rattle.icu_decimal.proofs.DisplayedSteps.{displayed_other, reached_within, not_refused}
 use Rattle.icu_decimal.proofs.compact_rounding.nearest_compact.Goals as goal
 
 pub significand_at-requires-clause-exponent : goal.significand_at-requires-clause-exponent
 significand_at-requires-clause-exponent g c =
-    exponent_within c.args.table.now c.args.value.now c.exponent_or_zero-exponent.result c.nonzero_magnitude_start-power.result _ _
-    c.nonzero_magnitude_start-power.ensures.power (omega (arith, ints)) c.entry_index-index.ensures.entry c.exponent_or_zero-exponent.ensures
-    c.entry_index-index.ensures.table _ (omega (arith, ints))
+    let here = entry_is_here c.args.table.now c.args.value.now c.exponent_or_zero-exponent.result c.nonzero_magnitude_start-power.result _ _
+    c.nonzero_magnitude_start-power.ensures.power (omega (arith, ints)) c.entry_index-index.ensures.entry c.exponent_or_zero-exponent.ensures in
+    exponent_within here c.entry_index-index.ensures.table _ (omega (arith, ints))
 
 pub returns-in_err-significand-clause-overflow : goal.returns-in_err-significand-clause-overflow
 returns-in_err-significand-clause-overflow g c =
+    let here = entry_is_here c.args.table.now c.args.value.now c.exponent_or_zero-exponent.result c.nonzero_magnitude_start-power.result _ _
+    c.nonzero_magnitude_start-power.ensures.power (omega (arith, ints)) c.entry_index-index.ensures.entry c.exponent_or_zero-exponent.ensures in
     let h = c.in_err-significand.ensures.overflow in
     let p = err_from_is_err_and c.from_residual.result c.from_residual.ensures.1 in (
-      λ over. overflows c.args.table.now c.args.value.now c.exponent_or_zero-exponent.result c.nonzero_magnitude_start-power.result _ _
-          c.nonzero_magnitude_start-power.ensures.power (omega (arith, ints)) c.entry_index-index.ensures.entry c.exponent_or_zero-exponent.ensures
-          (h.0 (ap Err (which over p.1 p.2))),
-      λ past. over_then p.1 p.2
-          (h.1 (rounds_past c.args.table.now c.args.value.now c.exponent_or_zero-exponent.result c.nonzero_magnitude_start-power.result _ _
-          c.nonzero_magnitude_start-power.ensures.power (omega (arith, ints)) c.entry_index-index.ensures.entry c.exponent_or_zero-exponent.ensures past)),
+      λ over. overflows here (h.0 (ap Err (which over p.1 p.2))),
+      λ past. over_then p.1 p.2 (h.1 (rounds_past here past)),
     )
   where
     which : {T : Type 0} {r : Result T FormatError} {e f : FormatError} → IsErrOf r Overflow → r ≡ Err e → e ≡ f → f ≡ Overflow
@@ -41,65 +43,55 @@ returns-in_err-significand-clause-overflow g c =
 
 pub returns-then-eq-clause-displayed : goal.returns-then-eq-clause-displayed
 returns-then-eq-clause-displayed g c =
+    let here = entry_is_here c.args.table.now c.args.value.now c.exponent_or_zero-exponent.result c.nonzero_magnitude_start-power.result _ _
+    c.nonzero_magnitude_start-power.ensures.power (omega (arith, ints)) c.entry_index-index.ensures.entry c.exponent_or_zero-exponent.ensures in
     let e = c.exponent_or_zero-exponent.result in
     let s = c.in_ok-significand.significand in
     let near = c.in_ok-significand.ensures.nearest in
-    let taken = exponent_within c.args.table.now c.args.value.now c.exponent_or_zero-exponent.result c.nonzero_magnitude_start-power.result _ _
-    c.nonzero_magnitude_start-power.ensures.power (omega (arith, ints)) c.entry_index-index.ensures.entry c.exponent_or_zero-exponent.ensures
-    c.entry_index-index.ensures.table _ (omega (arith, ints)) in
-    let reached = scaled_magnitude c.args.table.now c.args.value.now c.exponent_or_zero-exponent.result c.nonzero_magnitude_start-power.result _ _
-    c.nonzero_magnitude_start-power.ensures.power (omega (arith, ints)) c.entry_index-index.ensures.entry c.exponent_or_zero-exponent.ensures s
-    c.nonzero_magnitude_start.result (c.nonzero_magnitude_start.result +ℤ pos e) near c.nonzero_magnitude_start.ensures.power refl taken in
+    let taken = exponent_within here c.entry_index-index.ensures.table _ (omega (arith, ints)) in
+    let reached = scaled_magnitude here s c.nonzero_magnitude_start.result (c.nonzero_magnitude_start.result +ℤ pos e) near
+    c.nonzero_magnitude_start.ensures.power refl taken in
     let has = c.in_ok-significand.ensures in
     let same = ap (entry_at c.args.table.now) (same_index _ _ (sym c.eq.ensures ∙ c.if-eq.true)) in (
       size s * 10 ^ e,
-      displayed_same c.args.table.now c.args.value.now c.exponent_or_zero-exponent.result c.nonzero_magnitude_start-power.result _ _
-          c.nonzero_magnitude_start-power.ensures.power (omega (arith, ints)) c.entry_index-index.ensures.entry c.exponent_or_zero-exponent.ensures _ near _ _
-          (omega (arith, ints, reached)) c.reached_index-reached.ensures.entry same s refl has.valid has.trimmed has.high,
+      displayed_same here _ near _ _ (omega (arith, ints, reached)) c.reached_index-reached.ensures.entry same s refl has.valid has.trimmed has.high,
     )
 
 pub returns-then-eq-clause-overflow : goal.returns-then-eq-clause-overflow
-returns-then-eq-clause-overflow g c = (
-  λ other. absurd (not_refused other),
-  λ past. absurd (not_refused
-      (c.in_ok-significand.ensures.overflow.1 (rounds_past c.args.table.now c.args.value.now c.exponent_or_zero-exponent.result
-      c.nonzero_magnitude_start-power.result _ _ c.nonzero_magnitude_start-power.ensures.power (omega (arith, ints)) c.entry_index-index.ensures.entry
-      c.exponent_or_zero-exponent.ensures past))),
-)
+returns-then-eq-clause-overflow g c =
+    let here = entry_is_here c.args.table.now c.args.value.now c.exponent_or_zero-exponent.result c.nonzero_magnitude_start-power.result _ _
+    c.nonzero_magnitude_start-power.ensures.power (omega (arith, ints)) c.entry_index-index.ensures.entry c.exponent_or_zero-exponent.ensures in (
+      λ other. absurd (not_refused other),
+      λ past. absurd (not_refused (c.in_ok-significand.ensures.overflow.1 (rounds_past here past))),
+    )
 
 pub power_left-left-requires-clause-exponent : goal.power_left-left-requires-clause-exponent
 power_left-left-requires-clause-exponent g c =
+    let here = entry_is_here c.args.table.now c.args.value.now c.exponent_or_zero-exponent.result c.nonzero_magnitude_start-power.result _ _
+    c.nonzero_magnitude_start-power.ensures.power (omega (arith, ints)) c.entry_index-index.ensures.entry c.exponent_or_zero-exponent.ensures in
     let e = c.exponent_or_zero-exponent.result in
     let s = c.in_ok-significand.significand in
     let near = c.in_ok-significand.ensures.nearest in
-    let taken = exponent_within c.args.table.now c.args.value.now c.exponent_or_zero-exponent.result c.nonzero_magnitude_start-power.result _ _
-    c.nonzero_magnitude_start-power.ensures.power (omega (arith, ints)) c.entry_index-index.ensures.entry c.exponent_or_zero-exponent.ensures
-    c.entry_index-index.ensures.table _ (omega (arith, ints)) in
-    let reached = scaled_magnitude c.args.table.now c.args.value.now c.exponent_or_zero-exponent.result c.nonzero_magnitude_start-power.result _ _
-    c.nonzero_magnitude_start-power.ensures.power (omega (arith, ints)) c.entry_index-index.ensures.entry c.exponent_or_zero-exponent.ensures s
-    c.nonzero_magnitude_start.result (c.nonzero_magnitude_start.result +ℤ pos e) near c.nonzero_magnitude_start.ensures.power refl taken in
+    let taken = exponent_within here c.entry_index-index.ensures.table _ (omega (arith, ints)) in
+    let reached = scaled_magnitude here s c.nonzero_magnitude_start.result (c.nonzero_magnitude_start.result +ℤ pos e) near
+    c.nonzero_magnitude_start.ensures.power refl taken in
     let different = other_index c.args.table.now c.entry_index-index.ensures.table.types_rise _ _ c.reached_index-reached.ensures.index
     c.entry_index-index.ensures.index (sym c.eq.ensures ∙ c.if-eq.false) in
-    let low = other_within c.args.table.now c.args.value.now c.exponent_or_zero-exponent.result c.nonzero_magnitude_start-power.result _ _
-    c.nonzero_magnitude_start-power.ensures.power (omega (arith, ints)) c.entry_index-index.ensures.entry c.exponent_or_zero-exponent.ensures _ near _ _
-    (omega (arith, ints, reached)) c.reached_index-reached.ensures.entry c.entry_index-index.ensures.table different _
+    let low = other_within here _ near _ _ (omega (arith, ints, reached)) c.reached_index-reached.ensures.entry c.entry_index-index.ensures.table different _
     c.exponent_or_zero-reached_exponent.ensures in
     omega (arith, ints, reached, low)
 
 pub power_left-left-requires-clause-within : goal.power_left-left-requires-clause-within
 power_left-left-requires-clause-within g c =
+    let here = entry_is_here c.args.table.now c.args.value.now c.exponent_or_zero-exponent.result c.nonzero_magnitude_start-power.result _ _
+    c.nonzero_magnitude_start-power.ensures.power (omega (arith, ints)) c.entry_index-index.ensures.entry c.exponent_or_zero-exponent.ensures in
     let e = c.exponent_or_zero-exponent.result in
     let s = c.in_ok-significand.significand in
     let near = c.in_ok-significand.ensures.nearest in
-    let taken = exponent_within c.args.table.now c.args.value.now c.exponent_or_zero-exponent.result c.nonzero_magnitude_start-power.result _ _
-    c.nonzero_magnitude_start-power.ensures.power (omega (arith, ints)) c.entry_index-index.ensures.entry c.exponent_or_zero-exponent.ensures
-    c.entry_index-index.ensures.table _ (omega (arith, ints)) in
-    let reached = scaled_magnitude c.args.table.now c.args.value.now c.exponent_or_zero-exponent.result c.nonzero_magnitude_start-power.result _ _
-    c.nonzero_magnitude_start-power.ensures.power (omega (arith, ints)) c.entry_index-index.ensures.entry c.exponent_or_zero-exponent.ensures s
-    c.nonzero_magnitude_start.result (c.nonzero_magnitude_start.result +ℤ pos e) near c.nonzero_magnitude_start.ensures.power refl taken in
-    let upper = reached_within c.args.table.now c.args.value.now c.exponent_or_zero-exponent.result c.nonzero_magnitude_start-power.result _ _
-    c.nonzero_magnitude_start-power.ensures.power (omega (arith, ints)) c.entry_index-index.ensures.entry c.exponent_or_zero-exponent.ensures _ near
-    (λ past. not_refused (c.in_ok-significand.ensures.overflow.1 past)) _ reached in
+    let taken = exponent_within here c.entry_index-index.ensures.table _ (omega (arith, ints)) in
+    let reached = scaled_magnitude here s c.nonzero_magnitude_start.result (c.nonzero_magnitude_start.result +ℤ pos e) near
+    c.nonzero_magnitude_start.ensures.power refl taken in
+    let upper = reached_within here _ near (λ past. not_refused (c.in_ok-significand.ensures.overflow.1 past)) _ reached in
     omega (arith, ints, reached, upper)
 
 -- the argument is passed on as it is
@@ -114,20 +106,17 @@ top s k fits is = is ∙ passed k fits
 
 pub returns-in-Ok-clause-displayed : goal.returns-in-Ok-clause-displayed
 returns-in-Ok-clause-displayed g c =
+    let here = entry_is_here c.args.table.now c.args.value.now c.exponent_or_zero-exponent.result c.nonzero_magnitude_start-power.result _ _
+    c.nonzero_magnitude_start-power.ensures.power (omega (arith, ints)) c.entry_index-index.ensures.entry c.exponent_or_zero-exponent.ensures in
     let e = c.exponent_or_zero-exponent.result in
     let s = c.in_ok-significand.significand in
     let near = c.in_ok-significand.ensures.nearest in
-    let taken = exponent_within c.args.table.now c.args.value.now c.exponent_or_zero-exponent.result c.nonzero_magnitude_start-power.result _ _
-    c.nonzero_magnitude_start-power.ensures.power (omega (arith, ints)) c.entry_index-index.ensures.entry c.exponent_or_zero-exponent.ensures
-    c.entry_index-index.ensures.table _ (omega (arith, ints)) in
-    let reached = scaled_magnitude c.args.table.now c.args.value.now c.exponent_or_zero-exponent.result c.nonzero_magnitude_start-power.result _ _
-    c.nonzero_magnitude_start-power.ensures.power (omega (arith, ints)) c.entry_index-index.ensures.entry c.exponent_or_zero-exponent.ensures s
-    c.nonzero_magnitude_start.result (c.nonzero_magnitude_start.result +ℤ pos e) near c.nonzero_magnitude_start.ensures.power refl taken in
+    let taken = exponent_within here c.entry_index-index.ensures.table _ (omega (arith, ints)) in
+    let reached = scaled_magnitude here s c.nonzero_magnitude_start.result (c.nonzero_magnitude_start.result +ℤ pos e) near
+    c.nonzero_magnitude_start.ensures.power refl taken in
     let different = other_index c.args.table.now c.entry_index-index.ensures.table.types_rise _ _ c.reached_index-reached.ensures.index
     c.entry_index-index.ensures.index (sym c.eq.ensures ∙ c.if-eq.false) in
-    let low = other_within c.args.table.now c.args.value.now c.exponent_or_zero-exponent.result c.nonzero_magnitude_start-power.result _ _
-    c.nonzero_magnitude_start-power.ensures.power (omega (arith, ints)) c.entry_index-index.ensures.entry c.exponent_or_zero-exponent.ensures _ near _ _
-    (omega (arith, ints, reached)) c.reached_index-reached.ensures.entry c.entry_index-index.ensures.table different _
+    let low = other_within here _ near _ _ (omega (arith, ints, reached)) c.reached_index-reached.ensures.entry c.entry_index-index.ensures.table different _
     c.exponent_or_zero-reached_exponent.ensures in
     let fits : FitsSigned w16 c.power_left-left.result = omega (arith, ints, c.power_left-left.type_inv) in
     let high_is : high c.in-Ok.ten ≡ to_z w16 (of_z w16 c.power_left-left.result) = search rules in
@@ -135,26 +124,24 @@ returns-in-Ok-clause-displayed g c =
     let valid : IsUnsigned c.in-Ok.ten = search rules in
     let trimmed : IsTrimmed c.in-Ok.ten = search rules in (
       size s * 10 ^ e,
-      displayed_other c.args.table.now c.args.value.now c.exponent_or_zero-exponent.result c.nonzero_magnitude_start-power.result _ _
-          c.nonzero_magnitude_start-power.ensures.power (omega (arith, ints)) c.entry_index-index.ensures.entry c.exponent_or_zero-exponent.ensures _ near _ _
-          (omega (arith, ints, reached)) c.reached_index-reached.ensures.entry c.entry_index-index.ensures.table different c.in-Ok.ten
-          c.exponent_or_zero-reached_exponent.result c.power_left-left.result c.exponent_or_zero-reached_exponent.ensures c.power_left-left.ensures.left
+      displayed_other here _ near _ _ (omega (arith, ints, reached)) c.reached_index-reached.ensures.entry c.entry_index-index.ensures.table different
+          c.in-Ok.ten c.exponent_or_zero-reached_exponent.result c.power_left-left.result c.exponent_or_zero-reached_exponent.ensures
+          c.power_left-left.ensures.left
           (ten c.in-Ok.ten c.power_left-left.result fits size_is) valid trimmed (top c.in-Ok.ten c.power_left-left.result fits high_is),
     )
 
 pub returns-in-Ok-clause-overflow : goal.returns-in-Ok-clause-overflow
-returns-in-Ok-clause-overflow g c = (
-  λ other. absurd (not_refused other),
-  λ past. absurd (not_refused
-      (c.in_ok-significand.ensures.overflow.1 (rounds_past c.args.table.now c.args.value.now c.exponent_or_zero-exponent.result
-      c.nonzero_magnitude_start-power.result _ _ c.nonzero_magnitude_start-power.ensures.power (omega (arith, ints)) c.entry_index-index.ensures.entry
-      c.exponent_or_zero-exponent.ensures past))),
-)
+returns-in-Ok-clause-overflow g c =
+    let here = entry_is_here c.args.table.now c.args.value.now c.exponent_or_zero-exponent.result c.nonzero_magnitude_start-power.result _ _
+    c.nonzero_magnitude_start-power.ensures.power (omega (arith, ints)) c.entry_index-index.ensures.entry c.exponent_or_zero-exponent.ensures in (
+      λ other. absurd (not_refused other),
+      λ past. absurd (not_refused (c.in_ok-significand.ensures.overflow.1 (rounds_past here past))),
+    )
 
 pub returns-clause-overflow : goal.returns-clause-overflow
-returns-clause-overflow g c = (
-  λ other. absurd (cc),
-  λ past. absurd (not_refused (c.in_ok-significand.ensures.overflow.1
-      (rounds_past c.args.table.now c.args.value.now c.exponent_or_zero-exponent.result c.nonzero_magnitude_start-power.result _ _
-      c.nonzero_magnitude_start-power.ensures.power (omega (arith, ints)) c.entry_index-index.ensures.entry c.exponent_or_zero-exponent.ensures past))),
-)
+returns-clause-overflow g c =
+    let here = entry_is_here c.args.table.now c.args.value.now c.exponent_or_zero-exponent.result c.nonzero_magnitude_start-power.result _ _
+    c.nonzero_magnitude_start-power.ensures.power (omega (arith, ints)) c.entry_index-index.ensures.entry c.exponent_or_zero-exponent.ensures in (
+      λ other. absurd (cc),
+      λ past. absurd (not_refused (c.in_ok-significand.ensures.overflow.1 (rounds_past here past))),
+    )

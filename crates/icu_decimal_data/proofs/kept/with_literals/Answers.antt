@@ -1,6 +1,6 @@
 use Rattle.std.proofs.Common.{◌≡◌, None, slice_index_or, ap, ◌∙◌, ◌^◌, ◌-◌, arith}
 use Rattle.icu_decimal_data.specs.CompactFaults.{slot_size}
-use Rattle.icu_base.specs.Elements.{slots}
+use Rattle.icu_plurals.specs.Elements.{slots}
 use Rattle.icu_decimal_data.proofs.KeptSteps.{size_step}
 use Rattle.icu_decimal_data.proofs.kept.with_literals.Goals as goal
 

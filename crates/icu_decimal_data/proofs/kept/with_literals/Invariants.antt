@@ -1,5 +1,5 @@
 use Rattle.std.proofs.Common.{◌≡◌, ◌≤◌, ◌+◌, min, ◌^◌, ◌-◌, drop, sum_by}
-use Rattle.icu_base.specs.Elements.{slots}
+use Rattle.icu_plurals.specs.Elements.{slots}
 use Rattle.icu_decimal_data.specs.CompactFaults.{slot_size, elements_size}
 use Rattle.icu_decimal_data.proofs.kept.with_literals.Given as goal
 

@@ -1,5 +1,5 @@
 use Rattle.std.proofs.Common.{arith}
-use Rattle.icu_base.specs.Elements.{slots}
+use Rattle.icu_plurals.specs.Elements.{slots}
 use Rattle.icu_decimal_data.specs.TableReading.{entry_of}
 use Rattle.icu_decimal_data.proofs.TableSlots.{sole_done}
 use Rattle.icu_decimal_data.proofs.table_slots.has_no_other.Goals as goal

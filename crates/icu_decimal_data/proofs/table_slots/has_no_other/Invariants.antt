@@ -1,6 +1,6 @@
 use Rattle.std.proofs.Common.{◌≡◌, ◌-◌, take, drop, is_none}
 use Rattle.std.specs.List.{list_all}
-use Rattle.icu_base.specs.Elements.{slots}
+use Rattle.icu_plurals.specs.Elements.{slots}
 use Rattle.icu_decimal_data.specs.TableReading.{entry_of}
 use Rattle.icu_decimal_data.proofs.table_slots.has_no_other.Given as goal
 

@@ -1,7 +1,7 @@
 use Rattle.std.proofs.Common.{◌≡◌, ap, ◌∙◌, None, slice_index_or, List, Bool, ℕ}
-use Rattle.icu_base.specs.Elements.{slots, presence, selected, selected_slot}
-use Rattle.icu_base.specs.Refs.{text_of_ref}
-use Rattle.icu_base.specs.Rules.{category_of}
+use Rattle.icu_plurals.specs.Elements.{slots, presence, selected, selected_slot}
+use Rattle.icu_pattern.specs.Refs.{text_of_ref}
+use Rattle.icu_plurals.specs.Rules.{category_of}
 use Rattle.icu_decimal_data.specs.TableReading.{entry_of}
 use Rattle.icu_plurals.proofs.SelectedSlots.{selected_slot_holds}
 use Rattle.icu_decimal_data.proofs.TableSlots.{same_value, no_value}

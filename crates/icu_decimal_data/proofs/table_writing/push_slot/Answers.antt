@@ -1,5 +1,5 @@
 use Rattle.std.proofs.Common.{rules, [], ◌∷◌, Some, ◌∙◌}
-use Rattle.icu_base.specs.Refs.{text_of_ref}
+use Rattle.icu_pattern.specs.Refs.{text_of_ref}
 use Rattle.icu_decimal_data.specs.PackedTable.{ArePatterns}
 use Rattle.icu_decimal_data.proofs.TableWriting.{on_ok, pattern_good}
 use Rattle.icu_decimal_data.proofs.table_writing.push_slot.Goals as goal

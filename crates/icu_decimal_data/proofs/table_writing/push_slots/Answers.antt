@@ -1,5 +1,5 @@
 use Rattle.std.proofs.Common.{◌++◌, ◌≡◌, arith, sym, ◌∙◌, append-nil, length-append, option_map}
-use Rattle.icu_base.specs.Elements.{slots}
+use Rattle.icu_plurals.specs.Elements.{slots}
 use Rattle.icu_decimal_data.specs.PackedTable.{slot_literals}
 use Rattle.icu_decimal_data.proofs.TableWriting.{room_for, pool_more, records_more, patterns_back}
 use Rattle.icu_decimal_data.proofs.table_writing.push_slots.Goals as goal

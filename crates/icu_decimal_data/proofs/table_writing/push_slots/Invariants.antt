@@ -1,5 +1,5 @@
 use Rattle.std.proofs.Common.{◌≡◌, ◌++◌, length, drop}
-use Rattle.icu_base.specs.Elements.{slots}
+use Rattle.icu_plurals.specs.Elements.{slots}
 use Rattle.icu_decimal_data.specs.PackedTable.{ArePatterns, slot_literals}
 use Rattle.icu_decimal_data.specs.TableBytes.{slots_bytes}
 use Rattle.icu_decimal_data.proofs.table_writing.push_slots.Given as goal

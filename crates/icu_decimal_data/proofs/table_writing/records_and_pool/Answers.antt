@@ -19,28 +19,30 @@ loop-log10_type-init g c =
 pub push_slots-requires : goal.push_slots-requires
 push_slots-requires g c =
     let e : TableEntry = record { log10_type = c.in-Some.log10_type.now; exponent = c.in-Some.value.now.0; elements = c.in-Some.value.now.1 } in
-    let plain = at c.args.zero_magnitude in
+    let zero_magnitude = at c.args.zero_magnitude in
     let last = at c.loop-log10_type.last in
     let es = given c.next.new.self in
-    let whole = kept plain (given c.args.map.now.entries) in
-    let left : IsWritten g.P.PatternBackend.accepted (kept_since plain last (e ∷ es)) whole c.loop-log10_type.records.items c.loop-log10_type.pool.items =
+    let whole = kept zero_magnitude (given c.args.map.now.entries) in
+    let left : IsWritten g.P.PatternBackend.accepted
+    (kept_since zero_magnitude last (e ∷ es)) whole c.loop-log10_type.records.items c.loop-log10_type.pool.items =
     rw c.in-Some.ensures.steps at c.loop-log10_type.invariant in
-    let here : stays plain last e.elements ≡ true = sym c.stays.ensures ∙ c.if-stays.true in
-    kept_room g.P.PatternBackend.accepted plain last e es whole c.loop-log10_type.records.items c.loop-log10_type.pool.items here left c.requires
+    let here : stays zero_magnitude last e.elements ≡ true = sym c.stays.ensures ∙ c.if-stays.true in
+    kept_room g.P.PatternBackend.accepted zero_magnitude last e es whole c.loop-log10_type.records.items c.loop-log10_type.pool.items here left c.requires
 
 pub loop-log10_type-preserved-then-stays : goal.loop-log10_type-preserved-then-stays
 loop-log10_type-preserved-then-stays g c =
     let e : TableEntry = record { log10_type = c.in-Some.log10_type.now; exponent = c.in-Some.value.now.0; elements = c.in-Some.value.now.1 } in
-    let plain = at c.args.zero_magnitude in
+    let zero_magnitude = at c.args.zero_magnitude in
     let last = at c.loop-log10_type.last in
     let es = given c.next.new.self in
-    let whole = kept plain (given c.args.map.now.entries) in
-    let left : IsWritten g.P.PatternBackend.accepted (kept_since plain last (e ∷ es)) whole c.loop-log10_type.records.items c.loop-log10_type.pool.items =
+    let whole = kept zero_magnitude (given c.args.map.now.entries) in
+    let left : IsWritten g.P.PatternBackend.accepted
+    (kept_since zero_magnitude last (e ∷ es)) whole c.loop-log10_type.records.items c.loop-log10_type.pool.items =
     rw c.in-Some.ensures.steps at c.loop-log10_type.invariant in
-    let here : stays plain last e.elements ≡ true = sym c.stays.ensures ∙ c.if-stays.true in
+    let here : stays zero_magnitude last e.elements ≡ true = sym c.stays.ensures ∙ c.if-stays.true in
     let done = c.in_ok-push_slots.ensures in
     let two = rw c.in_ok-push.ensures.items at c.in_ok-push-2.ensures.items in
-    kept_written g.P.PatternBackend.accepted plain last e es whole c.loop-log10_type.records.items c.loop-log10_type.pool.items here left
+    kept_written g.P.PatternBackend.accepted zero_magnitude last e es whole c.loop-log10_type.records.items c.loop-log10_type.pool.items here left
     c.push_slots.new.records.items c.push_slots.new.pool.items (rw two at done.records) done.pool (omega arith) done.patterns
 
 -- Goals that a search finds; it is not tried longer where one is false.

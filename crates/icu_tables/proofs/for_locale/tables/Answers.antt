@@ -1,7 +1,7 @@
 use Rattle.std.proofs.Common.{Global, Vec, ap, option_map}
 use Rattle.icu_decimal_data.specs.declared.decimal_symbols.DecimalSymbols.{DecimalSymbols}
 use Rattle.icu_tables.specs.Digits.{SystemDigits}
-use Rattle.icu_tables.specs.Named.{Filed}
+use Rattle.icu_tables.specs.Named.{NamedEntry}
 use Rattle.icu_tables.proofs.ForLocale.{tables_for}
 use Rattle.icu_tables.proofs.for_locale.tables.Goals as goal
 
@@ -9,6 +9,6 @@ pub returns : goal.returns
 returns c =
     let found = c.in_ok-found.ensures in
     let some = c.in-Some-Some in
-    let symbols = ap (option_map (λ (v : Vec (Filed DecimalSymbols) Global). v.items)) some.is-0 in
+    let symbols = ap (option_map (λ (v : Vec (NamedEntry DecimalSymbols) Global). v.items)) some.is-0 in
     let digits = ap (option_map (λ (v : Vec SystemDigits Global). v.items)) some.is-1 in
     tables_for c.args.locale.now c.args.text.now found.0 _ some.symbols.items some.digits.items (rw (← c.found.view_is) at found.1) found.2 symbols digits

@@ -1,7 +1,7 @@
 use Rattle.std.proofs.Common.{◌≡◌, ◌++◌, ◌%◌, [], ◌∷◌, arith, refl}
 use Rattle.std.proofs.lemmas.Grind.{common_steps}
 use Rattle.std.proofs.lemmas.List.{length_push}
-use Rattle.fixed_decimal.proofs.MagnitudePowers.{magnitude_only}
+use Rattle.fixed_decimal.proofs.Magnitudes.{magnitude_only}
 use Rattle.fixed_decimal.proofs.NumberDigits.{split_start, split_more, split_short, split_size, split_high, split_valid}
 use Rattle.fixed_decimal.proofs.unsigned.UnsignedDecimal.from_u64.Goals as goal
 

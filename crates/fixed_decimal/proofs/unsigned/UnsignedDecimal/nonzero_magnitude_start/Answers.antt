@@ -1,7 +1,7 @@
 use Rattle.std.proofs.Common.{arith}
 use Rattle.std.proofs.lemmas.Int.{ints}
 use Rattle.fixed_decimal.proofs.Rounds.{finest_large}
-use Rattle.fixed_decimal.proofs.MagnitudePowers.{magnitude_first, magnitude_none, magnitude_only}
+use Rattle.fixed_decimal.proofs.Magnitudes.{magnitude_first, magnitude_none, magnitude_only}
 use Rattle.fixed_decimal.proofs.unsigned.UnsignedDecimal.nonzero_magnitude_start.Goals as goal
 
 pub returns-then-first-len-clause-power : goal.returns-then-first-len-clause-power

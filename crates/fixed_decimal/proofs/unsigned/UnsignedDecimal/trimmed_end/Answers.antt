@@ -1,6 +1,6 @@
 use Rattle.std.proofs.Common.{arith}
 use Rattle.fixed_decimal.proofs.Rounds.{finest_large}
-use Rattle.fixed_decimal.proofs.MagnitudePowers.{weighed_trimmed}
+use Rattle.fixed_decimal.proofs.Magnitudes.{weighed_trimmed}
 use Rattle.fixed_decimal.proofs.unsigned.UnsignedDecimal.trimmed_end.Goals as goal
 
 pub returns-clause-size : goal.returns-clause-size

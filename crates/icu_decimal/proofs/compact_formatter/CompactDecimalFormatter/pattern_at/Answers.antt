@@ -1,9 +1,9 @@
 use Rattle.std.proofs.Common.{◌≡◌, Option, Some, None, IfSome, sym}
-use Rattle.icu_base.specs.Elements.{selected}
-use Rattle.icu_base.specs.Operands.{Operands, operands_of}
-use Rattle.icu_base.specs.Patterns.{PatternText}
-use Rattle.icu_base.specs.Rules.{category_of}
-use Rattle.icu_base.specs.declared.plurals.category.PluralCategory.{PluralCategory}
+use Rattle.icu_plurals.specs.Elements.{selected}
+use Rattle.icu_plurals.specs.Operands.{Operands, operands_of}
+use Rattle.icu_pattern.specs.Patterns.{PatternText}
+use Rattle.icu_plurals.specs.Rules.{category_of}
+use Rattle.icu_plurals.specs.declared.category.PluralCategory.{PluralCategory}
 use Rattle.icu_decimal_data.specs.CompactTable.{TableEntry}
 use Rattle.icu_decimal.proofs.compact_formatter.CompactDecimalFormatter.pattern_at.Goals as goal
 

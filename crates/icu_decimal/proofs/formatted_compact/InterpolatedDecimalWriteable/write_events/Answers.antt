@@ -1,5 +1,5 @@
 use Rattle.std.proofs.Common.{◌≡◌, sym, ap, ◌∙◌}
-use Rattle.icu_base.specs.Patterns.{interpolated}
+use Rattle.icu_pattern.specs.Patterns.{interpolated}
 use Rattle.icu_pattern.proofs.Boundaries.{interpolated_alone}
 use Rattle.icu_decimal.specs.CompactFormat.{filled_shown}
 use Rattle.icu_decimal.specs.Formatted.{unsigned_shown}

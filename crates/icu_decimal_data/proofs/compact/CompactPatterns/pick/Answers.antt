@@ -1,7 +1,7 @@
 use Rattle.std.proofs.Common.{◌≡◌}
-use Rattle.icu_base.specs.Elements.{selected}
-use Rattle.icu_base.specs.Refs.{text_of_ref}
-use Rattle.icu_base.specs.Rules.{category_of}
+use Rattle.icu_plurals.specs.Elements.{selected}
+use Rattle.icu_pattern.specs.Refs.{text_of_ref}
+use Rattle.icu_plurals.specs.Rules.{category_of}
 use Rattle.icu_decimal_data.proofs.TableCalls.{of_entry, index_inside}
 use Rattle.icu_decimal_data.proofs.compact.CompactPatterns.pick.Goals as goal
 

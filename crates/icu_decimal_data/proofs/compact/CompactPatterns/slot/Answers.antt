@@ -1,6 +1,6 @@
 use Rattle.std.proofs.Common.{◌≡◌, ℕ, List, None, slice_index_or, option_map, subst}
-use Rattle.icu_base.specs.Elements.{slots}
-use Rattle.icu_base.specs.Refs.{text_of_ref}
+use Rattle.icu_plurals.specs.Elements.{slots}
+use Rattle.icu_pattern.specs.Refs.{text_of_ref}
 use Rattle.icu_decimal_data.specs.TableReading.{entry_of}
 use Rattle.icu_decimal_data.proofs.TableCalls.{of_entry, index_inside}
 use Rattle.icu_decimal_data.proofs.compact.CompactPatterns.slot.Goals as goal

@@ -1,9 +1,9 @@
 use Rattle.std.proofs.Common.{◌≡◌, option_map}
 use Rattle.std.specs.Prelude.{IfSome}
-use Rattle.icu_base.specs.Elements.{selected, sole_value}
-use Rattle.icu_base.specs.Operands.{Operands}
-use Rattle.icu_base.specs.Refs.{text_of_ref}
-use Rattle.icu_base.specs.declared.plurals.category.PluralCategory.{PluralCategory}
+use Rattle.icu_plurals.specs.Elements.{selected, sole_value}
+use Rattle.icu_plurals.specs.Operands.{Operands}
+use Rattle.icu_pattern.specs.Refs.{text_of_ref}
+use Rattle.icu_plurals.specs.declared.category.PluralCategory.{PluralCategory}
 use Rattle.icu_decimal_data.specs.TableReading.{entry_of}
 use Rattle.icu_decimal_data.proofs.TableCalls.{of_entry, index_inside, sole_picked}
 use Rattle.icu_decimal_data.proofs.compact.CompactPatterns.sole_pattern.Goals as goal

@@ -1,5 +1,5 @@
 use Rattle.std.proofs.Common.{rules, IsSome}
-use Rattle.icu_base.specs.Patterns.{PatternText}
+use Rattle.icu_pattern.specs.Patterns.{PatternText}
 use Rattle.icu_decimal_readable.specs.ReadableTable.{surroundings_of}
 use Rattle.icu_decimal_readable.proofs.ReadableParts.{false_not_true}
 use Rattle.icu_decimal_readable.proofs.ReadableTables.{placed_of, sides_of_placed}
@@ -7,7 +7,7 @@ use Rattle.icu_decimal_readable.proofs.readable_table.PlacedPatternTest.passes.G
 
 pub returns-then-not-has_no_digit : goal.returns-then-not-has_no_digit
 returns-then-not-has_no_digit c =
-    let p : PatternText = record { place = c.args.place; literal = c.args.literal.now } in (
+    let p : PatternText = record { placeholder = c.args.place; literal = c.args.literal.now } in (
       λ e. cc,
       λ h. absurd (false_not_true c.has_no_digit.result c.if-not-has_no_digit.true
           (c.has_no_digit.ensures.1 (sides_of_placed c.args.self.now.digits.now p (surroundings_of c.sides_of-sides.result) c.sides_of-sides.ensures
@@ -16,7 +16,7 @@ returns-then-not-has_no_digit c =
 
 pub returns : goal.returns
 returns c =
-    let p : PatternText = record { place = c.args.place; literal = c.args.literal.now } in
+    let p : PatternText = record { placeholder = c.args.place; literal = c.args.literal.now } in
     let a = surroundings_of c.sides_of-sides.result in
     let some : IsSome c.args.place = search rules in (
       λ e. placed_of c.args.self.now.digits.now p a c.sides_of-sides.ensures some (c.has_no_digit.ensures.0 c.if-not-has_no_digit.false)

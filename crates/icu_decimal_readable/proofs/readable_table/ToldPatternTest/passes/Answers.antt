@@ -1,5 +1,5 @@
 use Rattle.fixed_decimal.specs.declared.signs.Sign.TheVariants.{Negative, Positive, None as NoSign}
-use Rattle.icu_base.specs.Patterns.{PatternText}
+use Rattle.icu_pattern.specs.Patterns.{PatternText}
 use Rattle.icu_decimal_data.specs.Given.{texts_given}
 use Rattle.icu_decimal_readable.specs.Readable.{sides}
 use Rattle.icu_decimal_readable.specs.ReadableTable.{surroundings_of, IsToldThroughout}
@@ -10,14 +10,14 @@ use Rattle.icu_decimal_readable.proofs.readable_table.ToldPatternTest.passes.Goa
 
 pub returns-then-not-is_told : goal.returns-then-not-is_told
 returns-then-not-is_told c =
-    let p : PatternText = record { place = c.args.place; literal = c.args.literal.now } in
+    let p : PatternText = record { placeholder = c.args.place; literal = c.args.literal.now } in
     let told = told_by_sides (texts_given c.args.self.now.texts.now) c.args.self.now.patterns.now NoSign c.args.exponent p (surroundings_of c.sides_of.result)
     c.sides_of.ensures in
     (λ e. cc, λ h. absurd (false_not_true c.is_told.result c.if-not-is_told.true (c.is_told.ensures.1 (told h))))
 
 pub returns-then-not-is_told-2 : goal.returns-then-not-is_told-2
 returns-then-not-is_told-2 c =
-    let p : PatternText = record { place = c.args.place; literal = c.args.literal.now } in
+    let p : PatternText = record { placeholder = c.args.place; literal = c.args.literal.now } in
     let texts = texts_given c.args.self.now.texts.now in
     let table = c.args.self.now.patterns.now in
     let meant : Number = record { sign = Negative; exponent = c.args.exponent; sides = c.sides_of.result } in
@@ -27,7 +27,7 @@ returns-then-not-is_told-2 c =
 
 pub returns : goal.returns
 returns c =
-    let p : PatternText = record { place = c.args.place; literal = c.args.literal.now } in
+    let p : PatternText = record { placeholder = c.args.place; literal = c.args.literal.now } in
     let texts = texts_given c.args.self.now.texts.now in
     let table = c.args.self.now.patterns.now in
     let a = surroundings_of c.sides_of.result in

@@ -18,6 +18,7 @@ use Rattle.talmuiga_c.proofs.handle.Lent.TheLaws.{lowers as lent-lowers, the_fie
 abbrev stayed : Stays f.ended.signature.params f.ended.kept
 stayed = (stay_ref (0 ∷ []) tt (plain (λ _. R)), (stay_dropped _ yes, tt))
 
+-- the contract of `back` holds
 pub back_spec : {M : Type 1} → statement M
 back_spec 𝓤 𝓛 𝓜 𝓡 wired =
     let c = f.clauses 𝓛 𝓜.mem 𝓡.returns in let W = walk_of 𝓛 f.ended stayed c in let 𝓣 = tables 𝓤 𝓛.H 𝓜 𝓡 𝓡.env in

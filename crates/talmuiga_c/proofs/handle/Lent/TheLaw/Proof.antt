@@ -14,6 +14,7 @@ use Rattle.talmuiga_c.proofs.handle.Lent.TheLaw.Statement.{statement}
 outlasts : Incl lent.the_row.lives Mode-row.lives
 outlasts = the_within lent.the_row.lives
 
+-- what is lent may be shared
 pub shares : statement
 shares = of_Lends lent.struct lent.the_codes lent.the_heap lent.the_lent
     (λ l place. lent_at_shr_laws Mode-row the_row_laws.shr_laws l.at l.mode)

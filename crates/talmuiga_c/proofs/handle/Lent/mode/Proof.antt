@@ -43,6 +43,7 @@ module _ {M : Type 1} {𝓤 : Ura M} (𝓛 : Logic 𝓤) (κ : Lft) (p : Ptr) (b
       use1 𝓛 (‵ (shared_of (Struct (shape lent.the_type)) (p, tt) b o κ)) (id⊢ 𝓤 _) $ fsplit ! $ fsplit ! $
       use1 𝓛 (‵ (hidden_shr RawPtr κ p b (o + 0))) (id⊢ 𝓤 _) $ keep ! (0 ∷ 3 ∷ []) $ done !
 
+-- the contract of `mode` holds
 pub mode_spec : {M : Type 1} → statement M
 mode_spec 𝓤 𝓛 𝓜 𝓡 wired =
     let c = f.clauses 𝓛 𝓜.mem 𝓡.returns in let W = walk_of 𝓛 f.ended stayed c in let 𝓣 = tables 𝓤 𝓛.H 𝓜 𝓡 𝓡.env in

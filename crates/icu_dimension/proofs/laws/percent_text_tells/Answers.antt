@@ -1,0 +1,5 @@
+use Rattle.icu_dimension.proofs.PercentsTold.{equal_percent_texts_tell, percent_tells}
+use Rattle.icu_dimension.proofs.laws.percent_text_tells.Goals as goal
+
+pub returns : goal.returns
+returns c = record { characters = percent_tells; texts = equal_percent_texts_tell }

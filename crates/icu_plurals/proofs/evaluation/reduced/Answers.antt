@@ -1,0 +1,12 @@
+-- Goals that a search finds; it is not tried longer where one is false.
+use Rattle.std.proofs.Common.{rules}
+use Rattle.icu_plurals.proofs.evaluation.reduced.Goals as goal
+
+pub returns-in-Some : goal.returns-in-Some
+returns-in-Some c = search rules
+
+pub returns-in-None : goal.returns-in-None
+returns-in-None c = search rules
+
+pub returns-in-None-2 : goal.returns-in-None-2
+returns-in-None-2 c = search rules

@@ -1,9 +1,0 @@
--- Goals that a search finds; it is not tried longer where one is false.
-use Rattle.std.proofs.Common.{rules}
-use Rattle.icu_plurals.proofs.meaning.integer_digits.Goals as goal
-
-pub returns-then-operands : goal.returns-then-operands
-returns-then-operands c = search rules
-
-pub returns : goal.returns
-returns c = search rules

@@ -1,7 +1,0 @@
-use Rattle.std.proofs.Common.{◌≡◌, map, take}
-use Rattle.plural_conditions.specs.Owned.{relations_of}
-use Rattle.plural_conditions.proofs.condition.copy_alternatives.Given as goal
-
--- what has been copied so far
-abbrev pub invariant-loop-alternative : goal.invariant-loop-alternative
-invariant-loop-alternative l = map relations_of l.copied.items ≡ map relations_of (take l.alternative-index l.alternatives)

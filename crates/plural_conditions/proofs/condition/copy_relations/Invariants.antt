@@ -1,7 +1,0 @@
-use Rattle.std.proofs.Common.{◌≡◌, map, take}
-use Rattle.plural_conditions.specs.Owned.{relation_of}
-use Rattle.plural_conditions.proofs.condition.copy_relations.Given as goal
-
--- what has been copied so far
-abbrev pub invariant-loop-relation : goal.invariant-loop-relation
-invariant-loop-relation l = map relation_of l.copied.items ≡ map relation_of (take l.relation-index l.relations)

@@ -1,5 +1,0 @@
-use Rattle.plural_conditions.proofs.Judged.{condition_is_unique}
-use Rattle.plural_conditions.proofs.laws.conditions_are_unique.Goals as goal
-
-pub returns : goal.returns
-returns c = condition_is_unique

@@ -1,0 +1,20 @@
+-- What a call that judges tables leaves, by its status.
+use Rattle.std.specs.Prelude.{◌≡◌, ℕ, ◌⊎◌, List, Ok, Err}
+use Rattle.decimal_lines.specs.Alone.{HoldsIfRoom}
+use Rattle.decimal_lines.specs.Judging.{tables_judged}
+use Rattle.decimal_lines.specs.declared.judging.TablesFault.{TablesFault}
+use Rattle.talmuiga_c.specs.Endings.{IsUntouched, done, out_of_memory, tables_refused}
+
+-- the tables are refused, and an output holds a text of n bytes at its front if it fits; which words these are isn't said here
+pub record IsFaultTold (tables old new : List ℕ) (n : ℕ) : Type 0 where
+  pub fault : TablesFault
+  pub text : List ℕ
+  pub judged : tables_judged tables ≡ Err fault
+  pub holds : HoldsIfRoom old new text n
+
+-- tables are accepted or refused, and only of a refusal something is told; want of memory may come in place of both
+pub record IsJudged (tables old new : List ℕ) (n status : ℕ) : Type 0 where
+  pub accepted : status ≡ done → tables_judged tables ≡ Ok tt
+  pub refused : status ≡ tables_refused → IsFaultTold tables old new n
+  pub untold : ¬ (status ≡ tables_refused) → IsUntouched old new n
+  pub known : (status ≡ done) ⊎ ((status ≡ out_of_memory) ⊎ (status ≡ tables_refused))
