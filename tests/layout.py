@@ -4,8 +4,8 @@ import re
 
 # The head of a function's body, which `rt fmt` ends by a brace below the beginning of this line.
 BODY = re.compile(r'( *)(\{|(pub(\([a-z]+\))? )?(const )?(unsafe )?(extern "C" )?fn .*\{|\) ?(-> .*)?\{)')
-# An import of a definition or a proof, and the words of a file: texts and characters whole.
-IMPORT = re.compile(r"use ([\w.]+)\.\{([^}]*)\}")
+# An import of definitions or proofs, and the words of a file: texts and characters whole.
+IMPORT = re.compile(r"(?:ghost )?use ([\w.]+)\.\{([^}]*)\};?")
 WORD = re.compile(r"""\"(?:\\.|[^"\\])*"|'(?:\\.|[^'\\])'|[()\[\]{},;]|[^\s()\[\]{},;"]+|\"""")
 CLOSING = (")", "]", "}")
 
@@ -23,14 +23,17 @@ def words_of(lines):
     return " ".join(it for it, after in zip(words, [*words[1:], ""]) if not (it in (",", ";") and after in CLOSING))
 
 
-def spelled(path):
-    """What a file says, whatever its layout: its words, and of a definition or a proof what it imports."""
-    lines = said_in(path)
-    if not path.endswith(".antt"):
-        return words_of(lines)
+def with_imports_in_order(lines):
+    """The words of lines behind the definitions and proofs that they import."""
     text = "\n".join(lines)
-    imports = sorted(f"{module}.{item.strip()}" for module, items in IMPORT.findall(text) for item in items.split(","))
-    return " ".join(imports + [words_of(IMPORT.sub("", text).splitlines())])
+    imports = {f"{module}.{item.strip()}" for module, items in IMPORT.findall(text) for item in items.split(",")}
+    return " ".join([*sorted(imports), words_of(IMPORT.sub("", text).splitlines())])
+
+
+def spelled(path):
+    """What a file says, whatever its layout and the order of its imports."""
+    lines = said_in(path)
+    return with_imports_in_order(lines) if path.endswith((".rt", ".antt")) else words_of(lines)
 
 
 def without_bodies(lines):
@@ -46,4 +49,4 @@ def without_bodies(lines):
 
 def contracts(path):
     """What a source says but for the bodies of its functions."""
-    return words_of(without_bodies(said_in(path)))
+    return with_imports_in_order(without_bodies(said_in(path)))

@@ -1,7 +1,8 @@
 //! What the computed definitions mean: each is the only value that a relation allows.
 
 ghost use Rattle.decimal_lines.specs.LineAnswers.{HasTable};
-ghost use Rattle.decimal_lines.specs.Laws.{AnswerIsAnAnswer, AnswerIsUnique, InputHasLines, LinesAreUnique, OutputAnswersEachLine, PiecesAreAnsweredApart, TwoAreAnsweredApart};
+ghost use Rattle.decimal_lines.specs.Laws.{AnswerIsAnAnswer, AnswerIsUnique, InputHasLines, LinesAreUnique, OutputAnswersEachLine};
+ghost use Rattle.decimal_lines.specs.Laws.{PiecesAreAnsweredApart, TwoAreAnsweredApart};
 
 use crate::mode::Mode;
 use icu_decimal::laws::table_is_compact;

@@ -2,7 +2,8 @@
 
 ghost use Rattle.std.specs.Prelude.{◌≡◌, IfOk};
 ghost use Rattle.decimal_lines.specs.LineAnswers.{HasTable};
-ghost use Rattle.decimal_lines.specs.Making.{Starts, compact_options, compact_preferences, long_mode, mode_by, mode_of, plain_mode, plain_options, plain_preferences, short_mode, start_error};
+ghost use Rattle.decimal_lines.specs.Making.{Starts, compact_options, compact_preferences, long_mode, mode_by, mode_of, plain_mode, plain_options};
+ghost use Rattle.decimal_lines.specs.Making.{plain_preferences, short_mode, start_error};
 
 use crate::mode::{Mode, StartError};
 use crate::words::{Style, Words};

@@ -1,6 +1,7 @@
 //! Lists of digits: what they begin and end with, and zeros around them.
 
-ghost use Rattle.std.specs.Prelude.{◌≡◌, ◌≢◌, ◌+◌, ◌-◌, ◌<◌, ◌≤◌, ◌^◌, ◌↔◌, ◌++◌, IsTrue, All, OnOk, OnErr, IsOkUnless, length, take, drop, replicate, reverse, slice_index};
+ghost use Rattle.std.specs.Prelude.{◌≡◌, ◌≢◌, ◌+◌, ◌-◌, ◌<◌, ◌≤◌, ◌^◌, ◌↔◌, ◌++◌, IsTrue, All, OnOk, OnErr, IsOkUnless, length, take, drop};
+ghost use Rattle.std.specs.Prelude.{replicate, reverse, slice_index};
 ghost use Rattle.smallvec.specs.SmallVec.{HasRoomFor, small_vec_len};
 
 use crate::DecimalError;

@@ -2,7 +2,8 @@
 //! law.
 
 ghost use Rattle.std.specs.Prelude.{◌≡◌, ◌↔◌, IsTrue};
-ghost use Rattle.fixed_decimal.specs.Laws.{MagnitudeIsReached, MagnitudeIsGreatest, MagnitudeIsUnique, MagnitudeIsMonotone, MagnitudeOfZero, SomeMultipleIsNearest, OneMultipleIsNearest, TextReadsOneDecimal, ReadingIsSpelled, ReadingOfNothing};
+ghost use Rattle.fixed_decimal.specs.Laws.{MagnitudeIsReached, MagnitudeIsGreatest, MagnitudeIsUnique, MagnitudeIsMonotone, MagnitudeOfZero};
+ghost use Rattle.fixed_decimal.specs.Laws.{SomeMultipleIsNearest, OneMultipleIsNearest, TextReadsOneDecimal, ReadingIsSpelled, ReadingOfNothing};
 
 use crate::{Decimal, UnsignedDecimal};
 

@@ -1,6 +1,7 @@
 //! Rounding to a multiple of a power of ten, half to even.
 
-ghost use Rattle.std.specs.Prelude.{◌≡◌, ◌≢◌, ◌+◌, ◌<◌, ◌≤◌, ◌^◌, ◌↔◌, MatchBool, MatchResult, All, length, take, drop, IfOk, IfErr, IfNone, IfSome, IsErrAnd, pos, negsuc, ◌-ℤ◌, ◌≤ℤ◌};
+ghost use Rattle.std.specs.Prelude.{◌≡◌, ◌≢◌, ◌+◌, ◌<◌, ◌≤◌, ◌^◌, ◌↔◌, MatchBool, MatchResult, All, length, take, drop, IfOk, IfErr, IfNone, IfSome};
+ghost use Rattle.std.specs.Prelude.{IsErrAnd, pos, negsuc, ◌-ℤ◌, ◌≤ℤ◌};
 ghost use Rattle.fixed_decimal.specs.Unsigned.{IsUnsigned};
 ghost use Rattle.fixed_decimal.specs.Size.{weighed};
 ghost use Rattle.fixed_decimal.specs.Rounding.{IsRounded, RoundsPastLimits, RoundsUp, RoundsDown, scale_at, zeros_at};

@@ -1,6 +1,7 @@
 //! Decimals with a sign.
 
-ghost use Rattle.std.specs.Prelude.{◌≡◌, ◌≢◌, ◌*◌, ◌↔◌, ◌==◌, ◌<ℤ◌, IfOk, IfErr, OnOk, OnErr, IsErrAnd, IsErrOf, IsOkUnless, MatchBool, MatchResult, pos, unsigned_abs, int_lt};
+ghost use Rattle.std.specs.Prelude.{◌≡◌, ◌≢◌, ◌*◌, ◌↔◌, ◌==◌, ◌<ℤ◌, IfOk, IfErr, OnOk, OnErr, IsErrAnd, IsErrOf, IsOkUnless, MatchBool, MatchResult};
+ghost use Rattle.std.specs.Prelude.{pos, unsigned_abs, int_lt};
 ghost use Rattle.fixed_decimal.specs.Unsigned.{IsUnsigned, low, high};
 ghost use Rattle.fixed_decimal.specs.Size.{size, ten_to, magnitude};
 ghost use Rattle.fixed_decimal.specs.Rounding.{IsRounded, RoundsPastLimits};

@@ -27,10 +27,8 @@ use writeable::{PartsWrite, Writeable};
 /// stand (ICU4X `AbstractFormatter`).
 ///
 /// Each number determines what is shown for it: a significand times ten to an exponent, and the
-/// events that are written. `write_unsigned` writes these events, `plural_operands` returns the
-/// operands of that significand and exponent, `write_shown` does both, and `format_sign` puts the
-/// affixes of a sign around a value. These contracts hold for every formatter, so a caller that is
-/// generic in the formatter needs no others.
+/// events that are written. These contracts hold for every formatter, so a caller that is generic
+/// in the formatter needs no others.
 ///
 /// The laws say which number may be shown. They compare sizes, which count units smaller than any
 /// power of a decimal.
@@ -100,9 +98,7 @@ pub trait AbstractFormatter: Sealed {
     /// Writes what is shown for a number in a frame, which may ask for its plural operands. The
     /// number is rounded once, and isn't buffered.
     ///
-    /// `Overflow` exactly where what is shown is too large. `Sink` only where the sink failed in
-    /// this call, and it then holds a beginning of the events besides. After the other errors the
-    /// sink is unchanged.
+    /// Its errors, and what the sink then holds, are those of `write_unsigned`.
     fn write_framed<S: PartsWrite, T: Frame>(
         &self,
         alloc: Global,

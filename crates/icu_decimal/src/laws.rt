@@ -6,9 +6,11 @@ ghost use Rattle.icu_decimal.specs.Formatted.{decimal_shown, unsigned_shown};
 ghost use Rattle.fixed_decimal.specs.declared.signs.Sign.{Sign};
 ghost use Rattle.fixed_decimal.specs.Unsigned.{Unsigned};
 ghost use Rattle.icu_decimal.specs.CompactFormat.{CompactFormat};
-ghost use Rattle.icu_decimal.specs.CompactLaws.{OneCompactNumberIsNearest, NearestIsRounded, DisplayedIsOne, NearestKeepsOrder, MagnitudeIsShown, CompactNumberIsItsNearest, IsUnpadded, IsShownAgain, ShownIsGiven};
+ghost use Rattle.icu_decimal.specs.CompactLaws.{OneCompactNumberIsNearest, NearestIsRounded, DisplayedIsOne, NearestKeepsOrder, MagnitudeIsShown};
+ghost use Rattle.icu_decimal.specs.CompactLaws.{CompactNumberIsItsNearest, IsUnpadded, IsShownAgain, ShownIsGiven};
 ghost use Rattle.icu_decimal.specs.Laws.{AutoAndAlwaysWriteAlike, CompactAutoAndAlwaysWriteAlike, CompactNoneActsAsAuto, NoneActsAsAuto};
-ghost use Rattle.icu_decimal.specs.ReadableLaws.{CompactTextTells, EqualCompactTextsTell, EqualShownTextsTell, EqualTextsTellTheDecimal, ShownTextTells, TextTellsTheDecimal};
+ghost use Rattle.icu_decimal.specs.ReadableLaws.{CompactTextTells, EqualCompactTextsTell, EqualShownTextsTell, EqualTextsTellTheDecimal};
+ghost use Rattle.icu_decimal.specs.ReadableLaws.{ShownTextTells, TextTellsTheDecimal};
 ghost use Rattle.icu_decimal_data.specs.CompactTable.{IsCompactTable};
 
 use crate::compact_formatter::CompactDecimalFormatter;

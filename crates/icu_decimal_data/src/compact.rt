@@ -2,7 +2,8 @@
 
 #![tactic(auto, using(crate::proofs::TableCalls::calls))]
 
-ghost use Rattle.std.specs.Prelude.{◌≡◌, ◌↔◌, ◌<◌, IfOk, IfSome, IsErrOf, IsTrue, MatchOption, IsOkUnless, None, [], length, option_map, slice_get, slice_index_or};
+ghost use Rattle.std.specs.Prelude.{◌≡◌, ◌↔◌, ◌<◌, IfOk, IfSome, IsErrOf, IsTrue, MatchOption, IsOkUnless, None, [], length, option_map, slice_get};
+ghost use Rattle.std.specs.Prelude.{slice_index_or};
 ghost use Rattle.fixed_decimal.specs.Size.{place};
 ghost use Rattle.icu_plurals.specs.Elements.{slots, selected, sole_value};
 ghost use Rattle.icu_plurals.specs.Operands.{Operands};

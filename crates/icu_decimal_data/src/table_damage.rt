@@ -3,14 +3,17 @@
 
 #![tactic(auto, using(crate::proofs::TableSteps::steps), unfolding(crate::specs::TableReading::slot_step, crate::specs::TableReading::record_step, crate::specs::TableReading::table_step))]
 
-ghost use Rattle.std.specs.Prelude.{◌≡◌, Bool, ℕ, ◌+◌, ◌*◌, ◌<◌, ◌≤◌, ◌^◌, List, Option, drop, take, length, slice_index, slice_range, IsTrue, ◌↔◌, Some, None, Ok, Err, ◌==◌, ◌&&◌, nat_eq, IfSome, IfOk};
+ghost use Rattle.std.specs.Prelude.{◌≡◌, Bool, ℕ, ◌+◌, ◌*◌, ◌<◌, ◌≤◌, ◌^◌, List, Option, drop, take, length, slice_index, slice_range, IsTrue, ◌↔◌};
+ghost use Rattle.std.specs.Prelude.{Some, None, Ok, Err, ◌==◌, ◌&&◌, nat_eq, IfSome, IfOk};
 ghost use Rattle.std.specs.List.{list_all};
 ghost use Rattle.std.specs.Option.{option_map, option_eq};
 ghost use Rattle.icu_pattern.specs.Patterns.{same_pattern};
 ghost use Rattle.icu_decimal_data.specs.PackedTable.{is_pattern};
 ghost use Rattle.std.specs.Cmp.Lexicographic.{pointwise};
 ghost use Rattle.icu_decimal_data.specs.TableAnswers.{GivesNumber, Passes};
-ghost use Rattle.icu_decimal_data.specs.TableReading.{two_byte_number, slot_step, slots_step, record_step, records_step, table_step, is_wrong_kind, is_wrong_place, is_wrong_type, is_wrong_exponent, is_repeated, same_at, same_from, place_in, pattern_in, slot_in, slot_at, count_in, pool_start, pool_in, whole_len};
+ghost use Rattle.icu_decimal_data.specs.TableReading.{two_byte_number, slot_step, slots_step, record_step, records_step, table_step, is_wrong_kind};
+ghost use Rattle.icu_decimal_data.specs.TableReading.{is_wrong_place, is_wrong_type, is_wrong_exponent, is_repeated, same_at, same_from, place_in};
+ghost use Rattle.icu_decimal_data.specs.TableReading.{pattern_in, slot_in, slot_at, count_in, pool_start, pool_in, whole_len};
 
 use crate::error::Damaged;
 use crate::kept::MAX_ZEROS;

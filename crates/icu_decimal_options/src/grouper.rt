@@ -1,7 +1,8 @@
 //! Where separators stand in an integer.
 
 ghost use Rattle.std.specs.Prelude.{◌≡◌, ℕ, ◌+◌, ◌-◌, ◌*◌, ◌%◌, ◌<◌, ◌≤◌, ◌↔◌, IsTrue, List, length, pos, ◌+ℤ◌, ◌<ℤ◌, MatchOption};
-ghost use Rattle.icu_decimal_options.specs.Grouping.{digit_groups, EndsGroup, HasSeparatorAfter, groups_ever, least_before, secondary_size, is_grouped, IsLongestUngrouped};
+ghost use Rattle.icu_decimal_options.specs.Grouping.{digit_groups, EndsGroup, HasSeparatorAfter, groups_ever, least_before, secondary_size};
+ghost use Rattle.icu_decimal_options.specs.Grouping.{is_grouped, IsLongestUngrouped};
 
 use crate::options::GroupingStrategy;
 use icu_decimal_symbols::GroupingSizes;

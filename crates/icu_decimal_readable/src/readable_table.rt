@@ -5,7 +5,8 @@ ghost use Rattle.icu_plurals.specs.Elements.{slots};
 ghost use Rattle.icu_pattern.specs.Patterns.{PatternText, PlaceholderFits};
 ghost use Rattle.icu_decimal_data.specs.Given.{texts_given};
 ghost use Rattle.icu_decimal_readable.specs.Readable.{affixes, sides_at, sides, IsReadableTable};
-ghost use Rattle.icu_decimal_readable.specs.ReadableTable.{surroundings_of, around, AreTold, HasPlaceAndNoDigit, HoldsOfEntry, HoldsThroughout, IsToldFrom, IsToldThroughout, TellsNumbers};
+ghost use Rattle.icu_decimal_readable.specs.ReadableTable.{surroundings_of, around, AreTold, HasPlaceAndNoDigit, HoldsOfEntry, HoldsThroughout};
+ghost use Rattle.icu_decimal_readable.specs.ReadableTable.{IsToldFrom, IsToldThroughout, TellsNumbers};
 
 use crate::readable::has_no_digit;
 use fixed_decimal::Sign;

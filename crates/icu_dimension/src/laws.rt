@@ -1,6 +1,7 @@
 //! What holds of all numbers. The functions do nothing: each is its contract.
 
-ghost use Rattle.icu_dimension.specs.MoneyLaws.{EqualMoneyTextsTell, EqualMoneyTextsTellAround, EqualPercentTextsTell, MoneyTextTells, MoneyTextTellsAround, NoDigitStandsAround, PercentTextTells};
+ghost use Rattle.icu_dimension.specs.MoneyLaws.{EqualMoneyTextsTell, EqualMoneyTextsTellAround, EqualPercentTextsTell, MoneyTextTells};
+ghost use Rattle.icu_dimension.specs.MoneyLaws.{MoneyTextTellsAround, NoDigitStandsAround, PercentTextTells};
 ghost use Rattle.icu_dimension.specs.PercentLaws.{HundredfoldIsAHundredTimes, HundredfoldHasNoFirstZero};
 
 /// What is shown as a percent is a hundred times as large as the number, exactly.

@@ -1,6 +1,7 @@
 //! A condition while it is read.
 ghost use Rattle.std.specs.Prelude.{◌≡◌, IfOk, IsOkUnless};
-ghost use Rattle.icu_plurals_conditions.specs.Drafts.{drafted, empty_draft, first_of, with_item, with_relation, with_alternative, with_number, with_token, completed};
+ghost use Rattle.icu_plurals_conditions.specs.Drafts.{drafted, empty_draft, first_of, with_item, with_relation, with_alternative, with_number};
+ghost use Rattle.icu_plurals_conditions.specs.Drafts.{with_token, completed};
 ghost use Rattle.icu_plurals_conditions.specs.Owned.{condition_in};
 
 use crate::condition::{Alternative, Condition, Item, Operand, Relation};

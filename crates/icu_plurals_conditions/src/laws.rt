@@ -1,5 +1,6 @@
 //! Laws of all texts of conditions. The functions do nothing: each is its contract.
-ghost use Rattle.icu_plurals_conditions.specs.ConditionLaws.{EachTextIsJudged, NoTextIsJudgedTwice, FirstFaultsAreUnique, ConditionsAreUnique, ReadingIsSpelled, RefusalIsFirstFault};
+ghost use Rattle.icu_plurals_conditions.specs.ConditionLaws.{EachTextIsJudged, NoTextIsJudgedTwice, FirstFaultsAreUnique, ConditionsAreUnique};
+ghost use Rattle.icu_plurals_conditions.specs.ConditionLaws.{ReadingIsSpelled, RefusalIsFirstFault};
 
 /// Each text spells a condition or has a first fault, and no text does both.
 pub fn each_text_is_judged_once()

@@ -1,7 +1,9 @@
 //! The tokens of a condition.
-ghost use Rattle.std.specs.Prelude.{◌≡◌, ◌<◌, ◌≤◌, ◌+◌, ℕ, ◌∷◌, [], length, drop, take, slice_index, IfSome, IfNone, false, true, IsTrue, MatchOption, nat_le, map};
+ghost use Rattle.std.specs.Prelude.{◌≡◌, ◌<◌, ◌≤◌, ◌+◌, ℕ, ◌∷◌, [], length, drop, take, slice_index, IfSome, IfNone, false, true, IsTrue};
+ghost use Rattle.std.specs.Prelude.{MatchOption, nat_le, map};
 ghost use Rattle.std.specs.List.{prefix_len, list_all};
-ghost use Rattle.icu_plurals_conditions.specs.Tokens.{is_read, is_letter, is_digit, is_space, letter_token, word_token, number_token, sign_token, decimal_from, part_of};
+ghost use Rattle.icu_plurals_conditions.specs.Tokens.{is_read, is_letter, is_digit, is_space, letter_token, word_token, number_token, sign_token};
+ghost use Rattle.icu_plurals_conditions.specs.Tokens.{decimal_from, part_of};
 ghost use Rattle.icu_plurals_conditions.specs.Lexer.{has_front, IsFront, IsFirstToken};
 
 use crate::condition::Operand;

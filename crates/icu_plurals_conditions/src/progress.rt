@@ -1,6 +1,8 @@
 //! The tokens that may follow the beginning of a condition.
 ghost use Rattle.std.specs.Prelude.{◌≡◌};
-ghost use Rattle.icu_plurals_conditions.specs.Reading.{progress_at_operand, progress_after_operand, progress_at_modulus, progress_at_sign, progress_at_value, progress_at_end, progress_after_item, progress_after_value, next_progress, may_end};
+ghost use Rattle.icu_plurals_conditions.specs.Reading.{progress_at_operand, progress_after_operand, progress_at_modulus, progress_at_sign};
+ghost use Rattle.icu_plurals_conditions.specs.Reading.{progress_at_value, progress_at_end, progress_after_item, progress_after_value, next_progress};
+ghost use Rattle.icu_plurals_conditions.specs.Reading.{may_end};
 
 use crate::lexer::Token;
 

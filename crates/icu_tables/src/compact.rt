@@ -5,7 +5,8 @@ ghost use Rattle.std.specs.Ordering.{nat_cmp};
 ghost use Rattle.std.specs.BTreeMap.{insert_entry};
 ghost use Rattle.serde_json.specs.View.{view};
 ghost use Rattle.icu_decimal_data.specs.Kept.{given};
-ghost use Rattle.icu_tables.specs.Compact.{rises, given_entry_in, given_entries_in, given_table_at, entries_of, table_of_entries, table_of, compact_in, IsAbove, Rise};
+ghost use Rattle.icu_tables.specs.Compact.{rises, given_entry_in, given_entries_in, given_table_at, entries_of, table_of_entries, table_of};
+ghost use Rattle.icu_tables.specs.Compact.{compact_in, IsAbove, Rise};
 ghost use Rattle.icu_tables.specs.Reading.{Gives};
 
 use crate::entries::FromEntry;

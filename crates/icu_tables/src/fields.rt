@@ -2,7 +2,8 @@
 
 ghost use Rattle.std.specs.Prelude.{map, Option, option_map};
 ghost use Rattle.serde_json.specs.View.{view};
-ghost use Rattle.icu_tables.specs.Reading.{Gives, member_at, object_in, optional_at, text_in, list_in, byte_in, text_at, list_at, pair_in, triple_in, texts_in, texts_at};
+ghost use Rattle.icu_tables.specs.Reading.{Gives, member_at, object_in, optional_at, text_in, list_in, byte_in, text_at, list_at, pair_in, triple_in};
+ghost use Rattle.icu_tables.specs.Reading.{texts_in, texts_at};
 
 use crate::error::{Key, TableError};
 use serde_json::Value;
