@@ -1,7 +1,8 @@
 //! The mode that the words and the file of tables make.
 
-ghost use Rattle.std.specs.Prelude.{◌≡◌, IfOk};
+ghost use Rattle.std.specs.Prelude.{◌≡◌, Ok, Err, IfOk, IfErr};
 ghost use Rattle.decimal_lines.specs.LineAnswers.{HasTable};
+ghost use Rattle.decimal_lines.specs.declared.mode.Mode.TheVariants.{Compact};
 ghost use Rattle.decimal_lines.specs.Making.{Starts, compact_options, compact_preferences, long_mode, mode_by, mode_of, plain_mode, plain_options};
 ghost use Rattle.decimal_lines.specs.Making.{plain_preferences, short_mode, start_error};
 
@@ -80,22 +81,26 @@ fn plain_mode(alloc: Global, tables: &Tables, words: &Words<'_>) -> Result<Mode,
     }
 }
 
+/// The mode of a formatter of compact numbers, or why there is none.
+fn compact_mode(made: Result<CompactDecimalFormatter, DataError>) -> Result<Mode, StartError>
+    ensures mode { IfOk made (λ formatter. result ≡ Ok (Compact formatter)) }
+    ensures refused { IfErr made (λ error. result ≡ Err (start_error error.kind)) }
+{
+    match made {
+        Ok(formatter) => Ok(Mode::Compact(formatter)),
+        Err(error) => Err(start_error(error)),
+    }
+}
+
 /// Numbers shortened by the short patterns.
 #[tactic(auto, unfolding(crate::specs::Making::short_mode))]
 fn short_mode(alloc: Global, tables: &Tables, words: &Words<'_>) -> Result<Mode, StartError>
     ensures mode { Starts result (short_mode words.now tables.now) }
     ensures table { IfOk result (λ mode. HasTable mode) }
 {
+    let prefs = compact_preferences(words);
     let options = compact_options(words.grouping);
-    match CompactDecimalFormatter::try_new_short_unstable(
-        alloc,
-        tables,
-        compact_preferences(words),
-        options,
-    ) {
-        Ok(formatter) => Ok(Mode::Compact(formatter)),
-        Err(error) => Err(start_error(error)),
-    }
+    compact_mode(CompactDecimalFormatter::try_new_short_unstable(alloc, tables, prefs, options))
 }
 
 /// Numbers shortened by the long patterns.
@@ -104,16 +109,9 @@ fn long_mode(alloc: Global, tables: &Tables, words: &Words<'_>) -> Result<Mode, 
     ensures mode { Starts result (long_mode words.now tables.now) }
     ensures table { IfOk result (λ mode. HasTable mode) }
 {
+    let prefs = compact_preferences(words);
     let options = compact_options(words.grouping);
-    match CompactDecimalFormatter::try_new_long_unstable(
-        alloc,
-        tables,
-        compact_preferences(words),
-        options,
-    ) {
-        Ok(formatter) => Ok(Mode::Compact(formatter)),
-        Err(error) => Err(start_error(error)),
-    }
+    compact_mode(CompactDecimalFormatter::try_new_long_unstable(alloc, tables, prefs, options))
 }
 
 /// The mode of the style that is asked for.
