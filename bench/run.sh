@@ -11,6 +11,7 @@ for input in mixed long; do
 done
 rust=(rustc -O -C target-cpu=x86-64-v2)
 "${rust[@]}" peers/rust_plain.rs -o build/rust_plain || exit 1
+"${rust[@]}" peers/rust_best.rs -o build/rust_best || exit 1
 "${rust[@]}" peers/rust_original_shape.rs -o build/rust_original_shape || exit 1
 g++ -O2 peers/icu4c.cpp -o build/icu4c -licui18n -licuuc -licudata 2>/dev/null || echo 'no ICU4C here'
 # numfmt groups only where a locale does
@@ -19,6 +20,7 @@ g++ -O2 peers/icu4c.cpp -o build/icu4c -licui18n -licuuc -licudata 2>/dev/null |
 # what each peer runs, by its row's name
 declare -A command=(
     [rust_plain]=build/rust_plain
+    [rust_best]=build/rust_best
     [decfmt]=$program
     ['original shape']=build/rust_original_shape
     [ICU4C]=build/icu4c
@@ -26,8 +28,8 @@ declare -A command=(
     [Python]='python3 peers/groups.py'
 )
 declare -A names=(
-    [mixed]='rust_plain,decfmt,original shape,ICU4C,numfmt,Python'
-    [long]='rust_plain,decfmt,original shape,ICU4C,Python'
+    [mixed]='rust_plain,rust_best,decfmt,original shape,ICU4C,numfmt,Python'
+    [long]='rust_plain,rust_best,decfmt,original shape,ICU4C,Python'
 )
 declare -A best equal skipped
 
@@ -79,7 +81,7 @@ for name in "${list[@]}"; do
     [ -n "${skipped[$name]:-}" ] && continue
     counted=–
     case $name in
-    rust_plain | decfmt | 'original shape' | ICU4C) command -v valgrind >/dev/null && counted=$(instructions "$name" 20000 mixed) ;;
+    rust_plain | rust_best | decfmt | 'original shape' | ICU4C) command -v valgrind >/dev/null && counted=$(instructions "$name" 20000 mixed) ;;
     esac
     row "$name" "$(ratio "$name" mixed)" "${equal[$name,mixed]}" "$(ratio "$name" long)" "${equal[$name,long]:-–}" "$counted"
 done
