@@ -1,5 +1,5 @@
 """The entries of money, percents and units."""
-from cldr_numbers import CompactReader, formats_of, symbol, without_repeats
+from cldr_numbers import CompactReader, fitting, formats_of, symbol, symbols_entry, without_repeats
 from cldr_paths import (
     UNIT_WIDTHS,
     compact_money_path,
@@ -8,16 +8,18 @@ from cldr_paths import (
     money_names_path,
     money_path,
     percent_path,
+    plain_path,
     shown,
     step,
     symbols_path,
     unit_path,
 )
-from cldr_patterns import PLACE, around_number, literal, subpatterns
-from cldr_reports import CASH, OWN_PATTERN, UNIT, Inexpressible
+from cldr_patterns import PLACE, refuse_unreadable, sizes_of
+from cldr_reports import CASH, GROUPS, OWN_PATTERN, UNIT, Inexpressible
 
-SYMBOL = "{1}"
-SIGNS = ("none", "minus", "plus")
+NAME = "{1}"
+SYMBOL = "¤"
+PERCENT = "%"
 MOST_DIGITS = 15
 DEFAULT = "DEFAULT"
 OWN = ("pattern", "decimal", "group")
@@ -32,27 +34,6 @@ def with_places(text, *places):
         if text.count(place) != 1:
             raise Inexpressible(f"{place} stands {text.count(place)} times in {text!r}, not once")
     return text
-
-
-def filled(pieces, texts):
-    """The text of a subpattern, `texts` in the place of special characters."""
-    before, number, after = around_number(pieces)
-    if number is None:
-        raise Inexpressible("a pattern has no number")
-    return literal(before, texts) + PLACE + literal(after, texts)
-
-
-def by_sign(pattern, minus, plus, texts, *places):
-    """What a pattern is without a sign, with minus and with plus (UTS 35 Part 3, Explicit Plus Signs)."""
-    positive, negative = subpatterns(pattern)
-    bare = filled(positive, texts)
-    if negative is None:
-        found = bare, minus + bare, plus + bare
-    elif ("special", "-") in negative:
-        found = bare, *(filled(negative, {**texts, "-": sign}) for sign in (minus, plus))
-    else:
-        found = bare, filled(negative, texts), plus + bare
-    return {name: with_places(text, PLACE, *places) for name, text in zip(SIGNS, found)}
 
 
 def by_category(release, locale, rules, path_of):
@@ -72,23 +53,39 @@ def by_category(release, locale, rules, path_of):
 
 
 def signs_of(release, locale, system):
-    """The minus and the plus sign."""
-    return tuple(symbol(release, locale, system, name) for name in ("minusSign", "plusSign"))
+    """The texts of the minus and the plus sign by their names in tables."""
+    return {name: symbol(release, locale, system, f"{name}Sign") for name in ("minus", "plus")}
+
+
+def plain_pattern(release, locale, system):
+    """The pattern of plain numbers of a numbering system, or None."""
+    return release.text(locale, plain_path(formats_of(release, locale, system)))
+
+
+def tell_groups(release, locale, path, pattern, others):
+    """Tells where CLDR groups the numbers of a path by a pattern that groups otherwise than the one of the tables."""
+    if None not in (pattern, others) and sizes_of(pattern) != sizes_of(others):
+        reason = f"{pattern!r}: its groups aren't those of {others!r}, which stand"
+        release.reports.left_out(GROUPS, locale, shown(path), reason)
 
 
 def percent_entry(release, locale, system):
-    """The patterns of percents, with the signs in them (UTS 35 Part 3, Number Patterns)."""
-    pattern = release.text(locale, percent_path(formats_of(release, locale, system, percent_path)))
+    """The pattern of percents and the texts of the signs in it (UTS 35 Part 3, Number Patterns)."""
+    path = percent_path(formats_of(release, locale, system, percent_path))
+    pattern = release.text(locale, path)
     if pattern is None:
         raise Inexpressible("no pattern of percents")
-    return by_sign(pattern, *signs_of(release, locale, system), {"%": symbol(release, locale, system, "percentSign")})
+    refuse_unreadable(pattern, PERCENT)
+    tell_groups(release, locale, path, pattern, plain_pattern(release, locale, system))
+    percent = symbol(release, locale, system, "percentSign")
+    return {"pattern": pattern, **signs_of(release, locale, system), "percent": percent}
 
 
 class CompactMoneyReader(CompactReader):
-    """Reads the compact patterns of money: the symbol's place is {1}; the number alone isn't shortened."""
+    """Reads the compact patterns of money: ¤ stands for the symbol; the number alone isn't shortened."""
 
     element = "currencyFormats"
-    texts = {"¤": SYMBOL}
+    texts = {SYMBOL: SYMBOL}
 
     def path(self, power, count):
         """Where the pattern of a power and a count stands."""
@@ -104,7 +101,22 @@ def money_names(release, locale, system, rules):
     names = by_category(release, locale, rules, lambda count: money_names_path(system, count))
     if names is None:
         raise Inexpressible("no pattern of an amount with a name")
-    return {category: with_places(text, PLACE, SYMBOL) for category, text in names.items()}
+    return {category: with_places(text, PLACE, NAME) for category, text in names.items()}
+
+
+def money_formats(release, locale, system):
+    """The numbering system whose patterns of money are those of a system."""
+    return formats_of(release, locale, system, lambda name: money_path(name, "standard"))
+
+
+def money_patterns(release, locale, formats):
+    """The patterns of money, standard and accounting, as CLDR has them."""
+    patterns = {kind: release.text(locale, money_path(formats, kind)) for kind in ("standard", "accounting")}
+    for kind, pattern in patterns.items():
+        if pattern is None:
+            raise Inexpressible(f"no {kind} pattern of money")
+        refuse_unreadable(pattern, "", once=SYMBOL)
+    return patterns
 
 
 def money_separators(release, locale, system):
@@ -115,21 +127,35 @@ def money_separators(release, locale, system):
             yield field, text
 
 
+def money_symbols(release, locale, system):
+    """The symbols of amounts, by the separators that money has for itself and the groups of its standard pattern; None
+    where they are those of numbers, or where these or the patterns can't be expressed, which is told of them."""
+    try:
+        numbers = symbols_entry(release, locale, system)
+        patterns = money_patterns(release, locale, money_formats(release, locale, system))
+    except Inexpressible:
+        return None
+    sizes = [*sizes_of(patterns["standard"]), numbers["sizes"][-1]]
+    entry = {**numbers, **dict(money_separators(release, locale, system)), "sizes": sizes}
+    return None if entry == numbers else fitting(entry)
+
+
 def money_entry(release, locale, system, styles, rules):
-    """The patterns of money; `styles` says which compact ones there are."""
-    formats = formats_of(release, locale, system, lambda name: money_path(name, "standard"))
-    signs = signs_of(release, locale, system)
-    entry = dict(money_separators(release, locale, system))
-    for kind in ("standard", "accounting"):
-        pattern = release.text(locale, money_path(formats, kind))
-        if pattern is None:
-            raise Inexpressible(f"no {kind} pattern of money")
-        entry[kind] = by_sign(pattern, *signs, {"¤": SYMBOL}, SYMBOL)
+    """The patterns of money and the texts of the signs in them; `styles` says which compact ones there are."""
+    formats = money_formats(release, locale, system)
+    entry = money_patterns(release, locale, formats)
+    grouped = {
+        money_path(formats, "accounting"): entry["accounting"],
+        money_names_path(formats, "other"): plain_pattern(release, locale, system),
+    }
+    for path, pattern in grouped.items():
+        tell_groups(release, locale, path, pattern, entry["standard"])
+    entry.update(signs_of(release, locale, system), names=money_names(release, locale, formats, rules))
     for style in styles:
         patterns = CompactMoneyReader(release, locale, formats, style, rules).table()
         if patterns:
             entry[style] = patterns
-    return {**entry, "names": money_names(release, locale, formats, rules)}
+    return entry
 
 
 # Currencies.

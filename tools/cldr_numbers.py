@@ -7,6 +7,7 @@ from cldr_reports import COMPACT, NEGATIVE, PLAIN, SYSTEM, Inexpressible
 
 EXPLICIT = {"0": "explicit_zero", "1": "explicit_one"}
 SYMBOLS_BYTES = 255
+LARGEST_GROUP = 255
 PATTERNS_BYTES = 65535
 MOST_ZEROS = 16
 
@@ -87,12 +88,18 @@ def symbols_entry(release, locale, system):
     sizes, minus, plus = signs_of(release, locale, system, pattern)
     least = release.text(locale, (step("minimumGroupingDigits", {}),)) or "1"
     decimal, group = (symbol(release, locale, system, name) for name in ("decimal", "group"))
-    if sum(len(text.encode()) for text in (*minus, *plus, decimal, group, system)) > SYMBOLS_BYTES:
-        raise Inexpressible(f"its symbols are more than {SYMBOLS_BYTES} bytes")
-    if max(*sizes, int(least)) > 255:
-        raise Inexpressible("a group of more than 255 digits")
     texts = {"minus": minus, "plus": plus, "decimal": decimal, "group": group, "numsys": system}
-    return {**texts, "sizes": [*sizes, int(least)]}
+    return fitting({**texts, "sizes": [*sizes, int(least)]})
+
+
+def fitting(symbols):
+    """Symbols that tables can hold."""
+    texts = *symbols["minus"], *symbols["plus"], *(symbols[name] for name in ("decimal", "group", "numsys"))
+    if sum(len(text.encode()) for text in texts) > SYMBOLS_BYTES:
+        raise Inexpressible(f"its symbols are more than {SYMBOLS_BYTES} bytes")
+    if max(symbols["sizes"]) > LARGEST_GROUP:
+        raise Inexpressible(f"a group of more than {LARGEST_GROUP} digits")
+    return symbols
 
 
 class CompactReader:

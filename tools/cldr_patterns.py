@@ -90,6 +90,29 @@ def grouping(number):
     return [len(groups[-1]), len(groups[-2] if len(groups) > 2 else groups[-1])]
 
 
+def sizes_of(pattern):
+    """The sizes of groups of a pattern."""
+    return grouping(around_number(subpatterns(pattern)[0])[1])
+
+
+def refuse_unreadable(pattern, specials, once=""):
+    """Refuses a pattern of money or percents that tables can't have (docs/FORMATS.md, Money, percents and units as
+    JSON). Its special characters may be signs, `specials`, and those of `once`, which each subpattern has once."""
+    if any(match["plain"] == "E" for match in PIECE.finditer(pattern)):
+        raise Inexpressible("the special character E within a pattern")
+    positive, negative = subpatterns(pattern)
+    for pieces in (positive, positive if negative is None else negative):
+        before, number, after = around_number(pieces)
+        if number is None:
+            raise Inexpressible(f"a subpattern of {pattern!r} has no number")
+        grouping(number)
+        literal(before + after, dict.fromkeys("-+" + specials + once, ""))
+        for special in once:
+            count = pieces.count(("special", special))
+            if count != 1:
+                raise Inexpressible(f"{special} stands {count} times in a subpattern of {pattern!r}, not once")
+
+
 # Plural rules (UTS 35 Part 3, Language Plural Rules).
 
 VALUE = r"[0-9]{1,18}"

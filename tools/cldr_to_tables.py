@@ -23,7 +23,15 @@ import sys
 import zipfile
 
 import cldr_names
-from cldr_dimension import codes_of, currency_digits, currency_texts, money_entry, percent_entry, unit_entries
+from cldr_dimension import (
+    codes_of,
+    currency_digits,
+    currency_texts,
+    money_entry,
+    money_symbols,
+    percent_entry,
+    unit_entries,
+)
 from cldr_json import JsonRelease
 from cldr_ldml import LdmlRelease
 from cldr_numbers import CompactReader, formats_of, named, symbols_entry, systems_of
@@ -48,7 +56,7 @@ class TablesMaker:
         digits = [[system, digits] for system, digits in sorted(self.digits.items())]
         self.tables = {"symbols": [], "digits": digits, "rules": [], "short": [], "long": []}
         if wanted.currencies:
-            self.tables.update(currencies=[], currency_symbols=[])
+            self.tables.update(currencies=[], currency_decimals=[], currency_symbols=[])
             self.tables["currency_digits"] = currency_digits(release, wanted.currencies)
         if wanted.percents:
             self.tables["percents"] = []
@@ -82,6 +90,7 @@ class TablesMaker:
         entries.update((style, self.compact(locale, systems, style, rules)) for style in STYLES)
         if self.wanted.currencies:
             entries["currencies"] = self.money(locale, systems, rules)
+            entries["currency_decimals"] = self.symbols(locale, systems, money_symbols, "symbols of money")
             codes = codes_of(self.release, locale, self.wanted.currencies)
             texts = [currency_texts(self.release, locale, code, rules) for code in codes]
             entries["currency_symbols"] = [{"symbols": texts}]
@@ -130,11 +139,11 @@ class TablesMaker:
 
         return self.where_new(systems, make)
 
-    def symbols(self, locale, systems):
-        """The symbols of the default system, and those of the others under their names."""
+    def symbols(self, locale, systems, make=symbols_entry, key="symbols"):
+        """The symbols of the default system, and those of the others under their names, as `make` answers them."""
         entries = []
         for system in systems:
-            entry = self.try_entry(locale, f"symbols[{system}]", lambda: symbols_entry(self.release, locale, system))
+            entry = self.try_entry(locale, f"{key}[{system}]", lambda: make(self.release, locale, system))
             if entry:
                 which = {} if system == systems[0] else {"system": system}
                 entries.append({**which, **entry})
