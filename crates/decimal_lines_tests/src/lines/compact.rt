@@ -1,7 +1,8 @@
 //! Lines in a compact mode, against what ICU4X and UTS 35 give for short English.
 
+use super::long::nines;
 use super::slow::Full;
-use super::{english, many, nines, runs_by, runs_slowly};
+use super::{english, many, runs_by, runs_slowly};
 use decimal_lines::{Mode, RunError};
 use icu_decimal::provider::CompactPatterns;
 use icu_decimal::{CompactDecimalFormatter, DecimalFormatter};

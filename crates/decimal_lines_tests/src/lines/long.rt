@@ -11,7 +11,7 @@ fn nines_once(alloc: Global, count: usize, last: u8) -> Result<Vec<u8>, AllocErr
 }
 
 /// The same, made once more where memory was refused.
-fn nines(alloc: Global, count: usize, last: u8) -> Result<Vec<u8>, AllocError> {
+pub(super) fn nines(alloc: Global, count: usize, last: u8) -> Result<Vec<u8>, AllocError> {
     match nines_once(alloc, count, last) {
         Ok(bytes) => Ok(bytes),
         Err(_) => nines_once(alloc, count, last),
