@@ -5,7 +5,7 @@ use crate::money::{Money, money_of};
 use crate::names::{Currency, long_of};
 use crate::percents::{Percent, percent_of};
 use crate::units::{Unit, units_of};
-use crate::writing::{NumberWriter, is_text, writes};
+use crate::writing::{NumberWriter, Wanted, is_text, writes};
 use fixed_decimal::Decimal;
 use icu_decimal::error::FormatError;
 use std::alloc::{AllocError, Global};
@@ -41,25 +41,29 @@ fn ones(alloc: Global, count: usize) -> Option<Decimal> {
     }
 }
 
-/// Whether so many ones are written so.
-fn writes_ones<W: NumberWriter>(
+/// Whether so many ones are this text.
+fn are_ones<W: NumberWriter>(alloc: Global, formatter: &W, count: usize, text: &[u8]) -> bool {
+    match ones(alloc, count) {
+        Some(number) => {
+            let text = str::from_utf8(text).unwrap_or_default();
+            is_text(alloc, formatter, &number, text)
+        }
+        None => false,
+    }
+}
+
+/// Whether a formatter was made, and so many ones are written so.
+fn writes_ones<W: NumberWriter + Drop>(
     alloc: Global,
-    formatter: &W,
+    made: Option<W>,
     before: &str,
     (count, zeros): (usize, usize),
     behind: &str,
 ) -> bool {
-    match grouped(alloc, before, (count.saturating_add(zeros), zeros), behind) {
-        Ok(text) => match ones(alloc, count) {
-            Some(number) => is_text(
-                alloc,
-                formatter,
-                &number,
-                str::from_utf8(&text).unwrap_or_default(),
-            ),
-            None => false,
-        },
-        Err(_) => false,
+    let text = grouped(alloc, before, (count.saturating_add(zeros), zeros), behind);
+    match made.zip(text.ok()) {
+        Some((formatter, text)) => are_ones(alloc, &formatter, count, &text),
+        None => false,
     }
 }
 
@@ -67,31 +71,21 @@ fn writes_ones<W: NumberWriter>(
 const MOST: usize = 32768;
 
 fn writes_money(alloc: Global) -> bool {
-    match money_of(alloc, DOLLARS) {
-        Some(money) => writes_ones(alloc, &money, "$", (MOST, 0), ""),
-        None => false,
-    }
+    writes_ones(alloc, money_of(alloc, DOLLARS), "$", (MOST, 0), "")
 }
 
 fn writes_months(alloc: Global) -> bool {
-    match units_of(alloc, Unit::EweMonths) {
-        Some(months) => writes_ones(alloc, &months, "ɣleti ", (MOST, 0), ""),
-        None => false,
-    }
+    let months = units_of(alloc, Unit::EweMonths);
+    writes_ones(alloc, months, "ɣleti ", (MOST, 0), "")
 }
 
 fn writes_yen(alloc: Global) -> bool {
-    match long_of(alloc, Currency::JapaneseYen) {
-        Some(yen) => writes_ones(alloc, &yen, "", (MOST, 0), "円"),
-        None => false,
-    }
+    let yen = long_of(alloc, Currency::JapaneseYen);
+    writes_ones(alloc, yen, "", (MOST, 0), "円")
 }
 
 fn writes_percent(alloc: Global) -> bool {
-    match percent_of(alloc, PERCENT) {
-        Some(percent) => writes_ones(alloc, &percent, "", (MOST - 2, 2), "%"),
-        None => false,
-    }
+    writes_ones(alloc, percent_of(alloc, PERCENT), "", (MOST - 2, 2), "%")
 }
 
 #[test]
@@ -102,21 +96,22 @@ fn numbers_of_many_digits_are_written_whole(rt: HostRuntime) {
     assert!(rt; writes_percent(rt.alloc()) || writes_percent(rt.alloc()));
 }
 
-/// Whether a hundred times so many ones is too large, and the sink is as it was.
-fn overflows(alloc: Global, count: usize) -> bool {
-    match percent_of(alloc, PERCENT) {
-        Some(percent) => match ones(alloc, count) {
-            Some(number) => writes(
-                alloc,
-                &percent,
-                &number,
-                None,
-                (Err(FormatError::Overflow), "", Some(&[])),
-            ),
-            None => false,
-        },
+/// Whether a formatter was made that writes a number as too large, and leaves the sink as it was.
+fn is_too_large<W: NumberWriter + Drop>(
+    alloc: Global,
+    made: Option<W>,
+    number: Option<Decimal>,
+) -> bool {
+    let wanted: Wanted<'static> = (Err(FormatError::Overflow), "", Some(&[]));
+    match made.zip(number) {
+        Some((formatter, number)) => writes(alloc, &formatter, &number, None, wanted),
         None => false,
     }
+}
+
+/// Whether a hundred times so many ones is too large, and the sink is as it was.
+fn overflows(alloc: Global, count: usize) -> bool {
+    is_too_large(alloc, percent_of(alloc, PERCENT), ones(alloc, count))
 }
 
 #[test]

@@ -1,6 +1,7 @@
 //! Compact money by large tables: an entry for each type, each with a longer text behind the number than the last.
 
 use crate::making::{ENGLISH, decimal, patterns, plain};
+use crate::writing::made_is_text;
 use fixed_decimal::Decimal;
 use icu_decimal::provider::CompactPatterns;
 use icu_dimension::provider::CompactCurrencyPatterns;
@@ -51,33 +52,23 @@ fn table_of(alloc: Global, before: &str) -> Option<CompactPatterns<SinglePlaceho
 
 /// The tables of the three signs.
 fn tables(alloc: Global) -> Option<CompactCurrencyPatterns> {
-    match (
-        table_of(alloc, "$"),
-        table_of(alloc, "-$"),
-        table_of(alloc, "+$"),
-    ) {
-        (Some(none), Some(minus), Some(plus)) => Some(CompactCurrencyPatterns {
-            none,
-            minus,
-            plus,
-        }),
-        _ => None,
+    let unsigned = table_of(alloc, "$").zip(table_of(alloc, "-$"));
+    match unsigned.zip(table_of(alloc, "+$")) {
+        Some(((none, minus), plus)) => Some(CompactCurrencyPatterns { none, minus, plus }),
+        None => None,
     }
 }
 
 /// The formatter of compact dollars by these tables.
 fn dollars(alloc: Global) -> Option<CompactCurrencyFormatter> {
-    match (
-        plain(alloc, ENGLISH),
-        patterns(alloc, ENGLISH, "¤#0", "$"),
-        PluralRules::from_rules(alloc, &[]),
-        tables(alloc),
-    ) {
-        (Some(plain), Some(patterns), Ok(rules), Some(tables)) => {
+    let money = plain(alloc, ENGLISH).zip(patterns(alloc, ENGLISH, "¤#0", "$"));
+    let rules = PluralRules::from_rules(alloc, &[]).ok();
+    match money.zip(rules.zip(tables(alloc))) {
+        Some(((plain, patterns), (rules, tables))) => {
             let money = CurrencyFormatter::new(plain, patterns);
             CompactCurrencyFormatter::from_parts(alloc, money, rules, tables).ok()
         }
-        _ => None,
+        None => None,
     }
 }
 
@@ -97,18 +88,20 @@ fn digits_at(above: u8) -> &'static str {
     }
 }
 
-/// Whether five at a power is written with the text of its type.
-fn is_written(alloc: Global, five_text: &str, before: &str, power: u8) -> Option<bool> {
-    let mut want = String::from_str(alloc, before).ok()?;
-    want.push_str(digits_at(power % 3)).ok()?;
-    let want = lettered(alloc, want.as_str(), power).ok()?;
-    let number = five(alloc, five_text, power)?;
-    let text = dollars(alloc)?.write_to_string(alloc, &number).ok()?;
-    Some(text == want)
+/// How five at a power is written, with a text before it: with the text of its type.
+fn wanted(alloc: Global, before: &str, power: u8) -> Result<String, AllocError> {
+    let mut text = String::from_str(alloc, before)?;
+    text.push_str(digits_at(power % 3))?;
+    lettered(alloc, &text, power)
 }
 
+/// Whether five at a power is written with the text of its type.
 fn holds(alloc: Global, five_text: &str, before: &str, power: u8) -> bool {
-    is_written(alloc, five_text, before, power) == Some(true)
+    let want = wanted(alloc, before, power).ok();
+    match want.zip(five(alloc, five_text, power)) {
+        Some((want, number)) => made_is_text(alloc, dollars(alloc), &number, &want),
+        None => false,
+    }
 }
 
 /// Five with a sign, the text before its numbers, and a power.

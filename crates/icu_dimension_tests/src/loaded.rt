@@ -3,7 +3,9 @@
 use crate::making::decimal;
 use crate::rows::{LETTERS, Rows, Whose, rows_of};
 use crate::shelf::{NOTHING, Refused, Shelf};
+use crate::writing::NumberWriter;
 use fixed_decimal::Decimal;
+use icu_decimal::error::FormatError;
 use icu_decimal::options::DecimalFormatterOptions;
 use icu_decimal::preferences::DecimalFormatterPreferences;
 use icu_dimension::options::{CurrencyFormatterOptions, CurrencySign, Width};
@@ -65,10 +67,22 @@ fn options(made: Made) -> CurrencyFormatterOptions {
 }
 
 /// The answer, or want of memory.
-fn told<E: Drop>(text: Result<String, E>) -> Result<String, DataError> {
+fn told(text: Result<String, FormatError>) -> Result<String, DataError> {
     match text {
         Ok(text) => Ok(text),
         Err(_) => Err(WANTING),
+    }
+}
+
+/// The text of a number by a formatter, or why it isn't made.
+fn text_by<W: NumberWriter + Drop>(
+    alloc: Global,
+    made: Result<W, DataError>,
+    number: &Decimal,
+) -> Result<String, DataError> {
+    match made {
+        Ok(formatter) => told(formatter.number_text(alloc, number)),
+        Err(error) => Err(error),
     }
 }
 
@@ -81,10 +95,8 @@ fn money_text(
 ) -> Result<String, DataError> {
     let options = options(asked.made);
     let prefs = preferences(asked);
-    match CurrencyFormatter::try_new_unstable(alloc, shelf, prefs, code, options) {
-        Ok(formatter) => told(formatter.write_to_string(alloc, amount)),
-        Err(error) => Err(error),
-    }
+    let made = CurrencyFormatter::try_new_unstable(alloc, shelf, prefs, code, options);
+    text_by(alloc, made, amount)
 }
 
 fn names_text(
@@ -96,10 +108,8 @@ fn names_text(
 ) -> Result<String, DataError> {
     let options = DecimalFormatterOptions::default();
     let prefs = preferences(asked);
-    match LongCurrencyFormatter::try_new_unstable(alloc, shelf, prefs, code, options) {
-        Ok(formatter) => told(formatter.write_to_string(alloc, amount)),
-        Err(error) => Err(error),
-    }
+    let made = LongCurrencyFormatter::try_new_unstable(alloc, shelf, prefs, code, options);
+    text_by(alloc, made, amount)
 }
 
 fn compact_text(
@@ -111,10 +121,8 @@ fn compact_text(
 ) -> Result<String, DataError> {
     let options = DecimalFormatterOptions::default();
     let prefs = preferences(asked);
-    match CompactCurrencyFormatter::try_new_unstable(alloc, shelf, prefs, code, options) {
-        Ok(formatter) => told(formatter.write_to_string(alloc, amount)),
-        Err(error) => Err(error),
-    }
+    let made = CompactCurrencyFormatter::try_new_unstable(alloc, shelf, prefs, code, options);
+    text_by(alloc, made, amount)
 }
 
 fn percent_text(
@@ -124,10 +132,8 @@ fn percent_text(
     number: &Decimal,
 ) -> Result<String, DataError> {
     let options = DecimalFormatterOptions::default();
-    match PercentFormatter::try_new_unstable(alloc, shelf, preferences(asked), options) {
-        Ok(formatter) => told(formatter.write_to_string(alloc, number)),
-        Err(error) => Err(error),
-    }
+    let made = PercentFormatter::try_new_unstable(alloc, shelf, preferences(asked), options);
+    text_by(alloc, made, number)
 }
 
 fn units_text(
@@ -138,16 +144,14 @@ fn units_text(
 ) -> Result<String, DataError> {
     let options = DecimalFormatterOptions::default();
     let prefs = preferences(asked);
-    match UnitsFormatter::try_new_unstable::<UnitsLongV1, Shelf>(
+    let made = UnitsFormatter::try_new_unstable::<UnitsLongV1, Shelf>(
         alloc,
         shelf,
         prefs,
         "kilometer",
         options,
-    ) {
-        Ok(formatter) => told(formatter.write_to_string(alloc, number)),
-        Err(error) => Err(error),
-    }
+    );
+    text_by(alloc, made, number)
 }
 
 /// The text of a number by the formatter that is asked for, or why it isn't made.
@@ -169,6 +173,28 @@ fn text_of(
     }
 }
 
+/// Whether a text is this one, or why there is none.
+fn is_told(text: Result<String, DataError>, want: &str) -> Result<bool, DataError> {
+    match text {
+        Ok(text) => Ok(text.as_str() == want),
+        Err(error) => Err(error),
+    }
+}
+
+/// Whether what is asked for writes a number so by a shelf, or why it isn't made.
+fn writes_from(
+    alloc: Global,
+    shelf: &Shelf,
+    asked: Asked,
+    number: &str,
+    want: &str,
+) -> Result<bool, DataError> {
+    match decimal(alloc, number) {
+        Some(number) => is_told(text_of(alloc, shelf, asked, &number), want),
+        None => Err(WANTING),
+    }
+}
+
 /// Whether what is asked for writes a number so, or why it isn't made.
 fn writes_once(
     alloc: Global,
@@ -177,12 +203,9 @@ fn writes_once(
     asked: Asked,
     (number, want): (&str, &str),
 ) -> Result<bool, DataError> {
-    match (Shelf::made(alloc, rows, refused), decimal(alloc, number)) {
-        (Some(shelf), Some(number)) => match text_of(alloc, &shelf, asked, &number) {
-            Ok(text) => Ok(text.as_str() == want),
-            Err(error) => Err(error),
-        },
-        _ => Err(WANTING),
+    match Shelf::made(alloc, rows, refused) {
+        Some(shelf) => writes_from(alloc, &shelf, asked, number, want),
+        None => Err(WANTING),
     }
 }
 

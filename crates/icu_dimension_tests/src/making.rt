@@ -74,11 +74,10 @@ pub(crate) fn symbols(alloc: Global, numbers: Numbers) -> Option<DecimalSymbols>
 /// The plain formatter of a language.
 pub(crate) fn plain(alloc: Global, numbers: Numbers) -> Option<DecimalFormatter> {
     match symbols(alloc, numbers) {
-        Some(symbols) => Some(DecimalFormatter::from_parts(
-            symbols,
-            ASCII_DIGITS,
-            DecimalFormatterOptions::default(),
-        )),
+        Some(symbols) => {
+            let options = DecimalFormatterOptions::default();
+            Some(DecimalFormatter::from_parts(symbols, ASCII_DIGITS, options))
+        }
         None => None,
     }
 }

@@ -1,7 +1,7 @@
 //! Amounts of money with their symbols, as CLDR and ICU write them.
 
 use crate::making::{ENGLISH, GERMAN, Numbers, SWISS, decimal, patterns, plain};
-use crate::writing::is_written;
+use crate::writing::{NumberWriter, is_written, made_writes};
 use fixed_decimal::Decimal;
 use icu_decimal::options::CompactDecimalFormatterOptions;
 use icu_decimal::parts::{DECIMAL, FRACTION, GROUP, INTEGER, MINUS_SIGN, PLUS_SIGN};
@@ -33,7 +33,7 @@ const YEN: Money = (ENGLISH, "¤#,##0.00", "￥", 0);
 
 const DINARS: Money = (ENGLISH, "¤#,##0.00", "KWD", 3);
 
-const AMOUNTS: [(Money, &str, &str); 14] = [
+const AMOUNTS: &[(Money, &str, &str)] = &[
     (DOLLARS, "1234.5", "$1,234.50"),
     (DOLLARS, "-1234.5", "-$1,234.50"),
     (DOLLARS, "+1234.5", "+$1,234.50"),
@@ -55,11 +55,8 @@ pub(crate) fn money_of(
     alloc: Global,
     (numbers, pattern, symbol, _): Money,
 ) -> Option<CurrencyFormatter<DecimalFormatter>> {
-    match plain(alloc, numbers) {
-        Some(formatter) => match patterns(alloc, numbers, pattern, symbol) {
-            Some(patterns) => Some(CurrencyFormatter::new(formatter, patterns)),
-            None => None,
-        },
+    match plain(alloc, numbers).zip(patterns(alloc, numbers, pattern, symbol)) {
+        Some((formatter, patterns)) => Some(CurrencyFormatter::new(formatter, patterns)),
         None => None,
     }
 }
@@ -67,11 +64,22 @@ pub(crate) fn money_of(
 /// The amount of a text, rounded to so many digits.
 fn rounded(alloc: Global, amount: &str, digits: u8) -> Option<Decimal> {
     match decimal(alloc, amount) {
-        Some(amount) => match rounded_to(amount, digits) {
-            Ok(amount) => Some(amount),
-            Err(_) => None,
-        },
+        Some(amount) => rounded_to(amount, digits).ok(),
         None => None,
+    }
+}
+
+/// Whether a formatter was made, and an amount, rounded to so many digits, is written so.
+fn made_writes_rounded<W: NumberWriter + Drop>(
+    alloc: Global,
+    made: Option<W>,
+    amount: Option<Decimal>,
+    text: &str,
+    parts: Option<&[(usize, usize, Part)]>,
+) -> bool {
+    match made.zip(amount) {
+        Some((formatter, amount)) => is_written(alloc, &formatter, &amount, text, parts),
+        None => false,
     }
 }
 
@@ -83,13 +91,8 @@ fn is_amount(
     text: &str,
     parts: Option<&[(usize, usize, Part)]>,
 ) -> bool {
-    match money_of(alloc, money) {
-        Some(formatter) => match rounded(alloc, amount, money.3) {
-            Some(amount) => is_written(alloc, &formatter, &amount, text, parts),
-            None => false,
-        },
-        None => false,
-    }
+    let rounded = rounded(alloc, amount, money.3);
+    made_writes_rounded(alloc, money_of(alloc, money), rounded, text, parts)
 }
 
 /// The same, asked once more where a refused allocation stood in the way.
@@ -105,16 +108,16 @@ fn is_amount_written(
 
 #[test]
 fn amounts_are_written_with_the_symbol_of_their_currency(rt: HostRuntime) {
-    for &(money, amount, text) in &AMOUNTS {
+    for (money, amount, text) in AMOUNTS {
         assert!(rt;
-            is_amount_written(rt.alloc(), money, amount, text, None),
+            is_amount_written(rt.alloc(), *money, amount, text, None),
             "{text}"
         );
     }
 }
 
 /// Amounts with all their parts.
-const MARKED: [(Money, &str, &str, &[(usize, usize, Part)]); 4] = [
+const MARKED: &[(Money, &str, &str, &[(usize, usize, Part)])] = &[
     (
         DOLLARS,
         "-1234.5",
@@ -167,9 +170,9 @@ const MARKED: [(Money, &str, &str, &[(usize, usize, Part)]); 4] = [
 
 #[test]
 fn amounts_have_their_parts(rt: HostRuntime) {
-    for &(money, amount, text, parts) in &MARKED {
+    for (money, amount, text, parts) in MARKED {
         assert!(rt;
-            is_amount_written(rt.alloc(), money, amount, text, Some(parts)),
+            is_amount_written(rt.alloc(), *money, amount, text, Some(parts)),
             "{text}"
         );
     }
@@ -192,29 +195,20 @@ fn short_english(alloc: Global) -> Option<CompactDecimalFormatter> {
 
 /// Dollars over short English.
 fn short_dollars(alloc: Global) -> Option<CurrencyFormatter<CompactDecimalFormatter>> {
-    match short_english(alloc) {
-        Some(formatter) => match patterns(alloc, ENGLISH, "¤#,##0.00", "$") {
-            Some(patterns) => Some(CurrencyFormatter::new(formatter, patterns)),
-            None => None,
-        },
+    match short_english(alloc).zip(patterns(alloc, ENGLISH, "¤#,##0.00", "$")) {
+        Some((formatter, patterns)) => Some(CurrencyFormatter::new(formatter, patterns)),
         None => None,
     }
 }
 
 /// Whether dollars over short English write an amount so.
 fn is_short(alloc: Global, amount: &str, text: &str) -> bool {
-    match short_dollars(alloc) {
-        Some(money) => match decimal(alloc, amount) {
-            Some(amount) => is_written(alloc, &money, &amount, text, None),
-            None => false,
-        },
-        None => false,
-    }
+    made_writes(alloc, short_dollars(alloc), amount, text, None)
 }
 
 #[test]
 fn amounts_are_written_over_compact_numbers(rt: HostRuntime) {
-    for (amount, text) in [("1500000", "$1.5M"), ("-999500", "-$1M"), ("12", "$12")] {
+    for &(amount, text) in &[("1500000", "$1.5M"), ("-999500", "-$1M"), ("12", "$12")] {
         assert!(rt;
             is_short(rt.alloc(), amount, text) || is_short(rt.alloc(), amount, text),
             "{text}"

@@ -1,7 +1,7 @@
 //! Amounts of money with the names of their currencies, as CLDR writes them.
 
-use crate::making::{ENGLISH, FRENCH, Numbers, decimal, plain};
-use crate::writing::is_written;
+use crate::making::{ENGLISH, FRENCH, Numbers, plain};
+use crate::writing::made_writes;
 use icu_decimal::DecimalFormatter;
 use icu_decimal::parts::{DECIMAL, FRACTION, INTEGER, MINUS_SIGN};
 use icu_dimension::parts::CURRENCY;
@@ -95,23 +95,13 @@ pub(crate) fn long_of(
     alloc: Global,
     currency: Currency,
 ) -> Option<LongCurrencyFormatter<DecimalFormatter>> {
-    match plain(alloc, numbers_of(currency)) {
-        Some(formatter) => long_over(alloc, currency, formatter),
+    let formatter = plain(alloc, numbers_of(currency));
+    let rules = PluralRules::from_rules(alloc, rules_of(currency)).ok();
+    match formatter.zip(rules).zip(elements(alloc, currency)) {
+        Some(((formatter, rules), elements)) => {
+            Some(LongCurrencyFormatter::new(formatter, rules, elements))
+        }
         None => None,
-    }
-}
-
-fn long_over(
-    alloc: Global,
-    currency: Currency,
-    formatter: DecimalFormatter,
-) -> Option<LongCurrencyFormatter<DecimalFormatter>> {
-    match PluralRules::from_rules(alloc, rules_of(currency)) {
-        Ok(rules) => match elements(alloc, currency) {
-            Some(elements) => Some(LongCurrencyFormatter::new(formatter, rules, elements)),
-            None => None,
-        },
-        Err(_) => None,
     }
 }
 
@@ -123,13 +113,7 @@ fn is_amount(
     text: &str,
     parts: Option<&[(usize, usize, Part)]>,
 ) -> bool {
-    match long_of(alloc, currency) {
-        Some(formatter) => match decimal(alloc, amount) {
-            Some(amount) => is_written(alloc, &formatter, &amount, text, parts),
-            None => false,
-        },
-        None => false,
-    }
+    made_writes(alloc, long_of(alloc, currency), amount, text, parts)
 }
 
 const AMOUNTS: [(Currency, &str, &str); 9] = [

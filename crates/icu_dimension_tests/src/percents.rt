@@ -1,7 +1,7 @@
 //! Percents, as CLDR and ICU write them.
 
-use crate::making::{BASQUE, ENGLISH, FRENCH, GERMAN, Numbers, decimal, patterns, plain};
-use crate::writing::is_written;
+use crate::making::{BASQUE, ENGLISH, FRENCH, GERMAN, Numbers, patterns, plain};
+use crate::writing::made_writes;
 use icu_decimal::DecimalFormatter;
 use icu_decimal::parts::{DECIMAL, FRACTION, INTEGER, MINUS_SIGN};
 use icu_dimension::PercentFormatter;
@@ -20,7 +20,7 @@ const FRENCH_PERCENT: Percent = (FRENCH, "#,##0\u{202f}%");
 
 const BASQUE_PERCENT: Percent = (BASQUE, "%\u{a0}#,##0");
 
-const PERCENTS: [(Percent, &str, &str); 17] = [
+const PERCENTS: &[(Percent, &str, &str)] = &[
     (ENGLISH_PERCENT, "0.1234", "12.34%"),
     (ENGLISH_PERCENT, "-0.1234", "-12.34%"),
     (ENGLISH_PERCENT, "+0.5", "+50%"),
@@ -46,11 +46,8 @@ pub(crate) fn percent_of(
     alloc: Global,
     (numbers, pattern): Percent,
 ) -> Option<PercentFormatter<DecimalFormatter>> {
-    match plain(alloc, numbers) {
-        Some(formatter) => match patterns(alloc, numbers, pattern, "") {
-            Some(patterns) => Some(PercentFormatter::new(formatter, patterns)),
-            None => None,
-        },
+    match plain(alloc, numbers).zip(patterns(alloc, numbers, pattern, "")) {
+        Some((formatter, patterns)) => Some(PercentFormatter::new(formatter, patterns)),
         None => None,
     }
 }
@@ -63,21 +60,15 @@ fn is_percent(
     text: &str,
     parts: Option<&[(usize, usize, Part)]>,
 ) -> bool {
-    match percent_of(alloc, percent) {
-        Some(formatter) => match decimal(alloc, number) {
-            Some(number) => is_written(alloc, &formatter, &number, text, parts),
-            None => false,
-        },
-        None => false,
-    }
+    made_writes(alloc, percent_of(alloc, percent), number, text, parts)
 }
 
 #[test]
 fn numbers_are_written_as_percents(rt: HostRuntime) {
-    for &(percent, number, text) in &PERCENTS {
+    for (percent, number, text) in PERCENTS {
         assert!(rt;
-            is_percent(rt.alloc(), percent, number, text, None)
-                || is_percent(rt.alloc(), percent, number, text, None),
+            is_percent(rt.alloc(), *percent, number, text, None)
+                || is_percent(rt.alloc(), *percent, number, text, None),
             "{text}"
         );
     }

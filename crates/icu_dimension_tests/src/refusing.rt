@@ -56,7 +56,7 @@ const NOT_FOUND: DataError = DataError {
 };
 
 /// A formatter, what is lacking, and the refusal.
-const REFUSED: [(Made, Lacking, DataError); 17] = [
+const REFUSED: &[(Made, Lacking, DataError)] = &[
     (Made::Standard, Lacking::Symbols, KEPT_AWAY),
     (Made::Standard, Lacking::Patterns, KEPT_AWAY),
     (Made::Standard, Lacking::Currency, KEPT_AWAY),
@@ -84,7 +84,7 @@ fn is_refused(alloc: Global, made: Made, lacking: Lacking, error: DataError) -> 
 
 #[test]
 fn refuses_what_the_provider_refuses(rt: HostRuntime) {
-    for &(made, lacking, error) in &REFUSED {
+    for &(made, lacking, error) in REFUSED {
         assert!(rt; is_refused(rt.alloc(), made, lacking, error), "{error}");
     }
 }
@@ -129,12 +129,17 @@ fn patterns_are_asked_for_by_the_preferred_system_first(rt: HostRuntime) {
 }
 
 /// The digits that a shelf has for a currency.
+fn digits_by(alloc: Global, shelf: &Shelf, code: CurrencyCode) -> Option<FractionDigits> {
+    match load_currency_digits(alloc, shelf) {
+        Ok(digits) => Some(digits.of(code)),
+        Err(_) => None,
+    }
+}
+
+/// The digits that the shelf of English has for a currency.
 fn digits_of(alloc: Global, code: CurrencyCode) -> Option<FractionDigits> {
     match Shelf::made(alloc, rows_of(Whose::English), NOTHING) {
-        Some(shelf) => match load_currency_digits(alloc, &shelf) {
-            Ok(digits) => Some(digits.of(code)),
-            Err(_) => None,
-        },
+        Some(shelf) => digits_by(alloc, &shelf, code),
         None => None,
     }
 }

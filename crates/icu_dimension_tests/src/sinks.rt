@@ -20,10 +20,10 @@ enum Kind {
     Yen,
 }
 
-/// Whether a sink with this limit ends so.
-fn ends<W: NumberWriter>(
+/// Whether a formatter was made, and a sink with this limit ends so.
+fn ends<W: NumberWriter + Drop>(
     alloc: Global,
-    formatter: &W,
+    made: Option<W>,
     number: &str,
     limit: usize,
     text: &str,
@@ -34,30 +34,43 @@ fn ends<W: NumberWriter>(
     } else {
         Ok(())
     };
-    match decimal(alloc, number) {
-        Some(number) => writes(alloc, formatter, &number, Some(limit), (answer, text, None)),
+    match made.zip(decimal(alloc, number)) {
+        Some((formatter, number)) => {
+            writes(
+                alloc,
+                &formatter,
+                &number,
+                Some(limit),
+                (answer, text, None),
+            )
+        }
         None => false,
     }
 }
 
 fn ends_so(alloc: Global, kind: Kind, limit: usize, text: &str, all: usize) -> bool {
     match kind {
-        Kind::Money => match money_of(alloc, DOLLARS) {
-            Some(money) => ends(alloc, &money, "-1", limit, text, all),
-            None => false,
-        },
-        Kind::Percent => match percent_of(alloc, ENGLISH_PERCENT) {
-            Some(percent) => ends(alloc, &percent, "0.01", limit, text, all),
-            None => false,
-        },
-        Kind::Months => match units_of(alloc, Unit::EweMonths) {
-            Some(months) => ends(alloc, &months, "-1", limit, text, all),
-            None => false,
-        },
-        Kind::Yen => match long_of(alloc, Currency::JapaneseYen) {
-            Some(yen) => ends(alloc, &yen, "1", limit, text, all),
-            None => false,
-        },
+        Kind::Money => ends(alloc, money_of(alloc, DOLLARS), "-1", limit, text, all),
+        Kind::Percent => {
+            let percent = percent_of(alloc, ENGLISH_PERCENT);
+            ends(alloc, percent, "0.01", limit, text, all)
+        }
+        Kind::Months => ends(
+            alloc,
+            units_of(alloc, Unit::EweMonths),
+            "-1",
+            limit,
+            text,
+            all,
+        ),
+        Kind::Yen => ends(
+            alloc,
+            long_of(alloc, Currency::JapaneseYen),
+            "1",
+            limit,
+            text,
+            all,
+        ),
     }
 }
 

@@ -1,7 +1,7 @@
 //! Numbers with a unit, as CLDR writes them.
 
-use crate::making::{ENGLISH, decimal, plain};
-use crate::writing::is_written;
+use crate::making::{ENGLISH, plain};
+use crate::writing::made_writes;
 use icu_decimal::DecimalFormatter;
 use icu_decimal::parts::{INTEGER, MINUS_SIGN};
 use icu_dimension::UnitsFormatter;
@@ -89,23 +89,13 @@ fn elements(alloc: Global, unit: Unit) -> Option<PluralElements<Pattern<SinglePl
 
 /// A unit over the plain formatter of English.
 pub(crate) fn units_of(alloc: Global, unit: Unit) -> Option<UnitsFormatter<DecimalFormatter>> {
-    match plain(alloc, ENGLISH) {
-        Some(formatter) => units_over(alloc, unit, formatter),
+    let formatter = plain(alloc, ENGLISH);
+    let rules = PluralRules::from_rules(alloc, rules_of(unit)).ok();
+    match formatter.zip(rules).zip(elements(alloc, unit)) {
+        Some(((formatter, rules), elements)) => {
+            Some(UnitsFormatter::new(formatter, rules, elements))
+        }
         None => None,
-    }
-}
-
-fn units_over(
-    alloc: Global,
-    unit: Unit,
-    formatter: DecimalFormatter,
-) -> Option<UnitsFormatter<DecimalFormatter>> {
-    match PluralRules::from_rules(alloc, rules_of(unit)) {
-        Ok(rules) => match elements(alloc, unit) {
-            Some(elements) => Some(UnitsFormatter::new(formatter, rules, elements)),
-            None => None,
-        },
-        Err(_) => None,
     }
 }
 
@@ -117,13 +107,7 @@ fn is_measure(
     text: &str,
     parts: Option<&[(usize, usize, Part)]>,
 ) -> bool {
-    match units_of(alloc, unit) {
-        Some(formatter) => match decimal(alloc, number) {
-            Some(number) => is_written(alloc, &formatter, &number, text, parts),
-            None => false,
-        },
-        None => false,
-    }
+    made_writes(alloc, units_of(alloc, unit), number, text, parts)
 }
 
 const MEASURES: [(Unit, &str, &str); 11] = [

@@ -1,9 +1,13 @@
 //! Whether a formatter writes a number so.
 
+use crate::making::decimal;
 use fixed_decimal::Decimal;
 use icu_decimal::AbstractFormatter;
 use icu_decimal::error::FormatError;
-use icu_dimension::{CurrencyFormatter, LongCurrencyFormatter, PercentFormatter, UnitsFormatter};
+use icu_dimension::{
+    CompactCurrencyFormatter, CurrencyFormatter, LongCurrencyFormatter, PercentFormatter,
+    UnitsFormatter,
+};
 use std::alloc::Global;
 use writeable::{Part, PartsText};
 
@@ -65,6 +69,21 @@ impl<F: AbstractFormatter> NumberWriter for UnitsFormatter<F> {
 }
 
 impl<F: AbstractFormatter> NumberWriter for LongCurrencyFormatter<F> {
+    fn write_number(
+        &self,
+        alloc: Global,
+        number: &Decimal,
+        sink: &mut PartsText,
+    ) -> Result<(), FormatError> {
+        self.write(alloc, number, sink)
+    }
+
+    fn number_text(&self, alloc: Global, number: &Decimal) -> Result<String, FormatError> {
+        self.write_to_string(alloc, number)
+    }
+}
+
+impl NumberWriter for CompactCurrencyFormatter {
     fn write_number(
         &self,
         alloc: Global,
@@ -141,4 +160,45 @@ pub(crate) fn is_written<W: NumberWriter>(
 ) -> bool {
     writes(alloc, formatter, number, None, (Ok(()), text, parts))
         && is_text(alloc, formatter, number, text)
+}
+
+/// Whether the number of a text is written so.
+fn is_numeral_written<W: NumberWriter>(
+    alloc: Global,
+    formatter: &W,
+    number: &str,
+    text: &str,
+    parts: Option<&[(usize, usize, Part)]>,
+) -> bool {
+    match decimal(alloc, number) {
+        Some(number) => is_written(alloc, formatter, &number, text, parts),
+        None => false,
+    }
+}
+
+/// Whether a formatter was made, and the number of a text is written so.
+pub(crate) fn made_writes<W: NumberWriter + Drop>(
+    alloc: Global,
+    made: Option<W>,
+    number: &str,
+    text: &str,
+    parts: Option<&[(usize, usize, Part)]>,
+) -> bool {
+    match made {
+        Some(formatter) => is_numeral_written(alloc, &formatter, number, text, parts),
+        None => false,
+    }
+}
+
+/// Whether a formatter was made, and a number's text is this.
+pub(crate) fn made_is_text<W: NumberWriter + Drop>(
+    alloc: Global,
+    made: Option<W>,
+    number: &Decimal,
+    text: &str,
+) -> bool {
+    match made {
+        Some(formatter) => is_text(alloc, &formatter, number, text),
+        None => false,
+    }
 }
