@@ -3,10 +3,10 @@ use Rattle.std.proofs.Common.{◌≡◌, ℕ, Bool, true, false, List, refl, ap,
 use Rattle.std.specs.Prelude.{Result, Err, if◌then◌else◌}
 use Rattle.std.specs.Str.{IsUtf8, is_utf8}
 use Rattle.std.proofs.lemmas.Str.{IsUtf8-from_is_utf8, is_utf8-from_IsUtf8}
-use Rattle.icu_tables.specs.Reading.{Fails}
+use Rattle.icu_table_entries.specs.Reading.{Fails}
 use Rattle.icu_tables.specs.Tables.{TablesData, tables_of}
-use Rattle.icu_tables.specs.declared.error.TableError.{TableError}
-use Rattle.icu_tables.specs.declared.error.TableError.TheVariants as table
+use Rattle.icu_table_entries.specs.declared.error.TableError.{TableError}
+use Rattle.icu_table_entries.specs.declared.error.TableError.TheVariants as table
 use Rattle.decimal_lines.specs.Judging.{IsFault, tables_judged, text_judged}
 use Rattle.decimal_lines.specs.declared.judging.TablesFault.TheVariants.{NotUtf8, Refused}
 

@@ -7,9 +7,10 @@ use Rattle.icu_decimal.specs.declared.options.CompactDecimalFormatterOptions.{Co
 use Rattle.icu_decimal.specs.declared.options.DecimalFormatterOptions.{DecimalFormatterOptions}
 use Rattle.icu_decimal_data.specs.declared.decimal_symbols.DecimalSymbols.{DecimalSymbols}
 use Rattle.icu_decimal_data.specs.CompactTable.{TableEntry}
-use Rattle.icu_tables.specs.Answering.{filed_answer, optional_answer, system_answer}
+use Rattle.icu_table_entries.specs.Answering.{filed_answer, optional_answer}
+use Rattle.icu_tables.specs.Digits.{system_answer}
 use Rattle.icu_tables.specs.ForLocale.{AnswersAs, IsFor}
-use Rattle.icu_tables.specs.Named.{NamedEntry}
+use Rattle.icu_table_entries.specs.Named.{NamedEntry}
 use Rattle.icu_tables.specs.Tables.{TablesData, tables_of}
 use Rattle.decimal_lines.specs.Making.{compact_options, long_mode, mode_by, mode_by_tables, mode_of, plain_mode, plain_options, short_mode, started}
 use Rattle.decimal_lines.specs.Words.{WordsData}

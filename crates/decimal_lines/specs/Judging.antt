@@ -2,8 +2,8 @@
 use Rattle.std.specs.Prelude.{◌≡◌, ℕ, ◌⊎◌, List, Result, Ok, Err, if◌then◌else◌}
 use Rattle.std.specs.Str.{is_utf8}
 use Rattle.icu_tables.specs.Tables.{TablesData, tables_of}
-use Rattle.icu_tables.specs.declared.error.TableError.{TableError}
-use Rattle.icu_tables.specs.declared.error.TableError.TheVariants.{OutOfMemory}
+use Rattle.icu_table_entries.specs.declared.error.TableError.{TableError}
+use Rattle.icu_table_entries.specs.declared.error.TableError.TheVariants.{OutOfMemory}
 use Rattle.decimal_lines.specs.declared.judging.TablesFault.{TablesFault}
 use Rattle.decimal_lines.specs.declared.judging.TablesFault.TheVariants.{NotUtf8, Refused}
 

@@ -11,10 +11,11 @@ use Rattle.icu_decimal.specs.declared.options.GroupingStrategy.TheVariants.{Min2
 use Rattle.icu_decimal.specs.declared.preferences.CompactDecimalFormatterPreferences.{CompactDecimalFormatterPreferences}
 use Rattle.icu_decimal.specs.declared.preferences.DecimalFormatterPreferences.{DecimalFormatterPreferences}
 use Rattle.icu_decimal_data.specs.CompactTable.{TableEntry}
-use Rattle.icu_tables.specs.Answering.{filed_answer, optional_answer, system_answer}
-use Rattle.icu_tables.specs.Named.{NamedEntry}
+use Rattle.icu_table_entries.specs.Answering.{filed_answer, optional_answer}
+use Rattle.icu_tables.specs.Digits.{system_answer}
+use Rattle.icu_table_entries.specs.Named.{NamedEntry}
 use Rattle.icu_tables.specs.Tables.{TablesData, tables_of}
-use Rattle.icu_tables.specs.declared.error.TableError.{TableError}
+use Rattle.icu_table_entries.specs.declared.error.TableError.{TableError}
 use Rattle.decimal_lines.specs.Words.{WordsData}
 use Rattle.decimal_lines.specs.declared.mode.Mode.{Mode}
 use Rattle.decimal_lines.specs.declared.mode.Mode.TheVariants as mode

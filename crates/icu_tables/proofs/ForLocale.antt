@@ -30,23 +30,23 @@ use Rattle.icu_decimal_data.specs.declared.decimal_symbols.DecimalSymbols.{Decim
 use Rattle.icu_decimal_data.specs.CompactTable.{TableEntry}
 use Rattle.icu_plurals.specs.Rules.{Rule}
 use Rattle.icu_provider.specs.Identifier.{Identifier}
-use Rattle.icu_tables.specs.Answering.{filed_answer, optional_answer, or_not_found, system_answer}
+use Rattle.icu_table_entries.specs.Answering.{filed_answer, optional_answer, or_not_found}
 use Rattle.icu_tables.specs.ForLocale.{Adds, AnswersAs, AreEntries, FoundData, Holds, HoldsAt, IsFor, IsOnce, IsServed, AreMembersOf}
 use Rattle.icu_tables.specs.Compact.{compact_at}
-use Rattle.icu_tables.specs.Digits.{SystemDigits, digits_at}
-use Rattle.icu_tables.specs.Keys.{name_of}
-use Rattle.icu_tables.specs.Named.{NamedEntry, first_filed, is_of}
+use Rattle.icu_tables.specs.Digits.{SystemDigits, digits_at, system_answer}
+use Rattle.icu_table_entries.specs.Keys.{name_of}
+use Rattle.icu_table_entries.specs.Named.{NamedEntry, first_filed, is_of}
 use Rattle.icu_tables.specs.Owned.{AreItems, Is}
-use Rattle.icu_tables.specs.Reading.{◌>>=◌, entries_at, list_in, member_at, object_in, ok_or, optional, optional_at}
+use Rattle.icu_table_entries.specs.Reading.{◌>>=◌, entries_at, entries_in, entries_under, list_in, member_at, object_in, ok_or, optional, optional_at}
 use Rattle.icu_tables.specs.Rules.{rules_at}
 use Rattle.icu_tables.specs.Symbols.{symbols_at}
-use Rattle.icu_tables.specs.Tables.{entries_in, entries_under, tables_at, tables_in, tables_of}
-use Rattle.icu_tables.specs.declared.error.Key.{Key}
-use Rattle.icu_tables.specs.declared.error.Key.TheVariants.{Symbols, Digits, Rules, Short, Long}
-use Rattle.icu_tables.specs.declared.error.Place.{Place}
-use Rattle.icu_tables.specs.declared.error.TableError.{TableError}
-use Rattle.icu_tables.specs.declared.error.TableError.TheVariants.{NotJson}
-use Rattle.icu_tables.proofs.Lists.{list_of-items_of}
+use Rattle.icu_tables.specs.Tables.{tables_at, tables_in, tables_of}
+use Rattle.icu_table_entries.specs.declared.error.Key.{Key}
+use Rattle.icu_table_entries.specs.declared.error.Key.TheVariants.{Symbols, Digits, Rules, Short, Long}
+use Rattle.icu_table_entries.specs.declared.error.Place.{Place}
+use Rattle.icu_table_entries.specs.declared.error.TableError.{TableError}
+use Rattle.icu_table_entries.specs.declared.error.TableError.TheVariants.{NotJson}
+use Rattle.icu_table_entries.proofs.Lists.{list_of-items_of}
 use Rattle.icu_tables.proofs.OwnedData.{AreItems-item, members_have_float-put}
 
 -- ---- entries that are kept

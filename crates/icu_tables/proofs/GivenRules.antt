@@ -5,10 +5,10 @@ use Rattle.icu_plurals.specs.Grammar.{Condition, IsConditionText}
 use Rattle.icu_plurals.specs.Reading.{condition_of, fault_byte}
 use Rattle.icu_plurals.specs.Rules.{Rule, GivenRule, IsReadFrom, IsFirstBadRule}
 use Rattle.icu_plurals_conditions.proofs.Judged.{text_is_read, fault_is_found}
-use Rattle.icu_tables.specs.Named.{refused}
+use Rattle.icu_table_entries.specs.Named.{refused}
 use Rattle.icu_tables.specs.Rules.{rule_then, rules_from}
-use Rattle.icu_tables.specs.declared.error.EntryFault.TheVariants.{BadRule}
-use Rattle.icu_tables.specs.declared.error.Place.{Place}
+use Rattle.icu_table_entries.specs.declared.error.EntryFault.TheVariants.{BadRule}
+use Rattle.icu_table_entries.specs.declared.error.Place.{Place}
 
 -- rules that are read are the rules
 pub all_read : (place : Place) (k : ℕ) (gs : List GivenRule) (rs : List Rule) → AllZip IsReadFrom gs rs → rules_from place k gs ≡ Ok rs

@@ -7,12 +7,13 @@ use Rattle.std.specs.List.{AllByRecursion}
 use Rattle.std.specs.Ordering.{nat_cmp}
 use Rattle.std.proofs.lemmas.List.{append-nil}
 use Rattle.icu_decimal_data.specs.CompactTable.{PatternElements, TableEntry}
-use Rattle.icu_tables.specs.Compact.{IsAbove, Rise, patterns_of, entries_of}
+use Rattle.icu_tables.specs.Compact.{IsAbove, Rise, entries_of}
+use Rattle.icu_table_entries.specs.CategoryTexts.{patterns_of}
 use Rattle.icu_tables.specs.declared.compact.GivenEntry.{GivenEntry}
-use Rattle.icu_tables.specs.Reading.{◌>>=◌, Fails}
-use Rattle.icu_tables.specs.declared.error.Place.{Place}
-use Rattle.icu_tables.specs.declared.error.TableError.{TableError}
-use Rattle.icu_tables.proofs.Lists.{with_front, regroup, failed}
+use Rattle.icu_table_entries.specs.Reading.{◌>>=◌, Fails}
+use Rattle.icu_table_entries.specs.declared.error.Place.{Place}
+use Rattle.icu_table_entries.specs.declared.error.TableError.{TableError}
+use Rattle.icu_table_entries.proofs.Lists.{with_front, regroup, failed}
 
 -- the entries of a map from types to exponents and patterns
 abbrev pub Pairs : Type 0

@@ -8,7 +8,7 @@ use Rattle.icu_decimal_data.specs.Kept.{kept}
 use Rattle.icu_decimal_data.specs.declared.error.CompactError.{CompactError}
 use Rattle.icu_decimal_data.specs.declared.error.CompactError.TheVariants.{OutOfMemory}
 use Rattle.icu_tables.specs.Compact.{compact_refusal, kept_or_refused, table_of_entries}
-use Rattle.icu_tables.specs.declared.error.Place.{Place}
+use Rattle.icu_table_entries.specs.declared.error.Place.{Place}
 
 module _ (place : Place) (zero : Option PatternElements) (entries : List TableEntry) where
   kept_by : (table : List TableEntry) (f : Option CompactError)

@@ -4,9 +4,9 @@ use Rattle.std.proofs.lemmas.List.{append-nil}
 use Rattle.serde_json.specs.Data.{Data}
 use Rattle.icu_tables.specs.Compact.{given_entry_in, given_entries_in}
 use Rattle.icu_tables.specs.declared.compact.GivenEntry.{GivenEntry}
-use Rattle.icu_tables.specs.Reading.{◌>>=◌, Fails}
-use Rattle.icu_tables.specs.declared.error.TableError.{TableError}
-use Rattle.icu_tables.proofs.Lists.{with_front, regroup, failed}
+use Rattle.icu_table_entries.specs.Reading.{◌>>=◌, Fails}
+use Rattle.icu_table_entries.specs.declared.error.TableError.{TableError}
+use Rattle.icu_table_entries.proofs.Lists.{with_front, regroup, failed}
 
 -- one more entry is read, and the rest goes on
 pub entries_go_on : (front : List GivenEntry) (before : Option ℕ) (d : Data) (ds : List Data) (x : GivenEntry) (total : Result (List GivenEntry) TableError)

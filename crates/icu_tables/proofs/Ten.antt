@@ -4,8 +4,8 @@ use Rattle.std.proofs.lemmas.Bool.Decides.{nat_tests}
 use Rattle.std.specs.Array.{IsWholeChunk}
 use Rattle.std.specs.Str.{chars}
 use Rattle.icu_tables.specs.Digits.{ten_in}
-use Rattle.icu_tables.specs.declared.error.Key.{Key}
-use Rattle.icu_tables.specs.declared.error.TableError.TheVariants.{WrongKind}
+use Rattle.icu_table_entries.specs.declared.error.Key.{Key}
+use Rattle.icu_table_entries.specs.declared.error.TableError.TheVariants.{WrongKind}
 
 not_ten : (n : ℕ) → (n ≡ 10 → ⊥) → eqb n 10 ≡ false
 not_ten n h = grind (arith, nat_tests)

@@ -7,31 +7,16 @@ use Rattle.icu_decimal_data.specs.CompactTable.{PatternElements, TableEntry}
 use Rattle.icu_decimal_data.specs.Kept.{kept}
 use Rattle.icu_decimal_data.specs.declared.error.CompactError.{CompactError}
 use Rattle.icu_decimal_data.specs.declared.error.CompactError.TheVariants as compact
-use Rattle.icu_tables.specs.PatternTexts.{Texts}
+use Rattle.icu_table_entries.specs.PatternTexts.{Texts}
 use Rattle.icu_tables.specs.declared.compact.GivenEntry.{GivenEntry}
-use Rattle.icu_tables.specs.Named.{NamedEntry, refused, identifier_from}
-use Rattle.icu_tables.specs.Reading.{◌>>=◌, object_in, optional_at, text_in, text_at, list_at, byte_in, triple_in}
-use Rattle.icu_tables.specs.Spelling.{pattern_of, optional_pattern_of}
-use Rattle.icu_tables.specs.declared.error.EntryFault.TheVariants.{ExponentsFall, ExponentAboveType, TooManyZeros, PatternsTooLarge}
-use Rattle.icu_tables.specs.declared.error.Key.{Key}
-use Rattle.icu_tables.specs.declared.error.Key.TheVariants.{Document, Locale, System, Patterns, ExplicitZero, ExplicitOne, Zero, One, Two, Few, Many, Other}
-use Rattle.icu_tables.specs.declared.error.Place.{Place}
-use Rattle.icu_tables.specs.declared.error.TableError.{TableError}
-use Rattle.icu_tables.specs.declared.error.TableError.TheVariants.{Float, WrongKind, OutOfMemory}
-
--- the texts of an object under a key, one for each plural category
-unfoldable pub category_texts_in : Key → Data → Result Texts TableError
-category_texts_in key d = do
-  d ← object_in key d
-  other ← text_at Other d
-  explicit_zero ← optional_at (text_in ExplicitZero) ExplicitZero d
-  explicit_one ← optional_at (text_in ExplicitOne) ExplicitOne d
-  zero ← optional_at (text_in Zero) Zero d
-  one ← optional_at (text_in One) One d
-  two ← optional_at (text_in Two) Two d
-  few ← optional_at (text_in Few) Few d
-  many ← optional_at (text_in Many) Many d
-  Ok (record { explicit_zero = explicit_zero; explicit_one = explicit_one; zero = zero; one = one; two = two; few = few; many = many; other = other })
+use Rattle.icu_table_entries.specs.Named.{NamedEntry, refused, identifier_from}
+use Rattle.icu_table_entries.specs.Reading.{◌>>=◌, object_in, optional_at, text_in, text_at, list_at, byte_in, triple_in}
+use Rattle.icu_table_entries.specs.CategoryTexts.{category_texts_in, patterns_of, optional_patterns_of}
+use Rattle.icu_table_entries.specs.declared.error.EntryFault.TheVariants.{ExponentsFall, ExponentAboveType, TooManyZeros, PatternsTooLarge}
+use Rattle.icu_table_entries.specs.declared.error.Key.TheVariants.{Document, Locale, System, Patterns, Zero}
+use Rattle.icu_table_entries.specs.declared.error.Place.{Place}
+use Rattle.icu_table_entries.specs.declared.error.TableError.{TableError}
+use Rattle.icu_table_entries.specs.declared.error.TableError.TheVariants.{Float, WrongKind, OutOfMemory}
 
 -- a type is above the one before it
 abbrev pub rises : Option ℕ → ℕ → Result ℕ TableError
@@ -78,43 +63,6 @@ given_table_at d = do
   entries ← given_entries_in None values
   zero ← optional_at (category_texts_in Zero) Zero d
   Ok (record { entries = entries; zero = zero })
-
--- the patterns of texts, in three parts: the one for all other numbers is judged first
-unfoldable pub first_patterns_of : Place → Texts → Result PatternElements TableError
-first_patterns_of place t = do
-  other ← pattern_of place t.other
-  explicit_zero ← optional_pattern_of place t.explicit_zero
-  explicit_one ← optional_pattern_of place t.explicit_one
-  zero ← optional_pattern_of place t.zero
-  Ok (record { explicit_zero = explicit_zero; explicit_one = explicit_one; zero = zero; one = None; two = None; few = None; many = None; other = other })
-
--- with those of the categories one and two
-unfoldable pub with_one_and_two : Place → Texts → PatternElements → Result PatternElements TableError
-with_one_and_two place t e = do
-  one ← optional_pattern_of place t.one
-  two ← optional_pattern_of place t.two
-  Ok (record e { one = one; two = two })
-
--- with those of the categories few and many
-unfoldable pub with_few_and_many : Place → Texts → PatternElements → Result PatternElements TableError
-with_few_and_many place t e = do
-  few ← optional_pattern_of place t.few
-  many ← optional_pattern_of place t.many
-  Ok (record e { few = few; many = many })
-
--- the patterns of texts, or their first fault
-unfoldable pub patterns_of : Place → Texts → Result PatternElements TableError
-patterns_of place t = do
-  e ← first_patterns_of place t
-  e ← with_one_and_two place t e
-  with_few_and_many place t e
-
--- the patterns of texts that may be absent
-unfoldable pub optional_patterns_of : Place → Option Texts → Result (Option PatternElements) TableError
-optional_patterns_of place t = elim t [
-  | None ↦ Ok None
-  | Some texts ↦ (patterns_of place texts >>= λ patterns. Ok (Some patterns))
-]
 
 -- the entries with their patterns
 unfoldable pub entries_of : Place → List GivenEntry → Result (List TableEntry) TableError

@@ -3,12 +3,15 @@ use Rattle.std.specs.Prelude.{ℕ, List, [], ◌∷◌, length, ◌==◌, Option
 use Rattle.std.specs.Cmp.Lexicographic.{pointwise}
 use Rattle.std.specs.Str.{chars}
 use Rattle.serde_json.specs.Data.{Data}
-use Rattle.icu_tables.specs.Named.{system_of}
-use Rattle.icu_tables.specs.Reading.{◌>>=◌, text_in, pair_in}
-use Rattle.icu_tables.specs.declared.error.Key.{Key}
-use Rattle.icu_tables.specs.declared.error.Place.{Place}
-use Rattle.icu_tables.specs.declared.error.TableError.{TableError}
-use Rattle.icu_tables.specs.declared.error.TableError.TheVariants.{WrongKind}
+use Rattle.icu_provider.specs.Answer.{Refusal, refused}
+use Rattle.icu_provider.specs.declared.error.DataErrorKind.TheVariants.{IdentifierNotFound}
+use Rattle.icu_table_entries.specs.Answering.{or_not_found}
+use Rattle.icu_table_entries.specs.Named.{system_of}
+use Rattle.icu_table_entries.specs.Reading.{◌>>=◌, text_in, pair_in}
+use Rattle.icu_table_entries.specs.declared.error.Key.{Key}
+use Rattle.icu_table_entries.specs.declared.error.Place.{Place}
+use Rattle.icu_table_entries.specs.declared.error.TableError.{TableError}
+use Rattle.icu_table_entries.specs.declared.error.TableError.TheVariants.{WrongKind}
 
 -- the digits of a numbering system, that of 0 first
 pub record SystemDigits : Type 0 where
@@ -33,3 +36,8 @@ digits_at place d = do
 unfoldable pub first_digits : List ℕ → List SystemDigits → Option (List ℕ)
 first_digits system [] = None
 first_digits system (e ∷ es) = if pointwise nat_eq system e.system then Some e.digits else first_digits system es
+
+-- the digits of a numbering system, in any locale
+abbrev pub system_answer : List SystemDigits → Option (List ℕ) → Result (List ℕ) Refusal
+system_answer entries None = refused IdentifierNotFound
+system_answer entries (Some system) = or_not_found (first_digits system entries)

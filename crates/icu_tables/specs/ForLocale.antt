@@ -11,20 +11,20 @@ use Rattle.icu_decimal_data.specs.declared.decimal_symbols.DecimalSymbols.{Decim
 use Rattle.icu_decimal_data.specs.CompactTable.{TableEntry}
 use Rattle.icu_plurals.specs.Rules.{Rule}
 use Rattle.icu_provider.specs.Identifier.{Identifier}
-use Rattle.icu_tables.specs.Answering.{filed_answer, optional_answer, system_answer}
+use Rattle.icu_table_entries.specs.Answering.{filed_answer, optional_answer}
 use Rattle.icu_tables.specs.Compact.{compact_at}
-use Rattle.icu_tables.specs.Digits.{SystemDigits, digits_at}
-use Rattle.icu_tables.specs.Keys.{name_of}
-use Rattle.icu_tables.specs.Named.{NamedEntry, is_of}
+use Rattle.icu_tables.specs.Digits.{SystemDigits, digits_at, system_answer}
+use Rattle.icu_table_entries.specs.Keys.{name_of}
+use Rattle.icu_table_entries.specs.Named.{NamedEntry, is_of}
 use Rattle.icu_tables.specs.Owned.{Is}
-use Rattle.icu_tables.specs.Reading.{Fails}
+use Rattle.icu_table_entries.specs.Reading.{Fails, entries_in}
 use Rattle.icu_tables.specs.Rules.{rules_at}
 use Rattle.icu_tables.specs.Symbols.{symbols_at}
-use Rattle.icu_tables.specs.Tables.{TablesData, entries_in}
-use Rattle.icu_tables.specs.declared.error.Key.{Key}
-use Rattle.icu_tables.specs.declared.error.Key.TheVariants.{Symbols, Digits, Rules, Short, Long}
-use Rattle.icu_tables.specs.declared.error.Place.{Place}
-use Rattle.icu_tables.specs.declared.error.TableError.{TableError}
+use Rattle.icu_tables.specs.Tables.{TablesData}
+use Rattle.icu_table_entries.specs.declared.error.Key.{Key}
+use Rattle.icu_table_entries.specs.declared.error.Key.TheVariants.{Symbols, Digits, Rules, Short, Long}
+use Rattle.icu_table_entries.specs.declared.error.Place.{Place}
+use Rattle.icu_table_entries.specs.declared.error.TableError.{TableError}
 
 -- For each identifier of the locale the kept tables answer what all tables answer, and for digits in any locale.
 pub record AnswersAs (locale : List ℕ) (kept all : TablesData) : Type 0 where

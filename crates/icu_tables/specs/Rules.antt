@@ -7,13 +7,13 @@ use Rattle.icu_plurals.specs.declared.category.PluralCategory.TheVariants as cat
 use Rattle.icu_plurals.specs.Grammar.{Condition}
 use Rattle.icu_plurals.specs.Reading.{condition_of}
 use Rattle.icu_plurals.specs.Rules.{Rule, GivenRule}
-use Rattle.icu_tables.specs.Named.{NamedEntry, refused, identifier_from}
-use Rattle.icu_tables.specs.Reading.{◌>>=◌, ok_or, object_in, text_in, text_at, list_at, pair_in, entries_at}
-use Rattle.icu_tables.specs.declared.error.EntryFault.TheVariants.{BadRule}
-use Rattle.icu_tables.specs.declared.error.Key.TheVariants.{Locale, Rules}
-use Rattle.icu_tables.specs.declared.error.Place.{Place}
-use Rattle.icu_tables.specs.declared.error.TableError.{TableError}
-use Rattle.icu_tables.specs.declared.error.TableError.TheVariants.{WrongKind}
+use Rattle.icu_table_entries.specs.Named.{NamedEntry, refused, identifier_from}
+use Rattle.icu_table_entries.specs.Reading.{◌>>=◌, ok_or, object_in, text_in, text_at, list_at, pair_in, entries_at}
+use Rattle.icu_table_entries.specs.declared.error.EntryFault.TheVariants.{BadRule}
+use Rattle.icu_table_entries.specs.declared.error.Key.TheVariants.{Locale, Rules}
+use Rattle.icu_table_entries.specs.declared.error.Place.{Place}
+use Rattle.icu_table_entries.specs.declared.error.TableError.{TableError}
+use Rattle.icu_table_entries.specs.declared.error.TableError.TheVariants.{WrongKind}
 
 -- the plural category of a name
 unfoldable pub category_named : List ℕ → Option PluralCategory

@@ -5,13 +5,13 @@ use Rattle.icu_provider.specs.NumberingSystem.{is_numbering_system}
 use Rattle.icu_decimal_data.specs.Symbols.{SymbolTexts, total_len}
 use Rattle.icu_decimal_data.specs.declared.decimal_symbols.DecimalSymbols.{DecimalSymbols}
 use Rattle.icu_decimal_data.specs.declared.grouping_sizes.GroupingSizes.{GroupingSizes}
-use Rattle.icu_tables.specs.Named.{NamedEntry, refused, identifier_from}
-use Rattle.icu_tables.specs.Reading.{◌>>=◌, member_at, object_in, optional_at, text_in, text_at, texts_at, byte_in, triple_in}
-use Rattle.icu_tables.specs.declared.error.EntryFault.TheVariants.{SymbolsTooLarge, BadSymbolsNumberingSystem}
-use Rattle.icu_tables.specs.declared.error.Key.{Key}
-use Rattle.icu_tables.specs.declared.error.Key.TheVariants.{Locale, System, Minus, Plus, Decimal, Group, Numsys, Sizes}
-use Rattle.icu_tables.specs.declared.error.Place.{Place}
-use Rattle.icu_tables.specs.declared.error.TableError.{TableError}
+use Rattle.icu_table_entries.specs.Named.{NamedEntry, refused, identifier_from}
+use Rattle.icu_table_entries.specs.Reading.{◌>>=◌, member_at, object_in, optional_at, text_in, text_at, texts_at, byte_in, triple_in}
+use Rattle.icu_table_entries.specs.declared.error.EntryFault.TheVariants.{SymbolsTooLarge, BadSymbolsNumberingSystem}
+use Rattle.icu_table_entries.specs.declared.error.Key.{Key}
+use Rattle.icu_table_entries.specs.declared.error.Key.TheVariants.{Locale, System, Minus, Plus, Decimal, Group, Numsys, Sizes}
+use Rattle.icu_table_entries.specs.declared.error.Place.{Place}
+use Rattle.icu_table_entries.specs.declared.error.TableError.{TableError}
 
 -- what an entry says, not yet judged
 pub record SymbolFields : Type 0 where

@@ -8,15 +8,13 @@ use Rattle.icu_decimal_data.specs.declared.decimal_symbols.DecimalSymbols.{Decim
 use Rattle.icu_decimal_data.specs.CompactTable.{TableEntry}
 use Rattle.icu_tables.specs.Compact.{compact_at}
 use Rattle.icu_tables.specs.Digits.{SystemDigits, digits_at}
-use Rattle.icu_tables.specs.Named.{NamedEntry}
-use Rattle.icu_tables.specs.Reading.{◌>>=◌, ok_or, member_at, optional_at, object_in, list_in, entries_at}
+use Rattle.icu_table_entries.specs.Named.{NamedEntry}
+use Rattle.icu_table_entries.specs.Reading.{◌>>=◌, ok_or, optional_at, object_in, entries_in, entries_under}
 use Rattle.icu_tables.specs.Rules.{rules_at}
 use Rattle.icu_tables.specs.Symbols.{symbols_at}
-use Rattle.icu_tables.specs.declared.error.Key.{Key}
-use Rattle.icu_tables.specs.declared.error.Key.TheVariants.{Document, Symbols, Digits, Rules, Short, Long}
-use Rattle.icu_tables.specs.declared.error.Place.{Place}
-use Rattle.icu_tables.specs.declared.error.TableError.{TableError}
-use Rattle.icu_tables.specs.declared.error.TableError.TheVariants.{NotJson, Float}
+use Rattle.icu_table_entries.specs.declared.error.Key.TheVariants.{Document, Symbols, Digits, Rules, Short, Long}
+use Rattle.icu_table_entries.specs.declared.error.TableError.{TableError}
+use Rattle.icu_table_entries.specs.declared.error.TableError.TheVariants.{NotJson, Float}
 
 -- the entries under each key of a document; none for an optional key that is absent
 pub record TablesData : Type 0 where
@@ -25,18 +23,6 @@ pub record TablesData : Type 0 where
   pub rules : Option (List (NamedEntry (List Rule)))
   pub short : Option (List (NamedEntry (List TableEntry)))
   pub long : Option (List (NamedEntry (List TableEntry)))
-
--- the entries of a list
-unfoldable pub entries_in : {A : Type 0} → (Place → Data → Result A TableError) → Key → Data → Result (List A) TableError
-entries_in read key d = do
-  values ← list_in key d
-  entries_at read key 0 values
-
--- the entries under a required key
-unfoldable pub entries_under : {A : Type 0} → (Place → Data → Result A TableError) → Key → Data → Result (List A) TableError
-entries_under read key d = do
-  x ← member_at key d
-  entries_in read key x
 
 -- the tables of an object, key by key
 unfoldable pub tables_at : Data → Result TablesData TableError

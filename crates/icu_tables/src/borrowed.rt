@@ -7,8 +7,8 @@ ghost use Rattle.serde_json.specs.Read.{number_from, number_of};
 ghost use Rattle.std.specs.Prelude.{◌≡◌, IfOk, IfSome, Some, false};
 ghost use Rattle.icu_tables.specs.Owned.{AreItems, AreMembers, Is};
 
-use crate::error::TableError;
 use fast_float::Numeral;
+use icu_table_entries::TableError;
 use serde_json::{Map, Number, Value};
 use std::alloc::{AllocError, AllocFailed, Global};
 

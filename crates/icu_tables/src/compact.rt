@@ -7,19 +7,21 @@ ghost use Rattle.serde_json.specs.View.{view};
 ghost use Rattle.icu_decimal_data.specs.Kept.{given};
 ghost use Rattle.icu_tables.specs.Compact.{rises, given_entry_in, given_entries_in, given_table_at, entries_of, table_of_entries, table_of};
 ghost use Rattle.icu_tables.specs.Compact.{compact_in, IsAbove, Rise};
-ghost use Rattle.icu_tables.specs.Reading.{Gives};
+ghost use Rattle.icu_table_entries.specs.Reading.{Gives};
 
-use crate::entries::FromEntry;
-use crate::error::{EntryFault, Key, Place, TableError};
-use crate::fields::{byte_in, list_at, object_in, optional_text_at, text_at, triple_in};
-use crate::named::{NamedEntry, name_of};
-use crate::texts::{
-    Patterns, Texts, category_texts_in, optional_patterns_of, optional_texts_at, patterns_of,
-};
-use crate::whole_numbers::has_float;
 use icu_decimal_data::{CompactError, CompactPatterns};
 use icu_pattern::SinglePlaceholder;
 use icu_provider::DataLocale;
+use icu_table_entries::entries::EntryKind;
+use icu_table_entries::fields::{
+    byte_in, list_at, object_in, optional_text_at, text_at, triple_in,
+};
+use icu_table_entries::named::{NamedEntry, name_of};
+use icu_table_entries::texts::{
+    Patterns, Texts, category_texts_in, optional_patterns_of, optional_texts_at, patterns_of,
+};
+use icu_table_entries::whole_numbers::has_float;
+use icu_table_entries::{EntryFault, Key, Place, TableError};
 use serde_json::Value;
 use std::alloc::Global;
 use std::collections::BTreeMap;
@@ -172,16 +174,21 @@ fn table_of(
     table_of_entries(alloc, place, entries, &zero)
 }
 
-impl FromEntry for NamedEntry<CompactPatterns<SinglePlaceholder>> {
+/// A compact table under its name.
+pub struct CompactEntry;
+
+impl EntryKind for CompactEntry {
+    type Entry = NamedEntry<CompactPatterns<SinglePlaceholder>>;
+
     ghost use Rattle.icu_tables.specs.Compact.{compact_at};
-    ghost use Rattle.icu_tables.specs.Named.{is_of};
+    ghost use Rattle.icu_table_entries.specs.Named.{is_of};
 
     ghost read_at = { compact_at };
 
     ghost serves = { is_of };
 
     #[tactic(auto, unfolding(crate::specs::Compact::compact_at))]
-    fn from_entry(alloc: Global, place: Place, value: &Value) -> Result<Self, TableError> {
+    fn from_entry(alloc: Global, place: Place, value: &Value) -> Result<Self::Entry, TableError> {
         let value = object_in(value, place.key)?;
         let locale = text_at(value, Key::Locale)?;
         let system = optional_text_at(value, Key::System)?;
@@ -191,8 +198,8 @@ impl FromEntry for NamedEntry<CompactPatterns<SinglePlaceholder>> {
         Ok(NamedEntry { name, content })
     }
 
-    fn serves(&self, locale: &DataLocale) -> bool {
-        self.name.is_of(locale)
+    fn serves(entry: &Self::Entry, locale: &DataLocale) -> bool {
+        entry.name.is_of(locale)
     }
 }
 

@@ -3,13 +3,13 @@
 ghost use Rattle.std.specs.Prelude.{◌≡◌, IfOk};
 ghost use Rattle.std.specs.Str.{chars};
 ghost use Rattle.icu_tables.specs.Digits.{ten_in, first_digits};
-ghost use Rattle.icu_tables.specs.Reading.{Gives};
+ghost use Rattle.icu_table_entries.specs.Reading.{Gives};
 
-use crate::entries::FromEntry;
-use crate::error::{Key, Place, TableError};
-use crate::fields::{pair_in, text_in};
-use crate::named::system_of;
 use icu_provider::{DataLocale, NumberingSystem};
+use icu_table_entries::entries::EntryKind;
+use icu_table_entries::fields::{pair_in, text_in};
+use icu_table_entries::named::system_of;
+use icu_table_entries::{Key, Place, TableError};
 use serde_json::Value;
 use std::alloc::{AllocError, Global};
 use std::marker::Model;
@@ -48,7 +48,12 @@ fn ten_in(alloc: Global, text: &str, key: Key) -> Result<[char; 10], TableError>
     }
 }
 
-impl FromEntry for SystemDigits {
+/// Digits of a numbering system.
+pub struct DigitsEntry;
+
+impl EntryKind for DigitsEntry {
+    type Entry = SystemDigits;
+
     ghost use Rattle.std.specs.Prelude.{true};
     ghost use Rattle.icu_tables.specs.Digits.{digits_at};
 
@@ -57,7 +62,7 @@ impl FromEntry for SystemDigits {
     ghost serves = { λ locale entry. true };
 
     #[tactic(auto, unfolding(crate::specs::Digits::digits_at))]
-    fn from_entry(alloc: Global, place: Place, value: &Value) -> Result<Self, TableError> {
+    fn from_entry(alloc: Global, place: Place, value: &Value) -> Result<Self::Entry, TableError> {
         let (system, text) = pair_in(value, place.key)?;
         let system = text_in(system, place.key)?;
         let text = text_in(text, place.key)?;
@@ -67,7 +72,7 @@ impl FromEntry for SystemDigits {
     }
 
     /// Digits depend on the system only, not on the locale.
-    fn serves(&self, _locale: &DataLocale) -> bool {
+    fn serves(_entry: &Self::Entry, _locale: &DataLocale) -> bool {
         true
     }
 }

@@ -8,15 +8,18 @@ ghost use Rattle.icu_tables.specs.ForLocale.{Adds, AreEntries, AreMembersOf, Hol
 ghost use Rattle.icu_tables.specs.Tables.{tables_of};
 
 use crate::borrowed::{Unread, owned};
-use crate::digits::SystemDigits;
-use crate::entries::FromEntry;
-use crate::error::{Key, Place, TableError};
-use crate::named::NamedEntry;
+use crate::compact::CompactEntry;
+use crate::digits::{DigitsEntry, SystemDigits};
+use crate::rules::RulesEntry;
+use crate::symbols::SymbolsEntry;
 use crate::tables::Tables;
 use icu_decimal_data::{CompactPatterns, DecimalSymbols};
 use icu_pattern::SinglePlaceholder;
 use icu_plurals::PluralRules;
 use icu_provider::DataLocale;
+use icu_table_entries::entries::EntryKind;
+use icu_table_entries::named::NamedEntry;
+use icu_table_entries::{Key, Place, TableError};
 use json::{Reader, Scratch, Token};
 use std::alloc::Global;
 use std::marker::Model;
@@ -50,12 +53,12 @@ impl Model for Found {
 }
 
 /// The entries under a key that may answer a request in a locale.
-fn served<T: FromEntry + Drop>(
+fn served<T: EntryKind>(
     alloc: Global,
     locale: &DataLocale,
     key: Key,
     value: &json::Value<'_>,
-) -> Result<Vec<T>, Unread>
+) -> Result<Vec<T::Entry>, Unread>
     ensures { IfOk result
         (λ v. AreEntries T.read_at (T.serves locale.now) key (value_view value.now) v.items) }
 {
@@ -67,7 +70,7 @@ fn served<T: FromEntry + Drop>(
     for (index, item) in items.iter().enumerate() {
         let value = owned(alloc, item)?;
         let entry = T::from_entry(alloc, Place { key, index }, &value)?;
-        if entry.serves(locale) {
+        if T::serves(&entry, locale) {
             found.push(entry)?;
         }
     }
@@ -75,12 +78,12 @@ fn served<T: FromEntry + Drop>(
 }
 
 /// The same, for a key that wasn't met before.
-fn once<T: FromEntry + Drop>(
+fn once<T: EntryKind>(
     alloc: Global,
     locale: &DataLocale,
     key: Key,
     value: &json::Value<'_>,
-    slot: &mut Option<Vec<T>>,
+    slot: &mut Option<Vec<T::Entry>>,
 ) -> Result<(), Unread>
     ensures { OnOk result (IsOnce T.read_at (T.serves locale.now) key (value_view value.now)
         (option_map (λ v. v.items) slot.old) (option_map (λ v. v.items) slot.new)) }
@@ -88,7 +91,7 @@ fn once<T: FromEntry + Drop>(
     if slot.is_some() {
         return Err(Unread::Other);
     }
-    *slot = Some(served(alloc, locale, key, value)?);
+    *slot = Some(served::<T>(alloc, locale, key, value)?);
     Ok(())
 }
 
@@ -104,11 +107,11 @@ fn add(
         (Adds locale.now name.now (value_view value.now) found.old found.new) }
 {
     match name {
-        "symbols" => once(alloc, locale, Key::Symbols, value, &mut found.symbols),
-        "digits" => once(alloc, locale, Key::Digits, value, &mut found.digits),
-        "rules" => once(alloc, locale, Key::Rules, value, &mut found.rules),
-        "short" => once(alloc, locale, Key::Short, value, &mut found.short),
-        "long" => once(alloc, locale, Key::Long, value, &mut found.long),
+        "symbols" => once::<SymbolsEntry>(alloc, locale, Key::Symbols, value, &mut found.symbols),
+        "digits" => once::<DigitsEntry>(alloc, locale, Key::Digits, value, &mut found.digits),
+        "rules" => once::<RulesEntry>(alloc, locale, Key::Rules, value, &mut found.rules),
+        "short" => once::<CompactEntry>(alloc, locale, Key::Short, value, &mut found.short),
+        "long" => once::<CompactEntry>(alloc, locale, Key::Long, value, &mut found.long),
         _ => {
             drop(owned(alloc, value)?);
             Ok(())

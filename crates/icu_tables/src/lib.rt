@@ -24,19 +24,12 @@
 mod borrowed;
 mod compact;
 mod digits;
-mod entries;
-mod error;
-mod fields;
 mod for_locale;
-mod named;
-mod pattern_text;
 mod provider;
 mod rules;
-mod symbols;
+pub mod symbols;
 mod tables;
-mod texts;
-mod whole_numbers;
 
 pub use compact::compact_from_value;
-pub use error::{EntryFault, Key, TableError};
+pub use icu_table_entries::{EntryFault, Key, TableError};
 pub use tables::Tables;

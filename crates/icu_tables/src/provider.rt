@@ -3,10 +3,10 @@
 ghost use Rattle.std.specs.Prelude.{Ok, option_map};
 ghost use Rattle.icu_provider.specs.Answer.{Answers};
 ghost use Rattle.icu_provider.specs.Identifier.{identifier_of};
-ghost use Rattle.icu_tables.specs.Answering.{filed_answer, optional_answer, system_answer};
+ghost use Rattle.icu_table_entries.specs.Answering.{filed_answer, optional_answer};
+ghost use Rattle.icu_tables.specs.Digits.{system_answer};
 
 use crate::digits::first_digits;
-use crate::named::{NamedEntry, first_filed};
 use crate::tables::Tables;
 use icu_decimal_data::{
     CompactPatterns, DecimalCompactLongV1, DecimalCompactShortV1, DecimalDigitsV1, DecimalSymbols,
@@ -15,6 +15,7 @@ use icu_decimal_data::{
 use icu_pattern::SinglePlaceholder;
 use icu_plurals::{PluralRules, PluralsCardinalV1};
 use icu_provider::{DataError, DataErrorKind, DataIdentifierBorrowed, DataProvider, DataRequest};
+use icu_table_entries::named::{NamedEntry, first_filed};
 use std::alloc::Global;
 
 /// Data that is copied for each answer.
@@ -81,7 +82,7 @@ fn load_optional<T: Copied>(
 }
 
 impl DataProvider<DecimalSymbolsV1> for Tables {
-    ghost use Rattle.icu_tables.specs.Answering.{filed_answer};
+    ghost use Rattle.icu_table_entries.specs.Answering.{filed_answer};
 
     ghost answer = { λ tables id. filed_answer tables.symbols id };
 
@@ -93,7 +94,7 @@ impl DataProvider<DecimalSymbolsV1> for Tables {
 }
 
 impl DataProvider<DecimalDigitsV1> for Tables {
-    ghost use Rattle.icu_tables.specs.Answering.{system_answer};
+    ghost use Rattle.icu_tables.specs.Digits.{system_answer};
 
     ghost answer = { λ tables id. system_answer tables.digits id.system };
 
@@ -111,7 +112,7 @@ impl DataProvider<DecimalDigitsV1> for Tables {
 }
 
 impl DataProvider<PluralsCardinalV1> for Tables {
-    ghost use Rattle.icu_tables.specs.Answering.{optional_answer};
+    ghost use Rattle.icu_table_entries.specs.Answering.{optional_answer};
 
     ghost answer = { λ tables id. optional_answer tables.rules id };
 
@@ -123,7 +124,7 @@ impl DataProvider<PluralsCardinalV1> for Tables {
 }
 
 impl DataProvider<DecimalCompactShortV1> for Tables {
-    ghost use Rattle.icu_tables.specs.Answering.{optional_answer};
+    ghost use Rattle.icu_table_entries.specs.Answering.{optional_answer};
 
     ghost answer = { λ tables id. optional_answer tables.short id };
 
@@ -139,7 +140,7 @@ impl DataProvider<DecimalCompactShortV1> for Tables {
 }
 
 impl DataProvider<DecimalCompactLongV1> for Tables {
-    ghost use Rattle.icu_tables.specs.Answering.{optional_answer};
+    ghost use Rattle.icu_table_entries.specs.Answering.{optional_answer};
 
     ghost answer = { λ tables id. optional_answer tables.long id };
 

@@ -3,15 +3,15 @@
 ghost use Rattle.std.specs.Prelude.{◌≡◌, map};
 ghost use Rattle.serde_json.specs.View.{view};
 ghost use Rattle.icu_plurals.specs.Rules.{given_rule, given_rules};
-ghost use Rattle.icu_tables.specs.Reading.{Gives};
+ghost use Rattle.icu_table_entries.specs.Reading.{Gives};
 ghost use Rattle.icu_tables.specs.Rules.{category_named, given_rule_in, given_rules_in, rules_from};
 
-use crate::entries::FromEntry;
-use crate::error::{EntryFault, Key, Place, TableError};
-use crate::fields::{list_at, object_in, pair_in, text_at, text_in};
-use crate::named::{NamedEntry, name_of};
 use icu_plurals::{PluralCategory, PluralRules, RulesError};
 use icu_provider::DataLocale;
+use icu_table_entries::entries::EntryKind;
+use icu_table_entries::fields::{list_at, object_in, pair_in, text_at, text_in};
+use icu_table_entries::named::{NamedEntry, name_of};
+use icu_table_entries::{EntryFault, Key, Place, TableError};
 use serde_json::Value;
 use std::alloc::Global;
 
@@ -76,16 +76,21 @@ fn rules_of(
     }
 }
 
-impl FromEntry for NamedEntry<PluralRules> {
+/// Plural rules under their name.
+pub struct RulesEntry;
+
+impl EntryKind for RulesEntry {
+    type Entry = NamedEntry<PluralRules>;
+
     ghost use Rattle.icu_tables.specs.Rules.{rules_at};
-    ghost use Rattle.icu_tables.specs.Named.{is_of};
+    ghost use Rattle.icu_table_entries.specs.Named.{is_of};
 
     ghost read_at = { rules_at };
 
     ghost serves = { is_of };
 
     #[tactic(auto, unfolding(crate::specs::Rules::rules_at))]
-    fn from_entry(alloc: Global, place: Place, value: &Value) -> Result<Self, TableError> {
+    fn from_entry(alloc: Global, place: Place, value: &Value) -> Result<Self::Entry, TableError> {
         let value = object_in(value, place.key)?;
         let locale = text_at(value, Key::Locale)?;
         let rules = list_at(value, Key::Rules)?;
@@ -95,7 +100,7 @@ impl FromEntry for NamedEntry<PluralRules> {
         Ok(NamedEntry { name, content })
     }
 
-    fn serves(&self, locale: &DataLocale) -> bool {
-        self.name.is_of(locale)
+    fn serves(entry: &Self::Entry, locale: &DataLocale) -> bool {
+        entry.name.is_of(locale)
     }
 }

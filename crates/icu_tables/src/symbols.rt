@@ -3,17 +3,17 @@
 ghost use Rattle.std.specs.Prelude.{option_map};
 ghost use Rattle.serde_json.specs.View.{view};
 ghost use Rattle.icu_decimal_data.specs.Given.{texts_given};
-ghost use Rattle.icu_tables.specs.Reading.{Gives};
+ghost use Rattle.icu_table_entries.specs.Reading.{Gives};
 ghost use Rattle.icu_tables.specs.Symbols.{symbols_of, sizes_at, strings_at, symbol_fields_at};
 
-use crate::entries::FromEntry;
-use crate::error::{EntryFault, Key, Place, TableError};
-use crate::fields::{
-    byte_in, member_at, object_in, optional_text_at, text_at, texts_at, triple_in,
-};
-use crate::named::{NamedEntry, name_of};
 use icu_decimal_data::{DecimalSymbolStrsBuilder, DecimalSymbols, GroupingSizes, SymbolsError};
 use icu_provider::DataLocale;
+use icu_table_entries::entries::EntryKind;
+use icu_table_entries::fields::{
+    byte_in, member_at, object_in, optional_text_at, text_at, texts_at, triple_in,
+};
+use icu_table_entries::named::{NamedEntry, name_of};
+use icu_table_entries::{EntryFault, Key, Place, TableError};
 use serde_json::Value;
 use std::alloc::Global;
 
@@ -103,23 +103,28 @@ fn symbols_of(
     }
 }
 
-impl FromEntry for NamedEntry<DecimalSymbols> {
+/// Symbols under their name.
+pub struct SymbolsEntry;
+
+impl EntryKind for SymbolsEntry {
+    type Entry = NamedEntry<DecimalSymbols>;
+
     ghost use Rattle.icu_tables.specs.Symbols.{symbols_at};
-    ghost use Rattle.icu_tables.specs.Named.{is_of};
+    ghost use Rattle.icu_table_entries.specs.Named.{is_of};
 
     ghost read_at = { symbols_at };
 
     ghost serves = { is_of };
 
     #[tactic(auto, unfolding(crate::specs::Symbols::symbols_at))]
-    fn from_entry(alloc: Global, place: Place, value: &Value) -> Result<Self, TableError> {
+    fn from_entry(alloc: Global, place: Place, value: &Value) -> Result<Self::Entry, TableError> {
         let fields = symbol_fields_at(value, place.key)?;
         let name = name_of(place, fields.locale, fields.system)?;
         let content = symbols_of(alloc, place, &fields.strings, fields.grouping_sizes)?;
         Ok(NamedEntry { name, content })
     }
 
-    fn serves(&self, locale: &DataLocale) -> bool {
-        self.name.is_of(locale)
+    fn serves(entry: &Self::Entry, locale: &DataLocale) -> bool {
+        entry.name.is_of(locale)
     }
 }

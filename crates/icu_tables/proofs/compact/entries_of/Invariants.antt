@@ -1,7 +1,7 @@
 use Rattle.std.proofs.Common.{◌≡◌, drop}
 use Rattle.icu_decimal_data.specs.Kept.{given}
 use Rattle.icu_tables.specs.Compact.{entries_of}
-use Rattle.icu_tables.proofs.Lists.{with_front}
+use Rattle.icu_table_entries.proofs.Lists.{with_front}
 use Rattle.icu_tables.proofs.Maps.{GoesOn}
 use Rattle.icu_tables.proofs.compact.entries_of.Given as goal
 

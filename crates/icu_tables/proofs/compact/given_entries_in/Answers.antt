@@ -3,7 +3,7 @@ use Rattle.std.proofs.lemmas.Result.{err_from_is_err_and}
 use Rattle.std.proofs.lemmas.List.{drop_all}
 use Rattle.serde_json.specs.View.{view}
 use Rattle.icu_tables.specs.Compact.{IsAbove}
-use Rattle.icu_tables.proofs.Lists.{values_from}
+use Rattle.icu_table_entries.proofs.Lists.{values_from}
 use Rattle.icu_tables.proofs.Maps.{last_type, rise_on, last_on}
 use Rattle.icu_tables.proofs.Risings.{entries_go_on, entries_fail, entries_end}
 use Rattle.icu_tables.proofs.compact.given_entries_in.Goals as goal

@@ -1,7 +1,7 @@
 use Rattle.std.proofs.Common.{◌≡◌, map, drop, None}
 use Rattle.serde_json.specs.View.{view}
 use Rattle.icu_tables.specs.Compact.{Rise, given_entries_in}
-use Rattle.icu_tables.proofs.Lists.{with_front}
+use Rattle.icu_table_entries.proofs.Lists.{with_front}
 use Rattle.icu_tables.proofs.Maps.{last_type}
 use Rattle.icu_tables.proofs.compact.given_entries_in.Given as goal
 

@@ -8,7 +8,7 @@ use Rattle.icu_tables.proofs.for_locale.served.Goals.{then-serves+in_ok-push, el
 use Rattle.icu_tables.proofs.for_locale.served.Goals as goal
 
 pub loop-index-init : goal.loop-index-init
-loop-index-init g c = rw c.new-found.ensures.items (begins g.T.FromEntry.read_at (g.T.FromEntry.serves c.args.locale.now) c.args.key (map value_view
+loop-index-init g c = rw c.new-found.ensures.items (begins g.T.EntryKind.read_at (g.T.EntryKind.serves c.args.locale.now) c.args.key (map value_view
     c.as_slice-items.result.now))
 
 pub loop-index-preserved : goal.loop-index-preserved
@@ -17,10 +17,10 @@ loop-index-preserved g c =
     let items = c.as_slice-items.result.now in
     let x = c.index-items-index.result in
     let entry = c.in_ok-entry.entry in
-    let serves = g.T.FromEntry.serves c.args.locale.now in
+    let serves = g.T.EntryKind.serves c.args.locale.now in
     let left = map value_view (drop (l.index + 1) items) in
     let so_far = rw (left_from items l.index x c.index-items-index.is c.loop-index-test.true) at l.invariant in
-    let more = one_more g.T.FromEntry.read_at serves c.args.key (map value_view items) l.index (value_view x) left l.found.items (view c.in_ok-value.value)
+    let more = one_more g.T.EntryKind.read_at serves c.args.key (map value_view items) l.index (value_view x) left l.found.items (view c.in_ok-value.value)
     entry c.in_ok-value.ensures c.in_ok-entry.ensures so_far in
     elim c.if-serves.branch [
       | then-serves+in_ok-push w ↦
@@ -40,5 +40,5 @@ returns g c =
     let l = c.loop-index in
     let items = c.as_slice-items.result.now in
     let none_left = rw (drop_all l.index items c.loop-index-test.false) at l.invariant in
-    let read = all_read g.T.FromEntry.read_at (g.T.FromEntry.serves c.args.locale.now) c.args.key (map value_view items) l.index l.found.items none_left in
+    let read = all_read g.T.EntryKind.read_at (g.T.EntryKind.serves c.args.locale.now) c.args.key (map value_view items) l.index l.found.items none_left in
     rw (c.in-Array.is, value_view-Array c.in-Array.items, ← c.as_slice-items.ensures.value) read

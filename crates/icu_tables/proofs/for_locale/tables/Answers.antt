@@ -1,7 +1,7 @@
 use Rattle.std.proofs.Common.{Global, Vec, ap, option_map}
 use Rattle.icu_decimal_data.specs.declared.decimal_symbols.DecimalSymbols.{DecimalSymbols}
 use Rattle.icu_tables.specs.Digits.{SystemDigits}
-use Rattle.icu_tables.specs.Named.{NamedEntry}
+use Rattle.icu_table_entries.specs.Named.{NamedEntry}
 use Rattle.icu_tables.proofs.ForLocale.{tables_for}
 use Rattle.icu_tables.proofs.for_locale.tables.Goals as goal
 

@@ -4,8 +4,8 @@ use Rattle.std.proofs.lemmas.List.{drop_all, map-append}
 use Rattle.serde_json.specs.View.{view}
 use Rattle.icu_plurals.specs.Rules.{given_rule, given_rules}
 use Rattle.icu_tables.specs.Rules.{given_rule_in, given_rules_in}
-use Rattle.icu_tables.specs.declared.error.Key.TheVariants.{Rules}
-use Rattle.icu_tables.proofs.Lists.{goes_on, fails, ends, values_from}
+use Rattle.icu_table_entries.specs.declared.error.Key.TheVariants.{Rules}
+use Rattle.icu_table_entries.proofs.Lists.{goes_on, fails, ends, values_from}
 use Rattle.icu_tables.proofs.rules.given_rules_in.Goals as goal
 
 pub returns-in_err-given_rule_in : goal.returns-in_err-given_rule_in

@@ -1,10 +1,10 @@
 use Rattle.std.proofs.Common.{◌≡◌, map, drop}
 use Rattle.serde_json.specs.View.{view}
 use Rattle.icu_plurals.specs.Rules.{given_rules}
-use Rattle.icu_tables.specs.Reading.{entries_at}
+use Rattle.icu_table_entries.specs.Reading.{entries_at}
 use Rattle.icu_tables.specs.Rules.{given_rule_in}
-use Rattle.icu_tables.specs.declared.error.Key.TheVariants.{Rules}
-use Rattle.icu_tables.proofs.Lists.{with_front}
+use Rattle.icu_table_entries.specs.declared.error.Key.TheVariants.{Rules}
+use Rattle.icu_table_entries.proofs.Lists.{with_front}
 use Rattle.icu_tables.proofs.rules.given_rules_in.Given as goal
 
 abbrev pub invariant-loop-index : goal.invariant-loop-index

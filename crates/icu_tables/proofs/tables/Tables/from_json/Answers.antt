@@ -1,20 +1,11 @@
--- Goals that a search finds; it is not tried longer where one is false.
-use Rattle.std.proofs.Common.{rules}
-use Rattle.icu_tables.specs.Tables.{tables_in, tables_of}
+use Rattle.std.proofs.lemmas.Result.{err_from_is_err_and}
+use Rattle.icu_tables.proofs.Values.{tables_by_value, value_refused}
 use Rattle.icu_tables.proofs.tables.Tables.from_json.Goals as goal
 
-pub returns-else-has_float : goal.returns-else-has_float
-unfolding tables_of tables_in
-returns-else-has_float c = search rules
+pub returns-in_err-value : goal.returns-in_err-value
+returns-in_err-value c =
+    let p = err_from_is_err_and c.from_residual.result c.from_residual.ensures.1 in
+    rw (p.1, p.2) (value_refused c.in_err-value.field-0.0 c.args.text.now c.in_err-value.ensures)
 
-pub returns-in-Err : goal.returns-in-Err
-unfolding tables_of tables_in
-returns-in-Err c = search rules
-
-pub returns-in-Err-2 : goal.returns-in-Err-2
-unfolding tables_of tables_in
-returns-in-Err-2 c = search rules
-
-pub returns-then-has_float : goal.returns-then-has_float
-unfolding tables_of tables_in
-returns-then-has_float c = search rules
+pub returns : goal.returns
+returns c = rw (tables_by_value c.args.text.now, c.in_ok-value.ensures) c.tables_at.ensures

@@ -1,0 +1,27 @@
+use Rattle.std.proofs.Common.{map, drop, ◌+◌}
+use Rattle.std.proofs.lemmas.Result.{err_from_is_err_and}
+use Rattle.std.proofs.lemmas.List.{drop_all}
+use Rattle.serde_json.specs.View.{view}
+use Rattle.icu_table_entries.proofs.Lists.{goes_on, fails, ends, values_from}
+use Rattle.icu_table_entries.proofs.entries.entries.Goals as goal
+
+pub returns-in_err-from_entry : goal.returns-in_err-from_entry
+returns-in_err-from_entry g c =
+    let p = err_from_is_err_and c.from_residual.result c.from_residual.ensures.1 in
+    let v = c.index-values-index in
+    let i = c.loop-index.index in
+    let inv = rw (values_from c.args.values.now i v.result v.is c.loop-index-test.true) at c.loop-index.invariant in
+    rw (p.1, p.2) (fails g.T.EntryKind.read_at c.args.key c.in_err-from_entry.field-0.0 c.loop-index.found.items i (view v.result)
+    (map view (drop (i + 1) c.args.values.now)) _ c.in_err-from_entry.ensures inv)
+
+pub loop-index-preserved : goal.loop-index-preserved
+loop-index-preserved g c =
+    let v = c.index-values-index in
+    let i = c.loop-index.index in
+    let inv = rw (values_from c.args.values.now i v.result v.is c.loop-index-test.true) at c.loop-index.invariant in
+    rw c.in_ok-push.ensures.items (goes_on g.T.EntryKind.read_at c.args.key c.loop-index.found.items i (view v.result)
+    (map view (drop (i + 1) c.args.values.now)) c.in_ok-from_entry.field-0 _ c.in_ok-from_entry.ensures inv)
+
+pub returns : goal.returns
+returns g c = ends g.T.EntryKind.read_at c.args.key c.loop-index.found.items c.loop-index.index _
+    (rw (drop_all c.loop-index.index c.args.values.now c.loop-index-test.false) at c.loop-index.invariant)

@@ -1,0 +1,149 @@
+//! The texts of patterns for plural categories, and their patterns.
+
+ghost use Rattle.serde_json.specs.View.{view};
+ghost use Rattle.icu_table_entries.specs.CategoryTexts.{category_texts_in, first_patterns_of, patterns_of, optional_patterns_of};
+ghost use Rattle.icu_table_entries.specs.CategoryTexts.{with_one_and_two, with_few_and_many};
+ghost use Rattle.icu_table_entries.specs.Reading.{Gives, optional_at};
+ghost use Rattle.std.specs.Prelude.{option_map};
+
+use crate::error::{Key, Place, TableError};
+use crate::fields::{object_in, optional_text_at, text_at};
+use crate::pattern_text::{optional_pattern_of, pattern_of};
+use icu_pattern::{Pattern, SinglePlaceholder};
+use icu_plurals::PluralElements;
+use serde_json::Value;
+use std::alloc::Global;
+use std::marker::Model;
+
+/// The texts of patterns, not yet judged.
+#[derive(Drop)]
+pub struct Texts<'a> {
+    explicit_zero: Option<&'a str>,
+    explicit_one: Option<&'a str>,
+    zero: Option<&'a str>,
+    one: Option<&'a str>,
+    two: Option<&'a str>,
+    few: Option<&'a str>,
+    many: Option<&'a str>,
+    other: &'a str,
+}
+
+impl<'a> Model for Texts<'a> {
+    ghost use Rattle.std.specs.Prelude.{option_map};
+    ghost use Rattle.icu_table_entries.specs.PatternTexts.{Texts as PatternTexts};
+
+    ghost Value = { PatternTexts };
+
+    ghost view = { λ t. record {
+      explicit_zero = option_map (λ s. s.now) t.explicit_zero;
+      explicit_one = option_map (λ s. s.now) t.explicit_one;
+      zero = option_map (λ s. s.now) t.zero;
+      one = option_map (λ s. s.now) t.one;
+      two = option_map (λ s. s.now) t.two;
+      few = option_map (λ s. s.now) t.few;
+      many = option_map (λ s. s.now) t.many;
+      other = t.other.now;
+    } };
+}
+
+/// The texts of an object.
+#[tactic(auto, unfolding(crate::specs::CategoryTexts::category_texts_in))]
+pub fn category_texts_in(value: &Value, key: Key) -> Result<Texts<'_>, TableError>
+    ensures { Gives (λ x. x) result (category_texts_in key (view value.now)) }
+{
+    let value = object_in(value, key)?;
+    let other = text_at(value, Key::Other)?;
+    Ok(Texts {
+        explicit_zero: optional_text_at(value, Key::ExplicitZero)?,
+        explicit_one: optional_text_at(value, Key::ExplicitOne)?,
+        zero: optional_text_at(value, Key::Zero)?,
+        one: optional_text_at(value, Key::One)?,
+        two: optional_text_at(value, Key::Two)?,
+        few: optional_text_at(value, Key::Few)?,
+        many: optional_text_at(value, Key::Many)?,
+        other,
+    })
+}
+
+/// The texts under a key that may be absent.
+#[tactic(auto, unfolding(crate::specs::Reading::optional_at))]
+pub fn optional_texts_at(value: &Value, key: Key) -> Result<Option<Texts<'_>>, TableError>
+    ensures { Gives (λ x. x) result (optional_at (category_texts_in key) key (view value.now)) }
+{
+    match value.get(key.name()) {
+        Some(member) => Ok(Some(category_texts_in(member, key)?)),
+        None => Ok(None),
+    }
+}
+
+/// Patterns for plural categories.
+pub type Patterns = PluralElements<Pattern<SinglePlaceholder>>;
+
+/// The patterns of the categories other and zero, and those for exactly zero and one.
+#[tactic(auto, unfolding(crate::specs::CategoryTexts::first_patterns_of))]
+fn first_patterns_of(alloc: Global, place: Place, texts: &Texts<'_>) -> Result<Patterns, TableError>
+    ensures { Gives (λ x. x) result (first_patterns_of place texts.now) }
+{
+    let patterns = PluralElements::new(pattern_of(alloc, place, texts.other)?)
+        .with_explicit_zero_value(optional_pattern_of(alloc, place, texts.explicit_zero)?)
+        .with_explicit_one_value(optional_pattern_of(alloc, place, texts.explicit_one)?)
+        .with_zero_value(optional_pattern_of(alloc, place, texts.zero)?);
+    Ok(patterns)
+}
+
+/// These patterns, with those of the categories one and two.
+#[tactic(auto, unfolding(crate::specs::CategoryTexts::with_one_and_two))]
+fn with_one_and_two(
+    alloc: Global,
+    place: Place,
+    texts: &Texts<'_>,
+    patterns: Patterns,
+) -> Result<Patterns, TableError>
+    ensures { Gives (λ x. x) result (with_one_and_two place texts.now patterns) }
+{
+    let patterns = patterns
+        .with_one_value(optional_pattern_of(alloc, place, texts.one)?)
+        .with_two_value(optional_pattern_of(alloc, place, texts.two)?);
+    Ok(patterns)
+}
+
+/// These patterns, with those of the categories few and many.
+#[tactic(auto, unfolding(crate::specs::CategoryTexts::with_few_and_many))]
+fn with_few_and_many(
+    alloc: Global,
+    place: Place,
+    texts: &Texts<'_>,
+    patterns: Patterns,
+) -> Result<Patterns, TableError>
+    ensures { Gives (λ x. x) result (with_few_and_many place texts.now patterns) }
+{
+    let patterns = patterns
+        .with_few_value(optional_pattern_of(alloc, place, texts.few)?)
+        .with_many_value(optional_pattern_of(alloc, place, texts.many)?);
+    Ok(patterns)
+}
+
+/// The patterns of these texts.
+#[tactic(auto, unfolding(crate::specs::CategoryTexts::patterns_of))]
+pub fn patterns_of(alloc: Global, place: Place, texts: &Texts<'_>) -> Result<Patterns, TableError>
+    ensures { Gives (λ x. x) result (patterns_of place texts.now) }
+{
+    let patterns = first_patterns_of(alloc, place, texts)?;
+    let patterns = with_one_and_two(alloc, place, texts, patterns)?;
+    with_few_and_many(alloc, place, texts, patterns)
+}
+
+/// The patterns of these texts, if there are any.
+#[tactic(auto, unfolding(crate::specs::CategoryTexts::optional_patterns_of))]
+pub fn optional_patterns_of(
+    alloc: Global,
+    place: Place,
+    texts: &Option<Texts<'_>>,
+) -> Result<Option<Patterns>, TableError>
+    ensures { Gives (λ x. x) result (optional_patterns_of place texts.now) }
+{
+    match texts {
+        Some(texts) => Ok(Some(patterns_of(alloc, place, texts)?)),
+        None => Ok(None),
+    }
+}
