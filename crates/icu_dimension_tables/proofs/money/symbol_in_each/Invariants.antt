@@ -1,0 +1,7 @@
+use Rattle.std.proofs.Common.{◌≡◌, drop, false}
+use Rattle.icu_dimension_tables.specs.Money.{symbol_in_each}
+use Rattle.icu_dimension_tables.proofs.money.symbol_in_each.Given as goal
+
+-- the characters that are left decide
+abbrev pub invariant-loop-character : goal.invariant-loop-character
+invariant-loop-character l = symbol_in_each l.state.0 l.state.1 (drop l.character-index l.characters) ≡ symbol_in_each false false l.characters

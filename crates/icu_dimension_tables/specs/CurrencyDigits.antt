@@ -1,0 +1,66 @@
+-- The digits of currencies in tables.
+use Rattle.std.specs.Prelude.{ℕ, List, [], ◌∷◌, Option, Some, None, option_map, Result, Ok, codes, nat_eq, nat_lt, if◌then◌else◌}
+use Rattle.std.specs.Cmp.Lexicographic.{pointwise}
+use Rattle.std.specs.List.{filter_map}
+use Rattle.serde_json.specs.Data.{Data}
+use Rattle.icu_dimension_data.specs.Currency.{is_currency_code}
+use Rattle.icu_dimension_data.specs.Digits.{Digits}
+use Rattle.icu_dimension_data.specs.declared.currency_digits.CurrencyEntry.{CurrencyEntry}
+use Rattle.icu_dimension_data.specs.declared.currency_digits.FractionDigits.{FractionDigits}
+use Rattle.icu_dimension_tables.specs.declared.currency_digits.DigitsRow.{DigitsRow}
+use Rattle.icu_table_entries.specs.Named.{refused}
+use Rattle.icu_table_entries.specs.Reading.{◌>>=◌, byte_in, entries_in, optional_at, text_in, triple_in}
+use Rattle.icu_table_entries.specs.declared.error.EntryFault.TheVariants.{BadCurrencyCode, TooManyDigits}
+use Rattle.icu_table_entries.specs.declared.error.Key.TheVariants as key
+use Rattle.icu_table_entries.specs.declared.error.Place.{Place}
+use Rattle.icu_table_entries.specs.declared.error.TableError.{TableError}
+
+-- the code of a currency
+unfoldable pub currency_code_of : Place → List ℕ → Result (List ℕ) TableError
+currency_code_of place text = if is_currency_code text then Ok text else refused place BadCurrencyCode
+
+-- the code of a currency, or none for `DEFAULT`, which is for all others
+unfoldable pub code_or_default : Place → List ℕ → Result (Option (List ℕ)) TableError
+code_or_default place text = if pointwise nat_eq text (codes "DEFAULT") then Ok None else (do
+  code ← currency_code_of place text
+  Ok (Some code))
+
+-- so many fraction digits, at most 15
+unfoldable pub fraction_digits_of : Place → ℕ → Result ℕ TableError
+fraction_digits_of place n = if nat_lt 15 n then refused place TooManyDigits else Ok n
+
+-- an entry: a list of a code, its digits and its digits in cash; first their kinds, then what they say
+unfoldable pub digits_row_at : Place → Data → Result DigitsRow TableError
+digits_row_at place d = do
+  triple ← triple_in place.key d
+  text ← text_in place.key triple.0
+  standard ← byte_in place.key triple.1.0
+  cash ← byte_in place.key triple.1.1
+  code ← code_or_default place text
+  standard ← fraction_digits_of place standard
+  cash ← fraction_digits_of place cash
+  Ok (record { code = code; digits = record { standard = standard; cash = cash } })
+
+-- the currency of an entry with its digits, if the entry is that of one currency
+abbrev pub currency_in : DigitsRow → Option CurrencyEntry
+currency_in row = option_map (λ code. record { code = code; digits = row.digits }) row.code
+
+-- this entry's digits, if it is that for all others, and else those of the entries behind it
+abbrev pub default_or : Option (List ℕ) → FractionDigits → FractionDigits → FractionDigits
+default_or None here behind = here
+default_or (Some code) here behind = behind
+
+-- the digits of the first entry for all others; without one they are two
+unfoldable pub default_digits : List DigitsRow → FractionDigits
+default_digits [] = record { standard = 2; cash = 2 }
+default_digits (row ∷ rows) = default_or row.code row.digits (default_digits rows)
+
+-- the digits of all currencies
+abbrev pub currency_digits_of : List DigitsRow → Digits
+currency_digits_of rows = record { entries = filter_map currency_in rows; others = default_digits rows }
+
+-- the digits of all currencies, if the document has their key
+unfoldable pub currency_digits_under : Data → Result (Option Digits) TableError
+currency_digits_under d = do
+  rows ← optional_at (entries_in digits_row_at key.CurrencyDigits) key.CurrencyDigits d
+  Ok (option_map currency_digits_of rows)

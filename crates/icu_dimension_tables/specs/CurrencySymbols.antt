@@ -1,0 +1,57 @@
+-- Entries of the symbols of currencies.
+use Rattle.std.specs.Prelude.{ℕ, List, [], ◌∷◌, Option, Some, None, nat_eq, Result, Ok, if◌then◌else◌}
+use Rattle.std.specs.Cmp.Lexicographic.{pointwise}
+use Rattle.serde_json.specs.Data.{Data}
+use Rattle.icu_dimension.specs.CurrencyData.{SymbolTexts}
+use Rattle.icu_dimension_tables.specs.CurrencyDigits.{currency_code_of}
+use Rattle.icu_table_entries.specs.CategoryTexts.{category_texts_in}
+use Rattle.icu_table_entries.specs.Named.{locale_of}
+use Rattle.icu_table_entries.specs.Reading.{◌>>=◌, entries_at, four_in, list_at, object_in, text_at, text_in}
+use Rattle.icu_table_entries.specs.declared.error.Key.TheVariants.{Locale, Symbols}
+use Rattle.icu_table_entries.specs.declared.error.Place.{Place}
+use Rattle.icu_table_entries.specs.declared.error.TableError.{TableError}
+
+-- a currency's symbols in a locale
+pub record CurrencyRow : Type 0 where
+  pub code : List ℕ
+  pub symbols : SymbolTexts
+
+-- the currencies of a locale
+pub record LocaleCurrencies : Type 0 where
+  pub locale : List ℕ
+  pub rows : List CurrencyRow
+
+-- a row: a list of the currency's code, its symbol, its narrow symbol and its names; first their kinds, then the code
+unfoldable pub currency_row_at : Place → Data → Result CurrencyRow TableError
+currency_row_at place d = do
+  four ← four_in Symbols d
+  code ← text_in Symbols four.0
+  short ← text_in Symbols four.1.0
+  narrow ← text_in Symbols four.1.1.0
+  names ← category_texts_in Symbols four.1.1.1
+  code ← currency_code_of place code
+  Ok (record { code = code; symbols = record { short = short; narrow = narrow } })
+
+-- each row in turn; a fault of one is told of the entry
+abbrev pub currency_rows_at : Place → List Data → Result (List CurrencyRow) TableError
+currency_rows_at place ds = entries_at (λ _. currency_row_at place) Symbols 0 ds
+
+-- an entry: first the kinds of its fields, then its locale, then row by row
+unfoldable pub currency_symbols_at : Place → Data → Result LocaleCurrencies TableError
+currency_symbols_at place d = do
+  d ← object_in place.key d
+  locale ← text_at Locale d
+  values ← list_at Symbols d
+  locale ← locale_of place locale
+  rows ← currency_rows_at place values
+  Ok (record { locale = locale; rows = rows })
+
+-- the symbols of the first row of a currency
+unfoldable pub symbols_of_code : List ℕ → List CurrencyRow → Option SymbolTexts
+symbols_of_code code [] = None
+symbols_of_code code (row ∷ rows) = if pointwise nat_eq code row.code then Some row.symbols else symbols_of_code code rows
+
+-- the rows of the first entry of a locale
+unfoldable pub rows_of_locale : List ℕ → List LocaleCurrencies → Option (List CurrencyRow)
+rows_of_locale locale [] = None
+rows_of_locale locale (e ∷ es) = if pointwise nat_eq locale e.locale then Some e.rows else rows_of_locale locale es

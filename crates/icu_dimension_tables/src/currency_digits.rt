@@ -1,0 +1,146 @@
+//! Entries of the digits of currencies.
+
+ghost use Rattle.std.specs.Prelude.{◌≡◌, IfOk};
+ghost use Rattle.std.specs.List.{filter_map};
+ghost use Rattle.serde_json.specs.View.{view};
+ghost use Rattle.icu_table_entries.specs.Reading.{Gives};
+ghost use Rattle.icu_dimension_tables.specs.CurrencyDigits.{code_or_default, currency_code_of, currency_digits_under, currency_in};
+ghost use Rattle.icu_dimension_tables.specs.CurrencyDigits.{default_digits, fraction_digits_of};
+
+use icu_dimension_data::{CurrencyCode, CurrencyDigits, CurrencyEntry, FractionDigits};
+use icu_provider::DataLocale;
+use icu_table_entries::entries::{EntryKind, optional_entries};
+use icu_table_entries::fields::{byte_in, text_in, triple_in};
+use icu_table_entries::{EntryFault, Key, Place, TableError};
+use serde_json::Value;
+use std::alloc::{AllocError, Global};
+
+/// The digits of a currency, or of all others.
+#[derive(Drop)]
+pub struct DigitsRow {
+    /// The currency's code; none for all others.
+    pub code: Option<CurrencyCode>,
+    /// The digits.
+    pub digits: FractionDigits,
+}
+
+/// The code of a currency.
+#[tactic(auto, unfolding(crate::specs::CurrencyDigits::currency_code_of))]
+pub fn currency_code_of(place: Place, text: &str) -> Result<CurrencyCode, TableError>
+    ensures { Gives (λ x. x) result (currency_code_of place text.now) }
+{
+    match CurrencyCode::try_from_str(text) {
+        Ok(code) => Ok(code),
+        Err(_) => Err(place.refusal(EntryFault::BadCurrencyCode)),
+    }
+}
+
+/// The code of a currency, or none for `DEFAULT`.
+#[tactic(auto, unfolding(crate::specs::CurrencyDigits::code_or_default))]
+fn code_or_default(place: Place, text: &str) -> Result<Option<CurrencyCode>, TableError>
+    ensures { Gives (λ x. x) result (code_or_default place text.now) }
+{
+    if text == "DEFAULT" {
+        return Ok(None);
+    }
+    Ok(Some(currency_code_of(place, text)?))
+}
+
+/// So many fraction digits, if they are 15 at most.
+#[tactic(auto, unfolding(crate::specs::CurrencyDigits::fraction_digits_of))]
+fn fraction_digits_of(place: Place, digits: u8) -> Result<u8, TableError>
+    ensures { Gives (λ x. x) result (fraction_digits_of place digits) }
+{
+    if digits > 15 {
+        return Err(place.refusal(EntryFault::TooManyDigits));
+    }
+    Ok(digits)
+}
+
+/// A row of the digits of currencies.
+pub struct DigitsRowEntry;
+
+impl EntryKind for DigitsRowEntry {
+    type Entry = DigitsRow;
+
+    ghost use Rattle.std.specs.Prelude.{true};
+    ghost use Rattle.icu_dimension_tables.specs.CurrencyDigits.{digits_row_at};
+
+    ghost read_at = { digits_row_at };
+
+    ghost serves = { λ locale entry. true };
+
+    #[tactic(auto, unfolding(crate::specs::CurrencyDigits::digits_row_at))]
+    fn from_entry(alloc: Global, place: Place, value: &Value) -> Result<Self::Entry, TableError> {
+        let (text, (standard, cash)) = triple_in(value, place.key)?;
+        let text = text_in(text, place.key)?;
+        let standard = byte_in(standard, place.key)?;
+        let cash = byte_in(cash, place.key)?;
+        let code = code_or_default(place, text)?;
+        let digits = FractionDigits {
+            standard: fraction_digits_of(place, standard)?,
+            cash: fraction_digits_of(place, cash)?,
+        };
+        Ok(DigitsRow { code, digits })
+    }
+
+    /// Digits are the same in each locale.
+    fn serves(_entry: &Self::Entry, _locale: &DataLocale) -> bool {
+        true
+    }
+}
+
+impl DigitsRow {
+    /// The currency with its digits, if the row is that of one currency.
+    fn currency(&self) -> Option<CurrencyEntry>
+        ensures { result ≡ currency_in self.now }
+    {
+        match self.code {
+            Some(code) => Some(CurrencyEntry {
+                code,
+                digits: self.digits,
+            }),
+            None => None,
+        }
+    }
+}
+
+/// The rows that are those of one currency.
+fn currencies(alloc: Global, rows: &[DigitsRow]) -> Result<Vec<CurrencyEntry>, AllocError>
+    ensures { IfOk result (λ v. v.items ≡ filter_map currency_in rows.now) }
+{
+    rows.iter().filter_map(|row| row.currency()).collect(alloc)
+}
+
+/// The digits of the first row for all others.
+#[tactic(auto, unfolding(crate::specs::CurrencyDigits::default_digits))]
+fn default_digits(rows: &[DigitsRow]) -> FractionDigits
+    ensures { result ≡ default_digits rows.now }
+{
+    for row in rows {
+        if row.code.is_none() {
+            return row.digits;
+        }
+    }
+    FractionDigits {
+        standard: 2,
+        cash: 2,
+    }
+}
+
+/// The digits of all currencies, if the document has their key.
+#[tactic(auto, unfolding(crate::specs::CurrencyDigits::currency_digits_under))]
+pub fn currency_digits_under(
+    alloc: Global,
+    value: &Value,
+) -> Result<Option<CurrencyDigits>, TableError>
+    ensures { Gives (λ x. x) result (currency_digits_under (view value.now)) }
+{
+    match optional_entries::<DigitsRowEntry>(alloc, value, Key::CurrencyDigits)? {
+        Some(rows) => {
+            let currencies = currencies(alloc, &rows)?;
+            Ok(Some(CurrencyDigits::new(currencies, default_digits(&rows))))
+        }
+        None => Ok(None),
+    }
+}

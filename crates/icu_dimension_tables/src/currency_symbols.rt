@@ -1,0 +1,168 @@
+//! Entries of the symbols of currencies.
+
+ghost use Rattle.std.specs.Prelude.{◌≡◌, Ok, map, option_map};
+ghost use Rattle.serde_json.specs.View.{view};
+ghost use Rattle.icu_provider.specs.Answer.{Answers};
+ghost use Rattle.icu_table_entries.specs.Reading.{Gives};
+ghost use Rattle.icu_dimension_tables.specs.CurrencySymbols.{currency_row_at, currency_rows_at, rows_of_locale, symbols_of_code};
+
+use crate::currency_digits::currency_code_of;
+use icu_dimension::provider::CurrencySymbols;
+use icu_dimension_data::CurrencyCode;
+use icu_provider::{DataError, DataErrorKind, DataLocale};
+use icu_table_entries::entries::EntryKind;
+use icu_table_entries::fields::{four_in, list_at, object_in, text_at, text_in};
+use icu_table_entries::named::locale_of;
+use icu_table_entries::texts::category_texts_in;
+use icu_table_entries::{Key, Place, TableError};
+use serde_json::Value;
+use std::alloc::Global;
+use std::marker::Model;
+
+/// The symbols of a currency.
+#[derive(Drop)]
+pub struct SymbolTexts {
+    short: String,
+    narrow: String,
+}
+
+impl Model for SymbolTexts {
+    ghost use Rattle.std.specs.String.{string_bytes};
+    ghost use Rattle.icu_dimension.specs.CurrencyData.{SymbolTexts as TextsOfSymbols};
+
+    ghost Value = { TextsOfSymbols };
+
+    ghost view = { λ s. record { short = string_bytes s.short; narrow = string_bytes s.narrow } };
+}
+
+impl SymbolTexts {
+    /// The symbols with memory of their own, as a formatter takes them.
+    pub fn copied(&self, alloc: Global) -> Result<CurrencySymbols, DataError>
+        ensures { Answers result (Ok self.now) }
+    {
+        match CurrencySymbols::new(alloc, self.short.as_str(), self.narrow.as_str()) {
+            Ok(symbols) => Ok(symbols),
+            Err(_) => Err(DataErrorKind::OutOfMemory.into()),
+        }
+    }
+}
+
+/// A currency with its symbols.
+#[derive(Drop)]
+pub struct CurrencyRow {
+    code: CurrencyCode,
+    symbols: SymbolTexts,
+}
+
+impl Model for CurrencyRow {
+    ghost use Rattle.icu_dimension_tables.specs.CurrencySymbols.{CurrencyRow as RowOfCurrency};
+
+    ghost Value = { RowOfCurrency };
+
+    ghost view = { λ r. record { code = r.code; symbols = r.symbols } };
+}
+
+/// The currencies of a locale.
+#[derive(Drop)]
+pub struct LocaleCurrencies {
+    locale: DataLocale,
+    rows: Vec<CurrencyRow>,
+}
+
+impl Model for LocaleCurrencies {
+    ghost use Rattle.icu_dimension_tables.specs.CurrencySymbols.{LocaleCurrencies as Currencies};
+
+    ghost Value = { Currencies };
+
+    ghost view = { λ c. record { locale = c.locale; rows = c.rows.items } };
+}
+
+/// The row of a list of four values.
+#[tactic(auto, unfolding(crate::specs::CurrencySymbols::currency_row_at))]
+fn currency_row_at(alloc: Global, place: Place, value: &Value) -> Result<CurrencyRow, TableError>
+    ensures { Gives (λ x. x) result (currency_row_at place (view value.now)) }
+{
+    let (code, (short, (narrow, names))) = four_in(value, Key::Symbols)?;
+    let code = text_in(code, Key::Symbols)?;
+    let short = text_in(short, Key::Symbols)?;
+    let narrow = text_in(narrow, Key::Symbols)?;
+    let _names = category_texts_in(names, Key::Symbols)?;
+    let code = currency_code_of(place, code)?;
+    let short = String::from_str(alloc, short)?;
+    let narrow = String::from_str(alloc, narrow)?;
+    let symbols = SymbolTexts { short, narrow };
+    Ok(CurrencyRow { code, symbols })
+}
+
+/// Each row in turn.
+fn currency_rows_at(
+    alloc: Global,
+    place: Place,
+    values: &[Value],
+) -> Result<Vec<CurrencyRow>, TableError>
+    ensures { Gives (λ v. v.items) result (currency_rows_at place (map view values.now)) }
+{
+    let mut found = Vec::new(alloc);
+    for index in 0..values.len() {
+        found.push(currency_row_at(alloc, place, &values[index])?)?;
+    }
+    Ok(found)
+}
+
+/// The symbols of the currencies of a locale.
+pub struct CurrencySymbolsEntry;
+
+impl EntryKind for CurrencySymbolsEntry {
+    type Entry = LocaleCurrencies;
+
+    ghost use Rattle.std.specs.Prelude.{nat_eq};
+    ghost use Rattle.std.specs.Cmp.Lexicographic.{pointwise};
+    ghost use Rattle.icu_dimension_tables.specs.CurrencySymbols.{currency_symbols_at};
+
+    ghost read_at = { currency_symbols_at };
+
+    ghost serves = { λ locale entry. pointwise nat_eq locale entry.locale };
+
+    #[tactic(auto, unfolding(crate::specs::CurrencySymbols::currency_symbols_at))]
+    fn from_entry(alloc: Global, place: Place, value: &Value) -> Result<Self::Entry, TableError> {
+        let value = object_in(value, place.key)?;
+        let locale = text_at(value, Key::Locale)?;
+        let values = list_at(value, Key::Symbols)?;
+        let locale = locale_of(place, locale)?;
+        let rows = currency_rows_at(alloc, place, values)?;
+        Ok(LocaleCurrencies { locale, rows })
+    }
+
+    fn serves(entry: &Self::Entry, locale: &DataLocale) -> bool {
+        *locale == entry.locale
+    }
+}
+
+/// The symbols of the first row of a currency.
+#[tactic(auto, unfolding(crate::specs::CurrencySymbols::symbols_of_code))]
+pub fn symbols_of_code<'a>(rows: &'a [CurrencyRow], code: &str) -> Option<&'a SymbolTexts>
+    ensures { option_map (λ x. x.now) result ≡ symbols_of_code code.now rows.now }
+{
+    for row in rows {
+        if code == row.code.as_str() {
+            return Some(&row.symbols);
+        }
+    }
+    None
+}
+
+/// The rows of the first entry of a locale.
+#[tactic(auto, unfolding(crate::specs::CurrencySymbols::rows_of_locale))]
+pub fn rows_of_locale<'a>(
+    entries: &'a [LocaleCurrencies],
+    locale: &str,
+) -> Option<&'a [CurrencyRow]>
+    ensures { option_map (λ x. x.now) result ≡ rows_of_locale locale.now entries.now }
+{
+    for entry in entries {
+        if locale == entry.locale.as_str() {
+            return Some(entry.rows.as_slice());
+        }
+    }
+    None
+}

@@ -1,0 +1,216 @@
+//! Entries of the patterns of money.
+
+ghost use Rattle.std.specs.Prelude.{◌≡◌, Ok, IfOk, false, chars};
+ghost use Rattle.serde_json.specs.View.{view};
+ghost use Rattle.icu_provider.specs.Answer.{Answers};
+ghost use Rattle.icu_table_entries.specs.Reading.{Gives};
+ghost use Rattle.icu_dimension_tables.specs.Money.{money_pattern_of, money_patterns_of, money_texts_at, names_at, symbol_in_each, symbol_step};
+
+use crate::number_patterns::number_pattern_of;
+use icu_dimension::provider::CurrencyPatterns;
+use icu_dimension_data::CldrPattern;
+use icu_provider::{DataError, DataErrorKind, DataLocale};
+use icu_table_entries::entries::EntryKind;
+use icu_table_entries::fields::{member_at, object_in, optional_text_at, text_at};
+use icu_table_entries::named::{NamedEntry, name_of};
+use icu_table_entries::texts::{Texts, category_texts_in};
+use icu_table_entries::{EntryFault, Key, Place, TableError};
+use serde_json::Value;
+use std::alloc::{AllocError, Global};
+use std::marker::Model;
+
+/// The patterns of money of a locale, with the texts of its signs.
+#[derive(Drop)]
+pub struct MoneyPatterns {
+    standard: CldrPattern,
+    accounting: CldrPattern,
+    minus_sign: String,
+    plus_sign: String,
+}
+
+impl Model for MoneyPatterns {
+    ghost use Rattle.std.specs.String.{string_bytes};
+    ghost use Rattle.icu_dimension.specs.CurrencyData.{MoneyPatterns as PatternsOfMoney};
+
+    ghost Value = { PatternsOfMoney };
+
+    ghost view = { λ p. record {
+      standard = p.standard;
+      accounting = p.accounting;
+      minus_sign = string_bytes p.minus_sign;
+      plus_sign = string_bytes p.plus_sign;
+    } };
+}
+
+impl MoneyPatterns {
+    /// The patterns with memory of their own, as a formatter takes them.
+    fn given(&self, alloc: Global) -> Result<CurrencyPatterns, AllocError>
+        ensures { IfOk result (λ p. p ≡ self.now) }
+    {
+        let standard = self.standard.copy(alloc)?;
+        let accounting = self.accounting.copy(alloc)?;
+        let minus_sign = self.minus_sign.as_str();
+        CurrencyPatterns::new(
+            alloc,
+            standard,
+            accounting,
+            minus_sign,
+            self.plus_sign.as_str(),
+        )
+    }
+
+    /// The same, as a provider answers.
+    pub fn copied(&self, alloc: Global) -> Result<CurrencyPatterns, DataError>
+        ensures { Answers result (Ok self.now) }
+    {
+        match self.given(alloc) {
+            Ok(patterns) => Ok(patterns),
+            Err(_) => Err(DataErrorKind::OutOfMemory.into()),
+        }
+    }
+}
+
+/// The characters of a text.
+fn characters(alloc: Global, text: &str) -> Result<Vec<char>, AllocError>
+    ensures { IfOk result (λ v. v.items ≡ chars text.now) }
+{
+    text.chars().collect(alloc)
+}
+
+/// What a character changes of whether it stands in a quote, and whether the currency's symbol
+/// stood in the subpattern so far; none where a subpattern ends without it.
+fn symbol_step(is_quoted: bool, is_seen: bool, character: char) -> Option<(bool, bool)>
+    ensures { result ≡ symbol_step is_quoted is_seen character }
+{
+    match character {
+        '\'' => Some((!is_quoted, is_seen)),
+        _ if is_quoted => Some((true, is_seen)),
+        '\u{a4}' => Some((false, true)),
+        ';' if is_seen => Some((false, false)),
+        ';' => None,
+        _ => Some((false, is_seen)),
+    }
+}
+
+/// Whether the currency's symbol has its place in each subpattern of a pattern.
+#[tactic(auto, unfolding(crate::specs::Money::symbol_in_each))]
+fn symbol_in_each(characters: &[char]) -> bool
+    ensures { result ≡ symbol_in_each false false characters.now }
+{
+    let mut state = (false, false);
+    for character in characters {
+        match symbol_step(state.0, state.1, *character) {
+            Some(next) => state = next,
+            None => return false,
+        }
+    }
+    state.1
+}
+
+/// The pattern of a text that has the symbol's place in each subpattern.
+#[tactic(auto, unfolding(crate::specs::Money::money_pattern_of))]
+fn money_pattern_of(alloc: Global, place: Place, text: &str) -> Result<CldrPattern, TableError>
+    ensures { Gives (λ x. x) result (money_pattern_of place text.now) }
+{
+    let pattern = number_pattern_of(alloc, place, text)?;
+    if symbol_in_each(&characters(alloc, text)?) {
+        Ok(pattern)
+    } else {
+        Err(place.refusal(EntryFault::NoSymbolPlace))
+    }
+}
+
+/// The texts of the patterns and of the signs, not yet judged.
+#[derive(Drop)]
+struct MoneyTexts<'a> {
+    standard: &'a str,
+    accounting: &'a str,
+    minus_sign: &'a str,
+    plus_sign: &'a str,
+}
+
+impl<'a> Model for MoneyTexts<'a> {
+    ghost use Rattle.icu_dimension_tables.specs.Money.{MoneyTexts as TextsOfMoney};
+
+    ghost Value = { TextsOfMoney };
+
+    ghost view = { λ t. record {
+      standard = t.standard.now;
+      accounting = t.accounting.now;
+      minus_sign = t.minus_sign.now;
+      plus_sign = t.plus_sign.now;
+    } };
+}
+
+/// The four texts of an entry.
+#[tactic(auto, unfolding(crate::specs::Money::money_texts_at))]
+fn money_texts_at(value: &Value) -> Result<MoneyTexts<'_>, TableError>
+    ensures { Gives (λ x. x) result (money_texts_at (view value.now)) }
+{
+    Ok(MoneyTexts {
+        standard: text_at(value, Key::Standard)?,
+        accounting: text_at(value, Key::Accounting)?,
+        minus_sign: text_at(value, Key::Minus)?,
+        plus_sign: text_at(value, Key::Plus)?,
+    })
+}
+
+/// The patterns of these texts.
+#[tactic(auto, unfolding(crate::specs::Money::money_patterns_of))]
+fn money_patterns_of(
+    alloc: Global,
+    place: Place,
+    texts: &MoneyTexts<'_>,
+) -> Result<MoneyPatterns, TableError>
+    ensures { Gives (λ x. x) result (money_patterns_of place texts.now) }
+{
+    let standard = money_pattern_of(alloc, place, texts.standard)?;
+    let accounting = money_pattern_of(alloc, place, texts.accounting)?;
+    let minus_sign = String::from_str(alloc, texts.minus_sign)?;
+    let plus_sign = String::from_str(alloc, texts.plus_sign)?;
+    Ok(MoneyPatterns {
+        standard,
+        accounting,
+        minus_sign,
+        plus_sign,
+    })
+}
+
+/// How amounts stand with the name of their currency, by plural category. Only the kinds of the
+/// texts are judged.
+#[tactic(auto, unfolding(crate::specs::Money::names_at))]
+fn names_at(value: &Value) -> Result<Texts<'_>, TableError>
+    ensures { Gives (λ x. x) result (names_at (view value.now)) }
+{
+    category_texts_in(member_at(value, Key::Names)?, Key::Names)
+}
+
+/// Patterns of money under their name.
+pub struct CurrenciesEntry;
+
+impl EntryKind for CurrenciesEntry {
+    type Entry = NamedEntry<MoneyPatterns>;
+
+    ghost use Rattle.icu_dimension_tables.specs.Money.{currencies_at};
+    ghost use Rattle.icu_table_entries.specs.Named.{is_of};
+
+    ghost read_at = { currencies_at };
+
+    ghost serves = { is_of };
+
+    #[tactic(auto, unfolding(crate::specs::Money::currencies_at))]
+    fn from_entry(alloc: Global, place: Place, value: &Value) -> Result<Self::Entry, TableError> {
+        let value = object_in(value, place.key)?;
+        let locale = text_at(value, Key::Locale)?;
+        let system = optional_text_at(value, Key::System)?;
+        let texts = money_texts_at(value)?;
+        let _names = names_at(value)?;
+        let name = name_of(place, locale, system)?;
+        let content = money_patterns_of(alloc, place, &texts)?;
+        Ok(NamedEntry { name, content })
+    }
+
+    fn serves(entry: &Self::Entry, locale: &DataLocale) -> bool {
+        entry.name.is_of(locale)
+    }
+}

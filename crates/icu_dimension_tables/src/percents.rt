@@ -1,0 +1,60 @@
+//! Entries of percents.
+
+ghost use Rattle.serde_json.specs.View.{view};
+ghost use Rattle.icu_dimension_data.specs.Given.{texts_given};
+ghost use Rattle.icu_table_entries.specs.Reading.{Gives};
+ghost use Rattle.icu_dimension_tables.specs.Percents.{percent_texts_at};
+
+use crate::number_patterns::number_pattern_of;
+use icu_dimension_data::{AffixTexts, SignedPatterns};
+use icu_provider::DataLocale;
+use icu_table_entries::entries::EntryKind;
+use icu_table_entries::fields::{object_in, optional_text_at, text_at};
+use icu_table_entries::named::{NamedEntry, name_of};
+use icu_table_entries::{Key, Place, TableError};
+use serde_json::Value;
+use std::alloc::Global;
+
+/// The texts of the signs and of the percent sign.
+#[tactic(auto, unfolding(crate::specs::Percents::percent_texts_at))]
+fn percent_texts_at(value: &Value) -> Result<AffixTexts<'_>, TableError>
+    ensures { Gives texts_given result (percent_texts_at (view value.now)) }
+{
+    Ok(AffixTexts {
+        minus_sign: text_at(value, Key::Minus)?,
+        plus_sign: text_at(value, Key::Plus)?,
+        percent_sign: text_at(value, Key::Percent)?,
+        currency: "",
+    })
+}
+
+/// Patterns of percents under their name.
+pub struct PercentsEntry;
+
+impl EntryKind for PercentsEntry {
+    type Entry = NamedEntry<SignedPatterns>;
+
+    ghost use Rattle.icu_dimension_tables.specs.Percents.{percents_at};
+    ghost use Rattle.icu_table_entries.specs.Named.{is_of};
+
+    ghost read_at = { percents_at };
+
+    ghost serves = { is_of };
+
+    #[tactic(auto, unfolding(crate::specs::Percents::percents_at))]
+    fn from_entry(alloc: Global, place: Place, value: &Value) -> Result<Self::Entry, TableError> {
+        let value = object_in(value, place.key)?;
+        let locale = text_at(value, Key::Locale)?;
+        let system = optional_text_at(value, Key::System)?;
+        let text = text_at(value, Key::Pattern)?;
+        let texts = percent_texts_at(value)?;
+        let name = name_of(place, locale, system)?;
+        let pattern = number_pattern_of(alloc, place, text)?;
+        let content = pattern.resolve(alloc, &texts)?;
+        Ok(NamedEntry { name, content })
+    }
+
+    fn serves(entry: &Self::Entry, locale: &DataLocale) -> bool {
+        entry.name.is_of(locale)
+    }
+}

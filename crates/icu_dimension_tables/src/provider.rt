@@ -1,0 +1,243 @@
+//! Tables of money, percents and units as a provider.
+
+ghost use Rattle.std.specs.Prelude.{◌≡◌, Ok, option_map};
+ghost use Rattle.icu_provider.specs.Answer.{Answers};
+ghost use Rattle.icu_provider.specs.Identifier.{identifier_of};
+ghost use Rattle.icu_table_entries.specs.Answering.{optional_answer};
+ghost use Rattle.icu_dimension_tables.specs.Answering.{symbols_in, unit_answer};
+
+use crate::copying::patterns_copy;
+use crate::currency_symbols::{CurrencyRow, SymbolTexts, rows_of_locale, symbols_of_code};
+use crate::tables::DimensionTables;
+use crate::units::{UnitPatterns, UnitWidth, first_unit};
+use icu_decimal_data::DecimalSymbols;
+use icu_dimension::provider::{
+    CurrencyDecimalSymbolsV1, CurrencyDigitsV1, CurrencyPatterns, CurrencyPatternsV1,
+    CurrencySymbols, CurrencySymbolsV1, PercentPatternsV1, UnitsLongV1, UnitsNarrowV1,
+    UnitsShortV1,
+};
+use icu_dimension_data::{CurrencyDigits, SignedPatterns};
+use icu_provider::{
+    DataError, DataErrorKind, DataIdentifierBorrowed, DataLocale, DataProvider, DataRequest,
+};
+use icu_table_entries::named::{NamedEntry, first_filed};
+use icu_table_entries::texts::Patterns;
+use std::alloc::Global;
+
+/// Data that is copied for each answer.
+trait Copied: Sized {
+    /// An equal value with memory of its own.
+    fn copied(&self, alloc: Global) -> Result<Self, DataError>
+        ensures { Answers result (Ok self.now) };
+}
+
+impl Copied for CurrencyDigits {
+    fn copied(&self, alloc: Global) -> Result<Self, DataError> {
+        match self.copy(alloc) {
+            Ok(digits) => Ok(digits),
+            Err(_) => Err(DataErrorKind::OutOfMemory.into()),
+        }
+    }
+}
+
+impl Copied for SignedPatterns {
+    fn copied(&self, alloc: Global) -> Result<Self, DataError> {
+        match self.copy(alloc) {
+            Ok(patterns) => Ok(patterns),
+            Err(_) => Err(DataErrorKind::OutOfMemory.into()),
+        }
+    }
+}
+
+impl Copied for DecimalSymbols {
+    fn copied(&self, alloc: Global) -> Result<Self, DataError> {
+        match self.copy(alloc) {
+            Ok(symbols) => Ok(symbols),
+            Err(_) => Err(DataErrorKind::OutOfMemory.into()),
+        }
+    }
+}
+
+impl Copied for Patterns {
+    fn copied(&self, alloc: Global) -> Result<Self, DataError> {
+        match patterns_copy(alloc, self) {
+            Ok(patterns) => Ok(patterns),
+            Err(_) => Err(DataErrorKind::OutOfMemory.into()),
+        }
+    }
+}
+
+/// A copy of the first entry with the identifier, under a key that may be absent.
+fn load_optional<T: Copied>(
+    alloc: Global,
+    entries: &Option<Vec<NamedEntry<T>>>,
+    id: &DataIdentifierBorrowed<'_>,
+) -> Result<T, DataError>
+    ensures { Answers result (optional_answer (option_map (λ v. v.items) entries.now)
+        (identifier_of id.now)) }
+{
+    let Some(entries) = entries else {
+        return Err(DataErrorKind::MarkerNotFound.into());
+    };
+    match first_filed(entries, id) {
+        Some(content) => content.copied(alloc),
+        None => Err(DataErrorKind::IdentifierNotFound.into()),
+    }
+}
+
+/// A copy of the patterns of the first entry of a width with the identifier.
+fn load_unit(
+    alloc: Global,
+    entries: &Option<Vec<UnitPatterns>>,
+    width: UnitWidth,
+    id: &DataIdentifierBorrowed<'_>,
+) -> Result<Patterns, DataError>
+    ensures { Answers result (unit_answer width (option_map (λ v. v.items) entries.now)
+        (identifier_of id.now)) }
+{
+    let Some(entries) = entries else {
+        return Err(DataErrorKind::MarkerNotFound.into());
+    };
+    match first_unit(entries, width, id) {
+        Some(patterns) => patterns.copied(alloc),
+        None => Err(DataErrorKind::IdentifierNotFound.into()),
+    }
+}
+
+impl DataProvider<CurrencyDigitsV1> for DimensionTables {
+    ghost use Rattle.icu_dimension_tables.specs.Answering.{digits_answer};
+
+    ghost answer = { λ tables id. digits_answer tables.digits id };
+
+    /// A copy of the digits of `currency_digits`, for the undetermined locale without a system.
+    fn load(&self, alloc: Global, request: &DataRequest<'_>) -> Result<CurrencyDigits, DataError> {
+        let Some(digits) = &self.digits else {
+            return Err(DataErrorKind::MarkerNotFound.into());
+        };
+        if request.id == DataIdentifierBorrowed::for_locale(&DataLocale::default()) {
+            digits.copied(alloc)
+        } else {
+            Err(DataErrorKind::IdentifierNotFound.into())
+        }
+    }
+}
+
+impl DataProvider<PercentPatternsV1> for DimensionTables {
+    ghost use Rattle.icu_table_entries.specs.Answering.{optional_answer};
+
+    ghost answer = { λ tables id. optional_answer tables.percents id };
+
+    /// A copy of the first entry of `percents` with the identifier's locale and numbering system,
+    /// or none.
+    fn load(&self, alloc: Global, request: &DataRequest<'_>) -> Result<SignedPatterns, DataError> {
+        load_optional(alloc, &self.percents, &request.id)
+    }
+}
+
+impl DataProvider<UnitsLongV1> for DimensionTables {
+    ghost use Rattle.icu_dimension_tables.specs.Answering.{unit_answer};
+    ghost use Rattle.icu_dimension_tables.specs.declared.units.UnitWidth.TheVariants.{Long};
+
+    ghost answer = { λ tables id. unit_answer Long tables.units id };
+
+    /// A copy of the patterns of the first entry of `units` with the width `long`, the identifier's
+    /// locale and, as its system, the unit.
+    fn load(&self, alloc: Global, request: &DataRequest<'_>) -> Result<Patterns, DataError> {
+        load_unit(alloc, &self.units, UnitWidth::Long, &request.id)
+    }
+}
+
+impl DataProvider<UnitsShortV1> for DimensionTables {
+    ghost use Rattle.icu_dimension_tables.specs.Answering.{unit_answer};
+    ghost use Rattle.icu_dimension_tables.specs.declared.units.UnitWidth.TheVariants.{Short};
+
+    ghost answer = { λ tables id. unit_answer Short tables.units id };
+
+    /// The same with the width `short`.
+    fn load(&self, alloc: Global, request: &DataRequest<'_>) -> Result<Patterns, DataError> {
+        load_unit(alloc, &self.units, UnitWidth::Short, &request.id)
+    }
+}
+
+impl DataProvider<UnitsNarrowV1> for DimensionTables {
+    ghost use Rattle.icu_dimension_tables.specs.Answering.{unit_answer};
+    ghost use Rattle.icu_dimension_tables.specs.declared.units.UnitWidth.TheVariants.{Narrow};
+
+    ghost answer = { λ tables id. unit_answer Narrow tables.units id };
+
+    /// The same with the width `narrow`.
+    fn load(&self, alloc: Global, request: &DataRequest<'_>) -> Result<Patterns, DataError> {
+        load_unit(alloc, &self.units, UnitWidth::Narrow, &request.id)
+    }
+}
+
+impl DataProvider<CurrencyPatternsV1> for DimensionTables {
+    ghost use Rattle.icu_table_entries.specs.Answering.{optional_answer};
+
+    ghost answer = { λ tables id. optional_answer tables.currencies id };
+
+    /// A copy of the first entry of `currencies` with the identifier's locale and numbering system,
+    /// or none.
+    fn load(
+        &self,
+        alloc: Global,
+        request: &DataRequest<'_>,
+    ) -> Result<CurrencyPatterns, DataError> {
+        let Some(entries) = &self.currencies else {
+            return Err(DataErrorKind::MarkerNotFound.into());
+        };
+        match first_filed(entries, &request.id) {
+            Some(patterns) => patterns.copied(alloc),
+            None => Err(DataErrorKind::IdentifierNotFound.into()),
+        }
+    }
+}
+
+/// The symbols of the currency that is named, in the rows of a locale.
+fn symbols_in<'a>(rows: Option<&'a [CurrencyRow]>, code: Option<&str>) -> Option<&'a SymbolTexts>
+    ensures { option_map (λ x. x.now) result
+        ≡ symbols_in (option_map (λ r. r.now) rows.entry) (option_map (λ c. c.now) code.entry) }
+{
+    match (rows, code) {
+        (Some(rows), Some(code)) => symbols_of_code(rows, code),
+        _ => None,
+    }
+}
+
+impl DataProvider<CurrencySymbolsV1> for DimensionTables {
+    ghost use Rattle.icu_dimension_tables.specs.Answering.{symbols_answer};
+
+    ghost answer = { λ tables id. symbols_answer tables.symbols id };
+
+    /// A copy of the symbols of the first row with the currency's code, the identifier's system, in
+    /// the first entry of `currency_symbols` with the identifier's locale.
+    fn load(&self, alloc: Global, request: &DataRequest<'_>) -> Result<CurrencySymbols, DataError> {
+        let Some(entries) = &self.symbols else {
+            return Err(DataErrorKind::MarkerNotFound.into());
+        };
+        let rows = rows_of_locale(entries, request.id.locale());
+        match symbols_in(rows, request.id.system()) {
+            Some(symbols) => symbols.copied(alloc),
+            None => Err(DataErrorKind::IdentifierNotFound.into()),
+        }
+    }
+}
+
+impl DataProvider<CurrencyDecimalSymbolsV1> for DimensionTables {
+    ghost use Rattle.icu_dimension_tables.specs.Answering.{decimals_answer};
+
+    ghost answer = { λ tables id. decimals_answer tables.decimals id };
+
+    /// A copy of the first entry of `currency_decimals` with the identifier's locale and numbering
+    /// system, or none, which also an absent key says.
+    fn load(&self, alloc: Global, request: &DataRequest<'_>) -> Result<DecimalSymbols, DataError> {
+        let found = match &self.decimals {
+            Some(entries) => first_filed(entries, &request.id),
+            None => None,
+        };
+        match found {
+            Some(symbols) => symbols.copied(alloc),
+            None => Err(DataErrorKind::IdentifierNotFound.into()),
+        }
+    }
+}

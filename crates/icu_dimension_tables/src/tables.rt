@@ -1,0 +1,84 @@
+//! Whole documents.
+
+ghost use Rattle.serde_json.specs.View.{view};
+ghost use Rattle.icu_table_entries.specs.Reading.{Gives};
+ghost use Rattle.icu_dimension_tables.specs.DimensionTables.{dimension_tables_at, dimension_tables_of};
+
+use crate::currency_digits::currency_digits_under;
+use crate::currency_symbols::{CurrencySymbolsEntry, LocaleCurrencies};
+use crate::money::{CurrenciesEntry, MoneyPatterns};
+use crate::percents::PercentsEntry;
+use crate::units::{UnitEntry, UnitPatterns};
+use icu_decimal_data::DecimalSymbols;
+use icu_dimension_data::{CurrencyDigits, SignedPatterns};
+use icu_table_entries::entries::optional_entries;
+use icu_table_entries::fields::object_in;
+use icu_table_entries::named::NamedEntry;
+use icu_table_entries::whole_numbers::value_of;
+use icu_table_entries::{Key, TableError};
+use icu_tables::symbols::SymbolsEntry;
+use serde_json::Value;
+use std::alloc::Global;
+use std::marker::Model;
+
+/// The data of formatters of money, percents and units, read from a JSON document (this project's
+/// own format, `docs/FORMATS.md`).
+#[derive(Drop)]
+pub struct DimensionTables {
+    pub(crate) digits: Option<CurrencyDigits>,
+    pub(crate) percents: Option<Vec<NamedEntry<SignedPatterns>>>,
+    pub(crate) units: Option<Vec<UnitPatterns>>,
+    pub(crate) currencies: Option<Vec<NamedEntry<MoneyPatterns>>>,
+    pub(crate) symbols: Option<Vec<LocaleCurrencies>>,
+    pub(crate) decimals: Option<Vec<NamedEntry<DecimalSymbols>>>,
+}
+
+impl Model for DimensionTables {
+    ghost use Rattle.std.specs.Prelude.{option_map};
+    ghost use Rattle.icu_dimension_tables.specs.DimensionTables.{DimensionData};
+
+    ghost Value = { DimensionData };
+
+    ghost view = { λ t. record {
+      digits = t.digits;
+      percents = option_map (λ v. v.items) t.percents;
+      units = option_map (λ v. v.items) t.units;
+      currencies = option_map (λ v. v.items) t.currencies;
+      symbols = option_map (λ v. v.items) t.symbols;
+      decimals = option_map (λ v. v.items) t.decimals;
+    } };
+}
+
+/// The tables of a value, key by key.
+#[tactic(auto, unfolding(crate::specs::DimensionTables::dimension_tables_at))]
+fn dimension_tables_at(alloc: Global, value: &Value) -> Result<DimensionTables, TableError>
+    ensures { Gives (λ x. x) result (dimension_tables_at (view value.now)) }
+{
+    let value = object_in(value, Key::Document)?;
+    Ok(DimensionTables {
+        digits: currency_digits_under(alloc, value)?,
+        percents: optional_entries::<PercentsEntry>(alloc, value, Key::Percents)?,
+        units: optional_entries::<UnitEntry>(alloc, value, Key::Units)?,
+        currencies: optional_entries::<CurrenciesEntry>(alloc, value, Key::Currencies)?,
+        symbols: optional_entries::<CurrencySymbolsEntry>(alloc, value, Key::CurrencySymbols)?,
+        decimals: optional_entries::<SymbolsEntry>(alloc, value, Key::CurrencyDecimals)?,
+    })
+}
+
+impl DimensionTables {
+    /// The tables of a JSON text, or its first fault.
+    ///
+    /// A text that isn't JSON is refused first, then a value that has a number anywhere that isn't
+    /// a 64-bit whole number. Then keys are judged in the order `currency_digits`, `percents`,
+    /// `units`, `currencies`, `currency_symbols`, `currency_decimals`, and each list entry by
+    /// entry. In an entry the kinds of all fields are judged before their contents; the rows of
+    /// `currency_symbols` come last, one after the other. Each key may be absent; unknown keys are
+    /// ignored, and of equal keys the last one counts.
+    #[tactic(auto, unfolding(crate::specs::DimensionTables::dimension_tables_of))]
+    pub fn from_json(alloc: Global, text: &str) -> Result<DimensionTables, TableError>
+        ensures { Gives (λ x. x) result (dimension_tables_of text.now) }
+    {
+        let value = value_of(alloc, text)?;
+        dimension_tables_at(alloc, &value)
+    }
+}

@@ -1,0 +1,13 @@
+//! The tests of icu_dimension_tables' public calls; the library itself offers nothing.
+#![tactic(auto)]
+
+#[cfg(test)]
+mod answers;
+#[cfg(test)]
+mod both;
+#[cfg(test)]
+mod documents;
+#[cfg(test)]
+mod large;
+#[cfg(test)]
+mod written;
