@@ -49,7 +49,8 @@ impl DataProvider<PluralsCardinalV1> for Both {
 }
 
 impl DataProvider<CurrencyDigitsV1> for Both {
-    ghost answer = { λ b. ⟦<DimensionTables as DataProvider<CurrencyDigitsV1>>⟧.answer b.dimension };
+    ghost answer = { λ b.
+        ⟦<DimensionTables as DataProvider<CurrencyDigitsV1>>⟧.answer b.dimension };
 
     fn load(&self, alloc: Global, request: &DataRequest<'_>) -> Result<CurrencyDigits, DataError> {
         <DimensionTables as DataProvider<CurrencyDigitsV1>>::load(&self.dimension, alloc, request)
@@ -57,7 +58,8 @@ impl DataProvider<CurrencyDigitsV1> for Both {
 }
 
 impl DataProvider<PercentPatternsV1> for Both {
-    ghost answer = { λ b. ⟦<DimensionTables as DataProvider<PercentPatternsV1>>⟧.answer b.dimension };
+    ghost answer = { λ b.
+        ⟦<DimensionTables as DataProvider<PercentPatternsV1>>⟧.answer b.dimension };
 
     fn load(&self, alloc: Global, request: &DataRequest<'_>) -> Result<SignedPatterns, DataError> {
         <DimensionTables as DataProvider<PercentPatternsV1>>::load(&self.dimension, alloc, request)
@@ -89,7 +91,8 @@ impl DataProvider<UnitsNarrowV1> for Both {
 }
 
 impl DataProvider<CurrencyPatternsV1> for Both {
-    ghost answer = { λ b. ⟦<DimensionTables as DataProvider<CurrencyPatternsV1>>⟧.answer b.dimension };
+    ghost answer = { λ b.
+        ⟦<DimensionTables as DataProvider<CurrencyPatternsV1>>⟧.answer b.dimension };
 
     fn load(
         &self,
@@ -101,7 +104,8 @@ impl DataProvider<CurrencyPatternsV1> for Both {
 }
 
 impl DataProvider<CurrencySymbolsV1> for Both {
-    ghost answer = { λ b. ⟦<DimensionTables as DataProvider<CurrencySymbolsV1>>⟧.answer b.dimension };
+    ghost answer = { λ b.
+        ⟦<DimensionTables as DataProvider<CurrencySymbolsV1>>⟧.answer b.dimension };
 
     fn load(&self, alloc: Global, request: &DataRequest<'_>) -> Result<CurrencySymbols, DataError> {
         <DimensionTables as DataProvider<CurrencySymbolsV1>>::load(&self.dimension, alloc, request)
@@ -109,7 +113,8 @@ impl DataProvider<CurrencySymbolsV1> for Both {
 }
 
 impl DataProvider<CurrencyDecimalSymbolsV1> for Both {
-    ghost answer = { λ b. ⟦<DimensionTables as DataProvider<CurrencyDecimalSymbolsV1>>⟧.answer b.dimension };
+    ghost answer = { λ b.
+        ⟦<DimensionTables as DataProvider<CurrencyDecimalSymbolsV1>>⟧.answer b.dimension };
 
     fn load(&self, alloc: Global, request: &DataRequest<'_>) -> Result<DecimalSymbols, DataError> {
         <DimensionTables as DataProvider<CurrencyDecimalSymbolsV1>>::load(
