@@ -18,7 +18,7 @@ usage: tests/docs.py [--write]
 - The text in crates/sample_tables is that of tables/sample.json, byte for byte; the languages of icu_decimal_tests, whose
   tables are maps in code, have the patterns and plural rules of that file.
 - crates.txt has each crate under a heading, and the page of each crate says in a line `Tests: ..` where its tests stand.
-- No line of specs/ and proofs/ is wider than 160 columns, and none of a clause than 100.
+- No line of specs/ and proofs/ is longer than 160 bytes, and none of a clause than 100 characters.
 - Each command that README.md and the page of tour show behind `$` gives the output below it, also on a terminal at which
   nobody types; those of README that build the program and run it have their input from a pipe or a file. README's first
   command, which builds the program unproved, writes what stands below it, and its commands by a release of CLDR, where
@@ -436,10 +436,11 @@ def is_code(line):
 def judge_widths():
     """Lines that are wider than a page."""
     for crate in edits.USES:
-        lines = [(path, line, 160) for path in found(f"crates/{crate}/specs/**/*.antt") + found(f"crates/{crate}/proofs/**/*.antt")
+        lines = [(path, line, len(line.encode()), 160)
+                 for path in found(f"crates/{crate}/specs/**/*.antt") + found(f"crates/{crate}/proofs/**/*.antt")
                  for line in read(path).splitlines()]
-        lines += [(path, line, 100) for path in found(f"crates/{crate}/src/**/*.rt") for line in filter(is_code, read(path).splitlines())]
-        wide = [f"{path}: {line.strip()[:60]}" for path, line, columns in lines if len(line) > columns]
+        lines += [(path, line, len(line), 100) for path in found(f"crates/{crate}/src/**/*.rt") for line in filter(is_code, read(path).splitlines())]
+        wide = [f"{path}: {line.strip()[:60]}" for path, line, width, most in lines if width > most]
         judge(not wide, f"crates/{crate}: {len(wide)} lines are too wide:", "; ".join(wide[:5]))
 
 

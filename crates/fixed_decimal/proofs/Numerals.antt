@@ -87,7 +87,8 @@ begins_unsigned n (b ∷ bs) aa is x xs e =
     (omega arith, omega arith)
 
 -- a text is a sign and what begins with no sign in one way at most
-same_signed : (s s' : Sign) (n n' : List ℕ) → BeginsUnsigned n → BeginsUnsigned n' → sign_text s ++ n ≡ sign_text s' ++ n' → (s ≡ s') × (n ≡ n')
+same_signed : (s s' : Sign) (n n' : List ℕ) → BeginsUnsigned n → BeginsUnsigned n' → sign_text s ++ n ≡ sign_text s' ++ n'
+    → (s ≡ s') × (n ≡ n')
 same_signed None None n n' h h' e = (refl, e)
 same_signed None Negative n n' h h' e = absurd ((h 45 n' e).1 refl)
 same_signed None Positive n n' h h' e = absurd ((h 43 n' e).0 refl)

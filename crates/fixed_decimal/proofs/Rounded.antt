@@ -139,9 +139,11 @@ module _ (ds : List ℕ) (s : ℕ) (p : ℤ) (is : IsUnsigned (record { digits =
         let l : length (take kept ds) ≡ kept = length-take-le kept ds within in
         let l' : length (take kept ds ++ replicate n 0) ≡ kept + n =
         omega (arith, length-append (take kept ds) (replicate n 0), length-replicate {A = ℕ} n 0) in
-        let valid = valid_of (take kept ds) n (All-take (λ d. d < 10) kept ds is.below_ten) (omega (arith, is.integer_some)) (omega (arith, is.high_limit)) in (
+        let valid = valid_of (take kept ds) n
+        (All-take (λ d. d < 10) kept ds is.below_ten) (omega (arith, is.integer_some)) (omega (arith, is.high_limit)) in (
           valid,
-          rounded_within (record { digits = ds; scale = s }) (record { digits = take kept ds ++ replicate n 0; scale = scale_at p }) p is valid refl
+          rounded_within (record { digits = ds; scale = s }) (record { digits = take kept ds ++ replicate n 0; scale = scale_at p })
+              p is valid refl
               (omega (arith, ints, clamps, power_is p, is.integer_some))
               (down ds s (length ds - s) kept n (scale_at p) (place p) len fine fine' at_place keep within half),
         )

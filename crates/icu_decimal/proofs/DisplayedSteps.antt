@@ -112,7 +112,8 @@ module _ {table : List TableEntry} {d : Unsigned} {e : ℕ} {power : ℤ} {o : O
             let same : n ≡ exponent_of (entry_for table (magnitude_place y)) = is ∙ ap exponent_of entry_reached in
             go (exponent_le_magnitude table (magnitude_place y) t) same least
           where
-            go : (exponent_of (entry_for table (magnitude_place y)) ≡ 0) ⊎ (exponent_of (entry_for table (magnitude_place y)) + finest ≤ magnitude_place y) →
+            go : (exponent_of (entry_for table (magnitude_place y)) ≡ 0)
+                ⊎ (exponent_of (entry_for table (magnitude_place y)) + finest ≤ magnitude_place y) →
                 n ≡ exponent_of (entry_for table (magnitude_place y)) → finest ≤ magnitude_place y → pos n ≤ℤ to
             go (inl none) same least = omega (arith, ints)
             go (inr above) same least = omega (arith, ints)

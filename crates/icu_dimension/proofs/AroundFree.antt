@@ -86,7 +86,8 @@ module _ (digits : List ℕ) where
       (with_plus_free (minus_affixes p) (minus_affixes_free p h)) (led_free PlusSign p.first tt h.first_free)
 
   -- a space beside the symbol is no digit
-  spaced_free : ¬ (Contains digits 160) → (currency : List ℕ) (a : Affixes) → AffixesHaveNoDigit digits a → AffixesHaveNoDigit digits (spaced currency a)
+  spaced_free : ¬ (Contains digits 160) → (currency : List ℕ) (a : Affixes) → AffixesHaveNoDigit digits a
+      → AffixesHaveNoDigit digits (spaced currency a)
   spaced_free apart currency a h = record {
     before_free = either_free (is_symbol (slice_get a.before (length a.before - 1)) && needs_space (last_character currency))
         (a.before ++ no_break_space ∷ []) a.before

@@ -39,7 +39,8 @@ PlaceholderFits-without p h = go p.literal p.placeholder h
     go literal (Some k) h = absurd (cc)
 
 -- `SinglePlaceholder` accepts the placeholder alone
-pub placeholder_alone-fits : (p : PatternText) → IsTrue (has_fitting_placeholder p) → IsSome p.placeholder → IsTrue (has_fitting_placeholder placeholder_alone)
+pub placeholder_alone-fits : (p : PatternText) → IsTrue (has_fitting_placeholder p) → IsSome p.placeholder
+    → IsTrue (has_fitting_placeholder placeholder_alone)
 placeholder_alone-fits p h s = refl
 
 -- `NoPlaceholder` accepts no pattern with a placeholder, so the law on the placeholder alone asks nothing of it

@@ -128,7 +128,8 @@ module _ {A : Type 0} (read : Place → Data → Result A TableError) (serves : 
 
 module _ {A : Type 0} (locale : List ℕ) (id : Identifier) (same : id.locale ≡ locale) where
   -- one entry more in front, kept or not, makes no difference to which is found
-  first_kept : (b : Bool) (e : NamedEntry A) (es : List (NamedEntry A)) → is_of locale e ≡ b → first_filed id (filter (is_of locale) es) ≡ first_filed id es
+  first_kept : (b : Bool) (e : NamedEntry A) (es : List (NamedEntry A)) → is_of locale e ≡ b
+      → first_filed id (filter (is_of locale) es) ≡ first_filed id es
       → first_filed id (cond b (e ∷ filter (is_of locale) es) (filter (is_of locale) es)) ≡ first_filed id (e ∷ es)
   unfolding first_filed
   first_kept true e es of rest = rw rest refl

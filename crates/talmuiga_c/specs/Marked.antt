@@ -1,5 +1,6 @@
 -- What a call for one number's text and its parts leaves, by its status.
-use Rattle.std.specs.Prelude.{◌≡◌, ℕ, ◌<◌, ◌≤◌, ◌⊎◌, List, ◌++◌, length, drop, map, codes, nat_eq, if◌then◌else◌, Result, Ok, Err}
+use Rattle.std.specs.Prelude.{◌≡◌, ℕ, ◌<◌, ◌≤◌, ◌⊎◌, nat_eq, if◌then◌else◌, Result, Ok, Err}
+use Rattle.std.specs.Prelude.{List, ◌++◌, length, drop, map, codes}
 use Rattle.std.specs.Cmp.Lexicographic.{pointwise}
 use Rattle.writeable.specs.Events.{Event}
 use Rattle.writeable.specs.Spans as writeable

@@ -5,7 +5,8 @@ use Rattle.icu_decimal_readable.proofs.ReadableTables.{throughout, entry_failed}
 use Rattle.icu_decimal_readable.proofs.readable_table.all_pass.Goals as goal
 
 pub returns-then-not-passes : goal.returns-then-not-passes
-returns-then-not-passes g c = (λ e. cc, λ h. absurd (false_not_true c.passes.result c.if-not-passes.true (c.passes.ensures.1 (h None placeholder_alone refl))))
+returns-then-not-passes g c =
+    (λ e. cc, λ h. absurd (false_not_true c.passes.result c.if-not-passes.true (c.passes.ensures.1 (h None placeholder_alone refl))))
 
 pub returns-then-not-entry_passes : goal.returns-then-not-entry_passes
 returns-then-not-entry_passes g c =
