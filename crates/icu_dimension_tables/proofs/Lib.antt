@@ -1,1 +1,4 @@
 pub mod PatternFaults
+pub mod Splits
+pub mod Filed
+pub mod PlainTexts

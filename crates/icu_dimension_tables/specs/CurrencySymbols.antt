@@ -1,9 +1,11 @@
--- Entries of the symbols of currencies.
+-- Entries of the symbols and names of currencies.
 use Rattle.std.specs.Prelude.{ℕ, List, [], ◌∷◌, Option, Some, None, nat_eq, Result, Ok, if◌then◌else◌}
 use Rattle.std.specs.Cmp.Lexicographic.{pointwise}
 use Rattle.serde_json.specs.Data.{Data}
 use Rattle.icu_dimension.specs.CurrencyData.{SymbolTexts}
 use Rattle.icu_dimension_tables.specs.CurrencyDigits.{currency_code_of}
+use Rattle.icu_provider.specs.Identifier.{Identifier}
+use Rattle.icu_plurals.specs.Elements.{Elements}
 use Rattle.icu_table_entries.specs.CategoryTexts.{category_texts_in}
 use Rattle.icu_table_entries.specs.Named.{locale_of}
 use Rattle.icu_table_entries.specs.Reading.{◌>>=◌, entries_at, four_in, list_at, object_in, text_at, text_in}
@@ -11,10 +13,11 @@ use Rattle.icu_table_entries.specs.declared.error.Key.TheVariants.{Locale, Symbo
 use Rattle.icu_table_entries.specs.declared.error.Place.{Place}
 use Rattle.icu_table_entries.specs.declared.error.TableError.{TableError}
 
--- a currency's symbols in a locale
+-- a currency's symbols and its names in a locale
 pub record CurrencyRow : Type 0 where
   pub code : List ℕ
   pub symbols : SymbolTexts
+  pub names : Elements (List ℕ)
 
 -- the currencies of a locale
 pub record LocaleCurrencies : Type 0 where
@@ -30,7 +33,7 @@ currency_row_at place d = do
   narrow ← text_in Symbols four.1.1.0
   names ← category_texts_in Symbols four.1.1.1
   code ← currency_code_of place code
-  Ok (record { code = code; symbols = record { short = short; narrow = narrow } })
+  Ok (record { code = code; symbols = record { short = short; narrow = narrow }; names = names })
 
 -- each row in turn; a fault of one is told of the entry
 abbrev pub currency_rows_at : Place → List Data → Result (List CurrencyRow) TableError
@@ -46,12 +49,22 @@ currency_symbols_at place d = do
   rows ← currency_rows_at place values
   Ok (record { locale = locale; rows = rows })
 
--- the symbols of the first row of a currency
-unfoldable pub symbols_of_code : List ℕ → List CurrencyRow → Option SymbolTexts
-symbols_of_code code [] = None
-symbols_of_code code (row ∷ rows) = if pointwise nat_eq code row.code then Some row.symbols else symbols_of_code code rows
+-- the first row of a currency
+unfoldable pub row_of_code : List ℕ → List CurrencyRow → Option CurrencyRow
+row_of_code code [] = None
+row_of_code code (row ∷ rows) = if pointwise nat_eq code row.code then Some row else row_of_code code rows
 
 -- the rows of the first entry of a locale
 unfoldable pub rows_of_locale : List ℕ → List LocaleCurrencies → Option (List CurrencyRow)
 rows_of_locale locale [] = None
 rows_of_locale locale (e ∷ es) = if pointwise nat_eq locale e.locale then Some e.rows else rows_of_locale locale es
+
+-- the row of the currency that is named, in the rows of a locale, if it has any
+abbrev pub row_in : Option (List CurrencyRow) → Option (List ℕ) → Option CurrencyRow
+row_in None code = None
+row_in (Some rows) None = None
+row_in (Some rows) (Some code) = row_of_code code rows
+
+-- the row of an identifier: a currency's code in a locale
+abbrev pub row_filed : Identifier → List LocaleCurrencies → Option CurrencyRow
+row_filed id entries = row_in (rows_of_locale id.locale entries) id.system

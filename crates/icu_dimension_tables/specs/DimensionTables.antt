@@ -1,5 +1,5 @@
 -- What the tables of money, percents and units of a document are.
-use Rattle.std.specs.Prelude.{ℕ, List, Option, Result, Ok}
+use Rattle.std.specs.Prelude.{ℕ, List, Option, option_map, Result, Ok}
 use Rattle.serde_json.specs.Data.{Data}
 use Rattle.icu_decimal_data.specs.declared.decimal_symbols.DecimalSymbols.{DecimalSymbols}
 use Rattle.icu_dimension.specs.CurrencyData.{MoneyPatterns}
@@ -7,9 +7,11 @@ use Rattle.icu_dimension_data.specs.Digits.{Digits}
 use Rattle.icu_dimension_data.specs.Resolved.{Signed}
 use Rattle.icu_dimension_tables.specs.CurrencyDigits.{currency_digits_under}
 use Rattle.icu_dimension_tables.specs.CurrencySymbols.{LocaleCurrencies, currency_symbols_at}
-use Rattle.icu_dimension_tables.specs.Money.{currencies_at}
+use Rattle.icu_dimension_tables.specs.Money.{currencies_at, patterns_filed, places_filed}
+use Rattle.icu_dimension_tables.specs.NamePlaces.{NamePlaces}
 use Rattle.icu_dimension_tables.specs.Percents.{percents_at}
 use Rattle.icu_dimension_tables.specs.Units.{UnitPatterns, units_at}
+use Rattle.icu_plurals.specs.Elements.{Elements}
 use Rattle.icu_table_entries.specs.Named.{NamedEntry}
 use Rattle.icu_table_entries.specs.Reading.{◌>>=◌, entries_in, object_in, optional_at, value_of}
 use Rattle.icu_tables.specs.Symbols.{symbols_at}
@@ -22,6 +24,7 @@ pub record DimensionData : Type 0 where
   pub percents : Option (List (NamedEntry Signed))
   pub units : Option (List UnitPatterns)
   pub currencies : Option (List (NamedEntry MoneyPatterns))
+  pub places : Option (List (NamedEntry (Elements NamePlaces)))
   pub symbols : Option (List LocaleCurrencies)
   pub decimals : Option (List (NamedEntry DecimalSymbols))
 
@@ -32,10 +35,18 @@ dimension_tables_at d = do
   digits ← currency_digits_under d
   percents ← optional_at (entries_in percents_at Percents) Percents d
   units ← optional_at (entries_in units_at Units) Units d
-  currencies ← optional_at (entries_in currencies_at Currencies) Currencies d
+  money ← optional_at (entries_in currencies_at Currencies) Currencies d
   symbols ← optional_at (entries_in currency_symbols_at CurrencySymbols) CurrencySymbols d
   decimals ← optional_at (entries_in symbols_at CurrencyDecimals) CurrencyDecimals d
-  Ok (record { digits = digits; percents = percents; units = units; currencies = currencies; symbols = symbols; decimals = decimals })
+  Ok (record {
+    digits = digits;
+    percents = percents;
+    units = units;
+    currencies = option_map patterns_filed money;
+    places = option_map places_filed money;
+    symbols = symbols;
+    decimals = decimals;
+  })
 
 -- the tables of a text
 unfoldable pub dimension_tables_of : List ℕ → Result DimensionData TableError

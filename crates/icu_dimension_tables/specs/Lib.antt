@@ -1,8 +1,11 @@
 pub mod NumberPatterns
+pub mod ByCategory
+pub mod NamePlaces
 pub mod CurrencyDigits
 pub mod Percents
 pub mod Units
 pub mod Money
 pub mod CurrencySymbols
+pub mod CurrencyNames
 pub mod DimensionTables
 pub mod Answering

@@ -1,9 +1,12 @@
 -- Entries of the patterns of money.
-use Rattle.std.specs.Prelude.{ℕ, List, [], ◌∷◌, Bool, true, false, not, ◌==◌, Option, Some, None, Result, Ok, chars, if◌then◌else◌}
+use Rattle.std.specs.Prelude.{ℕ, List, [], ◌∷◌, Bool, true, false, not, ◌==◌, Option, Some, None, Result, Ok, chars, map, if◌then◌else◌}
 use Rattle.serde_json.specs.Data.{Data}
 use Rattle.icu_dimension.specs.CurrencyData.{MoneyPatterns}
 use Rattle.icu_dimension_data.specs.Patterns.{PatternText}
+use Rattle.icu_dimension_tables.specs.ByCategory.{elements_read}
+use Rattle.icu_dimension_tables.specs.NamePlaces.{NamePlaces, name_places_of}
 use Rattle.icu_dimension_tables.specs.NumberPatterns.{number_pattern_of}
+use Rattle.icu_plurals.specs.Elements.{Elements}
 use Rattle.icu_table_entries.specs.CategoryTexts.{category_texts_in}
 use Rattle.icu_table_entries.specs.Named.{NamedEntry, identifier_from, refused}
 use Rattle.icu_table_entries.specs.PatternTexts.{Texts}
@@ -60,14 +63,19 @@ money_patterns_of place texts = do
   accounting ← money_pattern_of place texts.accounting
   Ok (record { standard = standard; accounting = accounting; minus_sign = texts.minus_sign; plus_sign = texts.plus_sign })
 
--- how amounts stand with the name of their currency, by plural category; only the kinds of the texts are judged
+-- the texts of how an amount and its currency's name stand together, by plural category
 unfoldable pub names_at : Data → Result Texts TableError
 names_at d = do
   names ← member_at Names d
   category_texts_in Names names
 
--- an entry: first the kinds of all its fields, then its name, then its patterns
-unfoldable pub currencies_at : Place → Data → Result (NamedEntry MoneyPatterns) TableError
+-- how a locale writes amounts: with a symbol, and with a name
+pub record LocaleMoney : Type 0 where
+  pub patterns : MoneyPatterns
+  pub places : Elements NamePlaces
+
+-- an entry: first the kinds of all its fields, then its name, then its patterns, then the places of names
+unfoldable pub currencies_at : Place → Data → Result (NamedEntry LocaleMoney) TableError
 currencies_at place d = do
   d ← object_in place.key d
   locale ← text_at Locale d
@@ -76,4 +84,17 @@ currencies_at place d = do
   names ← names_at d
   identifier ← identifier_from place locale system
   patterns ← money_patterns_of place texts
-  Ok (record { identifier = identifier; content = patterns })
+  places ← elements_read name_places_of place names
+  Ok (record { identifier = identifier; content = record { patterns = patterns; places = places } })
+
+-- an entry with a part of its content
+abbrev pub filed_part : {A B : Type 0} → (A → B) → NamedEntry A → NamedEntry B
+filed_part part e = record { identifier = e.identifier; content = part e.content }
+
+-- the patterns of each entry
+abbrev pub patterns_filed : List (NamedEntry LocaleMoney) → List (NamedEntry MoneyPatterns)
+patterns_filed es = map (filed_part (λ m. m.patterns)) es
+
+-- the places of each entry
+abbrev pub places_filed : List (NamedEntry LocaleMoney) → List (NamedEntry (Elements NamePlaces))
+places_filed es = map (filed_part (λ m. m.places)) es

@@ -1,19 +1,22 @@
-//! Entries of the symbols of currencies.
+//! Entries of the symbols and names of currencies.
 
 ghost use Rattle.std.specs.Prelude.{◌≡◌, Ok, map, option_map};
 ghost use Rattle.serde_json.specs.View.{view};
 ghost use Rattle.icu_provider.specs.Answer.{Answers};
 ghost use Rattle.icu_table_entries.specs.Reading.{Gives};
-ghost use Rattle.icu_dimension_tables.specs.CurrencySymbols.{currency_row_at, currency_rows_at, rows_of_locale, symbols_of_code};
+ghost use Rattle.icu_dimension_tables.specs.CurrencySymbols.{currency_row_at, currency_rows_at, row_filed, row_in, row_of_code, rows_of_locale};
+ghost use Rattle.icu_provider.specs.Identifier.{identifier_of};
 
+use crate::by_category::{elements_read, texts_in};
 use crate::currency_digits::currency_code_of;
+use crate::currency_names::{CurrencyName, PlainText};
 use icu_dimension::provider::CurrencySymbols;
 use icu_dimension_data::CurrencyCode;
-use icu_provider::{DataError, DataErrorKind, DataLocale};
+use icu_plurals::PluralElements;
+use icu_provider::{DataError, DataErrorKind, DataIdentifierBorrowed, DataLocale};
 use icu_table_entries::entries::EntryKind;
 use icu_table_entries::fields::{four_in, list_at, object_in, text_at, text_in};
 use icu_table_entries::named::locale_of;
-use icu_table_entries::texts::category_texts_in;
 use icu_table_entries::{Key, Place, TableError};
 use serde_json::Value;
 use std::alloc::Global;
@@ -47,11 +50,12 @@ impl SymbolTexts {
     }
 }
 
-/// A currency with its symbols.
+/// A currency with its symbols and its names.
 #[derive(Drop)]
 pub struct CurrencyRow {
     code: CurrencyCode,
-    symbols: SymbolTexts,
+    pub symbols: SymbolTexts,
+    pub names: PluralElements<CurrencyName>,
 }
 
 impl Model for CurrencyRow {
@@ -59,7 +63,7 @@ impl Model for CurrencyRow {
 
     ghost Value = { RowOfCurrency };
 
-    ghost view = { λ r. record { code = r.code; symbols = r.symbols } };
+    ghost view = { λ r. record { code = r.code; symbols = r.symbols; names = r.names } };
 }
 
 /// The currencies of a locale.
@@ -86,12 +90,17 @@ fn currency_row_at(alloc: Global, place: Place, value: &Value) -> Result<Currenc
     let code = text_in(code, Key::Symbols)?;
     let short = text_in(short, Key::Symbols)?;
     let narrow = text_in(narrow, Key::Symbols)?;
-    let _names = category_texts_in(names, Key::Symbols)?;
+    let names = texts_in(names, Key::Symbols)?;
     let code = currency_code_of(place, code)?;
     let short = String::from_str(alloc, short)?;
     let narrow = String::from_str(alloc, narrow)?;
     let symbols = SymbolTexts { short, narrow };
-    Ok(CurrencyRow { code, symbols })
+    let names = elements_read::<PlainText>(alloc, place, &names)?;
+    Ok(CurrencyRow {
+        code,
+        symbols,
+        names,
+    })
 }
 
 /// Each row in turn.
@@ -138,14 +147,14 @@ impl EntryKind for CurrencySymbolsEntry {
     }
 }
 
-/// The symbols of the first row of a currency.
-#[tactic(auto, unfolding(crate::specs::CurrencySymbols::symbols_of_code))]
-pub fn symbols_of_code<'a>(rows: &'a [CurrencyRow], code: &str) -> Option<&'a SymbolTexts>
-    ensures { option_map (λ x. x.now) result ≡ symbols_of_code code.now rows.now }
+/// The first row of a currency.
+#[tactic(auto, unfolding(crate::specs::CurrencySymbols::row_of_code))]
+fn row_of_code<'a>(rows: &'a [CurrencyRow], code: &str) -> Option<&'a CurrencyRow>
+    ensures { option_map (λ x. x.now) result ≡ row_of_code code.now rows.now }
 {
     for row in rows {
         if code == row.code.as_str() {
-            return Some(&row.symbols);
+            return Some(row);
         }
     }
     None
@@ -153,10 +162,7 @@ pub fn symbols_of_code<'a>(rows: &'a [CurrencyRow], code: &str) -> Option<&'a Sy
 
 /// The rows of the first entry of a locale.
 #[tactic(auto, unfolding(crate::specs::CurrencySymbols::rows_of_locale))]
-pub fn rows_of_locale<'a>(
-    entries: &'a [LocaleCurrencies],
-    locale: &str,
-) -> Option<&'a [CurrencyRow]>
+fn rows_of_locale<'a>(entries: &'a [LocaleCurrencies], locale: &str) -> Option<&'a [CurrencyRow]>
     ensures { option_map (λ x. x.now) result ≡ rows_of_locale locale.now entries.now }
 {
     for entry in entries {
@@ -165,4 +171,25 @@ pub fn rows_of_locale<'a>(
         }
     }
     None
+}
+
+/// The row of the currency that is named, in the rows of a locale.
+fn row_in<'a>(rows: Option<&'a [CurrencyRow]>, code: Option<&str>) -> Option<&'a CurrencyRow>
+    ensures { option_map (λ x. x.now) result
+        ≡ row_in (option_map (λ r. r.now) rows.entry) (option_map (λ c. c.now) code.entry) }
+{
+    match (rows, code) {
+        (Some(rows), Some(code)) => row_of_code(rows, code),
+        _ => None,
+    }
+}
+
+/// The row of an identifier: a currency's code in a locale.
+pub fn row_filed<'a>(
+    entries: &'a [LocaleCurrencies],
+    id: &DataIdentifierBorrowed<'_>,
+) -> Option<&'a CurrencyRow>
+    ensures { option_map (λ x. x.now) result ≡ row_filed (identifier_of id.now) entries.now }
+{
+    row_in(rows_of_locale(entries, id.locale()), id.system())
 }

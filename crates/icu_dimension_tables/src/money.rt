@@ -1,19 +1,24 @@
 //! Entries of the patterns of money.
 
-ghost use Rattle.std.specs.Prelude.{◌≡◌, Ok, IfOk, false, chars};
+ghost use Rattle.std.specs.Prelude.{◌≡◌, Ok, IfOk, None, false, chars, option_map};
 ghost use Rattle.serde_json.specs.View.{view};
 ghost use Rattle.icu_provider.specs.Answer.{Answers};
+ghost use Rattle.icu_provider.specs.Identifier.{identifier_of};
+ghost use Rattle.icu_table_entries.specs.Named.{first_filed};
 ghost use Rattle.icu_table_entries.specs.Reading.{Gives};
-ghost use Rattle.icu_dimension_tables.specs.Money.{money_pattern_of, money_patterns_of, money_texts_at, names_at, symbol_in_each, symbol_step};
+ghost use Rattle.icu_dimension_tables.specs.ByCategory.{elements_map};
+ghost use Rattle.icu_dimension_tables.specs.Money.{money_pattern_of, money_patterns_of, money_texts_at, names_at, places_filed, symbol_in_each, symbol_step};
 
+use crate::by_category::{elements_read, texts_in};
+use crate::name_places::{NamePattern, NamePlaces};
 use crate::number_patterns::number_pattern_of;
 use icu_dimension::provider::CurrencyPatterns;
 use icu_dimension_data::CldrPattern;
-use icu_provider::{DataError, DataErrorKind, DataLocale};
+use icu_plurals::PluralElements;
+use icu_provider::{DataError, DataErrorKind, DataIdentifierBorrowed, DataLocale};
 use icu_table_entries::entries::EntryKind;
 use icu_table_entries::fields::{member_at, object_in, optional_text_at, text_at};
-use icu_table_entries::named::{NamedEntry, name_of};
-use icu_table_entries::texts::{Texts, category_texts_in};
+use icu_table_entries::named::{NamedEntry, first_filed, name_of};
 use icu_table_entries::{EntryFault, Key, Place, TableError};
 use serde_json::Value;
 use std::alloc::{AllocError, Global};
@@ -176,20 +181,34 @@ fn money_patterns_of(
     })
 }
 
-/// How amounts stand with the name of their currency, by plural category. Only the kinds of the
-/// texts are judged.
+/// The texts of how an amount and its currency's name stand together, by plural category.
 #[tactic(auto, unfolding(crate::specs::Money::names_at))]
-fn names_at(value: &Value) -> Result<Texts<'_>, TableError>
-    ensures { Gives (λ x. x) result (names_at (view value.now)) }
+fn names_at(value: &Value) -> Result<PluralElements<&str>, TableError>
+    ensures { Gives (elements_map (λ s. s.now)) result (names_at (view value.now)) }
 {
-    category_texts_in(member_at(value, Key::Names)?, Key::Names)
+    texts_in(member_at(value, Key::Names)?, Key::Names)
 }
 
-/// Patterns of money under their name.
+/// How a locale writes amounts: with a symbol, and with a name.
+#[derive(Drop)]
+pub struct LocaleMoney {
+    pub patterns: MoneyPatterns,
+    pub places: PluralElements<NamePlaces>,
+}
+
+impl Model for LocaleMoney {
+    ghost use Rattle.icu_dimension_tables.specs.Money.{LocaleMoney as MoneyOfLocale};
+
+    ghost Value = { MoneyOfLocale };
+
+    ghost view = { λ m. record { patterns = m.patterns; places = m.places } };
+}
+
+/// How a locale writes amounts, under its name.
 pub struct CurrenciesEntry;
 
 impl EntryKind for CurrenciesEntry {
-    type Entry = NamedEntry<MoneyPatterns>;
+    type Entry = NamedEntry<LocaleMoney>;
 
     ghost use Rattle.icu_dimension_tables.specs.Money.{currencies_at};
     ghost use Rattle.icu_table_entries.specs.Named.{is_of};
@@ -204,13 +223,33 @@ impl EntryKind for CurrenciesEntry {
         let locale = text_at(value, Key::Locale)?;
         let system = optional_text_at(value, Key::System)?;
         let texts = money_texts_at(value)?;
-        let _names = names_at(value)?;
+        let names = names_at(value)?;
         let name = name_of(place, locale, system)?;
-        let content = money_patterns_of(alloc, place, &texts)?;
+        let patterns = money_patterns_of(alloc, place, &texts)?;
+        let places = elements_read::<NamePattern>(alloc, place, &names)?;
+        let content = LocaleMoney { patterns, places };
         Ok(NamedEntry { name, content })
     }
 
     fn serves(entry: &Self::Entry, locale: &DataLocale) -> bool {
         entry.name.is_of(locale)
+    }
+}
+
+/// The places of names of the first entry with the identifier's locale and no numbering system.
+pub fn places_of_locale<'a>(
+    entries: &'a [NamedEntry<LocaleMoney>],
+    id: &DataIdentifierBorrowed<'_>,
+) -> Option<&'a PluralElements<NamePlaces>>
+    ensures { option_map (λ x. x.now) result
+        ≡ first_filed (record { system = None; locale = (identifier_of id.now).locale })
+        (places_filed entries.now) }
+{
+    let Ok(locale) = DataLocale::try_from_str(id.locale()) else {
+        unreachable!()
+    };
+    match first_filed(entries, &DataIdentifierBorrowed::for_locale(&locale)) {
+        Some(money) => Some(&money.places),
+        None => None,
     }
 }

@@ -4,19 +4,23 @@ ghost use Rattle.std.specs.Prelude.{◌≡◌, Ok, option_map};
 ghost use Rattle.icu_provider.specs.Answer.{Answers};
 ghost use Rattle.icu_provider.specs.Identifier.{identifier_of};
 ghost use Rattle.icu_table_entries.specs.Answering.{optional_answer};
-ghost use Rattle.icu_dimension_tables.specs.Answering.{symbols_in, unit_answer};
+ghost use Rattle.icu_dimension_tables.specs.Answering.{unit_answer};
 
 use crate::copying::patterns_copy;
-use crate::currency_symbols::{CurrencyRow, SymbolTexts, rows_of_locale, symbols_of_code};
+use crate::currency_names::names_answered;
+use crate::currency_symbols::row_filed;
+use crate::money::places_of_locale;
 use crate::tables::DimensionTables;
 use crate::units::{UnitPatterns, UnitWidth, first_unit};
 use icu_decimal_data::DecimalSymbols;
+use icu_dimension::NamePattern;
 use icu_dimension::provider::{
-    CurrencyDecimalSymbolsV1, CurrencyDigitsV1, CurrencyPatterns, CurrencyPatternsV1,
-    CurrencySymbols, CurrencySymbolsV1, PercentPatternsV1, UnitsLongV1, UnitsNarrowV1,
-    UnitsShortV1,
+    CurrencyDecimalSymbolsV1, CurrencyDigitsV1, CurrencyNamesV1, CurrencyPatterns,
+    CurrencyPatternsV1, CurrencySymbols, CurrencySymbolsV1, PercentPatternsV1, UnitsLongV1,
+    UnitsNarrowV1, UnitsShortV1,
 };
 use icu_dimension_data::{CurrencyDigits, SignedPatterns};
+use icu_plurals::PluralElements;
 use icu_provider::{
     DataError, DataErrorKind, DataIdentifierBorrowed, DataLocale, DataProvider, DataRequest,
 };
@@ -183,24 +187,13 @@ impl DataProvider<CurrencyPatternsV1> for DimensionTables {
         alloc: Global,
         request: &DataRequest<'_>,
     ) -> Result<CurrencyPatterns, DataError> {
-        let Some(entries) = &self.currencies else {
+        let Some(entries) = &self.money else {
             return Err(DataErrorKind::MarkerNotFound.into());
         };
         match first_filed(entries, &request.id) {
-            Some(patterns) => patterns.copied(alloc),
+            Some(money) => money.patterns.copied(alloc),
             None => Err(DataErrorKind::IdentifierNotFound.into()),
         }
-    }
-}
-
-/// The symbols of the currency that is named, in the rows of a locale.
-fn symbols_in<'a>(rows: Option<&'a [CurrencyRow]>, code: Option<&str>) -> Option<&'a SymbolTexts>
-    ensures { option_map (λ x. x.now) result
-        ≡ symbols_in (option_map (λ r. r.now) rows.entry) (option_map (λ c. c.now) code.entry) }
-{
-    match (rows, code) {
-        (Some(rows), Some(code)) => symbols_of_code(rows, code),
-        _ => None,
     }
 }
 
@@ -215,10 +208,33 @@ impl DataProvider<CurrencySymbolsV1> for DimensionTables {
         let Some(entries) = &self.symbols else {
             return Err(DataErrorKind::MarkerNotFound.into());
         };
-        let rows = rows_of_locale(entries, request.id.locale());
-        match symbols_in(rows, request.id.system()) {
-            Some(symbols) => symbols.copied(alloc),
+        match row_filed(entries, &request.id) {
+            Some(row) => row.symbols.copied(alloc),
             None => Err(DataErrorKind::IdentifierNotFound.into()),
+        }
+    }
+}
+
+impl DataProvider<CurrencyNamesV1> for DimensionTables {
+    ghost use Rattle.icu_dimension_tables.specs.Answering.{names_answer};
+
+    ghost answer = { λ tables id. names_answer tables.places tables.symbols id };
+
+    /// The names of the first row with the currency's code, the identifier's system, in the first
+    /// entry of `currency_symbols` with the identifier's locale, in the places that the first entry
+    /// of `currencies` with the locale and no numbering system gives them.
+    fn load(
+        &self,
+        alloc: Global,
+        request: &DataRequest<'_>,
+    ) -> Result<PluralElements<NamePattern>, DataError> {
+        let (Some(money), Some(currencies)) = (&self.money, &self.symbols) else {
+            return Err(DataErrorKind::MarkerNotFound.into());
+        };
+        let places = places_of_locale(money, &request.id);
+        match (places, row_filed(currencies, &request.id)) {
+            (Some(places), Some(row)) => names_answered(alloc, places, &row.names),
+            _ => Err(DataErrorKind::IdentifierNotFound.into()),
         }
     }
 }

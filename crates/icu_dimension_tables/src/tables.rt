@@ -6,7 +6,7 @@ ghost use Rattle.icu_dimension_tables.specs.DimensionTables.{dimension_tables_at
 
 use crate::currency_digits::currency_digits_under;
 use crate::currency_symbols::{CurrencySymbolsEntry, LocaleCurrencies};
-use crate::money::{CurrenciesEntry, MoneyPatterns};
+use crate::money::{CurrenciesEntry, LocaleMoney};
 use crate::percents::PercentsEntry;
 use crate::units::{UnitEntry, UnitPatterns};
 use icu_decimal_data::DecimalSymbols;
@@ -28,7 +28,7 @@ pub struct DimensionTables {
     pub(crate) digits: Option<CurrencyDigits>,
     pub(crate) percents: Option<Vec<NamedEntry<SignedPatterns>>>,
     pub(crate) units: Option<Vec<UnitPatterns>>,
-    pub(crate) currencies: Option<Vec<NamedEntry<MoneyPatterns>>>,
+    pub(crate) money: Option<Vec<NamedEntry<LocaleMoney>>>,
     pub(crate) symbols: Option<Vec<LocaleCurrencies>>,
     pub(crate) decimals: Option<Vec<NamedEntry<DecimalSymbols>>>,
 }
@@ -36,6 +36,7 @@ pub struct DimensionTables {
 impl Model for DimensionTables {
     ghost use Rattle.std.specs.Prelude.{option_map};
     ghost use Rattle.icu_dimension_tables.specs.DimensionTables.{DimensionData};
+    ghost use Rattle.icu_dimension_tables.specs.Money.{patterns_filed, places_filed};
 
     ghost Value = { DimensionData };
 
@@ -43,7 +44,8 @@ impl Model for DimensionTables {
       digits = t.digits;
       percents = option_map (λ v. v.items) t.percents;
       units = option_map (λ v. v.items) t.units;
-      currencies = option_map (λ v. v.items) t.currencies;
+      currencies = option_map patterns_filed (option_map (λ v. v.items) t.money);
+      places = option_map places_filed (option_map (λ v. v.items) t.money);
       symbols = option_map (λ v. v.items) t.symbols;
       decimals = option_map (λ v. v.items) t.decimals;
     } };
@@ -59,7 +61,7 @@ fn dimension_tables_at(alloc: Global, value: &Value) -> Result<DimensionTables, 
         digits: currency_digits_under(alloc, value)?,
         percents: optional_entries::<PercentsEntry>(alloc, value, Key::Percents)?,
         units: optional_entries::<UnitEntry>(alloc, value, Key::Units)?,
-        currencies: optional_entries::<CurrenciesEntry>(alloc, value, Key::Currencies)?,
+        money: optional_entries::<CurrenciesEntry>(alloc, value, Key::Currencies)?,
         symbols: optional_entries::<CurrencySymbolsEntry>(alloc, value, Key::CurrencySymbols)?,
         decimals: optional_entries::<SymbolsEntry>(alloc, value, Key::CurrencyDecimals)?,
     })

@@ -1,9 +1,10 @@
 //! What tables answer as a provider, and how they refuse.
 
+use crate::names::NAMES;
 use crate::written::TABLES;
 use icu_dimension::provider::{
-    CurrencyDecimalSymbolsV1, CurrencyDigitsV1, CurrencyPatternsV1, CurrencySymbolsV1,
-    PercentPatternsV1, UnitsLongV1, UnitsNarrowV1, UnitsShortV1,
+    CurrencyDecimalSymbolsV1, CurrencyDigitsV1, CurrencyNamesV1, CurrencyPatternsV1,
+    CurrencySymbolsV1, PercentPatternsV1, UnitsLongV1, UnitsNarrowV1, UnitsShortV1,
 };
 use icu_dimension_data::{CurrencyCode, FractionDigits};
 use icu_dimension_tables::DimensionTables;
@@ -22,6 +23,7 @@ enum Asked {
     Narrow,
     Patterns,
     Symbols,
+    Names,
     Decimals,
 }
 
@@ -60,6 +62,9 @@ fn refused_by(
             tables, alloc, request,
         )),
         Asked::Symbols => refusal(<DimensionTables as DataProvider<CurrencySymbolsV1>>::load(
+            tables, alloc, request,
+        )),
+        Asked::Names => refusal(<DimensionTables as DataProvider<CurrencyNamesV1>>::load(
             tables, alloc, request,
         )),
         Asked::Decimals => refusal(<DimensionTables as DataProvider<
@@ -201,7 +206,40 @@ fn entries_answer_under_their_names(rt: HostRuntime) {
     }
 }
 
-const EVERYTHING: [Asked; 7] = [
+/// By which locale and code names are asked for, and how they are refused.
+const NAMED: &[((&str, &str), Option<DataErrorKind>)] = &[
+    (("en", "USD"), None),
+    (("fr", "USD"), None),
+    (("fr", "JPY"), Some(DataErrorKind::IdentifierNotFound)),
+    (("de", "USD"), Some(DataErrorKind::IdentifierNotFound)),
+    (("en", ""), Some(DataErrorKind::IdentifierNotFound)),
+    // its places are only those of a numbering system
+    (("und-x", "USD"), Some(DataErrorKind::IdentifierNotFound)),
+];
+
+#[test]
+fn names_answer_by_a_code_in_a_locale(rt: HostRuntime) {
+    for &(id, want) in NAMED {
+        assert!(rt;
+            is_refused(rt.alloc(), NAMES, Asked::Names, id, want),
+            "{id:?}"
+        );
+    }
+}
+
+/// Texts with one of the two keys that names want.
+const HALVES: &[&str] = &["{\"currencies\":[]}", "{\"currency_symbols\":[]}"];
+
+#[test]
+fn names_want_both_keys(rt: HostRuntime) {
+    for &text in HALVES {
+        let want = Some(DataErrorKind::MarkerNotFound);
+        let is_told = is_refused(rt.alloc(), text, Asked::Names, ("en", "USD"), want);
+        assert!(rt; is_told, "{text}");
+    }
+}
+
+const EVERYTHING: [Asked; 8] = [
     Asked::Digits,
     Asked::Percents,
     Asked::Long,
@@ -209,6 +247,7 @@ const EVERYTHING: [Asked; 7] = [
     Asked::Narrow,
     Asked::Patterns,
     Asked::Symbols,
+    Asked::Names,
 ];
 
 #[test]

@@ -10,4 +10,6 @@ mod documents;
 #[cfg(test)]
 mod large;
 #[cfg(test)]
+mod names;
+#[cfg(test)]
 mod written;

@@ -60,7 +60,8 @@ enum Made {
     Narrow(&'static str),
 }
 
-fn preferences(locale: &str, system: &str) -> DecimalFormatterPreferences {
+/// The preferences of a locale and a numbering system or none.
+pub(crate) fn preferences(locale: &str, system: &str) -> DecimalFormatterPreferences {
     DecimalFormatterPreferences {
         locale_preferences: DataLocale::try_from_str(locale).unwrap_or_default(),
         numbering_system: NumberingSystem::try_from_str(system).ok(),

@@ -1,0 +1,37 @@
+-- An amount with the name of its currency, of the places of both and the names, by plural category.
+use Rattle.std.specs.Prelude.{ℕ, List, Option, Some, None, Result, Ok, slice_index_or}
+use Rattle.icu_dimension.specs.Names.{NameText}
+use Rattle.icu_dimension_tables.specs.NamePlaces.{NamePlaces}
+use Rattle.icu_dimension_tables.specs.ByCategory.{elements_in}
+use Rattle.icu_plurals.specs.Elements.{Elements, slots}
+use Rattle.icu_table_entries.specs.declared.error.Place.{Place}
+use Rattle.icu_table_entries.specs.declared.error.TableError.{TableError}
+
+-- a name is the text as it is
+abbrev pub plain_text : Place → List ℕ → Result (List ℕ) TableError
+plain_text place text = Ok text
+
+-- a name in its place
+abbrev pub name_in : NamePlaces → List ℕ → NameText
+name_in p name = record { number_first = p.amount_first; before = p.before; between = p.between; after = p.after; name = name }
+
+-- What a slot has: its places and its name, where it has either. For the one that it hasn't the one for all other numbers stands.
+unfoldable pub slot_named : NamePlaces → List ℕ → Option NamePlaces → Option (List ℕ) → Option NameText
+slot_named p name None None = None
+slot_named p name None (Some own) = Some (name_in p own)
+slot_named p name (Some own) None = Some (name_in own name)
+slot_named p name (Some places) (Some own) = Some (name_in places own)
+
+-- the same of the slot of this number
+abbrev pub named_at : Elements NamePlaces → Elements (List ℕ) → ℕ → Option NameText
+named_at p n slot = slot_named p.other n.other (slice_index_or (slots p) slot None) (slice_index_or (slots n) slot None)
+
+-- the names in their places, slot by slot
+abbrev pub names_placed : Elements NamePlaces → Elements (List ℕ) → Elements NameText
+names_placed p n = elements_in (named_at p n) (name_in p.other n.other)
+
+-- the same of places and names that are there
+abbrev pub names_found : Option (Elements NamePlaces) → Option (Elements (List ℕ)) → Option (Elements NameText)
+names_found None names = None
+names_found (Some places) None = None
+names_found (Some places) (Some names) = Some (names_placed places names)

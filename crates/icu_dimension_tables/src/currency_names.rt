@@ -1,0 +1,111 @@
+//! The names of currencies, in their places beside amounts.
+
+ghost use Rattle.std.specs.Prelude.{◌≡◌, IfOk, Ok};
+ghost use Rattle.icu_provider.specs.Answer.{Answers};
+ghost use Rattle.icu_dimension_tables.specs.CurrencyNames.{name_in, names_placed};
+
+use crate::by_category::{SlotMaker, TextKind, elements_made, other_of};
+use crate::name_places::NamePlaces;
+use icu_dimension::{NamePattern, NameTexts};
+use icu_plurals::PluralElements;
+use icu_provider::{DataError, DataErrorKind};
+use icu_table_entries::{Place, TableError};
+use std::alloc::{AllocError, Global};
+use std::marker::Model;
+
+/// The name of a currency.
+#[derive(Drop)]
+pub struct CurrencyName {
+    text: String,
+}
+
+impl Model for CurrencyName {
+    ghost use Rattle.std.specs.Prelude.{ℕ, List};
+    ghost use Rattle.std.specs.String.{string_bytes};
+
+    ghost Value = { List ℕ };
+
+    ghost view = { λ n. string_bytes n.text };
+}
+
+/// Texts that are names, as they are.
+pub struct PlainText;
+
+impl TextKind for PlainText {
+    type Read = CurrencyName;
+
+    ghost use Rattle.icu_dimension_tables.specs.CurrencyNames.{plain_text};
+
+    ghost read_text = { plain_text };
+
+    fn from_text(alloc: Global, _place: Place, text: &str) -> Result<CurrencyName, TableError> {
+        let text = String::from_str(alloc, text)?;
+        Ok(CurrencyName { text })
+    }
+}
+
+/// A name in its place.
+fn name_in(
+    alloc: Global,
+    places: &NamePlaces,
+    name: &CurrencyName,
+) -> Result<NamePattern, AllocError>
+    ensures { IfOk result (λ p. p ≡ name_in places.now name.now) }
+{
+    let texts = NameTexts {
+        number_first: places.amount_first,
+        before: places.before.as_str(),
+        between: places.between.as_str(),
+        after: places.after.as_str(),
+        name: name.text.as_str(),
+    };
+    NamePattern::new(alloc, &texts)
+}
+
+/// Names and their places.
+#[derive(Drop)]
+struct NamesPlaced<'a> {
+    places: &'a PluralElements<NamePlaces>,
+    names: &'a PluralElements<CurrencyName>,
+}
+
+impl SlotMaker for NamesPlaced<'_> {
+    type Made = NamePattern;
+
+    ghost use Rattle.icu_dimension_tables.specs.CurrencyNames.{name_in, named_at};
+
+    ghost in_slot = { λ n. named_at n.places.now n.names.now };
+
+    ghost for_others = { λ n. name_in n.places.now.other n.names.now.other };
+
+    /// What a slot has: its places and its name, where it has either, or those for all other
+    /// numbers.
+    #[tactic(auto, unfolding(crate::specs::CurrencyNames::slot_named))]
+    fn make(&self, alloc: Global, slot: u8) -> Result<Option<NamePattern>, AllocError> {
+        let (places, name) = match (self.places.slot(slot), self.names.slot(slot)) {
+            (None, None) => return Ok(None),
+            (None, Some(name)) => (other_of(self.places), name),
+            (Some(own), None) => (own, other_of(self.names)),
+            (Some(own), Some(name)) => (own, name),
+        };
+        Ok(Some(name_in(alloc, places, name)?))
+    }
+
+    fn make_other(&self, alloc: Global) -> Result<NamePattern, AllocError> {
+        name_in(alloc, other_of(self.places), other_of(self.names))
+    }
+}
+
+/// The same, as a provider answers.
+pub fn names_answered(
+    alloc: Global,
+    places: &PluralElements<NamePlaces>,
+    names: &PluralElements<CurrencyName>,
+) -> Result<PluralElements<NamePattern>, DataError>
+    ensures { Answers result (Ok (names_placed places.now names.now)) }
+{
+    match elements_made(alloc, &NamesPlaced { places, names }) {
+        Ok(placed) => Ok(placed),
+        Err(_) => Err(DataErrorKind::OutOfMemory.into()),
+    }
+}
