@@ -1,4 +1,3 @@
 pub mod PatternFaults
 pub mod Splits
 pub mod Filed
-pub mod PlainTexts

@@ -1,15 +1,9 @@
 -- An amount with the name of its currency, of the places of both and the names, by plural category.
-use Rattle.std.specs.Prelude.{ℕ, List, Option, Some, None, Result, Ok, slice_index_or}
+use Rattle.std.specs.Prelude.{ℕ, List, Option, Some, None, slice_index_or}
 use Rattle.icu_dimension.specs.Names.{NameText}
 use Rattle.icu_dimension_tables.specs.NamePlaces.{NamePlaces}
 use Rattle.icu_dimension_tables.specs.ByCategory.{elements_in}
 use Rattle.icu_plurals.specs.Elements.{Elements, slots}
-use Rattle.icu_table_entries.specs.declared.error.Place.{Place}
-use Rattle.icu_table_entries.specs.declared.error.TableError.{TableError}
-
--- a name is the text as it is
-abbrev pub plain_text : Place → List ℕ → Result (List ℕ) TableError
-plain_text place text = Ok text
 
 -- a name in its place
 abbrev pub name_in : NamePlaces → List ℕ → NameText

@@ -2,14 +2,14 @@
 
 ghost use Rattle.std.specs.Prelude.{◌≡◌, IfOk, Ok};
 ghost use Rattle.icu_provider.specs.Answer.{Answers};
+ghost use Rattle.icu_dimension_tables.specs.ByCategory.{elements_map};
 ghost use Rattle.icu_dimension_tables.specs.CurrencyNames.{name_in, names_placed};
 
-use crate::by_category::{SlotMaker, TextKind, elements_made, other_of};
+use crate::by_category::{SlotMaker, elements_made, other_of};
 use crate::name_places::NamePlaces;
 use icu_dimension::{NamePattern, NameTexts};
 use icu_plurals::PluralElements;
 use icu_provider::{DataError, DataErrorKind};
-use icu_table_entries::{Place, TableError};
 use std::alloc::{AllocError, Global};
 use std::marker::Model;
 
@@ -28,20 +28,51 @@ impl Model for CurrencyName {
     ghost view = { λ n. string_bytes n.text };
 }
 
-/// Texts that are names, as they are.
-pub struct PlainText;
+/// Texts that are names.
+#[derive(Drop)]
+struct NamesGiven<'a, 't> {
+    texts: &'a PluralElements<&'t str>,
+}
 
-impl TextKind for PlainText {
-    type Read = CurrencyName;
+/// The name of a text.
+fn name_of(alloc: Global, text: &str) -> Result<CurrencyName, AllocError>
+    ensures { IfOk result (λ n. n ≡ text.now) }
+{
+    let text = String::from_str(alloc, text)?;
+    Ok(CurrencyName { text })
+}
 
-    ghost use Rattle.icu_dimension_tables.specs.CurrencyNames.{plain_text};
+impl SlotMaker for NamesGiven<'_, '_> {
+    type Made = CurrencyName;
 
-    ghost read_text = { plain_text };
+    ghost use Rattle.std.specs.Prelude.{None, option_map, slice_index_or};
+    ghost use Rattle.icu_plurals.specs.Elements.{slots};
 
-    fn from_text(alloc: Global, _place: Place, text: &str) -> Result<CurrencyName, TableError> {
-        let text = String::from_str(alloc, text)?;
-        Ok(CurrencyName { text })
+    ghost in_slot = { λ n slot.
+        option_map (λ s. s.now) (slice_index_or (slots n.texts.now) slot None) };
+
+    ghost for_others = { λ n. n.texts.now.other.now };
+
+    fn make(&self, alloc: Global, slot: u8) -> Result<Option<CurrencyName>, AllocError> {
+        match self.texts.slot(slot) {
+            Some(text) => Ok(Some(name_of(alloc, text)?)),
+            None => Ok(None),
+        }
     }
+
+    fn make_other(&self, alloc: Global) -> Result<CurrencyName, AllocError> {
+        name_of(alloc, other_of(self.texts))
+    }
+}
+
+/// The names that are given.
+pub fn names_given(
+    alloc: Global,
+    texts: &PluralElements<&str>,
+) -> Result<PluralElements<CurrencyName>, AllocError>
+    ensures { IfOk result (λ e. e ≡ elements_map (λ s. s.now) texts.now) }
+{
+    elements_made(alloc, &NamesGiven { texts })
 }
 
 /// A name in its place.

@@ -7,9 +7,9 @@ ghost use Rattle.icu_table_entries.specs.Reading.{Gives};
 ghost use Rattle.icu_dimension_tables.specs.CurrencySymbols.{currency_row_at, currency_rows_at, row_filed, row_in, row_of_code, rows_of_locale};
 ghost use Rattle.icu_provider.specs.Identifier.{identifier_of};
 
-use crate::by_category::{elements_read, texts_in};
+use crate::by_category::texts_in;
 use crate::currency_digits::currency_code_of;
-use crate::currency_names::{CurrencyName, PlainText};
+use crate::currency_names::{CurrencyName, names_given};
 use icu_dimension::provider::CurrencySymbols;
 use icu_dimension_data::CurrencyCode;
 use icu_plurals::PluralElements;
@@ -95,7 +95,7 @@ fn currency_row_at(alloc: Global, place: Place, value: &Value) -> Result<Currenc
     let short = String::from_str(alloc, short)?;
     let narrow = String::from_str(alloc, narrow)?;
     let symbols = SymbolTexts { short, narrow };
-    let names = elements_read::<PlainText>(alloc, place, &names)?;
+    let names = names_given(alloc, &names)?;
     Ok(CurrencyRow {
         code,
         symbols,

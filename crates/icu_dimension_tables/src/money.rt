@@ -7,7 +7,7 @@ ghost use Rattle.icu_provider.specs.Identifier.{identifier_of};
 ghost use Rattle.icu_table_entries.specs.Named.{first_filed};
 ghost use Rattle.icu_table_entries.specs.Reading.{Gives};
 ghost use Rattle.icu_dimension_tables.specs.ByCategory.{elements_map};
-ghost use Rattle.icu_dimension_tables.specs.Money.{money_pattern_of, money_patterns_of, money_texts_at, names_at, places_filed, symbol_in_each, symbol_step};
+ghost use Rattle.icu_dimension_tables.specs.Money.{money_pattern_of, money_patterns_of, money_texts_at, names_at, patterns_filed, places_filed, symbol_in_each, symbol_step};
 
 use crate::by_category::{elements_read, texts_in};
 use crate::name_places::{NamePattern, NamePlaces};
@@ -236,8 +236,24 @@ impl EntryKind for CurrenciesEntry {
     }
 }
 
+/// The patterns of the first entry with an identifier.
+#[tactic(auto, using(crate::proofs::Filed::first_part))]
+pub fn patterns_filed<'a>(
+    entries: &'a [NamedEntry<LocaleMoney>],
+    id: &DataIdentifierBorrowed<'_>,
+) -> Option<&'a MoneyPatterns>
+    ensures { option_map (λ x. x.now) result
+        ≡ first_filed (identifier_of id.now) (patterns_filed entries.now) }
+{
+    match first_filed(entries, id) {
+        Some(money) => Some(&money.patterns),
+        None => None,
+    }
+}
+
 /// The places of names of the first entry with the identifier's locale and no numbering system.
-pub fn places_of_locale<'a>(
+#[tactic(auto, using(crate::proofs::Filed::first_part))]
+pub fn places_filed<'a>(
     entries: &'a [NamedEntry<LocaleMoney>],
     id: &DataIdentifierBorrowed<'_>,
 ) -> Option<&'a PluralElements<NamePlaces>>

@@ -9,7 +9,7 @@ ghost use Rattle.icu_dimension_tables.specs.Answering.{unit_answer};
 use crate::copying::patterns_copy;
 use crate::currency_names::names_answered;
 use crate::currency_symbols::row_filed;
-use crate::money::places_of_locale;
+use crate::money::{patterns_filed, places_filed};
 use crate::tables::DimensionTables;
 use crate::units::{UnitPatterns, UnitWidth, first_unit};
 use icu_decimal_data::DecimalSymbols;
@@ -190,8 +190,8 @@ impl DataProvider<CurrencyPatternsV1> for DimensionTables {
         let Some(entries) = &self.money else {
             return Err(DataErrorKind::MarkerNotFound.into());
         };
-        match first_filed(entries, &request.id) {
-            Some(money) => money.patterns.copied(alloc),
+        match patterns_filed(entries, &request.id) {
+            Some(patterns) => patterns.copied(alloc),
             None => Err(DataErrorKind::IdentifierNotFound.into()),
         }
     }
@@ -228,11 +228,16 @@ impl DataProvider<CurrencyNamesV1> for DimensionTables {
         alloc: Global,
         request: &DataRequest<'_>,
     ) -> Result<PluralElements<NamePattern>, DataError> {
-        let (Some(money), Some(currencies)) = (&self.money, &self.symbols) else {
+        let Some(money) = &self.money else {
             return Err(DataErrorKind::MarkerNotFound.into());
         };
-        let places = places_of_locale(money, &request.id);
-        match (places, row_filed(currencies, &request.id)) {
+        let Some(currencies) = &self.symbols else {
+            return Err(DataErrorKind::MarkerNotFound.into());
+        };
+        match (
+            places_filed(money, &request.id),
+            row_filed(currencies, &request.id),
+        ) {
             (Some(places), Some(row)) => names_answered(alloc, places, &row.names),
             _ => Err(DataErrorKind::IdentifierNotFound.into()),
         }

@@ -1,7 +1,0 @@
-use Rattle.std.proofs.Common.{◌≡◌, drop}
-use Rattle.icu_dimension_tables.specs.CurrencySymbols.{symbols_of_code}
-use Rattle.icu_dimension_tables.proofs.currency_symbols.symbols_of_code.Given as goal
-
--- the rows that are left decide
-abbrev pub invariant-loop-row : goal.invariant-loop-row
-invariant-loop-row l = symbols_of_code l.code (drop l.row-index l.rows) ≡ symbols_of_code l.code l.rows
