@@ -25,7 +25,7 @@ mod progress;
 mod running;
 mod words;
 
-pub use alone::{TextError, format_text};
+pub use alone::{TextError, format_text, push_shown, read_decimal};
 pub use filling::{FillError, Filled, format_lines};
 pub use judging::{TablesFault, judge_tables};
 pub use marked::format_parts;
