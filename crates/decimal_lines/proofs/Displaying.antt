@@ -157,7 +157,7 @@ count-high (suc k) some =
     ap count_up_to one_less ∙ omega arith
 
 -- a trimmed decimal is the one computed of its size
-decimal-told : (u : Unsigned) → IsUnsigned u → IsTrimmed u → decimal_of (integer_count u) (size u) ≡ u
+pub decimal-told : (u : Unsigned) → IsUnsigned u → IsTrimmed u → decimal_of (integer_count u) (size u) ≡ u
 decimal-told u is trimmed =
     let c : ℕ = integer_count u in
     let some : 0 < integer_count u = omega (arith, is.integer_some) in

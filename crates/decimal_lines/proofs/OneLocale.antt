@@ -21,7 +21,7 @@ use Rattle.decimal_lines.specs.declared.words.Style.{Style}
 use Rattle.decimal_lines.specs.declared.words.Style.TheVariants as style
 
 -- the same answer, and the same made of each
-and_then_both : {X Y : Type 0} (r s : Result X Refusal) (f g : X → Result Y Refusal) → r ≡ s → ((x : X) → f x ≡ g x)
+pub and_then_both : {X Y : Type 0} (r s : Result X Refusal) (f g : X → Result Y Refusal) → r ≡ s → ((x : X) → f x ≡ g x)
     → and_then r f ≡ and_then s g
 and_then_both {X = X} r s f g same each = ap (λ a. and_then a f) same ∙ go s
   where
@@ -30,7 +30,7 @@ and_then_both {X = X} r s f g same each = ap (λ a. and_then a f) same ∙ go s
     go (Err refusal) = refl
 
 -- the preferred identifier and the other one are answered alike
-preferably_same : {X : Type 0} (p q : Provider X) (locale : List ℕ) (system : Option (List ℕ)) (other : Identifier)
+pub preferably_same : {X : Type 0} (p q : Provider X) (locale : List ℕ) (system : Option (List ℕ)) (other : Identifier)
     → ((s : List ℕ) → p (record { system = Some s; locale = locale }) ≡ q (record { system = Some s; locale = locale })) → p other ≡ q other
     → preferably p (record { locale_preferences = locale; numbering_system = system }) other ≡ preferably q (record {
       locale_preferences = locale;
@@ -40,7 +40,8 @@ preferably_same p q locale None other preferred same = same
 preferably_same p q locale (Some s) other preferred same = rw (preferred s, same) refl
 
 module _ (locale : List ℕ) (system : Option (List ℕ)) (kept all : TablesData) (answers : AnswersAs locale kept all) where
-  symbols_same : symbols_loaded (filed_answer kept.symbols) (record {
+  -- the symbols are the same
+  pub symbols_same : symbols_loaded (filed_answer kept.symbols) (record {
     locale_preferences = locale;
     numbering_system = system;
   }) ≡ symbols_loaded (filed_answer all.symbols) (record { locale_preferences = locale; numbering_system = system })
@@ -49,13 +50,15 @@ module _ (locale : List ℕ) (system : Option (List ℕ)) (kept all : TablesData
     locale = locale;
   }) (λ s. answers.symbols _ refl) (answers.symbols _ refl)
 
-  digits_same : (s : DecimalSymbols)
+  -- and so are the digits
+  pub digits_same : (s : DecimalSymbols)
       → digits_loaded (λ id. system_answer kept.digits id.system) (record { locale_preferences = locale; numbering_system = system }) s
       ≡ digits_loaded (λ id. system_answer all.digits id.system) (record { locale_preferences = locale; numbering_system = system }) s
   digits_same s = preferably_same (λ id. system_answer kept.digits id.system) (λ id. system_answer all.digits id.system) locale system
       (record { system = Some s.strings.numsys; locale = codes "und" }) (λ x. answers.digits (Some x)) (answers.digits (Some s.strings.numsys))
 
-  loaded_same : (options : DecimalFormatterOptions)
+  -- so the plain formatter is
+  pub loaded_same : (options : DecimalFormatterOptions)
       → loaded (filed_answer kept.symbols) (λ id. system_answer kept.digits id.system) (record {
         locale_preferences = locale;
         numbering_system = system;
@@ -67,7 +70,7 @@ module _ (locale : List ℕ) (system : Option (List ℕ)) (kept all : TablesData
   loaded_same options = and_then_both _ _ _ _ symbols_same (λ s. and_then_both _ _ _ _ (digits_same s) (λ d. refl))
 
   -- with patterns that answer alike by each identifier of the locale
-  compact_loaded : (one other : Option (List (NamedEntry (List TableEntry))))
+  pub compact_loaded : (one other : Option (List (NamedEntry (List TableEntry))))
       → ((id : Identifier) → id.locale ≡ locale → optional_answer one id ≡ optional_answer other id) → (options : CompactDecimalFormatterOptions)
       → loaded_compact (filed_answer kept.symbols) (λ id. system_answer kept.digits id.system) (optional_answer kept.rules) (optional_answer one)
       (record { locale_preferences = locale; numbering_system = system }) options

@@ -1,6 +1,6 @@
 //! A single text instead of a line: its characters, or its characters and parts.
 
-ghost use Rattle.std.specs.Prelude.{◌≡◌, Ok, length, IfErr, IfOk, OnOk, OnErr};
+ghost use Rattle.std.specs.Prelude.{◌≡◌, ◌≢◌, Ok, length, IfErr, IfOk, OnOk, OnErr};
 ghost use Rattle.decimal_lines.specs.Alone.{AppendsShown, HoldsIfRoom, HoldsShown, IsRefusal, compact_events, decimal_read, events_of, mode_events};
 
 use crate::line::push_plain;
@@ -34,7 +34,7 @@ pub enum TextError {
 const ROOM: usize = 64;
 
 /// The decimal that a text reads as.
-pub(crate) fn read(alloc: Global, text: &[u8]) -> Result<Decimal, TextError>
+pub fn read_decimal(alloc: Global, text: &[u8]) -> Result<Decimal, TextError>
     ensures ok { IfOk result (λ d. decimal_read text.now ≡ Ok (d.sign, d.absolute)) }
     ensures refused { IfErr result (λ error. IsRefusal (decimal_read text.now) error) }
 {
@@ -58,6 +58,8 @@ fn push_compact(
         out.old.items out.new.items) }
     ensures refused { IfErr result (λ error. IsRefusal
         (compact_events formatter.now decimal.now.sign decimal.now.absolute) error) }
+    ensures unchanged { IfErr result (λ error. error ≢ TextError.OutOfMemory →
+        out.new.items ≡ out.old.items) }
 {
     match formatter.format(alloc, decimal) {
         Ok(formatted) => match formatted.write_events(out) {
@@ -71,7 +73,7 @@ fn push_compact(
 
 /// Appends what the mode shows for a decimal; without memory some bytes of it may stand there.
 #[tactic(auto, unfolding(crate::specs::Plain::plain_text))]
-fn push_shown(
+pub fn push_shown(
     alloc: Global,
     mode: &Mode,
     decimal: &Decimal,
@@ -82,6 +84,8 @@ fn push_shown(
         out.old.items out.new.items) }
     ensures refused { IfErr result (λ error. IsRefusal
         (mode_events mode.now decimal.now.sign decimal.now.absolute) error) }
+    ensures unchanged { IfErr result (λ error. error ≢ TextError.OutOfMemory →
+        out.new.items ≡ out.old.items) }
 {
     match mode {
         Mode::Plain(formatter) => match push_plain(formatter, decimal, out) {
@@ -120,7 +124,7 @@ pub fn format_text(
     ensures refused { IfErr result (λ error. IsRefusal (events_of mode.now text.now) error) }
     ensures unchanged { OnErr result (output.new ≡ output.old) }
 {
-    let decimal = read(alloc, text)?;
+    let decimal = read_decimal(alloc, text)?;
     let Ok(mut shown) = Vec::with_capacity(alloc, text.len().saturating_add(ROOM)) else {
         return Err(TextError::OutOfMemory);
     };

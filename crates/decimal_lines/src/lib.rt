@@ -25,11 +25,12 @@ mod progress;
 mod running;
 mod words;
 
-pub use alone::{TextError, format_text};
+pub use alone::{TextError, format_text, push_shown, read_decimal};
 pub use filling::{FillError, Filled, format_lines};
 pub use judging::{TablesFault, judge_tables};
 pub use marked::format_parts;
 pub use mode::{Mode, StartError};
+pub use piece::{WriteFailed, write_piece};
 pub use progress::{Progress, format_some};
 pub use running::{RunError, run};
 pub use words::{Style, Words, parse_words};

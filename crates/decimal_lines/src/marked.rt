@@ -4,7 +4,7 @@ ghost use Rattle.std.specs.Prelude.{◌≡◌, Ok, IfErr, IfOk};
 ghost use Rattle.icu_decimal.specs.Decimal.{decimal_events};
 ghost use Rattle.decimal_lines.specs.Alone.{IsRefusal, compact_events, events_of, mode_events};
 
-use crate::alone::{TextError, read};
+use crate::alone::{TextError, read_decimal};
 use crate::mode::Mode;
 use fixed_decimal::Decimal;
 use icu_decimal::error::FormatError;
@@ -75,6 +75,6 @@ pub fn format_parts(alloc: Global, mode: &Mode, text: &[u8]) -> Result<PartsText
     ensures ok { IfOk result (λ parts. events_of mode.now text.now ≡ Ok parts.events) }
     ensures refused { IfErr result (λ error. IsRefusal (events_of mode.now text.now) error) }
 {
-    let decimal = read(alloc, text)?;
+    let decimal = read_decimal(alloc, text)?;
     mark_shown(alloc, mode, &decimal)
 }

@@ -1,0 +1,6 @@
+pub mod Wanted
+pub mod Fractions
+pub mod Rounding
+pub mod Forms
+pub mod Loaded
+pub mod Making

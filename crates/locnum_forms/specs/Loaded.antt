@@ -1,0 +1,135 @@
+-- The form of what tables answer, in the order in which they are asked, or the first refusal.
+use Rattle.std.specs.Prelude.{ℕ, List, Bool, Option, Some, None, Result, Ok, codes, if◌then◌else◌}
+use Rattle.icu_pattern.specs.Patterns.{PatternText}
+use Rattle.icu_plurals.specs.Elements.{Elements}
+use Rattle.icu_provider.specs.Answer.{Refusal}
+use Rattle.icu_decimal_data.specs.CompactTable.{TableEntry}
+use Rattle.icu_decimal_data.specs.declared.decimal_symbols.DecimalSymbols.{DecimalSymbols}
+use Rattle.icu_decimal_options.specs.Preferences.{locale_id}
+use Rattle.icu_decimal.specs.Loaded.{Provider, and_then, loaded, loaded_compact}
+use Rattle.icu_decimal.specs.declared.options.DecimalFormatterOptions.{DecimalFormatterOptions}
+use Rattle.icu_decimal.specs.declared.options.GroupingStrategy.{GroupingStrategy}
+use Rattle.icu_decimal.specs.declared.preferences.CompactDecimalFormatterPreferences.{CompactDecimalFormatterPreferences}
+use Rattle.icu_decimal.specs.declared.preferences.DecimalFormatterPreferences.{DecimalFormatterPreferences}
+use Rattle.icu_decimal.specs.Decimal.{DecimalFormat}
+use Rattle.icu_dimension.specs.Money.{SignedFormat}
+use Rattle.icu_dimension.specs.PluralFormat.{PluralFormat}
+use Rattle.icu_dimension.specs.Loaded.{loaded_currency, loaded_percent, loaded_plural, money_symbols}
+use Rattle.icu_dimension.specs.declared.options.CurrencyFormatterOptions.{CurrencyFormatterOptions}
+use Rattle.icu_dimension.specs.declared.options.CurrencySign.{CurrencySign}
+use Rattle.icu_dimension.specs.declared.options.Width.{Width}
+use Rattle.icu_dimension_data.specs.Digits.{Digits, digits_of}
+use Rattle.icu_dimension_data.specs.declared.currency_digits.FractionDigits.{FractionDigits}
+use Rattle.icu_table_entries.specs.Answering.{filed_answer, optional_answer}
+use Rattle.icu_table_entries.specs.Named.{NamedEntry}
+use Rattle.icu_tables.specs.Digits.{system_answer}
+use Rattle.icu_tables.specs.Tables.{TablesData}
+use Rattle.icu_dimension_tables.specs.Answering.{decimals_answer, digits_answer, symbols_answer, unit_answer}
+use Rattle.icu_dimension_tables.specs.DimensionTables.{DimensionData}
+use Rattle.icu_dimension_tables.specs.declared.units.UnitWidth.TheVariants as filed
+use Rattle.decimal_lines.specs.Making.{compact_options, plain_options}
+use Rattle.decimal_lines.specs.declared.mode.Mode.TheVariants.{Plain, Compact}
+use Rattle.locnum_forms.specs.Forms.{FormData}
+use Rattle.locnum_forms.specs.Wanted.{WantedData}
+use Rattle.locnum_forms.specs.declared.form.Formatter.{Formatter}
+use Rattle.locnum_forms.specs.declared.form.Formatter.TheVariants.{Numbers, Money, Percent, Units}
+use Rattle.locnum_forms.specs.declared.wanted.FractionRange.{FractionRange}
+use Rattle.locnum_forms.specs.declared.wanted.UnitWidth.{UnitWidth}
+use Rattle.locnum_forms.specs.declared.wanted.UnitWidth.TheVariants.{Long, Short, Narrow}
+
+-- the locale and the system that are wanted
+abbrev pub preferences : WantedData → DecimalFormatterPreferences
+preferences wanted = record { locale_preferences = wanted.locale; numbering_system = wanted.system }
+
+-- and for compact numbers
+abbrev pub compact_preferences : WantedData → CompactDecimalFormatterPreferences
+compact_preferences wanted = record { locale_preferences = wanted.locale; numbering_system = wanted.system }
+
+-- the options of money
+abbrev pub money_options : Option GroupingStrategy → Width → CurrencySign → CurrencyFormatterOptions
+money_options grouping width sign = record { decimal = plain_options grouping; width = width; sign = sign }
+
+-- the form with this range of fraction digits and this formatter
+abbrev pub form_with : WantedData → Option FractionRange → Formatter → FormData
+form_with wanted fraction formatter = record { fraction = fraction; sign = wanted.sign; formatter = formatter }
+
+-- the symbols that tables answer for numbers of money
+abbrev pub symbols_for_money : TablesData → DimensionData → Provider DecimalSymbols
+symbols_for_money tables dimension = money_symbols (decimals_answer dimension.decimals) (filed_answer tables.symbols)
+
+-- the digits of numbering systems that they answer
+abbrev pub system_digits : TablesData → Provider (List ℕ)
+system_digits tables id = system_answer tables.digits id.system
+
+-- numbers in full
+unfoldable pub plain_loaded : WantedData → TablesData → Result FormData Refusal
+plain_loaded wanted tables =
+    and_then (loaded (filed_answer tables.symbols) (system_digits tables) (preferences wanted) (plain_options wanted.grouping)) (λ f.
+    Ok (form_with wanted wanted.fraction (Numbers (Plain f))))
+
+-- numbers shortened by patterns of these tables, which may have none; they have no range of fraction digits
+abbrev pub compact_loaded : WantedData → TablesData → Option (List (NamedEntry (List TableEntry))) → Result FormData Refusal
+compact_loaded wanted tables patterns =
+    and_then (loaded_compact (filed_answer tables.symbols) (system_digits tables) (optional_answer tables.rules) (optional_answer patterns)
+    (compact_preferences wanted) (compact_options wanted.grouping)) (λ f.
+    Ok (form_with wanted None (Numbers (Compact f))))
+
+-- by the short patterns
+unfoldable pub short_loaded : WantedData → TablesData → Result FormData Refusal
+short_loaded wanted tables = compact_loaded wanted tables tables.short
+
+-- by the long ones
+unfoldable pub long_loaded : WantedData → TablesData → Result FormData Refusal
+long_loaded wanted tables = compact_loaded wanted tables tables.long
+
+-- so many fraction digits
+abbrev pub exactly : ℕ → FractionRange
+exactly n = record { least = n; most = n }
+
+-- those of a currency, in cash or not
+abbrev pub currency_range : Bool → FractionDigits → FractionRange
+currency_range is_cash digits = if is_cash then exactly digits.cash else exactly digits.standard
+
+-- the range of fraction digits that is wanted, or else that of the currency
+unfoldable pub money_range : Option FractionRange → Provider Digits → List ℕ → Bool → Result FractionRange Refusal
+money_range None digits code is_cash = and_then (digits (locale_id (codes "und"))) (λ d. Ok (currency_range is_cash (digits_of d code)))
+money_range (Some range) digits code is_cash = Ok range
+
+-- the formatter of amounts of a currency
+unfoldable pub currency_loaded : WantedData → List ℕ → CurrencyFormatterOptions → TablesData → DimensionData → Result (SignedFormat DecimalFormat) Refusal
+currency_loaded wanted code options tables dimension =
+    loaded_currency (symbols_for_money tables dimension) (system_digits tables) (optional_answer dimension.currencies)
+    (symbols_answer dimension.symbols) (preferences wanted) code options
+
+-- amounts of a currency: the formatter, then the digits
+unfoldable pub money_loaded : WantedData → List ℕ → CurrencyFormatterOptions → Bool → TablesData → DimensionData → Result FormData Refusal
+money_loaded wanted code options is_cash tables dimension =
+    and_then (currency_loaded wanted code options tables dimension) (λ f.
+    and_then (money_range wanted.fraction (digits_answer dimension.digits) code is_cash) (λ range.
+    Ok (form_with wanted (Some range) (Money f))))
+
+-- percents
+unfoldable pub percent_loaded : WantedData → TablesData → DimensionData → Result FormData Refusal
+percent_loaded wanted tables dimension =
+    and_then (loaded_percent (filed_answer tables.symbols) (system_digits tables) (optional_answer dimension.percents)
+    (preferences wanted) (plain_options wanted.grouping)) (λ f.
+    Ok (form_with wanted wanted.fraction (Percent f)))
+
+-- the patterns of a unit in a width
+abbrev pub unit_patterns : UnitWidth → DimensionData → Provider (Elements PatternText)
+unit_patterns Long dimension = unit_answer filed.Long dimension.units
+unit_patterns Short dimension = unit_answer filed.Short dimension.units
+unit_patterns Narrow dimension = unit_answer filed.Narrow dimension.units
+
+-- the formatter of numbers with a unit
+abbrev pub units_loaded : UnitWidth → TablesData → DimensionData → DecimalFormatterPreferences → List ℕ → DecimalFormatterOptions
+    → Result (PluralFormat DecimalFormat PatternText) Refusal
+units_loaded width tables dimension prefs name options =
+    loaded_plural (filed_answer tables.symbols) (system_digits tables) (optional_answer tables.rules) (unit_patterns width dimension)
+    prefs name options (λ f r x. record { formatter = f; rules = r; elements = x })
+
+-- numbers with a unit
+unfoldable pub unit_loaded : WantedData → List ℕ → UnitWidth → TablesData → DimensionData → Result FormData Refusal
+unit_loaded wanted name width tables dimension =
+    and_then (units_loaded width tables dimension (preferences wanted) name (plain_options wanted.grouping)) (λ f.
+    Ok (form_with wanted wanted.fraction (Units f)))

@@ -1,0 +1,73 @@
+-- The form that is wanted, by the text of the tables.
+use Rattle.std.specs.Prelude.{◌≡◌, ℕ, List, Result, Ok, Err}
+use Rattle.icu_provider.specs.Answer.{Refusal}
+use Rattle.icu_provider.specs.declared.error.DataErrorKind.{DataErrorKind}
+use Rattle.icu_provider.specs.declared.error.DataErrorKind.TheVariants as refusal
+use Rattle.icu_table_entries.specs.declared.error.TableError.{TableError}
+use Rattle.icu_table_entries.specs.declared.error.TableError.TheVariants as table
+use Rattle.icu_tables.specs.Tables.{TablesData, tables_of}
+use Rattle.icu_dimension_tables.specs.DimensionTables.{DimensionData, dimension_tables_of}
+use Rattle.locnum_forms.specs.Forms.{FormData}
+use Rattle.locnum_forms.specs.Loaded.{long_loaded, money_loaded, money_options, percent_loaded, plain_loaded, short_loaded, unit_loaded}
+use Rattle.locnum_forms.specs.Wanted.{WantedData}
+use Rattle.locnum_forms.specs.declared.error.StartError.{StartError}
+use Rattle.locnum_forms.specs.declared.error.StartError.TheVariants as start
+use Rattle.locnum_forms.specs.declared.wanted.Kind.TheVariants.{Plain, Short, Long, Money, Percent, Unit as WithUnit}
+
+-- There is no form for this reason; `OutOfMemory` may be reported in place of any result.
+abbrev pub Stops : {X : Type 0} → StartError → Result X StartError → Type 0
+Stops start.NotUtf8 made = made ≡ Err start.NotUtf8
+Stops (start.Refused e) made = made ≡ Err (start.Refused e)
+Stops start.NoData made = made ≡ Err start.NoData
+Stops start.OutOfMemory made = Unit {0}
+
+-- The result of a call is this; `OutOfMemory` may be reported in place of any result.
+abbrev pub Starts : {X : Type 0} → Result X StartError → Result X StartError → Type 0
+Starts (Ok x) made = made ≡ Ok x
+Starts (Err e) made = Stops e made
+
+-- why there is no form if the tables refuse
+abbrev pub start_error : DataErrorKind → StartError
+start_error refusal.IdentifierNotFound = start.NoData
+start_error refusal.MarkerNotFound = start.NoData
+start_error refusal.InvalidRequest = start.NoData
+start_error refusal.Custom = start.NoData
+start_error refusal.OutOfMemory = start.OutOfMemory
+
+-- why there is no form if a text is refused
+abbrev pub table_error : TableError → StartError
+table_error table.NotJson = start.Refused table.NotJson
+table_error table.Float = start.Refused table.Float
+table_error (table.Missing key) = start.Refused (table.Missing key)
+table_error (table.WrongKind key) = start.Refused (table.WrongKind key)
+table_error (table.Entry key index fault) = start.Refused (table.Entry key index fault)
+table_error table.OutOfMemory = start.OutOfMemory
+
+-- what tables answer, or why there is nothing
+abbrev pub started : {X : Type 0} → Result X Refusal → Result X StartError
+started (Ok x) = Ok x
+started (Err refusal) = Err (start_error refusal.kind)
+
+-- what is made of tables that were read, or what refuses them
+abbrev pub read_then : {X Y : Type 0} → Result X TableError → (X → Result Y StartError) → Result Y StartError
+read_then (Ok x) next = next x
+read_then (Err e) next = Err (start.Refused e)
+
+-- what is made of the tables of numbers of a text
+abbrev pub with_tables : List ℕ → (TablesData → Result FormData Refusal) → Result FormData StartError
+with_tables text load = read_then (tables_of text) (λ tables. started (load tables))
+
+-- what is made of the tables of numbers of a text, and then of those of money, percents and units
+abbrev pub with_both : List ℕ → (TablesData → DimensionData → Result FormData Refusal) → Result FormData StartError
+with_both text load = read_then (tables_of text) (λ tables. read_then (dimension_tables_of text) (λ dimension. started (load tables dimension)))
+
+-- the form that is wanted, by the text of the tables; those of money, percents and units are read where they are asked
+unfoldable pub form_of : WantedData → List ℕ → Result FormData StartError
+form_of wanted text = elim wanted.kind [
+  | Plain ↦ with_tables text (plain_loaded wanted)
+  | Short ↦ with_tables text (short_loaded wanted)
+  | Long ↦ with_tables text (long_loaded wanted)
+  | Money code width sign is_cash ↦ with_both text (money_loaded wanted code (money_options wanted.grouping width sign) is_cash)
+  | Percent ↦ with_both text (percent_loaded wanted)
+  | WithUnit name width ↦ with_both text (unit_loaded wanted name.now width)
+]

@@ -1,0 +1,21 @@
+//! Why there is no form.
+
+use icu_tables::TableError;
+use thiserror::Error;
+
+/// Why there is no form.
+#[derive(Clone, Copy, Debug, PartialEq, Eq, Error)]
+pub enum StartError {
+    /// The file of tables isn't UTF-8.
+    #[error("not UTF-8")]
+    NotUtf8,
+    /// Its text is refused.
+    #[error("{0}")]
+    Refused(TableError),
+    /// The tables lack data that the form needs.
+    #[error("no data")]
+    NoData,
+    /// An allocation was refused.
+    #[error("out of memory")]
+    OutOfMemory,
+}

@@ -1,0 +1,42 @@
+//! What is known of how each text is written.
+
+use crate::wanted::FractionRange;
+use decimal_lines::Mode;
+use fixed_decimal::SignDisplay;
+use icu_decimal::DecimalFormatter;
+use icu_dimension::{CurrencyFormatter, PercentFormatter, UnitsFormatter};
+use std::marker::Model;
+
+/// What writes a number, whose digits and sign are given.
+#[derive(Drop)]
+pub enum Formatter {
+    /// The number alone, in full or shortened.
+    Numbers(Mode),
+    /// An amount of money with the symbol of its currency.
+    Money(CurrencyFormatter<DecimalFormatter>),
+    /// A hundred times the number as a percent.
+    Percent(PercentFormatter<DecimalFormatter>),
+    /// The number with a unit.
+    Units(UnitsFormatter<DecimalFormatter>),
+}
+
+/// How numbers are written: with which digits and which sign, and by which formatter (this
+/// project's own).
+#[derive(Drop)]
+pub struct Form {
+    pub(crate) fraction: Option<FractionRange>,
+    pub(crate) sign: SignDisplay,
+    pub(crate) formatter: Formatter,
+}
+
+impl Model for Form {
+    ghost use Rattle.locnum_forms.specs.Forms.{FormData};
+
+    ghost Value = { FormData };
+
+    ghost view = { λ f. record {
+      fraction = f.fraction;
+      sign = f.sign;
+      formatter = f.formatter;
+    } };
+}

@@ -1,0 +1,265 @@
+//! Forms that are made of what tables answer.
+
+ghost use Rattle.std.specs.Prelude.{◌≡◌};
+ghost use Rattle.icu_provider.specs.Answer.{Answers};
+ghost use Rattle.icu_dimension_tables.specs.Answering.{digits_answer};
+ghost use Rattle.decimal_lines.specs.Making.{compact_options, plain_options};
+ghost use Rattle.locnum_forms.specs.Loaded.{compact_preferences, currency_loaded, currency_range, exactly, long_loaded, money_loaded, money_range, percent_loaded};
+ghost use Rattle.locnum_forms.specs.Loaded.{plain_loaded, preferences, short_loaded, unit_loaded, units_loaded};
+
+use crate::form::{Form, Formatter};
+use crate::tables::Both;
+use crate::wanted::{FractionRange, UnitWidth, Wanted};
+use decimal_lines::Mode;
+use icu_decimal::options::{
+    CompactDecimalFormatterOptions, DecimalFormatterOptions, GroupingStrategy,
+};
+use icu_decimal::preferences::{CompactDecimalFormatterPreferences, DecimalFormatterPreferences};
+use icu_decimal::{CompactDecimalFormatter, DecimalFormatter};
+use icu_dimension::options::CurrencyFormatterOptions;
+use icu_dimension::provider::{UnitsLongV1, UnitsNarrowV1, UnitsShortV1, load_currency_digits};
+use icu_dimension::{CurrencyFormatter, PercentFormatter, UnitsFormatter};
+use icu_dimension_data::{CurrencyCode, FractionDigits};
+use icu_provider::DataError;
+use icu_tables::Tables;
+use std::alloc::Global;
+
+/// The options of numbers under a strategy, or the default ones.
+pub(crate) fn plain_options(grouping: Option<GroupingStrategy>) -> DecimalFormatterOptions
+    ensures { result ≡ plain_options grouping }
+{
+    match grouping {
+        Some(strategy) => DecimalFormatterOptions::from(strategy),
+        None => DecimalFormatterOptions::default(),
+    }
+}
+
+/// The options of compact numbers under a strategy, or the default ones.
+fn compact_options(grouping: Option<GroupingStrategy>) -> CompactDecimalFormatterOptions
+    ensures { result ≡ compact_options grouping }
+{
+    match grouping {
+        Some(strategy) => CompactDecimalFormatterOptions::from(strategy),
+        None => CompactDecimalFormatterOptions::default(),
+    }
+}
+
+/// The locale and the system that are wanted.
+fn preferences(wanted: &Wanted<'_>) -> DecimalFormatterPreferences
+    ensures { result ≡ preferences wanted.now }
+{
+    DecimalFormatterPreferences {
+        locale_preferences: wanted.locale,
+        numbering_system: wanted.system,
+    }
+}
+
+/// The locale and the system that are wanted, for compact numbers.
+fn compact_preferences(wanted: &Wanted<'_>) -> CompactDecimalFormatterPreferences
+    ensures { result ≡ compact_preferences wanted.now }
+{
+    CompactDecimalFormatterPreferences {
+        locale_preferences: wanted.locale,
+        numbering_system: wanted.system,
+    }
+}
+
+/// Numbers in full.
+#[tactic(auto, unfolding(crate::specs::Loaded::plain_loaded))]
+pub(crate) fn load_plain(
+    alloc: Global,
+    tables: &Tables,
+    wanted: &Wanted<'_>,
+) -> Result<Form, DataError>
+    ensures { Answers result (plain_loaded wanted.now tables.now) }
+{
+    let options = plain_options(wanted.grouping);
+    let prefs = preferences(wanted);
+    let formatter = DecimalFormatter::try_new_unstable(alloc, tables, prefs, options)?;
+    Ok(Form {
+        fraction: wanted.fraction,
+        sign: wanted.sign,
+        formatter: Formatter::Numbers(Mode::Plain(formatter)),
+    })
+}
+
+/// Numbers shortened by the short patterns.
+#[tactic(auto, unfolding(crate::specs::Loaded::short_loaded))]
+pub(crate) fn load_short(
+    alloc: Global,
+    tables: &Tables,
+    wanted: &Wanted<'_>,
+) -> Result<Form, DataError>
+    ensures { Answers result (short_loaded wanted.now tables.now) }
+{
+    let options = compact_options(wanted.grouping);
+    let prefs = compact_preferences(wanted);
+    let formatter = CompactDecimalFormatter::try_new_short_unstable(alloc, tables, prefs, options)?;
+    Ok(Form {
+        fraction: None,
+        sign: wanted.sign,
+        formatter: Formatter::Numbers(Mode::Compact(formatter)),
+    })
+}
+
+/// Numbers shortened by the long patterns.
+#[tactic(auto, unfolding(crate::specs::Loaded::long_loaded))]
+pub(crate) fn load_long(
+    alloc: Global,
+    tables: &Tables,
+    wanted: &Wanted<'_>,
+) -> Result<Form, DataError>
+    ensures { Answers result (long_loaded wanted.now tables.now) }
+{
+    let options = compact_options(wanted.grouping);
+    let prefs = compact_preferences(wanted);
+    let formatter = CompactDecimalFormatter::try_new_long_unstable(alloc, tables, prefs, options)?;
+    Ok(Form {
+        fraction: None,
+        sign: wanted.sign,
+        formatter: Formatter::Numbers(Mode::Compact(formatter)),
+    })
+}
+
+/// So many fraction digits.
+fn exactly(digits: u8) -> FractionRange
+    ensures { result ≡ exactly digits }
+{
+    FractionRange {
+        least: digits,
+        most: digits,
+    }
+}
+
+/// The fraction digits of a currency, in cash or not.
+fn currency_range(is_cash: bool, digits: FractionDigits) -> FractionRange
+    ensures { result ≡ currency_range is_cash digits }
+{
+    if is_cash {
+        exactly(digits.cash)
+    } else {
+        exactly(digits.standard)
+    }
+}
+
+/// The range of fraction digits that is wanted, or else that of the currency.
+#[tactic(auto, unfolding(crate::specs::Loaded::money_range))]
+fn money_range(
+    alloc: Global,
+    both: &Both,
+    wanted: Option<FractionRange>,
+    code: CurrencyCode,
+    is_cash: bool,
+) -> Result<FractionRange, DataError>
+    ensures { Answers result
+        (money_range wanted (digits_answer both.now.dimension.digits) code is_cash) }
+{
+    if let Some(range) = wanted {
+        return Ok(range);
+    }
+    let digits = load_currency_digits::<Both>(alloc, both)?;
+    Ok(currency_range(is_cash, digits.of(code)))
+}
+
+/// The formatter of amounts of a currency.
+#[tactic(auto, unfolding(crate::specs::Loaded::currency_loaded))]
+fn load_currency(
+    alloc: Global,
+    both: &Both,
+    wanted: &Wanted<'_>,
+    code: CurrencyCode,
+    options: CurrencyFormatterOptions,
+) -> Result<CurrencyFormatter<DecimalFormatter>, DataError>
+    ensures { Answers result
+        (currency_loaded wanted.now code options both.now.numbers both.now.dimension) }
+{
+    let prefs = preferences(wanted);
+    CurrencyFormatter::try_new_unstable::<Both>(alloc, both, prefs, code, options)
+}
+
+/// Amounts of a currency.
+#[tactic(auto, unfolding(crate::specs::Loaded::money_loaded))]
+pub(crate) fn load_money(
+    alloc: Global,
+    both: &Both,
+    wanted: &Wanted<'_>,
+    code: CurrencyCode,
+    options: CurrencyFormatterOptions,
+    is_cash: bool,
+) -> Result<Form, DataError>
+    ensures { Answers result
+        (money_loaded wanted.now code options is_cash both.now.numbers both.now.dimension) }
+{
+    let formatter = load_currency(alloc, both, wanted, code, options)?;
+    let range = money_range(alloc, both, wanted.fraction, code, is_cash)?;
+    Ok(Form {
+        fraction: Some(range),
+        sign: wanted.sign,
+        formatter: Formatter::Money(formatter),
+    })
+}
+
+/// Percents.
+#[tactic(auto, unfolding(crate::specs::Loaded::percent_loaded))]
+pub(crate) fn load_percent(
+    alloc: Global,
+    both: &Both,
+    wanted: &Wanted<'_>,
+) -> Result<Form, DataError>
+    ensures { Answers result (percent_loaded wanted.now both.now.numbers both.now.dimension) }
+{
+    let options = plain_options(wanted.grouping);
+    let prefs = preferences(wanted);
+    let formatter = PercentFormatter::try_new_unstable::<Both>(alloc, both, prefs, options)?;
+    Ok(Form {
+        fraction: wanted.fraction,
+        sign: wanted.sign,
+        formatter: Formatter::Percent(formatter),
+    })
+}
+
+/// The formatter of numbers with a unit in a width.
+fn load_units(
+    alloc: Global,
+    both: &Both,
+    prefs: DecimalFormatterPreferences,
+    name: &str,
+    width: UnitWidth,
+    options: DecimalFormatterOptions,
+) -> Result<UnitsFormatter<DecimalFormatter>, DataError>
+    ensures { Answers result
+        (units_loaded width both.now.numbers both.now.dimension prefs name.now options) }
+{
+    match width {
+        UnitWidth::Long => UnitsFormatter::try_new_unstable::<UnitsLongV1, Both>(
+            alloc, both, prefs, name, options,
+        ),
+        UnitWidth::Short => UnitsFormatter::try_new_unstable::<UnitsShortV1, Both>(
+            alloc, both, prefs, name, options,
+        ),
+        UnitWidth::Narrow => UnitsFormatter::try_new_unstable::<UnitsNarrowV1, Both>(
+            alloc, both, prefs, name, options,
+        ),
+    }
+}
+
+/// Numbers with a unit.
+#[tactic(auto, unfolding(crate::specs::Loaded::unit_loaded))]
+pub(crate) fn load_unit(
+    alloc: Global,
+    both: &Both,
+    wanted: &Wanted<'_>,
+    name: &str,
+    width: UnitWidth,
+) -> Result<Form, DataError>
+    ensures { Answers result
+        (unit_loaded wanted.now name.now width both.now.numbers both.now.dimension) }
+{
+    let options = plain_options(wanted.grouping);
+    let formatter = load_units(alloc, both, preferences(wanted), name, width, options)?;
+    Ok(Form {
+        fraction: wanted.fraction,
+        sign: wanted.sign,
+        formatter: Formatter::Units(formatter),
+    })
+}

@@ -1,0 +1,201 @@
+//! The form that is wanted, by the bytes of a file of tables.
+
+ghost use Rattle.std.specs.Prelude.{◌≡◌, Err, IfErr, IfOk, Result};
+ghost use Rattle.icu_provider.specs.Answer.{Answers, Refusal};
+ghost use Rattle.icu_tables.specs.ForLocale.{IsFor};
+ghost use Rattle.icu_tables.specs.Tables.{TablesData, tables_of};
+ghost use Rattle.icu_dimension_tables.specs.DimensionTables.{DimensionData, dimension_tables_of};
+ghost use Rattle.locnum_forms.specs.Forms.{FormData};
+ghost use Rattle.locnum_forms.specs.Loaded.{long_loaded, money_loaded, money_options, percent_loaded, plain_loaded, short_loaded, unit_loaded};
+ghost use Rattle.locnum_forms.specs.Making.{Starts, Stops, form_of, read_then, start_error, started, table_error, with_both, with_tables};
+
+use crate::error::StartError;
+use crate::form::Form;
+use crate::loading::{
+    load_long, load_money, load_percent, load_plain, load_short, load_unit, plain_options,
+};
+use crate::tables::Both;
+use crate::wanted::{Kind, UnitWidth, Wanted};
+use icu_dimension::options::{CurrencyFormatterOptions, CurrencySign, Width};
+use icu_dimension_data::CurrencyCode;
+use icu_dimension_tables::DimensionTables;
+use icu_provider::{DataError, DataErrorKind};
+use icu_tables::{TableError, Tables};
+use std::alloc::Global;
+use std::str;
+
+/// Why there is no form if the tables refuse.
+fn start_error(error: DataError) -> StartError
+    ensures { result ≡ start_error error.kind }
+{
+    match error.kind {
+        DataErrorKind::OutOfMemory => StartError::OutOfMemory,
+        _ => StartError::NoData,
+    }
+}
+
+/// Why there is no form if the text is refused.
+fn table_error(error: TableError) -> StartError
+    ensures { result ≡ table_error error }
+{
+    match error {
+        TableError::OutOfMemory => StartError::OutOfMemory,
+        error => StartError::Refused(error),
+    }
+}
+
+/// The form that tables answer, or why there is none.
+fn started(loaded: Result<Form, DataError>) -> Result<Form, StartError>
+    ensures { (answer : Result FormData Refusal) → Answers loaded answer → Starts result
+        (started answer) }
+{
+    match loaded {
+        Ok(form) => Ok(form),
+        Err(error) => Err(start_error(error)),
+    }
+}
+
+/// The tables of numbers of a text, for the locale.
+fn tables_in(alloc: Global, wanted: &Wanted<'_>, text: &str) -> Result<Tables, StartError>
+    ensures tables { IfOk result (λ tables. IsFor wanted.now.locale tables (tables_of text.now)) }
+    ensures refused { IfErr result (λ error. (next : TablesData → Result FormData StartError) →
+        Stops error (read_then (tables_of text.now) next)) }
+{
+    match Tables::from_json_for_locale(alloc, text, &wanted.locale) {
+        Ok(tables) => Ok(tables),
+        Err(error) => Err(table_error(error)),
+    }
+}
+
+/// The tables of a text, those of numbers for the locale.
+fn both_in(alloc: Global, wanted: &Wanted<'_>, text: &str) -> Result<Both, StartError>
+    ensures numbers { IfOk result (λ both.
+        IsFor wanted.now.locale both.numbers (tables_of text.now)) }
+    ensures dimension { IfOk result (λ both. dimension_tables_of text.now ≡ Ok both.dimension) }
+    ensures refused { IfErr result (λ error.
+        (load : TablesData → DimensionData → Result FormData Refusal) →
+        Stops error (with_both text.now load)) }
+{
+    let numbers = tables_in(alloc, wanted, text)?;
+    match DimensionTables::from_json(alloc, text) {
+        Ok(dimension) => Ok(Both { numbers, dimension }),
+        Err(error) => Err(table_error(error)),
+    }
+}
+
+/// Numbers in full, by a text of tables.
+fn plain_form(alloc: Global, wanted: &Wanted<'_>, text: &str) -> Result<Form, StartError>
+    ensures { Starts result (with_tables text.now (plain_loaded wanted.now)) }
+{
+    let tables = tables_in(alloc, wanted, text)?;
+    started(load_plain(alloc, &tables, wanted))
+}
+
+/// Numbers shortened by the short patterns, by a text of tables.
+fn short_form(alloc: Global, wanted: &Wanted<'_>, text: &str) -> Result<Form, StartError>
+    ensures { Starts result (with_tables text.now (short_loaded wanted.now)) }
+{
+    let tables = tables_in(alloc, wanted, text)?;
+    started(load_short(alloc, &tables, wanted))
+}
+
+/// Numbers shortened by the long patterns, by a text of tables.
+fn long_form(alloc: Global, wanted: &Wanted<'_>, text: &str) -> Result<Form, StartError>
+    ensures { Starts result (with_tables text.now (long_loaded wanted.now)) }
+{
+    let tables = tables_in(alloc, wanted, text)?;
+    started(load_long(alloc, &tables, wanted))
+}
+
+/// Amounts of a currency, by a text of tables.
+fn money_form(
+    alloc: Global,
+    wanted: &Wanted<'_>,
+    text: &str,
+    code: CurrencyCode,
+    options: CurrencyFormatterOptions,
+    is_cash: bool,
+) -> Result<Form, StartError>
+    ensures { Starts result
+        (with_both text.now (money_loaded wanted.now code options is_cash)) }
+{
+    let both = both_in(alloc, wanted, text)?;
+    started(load_money(alloc, &both, wanted, code, options, is_cash))
+}
+
+/// Percents, by a text of tables.
+fn percent_form(alloc: Global, wanted: &Wanted<'_>, text: &str) -> Result<Form, StartError>
+    ensures { Starts result (with_both text.now (percent_loaded wanted.now)) }
+{
+    let both = both_in(alloc, wanted, text)?;
+    started(load_percent(alloc, &both, wanted))
+}
+
+/// Numbers with a unit, by a text of tables.
+fn unit_form(
+    alloc: Global,
+    wanted: &Wanted<'_>,
+    text: &str,
+    name: &str,
+    width: UnitWidth,
+) -> Result<Form, StartError>
+    ensures { Starts result (with_both text.now (unit_loaded wanted.now name.now width)) }
+{
+    let both = both_in(alloc, wanted, text)?;
+    started(load_unit(alloc, &both, wanted, name, width))
+}
+
+/// The form that is wanted, by a text of tables.
+#[tactic(auto, unfolding(crate::specs::Making::form_of))]
+fn form_of(alloc: Global, wanted: &Wanted<'_>, text: &str) -> Result<Form, StartError>
+    ensures { Starts result (form_of wanted.now text.now) }
+{
+    match wanted.kind {
+        Kind::Plain => plain_form(alloc, wanted, text),
+        Kind::Short => short_form(alloc, wanted, text),
+        Kind::Long => long_form(alloc, wanted, text),
+        Kind::Money {
+            code,
+            width,
+            sign,
+            is_cash,
+        } => {
+            let options = money_options(wanted, width, sign);
+            money_form(alloc, wanted, text, code, options, is_cash)
+        }
+        Kind::Percent => percent_form(alloc, wanted, text),
+        Kind::Unit { name, width } => unit_form(alloc, wanted, text, name, width),
+    }
+}
+
+/// The options of money.
+fn money_options(wanted: &Wanted<'_>, width: Width, sign: CurrencySign) -> CurrencyFormatterOptions
+    ensures { result ≡ money_options wanted.now.grouping width sign }
+{
+    CurrencyFormatterOptions {
+        decimal: plain_options(wanted.grouping),
+        width,
+        sign,
+    }
+}
+
+impl Form {
+    ghost use Rattle.std.specs.Prelude.{◌≡◌, Err};
+    ghost use Rattle.std.specs.Str.{IsUtf8};
+    ghost use Rattle.locnum_forms.specs.Making.{Starts, form_of};
+
+    /// The form that is wanted, by the bytes of a file of tables (this project's own).
+    ///
+    /// `NotUtf8` if the file isn't UTF-8; `Refused` with the first fault of its text, of the tables
+    /// of numbers first, and then, for money, percents and units, of theirs; `NoData` if the tables
+    /// lack data that the form needs; `OutOfMemory` if an allocation is refused.
+    pub fn make(alloc: Global, wanted: &Wanted<'_>, file: &[u8]) -> Result<Form, StartError>
+        ensures text { IsUtf8 file.now → Starts result (form_of wanted.now file.now) }
+        ensures no_text { ¬ (IsUtf8 file.now) → result ≡ Err StartError.NotUtf8 }
+    {
+        let Ok(text) = str::from_utf8(file) else {
+            return Err(StartError::NotUtf8);
+        };
+        form_of(alloc, wanted, text)
+    }
+}

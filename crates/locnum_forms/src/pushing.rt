@@ -1,0 +1,149 @@
+//! What a form writes for a text.
+
+ghost use Rattle.std.specs.Prelude.{◌≡◌, ◌≢◌, ◌⊎◌, ◌++◌, IfErr, IsErrOf, IsOkAnd, OnOk};
+ghost use Rattle.std.specs.String.{string_bytes};
+ghost use Rattle.decimal_lines.specs.Alone.{AppendsShown, IsRefusal};
+ghost use Rattle.locnum_forms.specs.Forms.{digits_moved, formatter_events};
+ghost use Rattle.locnum_forms.specs.declared.form.Formatter.TheVariants.{Money, Percent, Units};
+
+use crate::form::{Form, Formatter};
+use crate::fractions::in_range;
+use decimal_lines::{TextError, push_shown, read_decimal};
+use fixed_decimal::Decimal;
+use icu_decimal::DecimalFormatter;
+use icu_decimal::error::FormatError;
+use icu_dimension::{CurrencyFormatter, PercentFormatter, UnitsFormatter};
+use std::alloc::Global;
+
+/// How many more fraction digits the number has than what is written of it.
+fn digits_moved(formatter: &Formatter) -> u8
+    ensures { result ≡ digits_moved formatter.now }
+{
+    match formatter {
+        Formatter::Percent(_) => 2,
+        Formatter::Numbers(_) | Formatter::Money(_) | Formatter::Units(_) => 0,
+    }
+}
+
+/// Appends a text that was written.
+fn push_text(written: Result<String, FormatError>, out: &mut Vec<u8>) -> Result<(), TextError>
+    ensures ok { OnOk result (IsOkAnd written (λ text.
+        out.new.items ≡ out.old.items ++ string_bytes text)) }
+    ensures refused { IfErr result (λ error. (error ≡ TextError.OutOfMemory)
+        ⊎ ((error ≡ TextError.Overflow) × IsErrOf written FormatError.Overflow)) }
+    ensures unchanged { IfErr result (λ error. error ≢ TextError.OutOfMemory →
+        out.new.items ≡ out.old.items) }
+{
+    match written {
+        Ok(text) => match out.extend_from_slice(text.as_bytes()) {
+            Ok(()) => Ok(()),
+            Err(_) => Err(TextError::OutOfMemory),
+        },
+        Err(FormatError::Overflow) => Err(TextError::Overflow),
+        Err(FormatError::OutOfMemory | FormatError::Sink) => Err(TextError::OutOfMemory),
+    }
+}
+
+/// Appends an amount of money.
+fn push_money(
+    alloc: Global,
+    formatter: &CurrencyFormatter<DecimalFormatter>,
+    decimal: &Decimal,
+    out: &mut Vec<u8>,
+) -> Result<(), TextError>
+    ensures ok { OnOk result (AppendsShown
+        (formatter_events (Money formatter.now) decimal.now.sign decimal.now.absolute)
+        out.old.items out.new.items) }
+    ensures refused { IfErr result (λ error. IsRefusal
+        (formatter_events (Money formatter.now) decimal.now.sign decimal.now.absolute) error) }
+    ensures unchanged { IfErr result (λ error. error ≢ TextError.OutOfMemory →
+        out.new.items ≡ out.old.items) }
+{
+    push_text(formatter.write_to_string(alloc, decimal), out)
+}
+
+/// Appends a percent.
+fn push_percent(
+    alloc: Global,
+    formatter: &PercentFormatter<DecimalFormatter>,
+    decimal: &Decimal,
+    out: &mut Vec<u8>,
+) -> Result<(), TextError>
+    ensures ok { OnOk result (AppendsShown
+        (formatter_events (Percent formatter.now) decimal.now.sign decimal.now.absolute)
+        out.old.items out.new.items) }
+    ensures refused { IfErr result (λ error. IsRefusal
+        (formatter_events (Percent formatter.now) decimal.now.sign decimal.now.absolute) error) }
+    ensures unchanged { IfErr result (λ error. error ≢ TextError.OutOfMemory →
+        out.new.items ≡ out.old.items) }
+{
+    push_text(formatter.write_to_string(alloc, decimal), out)
+}
+
+/// Appends a number with its unit.
+fn push_units(
+    alloc: Global,
+    formatter: &UnitsFormatter<DecimalFormatter>,
+    decimal: &Decimal,
+    out: &mut Vec<u8>,
+) -> Result<(), TextError>
+    ensures ok { OnOk result (AppendsShown
+        (formatter_events (Units formatter.now) decimal.now.sign decimal.now.absolute)
+        out.old.items out.new.items) }
+    ensures refused { IfErr result (λ error. IsRefusal
+        (formatter_events (Units formatter.now) decimal.now.sign decimal.now.absolute) error) }
+    ensures unchanged { IfErr result (λ error. error ≢ TextError.OutOfMemory →
+        out.new.items ≡ out.old.items) }
+{
+    push_text(formatter.write_to_string(alloc, decimal), out)
+}
+
+/// Appends what the formatter writes for a decimal; without memory some bytes of it may stand
+/// there.
+fn push_formatted(
+    alloc: Global,
+    formatter: &Formatter,
+    decimal: &Decimal,
+    out: &mut Vec<u8>,
+) -> Result<(), TextError>
+    ensures ok { OnOk result (AppendsShown
+        (formatter_events formatter.now decimal.now.sign decimal.now.absolute)
+        out.old.items out.new.items) }
+    ensures refused { IfErr result (λ error. IsRefusal
+        (formatter_events formatter.now decimal.now.sign decimal.now.absolute) error) }
+    ensures unchanged { IfErr result (λ error. error ≢ TextError.OutOfMemory →
+        out.new.items ≡ out.old.items) }
+{
+    match formatter {
+        Formatter::Numbers(mode) => push_shown(alloc, mode, decimal, out),
+        Formatter::Money(money) => push_money(alloc, money, decimal, out),
+        Formatter::Percent(percent) => push_percent(alloc, percent, decimal, out),
+        Formatter::Units(units) => push_units(alloc, units, decimal, out),
+    }
+}
+
+impl Form {
+    ghost use Rattle.std.specs.Prelude.{◌≡◌, ◌≢◌, IfErr, OnOk};
+    ghost use Rattle.decimal_lines.specs.Alone.{AppendsShown, IsRefusal};
+    ghost use Rattle.locnum_forms.specs.Forms.{form_events};
+
+    /// Appends what the form writes for a text.
+    ///
+    /// The text is a decimal and nothing else. Its number is rounded first, half to even, and then
+    /// its sign is decided, so that a number that is rounded to zero has none where zero has none.
+    /// `Overflow` where the rounded number, the nearest compact number or a hundred times the
+    /// number is too large. Without memory some bytes of what is written may stand there.
+    #[tactic(auto, unfolding(crate::specs::Forms::form_events))]
+    pub fn push(&self, alloc: Global, text: &[u8], out: &mut Vec<u8>) -> Result<(), TextError>
+        ensures ok { OnOk result (AppendsShown (form_events self.now text.now) out.old.items
+            out.new.items) }
+        ensures refused { IfErr result (λ error. IsRefusal (form_events self.now text.now) error) }
+        ensures unchanged { IfErr result (λ error. error ≢ TextError.OutOfMemory →
+            out.new.items ≡ out.old.items) }
+    {
+        let decimal = read_decimal(alloc, text)?;
+        let rounded = in_range(decimal, self.fraction, digits_moved(&self.formatter))?;
+        let shown = rounded.with_sign_display(self.sign);
+        push_formatted(alloc, &self.formatter, &shown, out)
+    }
+}

@@ -1,0 +1,96 @@
+//! What a form is to be, besides the tables.
+
+use fixed_decimal::SignDisplay;
+use icu_decimal::options::GroupingStrategy;
+use icu_dimension::options::{CurrencySign, Width};
+use icu_dimension_data::CurrencyCode;
+use icu_provider::{DataLocale, NumberingSystem};
+use std::marker::Model;
+
+/// How many fraction digits are written (this project's own).
+///
+/// A number is rounded half to even to at most so many, and zeros are written behind it where it
+/// has fewer than the least. Where the least is more than the most, that many are written, the last
+/// of them zeros.
+#[derive(Clone, Copy, Debug, PartialEq, Eq)]
+pub struct FractionRange {
+    /// As many at least.
+    pub least: u8,
+    /// As many at most.
+    pub most: u8,
+}
+
+/// Which patterns write a unit.
+#[derive(Clone, Copy, Debug, PartialEq, Eq)]
+pub enum UnitWidth {
+    /// The long ones, as `2 kilometers`.
+    Long,
+    /// The short ones, as `2 km`.
+    Short,
+    /// The narrow ones, as `2km`.
+    Narrow,
+}
+
+/// What is written of a number (this project's own).
+#[derive(Clone, Copy, Debug)]
+pub enum Kind<'a> {
+    /// The number in full, as `15,127`.
+    Plain,
+    /// The number by the short patterns, as `15K`.
+    Short,
+    /// The number by the long patterns, as `15 thousand`.
+    Long,
+    /// An amount of money with the symbol of its currency, as `$15,127.00`.
+    Money {
+        /// The currency.
+        code: CurrencyCode,
+        /// Which symbol it has.
+        width: Width,
+        /// Which pattern writes a sign.
+        sign: CurrencySign,
+        /// Whether the amount has the digits of cash, where no fraction digits are asked for.
+        is_cash: bool,
+    },
+    /// A hundred times the number as a percent, as `12%`.
+    Percent,
+    /// The number with a unit, as `2 km`.
+    Unit {
+        /// The unit as the tables name it, as `kilometer`.
+        name: &'a str,
+        /// Which patterns write it.
+        width: UnitWidth,
+    },
+}
+
+/// What a form is to be (this project's own).
+#[derive(Debug, Drop)]
+pub struct Wanted<'a> {
+    /// The locale whose data is taken.
+    pub locale: DataLocale,
+    /// The numbering system that is preferred; `None` where none is.
+    pub system: Option<NumberingSystem>,
+    /// When separators are written; `None` is the default: `min2` for compact numbers, else `auto`.
+    pub grouping: Option<GroupingStrategy>,
+    /// How many fraction digits are written. `None`: those of the currency for money, else the
+    /// digits as they are given. Compact numbers ignore it.
+    pub fraction: Option<FractionRange>,
+    /// Which signs are written.
+    pub sign: SignDisplay,
+    /// What is written.
+    pub kind: Kind<'a>,
+}
+
+impl<'a> Model for Wanted<'a> {
+    ghost use Rattle.locnum_forms.specs.Wanted.{WantedData};
+
+    ghost Value = { WantedData };
+
+    ghost view = { λ w. record {
+      locale = w.locale;
+      system = w.system;
+      grouping = w.grouping;
+      fraction = w.fraction;
+      sign = w.sign;
+      kind = w.kind;
+    } };
+}

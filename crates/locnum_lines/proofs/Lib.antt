@@ -1,0 +1,9 @@
+pub mod Cuts
+pub mod Adding
+pub mod Numbers
+pub mod Chosen
+pub mod FirstField
+pub mod Goes
+pub mod Feeding
+pub mod Fed
+pub mod Runs

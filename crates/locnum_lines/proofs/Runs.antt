@@ -1,0 +1,238 @@
+-- What was written and told while a run goes on, and when it ends.
+-- What was gathered goes to the writers block by block. `Went` says of a run so far that the writers hold what its whole lines
+-- write and tell; each way out of the loop is a lemma on it. A run that stopped writes nothing more, whatever is left to read.
+use Rattle.std.proofs.Common.{◌≡◌, ℕ, ◌+◌, ◌-◌, Bool, true, false, List, [], ◌∷◌, ◌++◌, length, Option, Some, None, eqb, refl, sym, ap, ◌∙◌, append_assoc, arith, inl, inr}
+use Rattle.std.specs.Prelude.{IfSome, ◌||◌, OnErr, Result, Ok, Err}
+use Rattle.std.specs.Io.KnownBytes.{Appends, Consumes, IsAtEnd}
+use Rattle.std.proofs.lemmas.Bool.{eqb-true, false≢true}
+use Rattle.std.proofs.lemmas.List.{append-nil}
+use Rattle.decimal_lines.specs.Written.{AppendsBeginning}
+use Rattle.decimal_lines.proofs.Known.{Appends-nothing, Appends-then, AppendsBeginning-more, AppendsBeginning-nothing, AppendsBeginning-then}
+use Rattle.locnum_forms.specs.Forms.{FormData}
+use Rattle.locnum_lines.specs.Gathered.{Adds, Feeds, GatheredData}
+use Rattle.locnum_lines.specs.LineRuns.{IsPartLine, input_ran, lines_of, lines_ran, next_ran}
+use Rattle.locnum_lines.specs.Ran.{Ran, joined, then_runs, writes}
+use Rattle.locnum_lines.specs.Reported.{Begins, Ends, Finishes}
+use Rattle.locnum_lines.specs.Settings.{SettingsData}
+use Rattle.locnum_lines.specs.declared.running.Report.{Report}
+use Rattle.locnum_lines.proofs.Adding.{Adds-end, or_false, then_runs-on, then_runs-stopped}
+use Rattle.locnum_lines.proofs.Fed.{Feeds-nothing, Feeds-then}
+use Rattle.locnum_lines.proofs.Feeding.{lines_of-append, lines_of-last, lines_of-nothing, lines_ran-append, lines_ran-none, lines_ran-one}
+
+-- all of a text is a beginning of it
+whole_appended : (a b : Option (List ℕ)) (x : List ℕ) → Appends a b x → AppendsBeginning a b x
+whole_appended a b x p = (x, p, ([], sym (append-nil x)))
+
+-- where nothing was there before, what is there now was added
+pub only_added : (new old added : List ℕ) → new ≡ old ++ added → old ≡ [] → new ≡ added
+only_added new old added e none = e ∙ ap (λ (k : List ℕ). k ++ added) none
+
+-- a result that may be an error
+pub any_err : {X E : Type 0} {P : Type 0} (r : Result X E) → P → OnErr r P
+any_err (Ok x) p = tt
+any_err (Err e) p = p
+
+-- a beginning of a part is one of what runs with others behind it
+pub begins-then : (a b : Ran) (w w2 n n2 : Option (List ℕ)) → AppendsBeginning w w2 a.output → AppendsBeginning n n2 a.notes →
+    Begins (then_runs a b) w w2 n n2
+begins-then a b w w2 n n2 p q = go a.is_stopped refl
+  where
+    go : (t : Bool) → a.is_stopped ≡ t → Begins (then_runs a b) w w2 n n2
+    go true e = rw (then_runs-stopped a b e) (record { written = p; told = q })
+    go false e = rw (then_runs-on a b e) (record {
+      written = AppendsBeginning-more w w2 a.output b.output p;
+      told = AppendsBeginning-more n n2 a.notes b.notes q;
+    })
+
+module _ (settings : SettingsData) (form : FormData) where
+  -- nothing is held back
+  pub held-none : (held : List ℕ) (left : ℕ) → (eqb (length held) 0 ≡ true) → lines_ran settings form left (lines_of settings.end held) ≡ writes []
+  held-none [] left e = rw (lines_of-nothing settings.end) (lines_ran-none settings form left)
+  held-none (b ∷ held) left e = absurd (omega (arith, eqb-true (length (b ∷ held)) 0 e))
+
+  -- part of a line is
+  pub held-ran : (held : List ℕ) (old new : GatheredData) → (eqb (length held) 0 ≡ false) → IsPartLine settings.end held →
+      Adds old new (next_ran settings form old.header held) 1 → Adds old new (lines_ran settings form old.header (lines_of settings.end held)) 1
+  held-ran [] old new e part adds = absurd cc
+  held-ran (b ∷ held) old new e part adds =
+      rw (lines_of-last settings.end b held part, lines_ran-one settings form (b ∷ held) old.header)
+      (Adds-end old new (next_ran settings form old.header (b ∷ held)) 1 adds)
+
+  -- gathered behind what was written before
+  Feeds-shift : (old new : GatheredData) (p a p1 x y : List ℕ) → old.output ≡ [] → old.notes ≡ [] → Feeds settings form old new p a p1 →
+      Feeds settings form (record old { output = x; notes = y }) (record new { output = x ++ new.output; notes = y ++ new.notes }) p a p1
+  Feeds-shift old new p a p1 x y none none' f = record {
+    whole = f.whole;
+    left = f.left;
+    are_whole = f.are_whole;
+    parts = f.parts;
+    adds = record {
+      output = ap (λ (k : List ℕ). x ++ k) (f.adds.output ∙ ap (λ (k : List ℕ). k ++ ran.output) none);
+      notes = ap (λ (k : List ℕ). y ++ k) (f.adds.notes ∙ ap (λ (k : List ℕ). k ++ ran.notes) none');
+      is_refused = f.adds.is_refused;
+      is_stopped = f.adds.is_stopped;
+      header = f.adds.header;
+    };
+    is_held = f.is_held;
+    is_part = f.is_part;
+  }
+    where
+      ran : Ran
+      ran = lines_ran settings form old.header (lines_of settings.end f.whole)
+
+-- before anything was read
+abbrev pub start : SettingsData → GatheredData
+start settings = record { output = []; notes = []; is_refused = false; is_stopped = false; header = settings.header }
+
+-- the writers hold what the whole lines of what was read write and tell, and nothing is gathered besides
+pub record Went (settings : SettingsData) (form : FormData) (w w' n n' : Option (List ℕ)) (now : GatheredData) (got held : List ℕ) : Type 0 where
+  pub output : List ℕ
+  pub notes : List ℕ
+  pub written : Appends w w' output
+  pub told : Appends n n' notes
+  pub feeds : Feeds settings form (start settings) (record now { output = output; notes = notes }) [] got held
+
+-- of an input that begins with bytes that were fed this much was run
+fed-begins : (settings : SettingsData) (form : FormData) (now : GatheredData) (got held : List ℕ)
+    (f : Feeds settings form (start settings) now [] got held) (rest : List ℕ) →
+    input_ran settings form (got ++ rest) ≡ then_runs (lines_ran settings form settings.header (lines_of settings.end f.whole))
+    (lines_ran settings form (settings.header - length (lines_of settings.end f.whole)) (lines_of settings.end (f.left ++ rest)))
+unfolding input_ran
+fed-begins settings form now got held f rest =
+    let parts : got ++ rest ≡ f.whole ++ (f.left ++ rest) =
+    ap (λ (k : List ℕ). k ++ rest) f.parts ∙ append_assoc f.whole f.left rest in
+    ap (λ (k : List ℕ). lines_ran settings form settings.header (lines_of settings.end k)) parts
+    ∙ ap (lines_ran settings form settings.header) (lines_of-append settings.end f.whole (f.left ++ rest) f.are_whole)
+    ∙ lines_ran-append settings form (lines_of settings.end f.whole) (lines_of settings.end (f.left ++ rest)) settings.header
+
+module _ (settings : SettingsData) (form : FormData) (w n : Option (List ℕ)) where
+  -- nothing was read
+  pub Went-start : Went settings form w w n n (start settings) [] []
+  Went-start = record {
+    output = [];
+    notes = [];
+    written = Appends-nothing w;
+    told = Appends-nothing n;
+    feeds = Feeds-nothing settings form (start settings) [] refl tt;
+  }
+
+  -- a block was read, run and written
+  pub Went-then : (w1 w2 n1 n2 : Option (List ℕ)) (now next : GatheredData) (got held chunk held' : List ℕ) →
+      Went settings form w w1 n n1 now got held → now.output ≡ [] → now.notes ≡ [] → now.is_stopped ≡ false →
+      Feeds settings form now next held chunk held' → Appends w1 w2 next.output → Appends n1 n2 next.notes →
+      Went settings form w w2 n n2 (record next { output = []; notes = [] }) (got ++ chunk) held'
+  Went-then w1 w2 n1 n2 now next got held chunk held' went none none' on f p q = record {
+    output = went.output ++ next.output;
+    notes = went.notes ++ next.notes;
+    written = Appends-then w w1 w2 went.output next.output went.written p;
+    told = Appends-then n n1 n2 went.notes next.notes went.told q;
+    feeds = Feeds-then settings form (start settings) (record now { output = went.output; notes = went.notes })
+        (record next { output = went.output ++ next.output; notes = went.notes ++ next.notes }) [] got held chunk held' on went.feeds
+        (Feeds-shift settings form now next held chunk held' went.output went.notes none none' f);
+  }
+
+  module _ (w1 n1 : Option (List ℕ)) (now : GatheredData) (got held : List ℕ) (went : Went settings form w w1 n n1 now got held) where
+    abbrev first : Ran
+    first = lines_ran settings form settings.header (lines_of settings.end went.feeds.whole)
+
+    -- of an input that begins with what was read, this much was run
+    begins : (rest : List ℕ) → input_ran settings form (got ++ rest) ≡ then_runs first
+        (lines_ran settings form (settings.header - length (lines_of settings.end went.feeds.whole)) (lines_of settings.end (went.feeds.left ++ rest)))
+    begins rest = fed-begins settings form (record now { output = went.output; notes = went.notes }) got held went.feeds rest
+
+    -- a beginning was written and told
+    begun : (rest : List ℕ) → Begins (input_ran settings form (got ++ rest)) w w1 n n1
+    begun rest =
+        rw (begins rest) (begins-then first
+        (lines_ran settings form (settings.header - length (lines_of settings.end went.feeds.whole)) (lines_of settings.end (went.feeds.left ++ rest)))
+        w w1 n n1 (rw went.feeds.adds.output at (whole_appended w w1 went.output went.written))
+        (rw went.feeds.adds.notes at (whole_appended n n1 went.notes went.told)))
+
+    -- so reading may fail, or memory be refused
+    pub pauses : (r r' : Option (List ℕ)) → Consumes r r' got → IfSome r (λ input. Begins (input_ran settings form input) w w1 n n1)
+    pauses None r' p = tt
+    pauses (Some input) None p = absurd p
+    pauses (Some input) (Some rest) p = rw p (begun rest)
+
+    -- the run has stopped
+    pub stops : (r r' : Option (List ℕ)) (report : Report) → Consumes r r' got → now.is_stopped ≡ true →
+        report ≡ record { is_refused = now.is_refused; is_stopped = now.is_stopped } →
+        IfSome r (λ input. Ends (input_ran settings form input) w w1 n n1 report r')
+    stops None r' report p s e = tt
+    stops (Some input) None report p s e = absurd p
+    stops (Some input) (Some rest) report p s e =
+        let stopped : first.is_stopped ≡ true = sym went.feeds.adds.is_stopped ∙ s in
+        rw (
+          p,
+          begins rest,
+          then_runs-stopped first (lines_ran settings form (settings.header - length (lines_of settings.end went.feeds.whole))
+              (lines_of settings.end (went.feeds.left ++ rest))) stopped,
+        ) (record {
+          written = rw went.feeds.adds.output at went.written;
+          told = rw went.feeds.adds.notes at went.told;
+          is_refused = ap (λ k. k.is_refused) e ∙ went.feeds.adds.is_refused;
+          is_stopped = ap (λ k. k.is_stopped) e ∙ went.feeds.adds.is_stopped;
+          all_read = λ on. absurd (false≢true (sym on ∙ stopped));
+        })
+
+    module _ (on : now.is_stopped ≡ false) where
+      abbrev last : Ran
+      last = lines_ran settings form now.header (lines_of settings.end held)
+
+      -- of an input that was read to its end this is all
+      all : input_ran settings form got ≡ joined first last
+      all =
+          let going : first.is_stopped ≡ false = sym went.feeds.adds.is_stopped ∙ on in
+          let count = length (lines_of settings.end went.feeds.whole) in
+          let header : now.header ≡ settings.header - count = went.feeds.adds.header on in
+          let left : went.feeds.left ++ [] ≡ held = append-nil went.feeds.left ∙ sym (went.feeds.is_held on) in
+          ap (input_ran settings form) (sym (append-nil got)) ∙ begins []
+          ∙ then_runs-on first (lines_ran settings form (settings.header - count) (lines_of settings.end (went.feeds.left ++ []))) going
+          ∙ ap (λ k. joined first (lines_ran settings form k (lines_of settings.end (went.feeds.left ++ [])))) (sym header)
+          ∙ ap (λ (k : List ℕ). joined first (lines_ran settings form now.header (lines_of settings.end k))) left
+
+      -- at the end of the input what was held back is run
+      pub ends : (r r' w2 n2 : Option (List ℕ)) (report : Report) → Consumes r r' got → IsAtEnd r' →
+          Finishes last now.is_refused w1 w2 n1 n2 report → IfSome r (λ input. Ends (input_ran settings form input) w w2 n n2 report r')
+      ends None r' w2 n2 report p q f = tt
+      ends (Some input) None w2 n2 report p q f = absurd p
+      ends (Some input) (Some rest) w2 n2 report p q f =
+          let e : input ≡ got = p ∙ ap (λ (k : List ℕ). got ++ k) q ∙ append-nil got in
+          rw (e, all) (record {
+            written = Appends-then w w1 w2 first.output last.output (rw went.feeds.adds.output at went.written) f.written;
+            told = Appends-then n n1 n2 first.notes last.notes (rw went.feeds.adds.notes at went.told) f.told;
+            is_refused = f.is_refused ∙ ap (λ k. k || last.is_refused) went.feeds.adds.is_refused;
+            is_stopped = f.is_stopped;
+            all_read = λ on. ap Some q;
+          })
+
+      -- or not all of it is written
+      pub ends_early : (r r' w2 n2 : Option (List ℕ)) → Consumes r r' got → IsAtEnd r' → Begins last w1 w2 n1 n2 →
+          IfSome r (λ input. Begins (input_ran settings form input) w w2 n n2)
+      ends_early None r' w2 n2 p q f = tt
+      ends_early (Some input) None w2 n2 p q f = absurd p
+      ends_early (Some input) (Some rest) w2 n2 p q f =
+          let e : input ≡ got = p ∙ ap (λ (k : List ℕ). got ++ k) q ∙ append-nil got in
+          rw (e, all) (record {
+            written = AppendsBeginning-then w w1 w2 first.output last.output (rw went.feeds.adds.output at went.written) f.written;
+            told = AppendsBeginning-then n n1 n2 first.notes last.notes (rw went.feeds.adds.notes at went.told) f.told;
+          })
+
+  -- a block was run, and not all of what it writes and tells was written
+  pub breaks : (w1 w2 n1 n2 r r' : Option (List ℕ)) (now next : GatheredData) (got held chunk held' : List ℕ) →
+      Went settings form w w1 n n1 now got held → now.output ≡ [] → now.notes ≡ [] → now.is_stopped ≡ false →
+      Feeds settings form now next held chunk held' → Consumes r r' (got ++ chunk) →
+      AppendsBeginning w1 w2 next.output → AppendsBeginning n1 n2 next.notes →
+      IfSome r (λ input. Begins (input_ran settings form input) w w2 n n2)
+  breaks w1 w2 n1 n2 None r' now next got held chunk held' went none none' on f p a b = tt
+  breaks w1 w2 n1 n2 (Some input) None now next got held chunk held' went none none' on f p a b = absurd p
+  breaks w1 w2 n1 n2 (Some input) (Some rest) now next got held chunk held' went none none' on f p a b' =
+      let so_far = record next { output = went.output ++ next.output; notes = went.notes ++ next.notes } in
+      let fed : Feeds settings form (start settings) so_far [] (got ++ chunk) held' =
+      Feeds-then settings form (start settings) (record now { output = went.output; notes = went.notes }) so_far [] got held chunk held' on
+      went.feeds (Feeds-shift settings form now next held chunk held' went.output went.notes none none' f) in
+      rw (p, fed-begins settings form so_far (got ++ chunk) held' fed rest)
+      (begins-then (lines_ran settings form settings.header (lines_of settings.end fed.whole))
+      (lines_ran settings form (settings.header - length (lines_of settings.end fed.whole)) (lines_of settings.end (fed.left ++ rest))) w w2 n n2
+      (rw fed.adds.output at (AppendsBeginning-then w w1 w2 went.output next.output went.written a))
+      (rw fed.adds.notes at (AppendsBeginning-then n n1 n2 went.notes next.notes went.told b')))

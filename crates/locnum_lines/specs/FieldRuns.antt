@@ -1,0 +1,58 @@
+-- What is written for the fields of a line.
+use Rattle.std.specs.Prelude.{ℕ, suc, ◌||◌, ◌==◌, true, false, nat_lt, List, [], ◌∷◌, ◌++◌, map, Result, Ok, Err, codes, if◌then◌else◌}
+use Rattle.writeable.specs.Events.{Event, text_of}
+use Rattle.decimal_lines.specs.declared.alone.TextError.{TextError}
+use Rattle.decimal_lines.specs.declared.alone.TextError.TheVariants.{NotDecimal, TooManyDigits, Overflow, OutOfMemory}
+use Rattle.locnum_forms.specs.Forms.{FormData, form_events}
+use Rattle.locnum_lines.specs.Fields.{Cut, Field, cut, fields_from}
+use Rattle.locnum_lines.specs.Ran.{Ran, joined, then_runs, writes}
+use Rattle.locnum_lines.specs.Settings.{SettingsData, is_chosen}
+use Rattle.locnum_lines.specs.declared.settings.Refusals.{Refusals}
+use Rattle.locnum_lines.specs.declared.settings.Refusals.TheVariants.{Abort, Fail, Warn, Ignore}
+
+-- a byte as notes have it: control characters as question marks
+abbrev pub printable : ℕ → ℕ
+printable b = if nat_lt b 32 || b == 127 then 63 else b
+
+-- why a text is refused
+abbrev pub reason : TextError → List ℕ
+reason NotDecimal = codes "not a decimal"
+reason TooManyDigits = codes "too many digits"
+reason Overflow = codes "overflow"
+reason OutOfMemory = codes "out of memory"
+
+-- the line that tells it
+unfoldable pub note : List ℕ → TextError → List ℕ
+note text error = codes "locnum: " ++ map printable text ++ codes ": " ++ reason error ++ 10 ∷ []
+
+-- a number that is refused, and what is behind it
+abbrev pub refused_ran : Refusals → List ℕ → List ℕ → TextError → Ran
+refused_ran Abort number behind error = record { output = []; notes = note number error; is_refused = true; is_stopped = true }
+refused_ran Fail number behind error = record { output = number ++ behind; notes = note number error; is_refused = true; is_stopped = false }
+refused_ran Warn number behind error = record { output = number ++ behind; notes = note number error; is_refused = true; is_stopped = false }
+refused_ran Ignore number behind error = record { output = number ++ behind; notes = []; is_refused = true; is_stopped = false }
+
+-- a number by what it is shown as, and what is behind it
+abbrev pub shown_ran : Refusals → List ℕ → List ℕ → Result (List Event) TextError → Ran
+shown_ran refusals number behind (Ok events) = writes (text_of events ++ behind)
+shown_ran refusals number behind (Err error) = refused_ran refusals number behind error
+
+-- a number and what is behind it
+unfoldable pub number_ran : Refusals → FormData → List ℕ → List ℕ → Ran
+number_ran refusals form number behind = shown_ran refusals number behind (form_events form number)
+
+-- a field that is chosen: blanks, its number, and blanks behind it
+abbrev pub chosen_ran : Refusals → FormData → Cut → Ran
+chosen_ran refusals form field = joined (writes field.before) (number_ran refusals form field.number field.behind)
+
+-- a field of this number: its number is written, or it goes through as it is
+unfoldable pub field_ran : SettingsData → FormData → ℕ → List ℕ → Ran
+field_ran settings form index text =
+    if is_chosen settings.fields index then chosen_ran settings.refusals form (cut text) else writes text
+
+-- fields from this number on, each with the byte behind it
+unfoldable pub fields_ran : SettingsData → FormData → ℕ → List Field → Ran
+fields_ran settings form index [] = writes []
+fields_ran settings form index (field ∷ fields) =
+    then_runs (field_ran settings form index field.text)
+    (then_runs (writes field.behind) (fields_ran settings form (suc index) fields))

@@ -1,0 +1,18 @@
+-- Which fields of a line are numbers, and what becomes of texts that are refused.
+use Rattle.std.specs.Prelude.{ℕ, Bool, false, ◌&&◌, ◌||◌, nat_le, List, [], ◌∷◌, Option}
+use Rattle.locnum_lines.specs.declared.settings.FieldRange.{FieldRange}
+use Rattle.locnum_lines.specs.declared.settings.Refusals.{Refusals}
+
+-- how lines are cut, which fields are numbers, how many lines are a header, the byte that ends a line, and what becomes of
+-- a text that is refused
+pub record SettingsData : Type 0 where
+  pub delimiter : Option ℕ
+  pub fields : List FieldRange
+  pub header : ℕ
+  pub end : ℕ
+  pub refusals : Refusals
+
+-- whether a field of this number, from 1 on, is in one of the ranges
+unfoldable pub is_chosen : List FieldRange → ℕ → Bool
+is_chosen [] index = false
+is_chosen (range ∷ ranges) index = (nat_le range.first index && nat_le index range.last) || is_chosen ranges index

@@ -1,0 +1,78 @@
+//! What was gathered of an input's output and notes.
+
+ghost use Rattle.std.specs.Prelude.{◌≡◌, [], false};
+ghost use Rattle.locnum_lines.specs.Gathered.{Adds, GatheredData};
+ghost use Rattle.locnum_lines.specs.Ran.{writes};
+
+use std::alloc::{AllocError, Global};
+use std::marker::Model;
+
+/// Output and notes that aren't written yet, and how far the run is.
+#[derive(Drop)]
+pub(crate) struct Gathered {
+    pub(crate) output: Vec<u8>,
+    pub(crate) notes: Vec<u8>,
+    pub(crate) is_refused: bool,
+    pub(crate) is_stopped: bool,
+    pub(crate) header: u64,
+}
+
+impl Model for Gathered {
+    ghost use Rattle.locnum_lines.specs.Gathered.{GatheredData};
+
+    ghost Value = { GatheredData };
+
+    ghost view = { λ g. record {
+      output = g.output.items;
+      notes = g.notes.items;
+      is_refused = g.is_refused;
+      is_stopped = g.is_stopped;
+      header = g.header;
+    } };
+}
+
+impl Gathered {
+    ghost use Rattle.std.specs.Prelude.{◌≡◌, [], ◌∷◌, ◌++◌, false, OnOk};
+
+    /// Nothing gathered, with a header of so many lines.
+    pub(crate) fn new(alloc: Global, header: u64) -> Self
+        ensures { result ≡ record {
+          output = [];
+          notes = [];
+          is_refused = false;
+          is_stopped = false;
+          header = header;
+        } }
+    {
+        Gathered {
+            output: Vec::new(alloc),
+            notes: Vec::new(alloc),
+            is_refused: false,
+            is_stopped: false,
+            header,
+        }
+    }
+
+    /// Forgets what was written.
+    pub(crate) fn clear(&mut self)
+        ensures { self.new ≡ record self.old { output = []; notes = [] } }
+    {
+        self.output.clear();
+        self.notes.clear();
+    }
+
+    /// Bytes of the output.
+    pub(crate) fn write(&mut self, bytes: &[u8]) -> Result<(), AllocError>
+        ensures { OnOk result (self.new ≡ record self.old { output = self.old.output ++ bytes.now }) }
+    {
+        self.output.extend_from_slice(bytes)
+    }
+
+    /// A byte of the output.
+    pub(crate) fn push(&mut self, byte: u8) -> Result<(), AllocError>
+        ensures { OnOk result (self.new ≡ record self.old { output = self.old.output ++ byte ∷ [] }) }
+    {
+        self.output.push(byte)?;
+        Ok(())
+    }
+}

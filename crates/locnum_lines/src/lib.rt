@@ -1,0 +1,14 @@
+//! Lines with numbers in some of their fields, to lines in which these are in the form of a locale.
+#![tactic(auto)]
+
+mod blocks;
+mod cutting;
+mod field;
+mod gathered;
+mod line;
+mod note;
+mod running;
+mod settings;
+
+pub use running::{Report, RunError, run};
+pub use settings::{FieldRange, LineSettings, Refusals};

@@ -1,0 +1,205 @@
+//! From a reader to a writer.
+
+ghost use Rattle.std.specs.Prelude.{◌≡◌, ◌<◌, [], Some, false, OnErr, OnOk, IfOk, IfSome, length, vec_len};
+ghost use Rattle.std.specs.Io.KnownBytes.{Appends};
+ghost use Rattle.decimal_lines.specs.Written.{AppendsBeginning};
+ghost use Rattle.locnum_lines.specs.Gathered.{GatheredData};
+ghost use Rattle.locnum_lines.specs.LineRuns.{IsPartLine, input_ran, lines_of, lines_ran};
+ghost use Rattle.locnum_lines.specs.Reported.{Begins, Ends, Finishes};
+
+use crate::blocks::take_block;
+use crate::gathered::Gathered;
+use crate::line::push_line;
+use crate::settings::LineSettings;
+use decimal_lines::write_piece;
+use locnum_forms::Form;
+use std::alloc::{AllocError, Global};
+use std::io::{Read, Write};
+use thiserror::Error;
+
+/// Why a run ended early.
+#[derive(Clone, Copy, Debug, PartialEq, Eq, Error)]
+pub enum RunError {
+    /// The reader answered an error, or 2^64 reads had no end.
+    #[error("reading failed")]
+    Read,
+    /// A writer answered an error, or took no byte.
+    #[error("writing failed")]
+    Write,
+    /// An allocation was refused.
+    #[error("out of memory")]
+    OutOfMemory,
+}
+
+/// What happened in a run.
+#[derive(Clone, Copy, Debug, PartialEq, Eq)]
+pub struct Report {
+    /// Whether a text was refused.
+    pub is_refused: bool,
+    /// Whether the run stopped there.
+    pub is_stopped: bool,
+}
+
+/// How many bytes are read at once.
+const BLOCK_LEN: usize = 65536;
+
+/// What the run so far reports.
+fn reported(gathered: &Gathered) -> Report
+    ensures { result ≡ record {
+      is_refused = gathered.now.is_refused;
+      is_stopped = gathered.now.is_stopped;
+    } }
+{
+    Report {
+        is_refused: gathered.is_refused,
+        is_stopped: gathered.is_stopped,
+    }
+}
+
+/// Writes what was gathered, and forgets it.
+fn flush<W: Write, N: Write>(
+    gathered: &mut Gathered,
+    writer: &mut W,
+    notes: &mut N,
+) -> Result<(), RunError>
+    ensures ok { OnOk result (gathered.new ≡ record gathered.old { output = []; notes = [] }) }
+    ensures written { OnOk result
+        (Appends (W.contents writer.old) (W.contents writer.new) gathered.old.output) }
+    ensures told { OnOk result
+        (Appends (N.contents notes.old) (N.contents notes.new) gathered.old.notes) }
+    ensures err_written { OnErr result
+        (AppendsBeginning (W.contents writer.old) (W.contents writer.new) gathered.old.output) }
+    ensures err_told { OnErr result
+        (AppendsBeginning (N.contents notes.old) (N.contents notes.new) gathered.old.notes) }
+{
+    let Ok(()) = write_piece(writer, &gathered.output) else {
+        return Err(RunError::Write);
+    };
+    let Ok(()) = write_piece(notes, &gathered.notes) else {
+        return Err(RunError::Write);
+    };
+    gathered.clear();
+    Ok(())
+}
+
+/// Runs what is held back at the end of the input, if anything is.
+fn finish<W: Write, N: Write>(
+    alloc: Global,
+    settings: &LineSettings,
+    form: &Form,
+    held: &[u8],
+    gathered: &mut Gathered,
+    writer: &mut W,
+    notes: &mut N,
+) -> Result<Report, RunError>
+    requires going { gathered.old.is_stopped ≡ false }
+    requires no_output { gathered.old.output ≡ [] }
+    requires no_notes { gathered.old.notes ≡ [] }
+    requires part { IsPartLine settings.now.end held.now }
+    ensures ok { IfOk result (λ report. Finishes
+        (lines_ran settings.now form.now gathered.old.header (lines_of settings.now.end held.now))
+        gathered.old.is_refused (W.contents writer.old) (W.contents writer.new)
+        (N.contents notes.old) (N.contents notes.new) report) }
+    ensures err { OnErr result (Begins
+        (lines_ran settings.now form.now gathered.old.header (lines_of settings.now.end held.now))
+        (W.contents writer.old) (W.contents writer.new)
+        (N.contents notes.old) (N.contents notes.new)) }
+{
+    if held.is_empty() {
+        return Ok(reported(gathered));
+    }
+    let Ok(()) = push_line(alloc, settings, form, held, gathered) else {
+        return Err(RunError::OutOfMemory);
+    };
+    flush(gathered, writer, notes)?;
+    Ok(reported(gathered))
+}
+
+/// Reads all lines by this buffer.
+fn run_by<R: Read, W: Write, N: Write>(
+    alloc: Global,
+    settings: &LineSettings,
+    form: &Form,
+    reader: &mut R,
+    writer: &mut W,
+    notes: &mut N,
+    block: &mut [u8],
+) -> Result<Report, RunError>
+    requires { 0 < length block.old }
+    ensures ok { IfOk result (λ report. IfSome (R.remaining reader.old) (λ input. Ends
+        (input_ran settings.now form.now input)
+        (W.contents writer.old) (W.contents writer.new)
+        (N.contents notes.old) (N.contents notes.new) report (R.remaining reader.new))) }
+    ensures err { OnErr result (IfSome (R.remaining reader.old) (λ input. Begins
+        (input_ran settings.now form.now input)
+        (W.contents writer.old) (W.contents writer.new)
+        (N.contents notes.old) (N.contents notes.new))) }
+{
+    let mut held = Vec::new(alloc);
+    let mut gathered = Gathered::new(alloc, settings.header);
+    for _ in 0..=u64::MAX {
+        let Ok(n) = reader.read(block) else {
+            return Err(RunError::Read);
+        };
+        if n == 0 {
+            return finish(alloc, settings, form, &held, &mut gathered, writer, notes);
+        }
+        let taken = take_block(alloc, settings, form, &block[..n], &mut held, &mut gathered);
+        let Ok(()) = taken else {
+            return Err(RunError::OutOfMemory);
+        };
+        flush(&mut gathered, writer, notes)?;
+        if gathered.is_stopped {
+            return Ok(reported(&gathered));
+        }
+    }
+    Err(RunError::Read)
+}
+
+/// A buffer of this many bytes.
+fn buffer(alloc: Global, len: usize) -> Result<Vec<u8>, AllocError>
+    ensures { IfOk result (λ v. vec_len v ≡ len) }
+{
+    Vec::from_elem(alloc, 0u8, len)
+}
+
+/// Reads all lines; writes each with its chosen numbers in this form, and tells which texts are
+/// refused (this project's own, after GNU `numfmt`).
+///
+/// The last line may end without its byte, and is written with it. Each error of the reader is
+/// `Read`, and so are 2^64 reads without an end; each error of a writer is `Write`, and so is a
+/// write that takes no byte. Nothing is flushed.
+pub fn run<R: Read, W: Write, N: Write>(
+    alloc: Global,
+    settings: &LineSettings,
+    form: &Form,
+    reader: &mut R,
+    writer: &mut W,
+    notes: &mut N,
+) -> Result<Report, RunError>
+    // The output and the notes of the whole input were written, and all of it read, unless the run
+    // stopped at a text that was refused;
+    ensures ok { IfOk result (λ report. IfSome (R.remaining reader.old) (λ input. Ends
+        (input_ran settings.now form.now input)
+        (W.contents writer.old) (W.contents writer.new)
+        (N.contents notes.old) (N.contents notes.new) report (R.remaining reader.new))) }
+
+    // or else a beginning of them.
+    ensures err { OnErr result (IfSome (R.remaining reader.old) (λ input. Begins
+        (input_ran settings.now form.now input)
+        (W.contents writer.old) (W.contents writer.new)
+        (N.contents notes.old) (N.contents notes.new))) }
+{
+    let Ok(mut block) = buffer(alloc, BLOCK_LEN) else {
+        return Err(RunError::OutOfMemory);
+    };
+    run_by(
+        alloc,
+        settings,
+        form,
+        reader,
+        writer,
+        notes,
+        block.as_mut_slice(),
+    )
+}
