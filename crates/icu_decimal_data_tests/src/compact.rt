@@ -37,7 +37,7 @@ fn keeps(alloc: Global, rows: &[Row], zero_magnitude: Option<&str>, types: &[u8]
     }
 }
 
-const KEPT: [(&[Row], Option<&str>, &[u8]); 14] = [
+const KEPT: &[(&[Row], Option<&str>, &[u8])] = &[
     (
         &[(3, 3, None, "K"), (4, 3, Some("x"), "K"), (5, 3, None, "K")],
         None,
@@ -64,7 +64,7 @@ const KEPT: [(&[Row], Option<&str>, &[u8]); 14] = [
 
 #[test]
 fn keeps_the_types_that_change(rt: HostRuntime) {
-    for &(rows, zero_magnitude, types) in &KEPT {
+    for &(rows, zero_magnitude, types) in KEPT {
         assert!(rt; keeps(rt.alloc(), rows, zero_magnitude, types));
     }
 }
@@ -82,25 +82,33 @@ fn keeps_two_of_the_french_types(rt: HostRuntime) {
     assert!(rt; keeps_french(rt.alloc(), &[3, 6]));
 }
 
-/// The exponent of a magnitude in the table of these rows; none without an entry.
+/// The exponent of a magnitude in a table; none without an entry.
+fn exponent_in(table: &Table, magnitude: i32) -> Option<u8> {
+    match table.entry_index(magnitude) {
+        Some(index) => Some(table.exponent(index)),
+        None => None,
+    }
+}
+
+/// The same in the table of these rows.
 fn exponent_at(alloc: Global, rows: &[Row], magnitude: i32) -> Option<u8> {
     match table_of(alloc, rows, None) {
-        Ok(table) => table
-            .entry_index(magnitude)
-            .map(|index| table.exponent(index)),
+        Ok(table) => exponent_in(&table, magnitude),
         Err(_) => None,
     }
 }
 
+/// One type with the patterns of another.
+const SKIPPED: &[Row] = &[(3, 3, None, "K"), (5, 4, None, "K")];
+
 /// Type 5 has the patterns of type 3, and so is shown with its exponent.
 #[test]
 fn shows_a_skipped_type_by_the_exponent_of_the_kept_one(rt: HostRuntime) {
-    let rows: [Row; 2] = [(3, 3, None, "K"), (5, 4, None, "K")];
-    assert!(rt; keeps(rt.alloc(), &rows, None, &[3]));
-    assert_eq!(rt; exponent_at(rt.alloc(), &rows, 5), Some(3));
+    assert!(rt; keeps(rt.alloc(), SKIPPED, None, &[3]));
+    assert_eq!(rt; exponent_at(rt.alloc(), SKIPPED, 5), Some(3));
 }
 
-const REFUSED: [(&[Row], Option<&str>, CompactError); 8] = [
+const REFUSED: &[(&[Row], Option<&str>, CompactError)] = &[
     (
         &[(3, 3, None, "K"), (4, 2, None, "M")],
         None,
@@ -135,18 +143,26 @@ const REFUSED: [(&[Row], Option<&str>, CompactError); 8] = [
     ),
 ];
 
+/// Why a table wasn't made; none where it was.
+fn refusal<T: Drop>(made: Result<T, CompactError>) -> Option<CompactError> {
+    match made {
+        Ok(_) => None,
+        Err(error) => Some(error),
+    }
+}
+
 fn is_refused(
     alloc: Global,
     rows: &[Row],
     zero_magnitude: Option<&str>,
     error: CompactError,
 ) -> bool {
-    table_of(alloc, rows, zero_magnitude).err() == Some(error)
+    refusal(table_of(alloc, rows, zero_magnitude)) == Some(error)
 }
 
 #[test]
 fn refuses_other_maps(rt: HostRuntime) {
-    for &(rows, zero_magnitude, error) in &REFUSED {
+    for &(rows, zero_magnitude, error) in REFUSED {
         assert!(rt;
             is_refused(rt.alloc(), rows, zero_magnitude, error),
             "{error}"
@@ -162,32 +178,40 @@ fn letters(alloc: Global, count: usize) -> Result<Vec<u8>, AllocError> {
     }
 }
 
+/// A table of one entry, whose literal these bytes are.
+fn table_of_bytes(alloc: Global, literal: &[u8]) -> Result<Table, CompactError> {
+    match str::from_utf8(literal) {
+        Ok(literal) => table_of_literal(alloc, literal),
+        Err(_) => Err(CompactError::OutOfMemory),
+    }
+}
+
 /// A table of one entry, whose literal has this many bytes.
 fn table_of_size(alloc: Global, size: usize) -> Result<Table, CompactError> {
     match letters(alloc, size) {
-        Ok(letters) => match str::from_utf8(&letters) {
-            Ok(literal) => table_of_literal(alloc, literal),
-            Err(_) => Err(CompactError::OutOfMemory),
-        },
+        Ok(letters) => table_of_bytes(alloc, &letters),
         Err(_) => Err(CompactError::OutOfMemory),
     }
+}
+
+/// Whether a table of one entry has 62 bytes beside so many, and is read again, copied and packed.
+fn is_kept(alloc: Global, table: &Table, size: usize) -> bool {
+    has_types(table, &[3])
+        && read_again(table) == size.checked_add(62)
+        && is_copied_and_packed(alloc, table)
 }
 
 /// Whether a literal of this many bytes is kept: beside it the table's byte string has 62, and it
 /// is read again, copied and packed.
 fn keeps_bytes(alloc: Global, size: usize) -> bool {
     match table_of_size(alloc, size) {
-        Ok(table) => {
-            has_types(&table, &[3])
-                && read_again(&table) == size.checked_add(62)
-                && is_copied_and_packed(alloc, &table)
-        }
+        Ok(table) => is_kept(alloc, &table, size),
         Err(_) => false,
     }
 }
 
 fn refuses_bytes(alloc: Global, size: usize) -> bool {
-    table_of_size(alloc, size).err() == Some(CompactError::TooLarge)
+    refusal(table_of_size(alloc, size)) == Some(CompactError::TooLarge)
 }
 
 #[test]
@@ -198,16 +222,14 @@ fn keeps_no_more_than_65535_bytes(rt: HostRuntime) {
 
 /// Whether the tables of two rows are equal.
 fn are_equal(alloc: Global, left: Row, right: Row) -> Option<bool> {
-    match table_of(alloc, &[left], None) {
-        Ok(left) => match table_of(alloc, &[right], None) {
-            Ok(right) => Some(left == right),
-            Err(_) => None,
-        },
-        Err(_) => None,
+    let left = table_of(alloc, &[left], None).ok();
+    match left.zip(table_of(alloc, &[right], None).ok()) {
+        Some((left, right)) => Some(left == right),
+        None => None,
     }
 }
 
-const COMPARED: [(Row, bool); 6] = [
+const COMPARED: &[(Row, bool)] = &[
     ((4, 3, Some("x"), "K"), true),
     ((5, 3, Some("x"), "K"), false),
     ((4, 4, Some("x"), "K"), false),
@@ -218,7 +240,7 @@ const COMPARED: [(Row, bool); 6] = [
 
 #[test]
 fn compares_types_exponents_and_patterns(rt: HostRuntime) {
-    for &(row, want) in &COMPARED {
+    for &(row, want) in COMPARED {
         assert!(rt; are_equal(rt.alloc(), (4, 3, Some("x"), "K"), row) == Some(want));
     }
 }
@@ -246,19 +268,24 @@ fn holds_patterns_without_a_place(rt: HostRuntime) {
     assert!(rt; holds_without_place(rt.alloc(), "kilo"));
 }
 
+/// Whether a text was made, and is this.
+fn is_made(made: Result<String, AllocError>, want: &str) -> bool {
+    match made {
+        Ok(text) => text.as_str() == want,
+        Err(_) => false,
+    }
+}
+
 /// Whether an error is reported so; the call is repeated if memory ran out.
 fn is_told(alloc: Global, error: CompactError, want: &str) -> bool {
     let told: Result<String, AllocError> = error.to_string(alloc);
     match told {
         Ok(told) => told.as_str() == want,
-        Err(_) => match error.to_string(alloc) {
-            Ok(told) => told.as_str() == want,
-            Err(_) => false,
-        },
+        Err(_) => is_made(error.to_string(alloc), want),
     }
 }
 
-const TOLD: [(CompactError, &str); 2] = [
+const TOLD: &[(CompactError, &str)] = &[
     (
         CompactError::ExponentsFall,
         "Compact exponents should be nondecreasing",
@@ -268,7 +295,7 @@ const TOLD: [(CompactError, &str); 2] = [
 
 #[test]
 fn tells_its_errors(rt: HostRuntime) {
-    for &(error, want) in &TOLD {
+    for &(error, want) in TOLD {
         assert!(rt; is_told(rt.alloc(), error, want), "{want}");
     }
 }

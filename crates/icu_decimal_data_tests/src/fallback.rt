@@ -92,7 +92,7 @@ const NOTHING_ASKED: Answer = Err(DataError {
 });
 
 /// Answers in turn, what is decided of them, and what is heard.
-const DECIDED: [(&[Answer], Answer, u16); 14] = [
+const DECIDED: &[(&[Answer], Answer, u16)] = &[
     (&[MISSING, Ok(7)], Ok(7), 21),
     (&[MISSING, MISSING], MISSING, 21),
     (&[CUSTOM, Ok(7)], CUSTOM, 2),
@@ -111,14 +111,14 @@ const DECIDED: [(&[Answer], Answer, u16); 14] = [
 
 #[test]
 fn the_first_answer_that_is_found_or_fails_otherwise_counts(rt: HostRuntime) {
-    for &(answers, want, _) in &DECIDED {
+    for &(answers, want, _) in DECIDED {
         assert!(rt; decided(rt.alloc(), answers).0 == want, "{answers:?}");
     }
 }
 
 #[test]
 fn all_but_the_last_are_asked_silently_and_none_after_the_one_that_counts(rt: HostRuntime) {
-    for &(answers, _, want) in &DECIDED {
+    for &(answers, _, want) in DECIDED {
         assert!(rt; decided(rt.alloc(), answers).1 == want, "{answers:?}");
     }
 }

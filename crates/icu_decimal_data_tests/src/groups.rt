@@ -45,7 +45,7 @@ const NOWHERE: i16 = -1;
 
 /// The magnitude of a first digit, sizes, a strategy, and the magnitudes below it that a separator
 /// follows.
-const SEPARATED: [(i16, GroupingSizes, GroupingStrategy, [i16; 2]); 19] = [
+const SEPARATED: &[(i16, GroupingSizes, GroupingStrategy, [i16; 2])] = &[
     (6, ENGLISH, GroupingStrategy::Auto, [3, 6]),
     (6, INDIC, GroupingStrategy::Auto, [3, 5]),
     (3, INDIC, GroupingStrategy::Min2, [NOWHERE, NOWHERE]),
@@ -85,7 +85,7 @@ fn are_separators(
 
 #[test]
 fn checks_each_magnitude(rt: HostRuntime) {
-    for &(upper, sizes, strategy, separators) in &SEPARATED {
+    for &(upper, sizes, strategy, separators) in SEPARATED {
         assert!(rt;
             are_separators(upper, sizes, strategy, separators),
             "{upper} {strategy:?} {separators:?}"
@@ -95,11 +95,11 @@ fn checks_each_magnitude(rt: HostRuntime) {
 
 /// The magnitude of a first digit, one that the number has no digit at, and whether a separator
 /// would follow there.
-const BEYOND: [(i16, i16, bool); 4] = [(3, 6, true), (2, 3, false), (6, -3, false), (-1, 3, false)];
+const BEYOND: &[(i16, i16, bool)] = &[(3, 6, true), (2, 3, false), (6, -3, false), (-1, 3, false)];
 
 #[test]
 fn checks_magnitudes_beyond_the_number(rt: HostRuntime) {
-    for &(upper, magnitude, want) in &BEYOND {
+    for &(upper, magnitude, want) in BEYOND {
         assert!(rt;
             check(upper, magnitude, GroupingStrategy::Auto, ENGLISH) == want,
             "{upper} {magnitude}"
@@ -108,7 +108,7 @@ fn checks_magnitudes_beyond_the_number(rt: HostRuntime) {
 }
 
 /// Sizes, a strategy, and the greatest count of digits without a separator.
-const LONGEST: [(GroupingSizes, GroupingStrategy, usize); 11] = [
+const LONGEST: &[(GroupingSizes, GroupingStrategy, usize)] = &[
     (ENGLISH, GroupingStrategy::Auto, 3),
     (ENGLISH, GroupingStrategy::Always, 3),
     (ENGLISH, GroupingStrategy::Min2, 4),
@@ -124,7 +124,7 @@ const LONGEST: [(GroupingSizes, GroupingStrategy, usize); 11] = [
 
 #[test]
 fn tells_how_many_digits_stay_together(rt: HostRuntime) {
-    for &(sizes, strategy, want) in &LONGEST {
+    for &(sizes, strategy, want) in LONGEST {
         assert!(rt;
             longest_ungrouped(strategy, sizes) == want,
             "{want} {strategy:?}"
@@ -133,7 +133,7 @@ fn tells_how_many_digits_stay_together(rt: HostRuntime) {
 }
 
 /// Sizes, and that of the groups before the last one.
-const BEFORE_THE_LAST: [(GroupingSizes, usize); 5] = [
+const BEFORE_THE_LAST: &[(GroupingSizes, usize)] = &[
     (ENGLISH, 3),
     (INDIC, 2),
     (ONE_SIZE, 3),
@@ -143,7 +143,7 @@ const BEFORE_THE_LAST: [(GroupingSizes, usize); 5] = [
 
 #[test]
 fn takes_the_primary_size_where_no_other_is(rt: HostRuntime) {
-    for &(sizes, want) in &BEFORE_THE_LAST {
+    for &(sizes, want) in BEFORE_THE_LAST {
         assert!(rt; secondary_size(sizes) == want, "{want}");
     }
 }

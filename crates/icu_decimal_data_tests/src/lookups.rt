@@ -7,22 +7,25 @@ use icu_pattern::SinglePlaceholder;
 use icu_plurals::PluralRules;
 use std::alloc::Global;
 
+/// Whether a magnitude has the entry of this index and exponent in a table.
+fn has_entry(table: &Table, magnitude: i32, index: Option<usize>, exponent: u8) -> bool {
+    let found = table.entry_index(magnitude);
+    let exponent_found = match found {
+        Some(index) => table.exponent(index),
+        None => 0,
+    };
+    found == index && exponent_found == exponent
+}
+
 /// Whether a magnitude has the entry of this index and exponent in short English.
 fn finds(alloc: Global, magnitude: i32, index: Option<usize>, exponent: u8) -> bool {
     match table_of(alloc, &SHORT_ENGLISH, None) {
-        Ok(table) => {
-            let found = table.entry_index(magnitude);
-            let exponent_found = match found {
-                Some(index) => table.exponent(index),
-                None => 0,
-            };
-            found == index && exponent_found == exponent
-        }
+        Ok(table) => has_entry(&table, magnitude, index, exponent),
         Err(_) => false,
     }
 }
 
-const FOUND: [(i32, Option<usize>, u8); 11] = [
+const FOUND: &[(i32, Option<usize>, u8)] = &[
     (i32::MIN, None, 0),
     (-1, None, 0),
     (0, None, 0),
@@ -38,7 +41,7 @@ const FOUND: [(i32, Option<usize>, u8); 11] = [
 
 #[test]
 fn finds_the_entry_of_a_magnitude(rt: HostRuntime) {
-    for &(magnitude, index, exponent) in &FOUND {
+    for &(magnitude, index, exponent) in FOUND {
         assert!(rt;
             finds(rt.alloc(), magnitude, index, exponent),
             "at magnitude {magnitude}"
@@ -46,32 +49,35 @@ fn finds_the_entry_of_a_magnitude(rt: HostRuntime) {
     }
 }
 
-const LONG_FRENCH: [Row; 2] = [(3, 3, Some("mille"), " mille"), (6, 6, None, " millions")];
+const LONG_FRENCH: &[Row] = &[(3, 3, Some("mille"), " mille"), (6, 6, None, " millions")];
 
 /// Whether a slot of an entry has this pattern, or none.
-fn has_slot(
-    alloc: Global,
+fn shows_slot(
+    table: &Table,
     (index, slot): (usize, u8),
     want: Option<(Option<usize>, &str)>,
 ) -> bool {
-    match table_of(alloc, &LONG_FRENCH, None) {
-        Ok(table) => {
-            if index >= table.len() || slot >= 8 {
-                return false;
-            }
-            match (table.slot(index, slot), want) {
-                (Some(pattern), Some((place, literal))) => {
-                    pattern.place() == place && pattern.literal() == literal
-                }
-                (None, None) => true,
-                _ => false,
-            }
+    if index >= table.len() || slot >= 8 {
+        return false;
+    }
+    match (table.slot(index, slot), want) {
+        (Some(pattern), Some((place, literal))) => {
+            pattern.place() == place && pattern.literal() == literal
         }
+        (None, None) => true,
+        _ => false,
+    }
+}
+
+/// Whether it does in long French.
+fn has_slot(alloc: Global, at: (usize, u8), want: Option<(Option<usize>, &str)>) -> bool {
+    match table_of(alloc, LONG_FRENCH, None) {
+        Ok(table) => shows_slot(&table, at, want),
         Err(_) => false,
     }
 }
 
-const SLOTS: [((usize, u8), Option<(Option<usize>, &str)>); 5] = [
+const SLOTS: &[((usize, u8), Option<(Option<usize>, &str)>)] = &[
     ((0, 1), Some((None, "mille"))),
     ((0, 7), Some((Some(0), " mille"))),
     ((0, 0), None),
@@ -81,24 +87,27 @@ const SLOTS: [((usize, u8), Option<(Option<usize>, &str)>); 5] = [
 
 #[test]
 fn answers_the_pattern_in_each_slot(rt: HostRuntime) {
-    for &(at, want) in &SLOTS {
+    for &(at, want) in SLOTS {
         assert!(rt; has_slot(rt.alloc(), at, want));
     }
 }
 
 /// Whether an entry has this sole pattern, or none.
+fn shows_sole(table: &Table, index: usize, want: Option<&str>) -> bool {
+    if index >= table.len() {
+        return false;
+    }
+    match (table.sole_pattern(index), want) {
+        (Some(pattern), Some(literal)) => pattern.literal() == literal,
+        (None, None) => true,
+        _ => false,
+    }
+}
+
+/// Whether it does in long French.
 fn has_sole(alloc: Global, index: usize, want: Option<&str>) -> bool {
-    match table_of(alloc, &LONG_FRENCH, None) {
-        Ok(table) => {
-            if index >= table.len() {
-                return false;
-            }
-            match (table.sole_pattern(index), want) {
-                (Some(pattern), Some(literal)) => pattern.literal() == literal,
-                (None, None) => true,
-                _ => false,
-            }
-        }
+    match table_of(alloc, LONG_FRENCH, None) {
+        Ok(table) => shows_sole(&table, index, want),
         Err(_) => false,
     }
 }
@@ -117,24 +126,21 @@ fn picks(
     (index, number, literal): (usize, &str, &str),
 ) -> bool {
     match operands_of(alloc, number) {
-        Ok(operands) => {
+        Some(operands) => {
             index < table.len() && table.pick(index, &operands, rules).literal() == literal
         }
-        Err(_) => false,
+        None => false,
     }
 }
 
 fn picks_in_french(alloc: Global, row: (usize, &str, &str)) -> bool {
-    match french_rules(alloc) {
-        Ok(rules) => match french_table(alloc) {
-            Ok(table) => picks(alloc, &table, &rules, row),
-            Err(_) => false,
-        },
-        Err(_) => false,
+    match french_rules(alloc).ok().zip(french_table(alloc).ok()) {
+        Some((rules, table)) => picks(alloc, &table, &rules, row),
+        None => false,
     }
 }
 
-const PICKED: [(usize, &str, &str); 9] = [
+const PICKED: &[(usize, &str, &str)] = &[
     (0, "1", "mille"),
     (0, "1.0", " mille"),
     (0, "0", " mille"),
@@ -148,7 +154,7 @@ const PICKED: [(usize, &str, &str); 9] = [
 
 #[test]
 fn picks_by_the_number(rt: HostRuntime) {
-    for &row in &PICKED {
+    for &row in PICKED {
         assert!(rt;
             picks_in_french(rt.alloc(), row),
             "{} at entry {}",
@@ -165,12 +171,9 @@ fn picks_in_view(
     rules: &PluralRules,
     (magnitude, number, literal): (i16, &str, &str),
 ) -> bool {
-    match operands_of(alloc, number) {
-        Ok(operands) => match view.entry_for_magnitude(magnitude) {
-            Some(entry) => entry.pick(&operands, rules).literal() == literal,
-            None => false,
-        },
-        Err(_) => false,
+    match operands_of(alloc, number).zip(view.entry_for_magnitude(magnitude)) {
+        Some((operands, entry)) => entry.pick(&operands, rules).literal() == literal,
+        None => false,
     }
 }
 
@@ -188,16 +191,13 @@ fn picks_in_bytes(
 }
 
 fn picks_in_french_bytes(alloc: Global, row: (i16, &str, &str)) -> bool {
-    match french_rules(alloc) {
-        Ok(rules) => match french_table(alloc) {
-            Ok(table) => picks_in_bytes(alloc, table.as_bytes(), &rules, row),
-            Err(_) => false,
-        },
-        Err(_) => false,
+    match french_rules(alloc).ok().zip(french_table(alloc).ok()) {
+        Some((rules, table)) => picks_in_bytes(alloc, table.as_bytes(), &rules, row),
+        None => false,
     }
 }
 
-const PICKED_AT_MAGNITUDES: [(i16, &str, &str); 8] = [
+const PICKED_AT_MAGNITUDES: &[(i16, &str, &str)] = &[
     (3, "1", "mille"),
     (5, "1", "mille"),
     (3, "1.0", " mille"),
@@ -210,7 +210,7 @@ const PICKED_AT_MAGNITUDES: [(i16, &str, &str); 8] = [
 
 #[test]
 fn picks_by_the_number_in_a_view(rt: HostRuntime) {
-    for &row in &PICKED_AT_MAGNITUDES {
+    for &row in PICKED_AT_MAGNITUDES {
         assert!(rt;
             picks_in_french_bytes(rt.alloc(), row),
             "{} at magnitude {}",

@@ -5,7 +5,7 @@ use icu_decimal_options::options::{
 };
 use std::hash::{DefaultHasher, Hash, Hasher};
 
-const STRATEGIES: [GroupingStrategy; 4] = [
+const STRATEGIES: &[GroupingStrategy] = &[
     GroupingStrategy::Auto,
     GroupingStrategy::Never,
     GroupingStrategy::Always,
@@ -36,8 +36,8 @@ fn are_equal(one: GroupingStrategy, other: GroupingStrategy) -> bool {
 
 #[test]
 fn compares_and_hashes_options(rt: HostRuntime) {
-    for &one in &STRATEGIES {
-        for &other in &STRATEGIES {
+    for &one in STRATEGIES {
+        for &other in STRATEGIES {
             assert_eq!(rt; are_equal(one, other), one == other);
             assert_eq!(rt; hash_of(one) == hash_of(other), one == other);
         }
@@ -46,7 +46,7 @@ fn compares_and_hashes_options(rt: HostRuntime) {
 
 #[test]
 fn takes_a_strategy_as_options(rt: HostRuntime) {
-    for &strategy in &STRATEGIES {
+    for &strategy in STRATEGIES {
         let compact = CompactDecimalFormatterOptions::from(strategy);
         assert_eq!(rt; compact.grouping_strategy, Some(strategy));
     }
@@ -67,7 +67,7 @@ fn converts(strategy: Option<GroupingStrategy>) -> bool {
 #[test]
 fn converts_options_with_the_strategy_as_it_is(rt: HostRuntime) {
     assert!(rt; converts(None));
-    for &strategy in &STRATEGIES {
+    for &strategy in STRATEGIES {
         assert!(rt; converts(Some(strategy)), "{strategy:?}");
     }
 }

@@ -5,7 +5,9 @@ ghost use Rattle.std.specs.Prelude.{◌<◌};
 
 use crate::symbol_bytes::refused_allocation;
 use crate::table_bytes::{JAPANESE, ONE_ENTRY};
-use crate::tables::{Elements, LONG_JAPANESE, Map, Row, Table, copy_of, made, pattern, table_of};
+use crate::tables::{
+    Elements, LONG_JAPANESE, Map, Row, Table, copy_of, is_put, made, pattern, table_of,
+};
 use icu_decimal_data::{CompactError, CompactPatterns, CompactView, EntryView};
 use icu_pattern::{Pattern, PatternError, SinglePlaceholder};
 use icu_plurals::PluralElements;
@@ -175,19 +177,14 @@ fn elements_of(
     }
 }
 
-/// The map with an entry; none if memory ran out.
-fn with_entry(
+/// Puts an entry into a map; whether there was memory for it.
+fn is_added(
     alloc: Global,
-    mut map: Map<SinglePlaceholder>,
+    map: &mut Map<SinglePlaceholder>,
     entry: EntryView<'_, SinglePlaceholder>,
-) -> Option<Map<SinglePlaceholder>> {
-    match elements_of(alloc, entry) {
-        Ok(elements) => match map.insert(entry.log10_type(), (entry.exponent(), elements)) {
-            Ok(_) => Some(map),
-            Err(_) => None,
-        },
-        Err(_) => None,
-    }
+) -> bool {
+    let elements = elements_of(alloc, entry).ok();
+    is_put(map, (entry.log10_type(), entry.exponent()), elements)
 }
 
 /// The entry of just this type, if there is one.
@@ -205,7 +202,9 @@ fn map_of(alloc: Global, view: View<'_>) -> Option<Map<SinglePlaceholder>> {
     let mut map = BTreeMap::new(alloc);
     for log10_type in 0..=255 {
         if let Some(entry) = entry_of(view, log10_type) {
-            map = with_entry(alloc, map, entry)?;
+            if !is_added(alloc, &mut map, entry) {
+                return None;
+            }
         }
     }
     Some(map)
@@ -219,13 +218,18 @@ fn remade(alloc: Global, view: View<'_>) -> Result<Table, CompactError> {
     }
 }
 
+/// Whether a table was made, and has these bytes.
+fn is_table(made: Result<Table, CompactError>, bytes: &[u8]) -> bool {
+    match made {
+        Ok(table) => table.as_bytes() == bytes,
+        Err(_) => false,
+    }
+}
+
 /// Whether bytes are refused, or those of the table that their entries make.
 fn are_refused_or_remade(alloc: Global, bytes: &[u8]) -> bool {
     match View::parse(bytes) {
-        Ok(view) => match remade(alloc, view) {
-            Ok(table) => table.as_bytes() == bytes,
-            Err(_) => false,
-        },
+        Ok(view) => is_table(remade(alloc, view), bytes),
         Err(_) => true,
     }
 }

@@ -18,7 +18,7 @@ fn preferences(locale: &str, system: Option<&str>) -> CompactDecimalFormatterPre
 }
 
 /// A preferred system in a locale of Egypt and the system and the locale of the first request.
-const PREFERRED: [(Option<&str>, Option<(Option<&str>, &str)>); 2] = [
+const PREFERRED: &[(Option<&str>, Option<(Option<&str>, &str)>)] = &[
     (None, None),
     (Some("thai"), Some((Some("thai"), "ar-EG"))),
 ];
@@ -36,7 +36,7 @@ fn is_asked_first(system: Option<&str>, want: Option<(Option<&str>, &str)>) -> b
 
 #[test]
 fn asks_first_by_the_preferred_system(rt: HostRuntime) {
-    for &(system, want) in &PREFERRED {
+    for &(system, want) in PREFERRED {
         assert!(rt; is_asked_first(system, want), "{system:?}");
     }
 }
@@ -52,9 +52,16 @@ fn become_others(locale: &str, system: Option<&str>) -> bool {
         && plural.locale_preferences.as_str() == locale
 }
 
+/// A locale and a system.
+const GIVEN: &[(&str, Option<&str>)] = &[
+    ("ar-EG", Some("thai")),
+    ("th", None),
+    ("und", Some("latn")),
+];
+
 #[test]
 fn preferences_become_others_as_they_are(rt: HostRuntime) {
-    for (locale, system) in [("ar-EG", Some("thai")), ("th", None), ("und", Some("latn"))] {
+    for &(locale, system) in GIVEN {
         assert!(rt; become_others(locale, system), "{locale}");
     }
 }

@@ -18,26 +18,26 @@ fn are_told(alloc: Global, digits: [char; 10]) -> Option<bool> {
     }
 }
 
-const DIGITS: [([char; 10], bool); 2] = [(LATIN, true), (REPEATED, false)];
+const DIGITS: &[([char; 10], bool)] = &[(LATIN, true), (REPEATED, false)];
 
 #[test]
 fn symbols_tell_their_numbers(rt: HostRuntime) {
-    for &(digits, want) in &DIGITS {
+    for &(digits, want) in DIGITS {
         assert!(rt; are_told(rt.alloc(), digits) == Some(want), "{want}");
     }
 }
 
 /// Whether a table of these rows with English symbols determines its numbers.
 fn are_compact_told(alloc: Global, rows: &[Row]) -> Option<bool> {
-    match (english(alloc), table_of(alloc, rows, None)) {
-        (Ok(symbols), Ok(table)) => Some(is_table_readable(&table, &symbols, &LATIN)),
-        _ => None,
+    match english(alloc).ok().zip(table_of(alloc, rows, None).ok()) {
+        Some((symbols, table)) => Some(is_table_readable(&table, &symbols, &LATIN)),
+        None => None,
     }
 }
 
 /// A text without a number, numbers that stand as those without an entry, and a digit after a
 /// number.
-const HIDDEN: [Row; 3] = [
+const HIDDEN: &[Row] = &[
     (3, 3, Some("mille"), " mille"),
     (3, 3, None, ""),
     (3, 3, None, "5"),
@@ -46,7 +46,7 @@ const HIDDEN: [Row; 3] = [
 #[test]
 fn compact_tables_tell_their_numbers(rt: HostRuntime) {
     assert!(rt; are_compact_told(rt.alloc(), &LONG_ENGLISH) == Some(true));
-    for &row in &HIDDEN {
+    for &row in HIDDEN {
         assert!(rt;
             are_compact_told(rt.alloc(), &[row]) == Some(false),
             "{}",

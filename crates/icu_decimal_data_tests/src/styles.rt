@@ -25,7 +25,7 @@ fn is_styled<T: Display>(alloc: Global, value: &T, want: &str) -> bool {
     is_styled_once(alloc, value, want) || is_styled_once(alloc, value, want)
 }
 
-const TABLES: [(CompactError, &str); 5] = [
+const TABLES: &[(CompactError, &str)] = &[
     (
         CompactError::ExponentsFall,
         "Compact exponents should be nondecreasing",
@@ -44,12 +44,12 @@ const TABLES: [(CompactError, &str); 5] = [
 
 #[test]
 fn displays_errors_of_tables_under_every_style(rt: HostRuntime) {
-    for &(error, want) in &TABLES {
+    for &(error, want) in TABLES {
         assert!(rt; is_styled(rt.alloc(), &error, want), "{want}");
     }
 }
 
-const SYMBOLS: [(SymbolsError, &str); 3] = [
+const SYMBOLS: &[(SymbolsError, &str)] = &[
     (
         SymbolsError::TooLarge,
         "the symbols are more than 255 bytes together",
@@ -63,7 +63,7 @@ const SYMBOLS: [(SymbolsError, &str); 3] = [
 
 #[test]
 fn displays_errors_of_symbols_under_every_style(rt: HostRuntime) {
-    for &(error, want) in &SYMBOLS {
+    for &(error, want) in SYMBOLS {
         assert!(rt; is_styled(rt.alloc(), &error, want), "{want}");
     }
 }

@@ -34,7 +34,7 @@ fn is_read(texts: Texts, bytes: &[u8]) -> bool {
 }
 
 /// English; the same bytes with other lengths; French; Arabic of Egypt; texts at each place.
-const PACKED: [(Texts, &[u8]); 5] = [
+const PACKED: &[(Texts, &[u8])] = &[
     (
         ["-", "", "+", "", ".", ",", "latn"],
         b"\x01\x00\x01\x00\x01\x01\x04-+.,latn",
@@ -59,7 +59,7 @@ const PACKED: [(Texts, &[u8]); 5] = [
 
 #[test]
 fn lengths_then_texts(rt: HostRuntime) {
-    for &(texts, bytes) in &PACKED {
+    for &(texts, bytes) in PACKED {
         assert!(rt; is_packed(rt.alloc(), texts, bytes), "{}", texts[6]);
         assert!(rt; is_read(texts, bytes), "{}", texts[6]);
     }
@@ -70,7 +70,7 @@ fn damage(bytes: &[u8]) -> Option<usize> {
     SymbolsView::parse(bytes).err().map(|damaged| damaged.byte)
 }
 
-const DAMAGED: [(&[u8], usize); 9] = [
+const DAMAGED: &[(&[u8], usize)] = &[
     (b"", 0),
     (b"\x01\x00\x01\x00\x01\x01", 6),
     (b"\xff\x01\x00\x00\x00\x00\x00", 1),
@@ -84,13 +84,13 @@ const DAMAGED: [(&[u8], usize); 9] = [
 
 #[test]
 fn each_test_tells_its_byte(rt: HostRuntime) {
-    for &(bytes, byte) in &DAMAGED {
+    for &(bytes, byte) in DAMAGED {
         assert!(rt; damage(bytes) == Some(byte), "{byte}");
     }
 }
 
 /// Arabic of Egypt with two faults each. Behind each row stands the byte of the second.
-const DAMAGED_TWICE: [(&[u8], usize); 8] = [
+const DAMAGED_TWICE: &[(&[u8], usize)] = &[
     // too few bytes, and lengths past 255: 1
     (b"\xff\x01\x00\x00\x02\x02", 6),
     // lengths past 255, and fewer bytes than they say: 17
@@ -111,7 +111,7 @@ const DAMAGED_TWICE: [(&[u8], usize); 8] = [
 
 #[test]
 fn the_first_test_that_fails_counts(rt: HostRuntime) {
-    for &(bytes, byte) in &DAMAGED_TWICE {
+    for &(bytes, byte) in DAMAGED_TWICE {
         assert!(rt; damage(bytes) == Some(byte), "{byte}");
     }
 }
@@ -208,7 +208,7 @@ fn each_call_is_one_allocation(rt: HostRuntime) {
 }
 
 /// Counted from 1 on: symbols of few bytes, of several bytes a character, and of many bytes.
-const BUILT: [(u64, Texts); 5] = [
+const BUILT: &[(u64, Texts)] = &[
     (1, ["", "", "", "", "", "", "latn"]),
     (2, ["-", "", "+", "", ".", ",", "latn"]),
     (3, ["\u{61c}-", "₋", "\u{61c}+", "₊", "٫", "٬", "arab"]),
@@ -230,7 +230,7 @@ const BUILT: [(u64, Texts); 5] = [
 /// Which of these builds is refused; none is 0.
 fn refused_build(alloc: Global) -> u64 {
     let mut refused = 0;
-    for &(count, texts) in &BUILT {
+    for &(count, texts) in BUILT {
         if builder(texts).build(alloc).is_err() {
             refused = count;
         }

@@ -135,7 +135,7 @@ fn holds_and_gives_back(alloc: Global, texts: Texts) -> bool {
     }
 }
 
-const HELD: [Texts; 3] = [
+const HELD: &[Texts] = &[
     ARABIC,
     ["", "", "", "", "", "", "latn"],
     ["", "", "", "", "\u{202f}", "", "123"],
@@ -143,24 +143,32 @@ const HELD: [Texts; 3] = [
 
 #[test]
 fn holds_and_gives_back_the_seven_texts(rt: HostRuntime) {
-    for &texts in &HELD {
+    for &texts in HELD {
         assert!(rt; holds_and_gives_back(rt.alloc(), texts), "{}", texts[6]);
     }
 }
 
+/// Why symbols weren't made; none where they were.
+fn refusal<T: Drop>(made: Result<T, SymbolsError>) -> Option<SymbolsError> {
+    match made {
+        Ok(_) => None,
+        Err(error) => Some(error),
+    }
+}
+
 /// Why symbols with a separator of that many bytes are refused, if they are.
-fn refusal(alloc: Global, len: usize, numsys: &str) -> Option<SymbolsError> {
+fn refusal_of(alloc: Global, len: usize, numsys: &str) -> Option<SymbolsError> {
     let bytes = [b'x'; 300];
     if len > bytes.len() {
         return Some(SymbolsError::OutOfMemory);
     }
     match str::from_utf8(&bytes[..len]) {
-        Ok(text) => built(alloc, &nearly_empty(text, numsys)).err(),
+        Ok(text) => refusal(built(alloc, &nearly_empty(text, numsys))),
         Err(_) => Some(SymbolsError::OutOfMemory),
     }
 }
 
-const REFUSED: [(usize, &str, Option<SymbolsError>); 10] = [
+const REFUSED: &[(usize, &str, Option<SymbolsError>)] = &[
     (251, "latn", None),
     (252, "latn", Some(SymbolsError::TooLarge)),
     (252, "Latn", Some(SymbolsError::TooLarge)),
@@ -175,19 +183,19 @@ const REFUSED: [(usize, &str, Option<SymbolsError>); 10] = [
 
 #[test]
 fn refuses_more_than_255_bytes_and_then_bad_systems(rt: HostRuntime) {
-    for &(len, numsys, want) in &REFUSED {
+    for &(len, numsys, want) in REFUSED {
         assert!(rt;
-            refusal(rt.alloc(), len, numsys) == want,
+            refusal_of(rt.alloc(), len, numsys) == want,
             "{len} bytes and {numsys}"
         );
     }
 }
 
 fn is_too_large(alloc: Global, texts: Texts) -> bool {
-    builder(texts).build(alloc).err() == Some(SymbolsError::TooLarge)
+    refusal(builder(texts).build(alloc)) == Some(SymbolsError::TooLarge)
 }
 
-const TOO_LARGE: [Texts; 7] = [
+const TOO_LARGE: &[Texts] = &[
     [LONG, "", "", "", "", "", "latn"],
     ["", LONG, "", "", "", "", "latn"],
     ["", "", LONG, "", "", "", "latn"],
@@ -199,7 +207,7 @@ const TOO_LARGE: [Texts; 7] = [
 
 #[test]
 fn each_text_counts_to_the_255_bytes(rt: HostRuntime) {
-    for &texts in &TOO_LARGE {
+    for &texts in TOO_LARGE {
         assert!(rt; is_too_large(rt.alloc(), texts));
     }
 }
@@ -235,17 +243,22 @@ fn is_arabic(alloc: Global, symbols: &DecimalSymbols) -> Option<bool> {
 }
 
 /// Whether a copy of symbols equals the Arabic ones.
-fn is_arabic_copied(alloc: Global, texts: Texts, sizes: GroupingSizes) -> Option<bool> {
-    match symbols_of(alloc, texts, sizes) {
-        Ok(symbols) => match copied(alloc, &symbols) {
-            Ok(copy) => is_arabic(alloc, &copy),
-            Err(_) => None,
-        },
+fn is_copy_arabic(alloc: Global, symbols: &DecimalSymbols) -> Option<bool> {
+    match copied(alloc, symbols) {
+        Ok(copy) => is_arabic(alloc, &copy),
         Err(_) => None,
     }
 }
 
-const COMPARED: [(Texts, GroupingSizes, bool); 5] = [
+/// Whether a copy of symbols of these texts and sizes equals the Arabic ones.
+fn is_arabic_copied(alloc: Global, texts: Texts, sizes: GroupingSizes) -> Option<bool> {
+    match symbols_of(alloc, texts, sizes) {
+        Ok(symbols) => is_copy_arabic(alloc, &symbols),
+        Err(_) => None,
+    }
+}
+
+const COMPARED: &[(Texts, GroupingSizes, bool)] = &[
     (ARABIC, SIZES, true),
     (ENGLISH, ENGLISH_SIZES, false),
     (
@@ -276,7 +289,7 @@ const COMPARED: [(Texts, GroupingSizes, bool); 5] = [
 
 #[test]
 fn equal_where_texts_and_sizes_are(rt: HostRuntime) {
-    for &(texts, sizes, want) in &COMPARED {
+    for &(texts, sizes, want) in COMPARED {
         assert!(rt; is_arabic_copied(rt.alloc(), texts, sizes) == Some(want));
     }
 }
@@ -289,7 +302,7 @@ fn are_arabic(alloc: Global, texts: Texts) -> Option<bool> {
     }
 }
 
-const OTHERS: [Texts; 7] = [
+const OTHERS: &[Texts] = &[
     ["-", "₋", "\u{61c}+", "₊", "٫", "٬", "arab"],
     ["\u{61c}-", "-", "\u{61c}+", "₊", "٫", "٬", "arab"],
     ["\u{61c}-", "₋", "-", "₊", "٫", "٬", "arab"],
@@ -302,7 +315,7 @@ const OTHERS: [Texts; 7] = [
 #[test]
 fn other_texts_are_other_symbols(rt: HostRuntime) {
     assert!(rt; are_arabic(rt.alloc(), ARABIC) == Some(true));
-    for &texts in &OTHERS {
+    for &texts in OTHERS {
         assert!(rt; are_arabic(rt.alloc(), texts) == Some(false));
     }
 }

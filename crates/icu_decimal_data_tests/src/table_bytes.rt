@@ -45,7 +45,7 @@ fn a_beginning_is_damaged_where_it_ends(rt: HostRuntime) {
 }
 
 /// A byte of long Japanese, another value of it, and the byte that is reported.
-const CHANGED: [(usize, u8, usize); 8] = [
+const CHANGED: &[(usize, u8, usize)] = &[
     (62, 4, 62),
     (63, 3, 63),
     (114, 2, 114),
@@ -58,7 +58,7 @@ const CHANGED: [(usize, u8, usize); 8] = [
 
 #[test]
 fn each_fault_tells_its_byte(rt: HostRuntime) {
-    for &(index, value, byte) in &CHANGED {
+    for &(index, value, byte) in CHANGED {
         let mut bytes = JAPANESE;
         if index < bytes.len() {
             bytes[index] = value;
@@ -71,7 +71,7 @@ fn each_fault_tells_its_byte(rt: HostRuntime) {
 }
 
 /// A byte of the table of one entry, another value of it, and the byte that is reported.
-const CHANGED_ENTRY: [(usize, u8, usize); 5] = [
+const CHANGED_ENTRY: &[(usize, u8, usize)] = &[
     (5, 6, 5),
     (55, 0, 55),
     (62, 0xff, 62),
@@ -81,7 +81,7 @@ const CHANGED_ENTRY: [(usize, u8, usize); 5] = [
 
 #[test]
 fn each_fault_of_one_entry_tells_its_byte(rt: HostRuntime) {
-    for &(index, value, byte) in &CHANGED_ENTRY {
+    for &(index, value, byte) in CHANGED_ENTRY {
         let mut bytes = ONE_ENTRY;
         if index < bytes.len() {
             bytes[index] = value;
@@ -160,7 +160,7 @@ fn each_byte_set_to_each_value_is_told_inside(rt: HostRuntime) {
 }
 
 /// A magnitude, and the type and the exponent of its entry in long Japanese, if it has one.
-const LOOKED_UP: [(i16, Option<(u8, u8)>); 9] = [
+const LOOKED_UP: &[(i16, Option<(u8, u8)>)] = &[
     (i16::MIN, None),
     (-1, None),
     (0, None),
@@ -195,7 +195,7 @@ fn has_entry(magnitude: i16, expected: Option<(u8, u8)>) -> bool {
 
 #[test]
 fn a_magnitude_has_the_last_entry_not_above_it(rt: HostRuntime) {
-    for &(magnitude, expected) in &LOOKED_UP {
+    for &(magnitude, expected) in LOOKED_UP {
         assert!(rt; has_entry(magnitude, expected), "{magnitude}");
     }
 }

@@ -73,10 +73,10 @@ fn with_one(
     one: &str,
     literal: &str,
 ) -> Result<Elements<SinglePlaceholder>, PatternError> {
-    let one = pattern(alloc, None, one)?;
-    match other(alloc, literal) {
-        Ok(others) => Ok(others.with_explicit_one_value(Some(one))),
-        Err(error) => Err(error),
+    let one = pattern(alloc, None, one).ok();
+    match one.zip(other(alloc, literal).ok()) {
+        Some((one, others)) => Ok(others.with_explicit_one_value(Some(one))),
+        None => Err(PatternError::OutOfMemory),
     }
 }
 
@@ -87,14 +87,23 @@ fn elements(alloc: Global, row: Row) -> Result<Elements<SinglePlaceholder>, Patt
     }
 }
 
+/// Puts patterns into a map, if there are some; whether there was memory for it.
+pub(crate) fn is_put<P: PatternBackend>(
+    map: &mut Map<P>,
+    (log10_type, exponent): (u8, u8),
+    elements: Option<Elements<P>>,
+) -> bool {
+    match elements {
+        Some(elements) => map.insert(log10_type, (exponent, elements)).is_ok(),
+        None => false,
+    }
+}
+
 /// The map of the rows; none if memory ran out.
 fn map_of(alloc: Global, rows: &[Row]) -> Option<Map<SinglePlaceholder>> {
     let mut map = BTreeMap::new(alloc);
     for row in rows {
-        let Ok(elements) = elements(alloc, *row) else {
-            return None;
-        };
-        if map.insert(row.0, (row.1, elements)).is_err() {
+        if !is_put(&mut map, (row.0, row.1), elements(alloc, *row).ok()) {
             return None;
         }
     }
@@ -147,24 +156,21 @@ pub(crate) fn copy_of(alloc: Global, table: &Table) -> Result<Table, CompactErro
     }
 }
 
-/// The map of the type 3 with these patterns; none if memory ran out.
-fn map_of_elements<P: PatternBackend>(alloc: Global, elements: Elements<P>) -> Option<Map<P>> {
-    let mut map = BTreeMap::new(alloc);
-    match map.insert(3, (3, elements)) {
-        Ok(_) => Some(map),
-        Err(_) => None,
-    }
-}
-
 /// The map of one type, 3, with this exponent.
 fn map_of_one<P: PatternBackend>(
     alloc: Global,
     place: Option<usize>,
     literal: &str,
 ) -> Option<Map<P>> {
-    match pattern(alloc, place, literal) {
-        Ok(pattern) => map_of_elements(alloc, PluralElements::new(pattern)),
+    let elements = match pattern(alloc, place, literal) {
+        Ok(pattern) => Some(PluralElements::new(pattern)),
         Err(_) => None,
+    };
+    let mut map = BTreeMap::new(alloc);
+    if is_put(&mut map, (3, 3), elements) {
+        Some(map)
+    } else {
+        None
     }
 }
 
@@ -203,21 +209,28 @@ pub(crate) fn french_rules(alloc: Global) -> Result<PluralRules, RulesError> {
     }
 }
 
-/// The operands of a decimal; the call is repeated if memory ran out.
-pub(crate) fn operands_of(alloc: Global, text: &str) -> Result<PluralOperands, DecimalError> {
-    let decimal = match Decimal::try_from_str(alloc, text) {
-        Err(DecimalError::OutOfMemory) => Decimal::try_from_str(alloc, text)?,
-        answered => answered?,
-    };
-    Ok(PluralOperands::from_significand_and_exponent(&decimal.absolute, 0))
+/// The decimal of a text; the call is repeated if memory ran out.
+fn decimal_of(alloc: Global, text: &str) -> Result<Decimal, DecimalError> {
+    match Decimal::try_from_str(alloc, text) {
+        Err(DecimalError::OutOfMemory) => Decimal::try_from_str(alloc, text),
+        answered => answered,
+    }
+}
+
+/// The operands of a decimal.
+pub(crate) fn operands_of(alloc: Global, text: &str) -> Option<PluralOperands> {
+    match decimal_of(alloc, text) {
+        Ok(decimal) => Some(PluralOperands::from_significand_and_exponent(&decimal.absolute, 0)),
+        Err(_) => None,
+    }
 }
 
 /// Millions with a pattern for the category one.
-fn millions(alloc: Global) -> Result<Elements<SinglePlaceholder>, PatternError> {
-    let one = pattern(alloc, Some(0), " million")?;
-    match other(alloc, " millions") {
-        Ok(others) => Ok(others.with_one_value(Some(one))),
-        Err(error) => Err(error),
+fn millions(alloc: Global) -> Option<Elements<SinglePlaceholder>> {
+    let one = pattern(alloc, Some(0), " million").ok();
+    match one.zip(other(alloc, " millions").ok()) {
+        Some((one, others)) => Some(others.with_one_value(Some(one))),
+        None => None,
     }
 }
 
@@ -227,28 +240,29 @@ const FRENCH_THOUSANDS: [Row; 3] = [
     (5, 3, None, " mille"),
 ];
 
-/// The map with such millions as a type; none if memory ran out.
-fn with_millions(
-    alloc: Global,
-    mut map: Map<SinglePlaceholder>,
-    log10_type: u8,
-) -> Option<Map<SinglePlaceholder>> {
-    match millions(alloc) {
-        Ok(millions) => match map.insert(log10_type, (6, millions)) {
-            Ok(_) => Some(map),
-            Err(_) => None,
-        },
-        Err(_) => None,
+/// Puts such millions into a map as three types; whether there was memory for it.
+fn are_put(alloc: Global, map: &mut Map<SinglePlaceholder>) -> bool {
+    is_put(map, (6, 6), millions(alloc))
+        && is_put(map, (7, 6), millions(alloc))
+        && is_put(map, (8, 6), millions(alloc))
+}
+
+/// The map with such millions; none if memory ran out.
+fn with_millions(alloc: Global, mut map: Map<SinglePlaceholder>) -> Option<Map<SinglePlaceholder>> {
+    if are_put(alloc, &mut map) {
+        Some(map)
+    } else {
+        None
     }
 }
 
 /// The six types of the long French table: thousands with a word for exactly one, and such
 /// millions; none if memory ran out.
 fn french_map(alloc: Global) -> Option<Map<SinglePlaceholder>> {
-    let thousands = map_of(alloc, &FRENCH_THOUSANDS)?;
-    let with_six = with_millions(alloc, thousands, 6)?;
-    let with_seven = with_millions(alloc, with_six, 7)?;
-    with_millions(alloc, with_seven, 8)
+    match map_of(alloc, &FRENCH_THOUSANDS) {
+        Some(thousands) => with_millions(alloc, thousands),
+        None => None,
+    }
 }
 
 /// The long French table; the call is repeated if memory ran out.
