@@ -9,17 +9,13 @@ use std::alloc::Global;
 
 /// A copy, asked for again where memory was wanting.
 fn pattern_copy(alloc: Global, pattern: &CldrPattern) -> Option<CldrPattern> {
-    match pattern.copy(alloc) {
-        Ok(copy) => Some(copy),
-        Err(_) => pattern.copy(alloc).ok(),
-    }
+    let copy = pattern.copy(alloc).ok();
+    copy.or_else(|| pattern.copy(alloc).ok())
 }
 
 fn patterns_copy(alloc: Global, patterns: &SignedPatterns) -> Option<SignedPatterns> {
-    match patterns.copy(alloc) {
-        Ok(copy) => Some(copy),
-        Err(_) => patterns.copy(alloc).ok(),
-    }
+    let copy = patterns.copy(alloc).ok();
+    copy.or_else(|| patterns.copy(alloc).ok())
 }
 
 /// The patterns for a currency, of a copy.
@@ -61,7 +57,7 @@ fn is_copied(alloc: Global, text: &str, currency: &'static str, wants: [&str; 3]
 }
 
 /// A pattern, a currency's symbol, and 1 without a sign, with a minus and with a plus.
-const PATTERNS: [(&str, &str, [&str; 3]); 4] = [
+const PATTERNS: &[(&str, &str, [&str; 3])] = &[
     ("¤#,##0.00", "$", ["$1", "-$1", "+$1"]),
     (
         "¤#,##0.00;(¤#,##0.00)",
@@ -82,7 +78,7 @@ const PATTERNS: [(&str, &str, [&str; 3]); 4] = [
 
 #[test]
 fn a_copy_writes_the_same(rt: HostRuntime) {
-    for &(text, currency, wants) in &PATTERNS {
+    for &(text, currency, wants) in PATTERNS {
         assert!(rt; is_copied(rt.alloc(), text, currency, wants), "{text}");
     }
 }

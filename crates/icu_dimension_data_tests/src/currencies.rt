@@ -8,7 +8,7 @@ use icu_dimension_data::{
 use std::alloc::{AllocError, Global};
 use std::process::Abort;
 
-const CODES: [(&str, bool); 14] = [
+const CODES: &[(&str, bool)] = &[
     ("EUR", true),
     ("AAA", true),
     ("ZZZ", true),
@@ -35,7 +35,7 @@ fn is_judged(alloc: Global, text: &str, is_code: bool) -> bool {
 
 #[test]
 fn a_code_is_three_capitals(rt: HostRuntime) {
-    for (text, is_code) in &CODES {
+    for (text, is_code) in CODES {
         assert!(rt; is_judged(rt.alloc(), text, *is_code), "{text}");
     }
     assert!(rt; is_displayed(rt.alloc(), &BadCurrencyCode, "not the code of a currency"));
@@ -48,12 +48,20 @@ fn code_of(rt: &impl Abort, text: &str) -> CurrencyCode {
     }
 }
 
+/// Codes that differ in one letter each.
+const LETTERS: &[&str] = &["EUR", "EUS", "FUR", "EVR"];
+
+/// Whether two codes are equal.
+fn are_equal(rt: &impl Abort, one: &str, other: &str) -> bool {
+    code_of(rt, one) == code_of(rt, other)
+}
+
 #[test]
 fn codes_are_equal_by_their_letters(rt: HostRuntime) {
-    for (index, one) in ["EUR", "EUS", "FUR", "EVR"].iter().enumerate() {
-        for (other_index, other) in ["EUR", "EUS", "FUR", "EVR"].iter().enumerate() {
+    for (index, one) in LETTERS.iter().enumerate() {
+        for (other_index, other) in LETTERS.iter().enumerate() {
             assert!(rt;
-                (code_of(&rt, one) == code_of(&rt, other)) == (index == other_index),
+                are_equal(&rt, one, other) == (index == other_index),
                 "{one} {other}"
             );
         }
@@ -61,7 +69,7 @@ fn codes_are_equal_by_their_letters(rt: HostRuntime) {
 }
 
 /// Digits of CLDR, and a second entry of one code, which doesn't count.
-const ENTRIES: [(&str, u8, u8); 6] = [
+const ENTRIES: &[(&str, u8, u8)] = &[
     ("JPY", 0, 0),
     ("KWD", 3, 3),
     ("CLF", 4, 4),
@@ -77,7 +85,7 @@ const OTHERS: FractionDigits = FractionDigits {
 
 fn entries(rt: &impl Abort, alloc: Global) -> Result<Vec<CurrencyEntry>, AllocError> {
     let mut entries = Vec::new(alloc);
-    for (code, standard, cash) in &ENTRIES {
+    for (code, standard, cash) in ENTRIES {
         entries.push(CurrencyEntry {
             code: code_of(rt, code),
             digits: FractionDigits {
@@ -89,7 +97,7 @@ fn entries(rt: &impl Abort, alloc: Global) -> Result<Vec<CurrencyEntry>, AllocEr
     Ok(entries)
 }
 
-const DIGITS: [(&str, u8, u8); 7] = [
+const DIGITS: &[(&str, u8, u8)] = &[
     ("JPY", 0, 0),
     ("KWD", 3, 3),
     ("CLF", 4, 4),
@@ -101,7 +109,7 @@ const DIGITS: [(&str, u8, u8); 7] = [
 
 /// Whether each currency has its digits.
 fn has_digits(rt: &impl Abort, digits: &CurrencyDigits) -> bool {
-    for (code, standard, cash) in &DIGITS {
+    for (code, standard, cash) in DIGITS {
         let found = digits.of(code_of(rt, code));
         if found.standard != *standard || found.cash != *cash {
             return false;
@@ -127,7 +135,7 @@ fn a_currency_has_its_digits(rt: HostRuntime) {
 }
 
 /// An amount, digits, and what it is rounded to.
-const AMOUNTS: [(&str, u8, &str); 9] = [
+const AMOUNTS: &[(&str, u8, &str)] = &[
     ("1234.5", 2, "1234.50"),
     ("-1234.567", 2, "-1234.57"),
     ("1.005", 2, "1.00"),
@@ -174,7 +182,7 @@ fn is_rounded(rt: &impl Abort, alloc: Global, amount: &str, digits: u8, want: &s
 
 #[test]
 fn amounts_are_rounded_half_to_even(rt: HostRuntime) {
-    for (amount, digits, want) in &AMOUNTS {
+    for (amount, digits, want) in AMOUNTS {
         assert!(rt;
             is_rounded(&rt, rt.alloc(), amount, *digits, want),
             "{amount} {digits}"

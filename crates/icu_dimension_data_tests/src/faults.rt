@@ -4,7 +4,7 @@ use crate::making::{is_displayed, parsed};
 use icu_dimension_data::PatternFault;
 use std::alloc::Global;
 
-const FAULTS: [(&str, PatternFault); 30] = [
+const FAULTS: &[(&str, PatternFault)] = &[
     ("", PatternFault::NoNumber { byte: 0 }),
     ("¤", PatternFault::NoNumber { byte: 2 }),
     ("¤ ;#", PatternFault::NoNumber { byte: 3 }),
@@ -38,23 +38,28 @@ const FAULTS: [(&str, PatternFault); 30] = [
     ("# #1'", PatternFault::TwoNumbers { byte: 2 }),
 ];
 
+/// Why something wasn't made; none where it was.
+fn fault_of<T: Drop>(made: Result<T, PatternFault>) -> Option<PatternFault> {
+    match made {
+        Ok(_) => None,
+        Err(fault) => Some(fault),
+    }
+}
+
 /// Whether a text is refused so.
 fn is_refused(alloc: Global, text: &str, fault: PatternFault) -> bool {
-    match parsed(alloc, text) {
-        Ok(_) => false,
-        Err(answered) => answered == fault,
-    }
+    fault_of(parsed(alloc, text)) == Some(fault)
 }
 
 #[test]
 fn a_text_is_refused_by_its_first_fault(rt: HostRuntime) {
-    for (text, fault) in &FAULTS {
+    for (text, fault) in FAULTS {
         assert!(rt; is_refused(rt.alloc(), text, *fault), "{text}");
     }
 }
 
 /// Texts that are patterns, though they look as if they weren't.
-const ACCEPTED: [&str; 9] = [
+const ACCEPTED: &[&str] = &[
     "#",
     "0",
     ".",
@@ -67,17 +72,17 @@ const ACCEPTED: [&str; 9] = [
 ];
 
 fn is_accepted(alloc: Global, text: &str) -> bool {
-    parsed(alloc, text).is_ok()
+    fault_of(parsed(alloc, text)) == None
 }
 
 #[test]
 fn a_pattern_is_read(rt: HostRuntime) {
-    for text in &ACCEPTED {
+    for text in ACCEPTED {
         assert!(rt; is_accepted(rt.alloc(), text), "{text}");
     }
 }
 
-const TEXTS: [(PatternFault, &str); 6] = [
+const TEXTS: &[(PatternFault, &str)] = &[
     (
         PatternFault::NoNumber { byte: 2 },
         "no number part before byte 2",
@@ -103,7 +108,7 @@ const TEXTS: [(PatternFault, &str); 6] = [
 
 #[test]
 fn tells_why_a_pattern_is_refused(rt: HostRuntime) {
-    for (fault, text) in &TEXTS {
+    for (fault, text) in TEXTS {
         assert!(rt; is_displayed(rt.alloc(), fault, text), "{text}");
     }
 }

@@ -16,7 +16,7 @@ struct Row {
 }
 
 /// Short patterns of money, as CLDR writes them: English, German, Dutch, Japanese, a symbol that ends in a letter.
-const ROWS: [Row; 9] = [
+const ROWS: &[Row] = &[
     Row {
         pattern: "¤0M",
         currency: "$",
@@ -117,7 +117,7 @@ fn is_row(alloc: Global, row: &Row) -> bool {
 
 #[test]
 fn patterns_of_money_are_patterns_with_one_place(rt: HostRuntime) {
-    for row in &ROWS {
+    for row in ROWS {
         assert!(rt; is_row(rt.alloc(), row), "{} {}", row.pattern, row.literal);
     }
 }

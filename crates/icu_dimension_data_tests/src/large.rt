@@ -1,9 +1,9 @@
 //! Patterns and symbols that are long.
 
 use crate::flat::is_flat;
-use crate::making::{is_text, patterns_of};
+use crate::making::{english, made_is_text, patterns_of};
 use fixed_decimal::Sign;
-use icu_dimension_data::AffixTexts;
+use icu_dimension_data::SignedPatterns;
 use std::alloc::{AllocError, Global};
 
 const COUNT: usize = 20_000;
@@ -26,65 +26,52 @@ fn long_text(alloc: Global, before: &str, after: &str) -> Result<String, AllocEr
     }
 }
 
+/// Whether 12 with a plus is this text.
+fn is_written(alloc: Global, patterns: &SignedPatterns, want: &str) -> bool {
+    made_is_text(
+        alloc,
+        patterns.for_sign(Sign::Positive).interpolate("12"),
+        want,
+    )
+}
+
 /// Whether 12 in a long pattern with a symbol is this text.
 fn writes(alloc: Global, pattern: &str, currency: &str, want: &str) -> bool {
-    let texts = AffixTexts {
-        minus_sign: "-",
-        plus_sign: "+",
-        percent_sign: "%",
-        currency,
-    };
-    match patterns_of(alloc, pattern, &texts) {
-        Some(patterns) => is_text(
-            alloc,
-            &patterns.for_sign(Sign::Positive).interpolate("12"),
-            want,
-        ),
+    match patterns_of(alloc, pattern, &english(currency)) {
+        Some(patterns) => is_written(alloc, &patterns, want),
         None => false,
     }
 }
 
 /// Whether what a symbol and a plus put around a number is this text, all of it before the number.
 fn stands_before(alloc: Global, currency: &str, want: &str) -> bool {
-    let texts = AffixTexts {
-        minus_sign: "-",
-        plus_sign: "+",
-        percent_sign: "%",
-        currency,
-    };
-    match patterns_of(alloc, "¤#0", &texts) {
+    match patterns_of(alloc, "¤#0", &english(currency)) {
         Some(patterns) => is_flat(alloc, &patterns.for_sign(Sign::Positive), want.len(), want),
         None => false,
     }
 }
 
 fn flattens_a_long_symbol(alloc: Global) -> bool {
-    match long_text(alloc, "", "") {
-        Ok(symbol) => match long_text(alloc, "+", "\u{a0}") {
-            Ok(want) => stands_before(alloc, &symbol, &want),
-            Err(_) => false,
-        },
-        Err(_) => false,
+    let symbol = long_text(alloc, "", "");
+    match symbol.ok().zip(long_text(alloc, "+", "\u{a0}").ok()) {
+        Some((symbol, want)) => stands_before(alloc, &symbol, &want),
+        None => false,
     }
 }
 
 fn writes_a_long_literal(alloc: Global) -> bool {
-    match long_text(alloc, "¤#0'1", "'") {
-        Ok(pattern) => match long_text(alloc, "+$121", "") {
-            Ok(want) => writes(alloc, &pattern, "$", &want),
-            Err(_) => false,
-        },
-        Err(_) => false,
+    let pattern = long_text(alloc, "¤#0'1", "'");
+    match pattern.ok().zip(long_text(alloc, "+$121", "").ok()) {
+        Some((pattern, want)) => writes(alloc, &pattern, "$", &want),
+        None => false,
     }
 }
 
 fn writes_a_long_symbol(alloc: Global) -> bool {
-    match long_text(alloc, "", "") {
-        Ok(symbol) => match long_text(alloc, "+", "\u{a0}12") {
-            Ok(want) => writes(alloc, "¤#0", &symbol, &want),
-            Err(_) => false,
-        },
-        Err(_) => false,
+    let symbol = long_text(alloc, "", "");
+    match symbol.ok().zip(long_text(alloc, "+", "\u{a0}12").ok()) {
+        Some((symbol, want)) => writes(alloc, "¤#0", &symbol, &want),
+        None => false,
     }
 }
 

@@ -1,12 +1,12 @@
 //! Patterns that are asked for again where memory was wanting, and what they write.
 
 use icu_dimension_data::{AffixTexts, CldrPattern, PatternFault, SignedPatterns};
-use std::alloc::{AllocError, Global};
+use std::alloc::Global;
 use std::fmt;
 use writeable::{WriteFault, Writeable};
 
 /// The signs of English with a currency's symbol.
-pub(crate) fn english(currency: &'static str) -> AffixTexts<'static> {
+pub(crate) fn english(currency: &str) -> AffixTexts<'_> {
     AffixTexts {
         minus_sign: "-",
         plus_sign: "+",
@@ -28,11 +28,9 @@ fn resolved(
     alloc: Global,
     pattern: &CldrPattern,
     texts: &AffixTexts<'_>,
-) -> Result<SignedPatterns, AllocError> {
-    match pattern.resolve(alloc, texts) {
-        Ok(patterns) => Ok(patterns),
-        Err(_) => pattern.resolve(alloc, texts),
-    }
+) -> Option<SignedPatterns> {
+    let patterns = pattern.resolve(alloc, texts).ok();
+    patterns.or_else(|| pattern.resolve(alloc, texts).ok())
 }
 
 /// The patterns of the signs, of a text that is a pattern.
@@ -42,16 +40,13 @@ pub(crate) fn patterns_of(
     texts: &AffixTexts<'_>,
 ) -> Option<SignedPatterns> {
     match parsed(alloc, text) {
-        Ok(pattern) => match resolved(alloc, &pattern, texts) {
-            Ok(patterns) => Some(patterns),
-            Err(_) => None,
-        },
+        Ok(pattern) => resolved(alloc, &pattern, texts),
         Err(_) => None,
     }
 }
 
 /// Whether a text was made, and is this.
-fn is_made(made: Result<String, AllocError>, want: &str) -> bool {
+fn is_made<E: Drop>(made: Result<String, E>, want: &str) -> bool {
     match made {
         Ok(text) => text.as_str() == want,
         Err(_) => false,
@@ -73,9 +68,11 @@ pub(crate) fn is_displayed_unpadded<T: fmt::Display>(alloc: Global, value: &T, w
 pub(crate) fn is_text<T: Writeable>(alloc: Global, value: &T, want: &str) -> bool {
     match value.write_to_string(alloc) {
         Ok(text) => text.as_str() == want,
-        Err(WriteFault) => match value.write_to_string(alloc) {
-            Ok(text) => text.as_str() == want,
-            Err(WriteFault) => false,
-        },
+        Err(WriteFault) => is_made(value.write_to_string(alloc), want),
     }
+}
+
+/// Whether a value that was made has this text.
+pub(crate) fn made_is_text<T: Writeable + Drop>(alloc: Global, value: T, want: &str) -> bool {
+    is_text(alloc, &value, want)
 }

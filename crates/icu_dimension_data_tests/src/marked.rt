@@ -7,22 +7,24 @@ use icu_dimension_data::parts::{CURRENCY, MINUS_SIGN, PERCENT_SIGN, PLUS_SIGN, U
 use std::alloc::Global;
 use writeable::{OutOfMemory, Part, PartsText, WriteFault, Writeable};
 
-/// Whether a sink holds this text with these spans; asked once more where memory was wanting.
+/// The spans of a sink, asked for once more where memory was wanting.
+fn spans_of(alloc: Global, sink: &PartsText) -> Result<Vec<(usize, usize, Part)>, OutOfMemory> {
+    match sink.spans(alloc) {
+        Ok(spans) => Ok(spans),
+        Err(OutOfMemory) => sink.spans(alloc),
+    }
+}
+
+/// Whether a sink holds this text with these spans.
 fn is_annotated(
     alloc: Global,
     sink: &PartsText,
     text: &str,
     want: &[(usize, usize, Part)],
 ) -> bool {
-    if sink.text() != text {
-        return false;
-    }
-    match sink.spans(alloc) {
-        Ok(spans) => spans.as_slice() == want,
-        Err(OutOfMemory) => match sink.spans(alloc) {
-            Ok(spans) => spans.as_slice() == want,
-            Err(OutOfMemory) => false,
-        },
+    match spans_of(alloc, sink) {
+        Ok(spans) => sink.text() == text && spans.as_slice() == want,
+        Err(OutOfMemory) => false,
     }
 }
 
@@ -67,7 +69,7 @@ struct Case {
     spans: &'static [(usize, usize, Part)],
 }
 
-const CASES: [Case; 6] = [
+const CASES: &[Case] = &[
     Case {
         pattern: "¤#0",
         currency: "$",
@@ -123,43 +125,40 @@ fn is_marked(alloc: Global, case: &Case) -> bool {
 
 #[test]
 fn signs_and_symbols_are_parts(rt: HostRuntime) {
-    for case in &CASES {
+    for case in CASES {
         assert!(rt; is_marked(rt.alloc(), case), "{}", case.text);
     }
 }
 
-/// Writes a percent in a pattern of money.
-fn write_percent(
+/// Whether a percent in a pattern of money keeps its parts; none where a growth was refused.
+fn keeps_once<W: Writeable + Drop>(
+    alloc: Global,
     money: &SignedPatterns,
-    percent: &SignedPatterns,
-    sink: &mut PartsText,
-) -> Result<(), WriteFault> {
-    let inner = percent.for_sign(Sign::None).interpolate("12");
-    money
-        .for_sign(Sign::None)
-        .interpolate(inner)
-        .write_to_parts(sink)
+    percent: W,
+) -> Option<bool> {
+    let mut sink = PartsText::new(alloc);
+    let value = money.for_sign(Sign::None).interpolate(percent);
+    if value.write_to_parts(&mut sink).is_err() {
+        return None;
+    }
+    let want = [(0, 1, CURRENCY), (3, 4, PERCENT_SIGN)];
+    Some(is_annotated(alloc, &sink, "$12%", &want))
 }
 
 /// Whether a value that has parts keeps them; asked once more where a growth was refused.
 fn keeps_its_parts(alloc: Global, money: &SignedPatterns, percent: &SignedPatterns) -> bool {
-    let mut sink = PartsText::new(alloc);
-    if write_percent(money, percent, &mut sink).is_err() {
-        sink = PartsText::new(alloc);
-        if write_percent(money, percent, &mut sink).is_err() {
-            return false;
+    match keeps_once(alloc, money, percent.for_sign(Sign::None).interpolate("12")) {
+        Some(kept) => kept,
+        None => {
+            keeps_once(alloc, money, percent.for_sign(Sign::None).interpolate("12")) == Some(true)
         }
     }
-    let want = [(0, 1, CURRENCY), (3, 4, PERCENT_SIGN)];
-    is_annotated(alloc, &sink, "$12%", &want)
 }
 
 fn keeps_parts(alloc: Global) -> bool {
-    match patterns_of(alloc, "¤#0", &english("$")) {
-        Some(money) => match patterns_of(alloc, "#0%", &english("")) {
-            Some(percent) => keeps_its_parts(alloc, &money, &percent),
-            None => false,
-        },
+    let money = patterns_of(alloc, "¤#0", &english("$"));
+    match money.zip(patterns_of(alloc, "#0%", &english(""))) {
+        Some((money, percent)) => keeps_its_parts(alloc, &money, &percent),
         None => false,
     }
 }
@@ -169,15 +168,18 @@ fn a_value_keeps_its_parts(rt: HostRuntime) {
     assert!(rt; keeps_parts(rt.alloc()));
 }
 
+/// A part, its category and its name.
+const NAMES: &[(Part, &str, &str)] = &[
+    (MINUS_SIGN, "decimal", "minusSign"),
+    (PLUS_SIGN, "decimal", "plusSign"),
+    (CURRENCY, "dimension", "currency"),
+    (PERCENT_SIGN, "dimension", "percentSign"),
+    (UNIT, "dimension", "unit"),
+];
+
 #[test]
 fn parts_have_their_names(rt: HostRuntime) {
-    for (part, category, value) in [
-        (MINUS_SIGN, "decimal", "minusSign"),
-        (PLUS_SIGN, "decimal", "plusSign"),
-        (CURRENCY, "dimension", "currency"),
-        (PERCENT_SIGN, "dimension", "percentSign"),
-        (UNIT, "dimension", "unit"),
-    ] {
+    for &(part, category, value) in NAMES {
         assert!(rt; part.category == category && part.value == value, "{value}");
     }
 }
@@ -201,7 +203,7 @@ fn stops(alloc: Global, limit: usize, text: &str) -> bool {
     }
 }
 
-const BEGINNINGS: [&str; 10] = ["", "", "-", "-", "-", "-$", "-$", "-$1", "-$12", "-$12)"];
+const BEGINNINGS: &[&str] = &["", "", "-", "-", "-", "-$", "-$", "-$1", "-$12", "-$12)"];
 
 #[test]
 fn stops_at_the_fault_of_the_sink(rt: HostRuntime) {

@@ -4,6 +4,8 @@ use crate::making::{english, is_displayed, is_displayed_unpadded, is_text, patte
 use fixed_decimal::Sign;
 use icu_dimension_data::{AffixTexts, SignedPatterns};
 use std::alloc::Global;
+use std::fmt::Display;
+use writeable::Writeable;
 
 /// A pattern, a currency's symbol, a number, and how it is written without a sign, with a minus and with a plus.
 struct Row {
@@ -15,7 +17,7 @@ struct Row {
     plus: &'static str,
 }
 
-const ENGLISH_ROWS: [Row; 23] = [
+const ENGLISH_ROWS: &[Row] = &[
     // Two signs by one subpattern, and accounting with two.
     Row {
         pattern: "¤#,##0.00",
@@ -218,7 +220,7 @@ const ENGLISH_ROWS: [Row; 23] = [
 ];
 
 /// The patterns of Hebrew, Basque and Persian, whose signs are others.
-const OTHER_ROWS: [(AffixTexts<'static>, Row); 3] = [
+const OTHER_ROWS: &[(AffixTexts<'static>, Row)] = &[
     (
         AffixTexts {
             minus_sign: "\u{200e}-",
@@ -269,6 +271,13 @@ const OTHER_ROWS: [(AffixTexts<'static>, Row); 3] = [
     ),
 ];
 
+/// Whether a value that was made is written and displayed so.
+fn is_value<T: Writeable + Display + Drop>(alloc: Global, value: T, want: &str) -> bool {
+    is_text(alloc, &value, want)
+        && is_displayed(alloc, &value, want)
+        && is_displayed_unpadded(alloc, &value, want)
+}
+
 /// Whether a number of a sign is written so.
 fn is_written(
     alloc: Global,
@@ -277,10 +286,7 @@ fn is_written(
     number: &str,
     want: &str,
 ) -> bool {
-    let value = patterns.for_sign(sign).interpolate(number);
-    is_text(alloc, &value, want)
-        && is_displayed(alloc, &value, want)
-        && is_displayed_unpadded(alloc, &value, want)
+    is_value(alloc, patterns.for_sign(sign).interpolate(number), want)
 }
 
 /// Whether a number is written so with each sign.
@@ -297,7 +303,7 @@ fn is_row(alloc: Global, texts: &AffixTexts<'_>, row: &Row) -> bool {
 
 #[test]
 fn numbers_stand_in_the_pattern_of_their_sign(rt: HostRuntime) {
-    for row in &ENGLISH_ROWS {
+    for row in ENGLISH_ROWS {
         assert!(rt;
             is_row(rt.alloc(), &english(row.currency), row),
             "{} {}",
@@ -309,7 +315,7 @@ fn numbers_stand_in_the_pattern_of_their_sign(rt: HostRuntime) {
 
 #[test]
 fn signs_are_those_of_the_locale(rt: HostRuntime) {
-    for (texts, row) in &OTHER_ROWS {
+    for (texts, row) in OTHER_ROWS {
         assert!(rt; is_row(rt.alloc(), texts, row), "{}", row.none);
     }
 }
