@@ -1,7 +1,8 @@
 -- Rounded to just so many fraction digits, then without zeros at the end, then with zeros again: this is what `with_fraction` computes.
 -- A rounded number is nearest, and the computed one too, so their sizes are equal. A number is told by its size and its counts of digits
 -- (`number-told`), and a trimmed one has as few below power 0 as its size needs (`decimal-told` of decimal_lines).
-use Rattle.std.proofs.Common.{◌≡◌, ℕ, ◌+◌, ◌-◌, ◌*◌, ◌%◌, ◌^◌, ◌<◌, ◌≤◌, max, Bool, true, false, List, inl, inr, refl, sym, ap, ap₂, ◌∙◌, subst, arith, mul_assoc, ℤ, pos, negsuc, ◌-ℤ◌}
+use Rattle.std.proofs.Common.{◌≡◌, ℕ, ◌+◌, ◌-◌, ◌*◌, ◌%◌, ◌^◌, ◌<◌, ◌≤◌, max, Bool, true, false, List, inl, inr, refl}
+use Rattle.std.proofs.Common.{sym, ap, ap₂, ◌∙◌, subst, arith, mul_assoc, ℤ, pos, negsuc, ◌-ℤ◌}
 use Rattle.std.specs.Prelude.{Ok, Err, nat_le, if◌then◌else◌}
 use Rattle.std.specs.Int.{int_max, int_min}
 use Rattle.std.proofs.lemmas.Bool.Decides.{nat_tests}
@@ -83,7 +84,8 @@ number-told u is =
     (digits_from-digits (size u) e n) is.below_ten (weighed-digits_from (size u) e n whole below))
 
 -- what is shown, by a number of its size and counts
-shown-told : (least : ℕ) (d u : Unsigned) (y : ℕ) → IsUnsigned u → size u ≡ y → integer_count u ≡ max (integer_count d) (count_up_to (magnitude y))
+shown-told : (least : ℕ) (d u : Unsigned) (y : ℕ) → IsUnsigned u → size u ≡ y
+    → integer_count u ≡ max (integer_count d) (count_up_to (magnitude y))
     → u.scale ≡ max least (scale_of y) → number_shown least d y ≡ u
 shown-told least d u y is sizes count scale = ap (λ c. number_of c (max least (scale_of y)) y) (sym count)
     ∙ ap (λ s. number_of (integer_count u) s y) (sym scale)

@@ -54,7 +54,8 @@ module _ (format : SignedFormat DecimalFormat) (sign : Sign) (d : Unsigned) wher
 
   -- its text was appended, if the text that was written was
   pub percent-appended : {W : Type 0} (written : Result W FormatError) (bytes : W → List ℕ) (old new : List ℕ)
-      → IfOk written (λ t. (n : Shown) × (n ≡ plain_shown format.formatter (hundredfold d)) × (bytes t ≡ text_of (money_events format.patterns sign n)))
+      → IfOk written (λ t. (n : Shown) × (n ≡ plain_shown format.formatter (hundredfold d))
+      × (bytes t ≡ text_of (money_events format.patterns sign n)))
       → OnOk written (¬ ((¬ IsWithinLimits (hundredfold d)) ⊎ ⊥)) → IsOkAnd written (λ t. new ≡ old ++ bytes t)
       → AppendsShown (percent_events format sign d) old new
   percent-appended (Ok t) bytes old new wrote within is = subst (λ (shown : Result (List Event) TextError). AppendsShown shown old new)

@@ -96,7 +96,8 @@ money_range None digits code is_cash = and_then (digits (locale_id (codes "und")
 money_range (Some range) digits code is_cash = Ok range
 
 -- the formatter of amounts of a currency
-unfoldable pub currency_loaded : WantedData → List ℕ → CurrencyFormatterOptions → TablesData → DimensionData → Result (SignedFormat DecimalFormat) Refusal
+unfoldable pub currency_loaded : WantedData → List ℕ → CurrencyFormatterOptions → TablesData → DimensionData
+    → Result (SignedFormat DecimalFormat) Refusal
 currency_loaded wanted code options tables dimension =
     loaded_currency (symbols_for_money tables dimension) (system_digits tables) (optional_answer dimension.currencies)
     (symbols_answer dimension.symbols) (preferences wanted) code options

@@ -13,5 +13,6 @@ returns c =
     let both = c.in_ok-both.both in
     let load = money_loaded c.args.wanted.now c.args.code c.args.options c.args.is_cash in
     rw (with_both-for c.args.wanted.now.locale c.args.text.now both.numbers both.dimension load c.in_ok-both.ensures.numbers
-    c.in_ok-both.ensures.dimension (λ all answers. money-same c.args.wanted.now both.numbers all answers both.dimension c.args.code c.args.options c.args.is_cash))
+    c.in_ok-both.ensures.dimension (λ all answers.
+    money-same c.args.wanted.now both.numbers all answers both.dimension c.args.code c.args.options c.args.is_cash))
     (c.started.ensures (load both.numbers both.dimension) c.load_money.ensures)
