@@ -1,0 +1,200 @@
+//! `locnum`: numbers in words or in fields of lines, in the form of a locale.
+#![tactic(auto)]
+
+ghost use Rattle.std.specs.Prelude.{◌≡◌};
+ghost use Rattle.locnum.specs.Endings.{status_of};
+
+mod command;
+mod english;
+
+use clap::ArgMatches;
+use command::{command, given};
+use english::ENGLISH;
+use locnum_forms::{Form, StartError};
+use locnum_lines::{LineSettings, Refusals, Report, RunError, run};
+use locnum_options::{OptionFault, Options, parse_options};
+use std::alloc::AllocError;
+use std::io::ErrorKind;
+use std::process::ExitCode;
+use std::{env, fs, io};
+
+/// Why the program ends early.
+#[derive(Clone, Copy, Debug)]
+enum Failure {
+    Streams,
+    OutOfMemory,
+    Words,
+    Options(OptionFault),
+    File,
+    Tables(StartError),
+}
+
+impl From<RunError> for Failure {
+    fn from(error: RunError) -> Failure {
+        match error {
+            RunError::Read | RunError::Write => Failure::Streams,
+            RunError::OutOfMemory => Failure::OutOfMemory,
+        }
+    }
+}
+
+impl From<AllocError> for Failure {
+    fn from(_error: AllocError) -> Failure {
+        Failure::OutOfMemory
+    }
+}
+
+/// The words of the command line, with the program's name.
+fn words_given(rt: &HostRuntime) -> Result<Vec<String>, Failure> {
+    let given = match env::args(rt) {
+        Ok(given) => given,
+        Err(_) => return Err(Failure::Words),
+    };
+    match given.collect(rt.alloc()) {
+        Ok(words) => Ok(words),
+        Err(_) => Err(Failure::OutOfMemory),
+    }
+}
+
+/// The bytes of the tables: those of a file, or those in the program.
+fn tables(rt: &HostRuntime, path: Option<&str>) -> Result<Vec<u8>, Failure> {
+    match path {
+        Some(path) => match fs::read(rt, path) {
+            Ok(bytes) => Ok(bytes),
+            Err(error) => match error.kind() {
+                ErrorKind::OutOfMemory => Err(Failure::OutOfMemory),
+                _ => Err(Failure::File),
+            },
+        },
+        None => Ok(Vec::from_slice(rt.alloc(), ENGLISH.as_bytes())?),
+    }
+}
+
+/// Runs one input.
+fn run_input<R: io::Read>(
+    rt: &HostRuntime,
+    settings: &LineSettings,
+    form: &Form,
+    input: &mut R,
+) -> Result<Report, Failure> {
+    Ok(run(
+        rt.alloc(),
+        settings,
+        form,
+        input,
+        &mut rt.stdout(),
+        &mut rt.stderr(),
+    )?)
+}
+
+/// What happened in both of two inputs.
+fn joined(first: Report, second: Report) -> Report {
+    Report {
+        is_refused: first.is_refused || second.is_refused,
+        is_stopped: first.is_stopped || second.is_stopped,
+    }
+}
+
+/// Runs the numbers among the words, each as a line of its own.
+fn run_words(
+    rt: &HostRuntime,
+    settings: &LineSettings,
+    form: &Form,
+    words: &[&str],
+) -> Result<Report, Failure> {
+    let mut report = Report {
+        is_refused: false,
+        is_stopped: false,
+    };
+    for word in words {
+        let ran = run_input(rt, settings, form, &mut word.as_bytes())?;
+        report = joined(report, ran);
+        if report.is_stopped {
+            return Ok(report);
+        }
+    }
+    Ok(report)
+}
+
+/// Runs the numbers among the words, or else standard input.
+fn run_given(
+    rt: &HostRuntime,
+    settings: &LineSettings,
+    form: &Form,
+    matches: &ArgMatches<'_>,
+) -> Result<Report, Failure> {
+    match matches.get_strs("number") {
+        Some(words) => run_words(rt, settings, form, words),
+        None => run_input(rt, settings, form, &mut rt.stdin()),
+    }
+}
+
+/// Runs what the words ask for.
+fn run_asked(rt: &HostRuntime, matches: &ArgMatches<'_>) -> Result<(Refusals, Report), Failure> {
+    let Options { wanted, lines } = match parse_options(rt.alloc(), &given(matches)) {
+        Ok(options) => options,
+        Err(fault) => return Err(Failure::Options(fault)),
+    };
+    let file = tables(rt, matches.get_str("tables"))?;
+    let form = match Form::make(rt.alloc(), &wanted, &file) {
+        Ok(form) => form,
+        Err(error) => return Err(Failure::Tables(error)),
+    };
+    let report = run_given(rt, &lines, &form, matches)?;
+    Ok((lines.refusals, report))
+}
+
+/// Tells why the program ends early.
+fn tell(rt: &HostRuntime, failure: Failure) {
+    let _ = match failure {
+        Failure::Streams => rt.eprintln("locnum: input or output failed"),
+        Failure::OutOfMemory => rt.eprintln("locnum: out of memory"),
+        Failure::Words => rt.eprintln("locnum: the words aren't text"),
+        Failure::Options(fault) => eprintln!(rt; "locnum: {fault}"),
+        Failure::File => rt.eprintln("locnum: --tables: the file can't be read"),
+        Failure::Tables(error) => eprintln!(rt; "locnum: --tables: {error}"),
+    };
+}
+
+/// The status after a run: 2 where a text was refused, unless that only warns or is ignored.
+fn status_of(refusals: Refusals, report: Report) -> u8
+    ensures { result ≡ status_of refusals report }
+{
+    match refusals {
+        Refusals::Abort | Refusals::Fail => { if report.is_refused { 2 } else { 0 } }
+        Refusals::Warn | Refusals::Ignore => 0,
+    }
+}
+
+/// The status of the program.
+fn status(rt: &HostRuntime, words: &[String]) -> Result<u8, Failure> {
+    let command = command(rt.alloc())?;
+    let matches = match command.try_get_matches_from(words) {
+        Ok(matches) => matches,
+        Err(error) => {
+            let _ = error.print(rt);
+            return Ok(if error.exit_code() == 0 { 0 } else { 1 });
+        }
+    };
+    let (refusals, report) = run_asked(rt, &matches)?;
+    Ok(status_of(refusals, report))
+}
+
+/// The status, whether the program ends early or not.
+fn ended(rt: &HostRuntime) -> u8 {
+    let ended = match words_given(rt) {
+        Ok(words) => status(rt, &words),
+        Err(failure) => Err(failure),
+    };
+    match ended {
+        Ok(status) => status,
+        Err(failure) => {
+            tell(rt, failure);
+            1
+        }
+    }
+}
+
+fn main(rt: HostRuntime) -> ExitCode {
+    ExitCode::from(ended(&rt))
+}

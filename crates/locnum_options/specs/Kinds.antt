@@ -1,0 +1,97 @@
+-- What is written of numbers: a style, money, percents or a unit.
+use Rattle.std.specs.Prelude.{ℕ, Bool, ◌&&◌, ◌||◌, List, Option, Some, None, Result, Ok, Err, codes, nat_eq}
+use Rattle.std.specs.Prelude.{if◌then◌else◌}
+use Rattle.std.specs.Borrow.{Bor}
+use Rattle.std.specs.Option.{is_some, is_none}
+use Rattle.std.specs.Cmp.Lexicographic.{pointwise}
+use Rattle.icu_dimension.specs.declared.options.CurrencySign.{CurrencySign}
+use Rattle.icu_dimension.specs.declared.options.CurrencySign.TheVariants.{Standard, Accounting}
+use Rattle.icu_dimension.specs.declared.options.Width.{Width}
+use Rattle.icu_dimension.specs.declared.options.Width.TheVariants as width
+use Rattle.icu_dimension_data.specs.Currency.{is_currency_code}
+use Rattle.locnum_forms.specs.declared.wanted.Kind.{Kind}
+use Rattle.locnum_forms.specs.declared.wanted.Kind.TheVariants.{Plain, Short, Long, Money, Percent, Unit}
+use Rattle.locnum_forms.specs.declared.wanted.UnitWidth.{UnitWidth}
+use Rattle.locnum_forms.specs.declared.wanted.UnitWidth.TheVariants as unit
+use Rattle.locnum_options.specs.Given.{GivenData}
+use Rattle.locnum_options.specs.declared.fault.OptionFault.{OptionFault}
+use Rattle.locnum_options.specs.declared.fault.OptionFault.TheVariants as fault
+
+-- goes on with what was found, unless there was a fault
+infixl 10 ◌>>=◌
+abbrev pub ◌>>=◌ : {A B : Type 0} → Result A OptionFault → (A → Result B OptionFault) → Result B OptionFault
+(Ok x) >>= f = f x
+(Err fault) >>= f = Err fault
+
+-- the style; plain by default
+unfoldable pub style_given : Option (List ℕ) → Result Kind OptionFault
+style_given None = Ok Plain
+style_given (Some word) =
+    if pointwise nat_eq word (codes "plain") then Ok Plain
+    else if pointwise nat_eq word (codes "short") then Ok Short
+    else if pointwise nat_eq word (codes "long") then Ok Long
+    else Err fault.Style
+
+-- which symbol a currency has; the short one by default
+unfoldable pub money_width : Option (List ℕ) → Result Width OptionFault
+money_width None = Ok width.Short
+money_width (Some word) =
+    if pointwise nat_eq word (codes "short") then Ok width.Short
+    else if pointwise nat_eq word (codes "narrow") then Ok width.Narrow
+    else Err fault.Width
+
+-- which patterns write a unit; the short ones by default
+unfoldable pub unit_width : Option (List ℕ) → Result UnitWidth OptionFault
+unit_width None = Ok unit.Short
+unit_width (Some word) =
+    if pointwise nat_eq word (codes "long") then Ok unit.Long
+    else if pointwise nat_eq word (codes "short") then Ok unit.Short
+    else if pointwise nat_eq word (codes "narrow") then Ok unit.Narrow
+    else Err fault.Width
+
+-- the code of a currency
+unfoldable pub currency_named : List ℕ → Result (List ℕ) OptionFault
+currency_named text = if is_currency_code text then Ok text else Err fault.Currency
+
+-- which pattern writes a sign
+unfoldable pub sign_of : Bool → CurrencySign
+sign_of accounting = if accounting then Accounting else Standard
+
+-- amounts of money
+unfoldable pub money_given : List ℕ → GivenData → Result Kind OptionFault
+money_given text given = do
+  code ← currency_named text
+  width ← money_width given.width
+  Ok (Money code width (sign_of given.accounting) given.cash)
+
+-- numbers with a unit
+unfoldable pub unit_given : Bor (List ℕ) → GivenData → Result Kind OptionFault
+unit_given name given = do
+  width ← unit_width given.width
+  Ok (Unit name width)
+
+-- more than one of the four is asked for
+unfoldable pub is_together : GivenData → Bool
+is_together given =
+    (is_some given.style && (is_some given.currency || given.percent || is_some given.unit))
+    || (is_some given.currency && (given.percent || is_some given.unit))
+    || (given.percent && is_some given.unit)
+
+-- an option of money without a currency, or a width without a currency or a unit
+unfoldable pub is_alone : GivenData → Bool
+is_alone given =
+    is_none given.currency
+    && (given.accounting || given.cash || (is_some given.width && is_none given.unit))
+
+-- the kind by the currency, else the unit, else whether percents are asked for and the style
+abbrev pub kind_by : Option (List ℕ) → Option (Bor (List ℕ)) → GivenData → Result Kind OptionFault
+kind_by (Some code) unit given = money_given code given
+kind_by None (Some name) given = unit_given name given
+kind_by None None given = if given.percent then Ok Percent else style_given given.style
+
+-- the kind that is asked for
+unfoldable pub kind_given : GivenData → Result Kind OptionFault
+kind_given given =
+    if is_together given then Err fault.Together
+    else if is_alone given then Err fault.Alone
+    else kind_by given.currency given.unit given

@@ -1,0 +1,7 @@
+pub mod Fields
+pub mod Fraction
+pub mod Given
+pub mod Kinds
+pub mod Options
+pub mod Texts
+pub mod Words

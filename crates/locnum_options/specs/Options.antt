@@ -1,0 +1,63 @@
+-- What the options ask for.
+use Rattle.std.specs.Prelude.{◌≡◌, ℕ, Bool, ◌⊎◌, List, [], ◌∷◌, Option, Some, None, Result, Ok, Err, if◌then◌else◌}
+use Rattle.locnum_forms.specs.Wanted.{WantedData}
+use Rattle.locnum_forms.specs.declared.wanted.FractionRange.{FractionRange}
+use Rattle.locnum_lines.specs.Settings.{SettingsData}
+use Rattle.locnum_lines.specs.declared.settings.FieldRange.{FieldRange}
+use Rattle.locnum_options.specs.Fields.{fields_named}
+use Rattle.locnum_options.specs.Fraction.{fraction_named}
+use Rattle.locnum_options.specs.Given.{GivenData}
+use Rattle.locnum_options.specs.Kinds.{◌>>=◌, kind_given}
+use Rattle.locnum_options.specs.Texts.{number_named}
+use Rattle.locnum_options.specs.Words.{ok_or, locale_given, system_given, grouping_given, sign_given, delimiter_given, refusals_given}
+use Rattle.locnum_options.specs.declared.fault.OptionFault.{OptionFault}
+use Rattle.locnum_options.specs.declared.fault.OptionFault.TheVariants as fault
+
+-- the form of numbers, and the fields of lines
+pub record OptionsData : Type 0 where
+  pub wanted : WantedData
+  pub lines : SettingsData
+
+-- The result of a call, seen by view, is this; `OutOfMemory` may be reported in place of any result.
+abbrev pub Gives : {X Y : Type 0} → (X → Y) → Result X OptionFault → Result Y OptionFault → Type 0
+Gives view (Ok x) asked = asked ≡ Ok (view x)
+Gives view (Err e) asked = (e ≡ fault.OutOfMemory) ⊎ (asked ≡ Err e)
+
+-- how many fraction digits; none by default
+unfoldable pub fraction_given : Option (List ℕ) → Result (Option FractionRange) OptionFault
+fraction_given None = Ok None
+fraction_given (Some text) = do
+  range ← ok_or (fraction_named text) fault.Fraction
+  Ok (Some range)
+
+-- the fields that are numbers; the first one by default
+unfoldable pub fields_given : Option (List ℕ) → Result (List FieldRange) OptionFault
+fields_given None = Ok (record { first = 1; last = 1 } ∷ [])
+fields_given (Some text) = ok_or (fields_named text) fault.Fields
+
+-- how many lines are a header; none by default
+unfoldable pub header_given : Option (List ℕ) → Result ℕ OptionFault
+header_given None = Ok 0
+header_given (Some text) = ok_or (number_named text) fault.Header
+
+-- the byte that ends a line
+unfoldable pub end_of : Bool → ℕ
+end_of zero_terminated = if zero_terminated then 0 else 10
+
+-- what the options ask for, or the first fault
+unfoldable pub options_of : GivenData → Result OptionsData OptionFault
+options_of given = do
+  locale ← locale_given given.locale
+  system ← system_given given.system
+  grouping ← grouping_given given.grouping
+  fraction ← fraction_given given.fraction
+  sign ← sign_given given.sign
+  kind ← kind_given given
+  delimiter ← delimiter_given given.delimiter
+  fields ← fields_given given.field
+  header ← header_given given.header
+  refusals ← refusals_given given.invalid
+  Ok (record {
+    wanted = record { locale = locale; system = system; grouping = grouping; fraction = fraction; sign = sign; kind = kind };
+    lines = record { delimiter = delimiter; fields = fields; header = header; end = end_of given.zero_terminated; refusals = refusals };
+  })

@@ -1,0 +1,70 @@
+-- Words of options, and what holds where an option isn't given.
+use Rattle.std.specs.Prelude.{ℕ, List, [], ◌∷◌, Option, Some, None, Result, Ok, Err, codes, nat_eq, if◌then◌else◌}
+use Rattle.std.specs.Cmp.Lexicographic.{pointwise}
+use Rattle.icu_provider.specs.Locale.{is_locale}
+use Rattle.icu_provider.specs.NumberingSystem.{is_numbering_system}
+use Rattle.icu_decimal.specs.declared.options.GroupingStrategy.{GroupingStrategy}
+use Rattle.icu_decimal.specs.declared.options.GroupingStrategy.TheVariants as grouping
+use Rattle.fixed_decimal.specs.declared.signs.SignDisplay.{SignDisplay}
+use Rattle.fixed_decimal.specs.declared.signs.SignDisplay.TheVariants as sign
+use Rattle.locnum_lines.specs.declared.settings.Refusals.{Refusals}
+use Rattle.locnum_lines.specs.declared.settings.Refusals.TheVariants as refusals
+use Rattle.locnum_options.specs.declared.fault.OptionFault.{OptionFault}
+use Rattle.locnum_options.specs.declared.fault.OptionFault.TheVariants as fault
+
+-- what was found, or this fault
+abbrev pub ok_or : {A : Type 0} → Option A → OptionFault → Result A OptionFault
+ok_or None fault = Err fault
+ok_or (Some x) fault = Ok x
+
+-- the locale of a text
+unfoldable pub locale_named : List ℕ → Result (List ℕ) OptionFault
+locale_named text = if is_locale text then Ok text else Err fault.Locale
+
+-- the locale; `en` by default
+unfoldable pub locale_given : Option (List ℕ) → Result (List ℕ) OptionFault
+locale_given None = Ok (codes "en")
+locale_given (Some text) = locale_named text
+
+-- the numbering system; none by default
+unfoldable pub system_given : Option (List ℕ) → Result (Option (List ℕ)) OptionFault
+system_given None = Ok None
+system_given (Some text) = if is_numbering_system text then Ok (Some text) else Err fault.System
+
+-- the grouping strategy; none by default
+unfoldable pub grouping_given : Option (List ℕ) → Result (Option GroupingStrategy) OptionFault
+grouping_given None = Ok None
+grouping_given (Some word) =
+    if pointwise nat_eq word (codes "auto") then Ok (Some grouping.Auto)
+    else if pointwise nat_eq word (codes "never") then Ok (Some grouping.Never)
+    else if pointwise nat_eq word (codes "always") then Ok (Some grouping.Always)
+    else if pointwise nat_eq word (codes "min2") then Ok (Some grouping.Min2)
+    else Err fault.Grouping
+
+-- the signs that are written; `auto` by default
+unfoldable pub sign_given : Option (List ℕ) → Result SignDisplay OptionFault
+sign_given None = Ok sign.Auto
+sign_given (Some word) =
+    if pointwise nat_eq word (codes "auto") then Ok sign.Auto
+    else if pointwise nat_eq word (codes "always") then Ok sign.Always
+    else if pointwise nat_eq word (codes "never") then Ok sign.Never
+    else if pointwise nat_eq word (codes "except-zero") then Ok sign.ExceptZero
+    else if pointwise nat_eq word (codes "negative") then Ok sign.Negative
+    else Err fault.Sign
+
+-- the byte between fields; none by default
+unfoldable pub delimiter_given : Option (List ℕ) → Result (Option ℕ) OptionFault
+delimiter_given None = Ok None
+delimiter_given (Some []) = Err fault.Delimiter
+delimiter_given (Some (byte ∷ [])) = Ok (Some byte)
+delimiter_given (Some (byte ∷ (other ∷ others))) = Err fault.Delimiter
+
+-- what becomes of texts that are refused; `abort` by default
+unfoldable pub refusals_given : Option (List ℕ) → Result Refusals OptionFault
+refusals_given None = Ok refusals.Abort
+refusals_given (Some word) =
+    if pointwise nat_eq word (codes "abort") then Ok refusals.Abort
+    else if pointwise nat_eq word (codes "fail") then Ok refusals.Fail
+    else if pointwise nat_eq word (codes "warn") then Ok refusals.Warn
+    else if pointwise nat_eq word (codes "ignore") then Ok refusals.Ignore
+    else Err fault.Invalid

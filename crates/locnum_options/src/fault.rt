@@ -1,0 +1,73 @@
+//! Why options are refused.
+
+ghost use Rattle.std.specs.Prelude.{◌≡◌};
+ghost use Rattle.locnum_options.specs.declared.fault.OptionFault.TheVariants.{OutOfMemory};
+
+use std::alloc::{AllocError, AllocFailed};
+use thiserror::Error;
+
+/// Why options are refused.
+#[derive(Clone, Copy, Debug, PartialEq, Eq, Error)]
+pub enum OptionFault {
+    /// The text isn't a locale.
+    #[error("--locale: not a locale")]
+    Locale,
+    /// The text isn't the name of a numbering system.
+    #[error("--system: not the name of a numbering system")]
+    System,
+    /// The text isn't a grouping strategy.
+    #[error("--grouping: neither auto, never, always nor min2")]
+    Grouping,
+    /// The text isn't a count of fraction digits or a range of counts.
+    #[error("--fraction: neither N nor MIN..MAX, each at most 255")]
+    Fraction,
+    /// The text isn't a way of showing signs.
+    #[error("--sign: neither auto, always, never, except-zero nor negative")]
+    Sign,
+    /// The text isn't a style.
+    #[error("--style: neither plain, short nor long")]
+    Style,
+    /// The text isn't three capital letters.
+    #[error("--currency: not three capital letters")]
+    Currency,
+    /// The text isn't a width of what is asked for.
+    #[error("--width: short or narrow for money; long, short or narrow for units")]
+    Width,
+    /// Two kinds of numbers are asked for at once.
+    #[error("--style, --currency, --percent and --unit: more than one of them")]
+    Together,
+    /// An option of money without a currency, or a width without something that has one.
+    #[error("--accounting and --cash want --currency, and --width wants --currency or --unit")]
+    Alone,
+    /// The text isn't one byte.
+    #[error("--delimiter: not a single byte")]
+    Delimiter,
+    /// The text isn't a list of fields.
+    #[error("--field: not a list of N, N-, N-M, -M or -, from 1 on")]
+    Fields,
+    /// The text isn't a count of lines.
+    #[error("--header: not a count of lines")]
+    Header,
+    /// The text doesn't say what becomes of texts that are refused.
+    #[error("--invalid: neither abort, fail, warn nor ignore")]
+    Invalid,
+    /// An allocation was refused.
+    #[error("out of memory")]
+    OutOfMemory,
+}
+
+impl From<AllocError> for OptionFault {
+    ghost from_gives = { λ _ e. e ≡ OutOfMemory };
+
+    fn from(_e: AllocError) -> OptionFault {
+        OptionFault::OutOfMemory
+    }
+}
+
+impl<T: Drop> From<AllocFailed<T>> for OptionFault {
+    ghost from_gives = { λ _ e. e ≡ OutOfMemory };
+
+    fn from(_e: AllocFailed<T>) -> OptionFault {
+        OptionFault::OutOfMemory
+    }
+}

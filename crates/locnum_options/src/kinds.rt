@@ -1,0 +1,140 @@
+//! What is written of numbers: a style, money, percents or a unit.
+
+ghost use Rattle.std.specs.Prelude.{◌≡◌, option_map};
+ghost use Rattle.locnum_options.specs.Kinds.{currency_named, is_alone, is_together, kind_given, money_given, money_width, sign_of, style_given, unit_given, unit_width};
+
+use crate::fault::OptionFault;
+use crate::given::Given;
+use icu_dimension::options::{CurrencySign, Width};
+use icu_dimension_data::CurrencyCode;
+use locnum_forms::{Kind, UnitWidth};
+
+/// The style; plain by default.
+#[tactic(auto, unfolding(crate::specs::Kinds::style_given))]
+fn style_given<'a>(word: Option<&str>) -> Result<Kind<'a>, OptionFault>
+    ensures { result ≡ style_given (option_map (λ t. t.now) word.entry) }
+{
+    match word {
+        None => Ok(Kind::Plain),
+        Some("plain") => Ok(Kind::Plain),
+        Some("short") => Ok(Kind::Short),
+        Some("long") => Ok(Kind::Long),
+        Some(_) => Err(OptionFault::Style),
+    }
+}
+
+/// Which symbol a currency has; the short one by default.
+#[tactic(auto, unfolding(crate::specs::Kinds::money_width))]
+fn money_width(word: Option<&str>) -> Result<Width, OptionFault>
+    ensures { result ≡ money_width (option_map (λ t. t.now) word.entry) }
+{
+    match word {
+        None => Ok(Width::Short),
+        Some("short") => Ok(Width::Short),
+        Some("narrow") => Ok(Width::Narrow),
+        Some(_) => Err(OptionFault::Width),
+    }
+}
+
+/// Which patterns write a unit; the short ones by default.
+#[tactic(auto, unfolding(crate::specs::Kinds::unit_width))]
+fn unit_width(word: Option<&str>) -> Result<UnitWidth, OptionFault>
+    ensures { result ≡ unit_width (option_map (λ t. t.now) word.entry) }
+{
+    match word {
+        None => Ok(UnitWidth::Short),
+        Some("long") => Ok(UnitWidth::Long),
+        Some("short") => Ok(UnitWidth::Short),
+        Some("narrow") => Ok(UnitWidth::Narrow),
+        Some(_) => Err(OptionFault::Width),
+    }
+}
+
+/// The code of a currency.
+#[tactic(auto, unfolding(crate::specs::Kinds::currency_named))]
+fn currency_named(text: &str) -> Result<CurrencyCode, OptionFault>
+    ensures { result ≡ currency_named text.now }
+{
+    match CurrencyCode::try_from_str(text) {
+        Ok(code) => Ok(code),
+        Err(_) => Err(OptionFault::Currency),
+    }
+}
+
+/// Which pattern writes a sign.
+#[tactic(auto, unfolding(crate::specs::Kinds::sign_of))]
+fn sign_of(accounting: bool) -> CurrencySign
+    ensures { result ≡ sign_of accounting }
+{
+    if accounting {
+        CurrencySign::Accounting
+    } else {
+        CurrencySign::Standard
+    }
+}
+
+/// Amounts of money.
+#[tactic(auto, unfolding(crate::specs::Kinds::money_given))]
+fn money_given<'a>(text: &str, given: &Given) -> Result<Kind<'a>, OptionFault>
+    ensures { result ≡ money_given text.now given.now }
+{
+    Ok(Kind::Money {
+        code: currency_named(text)?,
+        width: money_width(given.width)?,
+        sign: sign_of(given.accounting),
+        is_cash: given.cash,
+    })
+}
+
+/// Numbers with a unit.
+#[tactic(auto, unfolding(crate::specs::Kinds::unit_given))]
+fn unit_given<'a>(name: &'a str, given: &Given) -> Result<Kind<'a>, OptionFault>
+    ensures { result ≡ unit_given name.entry given.now }
+{
+    let width = unit_width(given.width)?;
+    Ok(Kind::Unit { name, width })
+}
+
+/// Whether more than one of the four is asked for.
+#[tactic(auto, unfolding(crate::specs::Kinds::is_together))]
+fn is_together(given: &Given) -> bool
+    ensures { result ≡ is_together given.now }
+{
+    let currency = given.currency.is_some();
+    let unit = given.unit.is_some();
+    (given.style.is_some() && (currency || given.percent || unit))
+        || (currency && (given.percent || unit))
+        || (given.percent && unit)
+}
+
+/// Whether an option of money stands without a currency, or a width without a currency or a unit.
+#[tactic(auto, unfolding(crate::specs::Kinds::is_alone))]
+fn is_alone(given: &Given) -> bool
+    ensures { result ≡ is_alone given.now }
+{
+    given.currency.is_none()
+        && (given.accounting || given.cash || (given.width.is_some() && given.unit.is_none()))
+}
+
+/// The kind that is asked for.
+#[tactic(auto, unfolding(crate::specs::Kinds::kind_given))]
+pub(crate) fn kind_given<'a>(given: &Given<'a>) -> Result<Kind<'a>, OptionFault>
+    ensures { result ≡ kind_given given.now }
+{
+    if is_together(given) {
+        return Err(OptionFault::Together);
+    }
+    if is_alone(given) {
+        return Err(OptionFault::Alone);
+    }
+    if let Some(code) = given.currency {
+        return money_given(code, given);
+    }
+    if let Some(name) = given.unit {
+        return unit_given(name, given);
+    }
+    if given.percent {
+        return Ok(Kind::Percent);
+    }
+    style_given(given.style)
+}

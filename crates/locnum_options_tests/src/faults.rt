@@ -1,0 +1,184 @@
+//! Options that are refused, and which fault is told.
+
+use crate::reading::{Word, options_of};
+use locnum_options::OptionFault;
+use std::alloc::Global;
+
+/// Whether the words are refused for this fault.
+fn is_refused(alloc: Global, words: &[Word], fault: OptionFault) -> bool {
+    match options_of(alloc, words) {
+        Ok(_) => false,
+        Err(found) => found == fault,
+    }
+}
+
+/// Words, and why they are refused.
+const REFUSED: &[(&[Word], OptionFault)] = &[
+    (&[("locale", "")], OptionFault::Locale),
+    (&[("locale", "de_DE")], OptionFault::Locale),
+    (&[("system", "-")], OptionFault::System),
+    (&[("system", "no")], OptionFault::System),
+    (&[("grouping", "min3")], OptionFault::Grouping),
+    (&[("grouping", "Auto")], OptionFault::Grouping),
+    (&[("fraction", "")], OptionFault::Fraction),
+    (&[("fraction", "256")], OptionFault::Fraction),
+    (&[("fraction", "+1")], OptionFault::Fraction),
+    (&[("fraction", "2.3")], OptionFault::Fraction),
+    (&[("fraction", "2..")], OptionFault::Fraction),
+    (&[("fraction", "..2")], OptionFault::Fraction),
+    (&[("fraction", "3..2")], OptionFault::Fraction),
+    (&[("fraction", "0...2")], OptionFault::Fraction),
+    (&[("fraction", "0..256")], OptionFault::Fraction),
+    (
+        &[("fraction", "18446744073709551618")],
+        OptionFault::Fraction,
+    ),
+    (&[("sign", "plus")], OptionFault::Sign),
+    (&[("style", "narrow")], OptionFault::Style),
+    (&[("currency", "usd")], OptionFault::Currency),
+    (&[("currency", "US")], OptionFault::Currency),
+    (
+        &[("currency", "USD"), ("width", "long")],
+        OptionFault::Width,
+    ),
+    (&[("unit", "meter"), ("width", "wide")], OptionFault::Width),
+    (
+        &[("currency", "usd"), ("width", "long")],
+        OptionFault::Currency,
+    ),
+    (&[("accounting", "")], OptionFault::Alone),
+    (&[("cash", ""), ("percent", "")], OptionFault::Alone),
+    (&[("cash", ""), ("unit", "meter")], OptionFault::Alone),
+    (
+        &[("accounting", ""), ("style", "short")],
+        OptionFault::Alone,
+    ),
+    (&[("width", "short")], OptionFault::Alone),
+    (&[("width", "short"), ("percent", "")], OptionFault::Alone),
+    (&[("width", "wide"), ("style", "wide")], OptionFault::Alone),
+    (&[("delimiter", "")], OptionFault::Delimiter),
+    (&[("delimiter", ", ")], OptionFault::Delimiter),
+    (&[("delimiter", "\u{b7}")], OptionFault::Delimiter),
+    (&[("field", "")], OptionFault::Fields),
+    (&[("field", "0")], OptionFault::Fields),
+    (&[("field", "3-2")], OptionFault::Fields),
+    (&[("field", "-0")], OptionFault::Fields),
+    (&[("field", "1,")], OptionFault::Fields),
+    (&[("field", ",1")], OptionFault::Fields),
+    (&[("field", "1,,2")], OptionFault::Fields),
+    (&[("field", "1-2-3")], OptionFault::Fields),
+    (&[("field", "--")], OptionFault::Fields),
+    (&[("field", "1, 2")], OptionFault::Fields),
+    (&[("field", "18446744073709551616")], OptionFault::Fields),
+    (&[("header", "")], OptionFault::Header),
+    (&[("header", "-1")], OptionFault::Header),
+    (&[("header", "18446744073709551616")], OptionFault::Header),
+    (&[("invalid", "stop")], OptionFault::Invalid),
+];
+
+#[test]
+fn refuses_each_word_that_has_no_meaning(rt: HostRuntime) {
+    for (words, fault) in REFUSED {
+        assert!(rt; is_refused(rt.alloc(), words, *fault), "{words:?}");
+    }
+}
+
+/// Each two of these exclude one another.
+const TOGETHER: &[Word] = &[
+    ("style", "plain"),
+    ("currency", "EUR"),
+    ("percent", ""),
+    ("unit", "meter"),
+];
+
+#[test]
+fn refuses_two_kinds_at_once(rt: HostRuntime) {
+    for one in TOGETHER {
+        for other in TOGETHER {
+            let is_same = one.0 == other.0;
+            assert!(rt;
+                is_same || is_refused(rt.alloc(), &[*one, *other], OptionFault::Together),
+                "{one:?} {other:?}"
+            );
+        }
+    }
+}
+
+/// Words that are refused, in the order in which they are judged.
+const IN_ORDER: &[(Word, OptionFault)] = &[
+    (("locale", ""), OptionFault::Locale),
+    (("system", ""), OptionFault::System),
+    (("grouping", ""), OptionFault::Grouping),
+    (("fraction", ""), OptionFault::Fraction),
+    (("sign", ""), OptionFault::Sign),
+    (("style", ""), OptionFault::Style),
+    (("delimiter", ""), OptionFault::Delimiter),
+    (("field", ""), OptionFault::Fields),
+    (("header", ""), OptionFault::Header),
+    (("invalid", ""), OptionFault::Invalid),
+];
+
+#[test]
+fn tells_the_first_fault(rt: HostRuntime) {
+    for (place, (first, fault)) in IN_ORDER.iter().enumerate() {
+        for (later, _) in IN_ORDER.iter().skip(place) {
+            assert!(rt;
+                is_refused(rt.alloc(), &[*later, *first], *fault),
+                "{first:?} {later:?}"
+            );
+        }
+    }
+}
+
+#[test]
+fn tells_kinds_together_before_options_alone_and_their_words(rt: HostRuntime) {
+    assert!(rt;
+        is_refused(
+            rt.alloc(),
+            &[("percent", ""), ("unit", "meter"), ("cash", "")],
+            OptionFault::Together
+        )
+    );
+    assert!(rt;
+        is_refused(
+            rt.alloc(),
+            &[("currency", "usd"), ("style", "wide")],
+            OptionFault::Together
+        )
+    );
+    assert!(rt;
+        is_refused(
+            rt.alloc(),
+            &[("style", "wide"), ("cash", "")],
+            OptionFault::Alone
+        )
+    );
+}
+
+/// Faults, and how they read.
+const DISPLAYED: &[(OptionFault, &str)] = &[
+    (OptionFault::Locale, "--locale: not a locale"),
+    (
+        OptionFault::System,
+        "--system: not the name of a numbering system",
+    ),
+    (OptionFault::OutOfMemory, "out of memory"),
+];
+
+/// Whether the fault reads so.
+fn reads(alloc: Global, fault: OptionFault, text: &str) -> bool {
+    match format!(in alloc; "{fault}") {
+        Ok(shown) => shown.as_str() == text,
+        Err(_) => match format!(in alloc; "{fault}") {
+            Ok(shown) => shown.as_str() == text,
+            Err(_) => false,
+        },
+    }
+}
+
+#[test]
+fn displays_faults(rt: HostRuntime) {
+    for (fault, text) in DISPLAYED {
+        assert!(rt; reads(rt.alloc(), *fault, text), "{text}");
+    }
+}

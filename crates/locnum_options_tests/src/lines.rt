@@ -1,0 +1,123 @@
+//! Delimiters, fields, headers, ends of lines, and what becomes of texts that are refused.
+
+use crate::reading::{Word, options_of};
+use locnum_lines::{LineSettings, Refusals};
+use std::alloc::Global;
+
+/// How lines are cut.
+#[derive(Clone, Copy)]
+struct Asked {
+    delimiter: Option<u8>,
+    fields: &'static [(usize, usize)],
+    header: u64,
+    end: u8,
+    refusals: Refusals,
+}
+
+/// How they are without options.
+const DEFAULTS: Asked = Asked {
+    delimiter: None,
+    fields: &[(1, 1)],
+    header: 0,
+    end: b'\n',
+    refusals: Refusals::Abort,
+};
+
+/// Whether lines are cut just so.
+fn is_asked(lines: &LineSettings, asked: &Asked) -> bool {
+    lines.delimiter == asked.delimiter
+        && lines.fields.len() == asked.fields.len()
+        && lines.fields.iter().zip(asked.fields).all(|(range, ends)| range.first == ends.0
+            && range.last == ends.1)
+        && lines.header == asked.header
+        && lines.end == asked.end
+        && lines.refusals == asked.refusals
+}
+
+/// Whether the words ask for this.
+fn asks(alloc: Global, words: &[Word], asked: &Asked) -> bool {
+    match options_of(alloc, words) {
+        Ok(options) => is_asked(&options.lines, asked),
+        Err(_) => false,
+    }
+}
+
+#[test]
+fn has_defaults(rt: HostRuntime) {
+    assert!(rt; asks(rt.alloc(), &[], &DEFAULTS));
+}
+
+/// Lists of fields.
+const FIELDS: &[(&str, &[(usize, usize)])] = &[
+    ("1", &[(1, 1)]),
+    ("007", &[(7, 7)]),
+    ("2-", &[(2, usize::MAX)]),
+    ("2-4", &[(2, 4)]),
+    ("3-3", &[(3, 3)]),
+    ("-3", &[(1, 3)]),
+    ("-", &[(1, usize::MAX)]),
+    ("1,3-5,9-", &[(1, 1), (3, 5), (9, usize::MAX)]),
+    ("2,-", &[(2, 2), (1, usize::MAX)]),
+    ("18446744073709551615", &[(usize::MAX, usize::MAX)]),
+];
+
+#[test]
+fn reads_fields(rt: HostRuntime) {
+    for (text, fields) in FIELDS {
+        let asked = Asked {
+            fields: *fields,
+            ..DEFAULTS
+        };
+        assert!(rt; asks(rt.alloc(), &[("field", text)], &asked), "{text}");
+    }
+}
+
+const DELIMITERS: &[(&str, u8)] = &[(",", b','), ("\t", b'\t'), (" ", b' ')];
+
+#[test]
+fn reads_delimiters(rt: HostRuntime) {
+    for (text, byte) in DELIMITERS {
+        let asked = Asked {
+            delimiter: Some(*byte),
+            ..DEFAULTS
+        };
+        assert!(rt; asks(rt.alloc(), &[("delimiter", text)], &asked), "{byte}");
+    }
+}
+
+const HEADERS: &[(&str, u64)] = &[("0", 0), ("1", 1), ("18446744073709551615", u64::MAX)];
+
+#[test]
+fn reads_headers(rt: HostRuntime) {
+    for (text, header) in HEADERS {
+        let asked = Asked {
+            header: *header,
+            ..DEFAULTS
+        };
+        assert!(rt; asks(rt.alloc(), &[("header", text)], &asked), "{text}");
+    }
+}
+
+const REFUSALS: &[(&str, Refusals)] = &[
+    ("abort", Refusals::Abort),
+    ("fail", Refusals::Fail),
+    ("warn", Refusals::Warn),
+    ("ignore", Refusals::Ignore),
+];
+
+#[test]
+fn reads_what_becomes_of_refused_texts(rt: HostRuntime) {
+    for (word, refusals) in REFUSALS {
+        let asked = Asked {
+            refusals: *refusals,
+            ..DEFAULTS
+        };
+        assert!(rt; asks(rt.alloc(), &[("invalid", word)], &asked), "{word}");
+    }
+}
+
+#[test]
+fn ends_lines_in_zeros(rt: HostRuntime) {
+    let asked = Asked { end: 0, ..DEFAULTS };
+    assert!(rt; asks(rt.alloc(), &[("zero-terminated", "")], &asked));
+}
