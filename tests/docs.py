@@ -15,7 +15,8 @@ usage: tests/docs.py [--write]
 - README.md names the packages of tests/packages.txt, and the logic of the toolchain as `rt version` prints it.
 - docs/decfmt.1, as `man` shows it, has the words, the statuses with their texts, the error lines and the examples of
   crates/decfmt/README.md, and no other error line; its version is that of VERSION.
-- The text in crates/sample_tables is that of tables/sample.json, byte for byte; the languages of icu_decimal_tests, whose
+- The text in crates/sample_tables is that of tables/sample.json, byte for byte, and that in crates/locnum that of
+  tables/english.json; the languages of icu_decimal_tests, whose
   tables are maps in code, have the patterns and plural rules of that file.
 - crates.txt has each crate under a heading, and the page of each crate says in a line `Tests: ..` where its tests stand.
 - No line of specs/ and proofs/ is longer than 160 bytes, and none of a clause than 100 characters.
@@ -408,6 +409,13 @@ def judge_sample():
     judge(text == read_exactly("tables/sample.json"), "crates/sample_tables: isn't the text of tables/sample.json")
 
 
+def judge_english():
+    """The constant of the program locnum has the bytes of the file."""
+    literal = re.search(r'= "((?:[^"\\]|\\["\\])*)";$', read_exactly("crates/locnum/src/english.rt"), flags=re.M)
+    text = re.sub(r"\\(.)", r"\1", literal.group(1)) if literal else None
+    judge(text == read_exactly("tables/english.json"), "crates/locnum: isn't the text of tables/english.json")
+
+
 def judge_signs():
     """crates.txt stands under headings, and the page of each crate that isn't tests says in a line where its tests stand."""
     heading, crates = None, {}
@@ -565,6 +573,7 @@ def main():
     judge_needs(page)
     judge_manual()
     judge_sample()
+    judge_english()
     judge_signs()
     judge_widths()
     judge_languages()

@@ -44,7 +44,8 @@ pub then_runs-stopped : (r s : Ran) → r.is_stopped ≡ true → then_runs r s 
 then_runs-stopped r s stops = rw stops refl
 
 -- nothing more is added
-pub Adds-nothing : (a b : GatheredData) (r : Ran) (n : ℕ) → Adds a b r n → r.is_stopped ≡ false → Adds a b (joined r (joined (writes []) (writes []))) n
+pub Adds-nothing : (a b : GatheredData) (r : Ran) (n : ℕ) → Adds a b r n → r.is_stopped ≡ false →
+    Adds a b (joined r (joined (writes []) (writes []))) n
 Adds-nothing a b r n f going = record {
   output = f.output ∙ ap (λ (k : List ℕ). a.output ++ k) (sym (append-nil r.output));
   notes = f.notes ∙ ap (λ (k : List ℕ). a.notes ++ k) (sym (append-nil r.notes));

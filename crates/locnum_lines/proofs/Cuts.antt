@@ -1,7 +1,8 @@
 -- Where fields end, and what of them is a number, step by step.
 -- The definitions take a text from the front, one byte a step; a loop that is at a place has the definition of what is left
 -- (`blanks_before-step`, `field_length-step`), and one from the end that of what is in front (`content_length-blank`).
-use Rattle.std.proofs.Common.{◌≡◌, ℕ, zero, suc, ◌+◌, ◌-◌, ◌<◌, ◌≤◌, Bool, true, false, List, [], ◌∷◌, ◌++◌, length, get_or, take, drop, Option, refl, sym, ap, ◌∙◌, arith}
+use Rattle.std.proofs.Common.{◌≡◌, ℕ, zero, suc, ◌+◌, ◌-◌, ◌<◌, ◌≤◌, Bool, true, false, List, [], ◌∷◌, ◌++◌}
+use Rattle.std.proofs.Common.{length, get_or, take, drop, Option, refl, sym, ap, ◌∙◌, arith}
 use Rattle.std.specs.Prelude.{◌||◌, not, if◌then◌else◌}
 use Rattle.std.proofs.lemmas.List.{drop_all, drop_more, length-drop, length-take-le, take_more}
 use Rattle.locnum_lines.specs.Fields.{blanks_before, content_length, cut, ends_field, field_length, is_blank, is_blank_behind, with_byte}
@@ -75,7 +76,8 @@ last_taken text n inside some =
 -- a blank at the end of the first n bytes
 pub content_length-before : (text : List ℕ) (n : ℕ) → n ≤ length text → 0 < n → is_blank_behind (get_or text (n - 1) 0) ≡ true →
     content_length (take n text) ≡ content_length (take (n - 1) text)
-content_length-before text n inside some h = ap content_length (last_taken text n inside some) ∙ content_length-blank (take (n - 1) text) (get_or text (n - 1) 0) h
+content_length-before text n inside some h =
+    ap content_length (last_taken text n inside some) ∙ content_length-blank (take (n - 1) text) (get_or text (n - 1) 0) h
 
 -- a word at their end
 pub content_length-last : (text : List ℕ) (n : ℕ) → n ≤ length text → 0 < n → is_blank_behind (get_or text (n - 1) 0) ≡ false →
@@ -114,11 +116,13 @@ content_length-within (b ∷ bs) = go (content_length bs) (content_length-within
 
 -- a field in its three parts
 pub cut-is : (text before rest number behind : List ℕ) (n m : ℕ) → n ≡ blanks_before text → before ≡ take n text → rest ≡ drop n text →
-    m ≡ content_length rest → number ≡ take m rest → behind ≡ drop m rest → cut text ≡ record { before = before; number = number; behind = behind }
+    m ≡ content_length rest → number ≡ take m rest → behind ≡ drop m rest →
+    cut text ≡ record { before = before; number = number; behind = behind }
 cut-is text before rest number behind n m e1 e2 e3 e4 e5 e6 = rw (e5, e6, e4, e3, e2, e1) refl
 
 -- what stands at n, and behind it
-pub seam : (line : List ℕ) (n b : ℕ) (rest : List ℕ) → drop n line ≡ b ∷ rest → (n < length line) × (get_or line n 0 ≡ b) × (drop (n + 1) line ≡ rest)
+pub seam : (line : List ℕ) (n b : ℕ) (rest : List ℕ) → drop n line ≡ b ∷ rest →
+    (n < length line) × (get_or line n 0 ≡ b) × (drop (n + 1) line ≡ rest)
 seam line n b rest e =
     let inside : n < length line = omega (arith, ap (λ (k : List ℕ). length k) e, length-drop n line) in
     let is : get_or line n 0 ∷ drop (n + 1) line ≡ b ∷ rest = sym (drop_more line n 0 inside) ∙ e in

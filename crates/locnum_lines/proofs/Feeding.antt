@@ -1,7 +1,8 @@
 -- What lines and parts of lines add to what was gathered.
 -- The lines of whole lines and of what follows are those of both, one behind the other (`lines_of-append`), so that what runs
 -- for them runs one behind the other too (`lines_ran-append`), unless the run stops.
-use Rattle.std.proofs.Common.{◌≡◌, ℕ, zero, suc, ◌+◌, ◌-◌, ◌<◌, Bool, get_or, take, drop, length-take, true, false, cond, eqb, arith, length, List, [], ◌∷◌, ◌++◌, length-append, refl, sym, ap, ◌∙◌, append_assoc, inl, inr}
+use Rattle.std.proofs.Common.{◌≡◌, ℕ, zero, suc, ◌+◌, ◌-◌, ◌<◌, Bool, get_or, take, drop, length-take, true, false, cond, eqb}
+use Rattle.std.proofs.Common.{arith, length, List, [], ◌∷◌, ◌++◌, length-append, refl, sym, ap, ◌∙◌, append_assoc, inl, inr}
 use Rattle.std.proofs.lemmas.Bool.{eqb-true}
 use Rattle.std.proofs.lemmas.Bool.Decides.{nat_tests}
 use Rattle.std.proofs.lemmas.List.{append-nil, get_or-take, drop_more, take-append-drop}

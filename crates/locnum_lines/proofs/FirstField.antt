@@ -1,6 +1,7 @@
 -- The first field of a line, and those behind it.
 -- `fields_from` goes byte by byte and puts each onto the first field of the rest, while the code cuts a field off by its length.
-use Rattle.std.proofs.Common.{◌≡◌, ℕ, zero, suc, ◌+◌, ◌<◌, ◌≤◌, Bool, true, false, List, [], ◌∷◌, length, get_or, take, drop, Option, refl, sym, ap, ◌∙◌, arith}
+use Rattle.std.proofs.Common.{◌≡◌, ℕ, zero, suc, ◌+◌, ◌<◌, ◌≤◌, Bool, true, false, List, [], ◌∷◌, length, get_or, take}
+use Rattle.std.proofs.Common.{drop, Option, refl, sym, ap, ◌∙◌, arith}
 use Rattle.std.specs.Prelude.{◌||◌, not, if◌then◌else◌}
 use Rattle.locnum_lines.specs.Fields.{Field, ends_field, field_length, fields_from, is_blank, onto_field}
 
@@ -27,7 +28,8 @@ fields-last delimiter had_word [] h = refl
 fields-last delimiter had_word (b ∷ bs) h = go (ends_field delimiter had_word b) (fields-last delimiter (word_behind had_word b) bs) h
   where
     go : (t : Bool) → (field_length delimiter (word_behind had_word b) bs ≡ length bs →
-        fields_from delimiter (word_behind had_word b) bs ≡ record { text = bs; behind = [] } ∷ []) → (if t then 0 else suc (field_length delimiter (word_behind had_word b) bs)) ≡ suc (length bs) →
+        fields_from delimiter (word_behind had_word b) bs ≡ record { text = bs; behind = [] } ∷ []) →
+        (if t then 0 else suc (field_length delimiter (word_behind had_word b) bs)) ≡ suc (length bs) →
         (if t then record { text = []; behind = b ∷ [] } ∷ fields_from delimiter false bs
         else onto_field b (fields_from delimiter (word_behind had_word b) bs)) ≡ record { text = b ∷ bs; behind = [] } ∷ []
     go true i h = absurd (omega (arith, h))
@@ -44,7 +46,11 @@ fields-first delimiter had_word (b ∷ bs) n e inside =
     (fields-first delimiter (word_behind had_word b) bs (field_length delimiter (word_behind had_word b) bs) refl) e
   where
     go : (t : Bool) → ((field_length delimiter (word_behind had_word b) bs) < length bs → fields_from delimiter (word_behind had_word b) bs
-        ≡ record { text = take (field_length delimiter (word_behind had_word b) bs) bs; behind = get_or bs (field_length delimiter (word_behind had_word b) bs) 0 ∷ [] } ∷ fields_from delimiter false (drop ((field_length delimiter (word_behind had_word b) bs) + 1) bs)) → n ≡ (if t then 0 else suc (field_length delimiter (word_behind had_word b) bs)) →
+        ≡ record {
+          text = take (field_length delimiter (word_behind had_word b) bs) bs;
+          behind = get_or bs (field_length delimiter (word_behind had_word b) bs) 0 ∷ [];
+        } ∷ fields_from delimiter false (drop ((field_length delimiter (word_behind had_word b) bs) + 1) bs)) →
+        n ≡ (if t then 0 else suc (field_length delimiter (word_behind had_word b) bs)) →
         (if t then record { text = []; behind = b ∷ [] } ∷ fields_from delimiter false bs
         else onto_field b (fields_from delimiter (word_behind had_word b) bs))
         ≡ record { text = take n (b ∷ bs); behind = get_or (b ∷ bs) n 0 ∷ [] } ∷ fields_from delimiter false (drop (n + 1) (b ∷ bs))

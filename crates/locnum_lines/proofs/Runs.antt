@@ -1,7 +1,8 @@
 -- What was written and told while a run goes on, and when it ends.
 -- What was gathered goes to the writers block by block. `Went` says of a run so far that the writers hold what its whole lines
 -- write and tell; each way out of the loop is a lemma on it. A run that stopped writes nothing more, whatever is left to read.
-use Rattle.std.proofs.Common.{◌≡◌, ℕ, ◌+◌, ◌-◌, Bool, true, false, List, [], ◌∷◌, ◌++◌, length, Option, Some, None, eqb, refl, sym, ap, ◌∙◌, append_assoc, arith, inl, inr}
+use Rattle.std.proofs.Common.{◌≡◌, ℕ, ◌+◌, ◌-◌, Bool, true, false, List, [], ◌∷◌, ◌++◌, length, Option, Some, None, eqb}
+use Rattle.std.proofs.Common.{refl, sym, ap, ◌∙◌, append_assoc, arith, inl, inr}
 use Rattle.std.specs.Prelude.{IfSome, ◌||◌, OnErr, Result, Ok, Err}
 use Rattle.std.specs.Io.KnownBytes.{Appends, Consumes, IsAtEnd}
 use Rattle.std.proofs.lemmas.Bool.{eqb-true, false≢true}

@@ -1,5 +1,6 @@
 -- What is written for the fields of a line.
-use Rattle.std.specs.Prelude.{ℕ, suc, ◌||◌, ◌==◌, true, false, nat_lt, List, [], ◌∷◌, ◌++◌, map, Result, Ok, Err, codes, if◌then◌else◌}
+use Rattle.std.specs.Prelude.{ℕ, suc, ◌||◌, ◌==◌, true, false, nat_lt, List, [], ◌∷◌, ◌++◌, map, Result, Ok, Err, codes}
+use Rattle.std.specs.Prelude.{if◌then◌else◌}
 use Rattle.writeable.specs.Events.{Event, text_of}
 use Rattle.decimal_lines.specs.declared.alone.TextError.{TextError}
 use Rattle.decimal_lines.specs.declared.alone.TextError.TheVariants.{NotDecimal, TooManyDigits, Overflow, OutOfMemory}

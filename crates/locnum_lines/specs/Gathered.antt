@@ -1,5 +1,6 @@
 -- What was gathered of an input's output and notes.
-use Rattle.std.specs.Prelude.{◌≡◌, ℕ, suc, ◌-◌, ◌<◌, Bool, false, ◌||◌, List, [], ◌++◌, ◌∷◌, ◌⊎◌, length, Option, Some, None, IfSome, option_map}
+use Rattle.std.specs.Prelude.{◌≡◌, ℕ, suc, ◌-◌, ◌<◌, Bool, false, ◌||◌, List, [], ◌++◌, ◌∷◌, ◌⊎◌, length, Option}
+use Rattle.std.specs.Prelude.{Some, None, IfSome, option_map}
 use Rattle.locnum_forms.specs.Forms.{FormData}
 use Rattle.locnum_lines.specs.FieldRuns.{fields_ran}
 use Rattle.locnum_lines.specs.Fields.{fields_from}

@@ -1,5 +1,6 @@
 -- Where texts are cut.
-use Rattle.std.proofs.Common.{◌≡◌, ◌≢◌, ℕ, suc, ◌+◌, ◌<◌, List, [], ◌∷◌, ◌++◌, length, get_or, drop, eqb, true, false, refl, sym, arith}
+use Rattle.std.proofs.Common.{◌≡◌, ◌≢◌, ℕ, suc, ◌+◌, ◌<◌, List, [], ◌∷◌, ◌++◌, length, get_or, drop, eqb, true, false}
+use Rattle.std.proofs.Common.{refl, sym, arith}
 use Rattle.std.specs.Prelude.{Option, Some, None, option_map, MatchOption}
 use Rattle.std.specs.Borrow.{Bor}
 use Rattle.std.specs.Str.Pattern.{FindsCharPrefix}
@@ -53,7 +54,8 @@ cut_at-split c bs (Some x) h low =
 
 -- what `strip_prefix` gives stands behind a dot
 pub behind_dot-stripped : (bs : List ℕ) (r : Option (Bor (List ℕ))) →
-    MatchOption r (FindsCharPrefix 46 bs None) (λ x. (n : ℕ) × FindsCharPrefix 46 bs (Some n) × (x.now ≡ drop n bs) × (length x.now + n ≡ length bs)) →
+    MatchOption r (FindsCharPrefix 46 bs None) (λ x. (n : ℕ) × FindsCharPrefix 46 bs (Some n)
+    × (x.now ≡ drop n bs) × (length x.now + n ≡ length bs)) →
     option_map (λ t. t.now) r ≡ behind_dot bs
 unfolding behind_dot
 behind_dot-stripped [] None h = refl

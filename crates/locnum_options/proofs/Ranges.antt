@@ -65,7 +65,8 @@ module _ (done : List FieldRange) (part : List ℕ) (lacks : Lacks 44 part) wher
       onto_ranges done (ranges_named (parts_of 44 part)) ≡ Some (done ++ range ∷ [])
   unfolding ranges_named
   range-last range h =
-      rw (parts_of-nowhere 44 part lacks) (onto_ranges-more done range [] part (found (range_named part) Fields range h) ∙ ap Some (append-nil (done ++ range ∷ [])))
+      rw (parts_of-nowhere 44 part lacks)
+      (onto_ranges-more done range [] part (found (range_named part) Fields range h) ∙ ap Some (append-nil (done ++ range ∷ [])))
 
   -- no range at the end
   pub bad-last : (fault : OptionFault) → ok_or (range_named part) Fields ≡ Err fault →

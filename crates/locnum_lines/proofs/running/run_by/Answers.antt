@@ -5,7 +5,8 @@ use Rattle.decimal_lines.proofs.Known.{Consumes-none, Consumes-nothing, Consumes
 use Rattle.locnum_lines.proofs.Runs.{Went, Went-start, Went-then, any_err, breaks, ends, ends_early, pauses, stops}
 use Rattle.locnum_lines.proofs.running.run_by.Given.{Over}
 use Rattle.locnum_lines.proofs.running.run_by.Goals as goal
-use Rattle.locnum_lines.proofs.running.run_by.Goals.{else-loop-test, then-loop-test+in-Ok+else-n-eq0+in-Ok-taken+in_ok-flush+else-gathered+else-counter-lt18446744073709551615}
+use Rattle.locnum_lines.proofs.running.run_by.Goals.{else-loop-test}
+use Rattle.locnum_lines.proofs.running.run_by.Goals.{then-loop-test+in-Ok+else-n-eq0+in-Ok-taken+in_ok-flush+else-gathered+else-counter-lt18446744073709551615}
 
 pub loop-init : goal.loop-init
 loop-init g c = (
