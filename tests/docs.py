@@ -54,6 +54,7 @@ sys.path.insert(0, os.path.join(ROOT, "tools"))
 import pictures  # noqa
 
 PROGRAM = "crates/decfmt/out/decfmt"
+REPORTS = "crates/locnum/out/locnum"
 PAGES = ["README.md", "CONTRIBUTING.md", "CHANGELOG.md", "docs/*.md", "tables/README.md", "crates/*/README.md"]
 SHOWING = ["README.md", "crates/icu_provider/README.md", "crates/tour/README.md"]
 # The languages of icu_decimal_tests that are in tables/sample.json: style, locale, and the name of their plural rules.
@@ -534,11 +535,11 @@ def judge_first_command(page):
 
 def judge_release(page):
     """README's commands by a release of CLDR, where it is there, write what README quotes."""
-    lines = [line for line in shell_lines("README.md") if RELEASE in line or "cldr.json" in line]
-    if not os.path.isdir(RELEASE) or not os.path.exists(PROGRAM):
+    lines = [line for line in shell_lines("README.md") if RELEASE in line or "cldr.json" in line or "de.json" in line]
+    if not os.path.isdir(RELEASE) or not os.path.exists(PROGRAM) or not os.path.exists(REPORTS):
         return
     with tempfile.TemporaryDirectory() as folder:
-        script = "\n".join(lines).replace("cldr.json", os.path.join(folder, "cldr.json"))
+        script = re.sub(r"\b(cldr|de)\.json", lambda name: os.path.join(folder, name[0]), "\n".join(lines))
         done = subprocess.run(["bash", "-ec", script], stdout=subprocess.PIPE, stderr=subprocess.PIPE, timeout=600)
     told = done.stdout.decode("utf-8", "replace").splitlines()
     well = done.returncode == 0 and told and all(f"`{line}`" in page for line in told)

@@ -61,8 +61,9 @@ writes '+1.20\n' --sign always --fraction 2 1.2
 writes '1.2\n1.25\n' --fraction 1..2 1.2 1.25
 lines 0 'rent 1250\nfood 431.5\n' 'rent $1,250.00\nfood $431.50\n' '' --field 2 --currency USD
 lines 0 'a;1234;1234\n' 'a;1234;1,234\n' '' -d ';' --field 3
-lines 0 'amount\n1234\n' 'amount\n1,234\n' '' --header 1
-lines 0 '1234\0005678\000' '1,234\0005,678\000' '' -z
+lines 0 'amount\n1234\n' 'amount\n1,234\n' '' --header
+lines 0 'a\nb\n1234' 'a\nb\n1,234\n' '' --header=2
+lines 0 '1234\00005678\0000' '1,234\00005,678\0000' '' -z
 lines 0 '1234' '1,234\n' ''
 lines 0 '' '' ''
 lines 2 '1234\nx\n5\n' '1,234\n' 'locnum: x: not a decimal\n'

@@ -5,7 +5,7 @@ use locnum_options::Given;
 use std::alloc::{AllocError, Global};
 
 /// An option with a text: its name, its letter, the name of its text, and what it does.
-const TEXTS: [(&str, Option<char>, &str, &str); 14] = [
+const TEXTS: [(&str, Option<char>, &str, &str); 13] = [
     (
         "tables",
         Some('t'),
@@ -64,12 +64,6 @@ const TEXTS: [(&str, Option<char>, &str, &str); 14] = [
         "the fields that are numbers, as 2, 2-4, 1,3- or -; 1 without it",
     ),
     (
-        "header",
-        None,
-        "N",
-        "so many lines in front go through as they are",
-    ),
-    (
         "invalid",
         None,
         "MODE",
@@ -114,6 +108,13 @@ pub fn command<'a>(alloc: Global) -> Result<Command<'a>, AllocError> {
         let flag = option(alloc, name, letter, help).action(ArgAction::SetTrue);
         command = command.arg(flag)?;
     }
+    let lines = "so many lines in front go through as they are; 1 without N";
+    let header = option(alloc, "header", None, lines)
+        .value_name("N")
+        .num_args(0..=1)
+        .default_missing_value("1")
+        .require_equals(true);
+    command = command.arg(header)?;
     let numbers = Arg::new(alloc, "number")
         .value_name("NUMBER")
         .help("numbers; without them standard input is read")
