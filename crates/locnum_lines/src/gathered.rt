@@ -63,14 +63,16 @@ impl Gathered {
 
     /// Bytes of the output.
     pub(crate) fn write(&mut self, bytes: &[u8]) -> Result<(), AllocError>
-        ensures { OnOk result (self.new ≡ record self.old { output = self.old.output ++ bytes.now }) }
+        ensures { OnOk result
+            (self.new ≡ record self.old { output = self.old.output ++ bytes.now }) }
     {
         self.output.extend_from_slice(bytes)
     }
 
     /// A byte of the output.
     pub(crate) fn push(&mut self, byte: u8) -> Result<(), AllocError>
-        ensures { OnOk result (self.new ≡ record self.old { output = self.old.output ++ byte ∷ [] }) }
+        ensures { OnOk result
+            (self.new ≡ record self.old { output = self.old.output ++ byte ∷ [] }) }
     {
         self.output.push(byte)?;
         Ok(())

@@ -49,7 +49,8 @@ fn push_fields(
 ) -> Result<(), AllocError>
     requires { gathered.old.is_stopped ≡ false }
     ensures { OnOk result (Adds gathered.old gathered.new
-        (fields_ran settings.now form.now 1 (fields_from settings.now.delimiter false line.now)) 0) }
+        (fields_ran settings.now form.now 1
+        (fields_from settings.now.delimiter false line.now)) 0) }
 {
     let mut next = Some(line);
     let mut index: usize = 1;
