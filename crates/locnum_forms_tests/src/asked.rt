@@ -1,0 +1,204 @@
+//! Forms that rows ask for, by the tables of a text, and what they write. Values live in functions
+//! that answer whether they hold; what was refused memory is asked once more.
+
+use fixed_decimal::SignDisplay;
+use icu_decimal::options::GroupingStrategy;
+use icu_dimension::options::{CurrencySign, Width};
+use icu_dimension_data::CurrencyCode;
+use icu_provider::{DataLocale, NumberingSystem};
+use locnum_forms::{Form, FractionRange, Kind, StartError, TextError, UnitWidth, Wanted};
+use std::alloc::Global;
+
+/// Numbers, money, percents and units of some locales (CLDR 46).
+pub(crate) const TABLES: &str = "{\"symbols\":[\
+{\"locale\":\"en\",\"minus\":[\"-\",\"\"],\"plus\":[\"+\",\"\"],\"decimal\":\".\",\"group\":\",\",\"numsys\":\"latn\",\"sizes\":[3,3,1]},\
+{\"locale\":\"de\",\"minus\":[\"-\",\"\"],\"plus\":[\"+\",\"\"],\"decimal\":\",\",\"group\":\".\",\"numsys\":\"latn\",\"sizes\":[3,3,1]},\
+{\"locale\":\"ar\",\"system\":\"arab\",\"minus\":[\"\u{61c}-\",\"\"],\"plus\":[\"\u{61c}+\",\"\"],\"decimal\":\"\u{66b}\",\"group\":\"\u{66c}\",\"numsys\":\"arab\",\"sizes\":[3,3,1]}],\
+\"digits\":[[\"latn\",\"0123456789\"],[\"arab\",\"\u{660}\u{661}\u{662}\u{663}\u{664}\u{665}\u{666}\u{667}\u{668}\u{669}\"]],\
+\"rules\":[{\"locale\":\"en\",\"rules\":[[\"one\",\"i = 1 and v = 0\"]]}],\
+\"short\":[{\"locale\":\"en\",\"patterns\":[[3,3,{\"other\":\"{0}K\"}],[4,3,{\"other\":\"{0}K\"}],[5,3,{\"other\":\"{0}K\"}],[6,6,{\"other\":\"{0}M\"}]]}],\
+\"long\":[{\"locale\":\"en\",\"patterns\":[[3,3,{\"other\":\"{0} thousand\"}],[4,3,{\"other\":\"{0} thousand\"}],[5,3,{\"other\":\"{0} thousand\"}],[6,6,{\"other\":\"{0} million\"}]]}],\
+\"currency_digits\":[[\"DEFAULT\",2,2],[\"CRC\",2,0],[\"JPY\",0,0],[\"KWD\",3,3]],\
+\"percents\":[{\"locale\":\"en\",\"pattern\":\"#,##0%\",\"minus\":\"-\",\"plus\":\"+\",\"percent\":\"%\"},\
+{\"locale\":\"de\",\"pattern\":\"#,##0\u{a0}%\",\"minus\":\"-\",\"plus\":\"+\",\"percent\":\"%\"},\
+{\"locale\":\"ar\",\"system\":\"arab\",\"pattern\":\"#,##0%\",\"minus\":\"\u{61c}-\",\"plus\":\"\u{61c}+\",\"percent\":\"\u{66a}\u{61c}\"}],\
+\"units\":[{\"locale\":\"en\",\"width\":\"long\",\"unit\":\"kilometer\",\"patterns\":{\"one\":\"{0} kilometer\",\"other\":\"{0} kilometers\"}},\
+{\"locale\":\"en\",\"width\":\"short\",\"unit\":\"kilometer\",\"patterns\":{\"other\":\"{0} km\"}},\
+{\"locale\":\"en\",\"width\":\"narrow\",\"unit\":\"kilometer\",\"patterns\":{\"other\":\"{0}km\"}}],\
+\"currencies\":[{\"locale\":\"en\",\"standard\":\"\u{a4}#,##0.00\",\"accounting\":\"\u{a4}#,##0.00;(\u{a4}#,##0.00)\",\"minus\":\"-\",\"plus\":\"+\",\"names\":{\"other\":\"{0} {1}\"}},\
+{\"locale\":\"de\",\"standard\":\"#,##0.00\u{a0}\u{a4}\",\"accounting\":\"#,##0.00\u{a0}\u{a4}\",\"minus\":\"-\",\"plus\":\"+\",\"names\":{\"other\":\"{0} {1}\"}}],\
+\"currency_symbols\":[{\"locale\":\"en\",\"symbols\":[[\"USD\",\"$\",\"$\",{\"other\":\"US dollars\"}],[\"CAD\",\"CA$\",\"$\",{\"other\":\"Canadian dollars\"}],\
+[\"CRC\",\"CRC\",\"\u{20a1}\",{\"other\":\"Costa Rican col\u{f3}ns\"}],[\"JPY\",\"\u{a5}\",\"\u{a5}\",{\"other\":\"Japanese yen\"}],\
+[\"KWD\",\"KWD\",\"KWD\",{\"other\":\"Kuwaiti dinars\"}]]},\
+{\"locale\":\"de\",\"symbols\":[[\"EUR\",\"\u{20ac}\",\"\u{20ac}\",{\"other\":\"Euro\"}]]}]}";
+
+/// What is written of a number.
+#[derive(Clone, Copy, Debug)]
+pub(crate) enum Asked {
+    Plain,
+    Short,
+    Long,
+    Money(&'static str),
+    Narrow(&'static str),
+    Accounting(&'static str),
+    Cash(&'static str),
+    Percent,
+    Unit(&'static str, UnitWidth),
+}
+
+/// An amount with the symbol of its currency.
+fn money(code: &str, width: Width, sign: CurrencySign, is_cash: bool) -> Option<Kind<'static>> {
+    match CurrencyCode::try_from_str(code) {
+        Ok(code) => Some(Kind::Money {
+            code,
+            width,
+            sign,
+            is_cash,
+        }),
+        Err(_) => None,
+    }
+}
+
+/// The kind that is asked for.
+fn kind_of(asked: Asked) -> Option<Kind<'static>> {
+    match asked {
+        Asked::Plain => Some(Kind::Plain),
+        Asked::Short => Some(Kind::Short),
+        Asked::Long => Some(Kind::Long),
+        Asked::Money(code) => money(code, Width::Short, CurrencySign::Standard, false),
+        Asked::Narrow(code) => money(code, Width::Narrow, CurrencySign::Standard, false),
+        Asked::Accounting(code) => money(code, Width::Short, CurrencySign::Accounting, false),
+        Asked::Cash(code) => money(code, Width::Short, CurrencySign::Standard, true),
+        Asked::Percent => Some(Kind::Percent),
+        Asked::Unit(name, width) => Some(Kind::Unit { name, width }),
+    }
+}
+
+/// A locale, a numbering system or none, and a grouping.
+#[derive(Clone, Copy, Debug)]
+pub(crate) struct Place {
+    pub(crate) locale: &'static str,
+    pub(crate) system: &'static str,
+    pub(crate) grouping: Option<GroupingStrategy>,
+}
+
+/// English, with the usual groups.
+pub(crate) const EN: Place = Place {
+    locale: "en",
+    system: "",
+    grouping: None,
+};
+
+/// German, with the usual groups.
+pub(crate) const DE: Place = Place {
+    locale: "de",
+    system: "",
+    grouping: None,
+};
+
+/// Arabic, with Arabic digits.
+pub(crate) const AR: Place = Place {
+    locale: "ar",
+    system: "arab",
+    grouping: None,
+};
+
+/// English without groups.
+pub(crate) const PLAIN_EN: Place = Place {
+    locale: "en",
+    system: "",
+    grouping: Some(GroupingStrategy::Never),
+};
+
+/// A locale without data.
+pub(crate) const XX: Place = Place {
+    locale: "xx",
+    system: "",
+    grouping: None,
+};
+
+/// Where, the least and the most fraction digits, the sign display, and what is written.
+#[derive(Clone, Copy, Debug)]
+pub(crate) struct Options {
+    pub(crate) place: Place,
+    pub(crate) fraction: Option<(u8, u8)>,
+    pub(crate) sign: SignDisplay,
+    pub(crate) asked: Asked,
+}
+
+/// The range of fraction digits.
+fn range_of(fraction: Option<(u8, u8)>) -> Option<FractionRange> {
+    match fraction {
+        Some((least, most)) => Some(FractionRange { least, most }),
+        None => None,
+    }
+}
+
+/// What the options ask for.
+fn wanted(options: &Options) -> Option<Wanted<'static>> {
+    let Some(kind) = kind_of(options.asked) else {
+        return None;
+    };
+    Some(Wanted {
+        locale: DataLocale::try_from_str(options.place.locale).unwrap_or_default(),
+        system: NumberingSystem::try_from_str(options.place.system).ok(),
+        grouping: options.place.grouping,
+        fraction: range_of(options.fraction),
+        sign: options.sign,
+        kind,
+    })
+}
+
+/// The form of the options by the bytes of a file, made once more where memory was refused.
+pub(crate) fn made(
+    alloc: Global,
+    options: &Options,
+    file: &[u8],
+) -> Option<Result<Form, StartError>> {
+    let Some(wanted) = wanted(options) else {
+        return None;
+    };
+    match Form::make(alloc, &wanted, file) {
+        Err(StartError::OutOfMemory) => Some(Form::make(alloc, &wanted, file)),
+        answer => Some(answer),
+    }
+}
+
+/// What the form appends, asked once more where memory was refused.
+pub(crate) fn pushed(
+    alloc: Global,
+    form: &Form,
+    text: &[u8],
+    out: &mut Vec<u8>,
+) -> Result<(), TextError> {
+    match form.push(alloc, text, out) {
+        Err(TextError::OutOfMemory) => {
+            out.clear();
+            form.push(alloc, text, out)
+        }
+        answer => answer,
+    }
+}
+
+/// Whether the form writes the text so, or refuses it so.
+fn is_pushed(alloc: Global, form: &Form, text: &str, want: Result<&str, TextError>) -> bool {
+    let mut out = Vec::new(alloc);
+    match (pushed(alloc, form, text.as_bytes(), &mut out), want) {
+        (Ok(()), Ok(want)) => out.as_slice() == want.as_bytes(),
+        (Err(error), Err(want)) => error == want && out.is_empty(),
+        _ => false,
+    }
+}
+
+/// Whether a text is written so by the tables, or refused so.
+pub(crate) fn is_written(
+    alloc: Global,
+    options: &Options,
+    text: &str,
+    want: Result<&str, TextError>,
+) -> bool {
+    match made(alloc, options, TABLES.as_bytes()) {
+        Some(Ok(form)) => is_pushed(alloc, &form, text, want),
+        _ => false,
+    }
+}

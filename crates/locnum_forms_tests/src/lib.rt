@@ -1,0 +1,19 @@
+//! The tests of locnum_forms' public calls; the library itself offers nothing.
+#![tactic(auto)]
+
+#[cfg(test)]
+mod asked;
+#[cfg(test)]
+mod large;
+#[cfg(test)]
+mod money;
+#[cfg(test)]
+mod numbers;
+#[cfg(test)]
+mod percents;
+#[cfg(test)]
+mod refused;
+#[cfg(test)]
+mod styles;
+#[cfg(test)]
+mod units;

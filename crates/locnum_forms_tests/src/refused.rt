@@ -1,0 +1,142 @@
+//! Why there is no form.
+
+use crate::asked::{Asked, DE, EN, Options, Place, TABLES, XX, made};
+use fixed_decimal::SignDisplay;
+use icu_tables::{EntryFault, Key, TableError};
+use locnum_forms::{StartError, UnitWidth};
+use std::alloc::Global;
+
+/// Tables of numbers alone.
+const NUMBERS: &str =
+    "{\"symbols\":[{\"locale\":\"en\",\"minus\":[\"-\",\"\"],\"plus\":[\"+\",\"\"],\"decimal\":\".\",\"group\":\",\",\"numsys\":\"latn\",\"sizes\":[3,3,1]}],\
+\"digits\":[[\"latn\",\"0123456789\"]]}";
+
+/// The same with a percent without a pattern.
+const NO_PATTERN: &str =
+    "{\"symbols\":[{\"locale\":\"en\",\"minus\":[\"-\",\"\"],\"plus\":[\"+\",\"\"],\"decimal\":\".\",\"group\":\",\",\"numsys\":\"latn\",\"sizes\":[3,3,1]}],\
+\"digits\":[[\"latn\",\"0123456789\"]],\"percents\":[{\"locale\":\"en\"}]}";
+
+/// Units of a locale that isn't one, and no symbols.
+const TWO_FAULTS: &str =
+    "{\"digits\":[],\"units\":[{\"locale\":\"\",\"width\":\"long\",\"unit\":\"day\",\"patterns\":{\"other\":\"{0}\"}}]}";
+
+/// The same with symbols.
+const NO_LOCALE: &str =
+    "{\"symbols\":[],\"digits\":[],\"units\":[{\"locale\":\"\",\"width\":\"long\",\"unit\":\"day\",\"patterns\":{\"other\":\"{0}\"}}]}";
+
+/// Days in full.
+const DAYS: Asked = Asked::Unit("day", UnitWidth::Long);
+
+/// Kilometers in full.
+const KILOMETERS: Asked = Asked::Unit("kilometer", UnitWidth::Long);
+
+/// A fault of the first entry of units.
+const BAD_LOCALE: TableError = TableError::Entry {
+    key: Key::Units,
+    index: 0,
+    fault: EntryFault::BadLocale,
+};
+
+/// Where, what is asked for, the text of a file, and why there is no form.
+const REFUSED: [(Place, Asked, &str, StartError); 16] = [
+    (
+        EN,
+        Asked::Plain,
+        "",
+        StartError::Refused(TableError::NotJson),
+    ),
+    (
+        EN,
+        Asked::Plain,
+        "{}",
+        StartError::Refused(TableError::Missing(Key::Symbols)),
+    ),
+    (
+        EN,
+        Asked::Percent,
+        "{}",
+        StartError::Refused(TableError::Missing(Key::Symbols)),
+    ),
+    (
+        EN,
+        DAYS,
+        TWO_FAULTS,
+        StartError::Refused(TableError::Missing(Key::Symbols)),
+    ),
+    (EN, DAYS, NO_LOCALE, StartError::Refused(BAD_LOCALE)),
+    (
+        EN,
+        Asked::Percent,
+        NO_PATTERN,
+        StartError::Refused(TableError::Missing(Key::Pattern)),
+    ),
+    (XX, Asked::Plain, TABLES, StartError::NoData),
+    (DE, Asked::Short, TABLES, StartError::NoData),
+    (DE, Asked::Long, TABLES, StartError::NoData),
+    (DE, Asked::Money("USD"), TABLES, StartError::NoData),
+    (EN, Asked::Money("EUR"), TABLES, StartError::NoData),
+    (DE, KILOMETERS, TABLES, StartError::NoData),
+    (EN, DAYS, TABLES, StartError::NoData),
+    (EN, Asked::Money("USD"), NUMBERS, StartError::NoData),
+    (EN, Asked::Percent, NUMBERS, StartError::NoData),
+    (EN, DAYS, NUMBERS, StartError::NoData),
+];
+
+/// Whether there is no form for this reason; without a reason, whether there is one.
+fn is_refused(
+    alloc: Global,
+    (place, asked): (Place, Asked),
+    file: &[u8],
+    want: Option<StartError>,
+) -> bool {
+    let options = Options {
+        place,
+        fraction: None,
+        sign: SignDisplay::Auto,
+        asked,
+    };
+    match made(alloc, &options, file) {
+        Some(Ok(_)) => want == None,
+        Some(Err(error)) => want == Some(error),
+        None => false,
+    }
+}
+
+#[test]
+fn files_and_options_without_a_form_are_refused(rt: HostRuntime) {
+    for &(place, asked, text, want) in &REFUSED {
+        assert!(rt; is_refused(rt.alloc(), (place, asked), text.as_bytes(), Some(want)));
+    }
+}
+
+/// What is asked of a file that isn't UTF-8.
+const ASKED: [Asked; 4] = [
+    Asked::Plain,
+    Asked::Short,
+    Asked::Percent,
+    Asked::Money("USD"),
+];
+
+#[test]
+fn files_that_are_no_text_are_refused(rt: HostRuntime) {
+    for &asked in &ASKED {
+        assert!(rt;
+            is_refused(
+                rt.alloc(),
+                (EN, asked),
+                b"{}\xff",
+                Some(StartError::NotUtf8)
+            )
+        );
+    }
+}
+
+/// Tables of numbers, without others and with others that would be refused.
+const MADE: [&str; 2] = [NUMBERS, NO_PATTERN];
+
+#[test]
+fn tables_of_money_are_read_where_they_are_asked(rt: HostRuntime) {
+    for &text in &MADE {
+        assert!(rt; is_refused(rt.alloc(), (EN, Asked::Plain), text.as_bytes(), None));
+    }
+}
