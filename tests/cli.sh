@@ -9,26 +9,7 @@ memory='error: out of memory'
 refused='error: tables refused'
 no_data='error: no data'
 sample=$(dirname "$0")/../tables/sample.json
-folder=$(mktemp -d)
-trap 'rm -rf "$folder"' EXIT
-passed=0 missed=0
-
-# judge NAME STATUS OUTPUT ERROR: the run left these in $status and the files out and err, which each case makes anew.
-judge() {
-    printf '%b' "$3" >"$folder/wanted_out"
-    printf '%s' "$4" >"$folder/wanted_err"
-    [ -z "$4" ] || echo >>"$folder/wanted_err"
-    if [ "$status" = "$2" ] && cmp -s "$folder/out" "$folder/wanted_out" && cmp -s "$folder/err" "$folder/wanted_err"; then
-        passed=$((passed + 1))
-    else
-        missed=$((missed + 1))
-        echo "cli: $1: status ${status:-none}, wanted $2"
-        diff "$folder/out" "$folder/wanted_out" | head -5
-        diff "$folder/err" "$folder/wanted_err" | head -5
-    fi
-    rm -f "$folder/out" "$folder/err" "$folder/status"
-    status=
-}
+source "$(dirname "$0")/outcomes.sh"
 
 # same_as COMMAND..: reads all of standard input, and writes 'the same' where it is the command's output, else where not.
 same_as() {
@@ -367,5 +348,4 @@ judge 'short: many lines in little memory' 0 'the same\n' ''
 status=$?
 judge 'tables: memory refused' 1 '' "$memory"
 
-echo "$passed passed, $missed failed"
-[ "$missed" = 0 ]
+ended_all

@@ -1,12 +1,22 @@
-// Formats decimals by ICU, for tests/icu_compare.py and tests/icu_names.py: every written fraction digit of a plain
-// number, ICU's own rounding of a short or long one. A line `= LOCALE SYSTEM STYLE` chooses the formatter, `-` the
-// locale's own system; each other line is a decimal, and is answered by a line. What ICU has no data for is root's.
+// Formats decimals by ICU, for tests/icu_compare.py, tests/icu_names.py and tests/icu_money.py. A line `= LOCALE SYSTEM
+// KIND` chooses the formatter, `-` the locale's own system; each other line is a decimal, and is answered by a line. What
+// ICU has no data for is root's. The kinds:
+//   plain                                        every written fraction digit
+//   short, long                                  ICU's own rounding
+//   percent                                      a hundred times the decimal, every written digit of it
+//   money CODE short|narrow|name [accounting]    the fraction digits of the currency
+//   unit NAME long|short|narrow                  every written fraction digit
 // With the word --version it prints the versions of ICU and of its CLDR data, with --available the locales that it has;
 // with --likely each line is a name, and is answered by the canonical one with likely subtags.
+#include <algorithm>
 #include <cstdio>
 #include <iostream>
 #include <map>
+#include <sstream>
 #include <string>
+#include <vector>
+#include <unicode/currunit.h>
+#include <unicode/measunit.h>
 #include <unicode/numberformatter.h>
 #include <unicode/ulocdata.h>
 #include <unicode/unistr.h>
@@ -18,7 +28,7 @@ using namespace icu::number;
 // what one line `=` chooses, and the formatters that its decimals have asked for so far
 struct Choice {
     Locale locale;
-    std::string style;
+    std::vector<std::string> kind;
     std::map<std::pair<int, bool>, LocalizedNumberFormatter> formatters;
 };
 
@@ -35,21 +45,49 @@ static int print_versions() {
 }
 
 static Choice choice_of(const std::string &line, UErrorCode &status) {
-    size_t first = line.find(' ', 2), second = line.find(' ', first + 1);
-    std::string system = line.substr(first + 1, second - first - 1);
-    Locale locale = Locale::forLanguageTag(line.substr(2, first - 2), status);
-    if (system != "-") {
-        locale.setUnicodeKeywordValue("nu", system, status);
+    std::istringstream words(line.substr(2));
+    std::string tag, system, word;
+    words >> tag >> system;
+    Choice choice{Locale::forLanguageTag(tag, status), {}, {}};
+    while (words >> word) {
+        choice.kind.push_back(word);
     }
-    return {locale, line.substr(second + 1), {}};
+    if (system != "-") {
+        choice.locale.setUnicodeKeywordValue("nu", system, status);
+    }
+    return choice;
 }
 
-static LocalizedNumberFormatter formatter_of(const Choice &choice, int places, bool signs_always) {
-    auto formatter = NumberFormatter::withLocale(choice.locale).sign(signs_always ? UNUM_SIGN_ALWAYS : UNUM_SIGN_AUTO);
-    if (choice.style == "plain") {
+static UNumberUnitWidth width_of(const std::string &word) {
+    return word == "narrow"  ? UNUM_UNIT_WIDTH_NARROW
+           : word == "short" ? UNUM_UNIT_WIDTH_SHORT
+                             : UNUM_UNIT_WIDTH_FULL_NAME;
+}
+
+static UNumberSignDisplay signs_of(bool always, bool accounting) {
+    return always ? (accounting ? UNUM_SIGN_ACCOUNTING_ALWAYS : UNUM_SIGN_ALWAYS)
+                  : (accounting ? UNUM_SIGN_ACCOUNTING : UNUM_SIGN_AUTO);
+}
+
+static LocalizedNumberFormatter formatter_of(const Choice &choice, int places, bool signs_always, UErrorCode &status) {
+    const std::vector<std::string> &kind = choice.kind;
+    auto formatter = NumberFormatter::withLocale(choice.locale).sign(signs_of(signs_always, kind.size() > 3));
+    if (kind[0] == "plain") {
         return formatter.precision(Precision::fixedFraction(places));
     }
-    return formatter.notation(choice.style == "short" ? Notation::compactShort() : Notation::compactLong());
+    if (kind[0] == "percent") {
+        return formatter.unit(NoUnit::percent()).scale(Scale::powerOfTen(2)).precision(
+            Precision::fixedFraction(std::max(places - 2, 0)));
+    }
+    if (kind[0] == "money") {
+        CurrencyUnit unit(UnicodeString::fromUTF8(kind[1]).getTerminatedBuffer(), status);
+        return formatter.unit(unit).unitWidth(width_of(kind[2]));
+    }
+    if (kind[0] == "unit") {
+        return formatter.unit(MeasureUnit::forIdentifier(kind[1], status)).unitWidth(width_of(kind[2])).precision(
+            Precision::fixedFraction(places));
+    }
+    return formatter.notation(kind[0] == "short" ? Notation::compactShort() : Notation::compactLong());
 }
 
 static std::string formatted(Choice &choice, const std::string &decimal, UErrorCode &status) {
@@ -58,7 +96,7 @@ static std::string formatted(Choice &choice, const std::string &decimal, UErrorC
     bool signs_always = decimal[0] == '+';
     auto found = choice.formatters.find({places, signs_always});
     if (found == choice.formatters.end()) {
-        auto made = formatter_of(choice, places, signs_always);
+        auto made = formatter_of(choice, places, signs_always, status);
         found = choice.formatters.emplace(std::make_pair(places, signs_always), std::move(made)).first;
     }
     std::string text;

@@ -3,23 +3,7 @@
 # usage: tests/locnum.sh [PROGRAM]
 # The last line is 'N passed, M failed'.
 program=${1:-$(dirname "$0")/../crates/locnum/out/locnum}
-folder=$(mktemp -d)
-trap 'rm -rf "$folder"' EXIT
-passed=0 missed=0
-
-# judge NAME STATUS OUTPUT ERROR: the run left these in $status and the files out and err.
-judge() {
-    printf '%b' "$3" >"$folder/wanted_out"
-    printf '%b' "$4" >"$folder/wanted_err"
-    if [ "$status" = "$2" ] && cmp -s "$folder/out" "$folder/wanted_out" && cmp -s "$folder/err" "$folder/wanted_err"; then
-        passed=$((passed + 1))
-    else
-        missed=$((missed + 1))
-        echo "locnum: $1: status $status, wanted $2"
-        diff "$folder/out" "$folder/wanted_out" | head -5
-        diff "$folder/err" "$folder/wanted_err" | head -5
-    fi
-}
+source "$(dirname "$0")/outcomes.sh"
 
 # writes OUTPUT WORD..: status 0, nothing on standard error.
 writes() {
@@ -66,26 +50,25 @@ lines 0 'a\nb\n1234' 'a\nb\n1,234\n' '' --header=2
 lines 0 '1234\00005678\0000' '1,234\00005,678\0000' '' -z
 lines 0 '1234' '1,234\n' ''
 lines 0 '' '' ''
-lines 2 '1234\nx\n5\n' '1,234\n' 'locnum: x: not a decimal\n'
-lines 2 '1234\nx\n5\n' '1,234\nx\n5\n' 'locnum: x: not a decimal\n' --invalid fail
-lines 0 'x\n5\n' 'x\n5\n' 'locnum: x: not a decimal\n' --invalid warn
+lines 2 '1234\nx\n5\n' '1,234\n' 'locnum: x: not a decimal'
+lines 2 '1234\nx\n5\n' '1,234\nx\n5\n' 'locnum: x: not a decimal' --invalid fail
+lines 0 'x\n5\n' 'x\n5\n' 'locnum: x: not a decimal' --invalid warn
 lines 0 'x\n5\n' 'x\n5\n' '' --invalid ignore
-lines 2 '\n' '' 'locnum: : not a decimal\n'
-refuses 'locnum: --locale: not a locale\n' -l 'a b'
-refuses 'locnum: --tables: no data\n' -l de
-refuses 'locnum: --tables: no data\n' --currency CHF
-refuses 'locnum: --tables: the file can\x27t be read\n' -t "$folder/none.json"
-refuses 'locnum: --style, --currency, --percent and --unit: more than one of them\n' --percent --currency USD
-refuses 'locnum: --currency: not three capital letters\n' --currency usd
-refuses 'locnum: --field: not a list of N, N-, N-M, -M or -, from 1 on\n' --field 0
-refuses 'locnum: --fraction: neither N nor MIN..MAX, each at most 255\n' --fraction x
+lines 2 '\n' '' 'locnum: : not a decimal'
+refuses 'locnum: --locale: not a locale' -l 'a b'
+refuses 'locnum: --tables: no data' -l de
+refuses 'locnum: --tables: no data' --currency CHF
+refuses "locnum: --tables: the file can't be read" -t "$folder/none.json"
+refuses 'locnum: --style, --currency, --percent and --unit: more than one of them' --percent --currency USD
+refuses 'locnum: --currency: not three capital letters' --currency usd
+refuses 'locnum: --field: not a list of N, N-, N-M, -M or -, from 1 on' --field 0
+refuses 'locnum: --fraction: neither N nor MIN..MAX, each at most 255' --fraction x
 printf '{' >"$folder/cut.json"
 timeout 20 "$program" -t "$folder/cut.json" 5 >"$folder/out" 2>"$folder/err"
 status=$?
 sed -i 's/^locnum: --tables: .*/locnum: --tables: WHY/' "$folder/err"
-judge 'a file that is cut' 1 '' 'locnum: --tables: WHY\n'
+judge 'a file that is cut' 1 '' 'locnum: --tables: WHY'
 "$program" --version >"$folder/out" 2>"$folder/err"
 status=$?
 judge '--version' 0 "locnum $(cat "$(dirname "$0")/../VERSION")\n" ''
-echo "$passed passed, $missed failed"
-[ "$missed" -eq 0 ]
+ended_all

@@ -1,5 +1,7 @@
 //! The command line.
 
+ghost use Rattle.locnum.specs.Matched.{IsGiven};
+
 use clap::{Arg, ArgAction, ArgMatches, Command};
 use locnum_options::Given;
 use std::alloc::{AllocError, Global};
@@ -93,7 +95,7 @@ fn option<'a>(alloc: Global, name: &'a str, letter: Option<char>, help: &'a str)
 }
 
 /// The command with all its options.
-pub fn command<'a>(alloc: Global) -> Result<Command<'a>, AllocError> {
+pub(crate) fn command<'a>(alloc: Global) -> Result<Command<'a>, AllocError> {
     let mut command = Command::new(alloc, "locnum")
         .version("0.1.0")
         .about("Writes numbers in the form of a locale");
@@ -125,7 +127,9 @@ pub fn command<'a>(alloc: Global) -> Result<Command<'a>, AllocError> {
 }
 
 /// What the words give.
-pub fn given<'a>(matches: &ArgMatches<'a>) -> Given<'a> {
+pub(crate) fn given<'a>(matches: &ArgMatches<'a>) -> Given<'a>
+    ensures { IsGiven matches.now result }
+{
     Given {
         locale: matches.get_str("locale"),
         system: matches.get_str("system"),

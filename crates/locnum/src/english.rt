@@ -1,7 +1,7 @@
 //! What the program knows without a file of tables: the text of `tables/english.json`.
 
 /// English numbers in full, short and long; dollars, euros, pounds and yen; percents.
-pub const ENGLISH: &str = "{
+pub(crate) const ENGLISH: &str = "{
 \"symbols\": [{\"locale\": \"en\", \"minus\": [\"-\", \"\"], \"plus\": [\"+\", \"\"], \"decimal\": \".\", \"group\": \",\", \"numsys\": \"latn\", \"sizes\": [3, 3, 1]}],
 \"digits\": [[\"latn\", \"0123456789\"]],
 \"rules\": [{\"locale\": \"en\", \"rules\": [[\"one\", \"i = 1 and v = 0\"]]}],

@@ -1,0 +1,267 @@
+#!/usr/bin/env python3
+"""Compares locnum with ICU over all modern locales of a CLDR release, in money, percents and units, and prints the tables
+of docs/TESTING.md. Differences of a known kind are counted by its name; any other one is printed, and fails.
+
+A kind isn't told by its looks. Each has a reason, which changes the tables in a known way, or says for which data it
+holds; locnum then has to write just what ICU wrote.
+
+usage: tests/icu_money.py PEER RELEASE PROGRAM [LOCALE..], where PEER runs tests/icu_peer.cpp; locales instead of all
+modern ones
+"""
+import collections
+import copy
+import io
+import json
+import pathlib
+import shlex
+import subprocess
+import sys
+import tempfile
+import unicodedata
+from concurrent.futures import ThreadPoolExecutor
+
+sys.path.insert(0, str(pathlib.Path(__file__).resolve().parent.parent / "tools"))
+import cldr_dimension  # noqa: E402
+import cldr_numbers  # noqa: E402
+import cldr_patterns  # noqa: E402
+import cldr_paths  # noqa: E402
+import cldr_to_tables as cldr  # noqa: E402
+from cldr_release import MONEY, PERCENTS, UNITS  # noqa: E402
+from icu_compare import OTHER, Difference, Formatters, Job, differences_of, entry_of, same_version, shown  # noqa: E402
+
+CODES = ["USD", "EUR", "JPY", "CHF", "KWD", "INR", "BRL", "CVE"]
+UNIT_NAMES = (
+    "kilometer meter centimeter mile foot inch year month week day hour minute second kilogram gram pound liter "
+    "milliliter celsius fahrenheit percent bit byte gigabyte kilometer-per-hour meter-per-second square-meter hectare "
+    "kilowatt calorie"
+).split()
+NUMBERS = "0 1 -1 2 1.0 3 5 11 21 100 -0.5 0.005 0.015 1234.5 -1234567.891 999.995 1000000"
+EXPLICIT = "+0 +1 +1234.5"
+
+SPACED = "digits that aren't `[:digit:]`: ICU sets no space between them and a currency's symbol"
+GROUPS = "groups of accounts, names and percents of their own, which tables can't express"
+OWN_PATTERN = "patterns and separators of a single currency, which tables can't express"
+
+NO_BREAK_SPACE = "\u00a0"
+
+
+def kinds():
+    """All kinds of texts, as the peer is asked for them."""
+    money = [f"money {code} {width}" for code in CODES for width in ("short", "narrow", "name")]
+    accounts = [f"money {code} {width} accounting" for code in CODES for width in ("short", "narrow")]
+    units = [f"unit {unit} {width}" for unit in UNIT_NAMES for width in ("long", "short", "narrow")]
+    return [*money, *accounts, "percent", *units]
+
+
+def words_of(job):
+    """How locnum is asked for the texts of a job."""
+    kind, *rest = job.style.split()
+    words = ["-l", job.locale, "--invalid", "fail", *(["--system", job.system] if job.system != "-" else [])]
+    if kind == "percent":
+        return [*words, "--percent"]
+    name, width, *accounting = rest
+    words += ["--currency" if kind == "money" else "--unit", name, "--width", width]
+    return [*words, "--accounting"] if accounting else words
+
+
+class Locnum:
+    """locnum, over the tables of one locale at a time."""
+
+    def __init__(self, program, tables, folder):
+        self.program = program
+        self.tables = tables
+        self.folder = pathlib.Path(folder)
+        self.by_locale = collections.defaultdict(dict)
+        for key, entries in tables.items():
+            if key not in ("cldr", "digits", "currency_digits"):
+                for entry in entries:
+                    self.by_locale[entry["locale"]].setdefault(key, []).append(entry)
+
+    def tables_of(self, locale):
+        """A copy of the tables of a locale."""
+        common = {key: self.tables[key] for key in ("digits", "currency_digits")}
+        keys = ("symbols", "rules", "currencies", "currency_symbols", "percents", "units", "currency_decimals")
+        return copy.deepcopy(common | {key: self.by_locale[locale].get(key, []) for key in keys})
+
+    def write(self, name, tables):
+        path = self.folder / name
+        path.write_text(json.dumps(tables, ensure_ascii=False), encoding="utf-8")
+        return path
+
+    def texts(self, path, jobs, lines):
+        """What it writes for each of these jobs of one locale, for numbers with an explicit plus with the word for it."""
+        run = []
+        for job in jobs:
+            for signs, chosen in (("auto", "numbers"), ("always", "explicit")):
+                words = shlex.join([str(self.program), "-t", str(path), "--sign", signs, *words_of(job)])
+                run.append(f"{words} <{shlex.quote(str(self.folder / chosen))} 2>&1; echo \"= $?\"")
+        said = subprocess.run(["sh"], input="\n".join(run), stdout=subprocess.PIPE, encoding="utf-8", check=True).stdout
+        parts, lines_of = [], []
+        for line in said.split("\n")[:-1]:
+            if line.startswith("= "):
+                parts.append(lines_of if line == "= 0" else None)
+                lines_of = []
+            else:
+                lines_of.append(line)
+        pairs = zip(parts[::2], parts[1::2])
+        return [first + second if None not in (first, second) else [None] * len(lines) for first, second in pairs]
+
+
+class Kinds:
+    """The known kinds of difference. Each method answers what ICU would write by its reason, or nothing where the reason
+    doesn't apply."""
+
+    def __init__(self, locnum, release):
+        self.locnum = locnum
+        self.release = release
+        self.names = {cldr.named(locale): locale for locale in release.locales}
+        self.known = {SPACED: self.no_space, GROUPS: self.own_groups, OWN_PATTERN: self.own_pattern}
+
+    def kind_of(self, difference):
+        """The name of the difference's kind, or None."""
+        for name, reason in self.known.items():
+            if difference.theirs in reason(difference):
+                return name
+        return None
+
+    def entry(self, tables, key, job):
+        """The entry under a key for the locale and the numbering system of a job, or None."""
+        system = None if job.system == "-" else job.system
+        entries = tables.get(key, [])
+        return next((entry for entry in entries if entry.get("system") == system), None) or next(
+            (entry for entry in entries if "system" not in entry), None)
+
+    def again(self, tables, difference):
+        """What locnum writes with other tables."""
+        path = self.locnum.write("changed.json", tables)
+        lines = [*NUMBERS.split(), *EXPLICIT.split()]
+        return [self.locnum.texts(path, [difference.job], lines)[0][lines.index(difference.number)]]
+
+    def no_space(self, difference):
+        """The text without the space, where the digits are of another general category than Nd."""
+        tables = self.locnum.tables_of(difference.job.locale)
+        digits = dict(tables["digits"])[entry_of(tables["symbols"], difference.job.system)["numsys"]]
+        if difference.ours is None or unicodedata.category(digits[0]) == "Nd":
+            return []
+        return [difference.ours.replace(NO_BREAK_SPACE, "")]
+
+    def pattern_of(self, job, system):
+        """CLDR's pattern for the numbers of a job, by whose groups ICU writes them."""
+        locale, kind = self.names[job.locale], job.style.split()
+        if kind[0] == "percent":
+            path_of = cldr_paths.percent_path
+            return self.release.text(locale, path_of(cldr_numbers.formats_of(self.release, locale, system, path_of)))
+        if kind[2] == "name":
+            return cldr_dimension.plain_pattern(self.release, locale, system)
+        patterns = cldr_dimension.money_patterns(
+            self.release, locale, cldr_dimension.money_formats(self.release, locale, system))
+        return patterns["accounting" if len(kind) > 3 else "standard"]
+
+    def own_groups(self, difference):
+        """The text with the groups of CLDR's own pattern for these numbers."""
+        job = difference.job
+        if job.style.startswith("unit"):
+            return []
+        tables = self.locnum.tables_of(job.locale)
+        numbers = self.entry(tables, "symbols", job)
+        key = "symbols" if job.style == "percent" else "currency_decimals"
+        entry = copy.deepcopy(self.entry(tables, key, job) or numbers)
+        sizes = list(cldr_patterns.sizes_of(self.pattern_of(job, numbers["numsys"])))
+        if sizes == entry["sizes"][:2]:
+            return []
+        entry["sizes"] = [*sizes, entry["sizes"][2]]
+        tables[key] = [{**entry, **({} if job.system == "-" else {"system": job.system})}]
+        return self.again(tables, difference)
+
+    def own_pattern(self, difference):
+        """The text with the pattern and the separators that the locale has for this currency alone."""
+        job = difference.job
+        if not job.style.startswith("money"):
+            return []
+        locale, code = self.names[job.locale], job.style.split()[1]
+        own = {name: self.release.text(locale, (*cldr_paths.currency_path(code), cldr_paths.step(name, {})))
+               for name in cldr_dimension.OWN}
+        if set(own.values()) == {None}:
+            return []
+        tables = self.locnum.tables_of(job.locale)
+        for entry in tables["currencies"]:
+            entry.update({"standard": own["pattern"], "accounting": own["pattern"]} if own["pattern"] else {})
+        numbers = self.entry(tables, "currency_decimals", job) or self.entry(tables, "symbols", job)
+        separators = {name: own[name] for name in ("decimal", "group") if own[name] is not None}
+        tables["currency_decimals"] = [{**numbers, **separators}]
+        return self.again(tables, difference)
+
+
+def group_of(job):
+    """Which row of the printed table a job belongs to."""
+    kind, *rest = job.style.split()
+    if kind == "percent":
+        return "percents"
+    if kind == "unit":
+        return f"units, {rest[1]}"
+    return "money in accounts" if len(rest) > 2 else {"name": "money with names"}.get(rest[1], f"money, {rest[1]} symbols")
+
+
+def print_tables(versions, locales, systems, counts, found):
+    """Prints what was compared, and the kinds of difference."""
+    print(f"\nICU {versions[0]} with the data of CLDR {versions[1]}: {locales} locales, {systems} numbering systems in them.")
+    print("\n| texts | compared | equal |\n|---|---|---|")
+    for name, (compared, equal) in counts.items():
+        print(f"| {name} | {compared:,} | {equal:,} |")
+    print(f"| together | {sum(it[0] for it in counts.values()):,} | {sum(it[1] for it in counts.values()):,} |")
+    print("\n| difference | lines | locales | example |\n|---|---|---|---|")
+    for name, differences in found.items():
+        example = min(map(shown, differences), key=lambda text: (sum(it > "~" for it in text), len(text)), default="")
+        print(f"| {name} | {len(differences)} | {len({it.job.locale for it in differences})} | {example} |")
+    print()
+
+
+def compare(formatters, locnum, release, versions):
+    """Compares all, and answers how many formatters had a difference of no known kind, of how many."""
+    lines = [*NUMBERS.split(), *EXPLICIT.split()]
+    (locnum.folder / "numbers").write_text(NUMBERS.replace(" ", "\n") + "\n", encoding="utf-8")
+    (locnum.folder / "explicit").write_text(EXPLICIT.replace(" ", "\n") + "\n", encoding="utf-8")
+    places = [(it["locale"], it.get("system", "-")) for it in locnum.tables["symbols"]]
+    jobs_of = [[Job(*place, kind) for kind in kinds()] for place in places]
+
+    def both(jobs):
+        name = f"{jobs[0].locale}.{jobs[0].system}.json"
+        path = locnum.write(name, locnum.tables_of(jobs[0].locale))
+        return locnum.texts(path, jobs, lines), formatters.icu_all(jobs, lines)
+
+    known = Kinds(locnum, release)
+    found = {name: [] for name in [*known.known, OTHER]}
+    counts = {}
+    with ThreadPoolExecutor() as runs:
+        for jobs, (ours, theirs) in zip(jobs_of, runs.map(both, jobs_of)):
+            for job, mine, other in zip(jobs, ours, theirs):
+                compared, equal = counts.get(group_of(job), (0, 0))
+                same = sum(left == right for left, right in zip(mine, other))
+                counts[group_of(job)] = compared + len(lines), equal + same
+            for difference in differences_of(jobs, lines, ours, theirs):
+                found[known.kind_of(difference) or OTHER].append(difference)
+    for difference in found[OTHER][:50]:
+        print(f"icu_money: {shown(difference)}")
+    print_tables(versions, len({locale for locale, _ in places}), len(places), counts, found)
+    return len({difference.job for difference in found[OTHER]}), sum(map(len, jobs_of))
+
+
+def main(peer, name, program, *names):
+    """Compares, if release and ICU have the same data, and answers the exit status."""
+    release = cldr.open_release(name, cldr.Reports(io.StringIO()), (MONEY, PERCENTS, UNITS))
+    asked = [*shlex.split(peer), "--version"]
+    versions = subprocess.run(asked, stdout=subprocess.PIPE, encoding="utf-8", check=True).stdout.split()
+    if not same_version(versions[1], release.version()):
+        print(f"icu_money: skipped: ICU {versions[0]} has the data of CLDR {versions[1]}, the release is {release.version()}")
+        return 0
+    wanted = cldr.Wanted(currencies=CODES, percents=True, units=UNIT_NAMES)
+    tables = json.loads(cldr.written(cldr.make_tables(release, cldr.chosen(release, names), wanted)))
+    with tempfile.TemporaryDirectory() as folder:
+        locnum = Locnum(pathlib.Path(program).resolve(), tables, folder)
+        failed, count = compare(Formatters(peer, program, folder), locnum, release, versions)
+    print(f"{count - failed} passed, {failed} failed")
+    return 1 if failed else 0
+
+
+if __name__ == "__main__":
+    sys.exit(main(*sys.argv[1:]))
