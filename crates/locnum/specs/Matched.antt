@@ -27,5 +27,6 @@ pub record IsGiven (matches : ArgMatches) (given : GivenData) : Type 0 where
   pub delimiter : given.delimiter ≡ first_value (found_of matches) (codes "delimiter")
   pub field : given.field ≡ first_value (found_of matches) (codes "field")
   pub header : given.header ≡ first_value (found_of matches) (codes "header")
+  pub padding : given.padding ≡ first_value (found_of matches) (codes "padding")
   pub invalid : given.invalid ≡ first_value (found_of matches) (codes "invalid")
   pub zero_terminated : IsFlag matches (codes "zero-terminated") given.zero_terminated

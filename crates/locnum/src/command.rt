@@ -7,7 +7,7 @@ use locnum_options::Given;
 use std::alloc::{AllocError, Global};
 
 /// An option with a text: its name, its letter, the name of its text, and what it does.
-const TEXTS: [(&str, Option<char>, &str, &str); 13] = [
+const TEXTS: [(&str, Option<char>, &str, &str); 14] = [
     (
         "tables",
         Some('t'),
@@ -64,6 +64,12 @@ const TEXTS: [(&str, Option<char>, &str, &str); 13] = [
         None,
         "LIST",
         "the fields that are numbers, as 2, 2-4, 1,3- or -; 1 without it",
+    ),
+    (
+        "padding",
+        None,
+        "N",
+        "numbers take N columns at least, behind spaces, or before them with -N",
     ),
     (
         "invalid",
@@ -146,6 +152,7 @@ pub(crate) fn given<'a>(matches: &ArgMatches<'a>) -> Given<'a>
         delimiter: matches.get_str("delimiter"),
         field: matches.get_str("field"),
         header: matches.get_str("header"),
+        padding: matches.get_str("padding"),
         invalid: matches.get_str("invalid"),
         zero_terminated: matches.get_flag("zero-terminated"),
     }

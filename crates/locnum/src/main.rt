@@ -6,6 +6,7 @@ ghost use Rattle.locnum.specs.Endings.{status_of};
 
 mod command;
 mod english;
+mod nearest;
 
 use clap::ArgMatches;
 use command::{command, given};
@@ -13,10 +14,11 @@ use english::ENGLISH;
 use locnum_forms::{Form, StartError};
 use locnum_lines::{LineSettings, Refusals, Report, RunError, run};
 use locnum_options::{OptionFault, Options, parse_options};
+use nearest::names_for;
 use std::alloc::AllocError;
 use std::io::ErrorKind;
 use std::process::ExitCode;
-use std::{env, fs, io};
+use std::{env, fs, io, str};
 
 /// Why the program ends early.
 #[derive(Clone, Copy, Debug)]
@@ -27,6 +29,8 @@ enum Failure {
     Options(OptionFault),
     File,
     Tables(StartError),
+    /// What the tables lack was told.
+    Told,
 }
 
 impl From<RunError> for Failure {
@@ -129,6 +133,28 @@ fn run_given(
     }
 }
 
+/// Tells which data the tables lack, and names of the same language that they have.
+fn tell_no_data(rt: &HostRuntime, matches: &ArgMatches<'_>, file: &[u8]) -> Failure {
+    let locale = matches.get_str("locale").unwrap_or("en");
+    let text = str::from_utf8(file).unwrap_or("");
+    let _ = match names_for(rt.alloc(), text, locale) {
+        None => rt.eprintln("locnum: --tables: no data"),
+        Some(names) if names.has_locale => {
+            eprintln!(rt; "locnum: --tables: {locale} has no data for this")
+        }
+        Some(names) if names.nearest.is_empty() => {
+            eprintln!(rt; "locnum: --tables: no locale {locale}")
+        }
+        Some(names) => {
+            eprintln!(rt;
+                "locnum: --tables: no locale {locale}; there are {}",
+                names.nearest
+            )
+        }
+    };
+    Failure::Told
+}
+
 /// Runs what the words ask for.
 fn run_asked(rt: &HostRuntime, matches: &ArgMatches<'_>) -> Result<(Refusals, Report), Failure> {
     let Options { wanted, lines } = match parse_options(rt.alloc(), &given(matches)) {
@@ -138,6 +164,7 @@ fn run_asked(rt: &HostRuntime, matches: &ArgMatches<'_>) -> Result<(Refusals, Re
     let file = tables(rt, matches.get_str("tables"))?;
     let form = match Form::make(rt.alloc(), &wanted, &file) {
         Ok(form) => form,
+        Err(StartError::NoData) => return Err(tell_no_data(rt, matches, &file)),
         Err(error) => return Err(Failure::Tables(error)),
     };
     let report = run_given(rt, &lines, &form, matches)?;
@@ -153,6 +180,7 @@ fn tell(rt: &HostRuntime, failure: Failure) {
         Failure::Options(fault) => eprintln!(rt; "locnum: {fault}"),
         Failure::File => rt.eprintln("locnum: --tables: the file can't be read"),
         Failure::Tables(error) => eprintln!(rt; "locnum: --tables: {error}"),
+        Failure::Told => Ok(()),
     };
 }
 

@@ -6,6 +6,7 @@ use Rattle.decimal_lines.specs.declared.alone.TextError.{TextError}
 use Rattle.decimal_lines.specs.declared.alone.TextError.TheVariants.{NotDecimal, TooManyDigits, Overflow, OutOfMemory}
 use Rattle.locnum_forms.specs.Forms.{FormData, form_events}
 use Rattle.locnum_lines.specs.Fields.{Cut, Field, cut, fields_from}
+use Rattle.locnum_lines.specs.Padding.{padded}
 use Rattle.locnum_lines.specs.Ran.{Ran, joined, then_runs, writes}
 use Rattle.locnum_lines.specs.Settings.{SettingsData, is_chosen}
 use Rattle.locnum_lines.specs.declared.settings.Refusals.{Refusals}
@@ -33,23 +34,23 @@ refused_ran Fail number behind error = record { output = number ++ behind; notes
 refused_ran Warn number behind error = record { output = number ++ behind; notes = note number error; is_refused = true; is_stopped = false }
 refused_ran Ignore number behind error = record { output = number ++ behind; notes = []; is_refused = true; is_stopped = false }
 
--- a number by what it is shown as, and what is behind it
-abbrev pub shown_ran : Refusals → List ℕ → List ℕ → Result (List Event) TextError → Ran
-shown_ran refusals number behind (Ok events) = writes (text_of events ++ behind)
-shown_ran refusals number behind (Err error) = refused_ran refusals number behind error
+-- a number by what it is shown as, in its columns, and what is behind it
+abbrev pub shown_ran : SettingsData → List ℕ → List ℕ → Result (List Event) TextError → Ran
+shown_ran settings number behind (Ok events) = writes (padded settings.padding (text_of events) ++ behind)
+shown_ran settings number behind (Err error) = refused_ran settings.refusals number behind error
 
 -- a number and what is behind it
-unfoldable pub number_ran : Refusals → FormData → List ℕ → List ℕ → Ran
-number_ran refusals form number behind = shown_ran refusals number behind (form_events form number)
+unfoldable pub number_ran : SettingsData → FormData → List ℕ → List ℕ → Ran
+number_ran settings form number behind = shown_ran settings number behind (form_events form number)
 
 -- a field that is chosen: blanks, its number, and blanks behind it
-abbrev pub chosen_ran : Refusals → FormData → Cut → Ran
-chosen_ran refusals form field = joined (writes field.before) (number_ran refusals form field.number field.behind)
+abbrev pub chosen_ran : SettingsData → FormData → Cut → Ran
+chosen_ran settings form field = joined (writes field.before) (number_ran settings form field.number field.behind)
 
 -- a field of this number: its number is written, or it goes through as it is
 unfoldable pub field_ran : SettingsData → FormData → ℕ → List ℕ → Ran
 field_ran settings form index text =
-    if is_chosen settings.fields index then chosen_ran settings.refusals form (cut text) else writes text
+    if is_chosen settings.fields index then chosen_ran settings form (cut text) else writes text
 
 -- fields from this number on, each with the byte behind it
 unfoldable pub fields_ran : SettingsData → FormData → ℕ → List Field → Ran

@@ -1,3 +1,4 @@
+pub mod Padding
 pub mod Settings
 pub mod Fields
 pub mod Ran

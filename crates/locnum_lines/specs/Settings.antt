@@ -1,16 +1,18 @@
--- Which fields of a line are numbers, and what becomes of texts that are refused.
+-- Which fields of a line are numbers, how wide they are, and what becomes of texts that are refused.
 use Rattle.std.specs.Prelude.{ℕ, Bool, false, ◌&&◌, ◌||◌, nat_le, List, [], ◌∷◌, Option}
+use Rattle.locnum_lines.specs.declared.padding.Padding.{Padding}
 use Rattle.locnum_lines.specs.declared.settings.FieldRange.{FieldRange}
 use Rattle.locnum_lines.specs.declared.settings.Refusals.{Refusals}
 
--- how lines are cut, which fields are numbers, how many lines are a header, the byte that ends a line, and what becomes of
--- a text that is refused
+-- how lines are cut, which fields are numbers, how many lines are a header, the byte that ends a line, what becomes of a
+-- text that is refused, and how wide numbers are at least
 pub record SettingsData : Type 0 where
   pub delimiter : Option ℕ
   pub fields : List FieldRange
   pub header : ℕ
   pub end : ℕ
   pub refusals : Refusals
+  pub padding : Option Padding
 
 -- whether a field of this number, from 1 on, is in one of the ranges
 unfoldable pub is_chosen : List FieldRange → ℕ → Bool

@@ -1,13 +1,18 @@
 //! One field of a line.
 
-ghost use Rattle.std.specs.Prelude.{◌≡◌, ◌≢◌, OnOk, false};
+ghost use Rattle.std.specs.Prelude.{◌≡◌, ◌≢◌, ◌++◌, OnOk, IfErr, Ok, Some, List, false};
+ghost use Rattle.decimal_lines.specs.Alone.{IsRefusal};
+ghost use Rattle.locnum_forms.specs.Forms.{form_events};
 ghost use Rattle.locnum_lines.specs.FieldRuns.{field_ran, number_ran, refused_ran};
 ghost use Rattle.locnum_lines.specs.Gathered.{Adds};
+ghost use Rattle.locnum_lines.specs.Padding.{padded};
 ghost use Rattle.locnum_lines.specs.Ran.{writes};
+ghost use Rattle.writeable.specs.Events.{Event, text_of};
 
 use crate::cutting::{blanks_before, content_length};
 use crate::gathered::Gathered;
 use crate::note::push_note;
+use crate::padding::Padding;
 use crate::settings::{LineSettings, Refusals, is_chosen};
 use locnum_forms::{Form, TextError};
 use std::alloc::{AllocError, Global};
@@ -20,8 +25,7 @@ pub(crate) fn pass(bytes: &[u8], gathered: &mut Gathered) -> Result<(), AllocErr
     gathered.write(bytes)
 }
 
-/// A number that is refused, behind the blanks in front of it, and what is behind it. Want of memory
-/// stays what it is.
+/// A number that is refused, behind the blanks in front of it, and what is behind it.
 fn refuse(
     refusals: Refusals,
     number: &[u8],
@@ -29,13 +33,10 @@ fn refuse(
     error: TextError,
     gathered: &mut Gathered,
 ) -> Result<(), AllocError>
-    requires { gathered.old.is_stopped ≡ false }
-    ensures { OnOk result ((error ≢ TextError.OutOfMemory) × Adds gathered.old gathered.new
+    requires going { gathered.old.is_stopped ≡ false }
+    ensures { OnOk result (Adds gathered.old gathered.new
         (refused_ran refusals number.now behind.now error) 0) }
 {
-    if error == TextError::OutOfMemory {
-        return Err(AllocError);
-    }
     gathered.is_refused = true;
     match refusals {
         Refusals::Abort => {
@@ -49,10 +50,56 @@ fn refuse(
     gathered.write(behind)
 }
 
+/// A number as it is shown, in columns of this width.
+fn push_padded(
+    alloc: Global,
+    padding: Padding,
+    form: &Form,
+    number: &[u8],
+    gathered: &mut Gathered,
+) -> Result<(), TextError>
+    ensures ok { OnOk result ((events : List Event) × (form_events form.now number.now ≡ Ok events)
+        × (gathered.new ≡ record gathered.old {
+          output = gathered.old.output ++ padded (Some padding) (text_of events);
+        })) }
+    ensures refused { IfErr result (IsRefusal (form_events form.now number.now)) }
+    ensures unchanged { IfErr result (λ error. error ≢ TextError.OutOfMemory
+        → gathered.new ≡ gathered.old) }
+{
+    let mut text = Vec::new(alloc);
+    form.push(alloc, number, &mut text)?;
+    match gathered.write_padded(padding, &text) {
+        Ok(()) => Ok(()),
+        Err(AllocError) => Err(TextError::OutOfMemory),
+    }
+}
+
+/// A number as it is shown.
+fn push_shown(
+    alloc: Global,
+    padding: Option<Padding>,
+    form: &Form,
+    number: &[u8],
+    gathered: &mut Gathered,
+) -> Result<(), TextError>
+    ensures ok { OnOk result ((events : List Event) × (form_events form.now number.now ≡ Ok events)
+        × (gathered.new ≡ record gathered.old {
+          output = gathered.old.output ++ padded padding (text_of events);
+        })) }
+    ensures refused { IfErr result (IsRefusal (form_events form.now number.now)) }
+    ensures unchanged { IfErr result (λ error. error ≢ TextError.OutOfMemory
+        → gathered.new ≡ gathered.old) }
+{
+    match padding {
+        None => form.push(alloc, number, &mut gathered.output),
+        Some(padding) => push_padded(alloc, padding, form, number, gathered),
+    }
+}
+
 /// The number of a field, behind the blanks in front of it, and what is behind it.
 fn push_number(
     alloc: Global,
-    refusals: Refusals,
+    settings: &LineSettings,
     form: &Form,
     number: &[u8],
     behind: &[u8],
@@ -60,11 +107,16 @@ fn push_number(
 ) -> Result<(), AllocError>
     requires { gathered.old.is_stopped ≡ false }
     ensures { OnOk result (Adds gathered.old gathered.new
-        (number_ran refusals form.now number.now behind.now) 0) }
+        (number_ran settings.now form.now number.now behind.now) 0) }
 {
-    match form.push(alloc, number, &mut gathered.output) {
+    match push_shown(alloc, settings.padding, form, number, gathered) {
         Ok(()) => gathered.write(behind),
-        Err(error) => refuse(refusals, number, behind, error, gathered),
+        Err(error) => {
+            if error == TextError::OutOfMemory {
+                return Err(AllocError);
+            }
+            refuse(settings.refusals, number, behind, error, gathered)
+        }
     }
 }
 
@@ -87,5 +139,5 @@ pub(crate) fn push_field(
     let (before, rest) = text.split_at(blanks_before(text));
     let (number, behind) = rest.split_at(content_length(rest));
     pass(before, gathered)?;
-    push_number(alloc, settings.refusals, form, number, behind, gathered)
+    push_number(alloc, settings, form, number, behind, gathered)
 }

@@ -4,6 +4,7 @@ ghost use Rattle.std.specs.Prelude.{◌≡◌, [], false};
 ghost use Rattle.locnum_lines.specs.Gathered.{Adds, GatheredData};
 ghost use Rattle.locnum_lines.specs.Ran.{writes};
 
+use crate::padding::{Alignment, Padding, columns_of};
 use std::alloc::{AllocError, Global};
 use std::marker::Model;
 
@@ -32,7 +33,8 @@ impl Model for Gathered {
 }
 
 impl Gathered {
-    ghost use Rattle.std.specs.Prelude.{◌≡◌, [], ◌∷◌, ◌++◌, false, OnOk};
+    ghost use Rattle.std.specs.Prelude.{◌≡◌, ◌≤◌, [], ◌∷◌, ◌++◌, false, OnOk, Some};
+    ghost use Rattle.locnum_lines.specs.Padding.{padded, spaces};
 
     /// Nothing gathered, with a header of so many lines.
     pub(crate) fn new(alloc: Global, header: u64) -> Self
@@ -76,5 +78,33 @@ impl Gathered {
     {
         self.output.push(byte)?;
         Ok(())
+    }
+
+    /// So many spaces of the output.
+    fn write_spaces(&mut self, count: usize) -> Result<(), AllocError>
+        requires { count ≤ 65535 }
+        ensures { OnOk result
+            (self.new ≡ record self.old { output = self.old.output ++ spaces count }) }
+    {
+        self.output.resize(self.output.len() + count, b' ')
+    }
+
+    /// A text in columns of this width.
+    pub(crate) fn write_padded(&mut self, padding: Padding, text: &[u8]) -> Result<(), AllocError>
+        ensures { OnOk result (self.new ≡ record self.old {
+          output = self.old.output ++ padded (Some padding) text.now;
+        }) }
+    {
+        let missing = usize::from(padding.columns).saturating_sub(columns_of(text));
+        match padding.alignment {
+            Alignment::Left => {
+                self.write(text)?;
+                self.write_spaces(missing)
+            }
+            Alignment::Right => {
+                self.write_spaces(missing)?;
+                self.write(text)
+            }
+        }
     }
 }

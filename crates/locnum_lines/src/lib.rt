@@ -7,8 +7,10 @@ mod field;
 mod gathered;
 mod line;
 mod note;
+mod padding;
 mod running;
 mod settings;
 
+pub use padding::{Alignment, Padding};
 pub use running::{Report, RunError, run};
 pub use settings::{FieldRange, LineSettings, Refusals};

@@ -1,8 +1,10 @@
-//! Which fields of a line are numbers, and what becomes of texts that are refused.
+//! Which fields of a line are numbers, how wide they are, and what becomes of texts that are
+//! refused.
 
 ghost use Rattle.std.specs.Prelude.{◌≡◌};
 ghost use Rattle.locnum_lines.specs.Settings.{is_chosen};
 
+use crate::padding::Padding;
 use std::marker::Model;
 
 /// What becomes of a text that is refused (`--invalid` of GNU `numfmt`).
@@ -41,6 +43,8 @@ pub struct LineSettings {
     pub end: u8,
     /// What becomes of a text that is refused.
     pub refusals: Refusals,
+    /// How many columns each number takes at least; `None`: as many as it has.
+    pub padding: Option<Padding>,
 }
 
 impl Model for LineSettings {
@@ -54,6 +58,7 @@ impl Model for LineSettings {
       header = s.header;
       end = s.end;
       refusals = s.refusals;
+      padding = s.padding;
     } };
 }
 

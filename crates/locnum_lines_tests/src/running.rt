@@ -4,7 +4,7 @@ use crate::slow::{Full, SlowReader, SlowWriter};
 use fixed_decimal::SignDisplay;
 use icu_provider::DataLocale;
 use locnum_forms::{Form, Kind, StartError, Wanted};
-use locnum_lines::{FieldRange, LineSettings, Refusals, Report, RunError, run};
+use locnum_lines::{FieldRange, LineSettings, Padding, Refusals, Report, RunError, run};
 use sample_tables::SAMPLE;
 use std::alloc::{AllocError, Global};
 
@@ -50,7 +50,7 @@ fn english(alloc: Global) -> Result<Form, StartError> {
 }
 
 /// The settings of a row.
-fn settings(alloc: Global, cut: Cut) -> Result<LineSettings, AllocError> {
+fn settings(alloc: Global, cut: Cut, padding: Option<Padding>) -> Result<LineSettings, AllocError> {
     let (delimiter, ranges, header, end, refusals) = cut;
     let mut fields = Vec::with_capacity(alloc, ranges.len())?;
     for &(first, last) in ranges {
@@ -62,6 +62,7 @@ fn settings(alloc: Global, cut: Cut) -> Result<LineSettings, AllocError> {
         header,
         end,
         refusals,
+        padding,
     })
 }
 
@@ -121,9 +122,9 @@ fn holds_by(
 }
 
 /// The form and the settings of a row, made once more where memory was refused.
-fn made(alloc: Global, cut: Cut) -> Option<(Form, LineSettings)> {
+fn made(alloc: Global, cut: Cut, padding: Option<Padding>) -> Option<(Form, LineSettings)> {
     let form = english(alloc).ok();
-    let settings = settings(alloc, cut).ok();
+    let settings = settings(alloc, cut, padding).ok();
     form.zip(settings)
 }
 
@@ -135,6 +136,17 @@ pub(crate) fn runs(
     output: (usize, Full),
     left: Left<'_>,
 ) -> bool {
-    holds_by(made(alloc, cut), alloc, input, output, left)
-        || holds_by(made(alloc, cut), alloc, input, output, left)
+    runs_padded(alloc, (cut, None), input, output, left)
+}
+
+/// The same, with numbers in columns of a width.
+pub(crate) fn runs_padded(
+    alloc: Global,
+    (cut, padding): (Cut, Option<Padding>),
+    input: (&[u8], usize, usize),
+    output: (usize, Full),
+    left: Left<'_>,
+) -> bool {
+    holds_by(made(alloc, cut, padding), alloc, input, output, left)
+        || holds_by(made(alloc, cut, padding), alloc, input, output, left)
 }

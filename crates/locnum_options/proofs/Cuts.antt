@@ -13,7 +13,7 @@ abbrev pub Lacks : ℕ → List ℕ → Type 0
 Lacks c bs = (i : ℕ) → i < length bs → get_or bs i 0 ≢ c
 
 -- two bytes that differ
-differs : (b c : ℕ) → b ≢ c → eqb b c ≡ false
+pub differs : (b c : ℕ) → b ≢ c → eqb b c ≡ false
 differs b c h = grind arith
 
 -- a byte is itself

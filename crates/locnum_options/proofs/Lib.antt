@@ -1,3 +1,4 @@
 pub mod Cuts
 pub mod English
 pub mod Ranges
+pub mod Columns

@@ -3,7 +3,7 @@ use Rattle.std.specs.Prelude.{ℕ, ◌-◌, ◌^◌, nat_le, nat_lt, List, [], �
 use Rattle.locnum_lines.specs.declared.settings.FieldRange.{FieldRange}
 use Rattle.locnum_options.specs.Texts.{◌>>=◌, cut_at, number_named, parts_of}
 
--- the number of a field
+-- a number from 1 on, as that of a field
 unfoldable pub place_named : List ℕ → Option ℕ
 place_named text = do
   number ← number_named text

@@ -19,5 +19,6 @@ pub record GivenData : Type 0 where
   pub delimiter : Option (List ℕ)
   pub field : Option (List ℕ)
   pub header : Option (List ℕ)
+  pub padding : Option (List ℕ)
   pub invalid : Option (List ℕ)
   pub zero_terminated : Bool

@@ -3,11 +3,13 @@ use Rattle.std.specs.Prelude.{◌≡◌, ℕ, Bool, ◌⊎◌, List, [], ◌∷�
 use Rattle.locnum_forms.specs.Wanted.{WantedData}
 use Rattle.locnum_forms.specs.declared.wanted.FractionRange.{FractionRange}
 use Rattle.locnum_lines.specs.Settings.{SettingsData}
+use Rattle.locnum_lines.specs.declared.padding.Padding.{Padding}
 use Rattle.locnum_lines.specs.declared.settings.FieldRange.{FieldRange}
 use Rattle.locnum_options.specs.Fields.{fields_named}
 use Rattle.locnum_options.specs.Fraction.{fraction_named}
 use Rattle.locnum_options.specs.Given.{GivenData}
 use Rattle.locnum_options.specs.Kinds.{◌>>=◌, kind_given}
+use Rattle.locnum_options.specs.Padding.{padding_named}
 use Rattle.locnum_options.specs.Texts.{number_named}
 use Rattle.locnum_options.specs.Words.{ok_or, locale_given, system_given, grouping_given, sign_given, delimiter_given, refusals_given}
 use Rattle.locnum_options.specs.declared.fault.OptionFault.{OptionFault}
@@ -40,6 +42,13 @@ unfoldable pub header_given : Option (List ℕ) → Result ℕ OptionFault
 header_given None = Ok 0
 header_given (Some text) = ok_or (number_named text) fault.Header
 
+-- how wide numbers are at least; as wide as they are by default
+unfoldable pub padding_given : Option (List ℕ) → Result (Option Padding) OptionFault
+padding_given None = Ok None
+padding_given (Some text) = do
+  padding ← ok_or (padding_named text) fault.Padding
+  Ok (Some padding)
+
 -- the byte that ends a line
 unfoldable pub end_of : Bool → ℕ
 end_of zero_terminated = if zero_terminated then 0 else 10
@@ -56,8 +65,16 @@ options_of given = do
   delimiter ← delimiter_given given.delimiter
   fields ← fields_given given.field
   header ← header_given given.header
+  padding ← padding_given given.padding
   refusals ← refusals_given given.invalid
   Ok (record {
     wanted = record { locale = locale; system = system; grouping = grouping; fraction = fraction; sign = sign; kind = kind };
-    lines = record { delimiter = delimiter; fields = fields; header = header; end = end_of given.zero_terminated; refusals = refusals };
+    lines = record {
+      delimiter = delimiter;
+      fields = fields;
+      header = header;
+      end = end_of given.zero_terminated;
+      refusals = refusals;
+      padding = padding;
+    };
   })

@@ -48,6 +48,9 @@ pub enum OptionFault {
     /// The text isn't a count of lines.
     #[error("--header: not a count of lines")]
     Header,
+    /// The text isn't a count of columns.
+    #[error("--padding: neither N nor -N, from 1 to 65535")]
+    Padding,
     /// The text doesn't say what becomes of texts that are refused.
     #[error("--invalid: neither abort, fail, warn nor ignore")]
     Invalid,

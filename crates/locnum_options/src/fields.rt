@@ -10,9 +10,9 @@ use crate::texts::{cut_at, number_named};
 use locnum_lines::FieldRange;
 use std::alloc::Global;
 
-/// The number of a field.
+/// A number from 1 on, as that of a field.
 #[tactic(auto, unfolding(crate::specs::Fields::place_named))]
-fn place_named(text: &str) -> Option<usize>
+pub(crate) fn place_named(text: &str) -> Option<usize>
     ensures { result ≡ place_named text.now }
 {
     let number = number_named(text)?;

@@ -36,6 +36,8 @@ pub struct Given<'a> {
     pub field: Option<&'a str>,
     /// `--header`.
     pub header: Option<&'a str>,
+    /// `--padding`.
+    pub padding: Option<&'a str>,
     /// `--invalid`.
     pub invalid: Option<&'a str>,
     /// `--zero-terminated`.
@@ -64,6 +66,7 @@ impl<'a> Model for Given<'a> {
       delimiter = option_map (λ s. s.now) g.delimiter;
       field = option_map (λ s. s.now) g.field;
       header = option_map (λ s. s.now) g.header;
+      padding = option_map (λ s. s.now) g.padding;
       invalid = option_map (λ s. s.now) g.invalid;
       zero_terminated = g.zero_terminated;
     } };

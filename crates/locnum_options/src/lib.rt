@@ -8,6 +8,7 @@ mod fraction;
 mod given;
 mod kinds;
 mod options;
+mod padding;
 mod texts;
 mod words;
 

@@ -1,19 +1,20 @@
 //! What the options ask for.
 
 ghost use Rattle.std.specs.Prelude.{◌≡◌, None, option_map};
-ghost use Rattle.locnum_options.specs.Options.{Gives, end_of, fields_given, fraction_given, header_given, options_of};
+ghost use Rattle.locnum_options.specs.Options.{Gives, end_of, fields_given, fraction_given, header_given, options_of, padding_given};
 
 use crate::fault::OptionFault;
 use crate::fields::fields_named;
 use crate::fraction::fraction_named;
 use crate::given::Given;
 use crate::kinds::kind_given;
+use crate::padding::padding_named;
 use crate::texts::number_named;
 use crate::words::{
     delimiter_given, grouping_given, locale_given, refusals_given, sign_given, system_given,
 };
 use locnum_forms::{FractionRange, Wanted};
-use locnum_lines::{FieldRange, LineSettings};
+use locnum_lines::{FieldRange, LineSettings, Padding};
 use std::alloc::Global;
 use std::marker::Model;
 
@@ -81,6 +82,20 @@ fn header_given(text: Option<&str>) -> Result<u64, OptionFault>
     }
 }
 
+/// How wide numbers are at least; as wide as they are by default.
+#[tactic(auto, unfolding(crate::specs::Options::padding_given))]
+fn padding_given(text: Option<&str>) -> Result<Option<Padding>, OptionFault>
+    ensures { result ≡ padding_given (option_map (λ t. t.now) text.entry) }
+{
+    let Some(text) = text else {
+        return Ok(None);
+    };
+    match padding_named(text) {
+        Some(padding) => Ok(Some(padding)),
+        None => Err(OptionFault::Padding),
+    }
+}
+
 /// The byte that ends a line.
 #[tactic(auto, unfolding(crate::specs::Options::end_of))]
 fn end_of(zero_terminated: bool) -> u8
@@ -108,6 +123,7 @@ pub fn parse_options<'a>(alloc: Global, given: &Given<'a>) -> Result<Options<'a>
     let delimiter = delimiter_given(given.delimiter)?;
     let fields = fields_given(alloc, given.field)?;
     let header = header_given(given.header)?;
+    let padding = padding_given(given.padding)?;
     let refusals = refusals_given(given.invalid)?;
     Ok(Options {
         wanted: Wanted {
@@ -124,6 +140,7 @@ pub fn parse_options<'a>(alloc: Global, given: &Given<'a>) -> Result<Options<'a>
             header,
             end: end_of(given.zero_terminated),
             refusals,
+            padding,
         },
     })
 }

@@ -1,7 +1,7 @@
-//! Delimiters, fields, headers, ends of lines, and what becomes of texts that are refused.
+//! Delimiters, fields, headers, ends of lines, columns, and what becomes of texts that are refused.
 
 use crate::reading::{Word, options_of};
-use locnum_lines::{LineSettings, Refusals};
+use locnum_lines::{Alignment, LineSettings, Padding, Refusals};
 use std::alloc::Global;
 
 /// How lines are cut.
@@ -12,6 +12,7 @@ struct Asked {
     header: u64,
     end: u8,
     refusals: Refusals,
+    padding: Option<Padding>,
 }
 
 /// How they are without options.
@@ -21,6 +22,7 @@ const DEFAULTS: Asked = Asked {
     header: 0,
     end: b'\n',
     refusals: Refusals::Abort,
+    padding: None,
 };
 
 /// Whether lines are cut just so.
@@ -32,6 +34,7 @@ fn is_asked(lines: &LineSettings, asked: &Asked) -> bool {
         && lines.header == asked.header
         && lines.end == asked.end
         && lines.refusals == asked.refusals
+        && lines.padding == asked.padding
 }
 
 /// Whether the words ask for this.
@@ -120,4 +123,23 @@ fn reads_what_becomes_of_refused_texts(rt: HostRuntime) {
 fn ends_lines_in_zeros(rt: HostRuntime) {
     let asked = Asked { end: 0, ..DEFAULTS };
     assert!(rt; asks(rt.alloc(), &[("zero-terminated", "")], &asked));
+}
+
+const PADDINGS: &[(&str, u16, Alignment)] = &[
+    ("1", 1, Alignment::Right),
+    ("012", 12, Alignment::Right),
+    ("65535", 65535, Alignment::Right),
+    ("-1", 1, Alignment::Left),
+    ("-65535", 65535, Alignment::Left),
+];
+
+#[test]
+fn reads_columns(rt: HostRuntime) {
+    for &(text, columns, alignment) in PADDINGS {
+        let asked = Asked {
+            padding: Some(Padding { columns, alignment }),
+            ..DEFAULTS
+        };
+        assert!(rt; asks(rt.alloc(), &[("padding", text)], &asked), "{text}");
+    }
 }

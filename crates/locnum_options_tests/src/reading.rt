@@ -25,6 +25,7 @@ fn nothing<'a>() -> Given<'a> {
         delimiter: None,
         field: None,
         header: None,
+        padding: None,
         invalid: None,
         zero_terminated: false,
     }
@@ -48,6 +49,7 @@ fn give<'a>(given: &mut Given<'a>, option: &str, text: &'a str) {
         "delimiter" => given.delimiter = Some(text),
         "field" => given.field = Some(text),
         "header" => given.header = Some(text),
+        "padding" => given.padding = Some(text),
         "invalid" => given.invalid = Some(text),
         "zero-terminated" => given.zero_terminated = true,
         _ => {}

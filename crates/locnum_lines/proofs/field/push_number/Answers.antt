@@ -1,14 +1,18 @@
-use Rattle.std.proofs.Common.{◌≡◌, ap, ◌∙◌}
+use Rattle.std.proofs.Common.{◌≢◌, refl, ◌∙◌}
+use Rattle.std.proofs.lemmas.Bool.{false≢true}
 use Rattle.std.proofs.lemmas.Result.{on_ok_weaker}
+use Rattle.decimal_lines.specs.declared.alone.TextError.TheVariants.{OutOfMemory}
 use Rattle.locnum_lines.proofs.Numbers.{number-refused, number-shown}
 use Rattle.locnum_lines.proofs.field.push_number.Goals as goal
 
 pub returns-in-Ok : goal.returns-in-Ok
-returns-in-Ok c = rw (← c.gathered.view_is) (on_ok_weaker c.write.result (λ e. number-shown c.args.refusals c.args.form.now c.args.number.now
-    c.args.behind.now _ c.write.new.self c.push.new.out.items (ap (λ g. g.is_stopped) c.gathered.view_is ∙ c.requires) c.in-Ok.ensures.ok e)
-    c.write.ensures)
+returns-in-Ok c =
+    rw (← c.settings.view_is) (on_ok_weaker c.write.result (λ e. number-shown _ c.args.form.now c.args.number.now c.args.behind.now
+    c.args.gathered.now c.push_shown.new.gathered c.write.new.self _ c.requires c.in-Ok.ensures.ok.1 c.in-Ok.ensures.ok.2 e) c.write.ensures)
 
-pub returns-in-Err : goal.returns-in-Err
-returns-in-Err c = rw (← c.gathered.view_is) (on_ok_weaker c.refuse.result (λ p. number-refused c.args.refusals c.args.form.now c.args.number.now
-    c.args.behind.now _ c.refuse.new.gathered c.push.new.out.items c.in-Err.error c.in-Err.ensures.refused p.0 (c.in-Err.ensures.unchanged p.0) p.1)
+pub returns-else-eq : goal.returns-else-eq
+returns-else-eq c =
+    let told : c.in-Err.error ≢ OutOfMemory = λ e. false≢true (c.if-eq.ensures ∙ rw e refl) in
+    rw (← c.settings.view_is) (on_ok_weaker c.refuse.result (λ a. number-refused _ c.args.form.now c.args.number.now c.args.behind.now
+    c.args.gathered.now c.push_shown.new.gathered c.refuse.new.gathered c.in-Err.error c.in-Err.ensures.refused told (c.in-Err.ensures.unchanged told) a)
     c.refuse.ensures)
