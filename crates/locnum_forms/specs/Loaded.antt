@@ -96,6 +96,12 @@ unfoldable pub money_range : Option FractionRange → Provider Digits → List �
 money_range None digits code is_cash = and_then (digits (locale_id (codes "und"))) (λ d. Ok (currency_range is_cash (digits_of d code)))
 money_range (Some range) digits code is_cash = Ok range
 
+-- the form of a formatter of amounts, whose digits are asked for behind it
+unfoldable pub amounts_loaded : WantedData → List ℕ → Bool → DimensionData → Formatter → Result FormData Refusal
+amounts_loaded wanted code is_cash dimension formatter =
+    and_then (money_range wanted.fraction (digits_answer dimension.digits) code is_cash) (λ range.
+    Ok (form_with wanted (Some range) formatter))
+
 -- the formatter of amounts of a currency
 unfoldable pub currency_loaded : WantedData → List ℕ → CurrencyFormatterOptions → TablesData → DimensionData
     → Result (SignedFormat DecimalFormat) Refusal
@@ -103,12 +109,10 @@ currency_loaded wanted code options tables dimension =
     loaded_currency (symbols_for_money tables dimension) (system_digits tables) (optional_answer dimension.currencies)
     (symbols_answer dimension.symbols) (preferences wanted) code options
 
--- amounts of a currency: the formatter, then the digits
+-- amounts of a currency
 unfoldable pub money_loaded : WantedData → List ℕ → CurrencyFormatterOptions → Bool → TablesData → DimensionData → Result FormData Refusal
 money_loaded wanted code options is_cash tables dimension =
-    and_then (currency_loaded wanted code options tables dimension) (λ f.
-    and_then (money_range wanted.fraction (digits_answer dimension.digits) code is_cash) (λ range.
-    Ok (form_with wanted (Some range) (Money f))))
+    and_then (currency_loaded wanted code options tables dimension) (λ f. amounts_loaded wanted code is_cash dimension (Money f))
 
 -- the formatter of amounts with the name of a currency
 unfoldable pub names_loaded : WantedData → List ℕ → TablesData → DimensionData → Result (PluralFormat DecimalFormat NameText) Refusal
@@ -117,12 +121,10 @@ names_loaded wanted code tables dimension =
     (names_answer dimension.places dimension.symbols) (preferences wanted) code (plain_options wanted.grouping)
     (λ f r x. record { formatter = f; rules = r; elements = x })
 
--- amounts with the name of a currency: the formatter, then the digits
+-- amounts with the name of a currency
 unfoldable pub named_loaded : WantedData → List ℕ → Bool → TablesData → DimensionData → Result FormData Refusal
 named_loaded wanted code is_cash tables dimension =
-    and_then (names_loaded wanted code tables dimension) (λ f.
-    and_then (money_range wanted.fraction (digits_answer dimension.digits) code is_cash) (λ range.
-    Ok (form_with wanted (Some range) (MoneyNamed f))))
+    and_then (names_loaded wanted code tables dimension) (λ f. amounts_loaded wanted code is_cash dimension (MoneyNamed f))
 
 -- percents
 unfoldable pub percent_loaded : WantedData → TablesData → DimensionData → Result FormData Refusal

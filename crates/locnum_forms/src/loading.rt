@@ -4,7 +4,7 @@ ghost use Rattle.std.specs.Prelude.{◌≡◌};
 ghost use Rattle.icu_provider.specs.Answer.{Answers};
 ghost use Rattle.icu_dimension_tables.specs.Answering.{digits_answer};
 ghost use Rattle.decimal_lines.specs.Making.{compact_options, plain_options};
-ghost use Rattle.locnum_forms.specs.Loaded.{compact_preferences, currency_loaded, currency_range, exactly, long_loaded, money_loaded, money_range, named_loaded, names_loaded, percent_loaded};
+ghost use Rattle.locnum_forms.specs.Loaded.{amounts_loaded, compact_preferences, currency_loaded, currency_range, exactly, long_loaded, money_loaded, money_range, named_loaded, names_loaded, percent_loaded};
 ghost use Rattle.locnum_forms.specs.Loaded.{plain_loaded, preferences, short_loaded, unit_loaded, units_loaded};
 
 use crate::form::{Form, Formatter};
@@ -161,6 +161,27 @@ fn money_range(
     Ok(currency_range(is_cash, digits.of(code)))
 }
 
+/// The form of a formatter of amounts, whose digits are asked for behind it.
+#[tactic(auto, unfolding(crate::specs::Loaded::amounts_loaded))]
+fn load_amounts(
+    alloc: Global,
+    both: &Both,
+    wanted: &Wanted<'_>,
+    code: CurrencyCode,
+    is_cash: bool,
+    formatter: Formatter,
+) -> Result<Form, DataError>
+    ensures { Answers result
+        (amounts_loaded wanted.now code is_cash both.now.dimension formatter) }
+{
+    let range = money_range(alloc, both, wanted.fraction, code, is_cash)?;
+    Ok(Form {
+        fraction: Some(range),
+        sign: wanted.sign,
+        formatter,
+    })
+}
+
 /// The formatter of amounts of a currency.
 #[tactic(auto, unfolding(crate::specs::Loaded::currency_loaded))]
 fn load_currency(
@@ -190,13 +211,8 @@ pub(crate) fn load_money(
     ensures { Answers result
         (money_loaded wanted.now code options is_cash both.now.numbers both.now.dimension) }
 {
-    let formatter = load_currency(alloc, both, wanted, code, options)?;
-    let range = money_range(alloc, both, wanted.fraction, code, is_cash)?;
-    Ok(Form {
-        fraction: Some(range),
-        sign: wanted.sign,
-        formatter: Formatter::Money(formatter),
-    })
+    let money = Formatter::Money(load_currency(alloc, both, wanted, code, options)?);
+    load_amounts(alloc, both, wanted, code, is_cash, money)
 }
 
 /// The formatter of amounts with the name of a currency.
@@ -227,13 +243,8 @@ pub(crate) fn load_named(
     ensures { Answers result
         (named_loaded wanted.now code is_cash both.now.numbers both.now.dimension) }
 {
-    let formatter = load_names(alloc, both, wanted, code)?;
-    let range = money_range(alloc, both, wanted.fraction, code, is_cash)?;
-    Ok(Form {
-        fraction: Some(range),
-        sign: wanted.sign,
-        formatter: Formatter::MoneyNamed(formatter),
-    })
+    let named = Formatter::MoneyNamed(load_names(alloc, both, wanted, code)?);
+    load_amounts(alloc, both, wanted, code, is_cash, named)
 }
 
 /// Percents.
