@@ -65,14 +65,16 @@ pub(crate) fn grouping_given(word: Option<&str>) -> Result<Option<GroupingStrate
 pub(crate) fn sign_given(word: Option<&str>) -> Result<SignDisplay, OptionFault>
     ensures { result ≡ sign_given (option_map (λ t. t.now) word.entry) }
 {
+    let Some(word) = word else {
+        return Ok(SignDisplay::Auto);
+    };
     match word {
-        None => Ok(SignDisplay::Auto),
-        Some("auto") => Ok(SignDisplay::Auto),
-        Some("always") => Ok(SignDisplay::Always),
-        Some("never") => Ok(SignDisplay::Never),
-        Some("except-zero") => Ok(SignDisplay::ExceptZero),
-        Some("negative") => Ok(SignDisplay::Negative),
-        Some(_) => Err(OptionFault::Sign),
+        "auto" => Ok(SignDisplay::Auto),
+        "always" => Ok(SignDisplay::Always),
+        "never" => Ok(SignDisplay::Never),
+        "except-zero" => Ok(SignDisplay::ExceptZero),
+        "negative" => Ok(SignDisplay::Negative),
+        _ => Err(OptionFault::Sign),
     }
 }
 
