@@ -36,6 +36,12 @@ writes '1,234.5\n-987,654\n' 1234.5 -987654
 writes '$1,234.50\n' --currency USD 1234.5
 writes '-\xc2\xa51,234\n' --currency JPY -1234.4
 writes '($1,234.50)\n' --currency USD --accounting -1234.5
+writes '1,234.50 US dollars\n1.00 US dollars\n-5.00 US dollars\n' --currency USD --width name 1234.5 1 -5
+writes '1 US dollar\n2 US dollars\n' --currency USD --width name --fraction 0 1.4 1.5
+writes '1.00 euros\n' --currency EUR --width name 1
+writes '1 euro\n' --currency EUR --width name --fraction 0 1
+writes '12 British pounds\n' --currency GBP --width name --fraction 0..2 12
+writes '1,234 Japanese yen\n' --currency JPY --width name --cash 1234.4
 writes '12.34%\n' --percent 0.1234
 writes '12.3%\n' --percent --fraction 1 0.1234
 writes '1.5M\n' --style short 1500000
@@ -45,6 +51,9 @@ writes '+1.20\n' --sign always --fraction 2 1.2
 writes '1.2\n1.25\n' --fraction 1..2 1.2 1.25
 lines 0 'rent 1250\nfood 431.5\n' 'rent $1,250.00\nfood $431.50\n' '' --field 2 --currency USD
 lines 0 'a;1234;1234\n' 'a;1234;1,234\n' '' -d ';' --field 3
+lines 0 'rent 1250\nfood 431.5\n' 'rent  $1,250.00\nfood    $431.50\n' '' --field 2 --currency USD --padding 10
+lines 0 'a 1 x\n' 'a \xc2\xa51     x\n' '' --field 2 --currency JPY --padding=-7
+writes '   1,234\n  -1,234\n' --padding 8 1234 -1234
 lines 0 'amount\n1234\n' 'amount\n1,234\n' '' --header
 lines 0 'a\nb\n1234' 'a\nb\n1,234\n' '' --header=2
 lines 0 '1234\00005678\0000' '1,234\00005,678\0000' '' -z
@@ -56,13 +65,32 @@ lines 0 'x\n5\n' 'x\n5\n' 'locnum: x: not a decimal' --invalid warn
 lines 0 'x\n5\n' 'x\n5\n' '' --invalid ignore
 lines 2 '\n' '' 'locnum: : not a decimal'
 refuses 'locnum: --locale: not a locale' -l 'a b'
-refuses 'locnum: --tables: no data' -l de
-refuses 'locnum: --tables: no data' --currency CHF
+refuses 'locnum: --tables: no locale de' -l de
+refuses 'locnum: --tables: no locale en-XX; there are en' -l en-XX
+refuses 'locnum: --tables: en has no data for this' --currency CHF
+refuses 'locnum: --tables: en has no data for this' --currency CHF --width name
+refuses 'locnum: --accounting: not with --width name' --currency USD --width name --accounting
+refuses 'locnum: --width: short, narrow or name for money; long, short or narrow for units' --currency USD --width names
+refuses 'locnum: --width: short, narrow or name for money; long, short or narrow for units' --unit meter --width name
+refuses 'locnum: --accounting and --cash want --currency, and --width wants --currency or --unit' --width name
 refuses "locnum: --tables: the file can't be read" -t "$folder/none.json"
 refuses 'locnum: --style, --currency, --percent and --unit: more than one of them' --percent --currency USD
 refuses 'locnum: --currency: not three capital letters' --currency usd
 refuses 'locnum: --field: not a list of N, N-, N-M, -M or -, from 1 on' --field 0
 refuses 'locnum: --fraction: neither N nor MIN..MAX, each at most 255' --fraction x
+cat >"$folder/fr.json" <<'FRENCH'
+{
+"symbols": [{"locale": "fr", "minus": ["-", ""], "plus": ["+", ""], "decimal": ",", "group": "\u202f", "numsys": "latn", "sizes": [3, 3, 1]}],
+"digits": [["latn", "0123456789"]],
+"rules": [{"locale": "fr", "rules": [["one", "i = 0,1"], ["many", "e = 0 and i != 0 and i % 1000000 = 0 and v = 0 or e != 0..5"]]}],
+"currencies": [{"locale": "fr", "standard": "#,##0.00\u00a0¤", "accounting": "#,##0.00\u00a0¤;(#,##0.00\u00a0¤)", "minus": "-", "plus": "+", "names": {"other": "{0} {1}"}}],
+"currency_symbols": [{"locale": "fr", "symbols": [["USD", "$US", "$", {"one": "dollar des États-Unis", "other": "dollars des États-Unis"}]]}],
+"currency_digits": [["DEFAULT", 2, 2]]
+}
+FRENCH
+writes '5,00 dollars des États-Unis\n0,00 dollar des États-Unis\n-1,50 dollar des États-Unis\n' \
+    -t "$folder/fr.json" -l fr --currency USD --width name 5 0 -1.5
+refuses 'locnum: --tables: fr has no data for this' -t "$folder/fr.json" -l fr --currency EUR --width name
 printf '{' >"$folder/cut.json"
 timeout 20 "$program" -t "$folder/cut.json" 5 >"$folder/out" 2>"$folder/err"
 status=$?

@@ -45,7 +45,7 @@ const TEXTS: [(&str, Option<char>, &str, &str); 14] = [
         "width",
         None,
         "WIDTH",
-        "short or narrow symbols; long, short or narrow units",
+        "short or narrow symbols, or name; long, short or narrow units",
     ),
     (
         "unit",

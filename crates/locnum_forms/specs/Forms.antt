@@ -9,6 +9,7 @@ use Rattle.writeable.specs.Events.{Event}
 use Rattle.icu_decimal.specs.Decimal.{DecimalFormat}
 use Rattle.icu_decimal.specs.Shown.{plain_shown}
 use Rattle.icu_dimension.specs.Money.{SignedFormat, money_events}
+use Rattle.icu_dimension.specs.Names.{names_events}
 use Rattle.icu_dimension.specs.Percent.{hundredfold}
 use Rattle.icu_dimension.specs.Units.{units_events}
 use Rattle.decimal_lines.specs.Alone.{decimal_read, mode_events}
@@ -17,7 +18,7 @@ use Rattle.decimal_lines.specs.declared.alone.TextError.{TextError}
 use Rattle.decimal_lines.specs.declared.alone.TextError.TheVariants.{Overflow}
 use Rattle.locnum_forms.specs.Fractions.{in_range}
 use Rattle.locnum_forms.specs.declared.form.Formatter.{Formatter}
-use Rattle.locnum_forms.specs.declared.form.Formatter.TheVariants.{Numbers, Money, Percent, Units}
+use Rattle.locnum_forms.specs.declared.form.Formatter.TheVariants.{Numbers, Money, MoneyNamed, Percent, Units}
 use Rattle.locnum_forms.specs.declared.wanted.FractionRange.{FractionRange}
 
 -- the range of fraction digits of what is written, where there is one; which signs are shown; and what writes
@@ -30,6 +31,7 @@ pub record FormData : Type 0 where
 abbrev pub digits_moved : Formatter → ℕ
 digits_moved (Numbers mode) = 0
 digits_moved (Money format) = 0
+digits_moved (MoneyNamed format) = 0
 digits_moved (Percent format) = 2
 digits_moved (Units format) = 0
 
@@ -43,6 +45,8 @@ percent_events format sign d =
 abbrev pub formatter_events : Formatter → Sign → Unsigned → Result (List Event) TextError
 formatter_events (Numbers mode) sign d = mode_events mode sign d
 formatter_events (Money format) sign d = Ok (money_events format.patterns sign (plain_shown format.formatter d))
+formatter_events (MoneyNamed format) sign d =
+    Ok (names_events format.formatter.symbols format.rules format.elements sign (plain_shown format.formatter d))
 formatter_events (Percent format) sign d = percent_events format sign d
 formatter_events (Units format) sign d =
     Ok (units_events format.formatter.symbols format.rules format.elements sign (plain_shown format.formatter d))

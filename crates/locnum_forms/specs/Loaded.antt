@@ -13,6 +13,7 @@ use Rattle.icu_decimal.specs.declared.preferences.CompactDecimalFormatterPrefere
 use Rattle.icu_decimal.specs.declared.preferences.DecimalFormatterPreferences.{DecimalFormatterPreferences}
 use Rattle.icu_decimal.specs.Decimal.{DecimalFormat}
 use Rattle.icu_dimension.specs.Money.{SignedFormat}
+use Rattle.icu_dimension.specs.Names.{NameText}
 use Rattle.icu_dimension.specs.PluralFormat.{PluralFormat}
 use Rattle.icu_dimension.specs.Loaded.{loaded_currency, loaded_percent, loaded_plural, money_symbols}
 use Rattle.icu_dimension.specs.declared.options.CurrencyFormatterOptions.{CurrencyFormatterOptions}
@@ -24,7 +25,7 @@ use Rattle.icu_table_entries.specs.Answering.{filed_answer, optional_answer}
 use Rattle.icu_table_entries.specs.Named.{NamedEntry}
 use Rattle.icu_tables.specs.Digits.{system_answer}
 use Rattle.icu_tables.specs.Tables.{TablesData}
-use Rattle.icu_dimension_tables.specs.Answering.{decimals_answer, digits_answer, symbols_answer, unit_answer}
+use Rattle.icu_dimension_tables.specs.Answering.{decimals_answer, digits_answer, names_answer, symbols_answer, unit_answer}
 use Rattle.icu_dimension_tables.specs.DimensionTables.{DimensionData}
 use Rattle.icu_dimension_tables.specs.declared.units.UnitWidth.TheVariants as filed
 use Rattle.decimal_lines.specs.Making.{compact_options, plain_options}
@@ -32,7 +33,7 @@ use Rattle.decimal_lines.specs.declared.mode.Mode.TheVariants.{Plain, Compact}
 use Rattle.locnum_forms.specs.Forms.{FormData}
 use Rattle.locnum_forms.specs.Wanted.{WantedData}
 use Rattle.locnum_forms.specs.declared.form.Formatter.{Formatter}
-use Rattle.locnum_forms.specs.declared.form.Formatter.TheVariants.{Numbers, Money, Percent, Units}
+use Rattle.locnum_forms.specs.declared.form.Formatter.TheVariants.{Numbers, Money, MoneyNamed, Percent, Units}
 use Rattle.locnum_forms.specs.declared.wanted.FractionRange.{FractionRange}
 use Rattle.locnum_forms.specs.declared.wanted.UnitWidth.{UnitWidth}
 use Rattle.locnum_forms.specs.declared.wanted.UnitWidth.TheVariants.{Long, Short, Narrow}
@@ -95,6 +96,12 @@ unfoldable pub money_range : Option FractionRange → Provider Digits → List �
 money_range None digits code is_cash = and_then (digits (locale_id (codes "und"))) (λ d. Ok (currency_range is_cash (digits_of d code)))
 money_range (Some range) digits code is_cash = Ok range
 
+-- the form of a formatter of amounts, whose digits are asked for behind it
+unfoldable pub amounts_loaded : WantedData → List ℕ → Bool → DimensionData → Formatter → Result FormData Refusal
+amounts_loaded wanted code is_cash dimension formatter =
+    and_then (money_range wanted.fraction (digits_answer dimension.digits) code is_cash) (λ range.
+    Ok (form_with wanted (Some range) formatter))
+
 -- the formatter of amounts of a currency
 unfoldable pub currency_loaded : WantedData → List ℕ → CurrencyFormatterOptions → TablesData → DimensionData
     → Result (SignedFormat DecimalFormat) Refusal
@@ -102,12 +109,22 @@ currency_loaded wanted code options tables dimension =
     loaded_currency (symbols_for_money tables dimension) (system_digits tables) (optional_answer dimension.currencies)
     (symbols_answer dimension.symbols) (preferences wanted) code options
 
--- amounts of a currency: the formatter, then the digits
+-- amounts of a currency
 unfoldable pub money_loaded : WantedData → List ℕ → CurrencyFormatterOptions → Bool → TablesData → DimensionData → Result FormData Refusal
 money_loaded wanted code options is_cash tables dimension =
-    and_then (currency_loaded wanted code options tables dimension) (λ f.
-    and_then (money_range wanted.fraction (digits_answer dimension.digits) code is_cash) (λ range.
-    Ok (form_with wanted (Some range) (Money f))))
+    and_then (currency_loaded wanted code options tables dimension) (λ f. amounts_loaded wanted code is_cash dimension (Money f))
+
+-- the formatter of amounts with the name of a currency
+unfoldable pub names_loaded : WantedData → List ℕ → TablesData → DimensionData → Result (PluralFormat DecimalFormat NameText) Refusal
+names_loaded wanted code tables dimension =
+    loaded_plural (symbols_for_money tables dimension) (system_digits tables) (optional_answer tables.rules)
+    (names_answer dimension.places dimension.symbols) (preferences wanted) code (plain_options wanted.grouping)
+    (λ f r x. record { formatter = f; rules = r; elements = x })
+
+-- amounts with the name of a currency
+unfoldable pub named_loaded : WantedData → List ℕ → Bool → TablesData → DimensionData → Result FormData Refusal
+named_loaded wanted code is_cash tables dimension =
+    and_then (names_loaded wanted code tables dimension) (λ f. amounts_loaded wanted code is_cash dimension (MoneyNamed f))
 
 -- percents
 unfoldable pub percent_loaded : WantedData → TablesData → DimensionData → Result FormData Refusal

@@ -4,7 +4,7 @@ use crate::wanted::FractionRange;
 use decimal_lines::Mode;
 use fixed_decimal::SignDisplay;
 use icu_decimal::DecimalFormatter;
-use icu_dimension::{CurrencyFormatter, PercentFormatter, UnitsFormatter};
+use icu_dimension::{CurrencyFormatter, LongCurrencyFormatter, PercentFormatter, UnitsFormatter};
 use std::marker::Model;
 
 /// What writes a number, whose digits and sign are given.
@@ -14,6 +14,8 @@ pub enum Formatter {
     Numbers(Mode),
     /// An amount of money with the symbol of its currency.
     Money(CurrencyFormatter<DecimalFormatter>),
+    /// An amount of money with the name of its currency.
+    MoneyNamed(LongCurrencyFormatter<DecimalFormatter>),
     /// A hundred times the number as a percent.
     Percent(PercentFormatter<DecimalFormatter>),
     /// The number with a unit.

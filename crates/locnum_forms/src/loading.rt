@@ -4,7 +4,7 @@ ghost use Rattle.std.specs.Prelude.{◌≡◌};
 ghost use Rattle.icu_provider.specs.Answer.{Answers};
 ghost use Rattle.icu_dimension_tables.specs.Answering.{digits_answer};
 ghost use Rattle.decimal_lines.specs.Making.{compact_options, plain_options};
-ghost use Rattle.locnum_forms.specs.Loaded.{compact_preferences, currency_loaded, currency_range, exactly, long_loaded, money_loaded, money_range, percent_loaded};
+ghost use Rattle.locnum_forms.specs.Loaded.{amounts_loaded, compact_preferences, currency_loaded, currency_range, exactly, long_loaded, money_loaded, money_range, named_loaded, names_loaded, percent_loaded};
 ghost use Rattle.locnum_forms.specs.Loaded.{plain_loaded, preferences, short_loaded, unit_loaded, units_loaded};
 
 use crate::form::{Form, Formatter};
@@ -18,7 +18,7 @@ use icu_decimal::preferences::{CompactDecimalFormatterPreferences, DecimalFormat
 use icu_decimal::{CompactDecimalFormatter, DecimalFormatter};
 use icu_dimension::options::CurrencyFormatterOptions;
 use icu_dimension::provider::{UnitsLongV1, UnitsNarrowV1, UnitsShortV1, load_currency_digits};
-use icu_dimension::{CurrencyFormatter, PercentFormatter, UnitsFormatter};
+use icu_dimension::{CurrencyFormatter, LongCurrencyFormatter, PercentFormatter, UnitsFormatter};
 use icu_dimension_data::{CurrencyCode, FractionDigits};
 use icu_provider::DataError;
 use icu_tables::Tables;
@@ -161,6 +161,27 @@ fn money_range(
     Ok(currency_range(is_cash, digits.of(code)))
 }
 
+/// The form of a formatter of amounts, whose digits are asked for behind it.
+#[tactic(auto, unfolding(crate::specs::Loaded::amounts_loaded))]
+fn load_amounts(
+    alloc: Global,
+    both: &Both,
+    wanted: &Wanted<'_>,
+    code: CurrencyCode,
+    is_cash: bool,
+    formatter: Formatter,
+) -> Result<Form, DataError>
+    ensures { Answers result
+        (amounts_loaded wanted.now code is_cash both.now.dimension formatter) }
+{
+    let range = money_range(alloc, both, wanted.fraction, code, is_cash)?;
+    Ok(Form {
+        fraction: Some(range),
+        sign: wanted.sign,
+        formatter,
+    })
+}
+
 /// The formatter of amounts of a currency.
 #[tactic(auto, unfolding(crate::specs::Loaded::currency_loaded))]
 fn load_currency(
@@ -190,13 +211,40 @@ pub(crate) fn load_money(
     ensures { Answers result
         (money_loaded wanted.now code options is_cash both.now.numbers both.now.dimension) }
 {
-    let formatter = load_currency(alloc, both, wanted, code, options)?;
-    let range = money_range(alloc, both, wanted.fraction, code, is_cash)?;
-    Ok(Form {
-        fraction: Some(range),
-        sign: wanted.sign,
-        formatter: Formatter::Money(formatter),
-    })
+    let money = Formatter::Money(load_currency(alloc, both, wanted, code, options)?);
+    load_amounts(alloc, both, wanted, code, is_cash, money)
+}
+
+/// The formatter of amounts with the name of a currency.
+#[tactic(auto, unfolding(crate::specs::Loaded::names_loaded))]
+fn load_names(
+    alloc: Global,
+    both: &Both,
+    wanted: &Wanted<'_>,
+    code: CurrencyCode,
+) -> Result<LongCurrencyFormatter<DecimalFormatter>, DataError>
+    ensures { Answers result
+        (names_loaded wanted.now code both.now.numbers both.now.dimension) }
+{
+    let options = plain_options(wanted.grouping);
+    let prefs = preferences(wanted);
+    LongCurrencyFormatter::try_new_unstable::<Both>(alloc, both, prefs, code, options)
+}
+
+/// Amounts with the name of a currency.
+#[tactic(auto, unfolding(crate::specs::Loaded::named_loaded))]
+pub(crate) fn load_named(
+    alloc: Global,
+    both: &Both,
+    wanted: &Wanted<'_>,
+    code: CurrencyCode,
+    is_cash: bool,
+) -> Result<Form, DataError>
+    ensures { Answers result
+        (named_loaded wanted.now code is_cash both.now.numbers both.now.dimension) }
+{
+    let named = Formatter::MoneyNamed(load_names(alloc, both, wanted, code)?);
+    load_amounts(alloc, both, wanted, code, is_cash, named)
 }
 
 /// Percents.

@@ -4,7 +4,7 @@ ghost use Rattle.std.specs.Prelude.{◌≡◌, ◌≢◌, ◌⊎◌, ◌++◌, I
 ghost use Rattle.std.specs.String.{string_bytes};
 ghost use Rattle.decimal_lines.specs.Alone.{AppendsShown, IsRefusal};
 ghost use Rattle.locnum_forms.specs.Forms.{digits_moved, formatter_events};
-ghost use Rattle.locnum_forms.specs.declared.form.Formatter.TheVariants.{Money, Percent, Units};
+ghost use Rattle.locnum_forms.specs.declared.form.Formatter.TheVariants.{Money, MoneyNamed, Percent, Units};
 
 use crate::form::{Form, Formatter};
 use crate::fractions::in_range;
@@ -12,7 +12,7 @@ use decimal_lines::{TextError, push_shown, read_decimal};
 use fixed_decimal::Decimal;
 use icu_decimal::DecimalFormatter;
 use icu_decimal::error::FormatError;
-use icu_dimension::{CurrencyFormatter, PercentFormatter, UnitsFormatter};
+use icu_dimension::{CurrencyFormatter, LongCurrencyFormatter, PercentFormatter, UnitsFormatter};
 use std::alloc::Global;
 
 /// How many more fraction digits the number has than what is written of it.
@@ -21,7 +21,10 @@ fn digits_moved(formatter: &Formatter) -> u8
 {
     match formatter {
         Formatter::Percent(_) => 2,
-        Formatter::Numbers(_) | Formatter::Money(_) | Formatter::Units(_) => 0,
+        Formatter::Numbers(_)
+        | Formatter::Money(_)
+        | Formatter::MoneyNamed(_)
+        | Formatter::Units(_) => 0,
     }
 }
 
@@ -56,6 +59,25 @@ fn push_money(
         out.old.items out.new.items) }
     ensures refused { IfErr result (λ error. IsRefusal
         (formatter_events (Money formatter.now) decimal.now.sign decimal.now.absolute) error) }
+    ensures unchanged { IfErr result (λ error. error ≢ TextError.OutOfMemory →
+        out.new.items ≡ out.old.items) }
+{
+    push_text(formatter.write_to_string(alloc, decimal), out)
+}
+
+/// Appends an amount with the name of its currency.
+fn push_money_named(
+    alloc: Global,
+    formatter: &LongCurrencyFormatter<DecimalFormatter>,
+    decimal: &Decimal,
+    out: &mut Vec<u8>,
+) -> Result<(), TextError>
+    ensures ok { OnOk result (AppendsShown
+        (formatter_events (MoneyNamed formatter.now) decimal.now.sign decimal.now.absolute)
+        out.old.items out.new.items) }
+    ensures refused { IfErr result (λ error. IsRefusal
+        (formatter_events (MoneyNamed formatter.now) decimal.now.sign decimal.now.absolute)
+        error) }
     ensures unchanged { IfErr result (λ error. error ≢ TextError.OutOfMemory →
         out.new.items ≡ out.old.items) }
 {
@@ -117,6 +139,7 @@ fn push_formatted(
     match formatter {
         Formatter::Numbers(mode) => push_shown(alloc, mode, decimal, out),
         Formatter::Money(money) => push_money(alloc, money, decimal, out),
+        Formatter::MoneyNamed(money) => push_money_named(alloc, money, decimal, out),
         Formatter::Percent(percent) => push_percent(alloc, percent, decimal, out),
         Formatter::Units(units) => push_units(alloc, units, decimal, out),
     }

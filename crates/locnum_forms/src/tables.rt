@@ -1,10 +1,11 @@
 //! Tables of numbers and of money, percents and units, as one provider.
 
 use icu_decimal::provider::{DecimalDigitsV1, DecimalSymbols, DecimalSymbolsV1};
+use icu_dimension::NamePattern;
 use icu_dimension::provider::{
-    CurrencyDecimalSymbolsV1, CurrencyDigitsV1, CurrencyPatterns, CurrencyPatternsV1,
-    CurrencySymbols, CurrencySymbolsV1, PercentPatternsV1, UnitsLongV1, UnitsNarrowV1,
-    UnitsShortV1,
+    CurrencyDecimalSymbolsV1, CurrencyDigitsV1, CurrencyNamesV1, CurrencyPatterns,
+    CurrencyPatternsV1, CurrencySymbols, CurrencySymbolsV1, PercentPatternsV1, UnitsLongV1,
+    UnitsNarrowV1, UnitsShortV1,
 };
 use icu_dimension_data::{CurrencyDigits, SignedPatterns};
 use icu_dimension_tables::DimensionTables;
@@ -109,6 +110,19 @@ impl DataProvider<CurrencySymbolsV1> for Both {
 
     fn load(&self, alloc: Global, request: &DataRequest<'_>) -> Result<CurrencySymbols, DataError> {
         <DimensionTables as DataProvider<CurrencySymbolsV1>>::load(&self.dimension, alloc, request)
+    }
+}
+
+impl DataProvider<CurrencyNamesV1> for Both {
+    ghost answer = { λ b.
+        ⟦<DimensionTables as DataProvider<CurrencyNamesV1>>⟧.answer b.dimension };
+
+    fn load(
+        &self,
+        alloc: Global,
+        request: &DataRequest<'_>,
+    ) -> Result<PluralElements<NamePattern>, DataError> {
+        <DimensionTables as DataProvider<CurrencyNamesV1>>::load(&self.dimension, alloc, request)
     }
 }
 

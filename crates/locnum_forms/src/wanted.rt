@@ -51,6 +51,13 @@ pub enum Kind<'a> {
         /// Whether the amount has the digits of cash, where no fraction digits are asked for.
         is_cash: bool,
     },
+    /// An amount of money with the name of its currency, as `15,127.00 US dollars`.
+    MoneyNamed {
+        /// The currency.
+        code: CurrencyCode,
+        /// Whether the amount has the digits of cash, where no fraction digits are asked for.
+        is_cash: bool,
+    },
     /// A hundred times the number as a percent, as `12%`.
     Percent,
     /// The number with a unit, as `2 km`.

@@ -13,9 +13,12 @@ use std::alloc::Global;
 pub(crate) const TABLES: &str = "{\"symbols\":[\
 {\"locale\":\"en\",\"minus\":[\"-\",\"\"],\"plus\":[\"+\",\"\"],\"decimal\":\".\",\"group\":\",\",\"numsys\":\"latn\",\"sizes\":[3,3,1]},\
 {\"locale\":\"de\",\"minus\":[\"-\",\"\"],\"plus\":[\"+\",\"\"],\"decimal\":\",\",\"group\":\".\",\"numsys\":\"latn\",\"sizes\":[3,3,1]},\
+{\"locale\":\"fr\",\"minus\":[\"-\",\"\"],\"plus\":[\"+\",\"\"],\"decimal\":\",\",\"group\":\"\u{202f}\",\"numsys\":\"latn\",\"sizes\":[3,3,1]},\
 {\"locale\":\"ar\",\"system\":\"arab\",\"minus\":[\"\u{61c}-\",\"\"],\"plus\":[\"\u{61c}+\",\"\"],\"decimal\":\"\u{66b}\",\"group\":\"\u{66c}\",\"numsys\":\"arab\",\"sizes\":[3,3,1]}],\
 \"digits\":[[\"latn\",\"0123456789\"],[\"arab\",\"\u{660}\u{661}\u{662}\u{663}\u{664}\u{665}\u{666}\u{667}\u{668}\u{669}\"]],\
-\"rules\":[{\"locale\":\"en\",\"rules\":[[\"one\",\"i = 1 and v = 0\"]]}],\
+\"rules\":[{\"locale\":\"en\",\"rules\":[[\"one\",\"i = 1 and v = 0\"]]},\
+{\"locale\":\"de\",\"rules\":[[\"one\",\"i = 1 and v = 0\"]]},\
+{\"locale\":\"fr\",\"rules\":[[\"one\",\"i = 0,1\"]]}],\
 \"short\":[{\"locale\":\"en\",\"patterns\":[[3,3,{\"other\":\"{0}K\"}],[4,3,{\"other\":\"{0}K\"}],[5,3,{\"other\":\"{0}K\"}],[6,6,{\"other\":\"{0}M\"}]]}],\
 \"long\":[{\"locale\":\"en\",\"patterns\":[[3,3,{\"other\":\"{0} thousand\"}],[4,3,{\"other\":\"{0} thousand\"}],[5,3,{\"other\":\"{0} thousand\"}],[6,6,{\"other\":\"{0} million\"}]]}],\
 \"currency_digits\":[[\"DEFAULT\",2,2],[\"CRC\",2,0],[\"JPY\",0,0],[\"KWD\",3,3]],\
@@ -26,11 +29,13 @@ pub(crate) const TABLES: &str = "{\"symbols\":[\
 {\"locale\":\"en\",\"width\":\"short\",\"unit\":\"kilometer\",\"patterns\":{\"other\":\"{0} km\"}},\
 {\"locale\":\"en\",\"width\":\"narrow\",\"unit\":\"kilometer\",\"patterns\":{\"other\":\"{0}km\"}}],\
 \"currencies\":[{\"locale\":\"en\",\"standard\":\"\u{a4}#,##0.00\",\"accounting\":\"\u{a4}#,##0.00;(\u{a4}#,##0.00)\",\"minus\":\"-\",\"plus\":\"+\",\"names\":{\"other\":\"{0} {1}\"}},\
-{\"locale\":\"de\",\"standard\":\"#,##0.00\u{a0}\u{a4}\",\"accounting\":\"#,##0.00\u{a0}\u{a4}\",\"minus\":\"-\",\"plus\":\"+\",\"names\":{\"other\":\"{0} {1}\"}}],\
-\"currency_symbols\":[{\"locale\":\"en\",\"symbols\":[[\"USD\",\"$\",\"$\",{\"other\":\"US dollars\"}],[\"CAD\",\"CA$\",\"$\",{\"other\":\"Canadian dollars\"}],\
+{\"locale\":\"de\",\"standard\":\"#,##0.00\u{a0}\u{a4}\",\"accounting\":\"#,##0.00\u{a0}\u{a4}\",\"minus\":\"-\",\"plus\":\"+\",\"names\":{\"other\":\"{0} {1}\"}},\
+{\"locale\":\"fr\",\"standard\":\"#,##0.00\u{a0}\u{a4}\",\"accounting\":\"#,##0.00\u{a0}\u{a4};(#,##0.00\u{a0}\u{a4})\",\"minus\":\"-\",\"plus\":\"+\",\"names\":{\"other\":\"{0} {1}\"}}],\
+\"currency_symbols\":[{\"locale\":\"en\",\"symbols\":[[\"USD\",\"$\",\"$\",{\"one\":\"US dollar\",\"other\":\"US dollars\"}],[\"CAD\",\"CA$\",\"$\",{\"other\":\"Canadian dollars\"}],\
 [\"CRC\",\"CRC\",\"\u{20a1}\",{\"other\":\"Costa Rican col\u{f3}ns\"}],[\"JPY\",\"\u{a5}\",\"\u{a5}\",{\"other\":\"Japanese yen\"}],\
 [\"KWD\",\"KWD\",\"KWD\",{\"other\":\"Kuwaiti dinars\"}]]},\
-{\"locale\":\"de\",\"symbols\":[[\"EUR\",\"\u{20ac}\",\"\u{20ac}\",{\"other\":\"Euro\"}]]}]}";
+{\"locale\":\"de\",\"symbols\":[[\"EUR\",\"\u{20ac}\",\"\u{20ac}\",{\"other\":\"Euro\"}]]},\
+{\"locale\":\"fr\",\"symbols\":[[\"USD\",\"$US\",\"$\",{\"one\":\"dollar des \u{c9}tats-Unis\",\"other\":\"dollars des \u{c9}tats-Unis\"}]]}]}";
 
 /// What is written of a number.
 #[derive(Clone, Copy, Debug)]
@@ -42,6 +47,8 @@ pub(crate) enum Asked {
     Narrow(&'static str),
     Accounting(&'static str),
     Cash(&'static str),
+    Named(&'static str),
+    NamedCash(&'static str),
     Percent,
     Unit(&'static str, UnitWidth),
 }
@@ -59,6 +66,14 @@ fn money(code: &str, width: Width, sign: CurrencySign, is_cash: bool) -> Option<
     }
 }
 
+/// An amount with the name of its currency.
+fn named(code: &str, is_cash: bool) -> Option<Kind<'static>> {
+    match CurrencyCode::try_from_str(code) {
+        Ok(code) => Some(Kind::MoneyNamed { code, is_cash }),
+        Err(_) => None,
+    }
+}
+
 /// The kind that is asked for.
 fn kind_of(asked: Asked) -> Option<Kind<'static>> {
     match asked {
@@ -69,6 +84,8 @@ fn kind_of(asked: Asked) -> Option<Kind<'static>> {
         Asked::Narrow(code) => money(code, Width::Narrow, CurrencySign::Standard, false),
         Asked::Accounting(code) => money(code, Width::Short, CurrencySign::Accounting, false),
         Asked::Cash(code) => money(code, Width::Short, CurrencySign::Standard, true),
+        Asked::Named(code) => named(code, false),
+        Asked::NamedCash(code) => named(code, true),
         Asked::Percent => Some(Kind::Percent),
         Asked::Unit(name, width) => Some(Kind::Unit { name, width }),
     }
@@ -92,6 +109,13 @@ pub(crate) const EN: Place = Place {
 /// German, with the usual groups.
 pub(crate) const DE: Place = Place {
     locale: "de",
+    system: "",
+    grouping: None,
+};
+
+/// French, with the usual groups.
+pub(crate) const FR: Place = Place {
+    locale: "fr",
     system: "",
     grouping: None,
 };

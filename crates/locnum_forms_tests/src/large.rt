@@ -12,7 +12,7 @@ const NINES: [(
     Asked,
     (usize, usize),
     Result<usize, TextError>,
-); 12] = [
+); 14] = [
     (None, Asked::Plain, (32768, 0), Ok(43690)),
     (
         None,
@@ -37,6 +37,13 @@ const NINES: [(
         Err(TextError::Overflow),
     ),
     (None, Asked::Money("USD"), (32768, 0), Ok(43694)),
+    (
+        None,
+        Asked::Named("JPY"),
+        (32768, 1),
+        Err(TextError::Overflow),
+    ),
+    (None, Asked::Named("USD"), (32768, 0), Ok(43704)),
     (None, Asked::Percent, (32768, 0), Err(TextError::Overflow)),
     (None, Asked::Percent, (32766, 0), Ok(43691)),
     (

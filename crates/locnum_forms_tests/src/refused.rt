@@ -1,6 +1,6 @@
 //! Why there is no form.
 
-use crate::asked::{Asked, DE, EN, Options, Place, TABLES, XX, made};
+use crate::asked::{AR, Asked, DE, EN, Options, Place, TABLES, XX, made};
 use fixed_decimal::SignDisplay;
 use icu_tables::{EntryFault, Key, TableError};
 use locnum_forms::{StartError, UnitWidth};
@@ -10,6 +10,13 @@ use std::alloc::Global;
 const NUMBERS: &str =
     "{\"symbols\":[{\"locale\":\"en\",\"minus\":[\"-\",\"\"],\"plus\":[\"+\",\"\"],\"decimal\":\".\",\"group\":\",\",\"numsys\":\"latn\",\"sizes\":[3,3,1]}],\
 \"digits\":[[\"latn\",\"0123456789\"]]}";
+
+/// The same with the name of a currency, and no plural rules.
+const NO_RULES: &str =
+    "{\"symbols\":[{\"locale\":\"en\",\"minus\":[\"-\",\"\"],\"plus\":[\"+\",\"\"],\"decimal\":\".\",\"group\":\",\",\"numsys\":\"latn\",\"sizes\":[3,3,1]}],\
+\"digits\":[[\"latn\",\"0123456789\"]],\"currency_digits\":[[\"DEFAULT\",2,2]],\
+\"currencies\":[{\"locale\":\"en\",\"standard\":\"\u{a4}#,##0.00\",\"accounting\":\"\u{a4}#,##0.00\",\"minus\":\"-\",\"plus\":\"+\",\"names\":{\"other\":\"{0} {1}\"}}],\
+\"currency_symbols\":[{\"locale\":\"en\",\"symbols\":[[\"USD\",\"$\",\"$\",{\"other\":\"US dollars\"}]]}]}";
 
 /// The same with a percent without a pattern.
 const NO_PATTERN: &str =
@@ -38,7 +45,7 @@ const BAD_LOCALE: TableError = TableError::Entry {
 };
 
 /// Where, what is asked for, the text of a file, and why there is no form.
-const REFUSED: [(Place, Asked, &str, StartError); 16] = [
+const REFUSED: [(Place, Asked, &str, StartError); 21] = [
     (
         EN,
         Asked::Plain,
@@ -78,6 +85,11 @@ const REFUSED: [(Place, Asked, &str, StartError); 16] = [
     (DE, KILOMETERS, TABLES, StartError::NoData),
     (EN, DAYS, TABLES, StartError::NoData),
     (EN, Asked::Money("USD"), NUMBERS, StartError::NoData),
+    (AR, Asked::Named("USD"), TABLES, StartError::NoData),
+    (DE, Asked::Named("USD"), TABLES, StartError::NoData),
+    (EN, Asked::Named("EUR"), TABLES, StartError::NoData),
+    (EN, Asked::Named("USD"), NUMBERS, StartError::NoData),
+    (EN, Asked::Named("USD"), NO_RULES, StartError::NoData),
     (EN, Asked::Percent, NUMBERS, StartError::NoData),
     (EN, DAYS, NUMBERS, StartError::NoData),
 ];

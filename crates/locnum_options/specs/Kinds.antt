@@ -1,5 +1,5 @@
 -- What is written of numbers: a style, money, percents or a unit.
-use Rattle.std.specs.Prelude.{ℕ, Bool, ◌&&◌, ◌||◌, List, Option, Some, None, Result, Ok, Err, codes, nat_eq}
+use Rattle.std.specs.Prelude.{ℕ, Bool, false, ◌&&◌, ◌||◌, List, Option, Some, None, Result, Ok, Err, codes, nat_eq}
 use Rattle.std.specs.Prelude.{if◌then◌else◌}
 use Rattle.std.specs.Borrow.{Bor}
 use Rattle.std.specs.Option.{is_some, is_none}
@@ -10,7 +10,7 @@ use Rattle.icu_dimension.specs.declared.options.Width.{Width}
 use Rattle.icu_dimension.specs.declared.options.Width.TheVariants as width
 use Rattle.icu_dimension_data.specs.Currency.{is_currency_code}
 use Rattle.locnum_forms.specs.declared.wanted.Kind.{Kind}
-use Rattle.locnum_forms.specs.declared.wanted.Kind.TheVariants.{Plain, Short, Long, Money, Percent, Unit}
+use Rattle.locnum_forms.specs.declared.wanted.Kind.TheVariants.{Plain, Short, Long, Money, MoneyNamed, Percent, Unit}
 use Rattle.locnum_forms.specs.declared.wanted.UnitWidth.{UnitWidth}
 use Rattle.locnum_forms.specs.declared.wanted.UnitWidth.TheVariants as unit
 use Rattle.locnum_options.specs.Given.{GivenData}
@@ -57,12 +57,27 @@ currency_named text = if is_currency_code text then Ok text else Err fault.Curre
 unfoldable pub sign_of : Bool → CurrencySign
 sign_of accounting = if accounting then Accounting else Standard
 
--- amounts of money
+-- amounts of money with the symbol of the currency
 unfoldable pub money_given : List ℕ → GivenData → Result Kind OptionFault
 money_given text given = do
   code ← currency_named text
   width ← money_width given.width
   Ok (Money code width (sign_of given.accounting) given.cash)
+
+-- the names of currencies are asked for
+unfoldable pub is_name : Option (List ℕ) → Bool
+is_name None = false
+is_name (Some word) = pointwise nat_eq word (codes "name")
+
+-- amounts of money with the name of the currency, for which there is no accounting pattern
+unfoldable pub named_given : List ℕ → GivenData → Result Kind OptionFault
+named_given text given = do
+  code ← currency_named text
+  if given.accounting then Err fault.Accounting else Ok (MoneyNamed code given.cash)
+
+-- amounts of a currency, with its name or its symbol
+unfoldable pub amount_given : List ℕ → GivenData → Result Kind OptionFault
+amount_given text given = if is_name given.width then named_given text given else money_given text given
 
 -- numbers with a unit
 unfoldable pub unit_given : Bor (List ℕ) → GivenData → Result Kind OptionFault
@@ -85,7 +100,7 @@ is_alone given =
 
 -- the kind by the currency, else the unit, else whether percents are asked for and the style
 abbrev pub kind_by : Option (List ℕ) → Option (Bor (List ℕ)) → GivenData → Result Kind OptionFault
-kind_by (Some code) unit given = money_given code given
+kind_by (Some code) unit given = amount_given code given
 kind_by None (Some name) given = unit_given name given
 kind_by None None given = if given.percent then Ok Percent else style_given given.style
 

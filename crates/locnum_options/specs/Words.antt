@@ -41,20 +41,16 @@ grouping_given (Some word) =
     else if pointwise nat_eq word (codes "min2") then Ok (Some grouping.Min2)
     else Err fault.Grouping
 
--- the signs that a word names
-unfoldable pub sign_named : List ℕ → Option SignDisplay
-sign_named word =
-    if pointwise nat_eq word (codes "auto") then Some sign.Auto
-    else if pointwise nat_eq word (codes "always") then Some sign.Always
-    else if pointwise nat_eq word (codes "never") then Some sign.Never
-    else if pointwise nat_eq word (codes "except-zero") then Some sign.ExceptZero
-    else if pointwise nat_eq word (codes "negative") then Some sign.Negative
-    else None
-
 -- the signs that are written; `auto` by default
 unfoldable pub sign_given : Option (List ℕ) → Result SignDisplay OptionFault
 sign_given None = Ok sign.Auto
-sign_given (Some word) = ok_or (sign_named word) fault.Sign
+sign_given (Some word) =
+    if pointwise nat_eq word (codes "auto") then Ok sign.Auto
+    else if pointwise nat_eq word (codes "always") then Ok sign.Always
+    else if pointwise nat_eq word (codes "never") then Ok sign.Never
+    else if pointwise nat_eq word (codes "except-zero") then Ok sign.ExceptZero
+    else if pointwise nat_eq word (codes "negative") then Ok sign.Negative
+    else Err fault.Sign
 
 -- the byte between fields; none by default
 unfoldable pub delimiter_given : Option (List ℕ) → Result (Option ℕ) OptionFault

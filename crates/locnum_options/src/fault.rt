@@ -31,8 +31,11 @@ pub enum OptionFault {
     #[error("--currency: not three capital letters")]
     Currency,
     /// The text isn't a width of what is asked for.
-    #[error("--width: short or narrow for money; long, short or narrow for units")]
+    #[error("--width: short, narrow or name for money; long, short or narrow for units")]
     Width,
+    /// The accounting pattern is asked for with the names of currencies, which have none.
+    #[error("--accounting: not with --width name")]
+    Accounting,
     /// Two kinds of numbers are asked for at once.
     #[error("--style, --currency, --percent and --unit: more than one of them")]
     Together,

@@ -1,7 +1,7 @@
 //! What is written of numbers: a style, money, percents or a unit.
 
 ghost use Rattle.std.specs.Prelude.{◌≡◌, option_map};
-ghost use Rattle.locnum_options.specs.Kinds.{currency_named, is_alone, is_together, kind_given, money_given, money_width, sign_of, style_given, unit_given, unit_width};
+ghost use Rattle.locnum_options.specs.Kinds.{amount_given, currency_named, is_alone, is_name, is_together, kind_given, money_given, money_width, named_given, sign_of, style_given, unit_given, unit_width};
 
 use crate::fault::OptionFault;
 use crate::given::Given;
@@ -73,7 +73,7 @@ fn sign_of(accounting: bool) -> CurrencySign
     }
 }
 
-/// Amounts of money.
+/// Amounts of money with the symbol of the currency.
 #[tactic(auto, unfolding(crate::specs::Kinds::money_given))]
 fn money_given<'a>(text: &str, given: &Given) -> Result<Kind<'a>, OptionFault>
     ensures { result ≡ money_given text.now given.now }
@@ -84,6 +84,43 @@ fn money_given<'a>(text: &str, given: &Given) -> Result<Kind<'a>, OptionFault>
         sign: sign_of(given.accounting),
         is_cash: given.cash,
     })
+}
+
+/// Whether the names of currencies are asked for.
+#[tactic(auto, unfolding(crate::specs::Kinds::is_name))]
+fn is_name(word: Option<&str>) -> bool
+    ensures { result ≡ is_name (option_map (λ t. t.now) word.entry) }
+{
+    match word {
+        None => false,
+        Some("name") => true,
+        Some(_) => false,
+    }
+}
+
+/// Amounts of money with the name of the currency, for which there is no accounting pattern.
+#[tactic(auto, unfolding(crate::specs::Kinds::named_given))]
+fn named_given<'a>(text: &str, given: &Given) -> Result<Kind<'a>, OptionFault>
+    ensures { result ≡ named_given text.now given.now }
+{
+    let code = currency_named(text)?;
+    if given.accounting {
+        return Err(OptionFault::Accounting);
+    }
+    let is_cash = given.cash;
+    Ok(Kind::MoneyNamed { code, is_cash })
+}
+
+/// Amounts of a currency, with its name or its symbol.
+#[tactic(auto, unfolding(crate::specs::Kinds::amount_given))]
+fn amount_given<'a>(text: &str, given: &Given) -> Result<Kind<'a>, OptionFault>
+    ensures { result ≡ amount_given text.now given.now }
+{
+    if is_name(given.width) {
+        named_given(text, given)
+    } else {
+        money_given(text, given)
+    }
 }
 
 /// Numbers with a unit.
@@ -128,7 +165,7 @@ pub(crate) fn kind_given<'a>(given: &Given<'a>) -> Result<Kind<'a>, OptionFault>
         return Err(OptionFault::Alone);
     }
     if let Some(code) = given.currency {
-        return money_given(code, given);
+        return amount_given(code, given);
     }
     if let Some(name) = given.unit {
         return unit_given(name, given);

@@ -1,7 +1,7 @@
 //! Words of options, and what holds where an option isn't given.
 
 ghost use Rattle.std.specs.Prelude.{◌≡◌, option_map};
-ghost use Rattle.locnum_options.specs.Words.{delimiter_given, grouping_given, locale_given, locale_named, refusals_given, sign_given, sign_named, system_given};
+ghost use Rattle.locnum_options.specs.Words.{delimiter_given, grouping_given, locale_given, locale_named, refusals_given, sign_given, system_given};
 
 use crate::fault::OptionFault;
 use fixed_decimal::SignDisplay;
@@ -60,21 +60,6 @@ pub(crate) fn grouping_given(word: Option<&str>) -> Result<Option<GroupingStrate
     }
 }
 
-/// The signs that a word names.
-#[tactic(auto, unfolding(crate::specs::Words::sign_named))]
-fn sign_named(word: &str) -> Option<SignDisplay>
-    ensures { result ≡ sign_named word.now }
-{
-    match word {
-        "auto" => Some(SignDisplay::Auto),
-        "always" => Some(SignDisplay::Always),
-        "never" => Some(SignDisplay::Never),
-        "except-zero" => Some(SignDisplay::ExceptZero),
-        "negative" => Some(SignDisplay::Negative),
-        _ => None,
-    }
-}
-
 /// The signs that are written; `auto` by default.
 #[tactic(auto, unfolding(crate::specs::Words::sign_given))]
 pub(crate) fn sign_given(word: Option<&str>) -> Result<SignDisplay, OptionFault>
@@ -83,9 +68,13 @@ pub(crate) fn sign_given(word: Option<&str>) -> Result<SignDisplay, OptionFault>
     let Some(word) = word else {
         return Ok(SignDisplay::Auto);
     };
-    match sign_named(word) {
-        Some(sign) => Ok(sign),
-        None => Err(OptionFault::Sign),
+    match word {
+        "auto" => Ok(SignDisplay::Auto),
+        "always" => Ok(SignDisplay::Always),
+        "never" => Ok(SignDisplay::Never),
+        "except-zero" => Ok(SignDisplay::ExceptZero),
+        "negative" => Ok(SignDisplay::Negative),
+        _ => Err(OptionFault::Sign),
     }
 }
 

@@ -46,6 +46,38 @@ const REFUSED: &[(&[Word], OptionFault)] = &[
         &[("currency", "usd"), ("width", "long")],
         OptionFault::Currency,
     ),
+    (
+        &[("currency", "USD"), ("width", "names")],
+        OptionFault::Width,
+    ),
+    (
+        &[("currency", "USD"), ("width", "Name")],
+        OptionFault::Width,
+    ),
+    (&[("unit", "meter"), ("width", "name")], OptionFault::Width),
+    (
+        &[("currency", "USD"), ("width", "name"), ("accounting", "")],
+        OptionFault::Accounting,
+    ),
+    (
+        &[
+            ("currency", "USD"),
+            ("width", "name"),
+            ("accounting", ""),
+            ("cash", ""),
+        ],
+        OptionFault::Accounting,
+    ),
+    (
+        &[("currency", "usd"), ("width", "name"), ("accounting", "")],
+        OptionFault::Currency,
+    ),
+    (
+        &[("currency", "USD"), ("width", "wide"), ("accounting", "")],
+        OptionFault::Width,
+    ),
+    (&[("width", "name")], OptionFault::Alone),
+    (&[("width", "name"), ("percent", "")], OptionFault::Alone),
     (&[("accounting", "")], OptionFault::Alone),
     (&[("cash", ""), ("percent", "")], OptionFault::Alone),
     (&[("cash", ""), ("unit", "meter")], OptionFault::Alone),
@@ -168,6 +200,10 @@ const DISPLAYED: &[(OptionFault, &str)] = &[
     (
         OptionFault::System,
         "--system: not the name of a numbering system",
+    ),
+    (
+        OptionFault::Accounting,
+        "--accounting: not with --width name",
     ),
     (OptionFault::OutOfMemory, "out of memory"),
 ];

@@ -12,6 +12,7 @@ enum Asked {
     Short,
     Long,
     Money(&'static str, Width, CurrencySign, bool),
+    MoneyNamed(&'static str, bool),
     Percent,
     Unit(&'static str, UnitWidth),
 }
@@ -35,6 +36,10 @@ fn is_asked(kind: Kind, asked: Asked) -> bool {
                     && sign == asked_sign
                     && is_cash == asked_cash
             }
+            _ => false,
+        },
+        Kind::MoneyNamed { code, is_cash } => match asked {
+            Asked::MoneyNamed(text, asked_cash) => code.as_str() == text && is_cash == asked_cash,
             _ => false,
         },
         Kind::Unit { name, width } => match asked {
@@ -73,6 +78,14 @@ const KINDS: &[(&[Word], Asked)] = &[
     (
         &[("currency", "EUR"), ("accounting", ""), ("cash", "")],
         Asked::Money("EUR", Width::Short, CurrencySign::Accounting, true),
+    ),
+    (
+        &[("currency", "USD"), ("width", "name")],
+        Asked::MoneyNamed("USD", false),
+    ),
+    (
+        &[("width", "name"), ("currency", "CHF"), ("cash", "")],
+        Asked::MoneyNamed("CHF", true),
     ),
     (&[("unit", "meter")], Asked::Unit("meter", UnitWidth::Short)),
     (&[("unit", "")], Asked::Unit("", UnitWidth::Short)),
