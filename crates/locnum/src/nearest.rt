@@ -35,7 +35,7 @@ fn take_in(names: &mut Names, name: &str, before: &str, locale: &str) -> Result<
     if name == locale {
         names.has_locale = true;
     }
-    if name == before || language_of(name) != language_of(locale) || names.count == MOST {
+    if name == before || language_of(name) != language_of(locale) || names.count >= MOST {
         return Ok(());
     }
     if names.count > 0 {
