@@ -44,6 +44,8 @@ SPACED = "digits that aren't `[:digit:]`: ICU sets no space between them and a c
 GROUPS = "groups of accounts, names and percents of their own, which tables can't express"
 OWN_PATTERN = "patterns and separators of a single currency, which tables can't express"
 OWN_FOR_ALL = "the same of the locale's own currency, which ICU takes for all others too"
+LEFT_OUT = "money that tables leave out, as CLDR has no pattern of an amount with a name there"
+OTHER_SCRIPT = "units of a locale whose script isn't the likely one: ICU has those of the likely one"
 
 NO_BREAK_SPACE = "\u00a0"
 
@@ -133,7 +135,14 @@ class Kinds:
         self.locnum = locnum
         self.release = release
         self.names = {cldr.named(locale): locale for locale in release.locales}
-        self.known = {SPACED: self.no_space, GROUPS: self.own_groups, OWN_PATTERN: self.own_pattern, OWN_FOR_ALL: self.own_for_all}
+        self.known = {
+            SPACED: self.no_space,
+            GROUPS: self.own_groups,
+            OWN_PATTERN: self.own_pattern,
+            OWN_FOR_ALL: self.own_for_all,
+            LEFT_OUT: self.left_out,
+            OTHER_SCRIPT: self.other_script,
+        }
 
     def kind_of(self, difference):
         """The name of the difference's kind, or None."""
@@ -233,6 +242,30 @@ class Kinds:
         if not difference.job.style.startswith("money"):
             return []
         return self.texts_with_own(difference, self.release.named(self.names[difference.job.locale], "currencies", "currency"))
+
+    def left_out(self, difference):
+        """The text by CLDR's patterns of money, and names behind amounts."""
+        job = difference.job
+        tables = self.locnum.tables_of(job.locale)
+        if difference.ours is not None or not job.style.startswith("money") or self.entry(tables, "currencies", job):
+            return []
+        locale, system = self.names[job.locale], self.entry(tables, "symbols", job)["numsys"]
+        entry = cldr_dimension.money_patterns(self.release, locale, cldr_dimension.money_formats(self.release, locale, system))
+        entry.update(cldr_dimension.signs_of(self.release, locale, system), names={"other": "{0} {1}"}, locale=job.locale)
+        tables["currencies"] = [entry]
+        return self.again(tables, difference)
+
+    def other_script(self, difference):
+        """The text by the units of the same language and region in another script."""
+        job = difference.job
+        parts = job.locale.split("-")
+        if not job.style.startswith("unit") or len(parts) != 3:
+            return []
+        others = [name for name in self.locnum.by_locale if name.split("-")[::2] == parts[::2] and name != job.locale]
+        tables = self.locnum.tables_of(job.locale)
+        for other in others:
+            units = self.locnum.tables_of(other)["units"]
+            yield from self.again(tables | {"units": [{**it, "locale": job.locale} for it in units]}, difference)
 
 
 def group_of(job):
