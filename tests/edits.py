@@ -151,7 +151,7 @@ def add(into, paths):
 
 
 def add_contracts(into, crate):
-    """Adds what a crate's proofs are read with: the contracts and definitions of the crates below it."""
+    """Adds what a crate's proofs are read with: definitions of the crates below it, and contracts of what they offer."""
     for name in sorted(below(crate)):
         add(into, files_of(f"crates/{name}/specs"))
         for path in files_of(f"crates/{name}/src"):

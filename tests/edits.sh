@@ -2,8 +2,8 @@
 # Tries the must-fail edits of both circles, crates/NAME/must-fail/*.edit and crates/NAME/edits/*.edit, each by the goal or
 # the test that its file names, and the controls, crates/NAME/edits/controls/*.edit, which have to be proved; tests/edits.py
 # says what the lines of an edit mean. edits.lock has a hash for each circle of a crate, under which it was seen so: of the
-# crate's sources, definitions and proofs, of the circle's edits, of the tests that they name, of the contracts and
-# definitions of the crates below it, and of the toolchain's logic. So a circle is tried again only where one of these is
+# crate's sources, definitions and proofs, of the circle's edits, of the tests that they name, of the definitions of the
+# crates below it and of the contracts of what other crates can call there, and of the toolchain's logic. So a circle is tried again only where one of these is
 # another. The controls are tried with the inner circle.
 # usage: tests/edits.sh [--gate | CRATE .. | CRATE/must-fail .. | CRATE/edits ..]
 # Without words the circles are tried whose hash isn't the one of edits.lock; with words those of these crates, or these.

@@ -1,12 +1,14 @@
 #!/bin/bash
-# Compares the built program with ICU over all modern locales of the CLDR release of ICU's own version, where both are
-# installed; else it says so, and counts as skipped. It isn't part of the gate.
-# usage: tests/icu.sh [RELEASE [PROGRAM [LOCALE..]]], by default the release that Debian's unicode-cldr-core installs,
-# and all modern locales. PEER, if set, is a command that runs tests/icu_peer.cpp, compiled; else it is compiled here,
-# by ICU's headers (Debian's libicu-dev).
+# Compares the built programs with ICU over all modern locales of the CLDR release of ICU's own version, where both are
+# installed; else it says so, and counts as skipped: decfmt in numbers (tests/icu_compare.py), locnum in money, percents and
+# units (tests/icu_money.py). It isn't part of the gate.
+# usage: tests/icu.sh [RELEASE [FOLDER [LOCALE..]]], by default the release that Debian's unicode-cldr-core installs, the
+# programs of this repository, else FOLDER/decfmt and FOLDER/locnum, and all modern locales. PEER, if set, is a command that
+# runs tests/icu_peer.cpp, compiled; else it is compiled here, by ICU's headers (Debian's libicu-dev).
 release=${1:-/usr/share/unicode/cldr}
 here=$(dirname "$0")
-program=${2:-$here/../crates/decfmt/out/decfmt}
+decfmt=${2:-$here/../crates/decfmt/out}/decfmt
+locnum=${2:-$here/../crates/locnum/out}/locnum
 folder=$(mktemp -d)
 trap 'rm -rf "$folder"' EXIT
 
@@ -23,4 +25,6 @@ if [ -z "$PEER" ]; then
     "${CXX:-g++}" -O2 "$here/icu_peer.cpp" -o "$PEER" $(pkg-config --cflags --libs icu-i18n icu-uc) ||
         skip "$here/icu_peer.cpp doesn't compile"
 fi
-python3 "$here/icu_compare.py" "$PEER" "$release" "$program" "${@:3}"
+python3 "$here/icu_compare.py" "$PEER" "$release" "$decfmt" "${@:3}"
+status=$?
+python3 "$here/icu_money.py" "$PEER" "$release" "$locnum" "${@:3}" && [ "$status" = 0 ]

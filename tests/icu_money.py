@@ -11,7 +11,9 @@ modern ones
 import collections
 import copy
 import io
+import itertools
 import json
+import os
 import pathlib
 import shlex
 import subprocess
@@ -27,12 +29,12 @@ import cldr_patterns  # noqa: E402
 import cldr_paths  # noqa: E402
 import cldr_to_tables as cldr  # noqa: E402
 from cldr_release import MONEY, PERCENTS, UNITS  # noqa: E402
-from icu_compare import OTHER, Difference, Formatters, Job, differences_of, entry_of, same_version, shown  # noqa: E402
+from icu_compare import OTHER, Job, differences_of, entry_of, same_version, shown  # noqa: E402
 
 CODES = ["USD", "EUR", "JPY", "CHF", "KWD", "INR", "BRL", "CVE"]
 UNIT_NAMES = (
     "kilometer meter centimeter mile foot inch year month week day hour minute second kilogram gram pound liter "
-    "milliliter celsius fahrenheit percent bit byte gigabyte kilometer-per-hour meter-per-second square-meter hectare "
+    "milliliter celsius fahrenheit degree bit byte gigabyte kilometer-per-hour meter-per-second square-meter hectare "
     "kilowatt calorie"
 ).split()
 NUMBERS = "0 1 -1 2 1.0 3 5 11 21 100 -0.5 0.005 0.015 1234.5 -1234567.891 999.995 1000000"
@@ -41,6 +43,9 @@ EXPLICIT = "+0 +1 +1234.5"
 SPACED = "digits that aren't `[:digit:]`: ICU sets no space between them and a currency's symbol"
 GROUPS = "groups of accounts, names and percents of their own, which tables can't express"
 OWN_PATTERN = "patterns and separators of a single currency, which tables can't express"
+OWN_FOR_ALL = "the same of the locale's own currency, which ICU takes for all others too"
+LEFT_OUT = "money that tables leave out, as CLDR has no pattern of an amount with a name there"
+OTHER_SCRIPT = "units of a locale whose script isn't the likely one: ICU has those of the likely one"
 
 NO_BREAK_SPACE = "\u00a0"
 
@@ -62,6 +67,11 @@ def words_of(job):
     name, width, *accounting = rest
     words += ["--currency" if kind == "money" else "--unit", name, "--width", width]
     return [*words, "--accounting"] if accounting else words
+
+
+def lines_of(job):
+    """The numbers that a job gets: units have them without an explicit sign alone."""
+    return NUMBERS.split() + ([] if job.style.startswith("unit") else EXPLICIT.split())
 
 
 class Locnum:
@@ -88,23 +98,33 @@ class Locnum:
         path.write_text(json.dumps(tables, ensure_ascii=False), encoding="utf-8")
         return path
 
-    def texts(self, path, jobs, lines):
+    def texts(self, path, jobs):
         """What it writes for each of these jobs of one locale, for numbers with an explicit plus with the word for it."""
         run = []
         for job in jobs:
             for signs, chosen in (("auto", "numbers"), ("always", "explicit")):
-                words = shlex.join([str(self.program), "-t", str(path), "--sign", signs, *words_of(job)])
-                run.append(f"{words} <{shlex.quote(str(self.folder / chosen))} 2>&1; echo \"= $?\"")
+                if signs == "auto" or len(lines_of(job)) > len(NUMBERS.split()):
+                    words = shlex.join([str(self.program), "-t", str(path), "--sign", signs, *words_of(job)])
+                    run.append(f"{words} <{shlex.quote(str(self.folder / chosen))} 2>&1")
+            run.append("echo =")
         said = subprocess.run(["sh"], input="\n".join(run), stdout=subprocess.PIPE, encoding="utf-8", check=True).stdout
-        parts, lines_of = [], []
+        answers, lines = [], []
         for line in said.split("\n")[:-1]:
-            if line.startswith("= "):
-                parts.append(lines_of if line == "= 0" else None)
-                lines_of = []
+            if line == "=":
+                answers.append(lines)
+                lines = []
             else:
-                lines_of.append(line)
-        pairs = zip(parts[::2], parts[1::2])
-        return [first + second if None not in (first, second) else [None] * len(lines) for first, second in pairs]
+                lines.append(line)
+        # a text that is refused or missing leaves another number of lines
+        return [mine if len(mine) == len(lines_of(job)) else [None] * len(lines_of(job)) for job, mine in zip(jobs, answers)]
+
+
+def icu_texts(peer, jobs):
+    """What ICU writes for each of these jobs."""
+    asked = "".join("= " + " ".join(job) + "\n" + "\n".join(lines_of(job)) + "\n" for job in jobs)
+    said = subprocess.run(shlex.split(peer), input=asked, stdout=subprocess.PIPE, encoding="utf-8", check=True).stdout
+    lines = iter(said.split("\n"))
+    return [list(itertools.islice(lines, len(lines_of(job)))) for job in jobs]
 
 
 class Kinds:
@@ -115,7 +135,14 @@ class Kinds:
         self.locnum = locnum
         self.release = release
         self.names = {cldr.named(locale): locale for locale in release.locales}
-        self.known = {SPACED: self.no_space, GROUPS: self.own_groups, OWN_PATTERN: self.own_pattern}
+        self.known = {
+            SPACED: self.no_space,
+            GROUPS: self.own_groups,
+            OWN_PATTERN: self.own_pattern,
+            OWN_FOR_ALL: self.own_for_all,
+            LEFT_OUT: self.left_out,
+            OTHER_SCRIPT: self.other_script,
+        }
 
     def kind_of(self, difference):
         """The name of the difference's kind, or None."""
@@ -134,8 +161,8 @@ class Kinds:
     def again(self, tables, difference):
         """What locnum writes with other tables."""
         path = self.locnum.write("changed.json", tables)
-        lines = [*NUMBERS.split(), *EXPLICIT.split()]
-        return [self.locnum.texts(path, [difference.job], lines)[0][lines.index(difference.number)]]
+        place = lines_of(difference.job).index(difference.number)
+        return [self.locnum.texts(path, [difference.job])[0][place]]
 
     def no_space(self, difference):
         """The text without the space, where the digits are of another general category than Nd."""
@@ -173,23 +200,72 @@ class Kinds:
         tables[key] = [{**entry, **({} if job.system == "-" else {"system": job.system})}]
         return self.again(tables, difference)
 
-    def own_pattern(self, difference):
-        """The text with the pattern and the separators that the locale has for this currency alone."""
+    def owns_of(self, locale, system, code):
+        """What a locale or a parent has for a currency alone, a pattern or separators; and the same with the separators
+        of the numbers of the locale that has it, which ICU's data repeat there."""
+        path = cldr_paths.currency_path(code)
+        for ancestor in self.release.chain(locale):
+            found = {name: self.release.tree(ancestor).values.get((*path, cldr_paths.step(name, {}))) for name in cldr_dimension.OWN}
+            own = {name: text for name, text in found.items() if text is not None}
+            if own:
+                names = {name: cldr_numbers.symbol(self.release, ancestor, system, name) for name in ("decimal", "group")}
+                return [own, {**names, **own}]
+        return []
+
+    def with_own(self, difference, own):
+        """The text with a pattern and separators in the place of those of the tables; ICU has one pattern for such a
+        currency, which it takes for accounts too."""
         job = difference.job
-        if not job.style.startswith("money"):
-            return []
-        locale, code = self.names[job.locale], job.style.split()[1]
-        own = {name: self.release.text(locale, (*cldr_paths.currency_path(code), cldr_paths.step(name, {})))
-               for name in cldr_dimension.OWN}
-        if set(own.values()) == {None}:
-            return []
         tables = self.locnum.tables_of(job.locale)
         for entry in tables["currencies"]:
-            entry.update({"standard": own["pattern"], "accounting": own["pattern"]} if own["pattern"] else {})
+            pattern = own.get("pattern", entry["standard"])
+            entry.update(standard=pattern, accounting=pattern)
         numbers = self.entry(tables, "currency_decimals", job) or self.entry(tables, "symbols", job)
-        separators = {name: own[name] for name in ("decimal", "group") if own[name] is not None}
-        tables["currency_decimals"] = [{**numbers, **separators}]
+        tables["currency_decimals"] = [{**numbers, **{name: own[name] for name in ("decimal", "group") if name in own}}]
         return self.again(tables, difference)
+
+    def texts_with_own(self, difference, codes):
+        """The text by what the locale has for each of these currencies alone."""
+        job = difference.job
+        locale, system = self.names[job.locale], self.entry(self.locnum.tables_of(job.locale), "symbols", job)["numsys"]
+        for code in codes:
+            for own in self.owns_of(locale, system, code):
+                yield from self.with_own(difference, own)
+
+    def own_pattern(self, difference):
+        """The text with the pattern and the separators that the locale has for this currency alone."""
+        kind = difference.job.style.split()
+        return self.texts_with_own(difference, kind[1:2]) if kind[0] == "money" else []
+
+    def own_for_all(self, difference):
+        """The text with the pattern and the separators that the locale has for another currency alone."""
+        if not difference.job.style.startswith("money"):
+            return []
+        return self.texts_with_own(difference, self.release.named(self.names[difference.job.locale], "currencies", "currency"))
+
+    def left_out(self, difference):
+        """The text by CLDR's patterns of money, and names behind amounts."""
+        job = difference.job
+        tables = self.locnum.tables_of(job.locale)
+        if difference.ours is not None or not job.style.startswith("money") or self.entry(tables, "currencies", job):
+            return []
+        locale, system = self.names[job.locale], self.entry(tables, "symbols", job)["numsys"]
+        entry = cldr_dimension.money_patterns(self.release, locale, cldr_dimension.money_formats(self.release, locale, system))
+        entry.update(cldr_dimension.signs_of(self.release, locale, system), names={"other": "{0} {1}"}, locale=job.locale)
+        tables["currencies"] = [entry]
+        return self.again(tables, difference)
+
+    def other_script(self, difference):
+        """The text by the units of the same language and region in another script."""
+        job = difference.job
+        parts = job.locale.split("-")
+        if not job.style.startswith("unit") or len(parts) != 3:
+            return []
+        others = [name for name in self.locnum.by_locale if name.split("-")[::2] == parts[::2] and name != job.locale]
+        tables = self.locnum.tables_of(job.locale)
+        for other in others:
+            units = self.locnum.tables_of(other)["units"]
+            yield from self.again(tables | {"units": [{**it, "locale": job.locale} for it in units]}, difference)
 
 
 def group_of(job):
@@ -216,31 +292,28 @@ def print_tables(versions, locales, systems, counts, found):
     print()
 
 
-def compare(formatters, locnum, release, versions):
+def compare(peer, locnum, release, versions):
     """Compares all, and answers how many formatters had a difference of no known kind, of how many."""
-    lines = [*NUMBERS.split(), *EXPLICIT.split()]
     (locnum.folder / "numbers").write_text(NUMBERS.replace(" ", "\n") + "\n", encoding="utf-8")
     (locnum.folder / "explicit").write_text(EXPLICIT.replace(" ", "\n") + "\n", encoding="utf-8")
     places = [(it["locale"], it.get("system", "-")) for it in locnum.tables["symbols"]]
     jobs_of = [[Job(*place, kind) for kind in kinds()] for place in places]
 
     def both(jobs):
-        name = f"{jobs[0].locale}.{jobs[0].system}.json"
-        path = locnum.write(name, locnum.tables_of(jobs[0].locale))
-        return locnum.texts(path, jobs, lines), formatters.icu_all(jobs, lines)
+        path = locnum.write(f"{jobs[0].locale}.{jobs[0].system}.json", locnum.tables_of(jobs[0].locale))
+        return locnum.texts(path, jobs), icu_texts(peer, jobs)
 
     known = Kinds(locnum, release)
     found = {name: [] for name in [*known.known, OTHER]}
-    counts = {}
-    with ThreadPoolExecutor() as runs:
+    counts = collections.defaultdict(lambda: [0, 0])
+    with ThreadPoolExecutor(len(os.sched_getaffinity(0))) as runs:
         for jobs, (ours, theirs) in zip(jobs_of, runs.map(both, jobs_of)):
             for job, mine, other in zip(jobs, ours, theirs):
-                compared, equal = counts.get(group_of(job), (0, 0))
-                same = sum(left == right for left, right in zip(mine, other))
-                counts[group_of(job)] = compared + len(lines), equal + same
-            for difference in differences_of(jobs, lines, ours, theirs):
-                found[known.kind_of(difference) or OTHER].append(difference)
-    for difference in found[OTHER][:50]:
+                counts[group_of(job)][0] += len(mine)
+                counts[group_of(job)][1] += sum(left == right for left, right in zip(mine, other))
+                for difference in differences_of([job], lines_of(job), [mine], [other]):
+                    found[known.kind_of(difference) or OTHER].append(difference)
+    for difference in {(it.job.locale, group_of(it.job)): it for it in found[OTHER]}.values():
         print(f"icu_money: {shown(difference)}")
     print_tables(versions, len({locale for locale, _ in places}), len(places), counts, found)
     return len({difference.job for difference in found[OTHER]}), sum(map(len, jobs_of))
@@ -258,7 +331,7 @@ def main(peer, name, program, *names):
     tables = json.loads(cldr.written(cldr.make_tables(release, cldr.chosen(release, names), wanted)))
     with tempfile.TemporaryDirectory() as folder:
         locnum = Locnum(pathlib.Path(program).resolve(), tables, folder)
-        failed, count = compare(Formatters(peer, program, folder), locnum, release, versions)
+        failed, count = compare(peer, locnum, release, versions)
     print(f"{count - failed} passed, {failed} failed")
     return 1 if failed else 0
 

@@ -4,6 +4,18 @@ import re
 
 # The head of a function's body, which `rt fmt` ends by a brace below the beginning of this line.
 BODY = re.compile(r'( *)(\{|(pub(\([a-z]+\))? )?(const )?(unsafe )?(extern "C" )?fn .*\{|\) ?(-> .*)?\{)')
+# The first line of a function that no other crate can call, where it doesn't stand in a trait or an impl of one, and a line
+# that is a whole item.
+PRIVATE = re.compile(r" *(pub\([a-z]+\) )?(const )?(unsafe )?fn .*")
+WHOLE = re.compile(r".*(\}|;)")
+OF_TRAIT = re.compile(r"(pub )?(unsafe )?(impl\b.* for |trait ).*")
+# An import or a constant that no other crate sees, with the names that an import brings, and a name.
+PRIVATE_ITEM = re.compile(
+    r"^ *(?:ghost )?use (?:[^;{]*\{([^}]*)\}|[^;{]*?([\w◌]+));"
+    r"|^ *(?:pub\([a-z]+\) )?const (\w+):(?:\[[^\]]*\]|[^;\[])*;",
+    re.M,
+)
+NAME = re.compile(r"[^\s()\[\]{},;:.]+")
 # An import of definitions or proofs, and the words of a file: texts and characters whole.
 IMPORT = re.compile(r"(?:ghost )?use ([\w.]+)\.\{([^}]*)\};?")
 WORD = re.compile(r"""\"(?:\\.|[^"\\])*"|'(?:\\.|[^'\\])'|[()\[\]{},;]|[^\s()\[\]{},;"]+|\"""")
@@ -37,16 +49,48 @@ def spelled(path):
 
 
 def without_bodies(lines):
-    """The lines of a source without the bodies of functions."""
-    end = None
+    """The lines of a source without the bodies of functions, and without functions that no other crate can call."""
+    end, is_hidden, is_of_trait, attributes = None, False, False, []
     for line in lines:
-        if end is not None and line != end:
+        if end is not None:
+            if line == end:
+                if not is_hidden:
+                    yield line
+                end, is_hidden = None, False
             continue
-        head = BODY.fullmatch(line) if end is None else None
+        if line.lstrip().startswith("#[") or sum(it.count("[") - it.count("]") for it in attributes) > 0:
+            attributes.append(line)
+            continue
+        is_of_trait = bool(OF_TRAIT.fullmatch(line)) or (is_of_trait and line != "}")
+        is_private = not is_of_trait and bool(PRIVATE.fullmatch(line))
+        is_hidden = is_hidden or is_private
+        head = BODY.fullmatch(line)
         end = head[1] + "}" if head else None
-        yield line
+        if not is_hidden:
+            yield from [*attributes, line]
+        elif (is_private and WHOLE.fullmatch(line)) or line.strip() == "{}":
+            is_hidden = False
+        attributes = []
+
+
+def with_used_items(text):
+    """A source with those names alone of its private imports and constants that the rest of it has."""
+    rest = PRIVATE_ITEM.sub("", text)
+    names = set(NAME.findall(rest))
+
+    def is_used(name):
+        return all(part in rest for part in name.split("◌")) if "◌" in name else name in names
+
+    def kept(item):
+        listed, single, constant = item.groups()
+        if listed is None:
+            return item[0] if is_used(single or constant) else ""
+        used = [name for name in NAME.findall(listed) if is_used(name)]
+        return item[0].replace(listed, ", ".join(used)) if used else ""
+
+    return PRIVATE_ITEM.sub(kept, text)
 
 
 def contracts(path):
-    """What a source says but for the bodies of its functions."""
-    return with_imports_in_order(without_bodies(said_in(path)))
+    """What a source says to other crates."""
+    return with_imports_in_order(with_used_items("\n".join(without_bodies(said_in(path)))).splitlines())
