@@ -15,6 +15,10 @@ usage: tests/docs.py [--write]
 - README.md names the packages of tests/packages.txt, and the logic of the toolchain as `rt version` prints it.
 - docs/decfmt.1, as `man` shows it, has the words, the statuses with their texts, the error lines and the examples of
   crates/decfmt/README.md, and no other error line; its version is that of VERSION.
+- docs/locnum.1 and the completions of bash, zsh and fish in docs/completions have each option that `locnum --help` has, its
+  letter, whether it takes a text or a file, and the words among which it chooses, and no other; so the table of its page
+  has their names. That of bash is run: it offers just these options, words and files. Those of zsh and fish are read. The
+  manual page has the statuses and examples of the page too.
 - The text in crates/sample_tables is that of tables/sample.json, byte for byte, and that in crates/locnum that of
   tables/english.json; the languages of icu_decimal_tests, whose
   tables are maps in code, have the patterns and plural rules of that file.
@@ -24,12 +28,14 @@ usage: tests/docs.py [--write]
   nobody types; those of README that build the program and run it have their input from a pipe or a file. README's first
   command, which builds the program unproved, writes what stands below it, and its commands by a release of CLDR, where
   Debian's package of it is there, write what README quotes. Each row of README's table of locales is what the program
-  writes. This needs crates/decfmt/out/decfmt and crates/tour/out/tour, as `rt run` and `rt ci` build them.
+  writes. This needs crates/decfmt/out/decfmt, crates/locnum/out/locnum and crates/tour/out/tour, as `rt run` and `rt ci`
+  build them.
 
 The last line is 'N passed, M failed', one for each page's links, each page that is made, each block and example, each place
-of the version, each picture, the packages, the toolchain, each status, word and example of the manual page, the text of the
-tables, the headings, each crate's page, the widths of each crate, each language, each command, twice, the first command, those by a release, and each row. Without `man` a line
-'skipped: docs: WHY' stands for the manual page.
+of the version, each picture, the packages, the toolchain, each status, word and example of the manual pages, each option of
+a completion and each question to that of bash, the text of the tables, the headings, each crate's page, the widths of each
+crate, each language, each command, twice, the first command, those by a release, and each row. Without `man` a line
+'skipped: docs: WHY' stands for the manual pages.
 """
 import fcntl
 import glob
@@ -47,6 +53,7 @@ import termios
 import time
 
 import edits
+import locnum_pages
 
 ROOT = os.path.dirname(os.path.dirname(os.path.abspath(__file__)))
 sys.dont_write_bytecode = True
@@ -396,6 +403,12 @@ def judge_manual():
     judge(f'"decfmt {version}"' in read(path).split("\n", 1)[0], f"{path}: isn't of version", version)
 
 
+def judge_options():
+    """The page, the manual page and the completions of locnum say what its --help says."""
+    for held, name, told in locnum_pages.cases(REPORTS, shown_by_man if shutil.which("man") else None):
+        judge(held, name, told)
+
+
 def read_exactly(path):
     """The text of a file, the ends of its lines as they are."""
     with open(path, encoding="utf-8", newline="") as file:
@@ -573,6 +586,7 @@ def main():
     judge_pictures()
     judge_needs(page)
     judge_manual()
+    judge_options()
     judge_sample()
     judge_english()
     judge_signs()
