@@ -25,16 +25,16 @@ usage: tests/docs.py [--write]
 - crates.txt has each crate under a heading, and the page of each crate says in a line `Tests: ..` where its tests stand.
 - No line of specs/ and proofs/ is longer than 160 bytes, and none of a clause than 100 characters.
 - Each command that README.md and the page of tour show behind `$` gives the output below it, also on a terminal at which
-  nobody types; those of README that build the program and run it have their input from a pipe or a file. README's first
-  command, which builds the program unproved, writes what stands below it, and its commands by a release of CLDR, where
-  Debian's package of it is there, write what README quotes. Each row of README's table of locales is what the program
-  writes. This needs crates/decfmt/out/decfmt, crates/locnum/out/locnum and crates/tour/out/tour, as `rt run` and `rt ci`
-  build them.
+  nobody types; those of README that build the program and run it have their input from a pipe or a file. README's
+  commands that build a program unproved write what stands below each, the first of them stands in front of all others, and
+  its commands by a release of CLDR, where Debian's package of it is there, write what README quotes. Each row of README's
+  table of locales is what the program writes. This needs crates/decfmt/out/decfmt, crates/locnum/out/locnum and
+  crates/tour/out/tour, as `rt run` and `rt ci` build them.
 
 The last line is 'N passed, M failed', one for each page's links, each page that is made, each block and example, each place
 of the version, each picture, the packages, the toolchain, each status, word and example of the manual pages, each option of
 a completion and each question to that of bash, the text of the tables, the headings, each crate's page, the widths of each
-crate, each language, each command, twice, the first command, those by a release, and each row. Without `man` a line
+crate, each language, each command, twice, each one that builds unproved, those by a release, and each row. Without `man` a line
 'skipped: docs: WHY' stands for the manual pages.
 """
 import fcntl
@@ -74,8 +74,8 @@ LANGUAGES = {
 }
 # Where Debian's package unicode-cldr-core has a release of CLDR.
 RELEASE = "/usr/share/unicode/cldr"
-# The command that builds the program unproved, and what it writes.
-FIRST_COMMAND = re.compile(r"^```sh\n([^\n]*\brt try\b[^\n]*)\n```$.*?^```text\n(.*?)^```$", flags=re.M | re.S)
+# The commands that build a program unproved, and what they write.
+UNPROVED_COMMAND = re.compile(r"^```sh\n([^\n]*\brt try\b[^\n]*)\n```$.*?^```text\n(.*?)^```$", flags=re.M | re.S)
 LOCALES_HEADER = "| locale | plain | short | long |"
 LOCALES_NUMBER = "1234567.8"
 LOCALES_TABLES = "tables/six_locales.json"
@@ -539,11 +539,15 @@ def judge_commands():
         judge(re.search(r"[|<].*\brt ", line), "README.md: waits for input on a terminal:", line)
 
 
-def judge_first_command(page):
-    """README's first command builds the program unproved, and writes the lines of the block of text below it."""
-    command, wanted = FIRST_COMMAND.search(page).groups()
-    given = typed(command, minutes=20)
-    judge(given is not None and wanted in given, f"README.md: on a terminal: {command}:", given or "waits")
+def judge_first_commands(page):
+    """README's first command builds the program for reports unproved; it, and the one like it, write the lines of the block of
+    text below."""
+    found = UNPROVED_COMMAND.findall(page)
+    judge(len(found) == 2 and "crates/locnum" in found[0][0] and shell_lines("README.md")[0] == found[0][0],
+          "README.md: doesn't begin with locnum")
+    for command, wanted in found:
+        given = typed(command, minutes=20)
+        judge(given is not None and wanted in given, f"README.md: on a terminal: {command}:", given or "waits")
 
 
 def judge_release(page):
@@ -593,7 +597,7 @@ def main():
     judge_widths()
     judge_languages()
     judge_commands()
-    judge_first_command(page)
+    judge_first_commands(page)
     judge_release(page)
     judge_locales(page)
     print(f"{counts[True]} passed, {counts[False]} failed")
