@@ -291,9 +291,10 @@ KNOWN_WORDS = {
     ("--delimiter=",): (2, 1, "an empty delimiter is NUL, which no line has"),
     ("--fiel=1",): (0, 1, "a name of an option may be cut short"),
 }
-WORDS = [("--header=x",), ("--header=-1",), ("--header=",), ("--header=1.5",), ("--invalid=x",), ("--invalid=",), ("--unknown",),
-         ("--delimiter=ab",), ("-d", "ab"), ("-q",), ("--field",), ("--invalid",), ("-d",), ("--zero-terminated=1",),
-         ("--header=99999999999999999999999",), ("--field=99999999999999999999999",), ("--field=a",), ("--field=1,a",)]
+WORDS = [("--header=x",), ("--header=-1",), ("--header=",), ("--header=1.5",), ("--invalid=x",), ("--invalid=",),
+         ("--unknown",), ("--delimiter=ab",), ("-d", "ab"), ("-q",), ("--field",), ("--invalid",), ("-d",),
+         ("--zero-terminated=1",), ("--header=99999999999999999999999",), ("--field=99999999999999999999999",),
+         ("--field=a",), ("--field=1,a",)]
 
 
 def a_list(rng):
