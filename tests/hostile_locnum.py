@@ -25,8 +25,8 @@ sys.set_int_max_str_digits(0)
 HERE = os.path.dirname(os.path.abspath(__file__))
 LIMIT = 32768
 # Options with a text and without one, and their letters.
-TEXTS = ["tables", "locale", "system", "style", "grouping", "fraction", "sign", "currency", "width", "unit", "delimiter", "field",
-         "invalid"]
+TEXTS = ["tables", "locale", "system", "style", "grouping", "fraction", "sign", "currency", "width", "unit", "delimiter",
+         "field", "invalid"]
 FLAGS = ["accounting", "cash", "percent", "zero-terminated"]
 LETTERS = {"t": "tables", "l": "locale", "d": "delimiter", "z": "zero-terminated", "h": "help", "V": "version"}
 GROUPINGS = ["auto", "never", "always", "min2"]
@@ -35,14 +35,16 @@ MODES = ["abort", "fail", "warn", "ignore"]
 LISTS = ["1", "2", "2-", "1-3", "-2", "-", "1,3", "4-,1", "3,3", "18446744073709551615", "2-9999999999", "007"]
 # Texts of options, those first that are accepted. Tables are of a file that isn't there.
 GOOD = {
-    "tables": [], "locale": ["en", "en", "de", "x" * 63], "system": ["latn", "arab", "00000000"], "style": ["plain", "short", "long"],
-    "grouping": GROUPINGS, "fraction": ["0", "0", "2", "255", "0..3", "1..1", "007"], "sign": SIGNS, "currency": ["USD", "EUR", "JPY", "CHF"],
-    "width": ["short", "narrow", "long"], "unit": ["kilometer", "", "é"], "delimiter": [";", " ", "\t", "-", "=", "\x7f", "5"],
-    "field": LISTS, "invalid": MODES, "header": ["0", "1", "5", "18446744073709551615", "0002"],
+    "tables": [], "locale": ["en", "en", "de", "x" * 63], "system": ["latn", "arab", "00000000"],
+    "style": ["plain", "short", "long"], "grouping": GROUPINGS, "fraction": ["0", "0", "2", "255", "0..3", "1..1", "007"],
+    "sign": SIGNS, "currency": ["USD", "EUR", "JPY", "CHF"], "width": ["short", "narrow", "long"],
+    "unit": ["kilometer", "", "é"], "delimiter": [";", " ", "\t", "-", "=", "\x7f", "5"], "field": LISTS, "invalid": MODES,
+    "header": ["0", "1", "5", "18446744073709551615", "0002"],
 }
 BAD = {
-    "locale": ["", "a b", "e_n", "é", "x" * 64], "system": ["", "la", "Latn", "x" * 5000], "style": ["", "Plain", "shorts", "PLAIN"],
-    "grouping": ["", "min3", "yes"], "fraction": ["", "256", "3..2", "1.2", "1...2", "-1", "+1", "..", "1..", "9" * 30, "1..256"],
+    "locale": ["", "a b", "e_n", "é", "x" * 64], "system": ["", "la", "Latn", "x" * 5000],
+    "style": ["", "Plain", "shorts", "PLAIN"], "grouping": ["", "min3", "yes"],
+    "fraction": ["", "256", "3..2", "1.2", "1...2", "-1", "+1", "..", "1..", "9" * 30, "1..256"],
     "sign": ["", "plus", "except_zero"], "currency": ["", "usd", "US", "USDD", "ÜSD"], "width": ["", "wide"],
     "unit": [], "delimiter": ["", "ab", "é", ";;", ";" * 5000],
     "field": ["", "0", "a", "2-1", "1,", ",1", "1--2", "1 2", "-0", "18446744073709551616", "1," * 3000, "--", "+1"],
@@ -50,9 +52,15 @@ BAD = {
     "tables": ["", "none.json", "/", "x" * 5000],
 }
 # Texts of fields, most of them refused.
-UNUSUAL = [b"", b".", b"-", b"+-5", b"5.", b"1e3", b"1,000", b"0x10", "\u0665".encode(), b"5\xff", b"\xc3", b"5\x00", b"--5", b"\r",
-           b"5\r\r", b"\x1b[0m", b"5 5", b"-0", b"+0.0"]
-LONG = [b"9" * LIMIT, b"." + b"5" * LIMIT, *[b"9" * LIMIT + b".5"] * 4, b"9" * (LIMIT + 1), b"." + b"1" * (LIMIT + 1), b"x" * 70000, b"0" * 40000]
+UNUSUAL = [b"", b".", b"-", b"+-5", b"5.", b"1e3", b"1,000", b"0x10", "\u0665".encode(), b"5\xff", b"\xc3", b"5\x00", b"--5",
+           b"\r", b"5\r\r", b"\x1b[0m", b"5 5", b"-0", b"+0.0"]
+LONG = [b"9" * LIMIT, b"." + b"5" * LIMIT, *[b"9" * LIMIT + b".5"] * 4, b"9" * (LIMIT + 1), b"." + b"1" * (LIMIT + 1),
+        b"x" * 70000, b"0" * 40000]
+# Words that are put among the others, most of them faults of the command line.
+PUT_IN = [["--unknown"], ["-q"], ["-zq"], ["---cash"], ["--cash=1"], ["--Cash"], ["--head"], ["-" + "x" * 5000],
+          ["--" + "x" * 5000], ["-.5"], ["--help"], ["-h"], ["--version"], ["-V"], ["-zV"], ["-5x"],
+          ["--percent", "--percent"], ["-z", "--zero-terminated"], ["--sign", "auto", "--sign=auto"], [b"\xff"],
+          [b"--field=\xc3"], ["--locale", b"e\x80n"], ["--="], [b"\xc3\xa9\xe9"]]
 FAULTS = {
     "locale": "--locale: not a locale",
     "system": "--system: not the name of a numbering system",
@@ -384,7 +392,8 @@ def some_lines(rng, delimiter, end):
     """The bytes of an input."""
     roll = rng.random()
     if roll < 0.1:
-        return bytes(rng.choice(b" \t\r\n\x00;-.5") if rng.random() < 0.7 else rng.randrange(256) for _ in range(rng.randint(0, 3000)))
+        likely = b" \t\r\n\x00;-.5"
+        return bytes(rng.choice(likely) if rng.random() < 0.7 else rng.randrange(256) for _ in range(rng.randint(0, 3000)))
     if roll < 0.15:
         return (delimiter or b" ") * rng.choice([1, 1000, 70000]) + rng.choice([b"", b"5", b"x"])
     lines = []
@@ -406,7 +415,8 @@ def a_spelling(rng, name, text):
     if name == "header":
         return [f"--header={text}"] if text != "1" or rng.random() < 0.5 else ["--header"]
     if letter and rng.random() < 0.5:
-        return rng.choice([[f"-{letter}", text], *([[f"-{letter}{text}"]] if text and not text.startswith("=") else []), [f"-{letter}={text}"]])
+        behind = [[f"-{letter}{text}"]] if text and not text.startswith("=") else []
+        return rng.choice([[f"-{letter}", text], [f"-{letter}={text}"], *behind])
     return rng.choice([[f"--{name}", text], [f"--{name}={text}"]])
 
 
@@ -420,15 +430,13 @@ def some_words(rng):
         words.append(a_spelling(rng, name, rng.choice(pool) if pool else True))
     rng.shuffle(words)
     if rng.random() < 0.3:
-        words.insert(rng.randint(0, len(words)), rng.choice([
-            ["--unknown"], ["-q"], ["-zq"], ["---cash"], ["--cash=1"], ["--Cash"], ["--head"], ["-" + "x" * 5000], ["--" + "x" * 5000],
-            ["--help"], ["-h"], ["--version"], ["-V"], ["-zV"], ["--percent", "--percent"], ["-z", "--zero-terminated"], ["-5x"],
-            ["--sign", "auto", "--sign=auto"], [b"\xff"], [b"--field=\xc3"], ["--locale", b"e\x80n"], ["--="], ["\u00e9".encode() + b"\xe9"]]))
+        words.insert(rng.randint(0, len(words)), rng.choice(PUT_IN))
     if rng.random() < 0.1:
         words.append([rng.choice(["--field", "-d", "-t", "--style", "--invalid"])])
     words = [word for group in words for word in group]
     if "header" not in names and fault != "header" and rng.random() < 0.4:
-        words += [word for word in (a_number(rng) for _ in range(rng.randint(1, 4))) if re.fullmatch("-?[0-9]+", word) or word[0] in "0123456789"]
+        numbers = [a_number(rng) for _ in range(rng.randint(1, 4))]
+        words += [number for number in numbers if re.fullmatch(r"-?[0-9]+|[0-9].*", number)]
         if rng.random() < 0.3:
             words += ["--", *rng.choice([["-z"], ["--help", "5"], ["-x", "-5", "--"], ["x" * 9000], ["\u0665", "+5"]])]
     return words
@@ -517,8 +525,8 @@ def all_hold(name, holds, count, seed, kinds):
                           f"gives {answer!r:.900}, wanted {wanted!r:.900}")
     unmet = [kind for kind in kinds if not met[kind]]
     rarest = min(met[kind] for kind in kinds)
-    print(f"hostile: locnum: {name}: {count} runs, {missed} missed; met {len(kinds) - len(unmet)} of {len(kinds)} endings and kinds, "
-          f"the rarest {rarest} times{': not ' if unmet else ''}{', '.join(unmet)}", flush=True)
+    print(f"hostile: locnum: {name}: {count} runs, {missed} missed; met {len(kinds) - len(unmet)} of {len(kinds)} endings and "
+          f"kinds, the rarest {rarest} times{': not ' if unmet else ''}{', '.join(unmet)}", flush=True)
     return [missed == 0, not unmet or count < 400]
 
 
