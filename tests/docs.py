@@ -15,21 +15,27 @@ usage: tests/docs.py [--write]
 - README.md names the packages of tests/packages.txt, and the logic of the toolchain as `rt version` prints it.
 - docs/decfmt.1, as `man` shows it, has the words, the statuses with their texts, the error lines and the examples of
   crates/decfmt/README.md, and no other error line; its version is that of VERSION.
+- docs/locnum.1 and the completions of bash, zsh and fish in docs/completions have each option that `locnum --help` has, its
+  letter, whether it takes a text or a file, and the words among which it chooses, and no other; so the table of its page
+  has their names. That of bash is run: it offers just these options, words and files. Those of zsh and fish are read. The
+  manual page has the statuses and examples of the page too.
 - The text in crates/sample_tables is that of tables/sample.json, byte for byte, and that in crates/locnum that of
   tables/english.json; the languages of icu_decimal_tests, whose
   tables are maps in code, have the patterns and plural rules of that file.
 - crates.txt has each crate under a heading, and the page of each crate says in a line `Tests: ..` where its tests stand.
 - No line of specs/ and proofs/ is longer than 160 bytes, and none of a clause than 100 characters.
 - Each command that README.md and the page of tour show behind `$` gives the output below it, also on a terminal at which
-  nobody types; those of README that build the program and run it have their input from a pipe or a file. README's first
-  command, which builds the program unproved, writes what stands below it, and its commands by a release of CLDR, where
-  Debian's package of it is there, write what README quotes. Each row of README's table of locales is what the program
-  writes. This needs crates/decfmt/out/decfmt and crates/tour/out/tour, as `rt run` and `rt ci` build them.
+  nobody types; those of README that build the program and run it have their input from a pipe or a file. README's
+  commands that build a program unproved write what stands below each, the first of them stands in front of all others, and
+  its commands by a release of CLDR, where Debian's package of it is there, write what README quotes. Each row of README's
+  table of locales is what the program writes. This needs crates/decfmt/out/decfmt, crates/locnum/out/locnum and
+  crates/tour/out/tour, as `rt run` and `rt ci` build them.
 
 The last line is 'N passed, M failed', one for each page's links, each page that is made, each block and example, each place
-of the version, each picture, the packages, the toolchain, each status, word and example of the manual page, the text of the
-tables, the headings, each crate's page, the widths of each crate, each language, each command, twice, the first command, those by a release, and each row. Without `man` a line
-'skipped: docs: WHY' stands for the manual page.
+of the version, each picture, the packages, the toolchain, each status, word and example of the manual pages, each option of
+a completion and each question to that of bash, the text of the tables, the headings, each crate's page, the widths of each
+crate, each language, each command, twice, each one that builds unproved, those by a release, and each row. Without `man` a line
+'skipped: docs: WHY' stands for the manual pages.
 """
 import fcntl
 import glob
@@ -47,6 +53,7 @@ import termios
 import time
 
 import edits
+import locnum_pages
 
 ROOT = os.path.dirname(os.path.dirname(os.path.abspath(__file__)))
 sys.dont_write_bytecode = True
@@ -67,8 +74,8 @@ LANGUAGES = {
 }
 # Where Debian's package unicode-cldr-core has a release of CLDR.
 RELEASE = "/usr/share/unicode/cldr"
-# The command that builds the program unproved, and what it writes.
-FIRST_COMMAND = re.compile(r"^```sh\n([^\n]*\brt try\b[^\n]*)\n```$.*?^```text\n(.*?)^```$", flags=re.M | re.S)
+# The commands that build a program unproved, and what they write.
+UNPROVED_COMMAND = re.compile(r"^```sh\n([^\n]*\brt try\b[^\n]*)\n```$.*?^```text\n(.*?)^```$", flags=re.M | re.S)
 LOCALES_HEADER = "| locale | plain | short | long |"
 LOCALES_NUMBER = "1234567.8"
 LOCALES_TABLES = "tables/six_locales.json"
@@ -396,6 +403,12 @@ def judge_manual():
     judge(f'"decfmt {version}"' in read(path).split("\n", 1)[0], f"{path}: isn't of version", version)
 
 
+def judge_options():
+    """The page, the manual page and the completions of locnum say what its --help says."""
+    for held, name, told in locnum_pages.cases(REPORTS, shown_by_man if shutil.which("man") else None):
+        judge(held, name, told)
+
+
 def read_exactly(path):
     """The text of a file, the ends of its lines as they are."""
     with open(path, encoding="utf-8", newline="") as file:
@@ -526,11 +539,15 @@ def judge_commands():
         judge(re.search(r"[|<].*\brt ", line), "README.md: waits for input on a terminal:", line)
 
 
-def judge_first_command(page):
-    """README's first command builds the program unproved, and writes the lines of the block of text below it."""
-    command, wanted = FIRST_COMMAND.search(page).groups()
-    given = typed(command, minutes=20)
-    judge(given is not None and wanted in given, f"README.md: on a terminal: {command}:", given or "waits")
+def judge_first_commands(page):
+    """README's first command builds the program for reports unproved; it, and the one like it, write the lines of the block of
+    text below."""
+    found = UNPROVED_COMMAND.findall(page)
+    judge(len(found) == 2 and "crates/locnum" in found[0][0] and shell_lines("README.md")[0] == found[0][0],
+          "README.md: doesn't begin with locnum")
+    for command, wanted in found:
+        given = typed(command, minutes=20)
+        judge(given is not None and wanted in given, f"README.md: on a terminal: {command}:", given or "waits")
 
 
 def judge_release(page):
@@ -573,13 +590,14 @@ def main():
     judge_pictures()
     judge_needs(page)
     judge_manual()
+    judge_options()
     judge_sample()
     judge_english()
     judge_signs()
     judge_widths()
     judge_languages()
     judge_commands()
-    judge_first_command(page)
+    judge_first_commands(page)
     judge_release(page)
     judge_locales(page)
     print(f"{counts[True]} passed, {counts[False]} failed")
