@@ -62,7 +62,8 @@ pub(crate) fn with_text(mut lanes: [u8; LANES], place: usize, text: &[u8]) -> [u
     lanes
 }
 
-/// The lanes without the one at `place`: those behind it move up by one, and the first one goes last.
+/// The lanes without the one at `place`: those behind it move up by one, and the first one goes
+/// last.
 pub(crate) fn without_lane(lanes: [u8; LANES], place: usize) -> [u8; LANES]
     requires { place < LANES }
     ensures { result ≡ take place lanes ++ (drop (place + 1) lanes ++ take 1 lanes) }

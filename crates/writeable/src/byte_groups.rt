@@ -147,8 +147,8 @@ fn push_front(out: Vec<u8>, digits: &[u8], count: usize, characters: &[char; 10]
     }
 }
 
-/// Appends the characters of the first `count` digits, three at most: four are written, and the rest
-/// is cut off again, so that no jump asks how many there are.
+/// Appends the characters of the first `count` digits, three at most: four are written, and the
+/// rest is cut off again, so that no jump asks how many there are.
 #[inline(always)]
 fn push_first(mut out: Vec<u8>, digits: &[u8], count: usize, characters: &[char; 10]) -> Vec<u8>
     requires count { count ≤ 3 }
