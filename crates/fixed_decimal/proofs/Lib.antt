@@ -13,4 +13,5 @@ pub mod Moved
 pub mod LeftDigits
 pub mod Significands
 pub mod LaneLemmas
+pub mod LaneMoves
 pub mod ShortTexts

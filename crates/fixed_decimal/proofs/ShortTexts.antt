@@ -1,7 +1,8 @@
 -- What is read of a short text: its lanes are the text with zeros behind it.
-use Rattle.std.proofs.Common.{◌≡◌, ℕ, ◌+◌, ◌-◌, ◌<◌, ◌≤◌, List, [], ◌∷◌, ◌++◌, length, take, refl, sym, ap, ◌∙◌}
+use Rattle.std.proofs.Common.{◌≡◌, ℕ, ◌+◌, ◌-◌, ◌<◌, ◌≤◌, List, [], ◌∷◌, ◌++◌, length, take, drop, refl, sym, ap, ◌∙◌}
 use Rattle.std.proofs.Common.{subst, arith, true}
 use Rattle.std.proofs.lemmas.List.{length-take-le, take-append-le, append-nil, append_assoc, length-append, length-map, take_at, map-append}
+use Rattle.std.proofs.lemmas.List.{take-append-drop, drop-append-le}
 use Rattle.std.proofs.lemmas.List.Elements.{All-append, All-nil}
 use Rattle.std.specs.List.{prefix_len, AllPass}
 use Rattle.std.specs.Char.{is_ascii_digit}
@@ -92,3 +93,34 @@ signed_within text n s d signed is valid (t, e, r, past) =
 pub front_lanes : (text lanes rest : List ℕ) (n : ℕ) → lanes ≡ text ++ rest → n ≤ length text → take (length (take n text)) lanes ≡ take n text
 front_lanes text lanes rest n e inside =
     ap (λ (k : ℕ). take k lanes) (length-take-le n text inside) ∙ ap (take n) e ∙ take-append-le n text rest inside
+
+-- the lanes of a text have each rest of it where it stands in the text
+behind_lanes : (text lanes rest : List ℕ) (n : ℕ) → lanes ≡ text ++ rest → n ≤ length text →
+    take (length (drop n text)) (drop n lanes) ≡ drop n text
+behind_lanes text lanes rest n e inside =
+    ap (λ (l : List ℕ). take (length (drop n text)) (drop n l)) e
+    ∙ ap (take (length (drop n text))) (drop-append-le n text rest inside)
+    ∙ take_at (drop n text) rest (length (drop n text)) refl
+
+-- the lanes of a text have what stands behind its point
+pub behind_point : (text lanes rest after : List ℕ) (n : ℕ) → lanes ≡ text ++ rest → n < length text → after ≡ drop (n + 1) text →
+    take (length after) (drop (length (take n text) + 1) lanes) ≡ after
+behind_point text lanes rest after n e inside same =
+    let at : length (take n text) ≡ n = length-take-le n text (omega arith) in
+    ap (λ (l : List ℕ). take (length l) (drop (length (take n text) + 1) lanes)) same
+    ∙ ap (λ (k : ℕ). take (length (drop (n + 1) text)) (drop (k + 1) lanes)) at
+    ∙ behind_lanes text lanes rest (n + 1) e (omega arith)
+    ∙ sym same
+
+-- lanes without that of the point begin with what stands before it and behind it
+pub without_point : (before after lanes moved : List ℕ) →
+    moved ≡ take (length before) lanes ++ (drop (length before + 1) lanes ++ take 1 lanes) → take (length before) lanes ≡ before →
+    take (length after) (drop (length before + 1) lanes) ≡ after
+    → moved ≡ before ++ (after ++ (drop (length after) (drop (length before + 1) lanes) ++ take 1 lanes))
+without_point before after lanes moved e front behind =
+    let back : List ℕ = drop (length before + 1) lanes in
+    let split : back ≡ after ++ drop (length after) back =
+    sym (take-append-drop (length after) back) ∙ ap (λ (l : List ℕ). l ++ drop (length after) back) behind in
+    e ∙ ap (λ (l : List ℕ). l ++ (back ++ take 1 lanes)) front
+    ∙ ap (λ (l : List ℕ). before ++ (l ++ take 1 lanes)) split
+    ∙ ap (λ (l : List ℕ). before ++ l) (append_assoc after (drop (length after) back) (take 1 lanes))

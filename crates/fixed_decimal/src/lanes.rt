@@ -1,6 +1,6 @@
 //! Short texts, tested whole: sixteen bytes in one step.
 
-ghost use Rattle.std.specs.Prelude.{◌≡◌, ◌+◌, ◌-◌, ◌≤◌, ◌++◌, length, take, drop, replicate, ℕ};
+ghost use Rattle.std.specs.Prelude.{◌≡◌, ◌+◌, ◌-◌, ◌<◌, ◌≤◌, ◌++◌, length, take, drop, replicate, ℕ};
 ghost use Rattle.std.specs.List.{prefix_len, AllPass};
 ghost use Rattle.std.specs.Char.{is_ascii_digit};
 ghost use Rattle.fixed_decimal.specs.Text.{digit_values};
@@ -9,6 +9,9 @@ use std::simd::prelude::*;
 
 /// How many bytes are tested in one step. A decimal of as many digits takes no memory.
 pub(crate) const LANES: usize = 16;
+
+/// The place of each lane.
+const PLACES: [u8; LANES] = [0, 1, 2, 3, 4, 5, 6, 7, 8, 9, 10, 11, 12, 13, 14, 15];
 
 /// A text, and zeros behind it.
 pub(crate) fn padded(text: &[u8]) -> [u8; LANES]
@@ -57,6 +60,19 @@ pub(crate) fn with_text(mut lanes: [u8; LANES], place: usize, text: &[u8]) -> [u
 {
     lanes[place..place + text.len()].copy_from_slice(text);
     lanes
+}
+
+/// The lanes without the one at `place`: those behind it move up by one, and the first one goes
+/// last.
+pub(crate) fn without_lane(lanes: [u8; LANES], place: usize) -> [u8; LANES]
+    requires { place < LANES }
+    ensures { result ≡ take place lanes ++ (drop (place + 1) lanes ++ take 1 lanes) }
+{
+    let lanes = u8x16::from_array(lanes);
+    let before = u8x16::from_array(PLACES).simd_lt(u8x16::splat(place as u8));
+    before
+        .select(lanes, lanes.rotate_elements_left::<1>())
+        .to_array()
 }
 
 /// How many digits the lanes have from index `start` on, before the first byte that is no digit.

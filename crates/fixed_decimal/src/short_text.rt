@@ -1,13 +1,13 @@
 //! Reading short texts: all bytes are tested and turned into digits at once.
 
-ghost use Rattle.std.specs.Prelude.{◌≡◌, ◌+◌, ◌-◌, ◌<◌, ◌≤◌, ◌++◌, length, take, replicate, max, IfSome, IfNone, List, ℕ};
+ghost use Rattle.std.specs.Prelude.{◌≡◌, ◌+◌, ◌-◌, ◌<◌, ◌≤◌, ◌++◌, length, take, drop, replicate, max, IfSome, IfNone, List, ℕ};
 ghost use Rattle.std.specs.List.{AllPass};
 ghost use Rattle.std.specs.Char.{is_ascii_digit};
 ghost use Rattle.fixed_decimal.specs.Unsigned.{IsUnsigned};
 ghost use Rattle.fixed_decimal.specs.Text.{digit_values, IsNumeral, IsNumber, integer_of};
 ghost use Rattle.fixed_decimal.specs.ShortDigits.{short_number};
 
-use crate::lanes::{LANES, both_padded, digits_in, padded, values_of, with_text};
+use crate::lanes::{LANES, both_padded, digits_in, padded, values_of, without_lane};
 
 /// The digits of a short text.
 #[derive(Clone, Copy)]
@@ -67,9 +67,12 @@ fn whole(text: &[u8], lanes: &[u8]) -> ShortDigits
     }
 }
 
-/// The number with these digits before and after a point; the lanes begin with those before it.
+/// The number with these digits before and after a point; the lanes begin with those before it, and
+/// those after it stand behind the point's lane.
 fn pointed(lanes: [u8; LANES], before: &[u8], after: &[u8]) -> ShortDigits
     requires lanes { take (length before.now) lanes ≡ before.now }
+    requires behind { take (length after.now) (drop (length before.now + 1) lanes) ≡ after.now }
+    requires inside { length before.now < LANES }
     requires before_digits { AllPass is_ascii_digit before.now }
     requires after_digits { AllPass is_ascii_digit after.now }
     requires room { max 1 (length before.now) + length after.now ≤ LANES }
@@ -82,7 +85,7 @@ fn pointed(lanes: [u8; LANES], before: &[u8], after: &[u8]) -> ShortDigits
     if before.is_empty() {
         return joined(both_padded(b"0", after), b"0", after);
     }
-    joined(with_text(lanes, before.len(), after), before, after)
+    joined(without_lane(lanes, before.len()), before, after)
 }
 
 /// The number with these digits at power 0 and above, at least one, and these below power 0; the

@@ -1,6 +1,6 @@
 -- The events of digits, one by one.
 use Rattle.std.proofs.Common.{◌≡◌, ℕ, ◌+◌, ◌<◌, List, [], ◌∷◌, ◌++◌, length, take, drop, get_or, sym, ap, ◌∙◌, refl, append-nil}
-use Rattle.std.proofs.Common.{append_assoc, rules, arith}
+use Rattle.std.proofs.Common.{append_assoc, rules, arith, ◌≤◌, zero, suc}
 use Rattle.std.proofs.lemmas.Grind.{common_steps}
 use Rattle.std.proofs.lemmas.List.{drop_more, take_more, map-append, take-append-drop}
 use Rattle.std.specs.Char.{encode_utf8}
@@ -67,3 +67,48 @@ pub one_byte : (bytes : List ℕ) → length bytes ≡ 1 → bytes ≡ get_or by
 one_byte [] e = absurd (omega arith)
 one_byte (b ∷ []) e = refl
 one_byte (b ∷ c ∷ bytes) e = absurd (omega arith)
+
+-- the first of four digits, three at most, are written by their characters, each one byte
+few_bytes : (characters digits : List ℕ) (n : ℕ) → 4 ≤ length digits → n ≤ 3 →
+    ((i : ℕ) → i < 4 → get_or characters (get_or digits i 0) 0 < 128)
+    → take n (get_or characters (get_or digits 0 0) 0 ∷ get_or characters (get_or digits 1 0) 0 ∷ get_or characters (get_or digits 2 0) 0
+    ∷ get_or characters (get_or digits 3 0) 0 ∷ []) ≡ text_of (digit_events characters (take n digits))
+few_bytes characters [] n long few small = absurd (omega arith)
+few_bytes characters (a ∷ digits) zero long few small = refl
+few_bytes characters (a ∷ []) (suc n) long few small = absurd (omega arith)
+few_bytes characters (a ∷ b ∷ digits) (suc zero) long few small = rw (encode_ascii (get_or characters a 0) (small 0 (omega arith))) refl
+few_bytes characters (a ∷ b ∷ []) (suc (suc n)) long few small = absurd (omega arith)
+few_bytes characters (a ∷ b ∷ c ∷ digits) (suc (suc zero)) long few small =
+    rw (encode_ascii (get_or characters a 0) (small 0 (omega arith)), encode_ascii (get_or characters b 0) (small 1 (omega arith))) refl
+few_bytes characters (a ∷ b ∷ c ∷ digits) (suc (suc (suc zero))) long few small =
+    rw (
+      encode_ascii (get_or characters a 0) (small 0 (omega arith)),
+      encode_ascii (get_or characters b 0) (small 1 (omega arith)),
+      encode_ascii (get_or characters c 0) (small 2 (omega arith)),
+    ) refl
+few_bytes characters (a ∷ b ∷ c ∷ digits) (suc (suc (suc (suc n)))) long few small = absurd (omega arith)
+
+-- what is kept of a text and some bytes behind it
+take_behind : (n : ℕ) (xs ys : List ℕ) → take (length xs + n) (xs ++ ys) ≡ xs ++ take n ys
+take_behind n [] ys =
+    let e : 0 + n ≡ n = omega arith in
+    ap (λ (k : ℕ). take k ys) e
+take_behind n (x ∷ xs) ys =
+    let e : suc (length xs) + n ≡ suc (length xs + n) = omega arith in
+    ap (λ (k : ℕ). take k (x ∷ (xs ++ ys))) e ∙ ap (λ l. x ∷ l) (take_behind n xs ys)
+
+-- four bytes behind a text, of which the first n are kept
+four_behind : (old out1 out2 out3 out4 new : List ℕ) (a b c d n : ℕ) → out1 ≡ old ++ a ∷ [] → out2 ≡ out1 ++ b ∷ [] →
+    out3 ≡ out2 ++ c ∷ [] → out4 ≡ out3 ++ d ∷ [] → new ≡ take (length old + n) out4 → new ≡ old ++ take n (a ∷ b ∷ c ∷ d ∷ [])
+four_behind old out1 out2 out3 out4 new a b c d n e1 e2 e3 e4 e =
+    let whole : out4 ≡ old ++ (a ∷ b ∷ c ∷ d ∷ []) = rw (e4, e3, e2, e1) (simp append_assoc) in
+    e ∙ ap (take (length old + n)) whole ∙ take_behind n old (a ∷ b ∷ c ∷ d ∷ [])
+
+-- four digits written behind a text and cut back to the first n are the first n
+pub first_digits : (old out1 out2 out3 out4 new characters digits : List ℕ) (n : ℕ) → 4 ≤ length digits → n ≤ 3 →
+    ((i : ℕ) → i < 4 → get_or characters (get_or digits i 0) 0 < 128) → out1 ≡ old ++ get_or characters (get_or digits 0 0) 0 ∷ [] →
+    out2 ≡ out1 ++ get_or characters (get_or digits 1 0) 0 ∷ [] → out3 ≡ out2 ++ get_or characters (get_or digits 2 0) 0 ∷ [] →
+    out4 ≡ out3 ++ get_or characters (get_or digits 3 0) 0 ∷ [] → new ≡ take (length old + n) out4 →
+    new ≡ old ++ text_of (digit_events characters (take n digits))
+first_digits old out1 out2 out3 out4 new characters digits n long few small e1 e2 e3 e4 e =
+    four_behind old out1 out2 out3 out4 new _ _ _ _ n e1 e2 e3 e4 e ∙ ap (λ l. old ++ l) (few_bytes characters digits n long few small)

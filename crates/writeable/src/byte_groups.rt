@@ -1,6 +1,6 @@
 //! Digits in groups, as bytes: where each digit and the separator are one byte, room is asked for
 //! once.
-ghost use Rattle.std.specs.Prelude.{◌≡◌, ◌+◌, ◌*◌, ◌<◌, ◌≤◌, ◌∷◌, ◌++◌, [], All, IsTrue, OnOk, length, vec_len, vec_capacity};
+ghost use Rattle.std.specs.Prelude.{◌≡◌, ◌+◌, ◌*◌, ◌<◌, ◌≤◌, ◌∷◌, ◌++◌, [], All, IsTrue, OnOk, length, take, vec_len, vec_capacity};
 ghost use Rattle.writeable.specs.Events.{digit_events, text_of};
 ghost use Rattle.writeable.specs.Groups.{cut, joined, group_texts};
 
@@ -87,8 +87,9 @@ fn push_thousands(
     ensures { result.items ≡ out.items
         ++ joined (separator ∷ []) (group_texts characters.now (cut 3 3 digits.now)) }
 {
-    let (first, mut rest) = digits.split_at(first_group(digits.len(), THOUSANDS, THOUSANDS));
-    out = push_ascii(out, first, characters);
+    let first = first_group(digits.len(), THOUSANDS, THOUSANDS);
+    out = push_front(out, digits, first, characters);
+    let mut rest = digits.split_at(first).1;
     'groups: while rest.len() >= THOUSANDS {
         let (group, after) = rest.split_at(THOUSANDS);
         out.push_reserved(separator);
@@ -123,6 +124,49 @@ fn push_sizes(
         out = push_ascii(out, group, characters);
         rest = after;
     }
+    out
+}
+
+/// Appends the characters of the first `count` digits, three at most.
+#[inline(always)]
+fn push_front(out: Vec<u8>, digits: &[u8], count: usize, characters: &[char; 10]) -> Vec<u8>
+    requires count { count ≤ 3 }
+    requires inside { count ≤ length digits.now }
+    requires below_ten { All (λ d. d < 10) digits.now }
+    requires ascii { All (λ c. c < 128) characters.now }
+    requires room { vec_len out + 2 * length digits.now ≤ vec_capacity out }
+    ensures items { result.items ≡ out.items
+        ++ text_of (digit_events characters.now (take count digits.now)) }
+    ensures len { vec_len result ≡ vec_len out + count }
+    ensures capacity { vec_capacity result ≡ vec_capacity out }
+{
+    if digits.len() > THOUSANDS {
+        push_first(out, digits, count, characters)
+    } else {
+        push_ascii(out, digits.split_at(count).0, characters)
+    }
+}
+
+/// Appends the characters of the first `count` digits, three at most: four are written, and the
+/// rest is cut off again, so that no jump asks how many there are.
+#[inline(always)]
+fn push_first(mut out: Vec<u8>, digits: &[u8], count: usize, characters: &[char; 10]) -> Vec<u8>
+    requires count { count ≤ 3 }
+    requires four { 4 ≤ length digits.now }
+    requires below_ten { All (λ d. d < 10) digits.now }
+    requires ascii { All (λ c. c < 128) characters.now }
+    requires room { vec_len out + 4 ≤ vec_capacity out }
+    ensures items { result.items ≡ out.items
+        ++ text_of (digit_events characters.now (take count digits.now)) }
+    ensures len { vec_len result ≡ vec_len out + count }
+    ensures capacity { vec_capacity result ≡ vec_capacity out }
+{
+    let end = out.len() + count;
+    out.push_reserved(characters[digits[0] as usize] as u8);
+    out.push_reserved(characters[digits[1] as usize] as u8);
+    out.push_reserved(characters[digits[2] as usize] as u8);
+    out.push_reserved(characters[digits[3] as usize] as u8);
+    out.truncate(end);
     out
 }
 

@@ -5,7 +5,7 @@ use Rattle.std.specs.List.{prefix_len}
 use Rattle.std.specs.Char.{is_ascii_digit}
 use Rattle.fixed_decimal.specs.Text.{digit_values}
 use Rattle.fixed_decimal.proofs.Numerals.{pointed, pointed_passes, has_point_at, has_fraction_at, fraction_passes_at}
-use Rattle.fixed_decimal.proofs.ShortTexts.{front_lanes, all_digits, whole_number}
+use Rattle.fixed_decimal.proofs.ShortTexts.{front_lanes, behind_point, all_digits, whole_number}
 use Rattle.fixed_decimal.proofs.short_text.short_digits.Goals as goal
 use Rattle.fixed_decimal.proofs.short_text.short_digits.Goals.{else-text-count-eq46-via-then-text-count-eq46+then-not-is_empty+else-digits_in-after}
 use Rattle.fixed_decimal.proofs.short_text.short_digits.Goals.{else-text-count-eq46-via-then-text-count-eq46+else-not-is_empty}
@@ -68,3 +68,8 @@ returns-else-text-count-eq46-clause-none c before after is =
 
 pub pointed-requires-clause-lanes : goal.pointed-requires-clause-lanes
 pointed-requires-clause-lanes c = front_lanes c.args.text.now _ _ c.digits_in-count.result c.padded-lanes.ensures (omega arith)
+
+pub pointed-requires-clause-behind : goal.pointed-requires-clause-behind
+pointed-requires-clause-behind c =
+    behind_point c.args.text.now _ _ _ c.digits_in-count.result c.padded-lanes.ensures (omega arith)
+    (take_rest c.args.text.now (c.digits_in-count.result + 1))

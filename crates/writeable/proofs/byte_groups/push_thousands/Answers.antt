@@ -20,21 +20,20 @@ pub groups-init : goal.groups-init
 groups-init c =
     let ds = c.args.digits.now in
     let cs = c.args.characters.now in
-    let n = c.first_group.result in
-    let step = first_of (λ g. text_of (digit_events cs g)) (c.args.separator ∷ []) 3 3 ds n refl (omega arith) (omega arith) c.first_group.ensures in
-    let front = rw c.split_at.ensures.front at c.push_ascii-out.ensures.items in
+    let n = c.first_group-first.result in
+    let step = first_of (λ g. text_of (digit_events cs g)) (c.args.separator ∷ []) 3 3 ds n refl (omega arith) (omega arith) c.first_group-first.ensures in
     record {
       due = rw c.split_at.ensures.back step.1;
       below_ten = rw c.split_at.ensures.back (All-drop (λ d. d < 10) n ds c.requires.below_ten);
       room = omega (
         arith,
         c.requires.room,
-        c.push_ascii-out.ensures.len,
-        c.push_ascii-out.ensures.capacity,
+        c.push_front-out.ensures.len,
+        c.push_front-out.ensures.capacity,
         c.split_at.ensures.front_len,
         c.split_at.ensures.back_len,
       );
-      rest_ends = rw c.split_at.ensures.back (texts_begin _ _ cs (take n ds) _ _ front step.0);
+      rest_ends = rw c.split_at.ensures.back (texts_begin _ _ cs (take n ds) _ _ c.push_front-out.ensures.items step.0);
     }
 
 pub groups-preserved : goal.groups-preserved
