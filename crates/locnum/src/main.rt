@@ -11,10 +11,10 @@ mod nearest;
 use clap::ArgMatches;
 use command::{command, given};
 use english::ENGLISH;
-use locnum_forms::{Form, StartError};
+use locnum_forms::{Form, StartError, Wanted};
 use locnum_lines::{LineSettings, Refusals, Report, RunError, run};
 use locnum_options::{OptionFault, Options, parse_options};
-use nearest::names_for;
+use nearest::{Names, names_for};
 use std::alloc::AllocError;
 use std::io::ErrorKind;
 use std::process::ExitCode;
@@ -133,26 +133,44 @@ fn run_given(
     }
 }
 
-/// Tells which data the tables lack, and names of the same language that they have.
-fn tell_no_data(rt: &HostRuntime, matches: &ArgMatches<'_>, file: &[u8]) -> Failure {
-    let locale = matches.get_str("locale").unwrap_or("en");
-    let text = str::from_utf8(file).unwrap_or("");
-    let _ = match names_for(rt.alloc(), text, locale) {
-        None => rt.eprintln("locnum: --tables: no data"),
-        Some(names) if names.has_locale => {
-            eprintln!(rt; "locnum: --tables: {locale} has no data for this")
-        }
-        Some(names) if names.nearest.is_empty() => {
-            eprintln!(rt; "locnum: --tables: no locale {locale}")
-        }
-        Some(names) => {
-            eprintln!(rt;
-                "locnum: --tables: no locale {locale}; there are {}",
-                names.nearest
-            )
-        }
+/// Tells what tables without data for a locale have.
+fn tell_names(rt: &HostRuntime, locale: &str, names: &Names) {
+    let nearest = names.nearest.as_str();
+    let _ = if names.has_locale {
+        eprintln!(rt; "locnum: --tables: {locale} has no data for this")
+    } else if nearest.is_empty() {
+        eprintln!(rt; "locnum: --tables: no locale {locale}")
+    } else {
+        eprintln!(rt; "locnum: --tables: no locale {locale}; there are {nearest}")
     };
-    Failure::Told
+}
+
+/// Tells that the tables lack data, and which names of the same language they have.
+fn tell_no_data(rt: &HostRuntime, locale: &str, file: &[u8]) {
+    match str::from_utf8(file) {
+        Ok(text) => match names_for(rt.alloc(), text, locale) {
+            Some(names) => tell_names(rt, locale, &names),
+            None => tell(rt, Failure::Tables(StartError::NoData)),
+        },
+        Err(_) => tell(rt, Failure::Tables(StartError::NoData)),
+    }
+}
+
+/// The form that is wanted, by the bytes of the tables.
+fn form_of(
+    rt: &HostRuntime,
+    matches: &ArgMatches<'_>,
+    wanted: &Wanted<'_>,
+    file: &[u8],
+) -> Result<Form, Failure> {
+    match Form::make(rt.alloc(), wanted, file) {
+        Ok(form) => Ok(form),
+        Err(StartError::NoData) => {
+            tell_no_data(rt, matches.get_str("locale").unwrap_or("en"), file);
+            Err(Failure::Told)
+        }
+        Err(error) => Err(Failure::Tables(error)),
+    }
 }
 
 /// Runs what the words ask for.
@@ -162,11 +180,7 @@ fn run_asked(rt: &HostRuntime, matches: &ArgMatches<'_>) -> Result<(Refusals, Re
         Err(fault) => return Err(Failure::Options(fault)),
     };
     let file = tables(rt, matches.get_str("tables"))?;
-    let form = match Form::make(rt.alloc(), &wanted, &file) {
-        Ok(form) => form,
-        Err(StartError::NoData) => return Err(tell_no_data(rt, matches, &file)),
-        Err(error) => return Err(Failure::Tables(error)),
-    };
+    let form = form_of(rt, matches, &wanted, &file)?;
     let report = run_given(rt, &lines, &form, matches)?;
     Ok((lines.refusals, report))
 }
