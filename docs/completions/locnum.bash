@@ -23,7 +23,7 @@ _locnum() {
     --style) mapfile -t COMPREPLY < <(compgen -W 'plain short long' -- "$word") ;;
     --grouping) mapfile -t COMPREPLY < <(compgen -W 'auto never always min2' -- "$word") ;;
     --sign) mapfile -t COMPREPLY < <(compgen -W 'auto always never except-zero negative' -- "$word") ;;
-    --width) mapfile -t COMPREPLY < <(compgen -W 'short narrow long' -- "$word") ;;
+    --width) mapfile -t COMPREPLY < <(compgen -W 'short narrow name long' -- "$word") ;;
     --invalid) mapfile -t COMPREPLY < <(compgen -W 'abort fail warn ignore' -- "$word") ;;
     -l | --locale | --system | --fraction | --currency | --unit | -d | --delimiter | --field) ;;
     *) [[ $word != -* || ${COMP_WORDS[at - 1]} = = ]] || mapfile -t COMPREPLY < <(compgen -W "$options" -- "$word") ;;

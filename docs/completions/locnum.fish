@@ -8,7 +8,7 @@ complete -c locnum -l grouping -x -a 'auto never always min2' -d 'separators: au
 complete -c locnum -l fraction -x -d 'how many fraction digits'
 complete -c locnum -l sign -x -a 'auto always never except-zero negative' -d 'auto, always, never, except-zero or negative'
 complete -c locnum -l currency -x -d 'amounts of a currency, such as EUR'
-complete -c locnum -l width -x -a 'short narrow long' -d 'short or narrow symbols; long, short or narrow units'
+complete -c locnum -l width -x -a 'short narrow name long' -d 'short or narrow symbols, or name; long, short or narrow units'
 complete -c locnum -l unit -x -d 'numbers with a unit of the tables, such as kilometer'
 complete -c locnum -s d -l delimiter -x -d 'the byte between fields, instead of blanks'
 complete -c locnum -l field -x -d 'the fields that are numbers, as 2, 2-4, 1,3- or -; 1 without it'
