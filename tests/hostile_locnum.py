@@ -37,7 +37,7 @@ LISTS = ["1", "2", "2-", "1-3", "-2", "-", "1,3", "4-,1", "3,3", "18446744073709
 GOOD = {
     "tables": [], "locale": ["en", "en", "de", "x" * 63], "system": ["latn", "arab", "00000000"],
     "style": ["plain", "short", "long"], "grouping": GROUPINGS, "fraction": ["0", "0", "2", "255", "0..3", "1..1", "007"],
-    "sign": SIGNS, "currency": ["USD", "EUR", "JPY", "CHF"], "width": ["short", "narrow", "long"],
+    "sign": SIGNS, "currency": ["USD", "EUR", "JPY", "CHF"], "width": ["short", "narrow", "long", "name"],
     "unit": ["kilometer", "", "é"], "delimiter": [";", " ", "\t", "-", "=", "\x7f", "5"], "field": LISTS, "invalid": MODES,
     "header": ["0", "1", "5", "18446744073709551615", "0002"],
 }
@@ -59,7 +59,8 @@ LONG = [b"9" * LIMIT, b"." + b"5" * LIMIT, *[b"9" * LIMIT + b".5"] * 4, b"9" * (
 # Words that are put among the others, most of them faults of the command line.
 PUT_IN = [["--unknown"], ["-q"], ["-zq"], ["---cash"], ["--cash=1"], ["--Cash"], ["--head"], ["-" + "x" * 5000],
           ["--" + "x" * 5000], ["-.5"], ["--help"], ["-h"], ["--version"], ["-V"], ["-zV"], ["-5x"],
-          ["--percent", "--percent"], ["-z", "--zero-terminated"], ["--sign", "auto", "--sign=auto"], [b"\xff"],
+          ["--currency=USD", "--accounting", "--width=name"], ["--percent", "--percent"], ["-z", "--zero-terminated"],
+          ["--sign", "auto", "--sign=auto"], [b"\xff"],
           [b"--field=\xc3"], ["--locale", b"e\x80n"], ["--="], [b"\xc3\xa9\xe9"]]
 FAULTS = {
     "locale": "--locale: not a locale",
@@ -70,7 +71,8 @@ FAULTS = {
     "together": "--style, --currency, --percent and --unit: more than one of them",
     "alone": "--accounting and --cash want --currency, and --width wants --currency or --unit",
     "currency": "--currency: not three capital letters",
-    "width": "--width: short or narrow for money; long, short or narrow for units",
+    "accounting": "--accounting: not with --width name",
+    "width": "--width: short, narrow or name for money; long, short or narrow for units",
     "style": "--style: neither plain, short nor long",
     "delimiter": "--delimiter: not a single byte",
     "field": "--field: not a list of N, N-, N-M, -M or -, from 1 on",
@@ -179,7 +181,9 @@ def kind_of(given):
         raise Ended("alone")
     if "currency" in given and not re.fullmatch("[A-Z]{3}", given["currency"]):
         raise Ended("currency")
-    if given.get("width", "short") not in (["short", "narrow"] if "currency" in given else ["short", "narrow", "long"]):
+    if "currency" in given and "accounting" in given and given.get("width") == "name":
+        raise Ended("accounting")
+    if given.get("width", "short") not in (["short", "narrow", "name"] if "currency" in given else ["short", "narrow", "long"]):
         raise Ended("width")
     if given.get("style", "plain") not in ("plain", "short", "long"):
         raise Ended("style")
