@@ -99,6 +99,20 @@ fn joined(first: Report, second: Report) -> Report {
     }
 }
 
+/// Runs a word as a line.
+fn run_word(
+    rt: &HostRuntime,
+    settings: &LineSettings,
+    form: &Form,
+    word: &str,
+) -> Result<Report, Failure> {
+    if word.is_empty() {
+        // an input without a byte has no line
+        return run_input(rt, settings, form, &mut [settings.end].as_slice());
+    }
+    run_input(rt, settings, form, &mut word.as_bytes())
+}
+
 /// Runs the numbers among the words, each as a line of its own.
 fn run_words(
     rt: &HostRuntime,
@@ -111,7 +125,7 @@ fn run_words(
         is_stopped: false,
     };
     for word in words {
-        let ran = run_input(rt, settings, form, &mut word.as_bytes())?;
+        let ran = run_word(rt, settings, form, word)?;
         report = joined(report, ran);
         if report.is_stopped {
             return Ok(report);
@@ -120,16 +134,19 @@ fn run_words(
     Ok(report)
 }
 
-/// Runs the numbers among the words, or else standard input.
+/// Runs the numbers among the words, which have no header, or else standard input.
 fn run_given(
     rt: &HostRuntime,
-    settings: &LineSettings,
+    mut settings: LineSettings,
     form: &Form,
     matches: &ArgMatches<'_>,
 ) -> Result<Report, Failure> {
     match matches.get_strs("number") {
-        Some(words) => run_words(rt, settings, form, words),
-        None => run_input(rt, settings, form, &mut rt.stdin()),
+        Some(words) => {
+            settings.header = 0;
+            run_words(rt, &settings, form, words)
+        }
+        None => run_input(rt, &settings, form, &mut rt.stdin()),
     }
 }
 
@@ -173,16 +190,36 @@ fn form_of(
     }
 }
 
+/// The form that is wanted, by the tables of the words.
+fn wanted_form(
+    rt: &HostRuntime,
+    matches: &ArgMatches<'_>,
+    wanted: &Wanted<'_>,
+) -> Result<Form, Failure> {
+    let file = tables(rt, matches.get_str("tables"))?;
+    form_of(rt, matches, wanted, &file)
+}
+
+/// Runs what is asked for.
+fn run_options(
+    rt: &HostRuntime,
+    matches: &ArgMatches<'_>,
+    options: Options<'_>,
+) -> Result<(Refusals, Report), Failure> {
+    let Options { wanted, lines } = options;
+    let refusals = lines.refusals;
+    match wanted_form(rt, matches, &wanted) {
+        Ok(form) => Ok((refusals, run_given(rt, lines, &form, matches)?)),
+        Err(failure) => Err(failure),
+    }
+}
+
 /// Runs what the words ask for.
 fn run_asked(rt: &HostRuntime, matches: &ArgMatches<'_>) -> Result<(Refusals, Report), Failure> {
-    let Options { wanted, lines } = match parse_options(rt.alloc(), &given(matches)) {
-        Ok(options) => options,
-        Err(fault) => return Err(Failure::Options(fault)),
-    };
-    let file = tables(rt, matches.get_str("tables"))?;
-    let form = form_of(rt, matches, &wanted, &file)?;
-    let report = run_given(rt, &lines, &form, matches)?;
-    Ok((lines.refusals, report))
+    match parse_options(rt.alloc(), &given(matches)) {
+        Ok(options) => run_options(rt, matches, options),
+        Err(fault) => Err(Failure::Options(fault)),
+    }
 }
 
 /// Tells why the program ends early.
