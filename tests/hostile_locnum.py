@@ -8,8 +8,7 @@ their faults. The model of lines has fields, headers, what becomes of texts that
 of three, fraction digits, signs. Standard output and standard error are compared whole, but for a fault of the command line,
 of whose text the beginning is known, and for compact numbers, money and percents, of which lines are counted.
 
-Two cases aren't drawn: a header where numbers are words, and an empty word among these. The program reads each word as an
-input of its own, so that a header is each word, and an empty word has no line. The same words give the same cases. The last
+The same words give the same cases. The last
 line is 'N passed, M failed', one for each kind of input and for what has to be met in it.
 """
 import collections
@@ -26,7 +25,7 @@ HERE = os.path.dirname(os.path.abspath(__file__))
 LIMIT = 32768
 # Options with a text and without one, and their letters.
 TEXTS = ["tables", "locale", "system", "style", "grouping", "fraction", "sign", "currency", "width", "unit", "delimiter",
-         "field", "invalid"]
+         "field", "padding", "invalid"]
 FLAGS = ["accounting", "cash", "percent", "zero-terminated"]
 LETTERS = {"t": "tables", "l": "locale", "d": "delimiter", "z": "zero-terminated", "h": "help", "V": "version"}
 GROUPINGS = ["auto", "never", "always", "min2"]
@@ -37,8 +36,9 @@ LISTS = ["1", "2", "2-", "1-3", "-2", "-", "1,3", "4-,1", "3,3", "18446744073709
 GOOD = {
     "tables": [], "locale": ["en", "en", "de", "x" * 63], "system": ["latn", "arab", "00000000"],
     "style": ["plain", "short", "long"], "grouping": GROUPINGS, "fraction": ["0", "0", "2", "255", "0..3", "1..1", "007"],
-    "sign": SIGNS, "currency": ["USD", "EUR", "JPY", "CHF"], "width": ["short", "narrow", "long"],
+    "sign": SIGNS, "currency": ["USD", "EUR", "JPY", "CHF"], "width": ["short", "narrow", "long", "name"],
     "unit": ["kilometer", "", "é"], "delimiter": [";", " ", "\t", "-", "=", "\x7f", "5"], "field": LISTS, "invalid": MODES,
+    "padding": ["1", "-1", "12", "-12", "007", "300", "-65535", "65535"],
     "header": ["0", "1", "5", "18446744073709551615", "0002"],
 }
 BAD = {
@@ -48,6 +48,7 @@ BAD = {
     "sign": ["", "plus", "except_zero"], "currency": ["", "usd", "US", "USDD", "ÜSD"], "width": ["", "wide"],
     "unit": [], "delimiter": ["", "ab", "é", ";;", ";" * 5000],
     "field": ["", "0", "a", "2-1", "1,", ",1", "1--2", "1 2", "-0", "18446744073709551616", "1," * 3000, "--", "+1"],
+    "padding": ["", "0", "-0", "-", "--1", "+1", "65536", "x", "9" * 5000, "1-"],
     "invalid": ["", "Abort", "stop"], "header": ["", "x", "-1", "1.5", "18446744073709551616", "9" * 5000],
     "tables": ["", "none.json", "/", "x" * 5000],
 }
@@ -59,7 +60,8 @@ LONG = [b"9" * LIMIT, b"." + b"5" * LIMIT, *[b"9" * LIMIT + b".5"] * 4, b"9" * (
 # Words that are put among the others, most of them faults of the command line.
 PUT_IN = [["--unknown"], ["-q"], ["-zq"], ["---cash"], ["--cash=1"], ["--Cash"], ["--head"], ["-" + "x" * 5000],
           ["--" + "x" * 5000], ["-.5"], ["--help"], ["-h"], ["--version"], ["-V"], ["-zV"], ["-5x"],
-          ["--percent", "--percent"], ["-z", "--zero-terminated"], ["--sign", "auto", "--sign=auto"], [b"\xff"],
+          ["--currency=USD", "--accounting", "--width=name"], ["--percent", "--percent"], ["-z", "--zero-terminated"],
+          ["--sign", "auto", "--sign=auto"], [b"\xff"],
           [b"--field=\xc3"], ["--locale", b"e\x80n"], ["--="], [b"\xc3\xa9\xe9"]]
 FAULTS = {
     "locale": "--locale: not a locale",
@@ -70,14 +72,18 @@ FAULTS = {
     "together": "--style, --currency, --percent and --unit: more than one of them",
     "alone": "--accounting and --cash want --currency, and --width wants --currency or --unit",
     "currency": "--currency: not three capital letters",
-    "width": "--width: short or narrow for money; long, short or narrow for units",
+    "accounting": "--accounting: not with --width name",
+    "width": "--width: short, narrow or name for money; long, short or narrow for units",
     "style": "--style: neither plain, short nor long",
     "delimiter": "--delimiter: not a single byte",
     "field": "--field: not a list of N, N-, N-M, -M or -, from 1 on",
     "header": "--header: not a count of lines",
+    "padding": "--padding: neither N nor -N, from 1 to 65535",
     "invalid": "--invalid: neither abort, fail, warn nor ignore",
     "file": "--tables: the file can't be read",
-    "data": "--tables: no data",
+    "locale without data": "--tables: no locale de",
+    "long locale without data": f"--tables: no locale {'x' * 63}",
+    "data": "--tables: en has no data for this",
 }
 COMMAND, HELP, VERSION, NO_TEXT = "a fault of the command line", "help", "version", "words that aren't text"
 ENDINGS = [*FAULTS, COMMAND, HELP, VERSION, NO_TEXT, "status 0", "status 2"]
@@ -148,7 +154,7 @@ def parsed(words):
 
 # The model of options: the page of locnum_options.
 
-Settings = collections.namedtuple("Settings", "kind grouping fraction sign delimiter fields header end mode")
+Settings = collections.namedtuple("Settings", "kind grouping fraction sign delimiter fields header end mode columns")
 
 
 def number_named(text):
@@ -171,6 +177,12 @@ def range_named(text):
     return tuple(ends) if None not in ends and 1 <= ends[0] <= ends[1] else None
 
 
+def columns_named(text):
+    """The columns of a text, below 0 where the number stands before its spaces, or None."""
+    count = number_named(text.removeprefix("-"))
+    return (-count if text.startswith("-") else count) if count and count <= 65535 else None
+
+
 def kind_of(given):
     """Which kind of numbers is asked for."""
     if sum(name in given for name in ("style", "currency", "percent", "unit")) > 1:
@@ -179,7 +191,9 @@ def kind_of(given):
         raise Ended("alone")
     if "currency" in given and not re.fullmatch("[A-Z]{3}", given["currency"]):
         raise Ended("currency")
-    if given.get("width", "short") not in (["short", "narrow"] if "currency" in given else ["short", "narrow", "long"]):
+    if "currency" in given and "accounting" in given and given.get("width") == "name":
+        raise Ended("accounting")
+    if given.get("width", "short") not in (["short", "narrow", "name"] if "currency" in given else ["short", "narrow", "long"]):
         raise Ended("width")
     if given.get("style", "plain") not in ("plain", "short", "long"):
         raise Ended("style")
@@ -200,16 +214,20 @@ def settings_of(given):
     wanted("delimiter", lambda text: len(text.encode()) == 1)
     wanted("field", lambda text: all(range_named(part) for part in text.split(",")))
     wanted("header", lambda text: number_named(text) is not None)
+    wanted("padding", columns_named)
     wanted("invalid", lambda text: text in MODES)
     if "tables" in given:
         raise Ended("file")
-    if given.get("locale", "en") != "en" or "unit" in given or given.get("currency", "USD") not in ("USD", "EUR", "GBP", "JPY"):
+    if given.get("locale", "en") != "en":
+        raise Ended("locale without data" if given["locale"] == "de" else "long locale without data")
+    if "unit" in given or given.get("currency", "USD") not in ("USD", "EUR", "GBP", "JPY"):
         raise Ended("data")
     return Settings(
         kind, given.get("grouping", "auto"), fraction_named(given["fraction"]) if "fraction" in given else None,
         given.get("sign", "auto"), given["delimiter"].encode() if "delimiter" in given else None,
         [range_named(part) for part in given.get("field", "1").split(",")], int(given.get("header", "0")),
-        b"\0" if "zero-terminated" in given else b"\n", given.get("invalid", "abort"))
+        b"\0" if "zero-terminated" in given else b"\n", given.get("invalid", "abort"),
+        columns_named(given.get("padding", "")))
 
 
 # The model of numbers: plain English.
@@ -285,11 +303,14 @@ class Run:
         before = text[:len(text) - len(text.lstrip(b" \t"))]
         number = text[len(before):].rstrip(b" \t\r")
         behind = text[len(before) + len(number):]
-        self.output.append(before)
         written, why = shown(number, self.settings)
+        columns = self.settings.columns
         if why is None:
-            self.output += [written, behind]
+            spaces = b" " * (abs(columns or 0) - len(written))
+            in_front = before if columns is None else spaces if columns > 0 else b""
+            self.output += [in_front, written, spaces if columns and columns < 0 else b"", behind]
             return
+        self.output.append(before)
         self.is_refused = True
         self.met.append(why.decode())
         if self.settings.mode != "ignore":
@@ -344,8 +365,10 @@ def answer_of(words, given, met):
         error = f"locnum: {FAULTS[name]}\n" if name in FAULTS else "error: " if name == COMMAND else ""
         return None, Answer(0 if name in (HELP, VERSION) else 1, output, error.encode())
     run = Run(settings, met)
+    if numbers:
+        run.left = 0
     for number in numbers:
-        run.lines(number.encode())
+        run.lines(number.encode() or settings.end)
     answer = (run if numbers else run.lines(given)).answer()
     met.append(f"status {answer.status}")
     return settings, answer
@@ -434,17 +457,17 @@ def some_words(rng):
     if rng.random() < 0.1:
         words.append([rng.choice(["--field", "-d", "-t", "--style", "--invalid"])])
     words = [word for group in words for word in group]
-    if "header" not in names and fault != "header" and rng.random() < 0.4:
+    if rng.random() < 0.4:
         numbers = [a_number(rng) for _ in range(rng.randint(1, 4))]
         words += [number for number in numbers if re.fullmatch(r"-?[0-9]+|[0-9].*", number)]
         if rng.random() < 0.3:
-            words += ["--", *rng.choice([["-z"], ["--help", "5"], ["-x", "-5", "--"], ["x" * 9000], ["\u0665", "+5"]])]
+            words += ["--", *rng.choice([["-z"], ["--help", "5"], ["-x", "-5", "--"], ["x" * 9000], ["\u0665", "+5"], ["", "5"]])]
     return words
 
 
 def some_settings(rng):
     """Words that are accepted, for plain numbers, and what cuts fields and lines by them."""
-    names = [name for name in ("grouping", "fraction", "sign", "delimiter", "field", "invalid", "header") if rng.random() < 0.5]
+    names = [name for name in ("grouping", "fraction", "sign", "delimiter", "field", "padding", "invalid", "header") if rng.random() < 0.5]
     given = {name: rng.choice(GOOD[name]) for name in names}
     if rng.random() < 0.2:
         given["zero-terminated"] = True

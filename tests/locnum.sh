@@ -59,11 +59,16 @@ lines 0 'a\nb\n1234' 'a\nb\n1,234\n' '' --header=2
 lines 0 '1234\00005678\0000' '1,234\00005,678\0000' '' -z
 lines 0 '1234' '1,234\n' ''
 lines 0 '' '' ''
+writes '1,234\n5,678\n' --header 1234 5678
+writes '1,234\n' --header=9 1234
 lines 2 '1234\nx\n5\n' '1,234\n' 'locnum: x: not a decimal'
 lines 2 '1234\nx\n5\n' '1,234\nx\n5\n' 'locnum: x: not a decimal' --invalid fail
 lines 0 'x\n5\n' 'x\n5\n' 'locnum: x: not a decimal' --invalid warn
 lines 0 'x\n5\n' 'x\n5\n' '' --invalid ignore
 lines 2 '\n' '' 'locnum: : not a decimal'
+"$program" '' >"$folder/out" 2>"$folder/err"
+status=$?
+judge 'an empty word' 2 '' 'locnum: : not a decimal'
 refuses 'locnum: --locale: not a locale' -l 'a b'
 refuses 'locnum: --tables: no locale de' -l de
 refuses 'locnum: --tables: no locale en-XX; there are en' -l en-XX

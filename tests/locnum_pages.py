@@ -10,8 +10,8 @@ import subprocess
 PAGE = "crates/locnum/README.md"
 MANUAL = "docs/locnum.1"
 BASH, ZSH, FISH = "docs/completions/locnum.bash", "docs/completions/_locnum", "docs/completions/locnum.fish"
-# The options whose texts are words that --help names.
-WORDED = ["style", "grouping", "sign", "width", "invalid"]
+# The options whose texts are words that --help names, each with the words beside which these are taken.
+WORDED = {"style": [[]], "grouping": [[]], "sign": [[]], "width": [["--currency=USD"], ["--unit=x"]], "invalid": [[]]}
 # What an option takes: no text, one behind `=` or none, the name of a file, any other text.
 NONE, OPTIONAL, FILE, TEXT = "no text", "perhaps a text", "a file", "a text"
 
@@ -24,20 +24,21 @@ def read(path):
         return file.read()
 
 
-def words_told(told):
-    """The words of all lists like `a, b or c` in a text, each once."""
-    lists = re.findall(r"((?:[\w-]+, )*[\w-]+) or ([\w-]+)", told)
-    return sorted({word for front, last in lists for word in [*front.split(", "), last]})
+def is_taken(program, name, word):
+    """Whether the program doesn't refuse this word of an option."""
+    runs = [subprocess.run([program, f"--{name}={word}", *beside, "5"], capture_output=True, timeout=60) for beside in WORDED[name]]
+    return any(not run.stderr.startswith(f"locnum: --{name}: ".encode()) for run in runs)
 
 
-def options_told(helped):
-    """The options of what --help writes, by their names."""
+def options_told(program):
+    """The options that --help tells, by their names. Their words are those of its text that the program takes."""
+    helped = subprocess.run([program, "--help"], stdout=subprocess.PIPE, timeout=60).stdout.decode()
     options = {}
     for line in helped.partition("\nOptions:\n")[2].splitlines():
         letter, name, given, needed, perhaps, told = re.fullmatch(
             r" +(?:-(\w), )?--([\w-]+)( <([^>]*)>|\[=<([^>]*)>\])? +(\S.*)", line).groups()
         takes = NONE if not given else OPTIONAL if perhaps else FILE if needed == "FILE" else TEXT
-        words = words_told(told) if name in WORDED else []
+        words = [word for word in sorted(set(re.findall(r"[\w-]+", told))) if name in WORDED and is_taken(program, name, word)]
         options[name] = Option(letter, name, takes, needed or perhaps, words, told)
     return options
 
@@ -219,8 +220,7 @@ def bash_cases(options):
 
 def cases(program, manual_lines):
     """Whether each case holds, its name, and what is told where it doesn't; manual_lines shows a manual page, or is None."""
-    helped = subprocess.run([program, "--help"], stdout=subprocess.PIPE, timeout=60).stdout.decode()
-    options = options_told(helped)
+    options = options_told(program)
     yield set(WORDED) <= set(options), "locnum --help: hasn't the options", ", ".join(WORDED)
     yield from page_cases(options)
     if manual_lines:

@@ -105,6 +105,9 @@ def a_case(number, seed, locale):
         words += [rng.choice(["-z", "--zero-terminated"])]
     if rng.random() < 0.6:
         words += ["--grouping"]
+    columns = rng.choice([None, None, None, None, 1, 8, 20, -1, -9])
+    if columns:
+        words += rng.choice([[f"--padding={columns}"], ["--padding", str(columns)]])
     is_odd = rng.random() < 0.5
     lines = [a_line(rng, delimiter, is_odd) for _ in range(rng.choice([0, 1, 2, 5, 12]))]
     is_words = len(lines) > 0 and rng.random() < 0.2
@@ -201,8 +204,6 @@ PADDED = "no delimiter: numfmt writes a number in the width of its field with th
 SPACED = "a tab that ends a field without a delimiter: numfmt writes a space"
 UNENDED = "lines of a header that end in NUL: numfmt loses their ends"
 NOT_ENDED = "a last line without its end: numfmt doesn't write one"
-HEADER = "a header where numbers are words: numfmt ignores it"
-EMPTY = "an empty word: numfmt refuses it, locnum has no line for it"
 FIELD_KINDS = {
     "a plus sign: numfmt refuses it": plus_refused,
     "blanks or a carriage return behind a number: numfmt refuses them": behind_refused,
@@ -211,7 +212,7 @@ FIELD_KINDS = {
     "blanks in front of a number with a delimiter: numfmt drops them": blanks_dropped,
     "blanks in front of the text at which a run ends: numfmt doesn't write them": blanks_not_written,
 }
-KINDS = [HEADER, EMPTY, SPACED, *FIELD_KINDS, PADDED, UNENDED, NOT_ENDED]
+KINDS = [SPACED, *FIELD_KINDS, PADDED, UNENDED, NOT_ENDED]
 OTHER = "any other"
 
 
@@ -224,7 +225,9 @@ def length_of(program, number, is_grouped):
 
 def padded(program, case, field, old, index):
     """A number behind as many blanks as numfmt writes in front of it."""
-    if case.delimiter or is_refused(field) or index == 1 and not old.before:
+    # a width that is asked for takes its place
+    is_asked = any(str(word).startswith("--padding") for word in case.words)
+    if case.delimiter or is_asked or is_refused(field) or index == 1 and not old.before:
         return field
     length = length_of(program, field.text, "--grouping" in case.words and case.locale != "C")
     return field._replace(before=b" " * (len(old.before + old.text) - length))
@@ -244,11 +247,8 @@ def changed_field(program, case, kinds, field, index):
 
 def changed(program, case, kinds):
     """A case with what these kinds change of it."""
-    if HEADER in kinds and case.is_words:
-        case = case._replace(words=[word for word in case.words if not str(word).startswith("--header")], header=0)
-    lines = [[Field(b"", MARK, b"", b"")] if EMPTY in kinds and case.is_words and not line_of(line) else line
-             for line in case.lines]
-    front, lines = (lines, []) if case.is_words and case.header else (lines[:case.header], lines[case.header:])
+    header = 0 if case.is_words else case.header
+    front, lines = case.lines[:header], case.lines[header:]
     lines = [[changed_field(program, case, kinds, field, place + 1) for place, field in enumerate(line)] for line in lines]
     return case._replace(lines=front + lines)
 

@@ -11,10 +11,10 @@ mod nearest;
 use clap::ArgMatches;
 use command::{command, given};
 use english::ENGLISH;
-use locnum_forms::{Form, StartError};
+use locnum_forms::{Form, StartError, Wanted};
 use locnum_lines::{LineSettings, Refusals, Report, RunError, run};
 use locnum_options::{OptionFault, Options, parse_options};
-use nearest::names_for;
+use nearest::{Names, names_for};
 use std::alloc::AllocError;
 use std::io::ErrorKind;
 use std::process::ExitCode;
@@ -99,6 +99,20 @@ fn joined(first: Report, second: Report) -> Report {
     }
 }
 
+/// Runs a word as a line.
+fn run_word(
+    rt: &HostRuntime,
+    settings: &LineSettings,
+    form: &Form,
+    word: &str,
+) -> Result<Report, Failure> {
+    if word.is_empty() {
+        // an input without a byte has no line
+        return run_input(rt, settings, form, &mut [settings.end].as_slice());
+    }
+    run_input(rt, settings, form, &mut word.as_bytes())
+}
+
 /// Runs the numbers among the words, each as a line of its own.
 fn run_words(
     rt: &HostRuntime,
@@ -111,7 +125,7 @@ fn run_words(
         is_stopped: false,
     };
     for word in words {
-        let ran = run_input(rt, settings, form, &mut word.as_bytes())?;
+        let ran = run_word(rt, settings, form, word)?;
         report = joined(report, ran);
         if report.is_stopped {
             return Ok(report);
@@ -120,55 +134,92 @@ fn run_words(
     Ok(report)
 }
 
-/// Runs the numbers among the words, or else standard input.
+/// Runs the numbers among the words, which have no header, or else standard input.
 fn run_given(
     rt: &HostRuntime,
-    settings: &LineSettings,
+    mut settings: LineSettings,
     form: &Form,
     matches: &ArgMatches<'_>,
 ) -> Result<Report, Failure> {
     match matches.get_strs("number") {
-        Some(words) => run_words(rt, settings, form, words),
-        None => run_input(rt, settings, form, &mut rt.stdin()),
+        Some(words) => {
+            settings.header = 0;
+            run_words(rt, &settings, form, words)
+        }
+        None => run_input(rt, &settings, form, &mut rt.stdin()),
     }
 }
 
-/// Tells which data the tables lack, and names of the same language that they have.
-fn tell_no_data(rt: &HostRuntime, matches: &ArgMatches<'_>, file: &[u8]) -> Failure {
-    let locale = matches.get_str("locale").unwrap_or("en");
-    let text = str::from_utf8(file).unwrap_or("");
-    let _ = match names_for(rt.alloc(), text, locale) {
-        None => rt.eprintln("locnum: --tables: no data"),
-        Some(names) if names.has_locale => {
-            eprintln!(rt; "locnum: --tables: {locale} has no data for this")
-        }
-        Some(names) if names.nearest.is_empty() => {
-            eprintln!(rt; "locnum: --tables: no locale {locale}")
-        }
-        Some(names) => {
-            eprintln!(rt;
-                "locnum: --tables: no locale {locale}; there are {}",
-                names.nearest
-            )
-        }
+/// Tells what tables without data for a locale have.
+fn tell_names(rt: &HostRuntime, locale: &str, names: &Names) {
+    let nearest = names.nearest.as_str();
+    let _ = if names.has_locale {
+        eprintln!(rt; "locnum: --tables: {locale} has no data for this")
+    } else if nearest.is_empty() {
+        eprintln!(rt; "locnum: --tables: no locale {locale}")
+    } else {
+        eprintln!(rt; "locnum: --tables: no locale {locale}; there are {nearest}")
     };
-    Failure::Told
+}
+
+/// Tells that the tables lack data, and which names of the same language they have.
+fn tell_no_data(rt: &HostRuntime, locale: &str, file: &[u8]) {
+    match str::from_utf8(file) {
+        Ok(text) => match names_for(rt.alloc(), text, locale) {
+            Some(names) => tell_names(rt, locale, &names),
+            None => tell(rt, Failure::Tables(StartError::NoData)),
+        },
+        Err(_) => tell(rt, Failure::Tables(StartError::NoData)),
+    }
+}
+
+/// The form that is wanted, by the bytes of the tables.
+fn form_of(
+    rt: &HostRuntime,
+    matches: &ArgMatches<'_>,
+    wanted: &Wanted<'_>,
+    file: &[u8],
+) -> Result<Form, Failure> {
+    match Form::make(rt.alloc(), wanted, file) {
+        Ok(form) => Ok(form),
+        Err(StartError::NoData) => {
+            tell_no_data(rt, matches.get_str("locale").unwrap_or("en"), file);
+            Err(Failure::Told)
+        }
+        Err(error) => Err(Failure::Tables(error)),
+    }
+}
+
+/// The form that is wanted, by the tables of the words.
+fn wanted_form(
+    rt: &HostRuntime,
+    matches: &ArgMatches<'_>,
+    wanted: &Wanted<'_>,
+) -> Result<Form, Failure> {
+    let file = tables(rt, matches.get_str("tables"))?;
+    form_of(rt, matches, wanted, &file)
+}
+
+/// Runs what is asked for.
+fn run_options(
+    rt: &HostRuntime,
+    matches: &ArgMatches<'_>,
+    options: Options<'_>,
+) -> Result<(Refusals, Report), Failure> {
+    let Options { wanted, lines } = options;
+    let refusals = lines.refusals;
+    match wanted_form(rt, matches, &wanted) {
+        Ok(form) => Ok((refusals, run_given(rt, lines, &form, matches)?)),
+        Err(failure) => Err(failure),
+    }
 }
 
 /// Runs what the words ask for.
 fn run_asked(rt: &HostRuntime, matches: &ArgMatches<'_>) -> Result<(Refusals, Report), Failure> {
-    let Options { wanted, lines } = match parse_options(rt.alloc(), &given(matches)) {
-        Ok(options) => options,
-        Err(fault) => return Err(Failure::Options(fault)),
-    };
-    let file = tables(rt, matches.get_str("tables"))?;
-    let form = match Form::make(rt.alloc(), &wanted, &file) {
-        Ok(form) => form,
-        Err(StartError::NoData) => return Err(tell_no_data(rt, matches, &file)),
-        Err(error) => return Err(Failure::Tables(error)),
-    };
-    let report = run_given(rt, &lines, &form, matches)?;
-    Ok((lines.refusals, report))
+    match parse_options(rt.alloc(), &given(matches)) {
+        Ok(options) => run_options(rt, matches, options),
+        Err(fault) => Err(Failure::Options(fault)),
+    }
 }
 
 /// Tells why the program ends early.

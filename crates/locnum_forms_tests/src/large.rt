@@ -2,7 +2,7 @@
 
 use crate::asked::{Asked, EN, Options, TABLES, made, pushed};
 use fixed_decimal::SignDisplay;
-use locnum_forms::{TextError, UnitWidth};
+use locnum_forms::{Form, TextError, UnitWidth};
 use std::alloc::{AllocError, Global};
 
 /// The fraction digits, what is written, how many nines a text has at power 0 and above and below,
@@ -72,6 +72,16 @@ fn some_nines(alloc: Global, counts: (usize, usize)) -> Result<Vec<u8>, AllocErr
     }
 }
 
+/// Whether the form writes so many bytes of the text, or refuses it so.
+fn writes_so_many(alloc: Global, form: &Form, text: &[u8], want: Result<usize, TextError>) -> bool {
+    let mut out = Vec::new(alloc);
+    match (pushed(alloc, form, text, &mut out), want) {
+        (Ok(()), Ok(count)) => out.len() == count,
+        (Err(error), Err(want)) => error == want && out.is_empty(),
+        _ => false,
+    }
+}
+
 /// Whether so many bytes are written of so many nines.
 fn is_so_long(
     alloc: Global,
@@ -79,16 +89,11 @@ fn is_so_long(
     counts: (usize, usize),
     want: Result<usize, TextError>,
 ) -> bool {
-    let mut out = Vec::new(alloc);
-    match (
-        made(alloc, options, TABLES.as_bytes()),
-        some_nines(alloc, counts),
-    ) {
-        (Some(Ok(form)), Ok(text)) => match (pushed(alloc, &form, &text, &mut out), want) {
-            (Ok(()), Ok(count)) => out.len() == count,
-            (Err(error), Err(want)) => error == want && out.is_empty(),
-            _ => false,
-        },
+    let Ok(text) = some_nines(alloc, counts) else {
+        return false;
+    };
+    match made(alloc, options, TABLES.as_bytes()) {
+        Some(Ok(form)) => writes_so_many(alloc, &form, &text, want),
         _ => false,
     }
 }

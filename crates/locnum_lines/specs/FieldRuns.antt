@@ -1,5 +1,5 @@
 -- What is written for the fields of a line.
-use Rattle.std.specs.Prelude.{ℕ, suc, ◌||◌, ◌==◌, true, false, nat_lt, List, [], ◌∷◌, ◌++◌, map, Result, Ok, Err, codes}
+use Rattle.std.specs.Prelude.{ℕ, suc, ◌||◌, ◌==◌, true, false, nat_lt, List, [], ◌∷◌, ◌++◌, map, Option, Some, None, Result, Ok, Err, codes}
 use Rattle.std.specs.Prelude.{if◌then◌else◌}
 use Rattle.writeable.specs.Events.{Event, text_of}
 use Rattle.decimal_lines.specs.declared.alone.TextError.{TextError}
@@ -9,6 +9,7 @@ use Rattle.locnum_lines.specs.Fields.{Cut, Field, cut, fields_from}
 use Rattle.locnum_lines.specs.Padding.{padded}
 use Rattle.locnum_lines.specs.Ran.{Ran, joined, then_runs, writes}
 use Rattle.locnum_lines.specs.Settings.{SettingsData, is_chosen}
+use Rattle.locnum_lines.specs.declared.padding.Padding.{Padding}
 use Rattle.locnum_lines.specs.declared.settings.Refusals.{Refusals}
 use Rattle.locnum_lines.specs.declared.settings.Refusals.TheVariants.{Abort, Fail, Warn, Ignore}
 
@@ -34,18 +35,21 @@ refused_ran Fail number behind error = record { output = number ++ behind; notes
 refused_ran Warn number behind error = record { output = number ++ behind; notes = note number error; is_refused = true; is_stopped = false }
 refused_ran Ignore number behind error = record { output = number ++ behind; notes = []; is_refused = true; is_stopped = false }
 
--- a number by what it is shown as, in its columns, and what is behind it
-abbrev pub shown_ran : SettingsData → List ℕ → List ℕ → Result (List Event) TextError → Ran
-shown_ran settings number behind (Ok events) = writes (padded settings.padding (text_of events) ++ behind)
-shown_ran settings number behind (Err error) = refused_ran settings.refusals number behind error
+-- the blanks in front of a number that is shown: none where it has columns of its own
+abbrev pub blanks_kept : Option Padding → List ℕ → List ℕ
+blanks_kept None before = before
+blanks_kept (Some padding) before = []
 
--- a number and what is behind it
-unfoldable pub number_ran : SettingsData → FormData → List ℕ → List ℕ → Ran
-number_ran settings form number behind = shown_ran settings number behind (form_events form number)
+-- a number by what it is shown as, in its columns, between the blanks in front of it and what is behind it; one that is
+-- refused stays behind its blanks
+abbrev pub shown_ran : SettingsData → Cut → Result (List Event) TextError → Ran
+shown_ran settings field (Ok events) =
+    writes ((blanks_kept settings.padding field.before ++ padded settings.padding (text_of events)) ++ field.behind)
+shown_ran settings field (Err error) = joined (writes field.before) (refused_ran settings.refusals field.number field.behind error)
 
--- a field that is chosen: blanks, its number, and blanks behind it
-abbrev pub chosen_ran : SettingsData → FormData → Cut → Ran
-chosen_ran settings form field = joined (writes field.before) (number_ran settings form field.number field.behind)
+-- a field that is chosen
+unfoldable pub chosen_ran : SettingsData → FormData → Cut → Ran
+chosen_ran settings form field = shown_ran settings field (form_events form field.number)
 
 -- a field of this number: its number is written, or it goes through as it is
 unfoldable pub field_ran : SettingsData → FormData → ℕ → List ℕ → Ran

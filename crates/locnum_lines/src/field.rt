@@ -3,7 +3,7 @@
 ghost use Rattle.std.specs.Prelude.{◌≡◌, ◌≢◌, ◌++◌, OnOk, IfErr, Ok, Some, List, false};
 ghost use Rattle.decimal_lines.specs.Alone.{IsRefusal};
 ghost use Rattle.locnum_forms.specs.Forms.{form_events};
-ghost use Rattle.locnum_lines.specs.FieldRuns.{field_ran, number_ran, refused_ran};
+ghost use Rattle.locnum_lines.specs.FieldRuns.{blanks_kept, chosen_ran, field_ran, refused_ran};
 ghost use Rattle.locnum_lines.specs.Gathered.{Adds};
 ghost use Rattle.locnum_lines.specs.Padding.{padded};
 ghost use Rattle.locnum_lines.specs.Ran.{writes};
@@ -33,7 +33,7 @@ fn refuse(
     error: TextError,
     gathered: &mut Gathered,
 ) -> Result<(), AllocError>
-    requires going { gathered.old.is_stopped ≡ false }
+    requires { gathered.old.is_stopped ≡ false }
     ensures { OnOk result (Adds gathered.old gathered.new
         (refused_ran refusals number.now behind.now error) 0) }
 {
@@ -74,42 +74,96 @@ fn push_padded(
     }
 }
 
-/// A number as it is shown.
-fn push_shown(
+/// A number as it is shown in columns of this width, or the blanks in front of one that is refused.
+fn push_padded_or_blanks(
     alloc: Global,
-    padding: Option<Padding>,
+    padding: Padding,
     form: &Form,
+    before: &[u8],
     number: &[u8],
     gathered: &mut Gathered,
 ) -> Result<(), TextError>
     ensures ok { OnOk result ((events : List Event) × (form_events form.now number.now ≡ Ok events)
         × (gathered.new ≡ record gathered.old {
-          output = gathered.old.output ++ padded padding (text_of events);
+          output = gathered.old.output ++ padded (Some padding) (text_of events);
         })) }
     ensures refused { IfErr result (IsRefusal (form_events form.now number.now)) }
-    ensures unchanged { IfErr result (λ error. error ≢ TextError.OutOfMemory
-        → gathered.new ≡ gathered.old) }
+    ensures blanks { IfErr result (λ error. error ≢ TextError.OutOfMemory
+        → gathered.new ≡ record gathered.old { output = gathered.old.output ++ before.now }) }
 {
-    match padding {
-        None => form.push(alloc, number, &mut gathered.output),
-        Some(padding) => push_padded(alloc, padding, form, number, gathered),
+    let Err(error) = push_padded(alloc, padding, form, number, gathered) else {
+        return Ok(());
+    };
+    if error == TextError::OutOfMemory {
+        return Err(error);
+    }
+    match gathered.write(before) {
+        Ok(()) => Err(error),
+        Err(AllocError) => Err(TextError::OutOfMemory),
     }
 }
 
-/// The number of a field, behind the blanks in front of it, and what is behind it.
-fn push_number(
+/// A number as it is shown behind the blanks in front of it, or these alone where it is refused.
+fn push_behind_blanks(
+    alloc: Global,
+    form: &Form,
+    before: &[u8],
+    number: &[u8],
+    gathered: &mut Gathered,
+) -> Result<(), TextError>
+    ensures ok { OnOk result ((events : List Event) × (form_events form.now number.now ≡ Ok events)
+        × (gathered.new ≡ record gathered.old {
+          output = gathered.old.output ++ (before.now ++ text_of events);
+        })) }
+    ensures refused { IfErr result (IsRefusal (form_events form.now number.now)) }
+    ensures blanks { IfErr result (λ error. error ≢ TextError.OutOfMemory
+        → gathered.new ≡ record gathered.old { output = gathered.old.output ++ before.now }) }
+{
+    match gathered.write(before) {
+        Ok(()) => form.push(alloc, number, &mut gathered.output),
+        Err(AllocError) => Err(TextError::OutOfMemory),
+    }
+}
+
+/// A number as it is shown, with the blanks in front of it, or these alone where it is refused.
+fn push_shown(
+    alloc: Global,
+    padding: Option<Padding>,
+    form: &Form,
+    before: &[u8],
+    number: &[u8],
+    gathered: &mut Gathered,
+) -> Result<(), TextError>
+    ensures ok { OnOk result ((events : List Event) × (form_events form.now number.now ≡ Ok events)
+        × (gathered.new ≡ record gathered.old {
+          output = gathered.old.output
+              ++ (blanks_kept padding before.now ++ padded padding (text_of events));
+        })) }
+    ensures refused { IfErr result (IsRefusal (form_events form.now number.now)) }
+    ensures blanks { IfErr result (λ error. error ≢ TextError.OutOfMemory
+        → gathered.new ≡ record gathered.old { output = gathered.old.output ++ before.now }) }
+{
+    match padding {
+        None => push_behind_blanks(alloc, form, before, number, gathered),
+        Some(padding) => { push_padded_or_blanks(alloc, padding, form, before, number, gathered) }
+    }
+}
+
+/// A field that is chosen: the blanks in front of its number, the number, and what is behind it.
+fn push_chosen(
     alloc: Global,
     settings: &LineSettings,
     form: &Form,
+    before: &[u8],
     number: &[u8],
     behind: &[u8],
     gathered: &mut Gathered,
 ) -> Result<(), AllocError>
     requires { gathered.old.is_stopped ≡ false }
-    ensures { OnOk result (Adds gathered.old gathered.new
-        (number_ran settings.now form.now number.now behind.now) 0) }
+    ensures { OnOk result (Adds gathered.old gathered.new (chosen_ran settings.now form.now
+        (record { before = before.now; number = number.now; behind = behind.now })) 0) }
 {
-    match push_shown(alloc, settings.padding, form, number, gathered) {
+    match push_shown(alloc, settings.padding, form, before, number, gathered) {
         Ok(()) => gathered.write(behind),
         Err(error) => {
             if error == TextError::OutOfMemory {
@@ -138,6 +192,5 @@ pub(crate) fn push_field(
     }
     let (before, rest) = text.split_at(blanks_before(text));
     let (number, behind) = rest.split_at(content_length(rest));
-    pass(before, gathered)?;
-    push_number(alloc, settings, form, number, behind, gathered)
+    push_chosen(alloc, settings, form, before, number, behind, gathered)
 }

@@ -22,7 +22,16 @@ const COLUMNS: &[Row] = &[
     (FIRST, 4, Alignment::Left, "1234\n", "1,234\n"),
     (FIRST, 1, Alignment::Right, "1\n-1\n", "1\n-1\n"),
     (FIRST, 8, Alignment::Right, "x\n1234\n", "x\n   1,234\n"),
-    (FIRST, 4, Alignment::Right, "  1 a\n", "     1 a\n"),
+    (FIRST, 4, Alignment::Right, "  1 a\n", "   1 a\n"),
+    (FIRST, 3, Alignment::Right, "   x a\n", "   x a\n"),
+    (
+        SECOND,
+        8,
+        Alignment::Right,
+        "a   1000 b\n",
+        "a    1,000 b\n",
+    ),
+    (SECOND, 2, Alignment::Left, "a\t 1000 b\n", "a\t1,000 b\n"),
     (SECOND, 7, Alignment::Right, "a 1234 b\n", "a   1,234 b\n"),
     (SECOND, 7, Alignment::Left, "a 1234 b\n", "a 1,234   b\n"),
     (

@@ -26,5 +26,5 @@ returns c =
     ∙ sym c.is_chosen.ensures ∙ c.if-not-is_chosen.false in
     let parts = cut-is c.args.text.now _ _ _ _ _ _ c.blanks_before.ensures c.split_at.ensures.front c.split_at.ensures.back
     c.content_length.ensures c.split_at-2.ensures.front c.split_at-2.ensures.back in
-    on_ok_weaker c.push_number.result (λ a. field-chosen c.args.settings.now c.args.form.now c.args.index c.args.text.now chosen _ _ _ parts _ _ _
-    c.in_ok-pass.ensures a) c.push_number.ensures
+    on_ok_weaker c.push_chosen.result (λ a. field-chosen c.args.settings.now c.args.form.now c.args.index c.args.text.now chosen _ _ _ parts _ _ a)
+    c.push_chosen.ensures
