@@ -1,12 +1,12 @@
 -- What a line, a part of a line and many lines feed.
-use Rattle.std.proofs.Common.{◌≡◌, ℕ, ◌+◌, ◌-◌, Bool, true, false, List, [], ◌∷◌, ◌++◌, length, length-append, refl, sym}
+use Rattle.std.proofs.Common.{◌≡◌, ℕ, ◌+◌, ◌-◌, true, false, List, [], ◌∷◌, ◌++◌, length, length-append, refl, sym}
 use Rattle.std.proofs.Common.{ap, ◌∙◌, append_assoc, arith, inl, inr}
 use Rattle.std.proofs.lemmas.Bool.{false≢true}
 use Rattle.std.proofs.lemmas.List.{append-nil}
 use Rattle.locnum_forms.specs.Forms.{FormData}
-use Rattle.locnum_lines.specs.Gathered.{Adds, AreWholeLines, Feeds, GatheredData}
+use Rattle.locnum_lines.specs.Gathered.{Adds, Feeds, GatheredData}
 use Rattle.locnum_lines.specs.LineRuns.{IsPartLine, lines_of, lines_ran, next_ran}
-use Rattle.locnum_lines.specs.Ran.{Ran, joined, then_runs, writes}
+use Rattle.locnum_lines.specs.Ran.{joined}
 use Rattle.locnum_lines.specs.Settings.{SettingsData}
 use Rattle.locnum_lines.proofs.Adding.{Adds-end, Adds-joined, Adds-start, then_runs-on}
 use Rattle.locnum_lines.proofs.Feeding.{AreWholeLines-append, IsPartLine-append, lines_of-append, lines_of-ended, lines_of-nothing, lines_ran-append}

@@ -1,19 +1,19 @@
 -- What lines and parts of lines add to what was gathered.
 -- The lines of whole lines and of what follows are those of both, one behind the other (`lines_of-append`), so that what runs
 -- for them runs one behind the other too (`lines_ran-append`), unless the run stops.
-use Rattle.std.proofs.Common.{◌≡◌, ℕ, zero, suc, ◌+◌, ◌-◌, ◌<◌, Bool, get_or, take, drop, length-take, true, false, cond, eqb}
-use Rattle.std.proofs.Common.{arith, length, List, [], ◌∷◌, ◌++◌, length-append, refl, sym, ap, ◌∙◌, append_assoc, inl, inr}
+use Rattle.std.proofs.Common.{◌≡◌, ℕ, suc, ◌+◌, ◌-◌, ◌<◌, Bool, get_or, take, drop, length-take, true, false, cond, eqb}
+use Rattle.std.proofs.Common.{arith, length, List, [], ◌∷◌, ◌++◌, refl, sym, ap, ◌∙◌, append_assoc, inl, inr}
 use Rattle.std.proofs.lemmas.Bool.{eqb-true}
 use Rattle.std.proofs.lemmas.Bool.Decides.{nat_tests}
 use Rattle.std.proofs.lemmas.List.{append-nil, get_or-take, drop_more, take-append-drop}
 use Rattle.memchr.specs.Find.{NoneBefore, Nowhere, Passes, is_byte}
 use Rattle.decimal_lines.specs.Lines.{onto_first}
 use Rattle.locnum_forms.specs.Forms.{FormData}
-use Rattle.locnum_lines.specs.Gathered.{Adds, AreWholeLines, Feeds, GatheredData}
+use Rattle.locnum_lines.specs.Gathered.{AreWholeLines}
 use Rattle.locnum_lines.specs.LineRuns.{IsPartLine, lines_of, lines_ran, next_ran}
-use Rattle.locnum_lines.specs.Ran.{Ran, joined, then_runs, writes}
+use Rattle.locnum_lines.specs.Ran.{then_runs, writes}
 use Rattle.locnum_lines.specs.Settings.{SettingsData}
-use Rattle.locnum_lines.proofs.Adding.{Adds-joined, Adds-nothing, joined-assoc, or_false, then_runs-assoc, then_runs-on, then_runs-stopped}
+use Rattle.locnum_lines.proofs.Adding.{then_runs-assoc}
 
 -- a byte is the byte that it is
 eqb_same : (n : ℕ) → eqb n n ≡ true

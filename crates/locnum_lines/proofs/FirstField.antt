@@ -1,9 +1,9 @@
 -- The first field of a line, and those behind it.
 -- `fields_from` goes byte by byte and puts each onto the first field of the rest, while the code cuts a field off by its length.
-use Rattle.std.proofs.Common.{◌≡◌, ℕ, zero, suc, ◌+◌, ◌<◌, ◌≤◌, Bool, true, false, List, [], ◌∷◌, length, get_or, take}
-use Rattle.std.proofs.Common.{drop, Option, refl, sym, ap, ◌∙◌, arith}
+use Rattle.std.proofs.Common.{◌≡◌, ℕ, suc, ◌+◌, ◌<◌, ◌≤◌, Bool, true, false, List, [], ◌∷◌, length, get_or, take}
+use Rattle.std.proofs.Common.{drop, Option, refl, ap, arith}
 use Rattle.std.specs.Prelude.{◌||◌, not, if◌then◌else◌}
-use Rattle.locnum_lines.specs.Fields.{Field, ends_field, field_length, fields_from, is_blank, onto_field}
+use Rattle.locnum_lines.specs.Fields.{ends_field, field_length, fields_from, is_blank, onto_field}
 
 abbrev word_behind : Bool → ℕ → Bool
 word_behind had_word b = had_word || not (is_blank b)

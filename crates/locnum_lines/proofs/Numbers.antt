@@ -1,5 +1,5 @@
 -- One field: what its number adds.
-use Rattle.std.proofs.Common.{◌≡◌, ◌≢◌, ℕ, Bool, true, false, List, [], ◌∷◌, ◌++◌, refl, sym, ap, ◌∙◌, append_assoc}
+use Rattle.std.proofs.Common.{◌≡◌, ◌≢◌, ℕ, true, false, List, ◌++◌, refl, sym, ap, ◌∙◌, append_assoc}
 use Rattle.std.proofs.Common.{subst, inl, inr}
 use Rattle.std.specs.Prelude.{Ok}
 use Rattle.writeable.specs.Events.{Event, text_of}
@@ -12,7 +12,7 @@ use Rattle.locnum_lines.specs.Fields.{Cut, cut}
 use Rattle.locnum_lines.specs.Padding.{padded}
 use Rattle.locnum_lines.specs.Settings.{SettingsData, is_chosen}
 use Rattle.locnum_lines.specs.Gathered.{Adds, GatheredData}
-use Rattle.locnum_lines.specs.Ran.{Ran, writes}
+use Rattle.locnum_lines.specs.Ran.{writes}
 use Rattle.locnum_lines.proofs.Adding.{Adds-joined, Adds-writes}
 
 module _ (settings : SettingsData) (form : FormData) (field : Cut) where

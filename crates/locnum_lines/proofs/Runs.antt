@@ -1,14 +1,14 @@
 -- What was written and told while a run goes on, and when it ends.
 -- What was gathered goes to the writers block by block. `Went` says of a run so far that the writers hold what its whole lines
 -- write and tell; each way out of the loop is a lemma on it. A run that stopped writes nothing more, whatever is left to read.
-use Rattle.std.proofs.Common.{◌≡◌, ℕ, ◌+◌, ◌-◌, Bool, true, false, List, [], ◌∷◌, ◌++◌, length, Option, Some, None, eqb}
-use Rattle.std.proofs.Common.{refl, sym, ap, ◌∙◌, append_assoc, arith, inl, inr}
+use Rattle.std.proofs.Common.{◌≡◌, ℕ, ◌-◌, Bool, true, false, List, [], ◌∷◌, ◌++◌, length, Option, Some, None, eqb}
+use Rattle.std.proofs.Common.{refl, sym, ap, ◌∙◌, append_assoc, arith}
 use Rattle.std.specs.Prelude.{IfSome, ◌||◌, OnErr, Result, Ok, Err}
 use Rattle.std.specs.Io.KnownBytes.{Appends, Consumes, IsAtEnd}
 use Rattle.std.proofs.lemmas.Bool.{eqb-true, false≢true}
 use Rattle.std.proofs.lemmas.List.{append-nil}
 use Rattle.decimal_lines.specs.Written.{AppendsBeginning}
-use Rattle.decimal_lines.proofs.Known.{Appends-nothing, Appends-then, AppendsBeginning-more, AppendsBeginning-nothing, AppendsBeginning-then}
+use Rattle.decimal_lines.proofs.Known.{Appends-nothing, Appends-then, AppendsBeginning-more, AppendsBeginning-then}
 use Rattle.locnum_forms.specs.Forms.{FormData}
 use Rattle.locnum_lines.specs.Gathered.{Adds, Feeds, GatheredData}
 use Rattle.locnum_lines.specs.LineRuns.{IsPartLine, input_ran, lines_of, lines_ran, next_ran}
@@ -16,7 +16,7 @@ use Rattle.locnum_lines.specs.Ran.{Ran, joined, then_runs, writes}
 use Rattle.locnum_lines.specs.Reported.{Begins, Ends, Finishes}
 use Rattle.locnum_lines.specs.Settings.{SettingsData}
 use Rattle.locnum_lines.specs.declared.running.Report.{Report}
-use Rattle.locnum_lines.proofs.Adding.{Adds-end, or_false, then_runs-on, then_runs-stopped}
+use Rattle.locnum_lines.proofs.Adding.{Adds-end, then_runs-on, then_runs-stopped}
 use Rattle.locnum_lines.proofs.Fed.{Feeds-nothing, Feeds-then}
 use Rattle.locnum_lines.proofs.Feeding.{lines_of-append, lines_of-last, lines_of-nothing, lines_ran-append, lines_ran-none, lines_ran-one}
 

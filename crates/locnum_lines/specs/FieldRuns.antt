@@ -5,7 +5,7 @@ use Rattle.writeable.specs.Events.{Event, text_of}
 use Rattle.decimal_lines.specs.declared.alone.TextError.{TextError}
 use Rattle.decimal_lines.specs.declared.alone.TextError.TheVariants.{NotDecimal, TooManyDigits, Overflow, OutOfMemory}
 use Rattle.locnum_forms.specs.Forms.{FormData, form_events}
-use Rattle.locnum_lines.specs.Fields.{Cut, Field, cut, fields_from}
+use Rattle.locnum_lines.specs.Fields.{Cut, Field, cut}
 use Rattle.locnum_lines.specs.Padding.{padded}
 use Rattle.locnum_lines.specs.Ran.{Ran, joined, then_runs, writes}
 use Rattle.locnum_lines.specs.Settings.{SettingsData, is_chosen}

@@ -1,5 +1,5 @@
 -- The fields of a line, and the number in a field.
-use Rattle.std.specs.Prelude.{ℕ, zero, suc, Bool, true, false, ◌&&◌, ◌||◌, not, ◌==◌, List, [], ◌∷◌, take, drop, Option, Some}
+use Rattle.std.specs.Prelude.{ℕ, zero, suc, Bool, false, ◌&&◌, ◌||◌, not, ◌==◌, List, [], ◌∷◌, take, drop, Option, Some}
 use Rattle.std.specs.Prelude.{None, if◌then◌else◌}
 
 -- a space or a tab

@@ -1,4 +1,4 @@
-use Rattle.std.proofs.Common.{◌≡◌, ℕ, length, sym, arith}
+use Rattle.std.proofs.Common.{◌≡◌, length, sym, arith}
 use Rattle.std.proofs.lemmas.Bool.{eqb-true}
 use Rattle.std.proofs.lemmas.Result.{on_ok_weaker}
 use Rattle.locnum_lines.proofs.Fed.{Feeds-alone, Feeds-line}

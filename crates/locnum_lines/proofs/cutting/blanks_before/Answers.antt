@@ -1,4 +1,4 @@
-use Rattle.std.proofs.Common.{◌≡◌, true, false, sym, ◌∙◌, arith}
+use Rattle.std.proofs.Common.{sym, ◌∙◌, arith}
 use Rattle.locnum_lines.proofs.Cuts.{blanks_before-end, blanks_before-past, blanks_before-step}
 use Rattle.locnum_lines.proofs.cutting.blanks_before.Goals as goal
 

@@ -1,4 +1,4 @@
-use Rattle.std.proofs.Common.{◌≡◌, ◌-◌, true, false, sym, ◌∙◌, arith, take}
+use Rattle.std.proofs.Common.{sym, ◌∙◌, arith}
 use Rattle.locnum_lines.proofs.Cuts.{content_length-before, content_length-last, content_length-none}
 use Rattle.locnum_lines.proofs.cutting.content_length.Goals as goal
 

@@ -1,4 +1,4 @@
-use Rattle.std.proofs.Common.{◌≡◌, true, false, get_or, sym, ap, ◌∙◌, arith}
+use Rattle.std.proofs.Common.{◌≡◌, get_or, sym, ap, ◌∙◌, arith}
 use Rattle.std.specs.Prelude.{◌||◌, not}
 use Rattle.locnum_lines.specs.Fields.{is_blank}
 use Rattle.locnum_lines.proofs.Cuts.{field_length-end, field_length-past, field_length-step}

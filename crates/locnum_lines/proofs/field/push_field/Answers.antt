@@ -1,6 +1,5 @@
-use Rattle.std.proofs.Common.{◌≡◌, ℕ, ◌+◌, List, true, false, drop, take, sym, ap, ◌∙◌}
+use Rattle.std.proofs.Common.{◌≡◌, true, false, sym, ap, ◌∙◌}
 use Rattle.std.proofs.lemmas.Result.{on_ok_weaker}
-use Rattle.locnum_lines.specs.Fields.{blanks_before, content_length}
 use Rattle.locnum_lines.specs.Settings.{is_chosen}
 use Rattle.locnum_lines.proofs.Cuts.{blanks_before-within, content_length-within, cut-is}
 use Rattle.locnum_lines.proofs.Numbers.{field-chosen, field-passed}

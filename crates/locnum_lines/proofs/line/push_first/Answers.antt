@@ -1,4 +1,4 @@
-use Rattle.std.proofs.Common.{◌≡◌, ℕ, ◌+◌, List, [], ◌∷◌, true, false, drop, take, length, sym, ap, ◌∙◌, arith}
+use Rattle.std.proofs.Common.{◌≡◌, [], ◌∷◌, false, length, sym, ap, ◌∙◌, arith}
 use Rattle.locnum_lines.specs.Fields.{field_length}
 use Rattle.locnum_lines.proofs.FirstField.{field_length-within}
 use Rattle.locnum_lines.proofs.Adding.{Adds-writes}

@@ -1,4 +1,4 @@
-use Rattle.std.proofs.Common.{◌≡◌, [], ◌++◌, List, ℕ, sym, ap, ◌∙◌}
+use Rattle.std.proofs.Common.{sym, ap, ◌∙◌}
 use Rattle.decimal_lines.proofs.Known.{Appends-nothing}
 use Rattle.locnum_lines.proofs.Adding.{or_false}
 use Rattle.locnum_lines.proofs.Runs.{any_err, held-none, held-ran, only_added}

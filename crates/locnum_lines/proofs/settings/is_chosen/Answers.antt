@@ -1,4 +1,4 @@
-use Rattle.std.proofs.Common.{◌≡◌, sym, ◌∙◌, arith}
+use Rattle.std.proofs.Common.{sym, ◌∙◌}
 use Rattle.locnum_lines.proofs.Chosen.{chosen-before, chosen-behind, chosen-here, chosen-none}
 use Rattle.locnum_lines.proofs.settings.is_chosen.Goals as goal
 use Rattle.locnum_lines.proofs.settings.is_chosen.Goals.{else-range-index-via-else-range-index, else-range-index-via-then-range-index+else-index-range}

@@ -1,8 +1,8 @@
-use Rattle.std.proofs.Common.{◌≡◌, None, Err, Ok, inr, refl, sym, ap, ◌∙◌, arith, rules}
+use Rattle.std.proofs.Common.{◌≡◌, None, Err, inr, refl, sym, ◌∙◌, arith, rules}
 use Rattle.std.proofs.lemmas.Str.Pattern.{split_parts}
 use Rattle.locnum_options.specs.Fields.{fields_named, ranges_named}
 use Rattle.locnum_options.specs.Texts.{parts_of}
-use Rattle.locnum_options.proofs.Ranges.{bad-here, bad-last, onto_ranges, onto_ranges-none, range-here, range-last}
+use Rattle.locnum_options.proofs.Ranges.{bad-here, bad-last, onto_ranges-none, range-here, range-last}
 use Rattle.locnum_options.proofs.fields.fields_named.Goals as goal
 
 pub loop-part-init : goal.loop-part-init
