@@ -29,7 +29,7 @@ import cldr_patterns  # noqa: E402
 import cldr_paths  # noqa: E402
 import cldr_to_tables as cldr  # noqa: E402
 from cldr_release import MONEY, PERCENTS, UNITS  # noqa: E402
-from icu_compare import OTHER, Job, differences_of, entry_of, same_version, shown  # noqa: E402
+from icu_compare import OTHER, Difference, Job, differences_of, entry_of, same_version, shown  # noqa: E402
 
 CODES = ["USD", "EUR", "JPY", "CHF", "KWD", "INR", "BRL", "CVE"]
 UNIT_NAMES = (
@@ -45,7 +45,11 @@ GROUPS = "groups of accounts, names and percents of their own, which tables can'
 OWN_PATTERN = "patterns and separators of a single currency, which tables can't express"
 OWN_FOR_ALL = "the same of the locale's own currency, which ICU takes for all others too"
 LEFT_OUT = "money that tables leave out, as CLDR has no pattern of an amount with a name there"
-OTHER_SCRIPT = "units of a locale whose script isn't the likely one: ICU has those of the likely one"
+OTHER_SCRIPT = "units and names of a locale whose script isn't the likely one: ICU has those of the likely one"
+OWN_WITH_NAME = "names beside the pattern of the locale's own currency, in which ICU leaves the symbol"
+PLACES = "names in another numbering system than the usual one, whose places tables can't express"
+LATIN_PLACES = "names where the usual numbering system has no patterns of money: ICU takes no other one's places"
+PARENTS_FIRST = "a child's name without a category: ICU takes its parent's for the category first"
 
 NO_BREAK_SPACE = "\u00a0"
 
@@ -142,6 +146,10 @@ class Kinds:
             OWN_FOR_ALL: self.own_for_all,
             LEFT_OUT: self.left_out,
             OTHER_SCRIPT: self.other_script,
+            OWN_WITH_NAME: self.own_with_name,
+            PLACES: self.places,
+            LATIN_PLACES: self.root_places,
+            PARENTS_FIRST: self.parents_first,
         }
 
     def kind_of(self, difference):
@@ -256,16 +264,71 @@ class Kinds:
         return self.again(tables, difference)
 
     def other_script(self, difference):
-        """The text by the units of the same language and region in another script."""
+        """The text by the units and names of the same language and region in another script."""
         job = difference.job
         parts = job.locale.split("-")
-        if not job.style.startswith("unit") or len(parts) != 3:
-            return []
+        if len(parts) != 3:
+            return
         others = [name for name in self.locnum.by_locale if name.split("-")[::2] == parts[::2] and name != job.locale]
         tables = self.locnum.tables_of(job.locale)
         for other in others:
-            units = self.locnum.tables_of(other)["units"]
-            yield from self.again(tables | {"units": [{**it, "locale": job.locale} for it in units]}, difference)
+            found = self.locnum.tables_of(other)
+            taken = {key: [{**it, "locale": job.locale} for it in found[key]] for key in ("units", "currency_symbols")}
+            yield from self.again(tables | taken, difference)
+
+    def own_with_name(self, difference):
+        """The amount with its symbol by the pattern that the locale has for a currency of its own, and the name behind it;
+        where that pattern's number ends in a zero which isn't in ICU's own, it stands behind the name."""
+        job, number, ours, _ = difference
+        if not job.style.endswith(" name") or ours is None:
+            return
+        short = Difference(job._replace(style=job.style.replace(" name", " short")), number, ours, "")
+        name = ours[max(place for place, letter in enumerate(ours) if unicodedata.decimal(letter, None) is not None) + 1:]
+        for amount in self.texts_with_own(short, self.release.named(self.names[job.locale], "currencies", "currency")):
+            yield amount + name
+            yield amount[:-1] + name + amount[-1:]
+
+    def places(self, difference):
+        """The text by the places that names have in the numbering system."""
+        job = difference.job
+        tables = self.locnum.tables_of(job.locale)
+        entry = self.entry(tables, "currencies", job)
+        if not job.style.endswith(" name") or not entry or "system" not in entry:
+            return []
+        tables["currencies"] = [{name: entry[name] for name in entry if name != "system"}]
+        return self.again(tables, difference)
+
+    def root_places(self, difference):
+        """The text with the name behind the amount, as root has it."""
+        job = difference.job
+        tables, locale = self.locnum.tables_of(job.locale), self.names[job.locale]
+        usual = self.entry(tables, "symbols", job._replace(system="-"))["numsys"]
+        path = cldr_paths.money_path(usual, "standard")
+        has_own = any(path in self.release.tree(ancestor).values for ancestor in self.release.chain(locale))
+        if not job.style.endswith(" name") or has_own:
+            return []
+        for entry in tables["currencies"]:
+            entry["names"] = {"other": "{0} {1}"}
+        return self.again(tables, difference)
+
+    def parents_first(self, difference):
+        """The text by names that are looked for in all parents category by category, and without one last."""
+        job = difference.job
+        if not job.style.endswith(" name"):
+            return []
+        tables, code = self.locnum.tables_of(job.locale), job.style.split()[1]
+        path = cldr_paths.currency_path(code)
+        names = {}
+        for category in [*(rule[0] for rule in tables["rules"][0]["rules"]), "other"]:
+            counted = [(*path, cldr_paths.step("displayName", {"count": count})) for count in (category, "other")]
+            texts = [self.release.find(self.names[job.locale], it, lambda option: [option])[1] for it in counted]
+            names[category] = next((text for text in texts if text), None)
+        if names["other"] is None:
+            return []
+        for row in tables["currency_symbols"][0]["symbols"]:
+            if row[0] == code:
+                row[3] = names
+        return self.again(tables, difference)
 
 
 def group_of(job):

@@ -52,7 +52,7 @@ writes '1.2\n1.25\n' --fraction 1..2 1.2 1.25
 lines 0 'rent 1250\nfood 431.5\n' 'rent $1,250.00\nfood $431.50\n' '' --field 2 --currency USD
 lines 0 'a;1234;1234\n' 'a;1234;1,234\n' '' -d ';' --field 3
 lines 0 'rent 1250\nfood 431.5\n' 'rent  $1,250.00\nfood    $431.50\n' '' --field 2 --currency USD --padding 10
-lines 0 'a 1 x\n' 'a \xc2\xa51     x\n' '' --field 2 --currency JPY --padding=-7
+lines 0 'a 1 x\n' 'a \xc2\xa51      x\n' '' --field 2 --currency JPY --padding=-7
 writes '   1,234\n  -1,234\n' --padding 8 1234 -1234
 lines 0 'amount\n1234\n' 'amount\n1,234\n' '' --header
 lines 0 'a\nb\n1234' 'a\nb\n1,234\n' '' --header=2

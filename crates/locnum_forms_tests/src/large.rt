@@ -7,12 +7,12 @@ use std::alloc::{AllocError, Global};
 
 /// The fraction digits, what is written, how many nines a text has at power 0 and above and below,
 /// and how many bytes are written of it, or why it isn't written.
-const NINES: [(
+const NINES: &[(
     Option<(u8, u8)>,
     Asked,
     (usize, usize),
     Result<usize, TextError>,
-); 14] = [
+)] = &[
     (None, Asked::Plain, (32768, 0), Ok(43690)),
     (
         None,
@@ -100,7 +100,7 @@ fn is_so_long(
 
 #[test]
 fn the_longest_numbers_are_written_or_refused(rt: HostRuntime) {
-    for &(fraction, asked, counts, want) in &NINES {
+    for &(fraction, asked, counts, want) in NINES {
         let options = Options {
             place: EN,
             fraction,

@@ -5,7 +5,7 @@ use fixed_decimal::SignDisplay;
 use locnum_forms::TextError;
 
 /// Where, what is written of an amount, and how, or why it isn't.
-const AMOUNTS: [(Place, Asked, &str, Result<&str, TextError>); 15] = [
+const AMOUNTS: &[(Place, Asked, &str, Result<&str, TextError>)] = &[
     (
         DE,
         Asked::Money("EUR"),
@@ -30,7 +30,7 @@ const AMOUNTS: [(Place, Asked, &str, Result<&str, TextError>); 15] = [
 
 #[test]
 fn amounts_have_the_digits_of_their_currency(rt: HostRuntime) {
-    for &(place, asked, amount, want) in &AMOUNTS {
+    for &(place, asked, amount, want) in AMOUNTS {
         let options = Options {
             place,
             fraction: None,
@@ -42,7 +42,7 @@ fn amounts_have_the_digits_of_their_currency(rt: HostRuntime) {
 }
 
 /// The fraction digits, which signs are shown, what is written of an amount, and how.
-const OTHERS: [(Option<(u8, u8)>, SignDisplay, Asked, &str, &str); 7] = [
+const OTHERS: &[(Option<(u8, u8)>, SignDisplay, Asked, &str, &str)] = &[
     (
         Some((0, 2)),
         SignDisplay::Auto,
@@ -96,7 +96,7 @@ const OTHERS: [(Option<(u8, u8)>, SignDisplay, Asked, &str, &str); 7] = [
 
 #[test]
 fn amounts_have_the_digits_and_signs_that_are_asked_for(rt: HostRuntime) {
-    for &(fraction, sign, asked, amount, want) in &OTHERS {
+    for &(fraction, sign, asked, amount, want) in OTHERS {
         let options = Options {
             place: EN,
             fraction,

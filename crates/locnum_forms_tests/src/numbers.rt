@@ -5,7 +5,7 @@ use fixed_decimal::SignDisplay;
 use locnum_forms::TextError;
 
 /// The least and the most fraction digits, a number, and how it is written.
-const FRACTIONS: [((u8, u8), &str, &str); 22] = [
+const FRACTIONS: &[((u8, u8), &str, &str)] = &[
     ((0, 0), "1234.5", "1,234"),
     ((0, 0), "1235.5", "1,236"),
     ((0, 0), "0.5", "0"),
@@ -32,7 +32,7 @@ const FRACTIONS: [((u8, u8), &str, &str); 22] = [
 
 #[test]
 fn fraction_digits_are_rounded_and_padded(rt: HostRuntime) {
-    for &(fraction, number, want) in &FRACTIONS {
+    for &(fraction, number, want) in FRACTIONS {
         let options = Options {
             place: EN,
             fraction: Some(fraction),
@@ -44,7 +44,7 @@ fn fraction_digits_are_rounded_and_padded(rt: HostRuntime) {
 }
 
 /// Which signs are shown, a number, and how it is written with two fraction digits.
-const SIGNS: [(SignDisplay, &str, &str); 14] = [
+const SIGNS: &[(SignDisplay, &str, &str)] = &[
     (SignDisplay::Auto, "-0.001", "-0.00"),
     (SignDisplay::Auto, "+1", "1.00"),
     (SignDisplay::Never, "-1", "1.00"),
@@ -63,7 +63,7 @@ const SIGNS: [(SignDisplay, &str, &str); 14] = [
 
 #[test]
 fn signs_are_those_of_the_rounded_number(rt: HostRuntime) {
-    for &(sign, number, want) in &SIGNS {
+    for &(sign, number, want) in SIGNS {
         let options = Options {
             place: EN,
             fraction: Some((2, 2)),
@@ -76,14 +76,14 @@ fn signs_are_those_of_the_rounded_number(rt: HostRuntime) {
 
 /// Where, the fraction digits, which signs are shown, what is written of a number, and how, or why
 /// it isn't.
-const NUMBERS: [(
+const NUMBERS: &[(
     Place,
     Option<(u8, u8)>,
     SignDisplay,
     Asked,
     &str,
     Result<&str, TextError>,
-); 16] = [
+)] = &[
     (
         EN,
         None,
@@ -209,7 +209,7 @@ const NUMBERS: [(
 
 #[test]
 fn numbers_are_written_in_full_and_shortened(rt: HostRuntime) {
-    for &(place, fraction, sign, asked, number, want) in &NUMBERS {
+    for &(place, fraction, sign, asked, number, want) in NUMBERS {
         let options = Options {
             place,
             fraction,

@@ -6,13 +6,13 @@ use locnum_forms::TextError;
 
 /// Where, the fraction digits, which signs are shown, a number, and how it is written, or why it
 /// isn't.
-const PERCENTS: [(
+const PERCENTS: &[(
     Place,
     Option<(u8, u8)>,
     SignDisplay,
     &str,
     Result<&str, TextError>,
-); 14] = [
+)] = &[
     (EN, None, SignDisplay::Auto, "0.1234", Ok("12.34%")),
     (DE, None, SignDisplay::Auto, "0.1234", Ok("12,34\u{a0}%")),
     (
@@ -37,7 +37,7 @@ const PERCENTS: [(
 
 #[test]
 fn percents_are_rounded_as_they_are_written(rt: HostRuntime) {
-    for &(place, fraction, sign, number, want) in &PERCENTS {
+    for &(place, fraction, sign, number, want) in PERCENTS {
         let options = Options {
             place,
             fraction,

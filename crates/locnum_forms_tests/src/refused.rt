@@ -45,7 +45,7 @@ const BAD_LOCALE: TableError = TableError::Entry {
 };
 
 /// Where, what is asked for, the text of a file, and why there is no form.
-const REFUSED: [(Place, Asked, &str, StartError); 21] = [
+const REFUSED: &[(Place, Asked, &str, StartError)] = &[
     (
         EN,
         Asked::Plain,
@@ -116,13 +116,13 @@ fn is_refused(
 
 #[test]
 fn files_and_options_without_a_form_are_refused(rt: HostRuntime) {
-    for &(place, asked, text, want) in &REFUSED {
+    for &(place, asked, text, want) in REFUSED {
         assert!(rt; is_refused(rt.alloc(), (place, asked), text.as_bytes(), Some(want)));
     }
 }
 
 /// What is asked of a file that isn't UTF-8.
-const ASKED: [Asked; 4] = [
+const ASKED: &[Asked] = &[
     Asked::Plain,
     Asked::Short,
     Asked::Percent,
@@ -131,7 +131,7 @@ const ASKED: [Asked; 4] = [
 
 #[test]
 fn files_that_are_no_text_are_refused(rt: HostRuntime) {
-    for &asked in &ASKED {
+    for &asked in ASKED {
         assert!(rt;
             is_refused(
                 rt.alloc(),
@@ -144,11 +144,11 @@ fn files_that_are_no_text_are_refused(rt: HostRuntime) {
 }
 
 /// Tables of numbers, without others and with others that would be refused.
-const MADE: [&str; 2] = [NUMBERS, NO_PATTERN];
+const MADE: &[&str] = &[NUMBERS, NO_PATTERN];
 
 #[test]
 fn tables_of_money_are_read_where_they_are_asked(rt: HostRuntime) {
-    for &text in &MADE {
+    for &text in MADE {
         assert!(rt; is_refused(rt.alloc(), (EN, Asked::Plain), text.as_bytes(), None));
     }
 }

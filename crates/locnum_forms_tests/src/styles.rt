@@ -32,7 +32,7 @@ const BAD_LOCALE: TableError = TableError::Entry {
     fault: EntryFault::BadLocale,
 };
 
-const STARTS: [(StartError, &str); 5] = [
+const STARTS: &[(StartError, &str)] = &[
     (StartError::NotUtf8, "not UTF-8"),
     (StartError::Refused(TableError::NotJson), "not JSON"),
     (
@@ -45,7 +45,7 @@ const STARTS: [(StartError, &str); 5] = [
 
 #[test]
 fn displays_why_there_is_no_form_under_every_style(rt: HostRuntime) {
-    for &(error, want) in &STARTS {
+    for &(error, want) in STARTS {
         assert!(rt; is_styled(rt.alloc(), &error, want), "{want}");
     }
 }

@@ -6,13 +6,13 @@ use locnum_forms::{TextError, UnitWidth};
 
 /// The width of kilometers, the fraction digits, which signs are shown, a number, and how it is
 /// written, or why it isn't.
-const UNITS: [(
+const UNITS: &[(
     UnitWidth,
     Option<(u8, u8)>,
     SignDisplay,
     &str,
     Result<&str, TextError>,
-); 10] = [
+)] = &[
     (
         UnitWidth::Long,
         None,
@@ -81,7 +81,7 @@ const UNITS: [(
 
 #[test]
 fn units_follow_the_number_that_is_written(rt: HostRuntime) {
-    for &(width, fraction, sign, number, want) in &UNITS {
+    for &(width, fraction, sign, number, want) in UNITS {
         let options = Options {
             place: EN,
             fraction,
