@@ -140,15 +140,31 @@ class ParentsFirst(cldr.CompactReader):
         return None, None
 
 
-class Kinds:
-    """The known kinds of difference. Each method answers what ICU would write by its reason, or None where the reason
-    doesn't apply."""
+class KnownKinds:
+    """Known kinds of difference, by their names. Each has a method that answers what ICU would write by its reason, or
+    nothing where the reason doesn't apply."""
+
+    known = {}
+
+    def __init__(self, release):
+        self.release = release
+        self.names = {cldr.named(locale): locale for locale in release.locales}
+
+    def kind_of(self, difference):
+        """The name of the difference's kind, or None."""
+        for name, reason in self.known.items():
+            if difference.theirs in reason(difference):
+                return name
+        return None
+
+
+class Kinds(KnownKinds):
+    """The known kinds of difference in numbers."""
 
     def __init__(self, formatters, release, tables):
+        super().__init__(release)
         self.formatters = formatters
-        self.release = release
         self.tables = tables
-        self.names = {cldr.named(locale): locale for locale in release.locales}
         self.without_alias = self.release_without_alias()
         self.known = {
             EXPLICIT_ONE: self.explicit_one,
@@ -157,13 +173,6 @@ class Kinds:
             PARENTS_FIRST: self.parents_first,
             OPERANDS: self.operands,
         }
-
-    def kind_of(self, difference):
-        """The name of the difference's kind, or None."""
-        for name, reason in self.known.items():
-            if difference.theirs in reason(difference):
-                return name
-        return None
 
     def release_without_alias(self):
         """The release, in which the long style isn't an alias of the short one."""

@@ -29,7 +29,7 @@ import cldr_patterns  # noqa: E402
 import cldr_paths  # noqa: E402
 import cldr_to_tables as cldr  # noqa: E402
 from cldr_release import MONEY, PERCENTS, UNITS  # noqa: E402
-from icu_compare import OTHER, Difference, Job, differences_of, entry_of, same_version, shown  # noqa: E402
+from icu_compare import OTHER, Difference, Job, KnownKinds, differences_of, entry_of, same_version, shown  # noqa: E402
 
 CODES = ["USD", "EUR", "JPY", "CHF", "KWD", "INR", "BRL", "CVE"]
 UNIT_NAMES = (
@@ -131,14 +131,12 @@ def icu_texts(peer, jobs):
     return [list(itertools.islice(lines, len(lines_of(job)))) for job in jobs]
 
 
-class Kinds:
-    """The known kinds of difference. Each method answers what ICU would write by its reason, or nothing where the reason
-    doesn't apply."""
+class Kinds(KnownKinds):
+    """The known kinds of difference in money, percents and units."""
 
     def __init__(self, locnum, release):
+        super().__init__(release)
         self.locnum = locnum
-        self.release = release
-        self.names = {cldr.named(locale): locale for locale in release.locales}
         self.known = {
             SPACED: self.no_space,
             GROUPS: self.own_groups,
@@ -151,13 +149,6 @@ class Kinds:
             LATIN_PLACES: self.root_places,
             PARENTS_FIRST: self.parents_first,
         }
-
-    def kind_of(self, difference):
-        """The name of the difference's kind, or None."""
-        for name, reason in self.known.items():
-            if difference.theirs in reason(difference):
-                return name
-        return None
 
     def entry(self, tables, key, job):
         """The entry under a key for the locale and the numbering system of a job, or None."""
