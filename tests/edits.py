@@ -31,6 +31,8 @@ ROOT = os.path.dirname(os.path.dirname(os.path.abspath(__file__)))
 LOCK = os.path.join(ROOT, "edits.lock")
 PARTS = ("src", "specs", "proofs")
 INNER, OUTER, CONTROLS = "must-fail", "edits", "edits/controls"
+# How the edits of a circle are seen: the prover refuses each, at the goals that they name; the tests that they name fail.
+BY_PROVER, BY_TESTS = "", "/shown"
 # What the prover says of a place, of a written answer that names what the edit took away, and of a goal that is open.
 PLACE = re.compile(r"(note: )?\S+:\d+:\d+:")
 MISSING_NAME = re.compile(r"(\./)?proofs/.*(has no field|is not in scope|has no `|was not admitted)")
@@ -158,15 +160,17 @@ def add_contracts(into, crate):
             into.update(f"{layout.contracts(os.path.join(ROOT, path))}\n".encode())
 
 
-def hash_of(crate, circle, logic):
-    """The hash of all that a circle of a crate's edits stands on, also of the tests that show some of them."""
+def hash_of(crate, circle, seen_by, logic):
+    """The hash of all on which it rests that a circle of a crate's edits is seen so. Tests run without proofs."""
     into = hashlib.sha256(f"{logic}\n".encode())
-    add(into, files_of(*[f"crates/{crate}/{part}" for part in PARTS], f"crates/{crate}/{circle}"))
-    if circle == INNER:
-        add(into, [os.path.relpath(edit.path, ROOT) for edit in edits_of(crate, CONTROLS)])
+    parts = PARTS if seen_by == BY_PROVER else ("src", "specs")
+    add(into, files_of(*[f"crates/{crate}/{part}" for part in parts], f"crates/{crate}/{circle}"))
     add_contracts(into, crate)
-    tests = {tests for edit in edits_of(crate, circle) for tests, _ in edit.shown}
-    add(into, files_of(*[f"crates/{name}/src" for name in sorted(tests)]))
+    if seen_by == BY_TESTS:
+        tests = {tests for edit in edits_of(crate, circle) for tests, _ in edit.shown}
+        add(into, files_of(*[f"crates/{name}/src" for name in sorted(tests)]))
+    elif circle == INNER:
+        add(into, [os.path.relpath(edit.path, ROOT) for edit in edits_of(crate, CONTROLS)])
     return into.hexdigest()
 
 
@@ -289,8 +293,8 @@ def why_not_shown(edit, tests, test):
 
 # Verdicts
 
-def faults_of(edit, said):
-    """Why an edit isn't what its circle asks for."""
+def faults_by_prover(edit, said):
+    """Why an edit isn't what its circle asks for, by what the prover said of it."""
     if said.startswith("unread: "):
         return [said]
     if edit.circle == CONTROLS:
@@ -302,12 +306,19 @@ def faults_of(edit, said):
     if edit.circle == INNER and not (edit.refused or edit.shown):
         found.append("it names neither a clause that refuses it nor a test that shows it")
     found += [why_not_by(edit, said, *words) if len(words) == 2 else f"refused: {words}" for words in edit.refused]
-    found += [why_not_shown(edit, *words) if len(words) == 2 else f"shown: {words}" for words in edit.shown]
     return [why for why in found if why]
 
 
-def try_circle(crate, circle, kit, logic):
-    """The faults of each edit of a circle, in the order of the edits; the inner circle has the controls with it."""
+def faults_by_tests(edit):
+    """Why an edit isn't what its circle asks for, by the tests that it names."""
+    found = [why_not_shown(edit, *words) if len(words) == 2 else f"shown: {words}" for words in edit.shown]
+    return [why for why in found if why]
+
+
+def try_circle(crate, circle, seen_by, kit, logic):
+    """The faults of each edit of a circle, in the order of the edits; the prover sees the controls with the inner circle."""
+    if seen_by == BY_TESTS:
+        return [(edit, faults_by_tests(edit)) for edit in edits_of(crate, circle) if edit.shown]
     tried = edits_of(crate, *((INNER, CONTROLS) if circle == INNER else (OUTER,)))
     contracts_below = hashlib.sha256(f"{logic}\n{crate}\n".encode())
     add_contracts(contracts_below, crate)
@@ -315,11 +326,11 @@ def try_circle(crate, circle, kit, logic):
     with tempfile.TemporaryDirectory() as kept:
         if os.path.isdir(incremental):
             shutil.copytree(incremental, kept, dirs_exist_ok=True)
-        return [(edit, faults_of(edit, check(edit, kit, contracts_below, kept))) for edit in tried]
+        return [(edit, faults_by_prover(edit, check(edit, kit, contracts_below, kept))) for edit in tried]
 
 
 def read_lock():
-    """The hash of each circle of edits.lock, by the path of its folder."""
+    """The hashes of edits.lock, by the path of a circle's folder and how it was seen."""
     lines = read(LOCK).splitlines() if os.path.exists(LOCK) else []
     return dict(line.split() for line in lines)
 
@@ -330,48 +341,59 @@ def write_lock(lines):
         file.writelines(f"{it} {lines[it]}\n" for it in sorted(lines))
 
 
+def path_of(crate, circle, seen_by):
+    """What edits.lock calls a circle, and how it is seen."""
+    return f"{crate}/{circle}{seen_by}"
+
+
+def circles_of_all():
+    """Each circle that has edits, and each way in which some of them are seen."""
+    return [(crate, circle, seen_by) for crate in USES for circle in (INNER, OUTER) for seen_by in (BY_PROVER, BY_TESTS)
+            if any(seen_by == BY_PROVER or edit.shown for edit in edits_of(crate, circle))]
+
+
 def try_all(circles, kit, logic):
     """Tries circles side by side, tells what is wrong, and yields for each how many of its edits are right and wrong."""
     lanes = int(os.environ.get("EDITS_JOBS", len(os.sched_getaffinity(0))))
     with concurrent.futures.ThreadPoolExecutor(lanes) as pool:
         results = pool.map(lambda it: try_circle(*it, kit, logic), circles)
-        for (crate, circle), tried in zip(circles, results):
+        for circle, tried in zip(circles, results):
             for edit, faults in tried:
                 for why in faults:
                     print(f"edits: {os.path.relpath(edit.path, ROOT)}: {why}")
             right = sum(not faults for _, faults in tried)
-            print(f"edits: {crate}/{circle}: {right} of {len(tried)} are as they have to be", flush=True)
-            yield crate, circle, right, len(tried) - right
+            print(f"edits: {path_of(*circle)}: {right} of {len(tried)} are as they have to be", flush=True)
+            yield circle, right, len(tried) - right
 
 
 def main(words):
     is_gate = "--gate" in words
     asked = [word for word in words if word != "--gate"]
     if any(word.startswith("-") for word in asked) or (is_gate and asked):
-        print("usage: tests/edits.sh [--gate | CRATE .. | CRATE/must-fail .. | CRATE/edits ..]", file=sys.stderr)
+        print("usage: tests/edits.sh [--gate | CRATE .. | CRATE/must-fail[/shown] .. | CRATE/edits[/shown] ..]", file=sys.stderr)
         return 2
     logic = re.search(r"logic .*", said_by("rt", "version"))[0]
     locked = read_lock()
-    hashes = {(crate, circle): hash_of(crate, circle, logic)
-              for crate in USES for circle in (INNER, OUTER) if edits_of(crate, circle)}
-    paths = {f"{crate}/{circle}": (crate, circle) for crate, circle in hashes}
+    hashes = {it: hash_of(*it, logic) for it in circles_of_all()}
+    paths = {path_of(*it): it for it in hashes}
+    names = {it: (it[0], "/".join(it[:2]), path_of(*it)) for it in hashes}
     current = [paths[path] for path in paths if locked.get(path) == hashes[paths[path]]]
     passed, failed = 0 if asked else len(current), 0
-    for word in [word for word in asked if not any(word in (path, crate) for path, (crate, _) in paths.items())]:
+    for word in [word for word in asked if not any(word in told for told in names.values())]:
         print(f"edits: {word}: no such edits")
         failed += 1
     for path in [path for path in locked if is_gate and (path not in paths or paths[path] not in current)]:
         print(f"edits: {path}: its line of edits.lock is of another state: run tests/edits.sh, and commit edits.lock")
         failed += 1
-    tried = [it for it in hashes if ("/".join(it) in asked or it[0] in asked if asked else it not in current)]
-    tried.sort(key=lambda it: -len(edits_of(*it)))
+    tried = [it for it in hashes if (any(name in asked for name in names[it]) if asked else it not in current)]
+    tried.sort(key=lambda it: -len(edits_of(*it[:2])))
     if not is_gate:
         write_lock({path: locked[path] for path in paths if paths[path] in current})
-    for crate, circle, right, wrong in try_all(tried, os.path.dirname(said_by("rt", "doc")), logic):
+    for circle, right, wrong in try_all(tried, os.path.dirname(said_by("rt", "doc")), logic):
         passed, failed = passed + right, failed + wrong
         if wrong == 0 and not is_gate:
             # at once, so that what an interrupted run has seen stays
-            write_lock(read_lock() | {f"{crate}/{circle}": hashes[crate, circle]})
+            write_lock(read_lock() | {path_of(*circle): hashes[circle]})
     print(f"{passed} passed, {failed} failed")
     return 1 if failed else 0
 
