@@ -478,10 +478,10 @@ def judge_languages():
     sample = json.loads(read("tables/sample.json"))
     optional = r'(?:None|Some\("([^"]*)"\))'
     for name, (style, locale, rules) in LANGUAGES.items():
-        constant = re.search(rf"const {name}_ROWS: .*?= \[(.*?)^\];", text, flags=re.M | re.S)[1]
+        constant = re.search(rf"const {name}_ROWS: .*?= &\[(.*?)^\];", text, flags=re.M | re.S)[1]
         rows = re.findall(rf'\((\d+), (\d+), {optional}, {optional}, "([^"]*)"\)', constant)
         told = [[int(row[0]), int(row[1]), elements_of(row[2] or None, row[3] or None, row[4])] for row in rows]
-        constant = re.search(rf"const {rules}: .*?= \[(.*?)\];", text, flags=re.S)[1] if rules else ""
+        constant = re.search(rf"const {rules}: .*?= &\[(.*?)\];", text, flags=re.S)[1] if rules else ""
         conditions = re.findall(r'PluralCategory::(\w+),\s*"([^"]*)"', constant)
         wanted = [entry["patterns"] for entry in sample[style] if entry["locale"] == locale]
         wanted += [[tuple(rule) for rule in entry["rules"]] for entry in sample["rules"] if entry["locale"] == locale]

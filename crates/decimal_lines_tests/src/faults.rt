@@ -11,7 +11,7 @@ const ABOVE: &str =
 {\"locale\":\"de\",\"patterns\":[[3,4,{\"other\":\"{0}K\"}]]}]}";
 
 /// Files, and what is told of them; the first is large.
-const FILES: [(&str, Result<(), TablesFault>); 6] = [
+const FILES: &[(&str, Result<(), TablesFault>)] = &[
     (SAMPLE, Ok(())),
     ("{\"symbols\":[],\"digits\":[]}", Ok(())),
     (
@@ -51,7 +51,7 @@ fn is_judged(alloc: Global, file: &[u8], want: Result<(), TablesFault>) -> bool 
 
 #[test]
 fn judges_files(rt: HostRuntime) {
-    for &(file, want) in &FILES {
+    for &(file, want) in FILES {
         assert!(rt; is_judged(rt.alloc(), file.as_bytes(), want));
     }
 }
@@ -62,7 +62,7 @@ fn judges_bytes_that_are_no_text(rt: HostRuntime) {
 }
 
 /// What is told of a file, as a text.
-const TOLD: [(TablesFault, &str); 2] = [
+const TOLD: &[(TablesFault, &str)] = &[
     (TablesFault::NotUtf8, "not UTF-8"),
     (TablesFault::Refused(TableError::NotJson), "not JSON"),
 ];
@@ -81,7 +81,7 @@ fn is_told_once(alloc: Global, fault: TablesFault, want: &str) -> bool {
 
 #[test]
 fn displays_faults(rt: HostRuntime) {
-    for &(fault, want) in &TOLD {
+    for &(fault, want) in TOLD {
         assert!(rt; is_told(rt.alloc(), fault, want), "{want}");
     }
 }

@@ -137,7 +137,7 @@ fn answers(alloc: Global, input: &[u8], want: &[u8]) -> bool {
 }
 
 /// A line and its answer.
-const ANSWERS: [(&str, &str); 16] = [
+const ANSWERS: &[(&str, &str)] = &[
     ("1000007", "1,000,007"),
     ("-987654.321", "-987,654.321"),
     ("0012", "0,012"),
@@ -159,7 +159,7 @@ const ANSWERS: [(&str, &str); 16] = [
 /// The lines of one column of the answers.
 fn column_once(alloc: Global, answers: bool) -> Result<Vec<u8>, AllocError> {
     let mut lines = Vec::new(alloc);
-    for &(line, answer) in &ANSWERS {
+    for &(line, answer) in ANSWERS {
         let text = if answers { answer } else { line };
         lines.extend_from_slice(text.as_bytes())?;
         lines.push(b'\n')?;
@@ -191,7 +191,7 @@ fn answers_each_line(rt: HostRuntime) {
     assert!(rt; answers_lines(rt.alloc()));
 }
 
-const CUT: [(&[u8], &str); 6] = [
+const CUT: &[(&[u8], &str)] = &[
     (b"", ""),
     (b"\n", "error: not a decimal\n"),
     (b"5\n6\r\n7", "5\n6\n7\n"),
@@ -205,7 +205,7 @@ const CUT: [(&[u8], &str); 6] = [
 
 #[test]
 fn cuts_lines_and_returns(rt: HostRuntime) {
-    for &(input, want) in &CUT {
+    for &(input, want) in CUT {
         assert!(rt; answers(rt.alloc(), input, want.as_bytes()), "at {want}");
     }
 }

@@ -43,7 +43,7 @@ fn mode(alloc: Global, asked: Asked) -> Option<Mode> {
 }
 
 /// What is asked for, a text, and the text that is shown, or why there is none.
-const TEXTS: [(Asked, &[u8], Result<&str, TextError>); 14] = [
+const TEXTS: &[(Asked, &[u8], Result<&str, TextError>)] = &[
     (Asked::English, b"1000007", Ok("1,000,007")),
     (Asked::English, b"-987654.321", Ok("-987,654.321")),
     (Asked::English, b"-0", Ok("-0")),
@@ -97,7 +97,7 @@ fn is_shown_in(
 }
 
 /// Rooms; the longest answer of the rows has 25 bytes.
-const ROOMS: [usize; 9] = [0, 1, 2, 4, 9, 12, 24, 25, 64];
+const ROOMS: &[usize] = &[0, 1, 2, 4, 9, 12, 24, 25, 64];
 
 /// Whether a text is shown so in rooms of each length.
 fn is_shown(alloc: Global, asked: Asked, text: &[u8], want: Result<&str, TextError>) -> bool {
@@ -105,7 +105,7 @@ fn is_shown(alloc: Global, asked: Asked, text: &[u8], want: Result<&str, TextErr
         return false;
     };
     let mut is_shown = true;
-    for &room in &ROOMS {
+    for &room in ROOMS {
         is_shown = is_shown && is_shown_in(alloc, &mode, (text, want), room);
     }
     is_shown
@@ -113,13 +113,13 @@ fn is_shown(alloc: Global, asked: Asked, text: &[u8], want: Result<&str, TextErr
 
 #[test]
 fn shows_one_text(rt: HostRuntime) {
-    for &(asked, text, want) in &TEXTS {
+    for &(asked, text, want) in TEXTS {
         assert!(rt; is_shown(rt.alloc(), asked, text, want));
     }
 }
 
 /// How many nines a large text has, and how many bytes in groups of three, or why it is refused.
-const NINES: [(Asked, usize, Result<usize, TextError>); 4] = [
+const NINES: &[(Asked, usize, Result<usize, TextError>)] = &[
     (Asked::English, 32768, Ok(43690)),
     (Asked::English, 32769, Err(TextError::TooManyDigits)),
     (Asked::Short, 32768, Err(TextError::Overflow)),
@@ -144,13 +144,13 @@ fn is_so_long(alloc: Global, asked: Asked, count: usize, want: Result<usize, Tex
 
 #[test]
 fn shows_large_texts(rt: HostRuntime) {
-    for &(asked, count, want) in &NINES {
+    for &(asked, count, want) in NINES {
         assert!(rt; is_so_long(rt.alloc(), asked, count, want), "{count}");
     }
 }
 
 /// What is asked for, a text, its characters, and the ranges of its parts.
-const PARTS: [(Asked, &[u8], &str, &[(usize, usize, &str)]); 3] = [
+const PARTS: &[(Asked, &[u8], &str, &[(usize, usize, &str)])] = &[
     (
         Asked::English,
         b"-987654.321",
@@ -209,7 +209,7 @@ fn has_parts(
 
 #[test]
 fn tells_parts(rt: HostRuntime) {
-    for &(asked, text, shown, spans) in &PARTS {
+    for &(asked, text, shown, spans) in PARTS {
         assert!(rt;
             has_parts(rt.alloc(), asked, text, (shown, spans)),
             "{shown}"
@@ -234,7 +234,7 @@ fn is_refused(alloc: Global, asked: Asked, count: usize, want: TextError) -> boo
 }
 
 /// How many nines have no parts, and why.
-const REFUSED: [(Asked, usize, TextError); 3] = [
+const REFUSED: &[(Asked, usize, TextError)] = &[
     (Asked::English, 0, TextError::NotDecimal),
     (Asked::English, 32769, TextError::TooManyDigits),
     (Asked::Short, 32768, TextError::Overflow),
@@ -242,7 +242,7 @@ const REFUSED: [(Asked, usize, TextError); 3] = [
 
 #[test]
 fn refuses_parts(rt: HostRuntime) {
-    for &(asked, count, want) in &REFUSED {
+    for &(asked, count, want) in REFUSED {
         assert!(rt; is_refused(rt.alloc(), asked, count, want), "{count}");
     }
 }

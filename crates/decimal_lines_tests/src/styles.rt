@@ -25,7 +25,7 @@ fn is_styled<T: Display>(alloc: Global, value: &T, want: &str) -> bool {
     is_styled_once(alloc, value, want) || is_styled_once(alloc, value, want)
 }
 
-const STARTS: [(StartError, &str); 3] = [
+const STARTS: &[(StartError, &str)] = &[
     (StartError::Tables, "tables refused"),
     (StartError::NoData, "no data"),
     (StartError::OutOfMemory, "out of memory"),
@@ -33,12 +33,12 @@ const STARTS: [(StartError, &str); 3] = [
 
 #[test]
 fn displays_why_there_is_no_mode_under_every_style(rt: HostRuntime) {
-    for &(error, want) in &STARTS {
+    for &(error, want) in STARTS {
         assert!(rt; is_styled(rt.alloc(), &error, want), "{want}");
     }
 }
 
-const RUNS: [(RunError, &str); 3] = [
+const RUNS: &[(RunError, &str)] = &[
     (RunError::Read, "reading failed"),
     (RunError::Write, "writing failed"),
     (RunError::OutOfMemory, "out of memory"),
@@ -46,19 +46,19 @@ const RUNS: [(RunError, &str); 3] = [
 
 #[test]
 fn displays_why_a_run_ended_under_every_style(rt: HostRuntime) {
-    for &(error, want) in &RUNS {
+    for &(error, want) in RUNS {
         assert!(rt; is_styled(rt.alloc(), &error, want), "{want}");
     }
 }
 
-const FILLS: [(FillError, &str); 2] = [
+const FILLS: &[(FillError, &str)] = &[
     (FillError::TooSmall, "the output is too small"),
     (FillError::OutOfMemory, "out of memory"),
 ];
 
 #[test]
 fn displays_why_a_room_is_not_filled_under_every_style(rt: HostRuntime) {
-    for &(error, want) in &FILLS {
+    for &(error, want) in FILLS {
         assert!(rt; is_styled(rt.alloc(), &error, want), "{want}");
     }
 }

@@ -43,7 +43,7 @@ fn tells(rt: &impl Abort, alloc: Global, text: &str, magnitude: i16, is_zero: bo
     number.nonzero_magnitude_start() == magnitude && number.is_zero() == is_zero
 }
 
-const MAGNITUDES: [(&str, i16, bool); 5] = [
+const MAGNITUDES: &[(&str, i16, bool)] = &[
     ("1000007", 6, false),
     ("0012", 1, false),
     ("0.050", -2, false),
@@ -53,7 +53,7 @@ const MAGNITUDES: [(&str, i16, bool); 5] = [
 
 #[test]
 fn tells_the_magnitude(rt: HostRuntime) {
-    for &(text, magnitude, is_zero) in &MAGNITUDES {
+    for &(text, magnitude, is_zero) in MAGNITUDES {
         assert!(rt; tells(&rt, rt.alloc(), text, magnitude, is_zero), "{text}");
     }
 }
@@ -62,7 +62,7 @@ fn trims(rt: &impl Abort, alloc: Global, text: &str, want: &str) -> bool {
     is_written(&number(rt, alloc, text).trimmed_end(), want)
 }
 
-const TRIMMED: [(&str, &str); 5] = [
+const TRIMMED: &[(&str, &str)] = &[
     ("0.10", "0.1"),
     ("10", "10"),
     ("1.000", "1"),
@@ -72,7 +72,7 @@ const TRIMMED: [(&str, &str); 5] = [
 
 #[test]
 fn trims_zeros_below_the_point(rt: HostRuntime) {
-    for &(text, want) in &TRIMMED {
+    for &(text, want) in TRIMMED {
         assert!(rt; trims(&rt, rt.alloc(), text, want), "{text}");
     }
 }
@@ -85,7 +85,7 @@ fn shown_sign(alloc: Global, text: &str, display: SignDisplay) -> Option<Sign> {
     }
 }
 
-const SIGNED: [&str; 6] = ["5", "-5", "+5", "0", "-0", "+0"];
+const SIGNED: &[&str] = &["5", "-5", "+5", "0", "-0", "+0"];
 
 const NO: Sign = Sign::None;
 
@@ -93,20 +93,20 @@ const MINUS: Sign = Sign::Negative;
 
 const PLUS: Sign = Sign::Positive;
 
-const SHOWN: [(SignDisplay, [Sign; 6]); 5] = [
-    (SignDisplay::Auto, [NO, MINUS, NO, NO, MINUS, NO]),
-    (SignDisplay::Never, [NO, NO, NO, NO, NO, NO]),
-    (SignDisplay::Always, [PLUS, MINUS, PLUS, PLUS, MINUS, PLUS]),
-    (SignDisplay::ExceptZero, [PLUS, MINUS, PLUS, NO, NO, NO]),
-    (SignDisplay::Negative, [NO, MINUS, NO, NO, NO, NO]),
+const SHOWN: &[(SignDisplay, &[Sign])] = &[
+    (SignDisplay::Auto, &[NO, MINUS, NO, NO, MINUS, NO]),
+    (SignDisplay::Never, &[NO, NO, NO, NO, NO, NO]),
+    (SignDisplay::Always, &[PLUS, MINUS, PLUS, PLUS, MINUS, PLUS]),
+    (SignDisplay::ExceptZero, &[PLUS, MINUS, PLUS, NO, NO, NO]),
+    (SignDisplay::Negative, &[NO, MINUS, NO, NO, NO, NO]),
 ];
 
 #[test]
 fn displays_signs(rt: HostRuntime) {
-    for &(display, signs) in &SHOWN {
+    for &(display, signs) in SHOWN {
         for (text, sign) in SIGNED.iter().zip(signs) {
             assert!(rt;
-                shown_sign(rt.alloc(), text, display) == Some(sign),
+                shown_sign(rt.alloc(), text, display) == Some(*sign),
                 "{text}"
             );
         }
@@ -139,7 +139,7 @@ fn are_equal(alloc: Global, left: &str, right: &str) -> Option<bool> {
     }
 }
 
-const COMPARED: [(&str, &str, bool); 6] = [
+const COMPARED: &[(&str, &str, bool)] = &[
     ("1234567890123456789", "1234567890123456789", true),
     ("1", "1", true),
     ("1.0", "1", false),
@@ -150,7 +150,7 @@ const COMPARED: [(&str, &str, bool); 6] = [
 
 #[test]
 fn compares_sign_range_and_digits(rt: HostRuntime) {
-    for &(left, right, want) in &COMPARED {
+    for &(left, right, want) in COMPARED {
         assert!(rt;
             are_equal(rt.alloc(), left, right) == Some(want),
             "{left} and {right}"

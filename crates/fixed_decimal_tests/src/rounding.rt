@@ -26,7 +26,7 @@ fn rounds(rt: &impl Abort, alloc: Global, text: &str, power: i16, want: &str) ->
     is_made(&rounded(number(rt, alloc, text), power), want)
 }
 
-const ROUNDED: [(&str, i16, &str); 12] = [
+const ROUNDED: &[(&str, i16, &str)] = &[
     ("5", 20, "00000000000000000000"),
     ("1650", 2, "1600"),
     ("1.25", -1, "1.2"),
@@ -43,7 +43,7 @@ const ROUNDED: [(&str, i16, &str); 12] = [
 
 #[test]
 fn rounds_half_to_even(rt: HostRuntime) {
-    for &(text, power, want) in &ROUNDED {
+    for &(text, power, want) in ROUNDED {
         assert!(rt;
             rounds(&rt, rt.alloc(), text, power, want),
             "{text} at {power}"

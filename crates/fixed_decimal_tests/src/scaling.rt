@@ -22,7 +22,7 @@ fn scales(rt: &impl Abort, alloc: Global, text: &str, power: i16, want: &str) ->
     is_made(&scaled(number(rt, alloc, text), power), want)
 }
 
-const SCALED: [(&str, i16, &str); 6] = [
+const SCALED: &[(&str, i16, &str)] = &[
     ("1", 20, "100000000000000000000"),
     ("1", 3, "1000"),
     ("200050", -2, "2000.50"),
@@ -33,7 +33,7 @@ const SCALED: [(&str, i16, &str); 6] = [
 
 #[test]
 fn scales_by_powers_of_ten(rt: HostRuntime) {
-    for &(text, power, want) in &SCALED {
+    for &(text, power, want) in SCALED {
         assert!(rt;
             scales(&rt, rt.alloc(), text, power, want),
             "{text} by {power}"

@@ -29,7 +29,7 @@ fn gives(rt: &impl Abort, alloc: Global, row: &(&str, i16, u8, &str)) -> bool {
     is_made(&significand(alloc, &number, row.1, row.2), row.3)
 }
 
-const SIGNIFICANDS: [(&str, i16, u8, &str); 15] = [
+const SIGNIFICANDS: &[(&str, i16, u8, &str)] = &[
     ("12345678901234567890123", 3, 3, "12345678901234567890"),
     ("15432", 3, 3, "15"),
     ("1650", 2, 3, "1.6"),
@@ -49,7 +49,7 @@ const SIGNIFICANDS: [(&str, i16, u8, &str); 15] = [
 
 #[test]
 fn rounds_to_significands(rt: HostRuntime) {
-    for &row in &SIGNIFICANDS {
+    for &row in SIGNIFICANDS {
         assert!(rt;
             gives(&rt, rt.alloc(), &row),
             "{} at {} over {}",

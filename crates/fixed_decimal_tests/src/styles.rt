@@ -25,7 +25,7 @@ fn is_styled<T: Display>(alloc: Global, value: &T, want: &str) -> bool {
     is_styled_once(alloc, value, want) || is_styled_once(alloc, value, want)
 }
 
-const ERRORS: [(DecimalError, &str); 3] = [
+const ERRORS: &[(DecimalError, &str)] = &[
     (DecimalError::Syntax, "not a decimal"),
     (DecimalError::Limit, "too many digits"),
     (DecimalError::OutOfMemory, "out of memory"),
@@ -33,7 +33,7 @@ const ERRORS: [(DecimalError, &str); 3] = [
 
 #[test]
 fn displays_errors_under_every_style(rt: HostRuntime) {
-    for &(error, want) in &ERRORS {
+    for &(error, want) in ERRORS {
         assert!(rt; is_styled(rt.alloc(), &error, want), "{want}");
     }
 }

@@ -7,7 +7,7 @@ use std::str;
 
 /// Texts, and the sign and the digits of each. The last seven have sixteen bytes and more without
 /// their sign; up to sixteen are read in one step.
-const TEXTS: [(&str, Sign, &str); 14] = [
+const TEXTS: &[(&str, Sign, &str)] = &[
     ("1000007", Sign::None, "1000007"),
     ("-987654.321", Sign::Negative, "987654.321"),
     ("0012", Sign::None, "0012"),
@@ -30,7 +30,7 @@ const TEXTS: [(&str, Sign, &str); 14] = [
 
 #[test]
 fn reads_each_written_digit(rt: HostRuntime) {
-    for &(text, sign, digits) in &TEXTS {
+    for &(text, sign, digits) in TEXTS {
         assert!(rt; is_signed(&read(rt.alloc(), text), sign, digits), "{text}");
     }
 }
@@ -45,7 +45,7 @@ fn read_bytes(alloc: Global, text: &[u8]) -> Result<Decimal, DecimalError> {
 
 #[test]
 fn reads_bytes_as_their_text(rt: HostRuntime) {
-    for &(text, sign, digits) in &TEXTS {
+    for &(text, sign, digits) in TEXTS {
         assert!(rt;
             is_signed(&read_bytes(rt.alloc(), text.as_bytes()), sign, digits),
             "{text}"
@@ -54,11 +54,11 @@ fn reads_bytes_as_their_text(rt: HostRuntime) {
 }
 
 /// Bytes that are no UTF-8: alone, after a digit, and in a cut character.
-const NO_TEXTS: [&[u8]; 3] = [b"\xff", b"1\x80", b"1\xef\xbc"];
+const NO_TEXTS: &[&[u8]] = &[b"\xff", b"1\x80", b"1\xef\xbc"];
 
 #[test]
 fn refuses_bytes_that_are_no_text(rt: HostRuntime) {
-    for &text in &NO_TEXTS {
+    for &text in NO_TEXTS {
         let refusal = read_bytes(rt.alloc(), text).err();
         assert!(rt; refusal == Some(DecimalError::Syntax), "{text:?}");
     }
@@ -119,7 +119,7 @@ fn is_judged(
     }
 }
 
-const LONG_TEXTS: [((u8, usize, u8), Option<DecimalError>); 5] = [
+const LONG_TEXTS: &[((u8, usize, u8), Option<DecimalError>)] = &[
     ((b'9', 32768, b'9'), None),
     ((b'.', 32769, b'9'), None),
     ((b'9', 32769, b'9'), Some(DecimalError::Limit)),
@@ -129,7 +129,7 @@ const LONG_TEXTS: [((u8, usize, u8), Option<DecimalError>); 5] = [
 
 #[test]
 fn reads_up_to_the_limits(rt: HostRuntime) {
-    for &(given, want) in &LONG_TEXTS {
+    for &(given, want) in LONG_TEXTS {
         assert!(rt; is_judged(rt.alloc(), given, want), "{}", given.1);
     }
 }

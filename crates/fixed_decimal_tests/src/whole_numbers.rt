@@ -40,7 +40,7 @@ fn one(alloc: Global) -> Result<UnsignedDecimal, DecimalError> {
     }
 }
 
-const WHOLE: [(u64, &str); 4] = [
+const WHOLE: &[(u64, &str)] = &[
     (0, "0"),
     (7, "7"),
     (1200, "1200"),
@@ -49,7 +49,7 @@ const WHOLE: [(u64, &str); 4] = [
 
 #[test]
 fn makes_whole_numbers(rt: HostRuntime) {
-    for &(value, want) in &WHOLE {
+    for &(value, want) in WHOLE {
         assert!(rt;
             is_signed(&from_u64(rt.alloc(), value), Sign::None, want),
             "{value}"
@@ -68,12 +68,12 @@ fn is_copied(alloc: Global, value: u64, want: &str) -> bool {
 
 #[test]
 fn makes_and_copies_unsigned_whole_numbers(rt: HostRuntime) {
-    for &(value, want) in &WHOLE {
+    for &(value, want) in WHOLE {
         assert!(rt; is_copied(rt.alloc(), value, want), "{value}");
     }
 }
 
-const SIGNED_WHOLE: [(i64, Sign, &str); 4] = [
+const SIGNED_WHOLE: &[(i64, Sign, &str)] = &[
     (0, Sign::None, "0"),
     (-5, Sign::Negative, "5"),
     (i64::MAX, Sign::None, "9223372036854775807"),
@@ -82,7 +82,7 @@ const SIGNED_WHOLE: [(i64, Sign, &str); 4] = [
 
 #[test]
 fn makes_signed_whole_numbers(rt: HostRuntime) {
-    for &(value, sign, want) in &SIGNED_WHOLE {
+    for &(value, sign, want) in SIGNED_WHOLE {
         assert!(rt;
             is_signed(&from_i64(rt.alloc(), value), sign, want),
             "{value}"

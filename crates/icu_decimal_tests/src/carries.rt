@@ -1,11 +1,11 @@
 //! Carries: a number that is rounded up to a power of ten is written by the entry of that power,
 //! and its shown number is written again.
 
-use crate::compact::is_value;
 use crate::fixtures::read;
-use crate::given::is_accepted;
+use crate::given::made_accepts;
 use crate::languages::Language;
 use crate::making::compact;
+use crate::writing::made_is_value;
 use icu_decimal::options::GroupingStrategy;
 use std::alloc::Global;
 use std::process::Abort;
@@ -13,8 +13,7 @@ use std::process::Abort;
 /// Whether a language writes a text so.
 fn writes(rt: &impl Abort, alloc: Global, language: Language, text: &str, want: &str) -> bool {
     let formatter = compact(rt, alloc, language, GroupingStrategy::Min2);
-    let decimal = read(rt, alloc, text);
-    is_value(alloc, &formatter, &decimal, want)
+    made_is_value(alloc, formatter, read(rt, alloc, text), want)
 }
 
 /// Whether a language accepts a text as a significand with this exponent, and writes both so.
@@ -22,12 +21,11 @@ fn gives(
     rt: &impl Abort,
     alloc: Global,
     language: Language,
-    given: (&str, u8),
+    (text, exponent): (&str, u8),
     want: &str,
 ) -> bool {
     let formatter = compact(rt, alloc, language, GroupingStrategy::Min2);
-    let significand = read(rt, alloc, given.0);
-    is_accepted(alloc, &formatter, &significand, given.1, want)
+    made_accepts(alloc, formatter, read(rt, alloc, text), exponent, want)
 }
 
 /// A number that is rounded up, its shown size, the significand and the exponent, and the text of
@@ -40,7 +38,7 @@ type Row = (
     &'static str,
 );
 
-const ROWS: [Row; 17] = [
+const ROWS: &[Row] = &[
     (Language::Words, "9999.5", "10000", ("10000", 0), "10,000"),
     (Language::Words, "99999.5", "100000", ("10", 4), "10W"),
     (Language::Lakhs, "999500", "1000000", ("10", 5), "10L"),
@@ -107,21 +105,21 @@ fn gives_shown(rt: &impl Abort, alloc: Global, row: &Row) -> bool {
 
 #[test]
 fn a_carry_takes_what_stands_at_the_magnitude_reached(rt: HostRuntime) {
-    for row in &ROWS {
+    for row in ROWS {
         assert!(rt; writes_number(&rt, rt.alloc(), row), "{}", row.1);
     }
 }
 
 #[test]
 fn what_is_shown_is_shown_again(rt: HostRuntime) {
-    for row in &ROWS {
+    for row in ROWS {
         assert!(rt; writes_shown(&rt, rt.alloc(), row), "{}", row.1);
     }
 }
 
 #[test]
 fn what_is_shown_is_given_alike(rt: HostRuntime) {
-    for row in &ROWS {
+    for row in ROWS {
         assert!(rt; gives_shown(&rt, rt.alloc(), row), "{}", row.1);
     }
 }
@@ -147,7 +145,7 @@ fn what_is_shown_without_a_carry_is_shown_again(rt: HostRuntime) {
 
 /// Padding is kept if the entry stays, so the shown number, which has no padding, is written
 /// differently.
-const PADDED: [(&str, &str); 4] = [
+const PADDED: &[(&str, &str)] = &[
     ("0999499", "0999K"),
     ("999499", "999K"),
     ("009950", "010K"),
@@ -156,7 +154,7 @@ const PADDED: [(&str, &str); 4] = [
 
 #[test]
 fn padding_is_kept_where_the_entry_stays(rt: HostRuntime) {
-    for &(text, want) in &PADDED {
+    for &(text, want) in PADDED {
         assert!(rt;
             writes(&rt, rt.alloc(), Language::ShortEnglish, text, want),
             "{text}"

@@ -1,8 +1,9 @@
 //! Compact numbers: what the formatter writes of decimals.
 
-use crate::fixtures::{is_annotated, is_displayed, nines, read};
+use crate::fixtures::{is_annotated, nines, read};
 use crate::languages::Language;
-use crate::making::{compact, compact_with};
+use crate::making::{compact_with, short_english};
+use crate::writing::{Span, made_has_parts, made_is_shown};
 use fixed_decimal::{Decimal, SignDisplay};
 use icu_decimal::error::FormatError;
 use icu_decimal::options::{
@@ -11,7 +12,7 @@ use icu_decimal::options::{
 use icu_decimal::{CompactDecimalFormatter, FormattedSign, FormattedUnsignedCompactDecimal, parts};
 use std::alloc::Global;
 use std::process::Abort;
-use writeable::{Part, PartsText, Writeable};
+use writeable::{PartsText, Writeable};
 
 /// The compact number, asked for once more where memory was refused.
 pub(crate) fn formatted<'l>(
@@ -25,46 +26,7 @@ pub(crate) fn formatted<'l>(
     }
 }
 
-/// Whether the value that the formatter makes of a decimal is displayed so.
-pub(crate) fn is_value(
-    alloc: Global,
-    formatter: &CompactDecimalFormatter,
-    decimal: &Decimal,
-    want: &str,
-) -> bool {
-    match formatted(alloc, formatter, decimal) {
-        Ok(value) => is_displayed(alloc, &value, want),
-        Err(_) => false,
-    }
-}
-
-/// Whether the formatter writes a decimal as this text; asked once more where memory was refused.
-pub(crate) fn is_text(
-    alloc: Global,
-    formatter: &CompactDecimalFormatter,
-    decimal: &Decimal,
-    want: &str,
-) -> bool {
-    match formatter.format_to_string(alloc, decimal) {
-        Ok(text) => text.as_str() == want,
-        Err(_) => match formatter.format_to_string(alloc, decimal) {
-            Ok(text) => text.as_str() == want,
-            Err(_) => false,
-        },
-    }
-}
-
-/// Whether the formatter writes a decimal so, as a text and as a value.
-fn is_shown(
-    alloc: Global,
-    formatter: &CompactDecimalFormatter,
-    decimal: &Decimal,
-    want: &str,
-) -> bool {
-    is_text(alloc, formatter, decimal, want) && is_value(alloc, formatter, decimal, want)
-}
-
-/// Whether a text is written so in a language with options.
+/// Whether a text is written so in a language with options, as a text and as a value.
 fn shows(
     rt: &impl Abort,
     alloc: Global,
@@ -73,8 +35,7 @@ fn shows(
     (text, want): (&str, &str),
 ) -> bool {
     let formatter = compact_with(rt, alloc, language, options);
-    let decimal = read(rt, alloc, text);
-    is_shown(alloc, &formatter, &decimal, want)
+    made_is_shown(alloc, formatter, read(rt, alloc, text), want)
 }
 
 /// A strategy as compact options, or the default ones, as plain options.
@@ -85,7 +46,7 @@ fn options_of(strategy: Option<GroupingStrategy>) -> DecimalFormatterOptions {
     }
 }
 
-const ENGLISH_ROWS: [(&str, &str); 17] = [
+const ENGLISH_ROWS: &[(&str, &str)] = &[
     ("999499.99", "999K"),
     ("999500.00", "1M"),
     ("2207", "2.2K"),
@@ -107,7 +68,7 @@ const ENGLISH_ROWS: [(&str, &str); 17] = [
 
 #[test]
 fn shows_short_english(rt: HostRuntime) {
-    for &row in &ENGLISH_ROWS {
+    for &row in ENGLISH_ROWS {
         let options = options_of(Some(GroupingStrategy::Min2));
         assert!(rt;
             shows(&rt, rt.alloc(), Language::ShortEnglish, options, row),
@@ -117,7 +78,7 @@ fn shows_short_english(rt: HostRuntime) {
     }
 }
 
-const SMALL: [(&str, &str); 9] = [
+const SMALL: &[(&str, &str)] = &[
     ("0", "0"),
     ("-0.00", "-0"),
     ("2", "2"),
@@ -131,7 +92,7 @@ const SMALL: [(&str, &str); 9] = [
 
 #[test]
 fn shows_small_numbers_with_two_digits(rt: HostRuntime) {
-    for &row in &SMALL {
+    for &row in SMALL {
         let options = options_of(Some(GroupingStrategy::Min2));
         assert!(rt;
             shows(&rt, rt.alloc(), Language::ShortEnglish, options, row),
@@ -141,7 +102,7 @@ fn shows_small_numbers_with_two_digits(rt: HostRuntime) {
     }
 }
 
-const OTHERS: [(Language, &str, &str); 6] = [
+const OTHERS: &[(Language, &str, &str)] = &[
     (Language::LongFrench, "1000", "mille"),
     (Language::LongFrench, "2000", "2 mille"),
     (Language::LongFrench, "35357670", "35 millions"),
@@ -152,7 +113,7 @@ const OTHERS: [(Language, &str, &str); 6] = [
 
 #[test]
 fn shows_other_languages(rt: HostRuntime) {
-    for &(language, text, want) in &OTHERS {
+    for &(language, text, want) in OTHERS {
         let options = options_of(Some(GroupingStrategy::Min2));
         assert!(rt;
             shows(&rt, rt.alloc(), language, options, (text, want)),
@@ -163,7 +124,7 @@ fn shows_other_languages(rt: HostRuntime) {
 
 /// Numbers below the first kept type, and at and between the two kept ones. The type 3 is skipped,
 /// since its numbers are shown as those of magnitude 0.
-const JAPANESE: [(&str, &str); 7] = [
+const JAPANESE: &[(&str, &str)] = &[
     ("999", "999"),
     ("1234", "1234"),
     ("9999.5", "1万"),
@@ -175,7 +136,7 @@ const JAPANESE: [(&str, &str); 7] = [
 
 #[test]
 fn shows_a_table_with_a_skipped_type(rt: HostRuntime) {
-    for &row in &JAPANESE {
+    for &row in JAPANESE {
         assert!(rt;
             shows(
                 &rt,
@@ -191,7 +152,7 @@ fn shows_a_table_with_a_skipped_type(rt: HostRuntime) {
 }
 
 /// A strategy, or none for the default options, and how 10^15 and 10^16 are written with it.
-const GROUPED: [(Language, Option<GroupingStrategy>, &str, &str); 8] = [
+const GROUPED: &[(Language, Option<GroupingStrategy>, &str, &str)] = &[
     (Language::ShortEnglish, None, "1000T", "10,000T"),
     (
         Language::ShortEnglish,
@@ -239,7 +200,7 @@ const GROUPED: [(Language, Option<GroupingStrategy>, &str, &str); 8] = [
 
 #[test]
 fn test_grouping(rt: HostRuntime) {
-    for &(language, strategy, fifteen, sixteen) in &GROUPED {
+    for &(language, strategy, fifteen, sixteen) in GROUPED {
         let options = options_of(strategy);
         let row = ("1000000000000000", fifteen);
         assert!(rt; shows(&rt, rt.alloc(), language, options, row), "{fifteen}");
@@ -248,7 +209,7 @@ fn test_grouping(rt: HostRuntime) {
     }
 }
 
-const BELOW_THEIR_TYPES: [(Language, &str, &str); 4] = [
+const BELOW_THEIR_TYPES: &[(Language, &str, &str)] = &[
     (Language::Words, "9999.5", "10,000"),
     (Language::Words, "10000", "10,000"),
     (Language::Lakhs, "999500", "10L"),
@@ -257,7 +218,7 @@ const BELOW_THEIR_TYPES: [(Language, &str, &str); 4] = [
 
 #[test]
 fn shows_tables_whose_exponents_are_below_their_types(rt: HostRuntime) {
-    for &(language, text, want) in &BELOW_THEIR_TYPES {
+    for &(language, text, want) in BELOW_THEIR_TYPES {
         let options = options_of(Some(GroupingStrategy::Min2));
         assert!(rt;
             shows(&rt, rt.alloc(), language, options, (text, want)),
@@ -271,38 +232,27 @@ fn is_in_a_sink(
     alloc: Global,
     value: &FormattedSign<'_, FormattedUnsignedCompactDecimal<'_>>,
     text: &str,
-    want: &[(usize, usize, Part)],
+    spans: &[Span],
 ) -> bool {
     let mut sink = PartsText::new(alloc);
-    value.write_to_parts(&mut sink).is_ok() && is_annotated(alloc, &sink, text, want)
+    value.write_to_parts(&mut sink).is_ok() && is_annotated(alloc, &sink, text, spans)
 }
 
 /// Whether a decimal is written as this text with these spans; asked once more where memory was
 /// refused.
-fn is_marked(
+pub(crate) fn is_marked(
     alloc: Global,
     formatter: &CompactDecimalFormatter,
     decimal: &Decimal,
     text: &str,
-    want: &[(usize, usize, Part)],
+    spans: &[Span],
 ) -> bool {
     match formatted(alloc, formatter, decimal) {
         Ok(value) => {
-            is_in_a_sink(alloc, &value, text, want) || is_in_a_sink(alloc, &value, text, want)
+            is_in_a_sink(alloc, &value, text, spans) || is_in_a_sink(alloc, &value, text, spans)
         }
         Err(_) => false,
     }
-}
-
-/// Whether the formatter writes a decimal as this text, and with these spans.
-fn is_written(
-    alloc: Global,
-    formatter: &CompactDecimalFormatter,
-    decimal: &Decimal,
-    want: &str,
-    spans: &[(usize, usize, Part)],
-) -> bool {
-    is_text(alloc, formatter, decimal, want) && is_marked(alloc, formatter, decimal, want, spans)
 }
 
 /// Whether a text is written in short English as this text with these spans.
@@ -311,11 +261,10 @@ fn marks(
     alloc: Global,
     (text, display): (&str, SignDisplay),
     want: &str,
-    spans: &[(usize, usize, Part)],
+    spans: &[Span],
 ) -> bool {
-    let formatter = compact(rt, alloc, Language::ShortEnglish, GroupingStrategy::Min2);
     let decimal = read(rt, alloc, text).with_sign_display(display);
-    is_written(alloc, &formatter, &decimal, want, spans)
+    made_has_parts(alloc, short_english(rt, alloc), decimal, want, spans)
 }
 
 #[test]
@@ -332,17 +281,26 @@ fn marks_the_sign_that_is_asked_for(rt: HostRuntime) {
     assert!(rt; marks(&rt, rt.alloc(), given, "+2.5K", &spans));
 }
 
-/// Whether a decimal is refused, since its compact number is too large.
-fn is_refused(alloc: Global, formatter: &CompactDecimalFormatter, decimal: &Decimal) -> bool {
-    match formatted(alloc, formatter, decimal) {
-        Ok(_) => false,
-        Err(error) => error == FormatError::Overflow,
+/// Why a value wasn't made; none where it was.
+pub(crate) fn refusal<V: Drop>(made: Result<V, FormatError>) -> Option<FormatError> {
+    match made {
+        Ok(_) => None,
+        Err(error) => Some(error),
     }
+}
+
+/// Whether a decimal is refused, since its compact number is too large.
+pub(crate) fn is_refused(
+    alloc: Global,
+    formatter: &CompactDecimalFormatter,
+    decimal: &Decimal,
+) -> bool {
+    refusal(formatted(alloc, formatter, decimal)) == Some(FormatError::Overflow)
 }
 
 /// Whether so many digits are refused.
 fn overflows(rt: &impl Abort, alloc: Global) -> bool {
-    let formatter = compact(rt, alloc, Language::ShortEnglish, GroupingStrategy::Min2);
+    let formatter = short_english(rt, alloc);
     let largest = nines(rt, alloc, 32768);
     is_refused(alloc, &formatter, &largest)
 }

@@ -1,14 +1,12 @@
 //! Compact numbers at the limits of a decimal: the least power, and as many digits as a number may
 //! have that just doesn't overflow.
 
-use crate::compact::formatted;
-use crate::fixtures::{english, is_displayed};
-use crate::languages::Language;
-use crate::making::compact;
-use fixed_decimal::{Decimal, DecimalError};
+use crate::compact::is_refused;
+use crate::fixtures::{english, found, read};
+use crate::making::short_english;
+use crate::writing::NumberWriter;
+use fixed_decimal::Decimal;
 use icu_decimal::CompactDecimalFormatter;
-use icu_decimal::error::FormatError;
-use icu_decimal::options::GroupingStrategy;
 use icu_decimal::provider::CompactPatterns;
 use icu_pattern::SinglePlaceholder;
 use icu_plurals::PluralRules;
@@ -41,53 +39,48 @@ fn bytes(
     repeated: (u8, usize),
     behind: &[u8],
 ) -> Vec<u8> {
-    match around(alloc, before, repeated, behind) {
-        Ok(bytes) => bytes,
-        Err(_) => match around(alloc, before, repeated, behind) {
-            Ok(bytes) => bytes,
-            Err(_) => panic!(rt; "memory was refused"),
-        },
-    }
+    let made = match around(alloc, before, repeated, behind) {
+        Ok(bytes) => Ok(bytes),
+        Err(_) => around(alloc, before, repeated, behind),
+    };
+    found(rt, made, "memory")
 }
 
-/// Reads a decimal out of bytes, once more where memory was refused.
-fn decimal(rt: &impl Abort, alloc: Global, bytes: &[u8]) -> Decimal {
-    let Ok(text) = str::from_utf8(bytes) else {
-        panic!(rt; "digits are no text");
-    };
-    let read = match Decimal::try_from_str(alloc, text) {
-        Err(DecimalError::OutOfMemory) => Decimal::try_from_str(alloc, text),
-        answer => answer,
-    };
-    match read {
-        Ok(decimal) => decimal,
-        Err(_) => panic!(rt; "a decimal was refused"),
-    }
+/// The decimal of a text of equal digits with this around them.
+fn decimal(
+    rt: &impl Abort,
+    alloc: Global,
+    before: &[u8],
+    repeated: (u8, usize),
+    behind: &[u8],
+) -> Decimal {
+    let given = bytes(rt, alloc, before, repeated, behind);
+    read(rt, alloc, str::from_utf8(&given).unwrap_or_default())
 }
 
 /// Whether a formatter writes a decimal as these bytes.
-fn is_written(
-    alloc: Global,
-    formatter: &CompactDecimalFormatter,
-    decimal: &Decimal,
-    want: &[u8],
-) -> bool {
-    let Ok(want) = str::from_utf8(want) else {
-        return false;
-    };
-    match formatted(alloc, formatter, decimal) {
-        Ok(value) => is_displayed(alloc, &value, want),
+fn is_bytes<W: NumberWriter>(alloc: Global, formatter: &W, decimal: &Decimal, want: &[u8]) -> bool {
+    match str::from_utf8(want) {
+        Ok(want) => formatter.has_value(alloc, decimal, want),
         Err(_) => false,
     }
 }
 
+/// Whether a formatter that was made writes a decimal as these bytes, which are so many.
+fn made_is_bytes<W: NumberWriter + Drop>(
+    alloc: Global,
+    formatter: W,
+    decimal: Decimal,
+    (want, length): (&[u8], usize),
+) -> bool {
+    want.len() == length && is_bytes(alloc, &formatter, &decimal, want)
+}
+
 /// Whether one at the least power is written with all its zeros: there is no digit to round away.
 fn writes_the_least(rt: &impl Abort, alloc: Global) -> bool {
-    let formatter = compact(rt, alloc, Language::ShortEnglish, GroupingStrategy::Min2);
-    let given = bytes(rt, alloc, b".", (b'0', 32767), b"1");
     let want = bytes(rt, alloc, b"0.", (b'0', 32767), b"1");
-    let least = decimal(rt, alloc, &given);
-    is_written(alloc, &formatter, &least, &want)
+    let least = decimal(rt, alloc, b".", (b'0', 32767), b"1");
+    made_is_bytes(alloc, short_english(rt, alloc), least, (&want, 32770))
 }
 
 #[test]
@@ -97,24 +90,20 @@ fn writes_one_at_the_least_power(rt: HostRuntime) {
 
 /// The table without an entry; asked once more where memory was refused.
 fn empty_table(rt: &impl Abort, alloc: Global) -> CompactPatterns<SinglePlaceholder> {
-    match CompactPatterns::new(alloc, BTreeMap::new(alloc), None) {
-        Ok(table) => table,
-        Err(_) => match CompactPatterns::new(alloc, BTreeMap::new(alloc), None) {
-            Ok(table) => table,
-            Err(_) => panic!(rt; "the empty table was refused"),
-        },
-    }
+    let made = match CompactPatterns::new(alloc, BTreeMap::new(alloc), None) {
+        Ok(table) => Ok(table),
+        Err(_) => CompactPatterns::new(alloc, BTreeMap::new(alloc), None),
+    };
+    found(rt, made, "the empty table")
 }
 
 /// Rules without a condition, made once more where memory was refused.
 fn no_rules(rt: &impl Abort, alloc: Global) -> PluralRules {
-    match PluralRules::from_rules(alloc, &[]) {
-        Ok(rules) => rules,
-        Err(_) => match PluralRules::from_rules(alloc, &[]) {
-            Ok(rules) => rules,
-            Err(_) => panic!(rt; "no rules were refused"),
-        },
-    }
+    let made = match PluralRules::from_rules(alloc, &[]) {
+        Ok(rules) => Ok(rules),
+        Err(_) => PluralRules::from_rules(alloc, &[]),
+    };
+    found(rt, made, "no rules")
 }
 
 /// The compact formatter of English numbers without a pattern.
@@ -138,34 +127,26 @@ fn grouped_nines(alloc: Global, count: usize) -> Result<Vec<u8>, AllocError> {
 
 /// The same, once more where memory was refused.
 fn nines(rt: &impl Abort, alloc: Global, count: usize) -> Vec<u8> {
-    match grouped_nines(alloc, count) {
-        Ok(nines) => nines,
-        Err(_) => match grouped_nines(alloc, count) {
-            Ok(nines) => nines,
-            Err(_) => panic!(rt; "memory was refused"),
-        },
-    }
+    let made = match grouped_nines(alloc, count) {
+        Ok(nines) => Ok(nines),
+        Err(_) => grouped_nines(alloc, count),
+    };
+    found(rt, made, "memory")
 }
 
 /// Whether a number at the limit, nines with this behind them, is written as the nines in groups.
 fn writes_the_greatest(rt: &impl Abort, alloc: Global, behind: &[u8]) -> bool {
-    let formatter = without_patterns(rt, alloc);
-    let given = bytes(rt, alloc, b"", (b'9', 32768), behind);
-    let greatest = decimal(rt, alloc, &given);
     let want = nines(rt, alloc, 32768);
-    want.len() == 43690 && is_written(alloc, &formatter, &greatest, &want)
+    let greatest = decimal(rt, alloc, b"", (b'9', 32768), behind);
+    made_is_bytes(alloc, without_patterns(rt, alloc), greatest, (&want, 43690))
 }
 
 /// Whether the nines with a half behind them, which round up to a power that no decimal has,
 /// overflow.
 fn overflows_by_a_half(rt: &impl Abort, alloc: Global) -> bool {
     let formatter = without_patterns(rt, alloc);
-    let given = bytes(rt, alloc, b"", (b'9', 32768), b".5");
-    let greatest = decimal(rt, alloc, &given);
-    match formatted(alloc, &formatter, &greatest) {
-        Ok(_) => false,
-        Err(error) => error == FormatError::Overflow,
-    }
+    let greatest = decimal(rt, alloc, b"", (b'9', 32768), b".5");
+    is_refused(alloc, &formatter, &greatest)
 }
 
 #[test]

@@ -9,7 +9,7 @@ use std::alloc::{AllocError, Global};
 use std::fmt::Display;
 use std::process::Abort;
 use std::str;
-use writeable::{Part, PartsText};
+use writeable::{OutOfMemory, Part, PartsText};
 
 pub(crate) const LATIN: [char; 10] = ['0', '1', '2', '3', '4', '5', '6', '7', '8', '9'];
 
@@ -27,16 +27,21 @@ pub(crate) const INDIC: GroupingSizes = GroupingSizes {
     min_grouping: 1,
 };
 
+/// What was made, which has to be there.
+pub(crate) fn found<T: Drop, E: Drop>(rt: &impl Abort, made: Result<T, E>, what: &str) -> T {
+    match made {
+        Ok(made) => made,
+        Err(_) => panic!(rt; "{what} was refused"),
+    }
+}
+
 /// Reads a text, once more where memory was refused.
 pub(crate) fn read(rt: &impl Abort, alloc: Global, text: &str) -> Decimal {
     let read = match Decimal::try_from_str(alloc, text) {
         Err(DecimalError::OutOfMemory) => Decimal::try_from_str(alloc, text),
         answer => answer,
     };
-    match read {
-        Ok(decimal) => decimal,
-        Err(_) => panic!(rt; "{text} was refused"),
-    }
+    found(rt, read, text)
 }
 
 /// Reads a text, and multiplies it by ten to a power.
@@ -50,17 +55,12 @@ pub(crate) fn scaled(rt: &impl Abort, alloc: Global, text: &str, power: i16) -> 
 
 /// A decimal of so many nines.
 pub(crate) fn nines(rt: &impl Abort, alloc: Global, count: usize) -> Decimal {
-    let bytes = match Vec::from_elem(alloc, b'9', count) {
+    let made = match Vec::from_elem(alloc, b'9', count) {
         Ok(bytes) => Ok(bytes),
         Err(_) => Vec::from_elem(alloc, b'9', count),
     };
-    match bytes {
-        Ok(bytes) => match str::from_utf8(&bytes) {
-            Ok(text) => read(rt, alloc, text),
-            Err(_) => panic!(rt; "nines are no text"),
-        },
-        Err(_) => panic!(rt; "memory was refused"),
-    }
+    let bytes = found(rt, made, "memory");
+    read(rt, alloc, str::from_utf8(&bytes).unwrap_or_default())
 }
 
 /// Symbols with these affixes of a minus, separators and sizes.
@@ -85,12 +85,9 @@ pub(crate) fn symbols(
         Ok(strings) => Ok(strings),
         Err(_) => builder.build(alloc),
     };
-    match built {
-        Ok(strings) => DecimalSymbols {
-            strings,
-            grouping_sizes,
-        },
-        Err(_) => panic!(rt; "symbols were refused"),
+    DecimalSymbols {
+        strings: found(rt, built, "symbols"),
+        grouping_sizes,
     }
 }
 
@@ -110,15 +107,28 @@ pub(crate) fn english(rt: &impl Abort, alloc: Global) -> DecimalFormatter {
     formatter(rt, alloc, ENGLISH, GroupingStrategy::Auto)
 }
 
+/// Whether a text was made, and is this.
+pub(crate) fn is_made<E: Drop>(made: Result<String, E>, want: &str) -> bool {
+    match made {
+        Ok(text) => text.as_str() == want,
+        Err(_) => false,
+    }
+}
+
 /// Whether a value is displayed so.
 pub(crate) fn is_displayed<T: Display>(alloc: Global, value: &T, want: &str) -> bool {
     let text: Result<String, AllocError> = value.to_string(alloc);
     match text {
         Ok(text) => text.as_str() == want,
-        Err(_) => match value.to_string(alloc) {
-            Ok(text) => text.as_str() == want,
-            Err(_) => false,
-        },
+        Err(_) => is_made(value.to_string(alloc), want),
+    }
+}
+
+/// The spans of a sink, asked for once more where memory was refused.
+fn spans_of(alloc: Global, sink: &PartsText) -> Result<Vec<(usize, usize, Part)>, OutOfMemory> {
+    match sink.spans(alloc) {
+        Ok(spans) => Ok(spans),
+        Err(_) => sink.spans(alloc),
     }
 }
 
@@ -129,12 +139,8 @@ pub(crate) fn is_annotated(
     text: &str,
     want: &[(usize, usize, Part)],
 ) -> bool {
-    let are_wanted = match sink.spans(alloc) {
-        Ok(spans) => spans.as_slice() == want,
-        Err(_) => match sink.spans(alloc) {
-            Ok(spans) => spans.as_slice() == want,
-            Err(_) => false,
-        },
-    };
-    are_wanted && sink.text() == text
+    match spans_of(alloc, sink) {
+        Ok(spans) => spans.as_slice() == want && sink.text() == text,
+        Err(_) => false,
+    }
 }

@@ -7,15 +7,14 @@ ghost use Rattle.icu_pattern.specs.Patterns.{interpolated};
 ghost use Rattle.icu_plurals.specs.Rules.{category_of};
 
 use crate::fixtures::{english, is_annotated, nines, read};
-use crate::languages::Language;
-use crate::making::compact;
-use fixed_decimal::UnsignedDecimal;
+use crate::making::short_english;
+use fixed_decimal::{Decimal, UnsignedDecimal};
 use icu_decimal::error::FormatError;
-use icu_decimal::options::GroupingStrategy;
 use icu_decimal::{AbstractFormatter, Characters, Frame, ShownNumber, parts};
 use icu_pattern::{Pattern, SinglePlaceholder};
 use icu_plurals::{PluralCategory, PluralElements, PluralRules};
 use std::alloc::Global;
+use std::process::Abort;
 use writeable::{EventWriter, Part, PartsText, WriteFault, Writeable};
 
 /// Texts around a number with its parts, and then its characters once more.
@@ -86,64 +85,87 @@ const THREE_DIGITS: &[(usize, usize, Part)] = &[
     (3, 5, parts::FRACTION),
 ];
 
-const PLAIN: [(&str, Wanted<'static>); 3] = [
+/// Whether a formatter that was made writes a number in its frame so.
+fn made_is_framed<F: AbstractFormatter + Drop>(
+    alloc: Global,
+    formatter: F,
+    number: Decimal,
+    wanted: Wanted<'_>,
+) -> bool {
+    is_framed(alloc, &formatter, &number.absolute, wanted)
+}
+
+const PLAIN: &[(&str, Wanted<'static>)] = &[
     ("1.20", (None, Ok(()), "[1.20]1.20", THREE_DIGITS)),
     ("-1.20", (None, Ok(()), "[1.20]1.20", THREE_DIGITS)),
     ("1.20", (Some(1), Err(FormatError::Sink), "[", &[])),
 ];
 
+/// Whether the plain English formatter writes the number of a text so.
+fn is_plain(rt: &impl Abort, alloc: Global, text: &str, wanted: Wanted<'_>) -> bool {
+    made_is_framed(alloc, english(rt, alloc), read(rt, alloc, text), wanted)
+}
+
 #[test]
 fn a_plain_number_stands_in_its_frame(rt: HostRuntime) {
-    let formatter = english(&rt, rt.alloc());
-    for (text, wanted) in PLAIN {
-        let number = read(&rt, rt.alloc(), text).absolute;
-        assert!(rt;
-            is_framed(rt.alloc(), &formatter, &number, wanted),
-            "{text}"
-        );
+    for &(text, wanted) in PLAIN {
+        assert!(rt; is_plain(&rt, rt.alloc(), text, wanted), "{text}");
     }
 }
 
-const SHORT: [(&str, Wanted<'static>); 3] = [
+const SHORT: &[(&str, Wanted<'static>)] = &[
     ("-1250", (None, Ok(()), "[1.2K]1.2K", &[])),
     ("999500", (None, Ok(()), "[1M]1M", &[])),
     ("2500", (Some(7), Err(FormatError::Sink), "[2.5K]2", &[])),
 ];
 
-#[test]
-fn a_compact_number_stands_in_its_frame(rt: HostRuntime) {
-    let formatter = compact(
-        &rt,
-        rt.alloc(),
-        Language::ShortEnglish,
-        GroupingStrategy::Min2,
-    );
-    for (text, wanted) in SHORT {
-        let number = read(&rt, rt.alloc(), text).absolute;
-        assert!(rt;
-            is_framed(rt.alloc(), &formatter, &number, wanted),
-            "{text}"
-        );
-    }
+/// Whether the formatter of short English writes the number of a text so.
+fn is_short(rt: &impl Abort, alloc: Global, text: &str, wanted: Wanted<'_>) -> bool {
+    made_is_framed(
+        alloc,
+        short_english(rt, alloc),
+        read(rt, alloc, text),
+        wanted,
+    )
 }
 
 #[test]
-fn a_large_number_overflows_before_its_frame(rt: HostRuntime) {
-    let formatter = compact(
-        &rt,
-        rt.alloc(),
-        Language::ShortEnglish,
-        GroupingStrategy::Min2,
-    );
-    let number = nines(&rt, rt.alloc(), 32768).absolute;
-    let wanted: Wanted<'_> = (None, Err(FormatError::Overflow), "", &[]);
-    assert!(rt; is_framed(rt.alloc(), &formatter, &number, wanted));
+fn a_compact_number_stands_in_its_frame(rt: HostRuntime) {
+    for &(text, wanted) in SHORT {
+        assert!(rt; is_short(&rt, rt.alloc(), text, wanted), "{text}");
+    }
+}
+
+/// Whether the text of a number in its frame is refused, since its compact number is too large.
+fn is_refused<F: AbstractFormatter + Drop>(alloc: Global, formatter: F, number: Decimal) -> bool {
     let frame = Twice {
         before: "[",
         after: "]",
     };
     let refused = Err(FormatError::Overflow);
-    assert!(rt; is_text(rt.alloc(), &formatter, &number, &frame, refused));
+    is_text(alloc, &formatter, &number.absolute, &frame, refused)
+}
+
+/// Whether so many nines leave a sink.
+fn leaves_the_sink(rt: &impl Abort, alloc: Global, count: usize) -> bool {
+    let wanted: Wanted<'_> = (None, Err(FormatError::Overflow), "", &[]);
+    made_is_framed(
+        alloc,
+        short_english(rt, alloc),
+        nines(rt, alloc, count),
+        wanted,
+    )
+}
+
+/// Whether so many nines have no text.
+fn has_no_text(rt: &impl Abort, alloc: Global, count: usize) -> bool {
+    is_refused(alloc, short_english(rt, alloc), nines(rt, alloc, count))
+}
+
+#[test]
+fn a_large_number_overflows_before_its_frame(rt: HostRuntime) {
+    assert!(rt; leaves_the_sink(&rt, rt.alloc(), 32768));
+    assert!(rt; has_no_text(&rt, rt.alloc(), 32768));
 }
 
 /// A pattern that a number's operands pick.
@@ -171,9 +193,12 @@ impl Frame for Picked<'_> {
 
 /// Patterns that mark a number of the category one, and another number.
 fn marks(alloc: Global) -> Option<PluralElements<Pattern<SinglePlaceholder>>> {
-    let one = Pattern::try_new(alloc, Some(0), " is one").ok()?;
-    let other = Pattern::try_new(alloc, Some(0), " is another").ok()?;
-    Some(PluralElements::new(other).with_one_value(Some(one)))
+    let one = Pattern::try_new(alloc, Some(0), " is one").ok();
+    let other = Pattern::try_new(alloc, Some(0), " is another").ok();
+    match one.zip(other) {
+        Some((one, other)) => Some(PluralElements::new(other).with_one_value(Some(one))),
+        None => None,
+    }
 }
 
 /// Whether the text of a number in its frame is this, or refused so.
@@ -184,11 +209,24 @@ fn is_text<F: AbstractFormatter, T: Frame>(
     frame: &T,
     wanted: Result<&str, FormatError>,
 ) -> bool {
-    match (formatter.framed_to_string(alloc, number, frame), wanted) {
-        (Ok(text), Ok(wanted)) => text.as_str() == wanted,
-        (Err(error), Err(wanted)) => error == wanted,
-        _ => false,
+    match formatter.framed_to_string(alloc, number, frame) {
+        Ok(text) => wanted == Ok(text.as_str()),
+        Err(error) => wanted == Err(error),
     }
+}
+
+/// Whether a number in its frame is this text, in a sink and as a text.
+fn is_picked<F: AbstractFormatter>(
+    alloc: Global,
+    formatter: &F,
+    number: &UnsignedDecimal,
+    frame: &Picked<'_>,
+    text: &str,
+) -> bool {
+    let mut sink = PartsText::new(alloc);
+    formatter.write_framed(alloc, number, frame, &mut sink) == Ok(())
+        && sink.text() == text
+        && is_text(alloc, formatter, number, frame, Ok(text))
 }
 
 /// Whether the operands of a number that a formatter shows meet a condition: its mark says so.
@@ -198,52 +236,52 @@ fn is_marked_once<F: AbstractFormatter>(
     number: &UnsignedDecimal,
     (condition, text): (&str, &str),
 ) -> bool {
-    let rules = match PluralRules::from_rules(alloc, &[(PluralCategory::One, condition)]) {
-        Ok(rules) => rules,
-        Err(_) => return false,
-    };
-    let patterns = match marks(alloc) {
-        Some(patterns) => patterns,
-        None => return false,
-    };
-    let frame = Picked {
-        patterns: &patterns,
-        rules: &rules,
-    };
-    let mut sink = PartsText::new(alloc);
-    formatter.write_framed(alloc, number, &frame, &mut sink) == Ok(())
-        && sink.text() == text
-        && is_text(alloc, formatter, number, &frame, Ok(text))
+    let rules = PluralRules::from_rules(alloc, &[(PluralCategory::One, condition)]).ok();
+    match rules.zip(marks(alloc)) {
+        Some((rules, patterns)) => {
+            let frame = Picked {
+                patterns: &patterns,
+                rules: &rules,
+            };
+            is_picked(alloc, formatter, number, &frame, text)
+        }
+        None => false,
+    }
 }
 
-/// The same, once more where a refused allocation stood in the way.
-fn is_marked<F: AbstractFormatter>(
+/// Whether a formatter that was made marks a number so; asked once more where a refused allocation
+/// stood in the way.
+fn made_is_marked<F: AbstractFormatter + Drop>(
     alloc: Global,
-    formatter: &F,
-    number: &UnsignedDecimal,
+    formatter: F,
+    number: Decimal,
     wanted: (&str, &str),
 ) -> bool {
-    is_marked_once(alloc, formatter, number, wanted)
-        || is_marked_once(alloc, formatter, number, wanted)
+    is_marked_once(alloc, &formatter, &number.absolute, wanted)
+        || is_marked_once(alloc, &formatter, &number.absolute, wanted)
+}
+
+fn marks_short(rt: &impl Abort, alloc: Global, text: &str, wanted: (&str, &str)) -> bool {
+    made_is_marked(
+        alloc,
+        short_english(rt, alloc),
+        read(rt, alloc, text),
+        wanted,
+    )
 }
 
 #[test]
 fn a_frame_is_told_the_operands_of_a_compact_number(rt: HostRuntime) {
-    let formatter = compact(
-        &rt,
-        rt.alloc(),
-        Language::ShortEnglish,
-        GroupingStrategy::Min2,
-    );
-    let number = read(&rt, rt.alloc(), "1250").absolute;
     let wanted = ("i = 1200 and v = 0 and c = 3", "1.2K is one");
-    assert!(rt; is_marked(rt.alloc(), &formatter, &number, wanted));
+    assert!(rt; marks_short(&rt, rt.alloc(), "1250", wanted));
+}
+
+fn marks_plain(rt: &impl Abort, alloc: Global, text: &str, wanted: (&str, &str)) -> bool {
+    made_is_marked(alloc, english(rt, alloc), read(rt, alloc, text), wanted)
 }
 
 #[test]
 fn a_frame_is_told_the_operands_of_a_plain_number(rt: HostRuntime) {
-    let formatter = english(&rt, rt.alloc());
-    let number = read(&rt, rt.alloc(), "1250.50").absolute;
     let wanted = ("i = 1250 and v = 2 and w = 1 and c = 0", "1,250.50 is one");
-    assert!(rt; is_marked(rt.alloc(), &formatter, &number, wanted));
+    assert!(rt; marks_plain(&rt, rt.alloc(), "1250.50", wanted));
 }

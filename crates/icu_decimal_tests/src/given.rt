@@ -3,45 +3,81 @@
 
 use crate::fixtures::{is_annotated, is_displayed, read, scaled};
 use crate::languages::Language;
-use crate::making::compact;
+use crate::making::{compact, short_english};
+use crate::writing::{Span, made_is_displayed};
 use fixed_decimal::Decimal;
 use icu_decimal::options::GroupingStrategy;
 use icu_decimal::{CompactDecimalFormatter, FormattedSign, InterpolatedDecimal, parts};
 use std::alloc::Global;
+use std::fmt::Display;
 use std::process::Abort;
-use writeable::{Part, PartsText, Writeable};
+use writeable::{PartsText, Writeable};
 
-/// Whether a given number is displayed so.
-fn is_value(alloc: Global, value: &FormattedSign<'_, InterpolatedDecimal<'_>>, want: &str) -> bool {
-    is_displayed(alloc, value, want)
+/// What the compact formatter does with significands whose exponent is given.
+pub(crate) trait GivenWriter {
+    /// Whether a significand with an exponent, or its refusal, is written so.
+    fn is_given(&self, alloc: Global, significand: &Decimal, exponent: u8, want: &str) -> bool;
+
+    /// Whether a significand with an exponent is accepted, and both are written so.
+    fn is_accepted(&self, alloc: Global, significand: &Decimal, exponent: u8, want: &str) -> bool;
+
+    fn has_exponent(&self, magnitude: i16, exponent: u8) -> bool;
 }
 
-/// Whether a significand with an exponent, or its refusal, is written so.
-fn is_given(
+/// Whether a value, or why it wasn't made, is displayed so.
+fn is_answer<V: Display + Drop, E: Display + Drop>(
     alloc: Global,
-    formatter: &CompactDecimalFormatter,
-    significand: &Decimal,
-    exponent: u8,
+    made: Result<V, E>,
     want: &str,
 ) -> bool {
-    match formatter.format_with_exponent(significand, exponent) {
-        Ok(value) => is_value(alloc, &value, want),
+    match made {
+        Ok(value) => is_displayed(alloc, &value, want),
         Err(error) => is_displayed(alloc, &error, want),
     }
 }
 
-/// Whether a significand with an exponent is accepted, and both are written so.
-pub(crate) fn is_accepted(
+impl GivenWriter for CompactDecimalFormatter {
+    fn is_given(&self, alloc: Global, significand: &Decimal, exponent: u8, want: &str) -> bool {
+        is_answer(
+            alloc,
+            self.format_with_exponent(significand, exponent),
+            want,
+        )
+    }
+
+    fn is_accepted(&self, alloc: Global, significand: &Decimal, exponent: u8, want: &str) -> bool {
+        made_is_displayed(
+            alloc,
+            self.format_with_exponent(significand, exponent),
+            want,
+        )
+    }
+
+    fn has_exponent(&self, magnitude: i16, exponent: u8) -> bool {
+        self.compact_exponent_for_magnitude(magnitude) == exponent
+    }
+}
+
+/// Whether a formatter that was made writes a significand with an exponent, or its refusal, so.
+fn made_gives<W: GivenWriter + Drop>(
     alloc: Global,
-    formatter: &CompactDecimalFormatter,
-    significand: &Decimal,
+    formatter: W,
+    significand: Decimal,
     exponent: u8,
     want: &str,
 ) -> bool {
-    match formatter.format_with_exponent(significand, exponent) {
-        Ok(value) => is_value(alloc, &value, want),
-        Err(_) => false,
-    }
+    formatter.is_given(alloc, &significand, exponent, want)
+}
+
+/// Whether a formatter that was made accepts a significand with an exponent, and writes both so.
+pub(crate) fn made_accepts<W: GivenWriter + Drop>(
+    alloc: Global,
+    formatter: W,
+    significand: Decimal,
+    exponent: u8,
+    want: &str,
+) -> bool {
+    formatter.is_accepted(alloc, &significand, exponent, want)
 }
 
 /// Whether a text with an exponent, or its refusal, is written so in a language.
@@ -49,15 +85,14 @@ fn gives(
     rt: &impl Abort,
     alloc: Global,
     language: Language,
-    given: (&str, u8),
+    (text, exponent): (&str, u8),
     want: &str,
 ) -> bool {
     let formatter = compact(rt, alloc, language, GroupingStrategy::Min2);
-    let significand = read(rt, alloc, given.0);
-    is_given(alloc, &formatter, &significand, given.1, want)
+    made_gives(alloc, formatter, read(rt, alloc, text), exponent, want)
 }
 
-const GIVEN: [(Language, &str, u8, &str); 9] = [
+const GIVEN: &[(Language, &str, u8, &str)] = &[
     (Language::ShortEnglish, "999", 3, "999K"),
     (Language::ShortEnglish, "0", 3, "0K"),
     (
@@ -86,7 +121,7 @@ const GIVEN: [(Language, &str, u8, &str); 9] = [
 
 #[test]
 fn writes_given_exponents(rt: HostRuntime) {
-    for &(language, text, exponent, want) in &GIVEN {
+    for &(language, text, exponent, want) in GIVEN {
         assert!(rt;
             gives(&rt, rt.alloc(), language, (text, exponent), want),
             "{want}"
@@ -96,10 +131,9 @@ fn writes_given_exponents(rt: HostRuntime) {
 
 /// Whether an exponent past the largest is refused with a number that is told whole.
 fn refuses_an_exponent(rt: &impl Abort, alloc: Global) -> bool {
-    let formatter = compact(rt, alloc, Language::ShortEnglish, GroupingStrategy::Min2);
     let power = scaled(rt, alloc, "1", 32767);
     let want = "Expected compact exponent 12 for 10^33022, got 255";
-    is_given(alloc, &formatter, &power, 255, want)
+    made_gives(alloc, short_english(rt, alloc), power, 255, want)
 }
 
 #[test]
@@ -112,7 +146,7 @@ fn is_in_a_sink(
     alloc: Global,
     value: &FormattedSign<'_, InterpolatedDecimal<'_>>,
     text: &str,
-    want: &[(usize, usize, Part)],
+    want: &[Span],
 ) -> bool {
     let mut sink = PartsText::new(alloc);
     value.write_to_parts(&mut sink).is_ok() && is_annotated(alloc, &sink, text, want)
@@ -123,19 +157,19 @@ fn is_written(
     alloc: Global,
     value: &FormattedSign<'_, InterpolatedDecimal<'_>>,
     text: &str,
-    want: &[(usize, usize, Part)],
+    want: &[Span],
 ) -> bool {
     (is_in_a_sink(alloc, value, text, want) || is_in_a_sink(alloc, value, text, want))
         && is_displayed(alloc, value.value(), text)
 }
 
 /// Whether a significand with the exponent three is written as this text with these spans.
-fn is_marked(
+fn has_parts(
     alloc: Global,
     formatter: &CompactDecimalFormatter,
     significand: &Decimal,
     text: &str,
-    want: &[(usize, usize, Part)],
+    want: &[Span],
 ) -> bool {
     match formatter.format_with_exponent(significand, 3) {
         Ok(value) => is_written(alloc, &value, text, want),
@@ -143,10 +177,10 @@ fn is_marked(
     }
 }
 
-fn marks(rt: &impl Abort, alloc: Global, want: &[(usize, usize, Part)]) -> bool {
-    let formatter = compact(rt, alloc, Language::ShortEnglish, GroupingStrategy::Min2);
+fn marks(rt: &impl Abort, alloc: Global, want: &[Span]) -> bool {
+    let formatter = short_english(rt, alloc);
     let significand = read(rt, alloc, "2.5");
-    is_marked(alloc, &formatter, &significand, "2.5K", want)
+    has_parts(alloc, &formatter, &significand, "2.5K", want)
 }
 
 #[test]
@@ -159,13 +193,18 @@ fn marks_the_parts_of_a_given_number(rt: HostRuntime) {
     assert!(rt; marks(&rt, rt.alloc(), &spans));
 }
 
+/// Whether a formatter that was made has this exponent at a magnitude.
+fn made_tells<W: GivenWriter + Drop>(formatter: W, magnitude: i16, exponent: u8) -> bool {
+    formatter.has_exponent(magnitude, exponent)
+}
+
 /// Whether a language has this exponent at a magnitude.
 fn tells(rt: &impl Abort, alloc: Global, language: Language, magnitude: i16, exponent: u8) -> bool {
     let formatter = compact(rt, alloc, language, GroupingStrategy::Min2);
-    formatter.compact_exponent_for_magnitude(magnitude) == exponent
+    made_tells(formatter, magnitude, exponent)
 }
 
-const EXPONENTS: [(Language, i16, u8); 10] = [
+const EXPONENTS: &[(Language, i16, u8)] = &[
     (Language::ShortEnglish, -32768, 0),
     (Language::ShortEnglish, -1, 0),
     (Language::ShortEnglish, 2, 0),
@@ -180,7 +219,7 @@ const EXPONENTS: [(Language, i16, u8); 10] = [
 
 #[test]
 fn tells_the_exponent_of_a_magnitude(rt: HostRuntime) {
-    for &(language, magnitude, exponent) in &EXPONENTS {
+    for &(language, magnitude, exponent) in EXPONENTS {
         assert!(rt;
             tells(&rt, rt.alloc(), language, magnitude, exponent),
             "{magnitude}"

@@ -2,8 +2,8 @@
 
 use crate::fixtures::{english, is_annotated, is_displayed, nines, read};
 use crate::languages::Language;
-use crate::making::{compact, rules};
-use fixed_decimal::{Sign, UnsignedDecimal};
+use crate::making::{compact, rules, short_english};
+use fixed_decimal::{Decimal, Sign, UnsignedDecimal};
 use icu_decimal::error::FormatError;
 use icu_decimal::options::GroupingStrategy;
 use icu_decimal::{AbstractFormatter, FormattedSign, parts};
@@ -43,6 +43,17 @@ fn writes<F: AbstractFormatter>(
         || writes_once(alloc, formatter, number, limit, wanted)
 }
 
+/// Whether a formatter that was made writes a number so.
+fn made_writes<F: AbstractFormatter + Drop>(
+    alloc: Global,
+    formatter: F,
+    number: Decimal,
+    limit: Option<usize>,
+    wanted: Wanted<'_>,
+) -> bool {
+    writes(alloc, &formatter, &number.absolute, limit, wanted)
+}
+
 /// Whether the plain English formatter writes the number of a text so.
 fn is_plain(
     rt: &impl Abort,
@@ -51,21 +62,20 @@ fn is_plain(
     limit: Option<usize>,
     wanted: Wanted<'_>,
 ) -> bool {
-    let formatter = english(rt, alloc);
-    let number = read(rt, alloc, number).absolute;
-    writes(alloc, &formatter, &number, limit, wanted)
+    let number = read(rt, alloc, number);
+    made_writes(alloc, english(rt, alloc), number, limit, wanted)
 }
 
-/// Whether the compact formatter of short English writes a number so.
+/// Whether the compact formatter of short English does.
 fn is_compact(
     rt: &impl Abort,
     alloc: Global,
-    number: &UnsignedDecimal,
+    number: &str,
     limit: Option<usize>,
     wanted: Wanted<'_>,
 ) -> bool {
-    let formatter = compact(rt, alloc, Language::ShortEnglish, GroupingStrategy::Min2);
-    writes(alloc, &formatter, number, limit, wanted)
+    let number = read(rt, alloc, number);
+    made_writes(alloc, short_english(rt, alloc), number, limit, wanted)
 }
 
 /// 1.20 with its parts.
@@ -83,19 +93,20 @@ fn a_plain_number_is_written_with_its_parts(rt: HostRuntime) {
 
 #[test]
 fn a_compact_number_is_written_without_parts(rt: HostRuntime) {
-    let number = read(&rt, rt.alloc(), "-999500").absolute;
-    assert!(rt; is_compact(&rt, rt.alloc(), &number, None, (Ok(()), "1M", &[])));
+    let wanted: Wanted<'_> = (Ok(()), "1M", &[]);
+    assert!(rt; is_compact(&rt, rt.alloc(), "-999500", None, wanted));
+}
+
+/// Whether so many nines overflow in compact form, and leave the sink.
+fn overflows(rt: &impl Abort, alloc: Global, count: usize) -> bool {
+    let number = nines(rt, alloc, count);
+    let wanted: Wanted<'_> = (Err(FormatError::Overflow), "", &[]);
+    made_writes(alloc, short_english(rt, alloc), number, None, wanted)
 }
 
 #[test]
 fn an_overflow_leaves_the_sink(rt: HostRuntime) {
-    let number = nines(&rt, rt.alloc(), 32768).absolute;
-    let wanted = (
-        Err(FormatError::Overflow),
-        "",
-        &[] as &[(usize, usize, Part)],
-    );
-    assert!(rt; is_compact(&rt, rt.alloc(), &number, None, wanted));
+    assert!(rt; overflows(&rt, rt.alloc(), 32768));
 }
 
 const INTEGER: &[(usize, usize, Part)] = &[(0, 1, parts::INTEGER)];
@@ -107,7 +118,7 @@ const INTEGER_AND_POINT: &[(usize, usize, Part)] = &[
 
 /// What a sink with room for so many events holds of 1.5, for each number that is less than all. A
 /// part that isn't closed has no span.
-const BEGINNINGS: [(&str, &[(usize, usize, Part)]); 9] = [
+const BEGINNINGS: &[(&str, &[(usize, usize, Part)])] = &[
     ("", &[]),
     ("", &[]),
     ("1", &[]),
@@ -130,17 +141,15 @@ fn a_full_sink_holds_a_beginning_of_a_plain_number(rt: HostRuntime) {
     }
 }
 
+/// The same of 2500 in short English.
+const COMPACT_BEGINNINGS: &[&str] = &["", "2", "2.", "2.5"];
+
 #[test]
 fn a_full_sink_holds_a_beginning_of_a_compact_number(rt: HostRuntime) {
-    let number = read(&rt, rt.alloc(), "2500").absolute;
-    for (limit, text) in ["", "2", "2.", "2.5"].iter().enumerate() {
-        let wanted = (
-            Err(FormatError::Sink),
-            *text,
-            &[] as &[(usize, usize, Part)],
-        );
+    for (limit, text) in COMPACT_BEGINNINGS.iter().enumerate() {
+        let wanted: Wanted<'_> = (Err(FormatError::Sink), *text, &[]);
         assert!(rt;
-            is_compact(&rt, rt.alloc(), &number, Some(limit), wanted),
+            is_compact(&rt, rt.alloc(), "2500", Some(limit), wanted),
             "with limit {limit}"
         );
     }
@@ -158,10 +167,17 @@ pub(crate) fn operands<F: AbstractFormatter>(
     }
 }
 
+/// The operands that a formatter that was made answers.
+fn made_operands<F: AbstractFormatter + Drop>(
+    alloc: Global,
+    formatter: F,
+    number: Decimal,
+) -> Option<PluralOperands> {
+    operands(alloc, &formatter, &number.absolute)
+}
+
 fn plain_operands(rt: &impl Abort, alloc: Global, number: &str) -> Option<PluralOperands> {
-    let formatter = english(rt, alloc);
-    let number = read(rt, alloc, number).absolute;
-    operands(alloc, &formatter, &number)
+    made_operands(alloc, english(rt, alloc), read(rt, alloc, number))
 }
 
 fn compact_operands(
@@ -171,19 +187,30 @@ fn compact_operands(
     number: &str,
 ) -> Option<PluralOperands> {
     let formatter = compact(rt, alloc, language, GroupingStrategy::Min2);
-    let number = read(rt, alloc, number).absolute;
-    operands(alloc, &formatter, &number)
+    made_operands(alloc, formatter, read(rt, alloc, number))
+}
+
+/// Whether rules were read that tell the category one of operands.
+fn are_of_one(rules: Option<PluralRules>, operands: PluralOperands) -> bool {
+    match rules {
+        Some(rules) => rules.category_for(operands) == PluralCategory::One,
+        None => false,
+    }
+}
+
+/// Rules of one condition, read once more where memory was refused.
+fn rules_of_one(alloc: Global, condition: &str) -> Option<PluralRules> {
+    match PluralRules::from_rules(alloc, &[(PluralCategory::One, condition)]) {
+        Ok(rules) => Some(rules),
+        Err(_) => PluralRules::from_rules(alloc, &[(PluralCategory::One, condition)]).ok(),
+    }
 }
 
 /// Whether a plural condition holds of operands.
 pub(crate) fn holds(alloc: Global, condition: &str, operands: Option<PluralOperands>) -> bool {
-    let rules = match PluralRules::from_rules(alloc, &[(PluralCategory::One, condition)]) {
-        Ok(rules) => Ok(rules),
-        Err(_) => PluralRules::from_rules(alloc, &[(PluralCategory::One, condition)]),
-    };
-    match (rules, operands) {
-        (Ok(rules), Some(operands)) => rules.category_for(operands) == PluralCategory::One,
-        _ => false,
+    match operands {
+        Some(operands) => are_of_one(rules_of_one(alloc, condition), operands),
+        None => false,
     }
 }
 
@@ -206,30 +233,31 @@ fn dollars(rules: &PluralRules, operands: Option<PluralOperands>) -> &'static st
     }
 }
 
-#[test]
-fn plural(rt: HostRuntime) {
-    let rules = rules(&rt, rt.alloc(), Language::LongFrench);
-    let plain = plain_operands(&rt, rt.alloc(), "999999");
-    assert_eq!(rt; dollars(&rules, plain), "dollars US");
-    let compact = compact_operands(&rt, rt.alloc(), Language::LongFrench, "999999");
-    assert_eq!(rt; dollars(&rules, compact), "de dollars US");
+/// The same by rules that are made for it.
+fn french_dollars(
+    rt: &impl Abort,
+    alloc: Global,
+    operands: Option<PluralOperands>,
+) -> &'static str {
+    dollars(&rules(rt, alloc, Language::LongFrench), operands)
 }
 
-/// Whether any formatter puts the affixes of a minus around a text.
-fn puts_a_minus<F: AbstractFormatter>(alloc: Global, formatter: &F, want: &str) -> bool {
+#[test]
+fn plural(rt: HostRuntime) {
+    let plain = plain_operands(&rt, rt.alloc(), "999999");
+    assert_eq!(rt; french_dollars(&rt, rt.alloc(), plain), "dollars US");
+    let compact = compact_operands(&rt, rt.alloc(), Language::LongFrench, "999999");
+    assert_eq!(rt; french_dollars(&rt, rt.alloc(), compact), "de dollars US");
+}
+
+/// Whether any formatter that was made puts the affixes of a minus around a text.
+fn puts_a_minus<F: AbstractFormatter + Drop>(alloc: Global, formatter: F, want: &str) -> bool {
     let signed: FormattedSign<'_, &str> = formatter.format_sign("one", Sign::Negative);
     is_displayed(alloc, &signed, want)
 }
 
 #[test]
 fn a_sign_is_put_around_any_value(rt: HostRuntime) {
-    let plain = english(&rt, rt.alloc());
-    assert!(rt; puts_a_minus(rt.alloc(), &plain, "-one"));
-    let short = compact(
-        &rt,
-        rt.alloc(),
-        Language::ShortEnglish,
-        GroupingStrategy::Min2,
-    );
-    assert!(rt; puts_a_minus(rt.alloc(), &short, "-one"));
+    assert!(rt; puts_a_minus(rt.alloc(), english(&rt, rt.alloc()), "-one"));
+    assert!(rt; puts_a_minus(rt.alloc(), short_english(&rt, rt.alloc()), "-one"));
 }

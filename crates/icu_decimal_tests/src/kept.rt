@@ -95,25 +95,26 @@ type Elements = PluralElements<Pattern<SinglePlaceholder>>;
 /// The patterns of the texts behind one thousand and behind other numbers of thousands; none where
 /// an allocation is refused.
 fn elements_of(alloc: Global, one: &str, other: &str) -> Option<Elements> {
-    match Pattern::try_new(alloc, Some(0), other) {
-        Ok(other) => match Pattern::try_new(alloc, Some(0), one) {
-            Ok(one) => Some(PluralElements::new(other).with_one_value(Some(one))),
-            Err(_) => None,
-        },
+    let other = Pattern::try_new(alloc, Some(0), other).ok();
+    match other.zip(Pattern::try_new(alloc, Some(0), one).ok()) {
+        Some((other, one)) => Some(PluralElements::new(other).with_one_value(Some(one))),
+        None => None,
+    }
+}
+
+/// The map of thousands with these patterns; none where memory is wanting.
+fn map_of(alloc: Global, elements: Elements) -> Option<BTreeMap<u8, (u8, Elements)>> {
+    let mut map = BTreeMap::new(alloc);
+    match map.insert(3, (3, elements)) {
+        Ok(_) => Some(map),
         Err(_) => None,
     }
 }
 
-/// The map of thousands alone; none where memory is wanting.
-fn map_of(alloc: Global, one: &str, other: &str) -> Option<BTreeMap<u8, (u8, Elements)>> {
-    match elements_of(alloc, one, other) {
-        Some(elements) => {
-            let mut map = BTreeMap::new(alloc);
-            match map.insert(3, (3, elements)) {
-                Ok(_) => Some(map),
-                Err(_) => None,
-            }
-        }
+/// The table of thousands with these patterns; none where memory is wanting.
+fn table_of(alloc: Global, elements: Elements) -> Option<Table> {
+    match map_of(alloc, elements) {
+        Some(map) => CompactPatterns::new(alloc, map, None).ok(),
         None => None,
     }
 }
@@ -122,8 +123,8 @@ impl Kept for Table {
     type Row = Thousands;
 
     fn made(alloc: Global, (one, other): Thousands) -> Option<Table> {
-        match map_of(alloc, one, other) {
-            Some(map) => CompactPatterns::new(alloc, map, None).ok(),
+        match elements_of(alloc, one, other) {
+            Some(elements) => table_of(alloc, elements),
             None => None,
         }
     }

@@ -51,9 +51,9 @@ pub(crate) struct Parts {
     pub(crate) zero_magnitude: Option<&'static str>,
 }
 
-const ENGLISH_RULES: [(PluralCategory, &str); 1] = [(PluralCategory::One, "i = 1 and v = 0")];
+const ENGLISH_RULES: &[(PluralCategory, &str)] = &[(PluralCategory::One, "i = 1 and v = 0")];
 
-const FRENCH_RULES: [(PluralCategory, &str); 2] = [
+const FRENCH_RULES: &[(PluralCategory, &str)] = &[
     (PluralCategory::One, "i = 0,1"),
     (
         PluralCategory::Many,
@@ -61,7 +61,7 @@ const FRENCH_RULES: [(PluralCategory, &str); 2] = [
     ),
 ];
 
-const SHORT_ENGLISH_ROWS: [Row; 12] = [
+const SHORT_ENGLISH_ROWS: &[Row] = &[
     (3, 3, None, None, "K"),
     (4, 3, None, None, "K"),
     (5, 3, None, None, "K"),
@@ -76,20 +76,20 @@ const SHORT_ENGLISH_ROWS: [Row; 12] = [
     (14, 12, None, None, "T"),
 ];
 
-const LONG_ENGLISH_ROWS: [Row; 4] = [
+const LONG_ENGLISH_ROWS: &[Row] = &[
     (3, 3, None, None, " thousand"),
     (6, 6, None, None, " million"),
     (9, 9, None, None, " billion"),
     (12, 12, None, None, " trillion"),
 ];
 
-const LONG_JAPANESE_ROWS: [Row; 3] = [
+const LONG_JAPANESE_ROWS: &[Row] = &[
     (3, 0, None, None, ""),
     (4, 4, None, None, "万"),
     (8, 8, None, None, "億"),
 ];
 
-const LONG_FRENCH_ROWS: [Row; 6] = [
+const LONG_FRENCH_ROWS: &[Row] = &[
     (3, 3, Some("mille"), None, " mille"),
     (4, 3, None, None, " mille"),
     (5, 3, None, None, " mille"),
@@ -98,29 +98,29 @@ const LONG_FRENCH_ROWS: [Row; 6] = [
     (8, 6, None, Some(" million"), " millions"),
 ];
 
-const LONG_BANGLA_ROWS: [Row; 3] = [
+const LONG_BANGLA_ROWS: &[Row] = &[
     (3, 3, None, None, " হাজার"),
     (5, 5, None, None, " লাখ"),
     (7, 7, None, None, " কোটি"),
 ];
 
-const WORDS_ROWS: [Row; 1] = [(5, 4, None, None, "W")];
+const WORDS_ROWS: &[Row] = &[(5, 4, None, None, "W")];
 
-const SHORT_SPANISH_ROWS: [Row; 3] = [
+const SHORT_SPANISH_ROWS: &[Row] = &[
     (3, 3, None, None, " mil"),
     (6, 6, None, None, " M"),
     (10, 9, None, None, " mil M"),
 ];
 
-const LAKHS_ROWS: [Row; 2] = [(3, 3, None, None, "K"), (6, 5, None, None, "L")];
+const LAKHS_ROWS: &[Row] = &[(3, 3, None, None, "K"), (6, 5, None, None, "L")];
 
-const BARE_ROWS: [Row; 1] = [(3, 3, None, None, "")];
+const BARE_ROWS: &[Row] = &[(3, 3, None, None, "")];
 
-const ZEROS_ROWS: [Row; 1] = [(3, 3, None, None, "0")];
+const ZEROS_ROWS: &[Row] = &[(3, 3, None, None, "0")];
 
-const FOREIGN_DIGITS_ROWS: [Row; 1] = [(3, 3, None, None, "১")];
+const FOREIGN_DIGITS_ROWS: &[Row] = &[(3, 3, None, None, "১")];
 
-const ONE_LETTER_ROWS: [Row; 3] = [
+const ONE_LETTER_ROWS: &[Row] = &[
     (3, 3, None, None, "K"),
     (6, 6, None, None, "M"),
     (9, 9, None, None, "K"),
@@ -131,8 +131,8 @@ static SHORT_ENGLISH: Parts = Parts {
     numsys: "latn",
     separators: (".", ","),
     sizes: ENGLISH,
-    rules: &ENGLISH_RULES,
-    rows: &SHORT_ENGLISH_ROWS,
+    rules: ENGLISH_RULES,
+    rows: SHORT_ENGLISH_ROWS,
     zero_magnitude: None,
 };
 
@@ -141,8 +141,8 @@ static LONG_ENGLISH: Parts = Parts {
     numsys: "latn",
     separators: (".", ","),
     sizes: ENGLISH,
-    rules: &ENGLISH_RULES,
-    rows: &LONG_ENGLISH_ROWS,
+    rules: ENGLISH_RULES,
+    rows: LONG_ENGLISH_ROWS,
     zero_magnitude: None,
 };
 
@@ -151,8 +151,8 @@ static WORDS: Parts = Parts {
     numsys: "latn",
     separators: (".", ","),
     sizes: ENGLISH,
-    rules: &ENGLISH_RULES,
-    rows: &WORDS_ROWS,
+    rules: ENGLISH_RULES,
+    rows: WORDS_ROWS,
     zero_magnitude: None,
 };
 
@@ -161,8 +161,8 @@ static LAKHS: Parts = Parts {
     numsys: "latn",
     separators: (".", ","),
     sizes: ENGLISH,
-    rules: &ENGLISH_RULES,
-    rows: &LAKHS_ROWS,
+    rules: ENGLISH_RULES,
+    rows: LAKHS_ROWS,
     zero_magnitude: None,
 };
 
@@ -171,8 +171,8 @@ static SHORT_SPANISH: Parts = Parts {
     numsys: "latn",
     separators: (",", "."),
     sizes: ENGLISH,
-    rules: &ENGLISH_RULES,
-    rows: &SHORT_SPANISH_ROWS,
+    rules: ENGLISH_RULES,
+    rows: SHORT_SPANISH_ROWS,
     zero_magnitude: None,
 };
 
@@ -182,7 +182,7 @@ static LONG_JAPANESE: Parts = Parts {
     separators: (".", ","),
     sizes: ENGLISH,
     rules: &[],
-    rows: &LONG_JAPANESE_ROWS,
+    rows: LONG_JAPANESE_ROWS,
     zero_magnitude: Some(""),
 };
 
@@ -191,8 +191,8 @@ static LONG_FRENCH: Parts = Parts {
     numsys: "latn",
     separators: (",", "\u{202f}"),
     sizes: ENGLISH,
-    rules: &FRENCH_RULES,
-    rows: &LONG_FRENCH_ROWS,
+    rules: FRENCH_RULES,
+    rows: LONG_FRENCH_ROWS,
     zero_magnitude: None,
 };
 
@@ -202,7 +202,7 @@ static LONG_BANGLA: Parts = Parts {
     separators: (".", ","),
     sizes: INDIC,
     rules: &[],
-    rows: &LONG_BANGLA_ROWS,
+    rows: LONG_BANGLA_ROWS,
     zero_magnitude: None,
 };
 
@@ -212,7 +212,7 @@ static BARE: Parts = Parts {
     separators: (".", ","),
     sizes: ENGLISH,
     rules: &[],
-    rows: &BARE_ROWS,
+    rows: BARE_ROWS,
     zero_magnitude: None,
 };
 
@@ -222,7 +222,7 @@ static ZEROS: Parts = Parts {
     separators: (".", ","),
     sizes: ENGLISH,
     rules: &[],
-    rows: &ZEROS_ROWS,
+    rows: ZEROS_ROWS,
     zero_magnitude: None,
 };
 
@@ -232,7 +232,7 @@ static FOREIGN_DIGITS: Parts = Parts {
     separators: (".", ","),
     sizes: ENGLISH,
     rules: &[],
-    rows: &FOREIGN_DIGITS_ROWS,
+    rows: FOREIGN_DIGITS_ROWS,
     zero_magnitude: None,
 };
 
@@ -242,7 +242,7 @@ static ONE_LETTER: Parts = Parts {
     separators: (".", ","),
     sizes: ENGLISH,
     rules: &[],
-    rows: &ONE_LETTER_ROWS,
+    rows: ONE_LETTER_ROWS,
     zero_magnitude: None,
 };
 

@@ -1,16 +1,15 @@
 //! Numbers of as many digits as there may be, plain and compact: each call that wants memory gives
 //! its usual answer.
 
-use crate::compact::is_text;
-use crate::fixtures::{ENGLISH, LATIN, english, nines, symbols};
-use crate::given::is_accepted;
+use crate::fixtures::{ENGLISH, LATIN, english, found, nines, symbols};
+use crate::given::made_accepts;
 use crate::interface::{holds, operands};
-use crate::languages::Language;
-use crate::making::compact;
-use crate::plain::{is_copied, is_written};
+use crate::making::short_english;
+use crate::plain::is_copied;
+use crate::writing::{NumberWriter, is_text};
 use fixed_decimal::{Decimal, DecimalError};
-use icu_decimal::options::{DecimalFormatterOptions, GroupingStrategy};
-use icu_decimal::{AbstractFormatter, CompactDecimalFormatter, DecimalFormatter};
+use icu_decimal::options::DecimalFormatterOptions;
+use icu_decimal::{AbstractFormatter, DecimalFormatter};
 use std::alloc::{AllocError, Global};
 use std::process::Abort;
 use std::str;
@@ -45,13 +44,11 @@ fn digits(
     grouped: bool,
     behind: &[u8],
 ) -> Vec<u8> {
-    match digits_once(alloc, shown, grouped, behind) {
-        Ok(text) => text,
-        Err(_) => match digits_once(alloc, shown, grouped, behind) {
-            Ok(text) => text,
-            Err(_) => panic!(rt; "memory was refused"),
-        },
-    }
+    let made = match digits_once(alloc, shown, grouped, behind) {
+        Ok(text) => Ok(text),
+        Err(_) => digits_once(alloc, shown, grouped, behind),
+    };
+    found(rt, made, "memory")
 }
 
 /// Reads a decimal out of bytes, once more where memory was refused.
@@ -60,10 +57,7 @@ fn decimal(rt: &impl Abort, alloc: Global, bytes: &[u8]) -> Decimal {
         Err(DecimalError::OutOfMemory) => Decimal::try_from_utf8(alloc, bytes),
         answer => answer,
     };
-    match read {
-        Ok(decimal) => decimal,
-        Err(_) => panic!(rt; "a decimal was refused"),
-    }
+    found(rt, read, "a decimal")
 }
 
 /// The number of so many ones.
@@ -72,19 +66,47 @@ fn ones(rt: &impl Abort, alloc: Global, count: usize) -> Decimal {
     decimal(rt, alloc, &text)
 }
 
-fn short_english(rt: &impl Abort, alloc: Global) -> CompactDecimalFormatter {
-    compact(rt, alloc, Language::ShortEnglish, GroupingStrategy::Min2)
+/// Whether a formatter that was made writes a number as these bytes.
+fn is_bytes<W: NumberWriter + Drop>(
+    alloc: Global,
+    formatter: W,
+    number: Decimal,
+    want: &[u8],
+) -> bool {
+    is_text(
+        alloc,
+        &formatter,
+        &number,
+        str::from_utf8(want).unwrap_or_default(),
+    )
+}
+
+/// A point and as many digits behind it as there may be.
+fn fraction(rt: &impl Abort, alloc: Global) -> Vec<u8> {
+    let fraction = digits(rt, alloc, (b'7', MOST), false, b"");
+    digits(rt, alloc, (b'.', 1), false, &fraction)
+}
+
+/// As many nines as there may be, with this behind them.
+fn nines_before(rt: &impl Abort, alloc: Global, behind: &[u8]) -> Decimal {
+    let given = digits(rt, alloc, (b'9', MOST), false, behind);
+    decimal(rt, alloc, &given)
+}
+
+/// Whether all nines with this behind them are written.
+fn writes_nines(rt: &impl Abort, alloc: Global, behind: &[u8]) -> bool {
+    let want = digits(rt, alloc, (b'9', MOST), true, behind);
+    is_bytes(
+        alloc,
+        english(rt, alloc),
+        nines_before(rt, alloc, behind),
+        &want,
+    )
 }
 
 /// Whether all digits before a point and behind it are written.
 fn writes_plain(rt: &impl Abort, alloc: Global) -> bool {
-    let fraction = digits(rt, alloc, (b'7', MOST), false, b"");
-    let point = digits(rt, alloc, (b'.', 1), false, &fraction);
-    let given = digits(rt, alloc, (b'9', MOST), false, &point);
-    let want = digits(rt, alloc, (b'9', MOST), true, &point);
-    let decimal = decimal(rt, alloc, &given);
-    let want = str::from_utf8(&want).unwrap_or_default();
-    is_written(alloc, &english(rt, alloc), &decimal, want)
+    writes_nines(rt, alloc, &fraction(rt, alloc))
 }
 
 #[test]
@@ -95,14 +117,17 @@ fn writes_all_digits_of_a_plain_number(rt: HostRuntime) {
 /// Whether so many ones are written in trillions.
 fn writes_compactly(rt: &impl Abort, alloc: Global, count: usize) -> bool {
     let want = digits(rt, alloc, (b'1', count.saturating_sub(12)), true, b"T");
-    let want = str::from_utf8(&want).unwrap_or_default();
-    let number = ones(rt, alloc, count);
-    is_text(alloc, &short_english(rt, alloc), &number, want)
+    is_bytes(
+        alloc,
+        short_english(rt, alloc),
+        ones(rt, alloc, count),
+        &want,
+    )
 }
 
 #[test]
 fn writes_long_compact_numbers(rt: HostRuntime) {
-    for count in [17, 1000, MOST] {
+    for &count in &[17, 1000, MOST] {
         assert!(rt; writes_compactly(&rt, rt.alloc(), count), "{count}");
     }
 }
@@ -111,8 +136,13 @@ fn writes_long_compact_numbers(rt: HostRuntime) {
 fn gives(rt: &impl Abort, alloc: Global) -> bool {
     let want = digits(rt, alloc, (b'1', MOST), true, b"T");
     let want = str::from_utf8(&want).unwrap_or_default();
-    let significand = ones(rt, alloc, MOST);
-    is_accepted(alloc, &short_english(rt, alloc), &significand, 12, want)
+    made_accepts(
+        alloc,
+        short_english(rt, alloc),
+        ones(rt, alloc, MOST),
+        12,
+        want,
+    )
 }
 
 #[test]
@@ -131,28 +161,31 @@ fn writes_once<F: AbstractFormatter>(
     formatter.write_unsigned(alloc, &number.absolute, &mut sink) == Ok(()) && sink.text() == want
 }
 
-/// The same, once more where a refused allocation stood in the way.
-fn writes<F: AbstractFormatter>(
+/// Whether a formatter that was made writes a number as these bytes; asked once more where a
+/// refused allocation stood in the way.
+fn made_writes<F: AbstractFormatter + Drop>(
     alloc: Global,
-    formatter: &F,
-    number: &Decimal,
-    want: &str,
+    formatter: F,
+    number: Decimal,
+    want: &[u8],
 ) -> bool {
-    writes_once(alloc, formatter, number, want) || writes_once(alloc, formatter, number, want)
+    let want = str::from_utf8(want).unwrap_or_default();
+    writes_once(alloc, &formatter, &number, want) || writes_once(alloc, &formatter, &number, want)
 }
 
 fn writes_plain_unsigned(rt: &impl Abort, alloc: Global) -> bool {
     let want = digits(rt, alloc, (b'9', MOST), true, b"");
-    let want = str::from_utf8(&want).unwrap_or_default();
-    let number = nines(rt, alloc, MOST);
-    writes(alloc, &english(rt, alloc), &number, want)
+    made_writes(alloc, english(rt, alloc), nines(rt, alloc, MOST), &want)
 }
 
 fn writes_compact_unsigned(rt: &impl Abort, alloc: Global) -> bool {
     let want = digits(rt, alloc, (b'1', MOST - 12), true, b"T");
-    let want = str::from_utf8(&want).unwrap_or_default();
-    let number = ones(rt, alloc, MOST);
-    writes(alloc, &short_english(rt, alloc), &number, want)
+    made_writes(
+        alloc,
+        short_english(rt, alloc),
+        ones(rt, alloc, MOST),
+        &want,
+    )
 }
 
 #[test]
@@ -161,18 +194,33 @@ fn writes_all_digits_without_a_sign(rt: HostRuntime) {
     assert!(rt; writes_compact_unsigned(&rt, rt.alloc()));
 }
 
+/// Whether a condition holds of a number as a formatter that was made writes it.
+fn made_tells<F: AbstractFormatter + Drop>(
+    alloc: Global,
+    formatter: F,
+    number: Decimal,
+    condition: &str,
+) -> bool {
+    holds(
+        alloc,
+        condition,
+        operands(alloc, &formatter, &number.absolute),
+    )
+}
+
 /// Whether a condition holds of all nines as they are written plainly.
 fn tells_plain_operands(rt: &impl Abort, alloc: Global, condition: &str) -> bool {
-    let number = nines(rt, alloc, MOST);
-    let found = operands(alloc, &english(rt, alloc), &number.absolute);
-    holds(alloc, condition, found)
+    made_tells(alloc, english(rt, alloc), nines(rt, alloc, MOST), condition)
 }
 
 /// Whether a condition holds of all ones as they are written in trillions.
 fn tells_compact_operands(rt: &impl Abort, alloc: Global, condition: &str) -> bool {
-    let number = ones(rt, alloc, MOST);
-    let found = operands(alloc, &short_english(rt, alloc), &number.absolute);
-    holds(alloc, condition, found)
+    made_tells(
+        alloc,
+        short_english(rt, alloc),
+        ones(rt, alloc, MOST),
+        condition,
+    )
 }
 
 #[test]
@@ -181,21 +229,26 @@ fn tells_operands_of_all_digits(rt: HostRuntime) {
     assert!(rt; tells_compact_operands(&rt, rt.alloc(), "i % 10 = 0 and v = 0 and c = 12"));
 }
 
+/// The English formatter with other separators.
+fn with_separators(
+    rt: &impl Abort,
+    alloc: Global,
+    decimal: &[u8],
+    group: &[u8],
+) -> DecimalFormatter {
+    let separators = (
+        str::from_utf8(decimal).unwrap_or_default(),
+        str::from_utf8(group).unwrap_or_default(),
+    );
+    let symbols = symbols(rt, alloc, ("-", ""), separators, ENGLISH, "latn");
+    DecimalFormatter::from_parts(symbols, LATIN, DecimalFormatterOptions::default())
+}
+
 /// Whether a formatter whose symbols have 255 bytes is copied.
 fn copies_long_symbols(rt: &impl Abort, alloc: Global) -> bool {
     let decimal = digits(rt, alloc, (b'd', 120), false, b"");
     let group = digits(rt, alloc, (b'g', 129), false, b"");
-    let separators = (
-        str::from_utf8(&decimal).unwrap_or_default(),
-        str::from_utf8(&group).unwrap_or_default(),
-    );
-    let symbols = symbols(rt, alloc, ("-", ""), separators, ENGLISH, "latn");
-    let options = DecimalFormatterOptions::default();
-    is_copied(
-        rt,
-        alloc,
-        &DecimalFormatter::from_parts(symbols, LATIN, options),
-    )
+    is_copied(rt, alloc, &with_separators(rt, alloc, &decimal, &group))
 }
 
 #[test]

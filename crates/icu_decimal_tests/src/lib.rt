@@ -47,3 +47,5 @@ mod shown;
 mod styles;
 #[cfg(test)]
 mod told;
+#[cfg(test)]
+mod writing;

@@ -2,7 +2,9 @@
 //! reported.
 
 use crate::shelf::{Bare, KEPT_AWAY, Refusals, Shelf, WANT_OF_MEMORY};
+use crate::writing::NumberWriter;
 use fixed_decimal::Decimal;
+use icu_decimal::error::FormatError;
 use icu_decimal::options::{
     CompactDecimalFormatterOptions, DecimalFormatterOptions, GroupingStrategy,
 };
@@ -70,19 +72,57 @@ fn compact(
     }
 }
 
-/// The text of a decimal; want of memory is told as that of a provider without a text.
+/// The text that was written; want of memory is told as that of a provider without a text.
+fn told(text: Result<String, FormatError>) -> Result<String, DataError> {
+    match text {
+        Ok(text) => Ok(text),
+        Err(_) => Err(WANT_OF_MEMORY),
+    }
+}
+
+/// The text of a decimal by a formatter, or why it isn't made.
+fn text_by<W: NumberWriter + Drop>(
+    alloc: Global,
+    made: Result<W, DataError>,
+    decimal: &Decimal,
+) -> Result<String, DataError> {
+    match made {
+        Ok(formatter) => told(formatter.number_text(alloc, decimal)),
+        Err(error) => Err(error),
+    }
+}
+
+/// The text of a decimal by the formatter that is asked for, or why it isn't made.
 fn text_of(
     alloc: Global,
     shelf: &Shelf,
     asked: Asked,
     decimal: &Decimal,
 ) -> Result<String, DataError> {
-    let written = match asked.0 {
-        Style::Plain => plain(alloc, shelf, asked)?.format_to_string(alloc, decimal),
-        _ => compact(alloc, shelf, asked)?.format_to_string(alloc, decimal),
-    };
-    match written {
-        Ok(text) => Ok(text),
+    match asked.0 {
+        Style::Plain => text_by(alloc, plain(alloc, shelf, asked), decimal),
+        _ => text_by(alloc, compact(alloc, shelf, asked), decimal),
+    }
+}
+
+/// Whether a text is this one, or why there is none.
+fn is_told(text: Result<String, DataError>, want: &str) -> Result<bool, DataError> {
+    match text {
+        Ok(text) => Ok(text.as_str() == want),
+        Err(error) => Err(error),
+    }
+}
+
+/// Whether what is asked for writes a number so by a shelf, or why it isn't made.
+fn writes_from(
+    alloc: Global,
+    shelf: &Shelf,
+    asked: Asked,
+    number: &str,
+    want: &str,
+) -> Result<bool, DataError> {
+    match Decimal::try_from_str(alloc, number) {
+        Ok(decimal) => is_told(text_of(alloc, shelf, asked, &decimal), want),
         Err(_) => Err(WANT_OF_MEMORY),
     }
 }
@@ -95,15 +135,9 @@ fn writes_once(
     number: &str,
     want: &str,
 ) -> Result<bool, DataError> {
-    match (
-        Shelf::made(alloc, refusals),
-        Decimal::try_from_str(alloc, number),
-    ) {
-        (Some(shelf), Ok(decimal)) => match text_of(alloc, &shelf, asked, &decimal) {
-            Ok(text) => Ok(text.as_str() == want),
-            Err(error) => Err(error),
-        },
-        _ => Err(WANT_OF_MEMORY),
+    match Shelf::made(alloc, refusals) {
+        Some(shelf) => writes_from(alloc, &shelf, asked, number, want),
+        None => Err(WANT_OF_MEMORY),
     }
 }
 
@@ -134,7 +168,7 @@ fn writes_plain(
 }
 
 /// A locale, a preferred system, a number, and how it is written.
-const RESOLVED: [(&str, Option<&str>, &str, &str); 9] = [
+const RESOLVED: &[(&str, Option<&str>, &str, &str)] = &[
     ("en", None, "1234", "1,234"),
     ("en", Some("arab"), "1234", "١,٢٣٤"),
     ("ar-EG", None, "1234", "١٬٢٣٤"),
@@ -148,7 +182,7 @@ const RESOLVED: [(&str, Option<&str>, &str, &str); 9] = [
 
 #[test]
 fn test_numbering_resolution_fallback(rt: HostRuntime) {
-    for &(locale, system, number, want) in &RESOLVED {
+    for &(locale, system, number, want) in RESOLVED {
         assert!(rt;
             writes_plain(rt.alloc(), locale, system, number, want),
             "{locale} {system:?}"
@@ -162,7 +196,7 @@ fn test_es_mx(rt: HostRuntime) {
 }
 
 /// What is asked for, a number, and how it is written.
-const WRITTEN: [(Asked, &str, &str); 12] = [
+const WRITTEN: &[(Asked, &str, &str)] = &[
     (
         (Style::Plain, "en", None, Some(GroupingStrategy::Min2)),
         "1234",
@@ -199,7 +233,7 @@ const WRITTEN: [(Asked, &str, &str); 12] = [
 
 #[test]
 fn writes_with_data_rules_patterns_and_options(rt: HostRuntime) {
-    for &(asked, number, want) in &WRITTEN {
+    for &(asked, number, want) in WRITTEN {
         assert!(rt;
             writes(rt.alloc(), NO_REFUSALS, asked, number, want) == Ok(true),
             "{want}"
@@ -213,7 +247,7 @@ const NOT_FOUND: DataError = DataError {
 };
 
 /// What is asked for, and why it isn't made, with the provider's text.
-const REFUSED: [(Style, &str, Option<&str>, DataError); 9] = [
+const REFUSED: &[(Style, &str, Option<&str>, DataError)] = &[
     (Style::Plain, "xx", None, NOT_FOUND),
     (Style::Plain, "xx", Some("latn"), NOT_FOUND),
     (Style::Plain, "en", Some("nosymb"), KEPT_AWAY),
@@ -227,7 +261,7 @@ const REFUSED: [(Style, &str, Option<&str>, DataError); 9] = [
 
 #[test]
 fn refuses_what_the_provider_refuses(rt: HostRuntime) {
-    for &(style, locale, system, want) in &REFUSED {
+    for &(style, locale, system, want) in REFUSED {
         let asked = (style, locale, system, None);
         assert!(rt;
             writes(rt.alloc(), NO_REFUSALS, asked, "1", "") == Err(want),
@@ -236,7 +270,7 @@ fn refuses_what_the_provider_refuses(rt: HostRuntime) {
     }
 }
 
-const KINDS: [DataErrorKind; 5] = [
+const KINDS: &[DataErrorKind] = &[
     DataErrorKind::IdentifierNotFound,
     DataErrorKind::MarkerNotFound,
     DataErrorKind::InvalidRequest,
@@ -265,7 +299,7 @@ fn is_answered(alloc: Global, style: Style, kind: DataErrorKind, other: DataErro
 
 #[test]
 fn answers_the_first_refusal(rt: HostRuntime) {
-    for &kind in &KINDS {
+    for &kind in KINDS {
         assert!(rt;
             is_answered(rt.alloc(), Style::Short, kind, DataErrorKind::Custom),
             "{kind:?}"
@@ -277,34 +311,45 @@ fn answers_the_first_refusal(rt: HostRuntime) {
     }
 }
 
-/// Whether a formatter is made of hardly anything, or why it isn't.
-fn is_made_once(alloc: Global, style: Style) -> Result<bool, DataError> {
-    let Some(bare) = Bare::made(alloc) else {
-        return Err(WANT_OF_MEMORY);
-    };
-    match style {
-        Style::Plain => {
-            let prefs = DecimalFormatterPreferences::default();
-            let options = DecimalFormatterOptions::default();
-            match DecimalFormatter::try_new_unstable(alloc, &bare, prefs, options) {
-                Ok(_) => Ok(true),
-                Err(error) => Err(error),
-            }
-        }
-        _ => is_compact_made(alloc, &bare, style),
-    }
-}
-
-fn is_compact_made(alloc: Global, bare: &Bare, style: Style) -> Result<bool, DataError> {
-    let prefs = CompactDecimalFormatterPreferences::default();
-    let options = CompactDecimalFormatterOptions::default();
-    let made = match style {
-        Style::Long => CompactDecimalFormatter::try_new_long_unstable(alloc, bare, prefs, options),
-        _ => CompactDecimalFormatter::try_new_short_unstable(alloc, bare, prefs, options),
-    };
+/// Whether something was made, or why it wasn't.
+fn is_answer<T: Drop>(made: Result<T, DataError>) -> Result<bool, DataError> {
     match made {
         Ok(_) => Ok(true),
         Err(error) => Err(error),
+    }
+}
+
+fn is_plain_made(alloc: Global, bare: &Bare) -> Result<bool, DataError> {
+    let prefs = DecimalFormatterPreferences::default();
+    let options = DecimalFormatterOptions::default();
+    is_answer(DecimalFormatter::try_new_unstable(alloc, bare, prefs, options))
+}
+
+fn is_short_made(alloc: Global, bare: &Bare) -> Result<bool, DataError> {
+    let prefs = CompactDecimalFormatterPreferences::default();
+    let options = CompactDecimalFormatterOptions::default();
+    is_answer(CompactDecimalFormatter::try_new_short_unstable(alloc, bare, prefs, options))
+}
+
+fn is_long_made(alloc: Global, bare: &Bare) -> Result<bool, DataError> {
+    let prefs = CompactDecimalFormatterPreferences::default();
+    let options = CompactDecimalFormatterOptions::default();
+    is_answer(CompactDecimalFormatter::try_new_long_unstable(alloc, bare, prefs, options))
+}
+
+/// Whether a formatter is made of hardly anything, or why it isn't.
+fn is_made_of(alloc: Global, bare: &Bare, style: Style) -> Result<bool, DataError> {
+    match style {
+        Style::Plain => is_plain_made(alloc, bare),
+        Style::Short => is_short_made(alloc, bare),
+        Style::Long => is_long_made(alloc, bare),
+    }
+}
+
+fn is_made_once(alloc: Global, style: Style) -> Result<bool, DataError> {
+    match Bare::made(alloc) {
+        Some(bare) => is_made_of(alloc, &bare, style),
+        None => Err(WANT_OF_MEMORY),
     }
 }
 

@@ -1,6 +1,6 @@
 //! The compact formatters that the tests are made with. What was refused memory is asked once more.
 
-use crate::fixtures::symbols;
+use crate::fixtures::{found, symbols};
 use crate::languages::{Language, Parts, Row, parts_of};
 use icu_decimal::options::{DecimalFormatterOptions, GroupingStrategy};
 use icu_decimal::provider::{CompactError, CompactPatterns};
@@ -24,10 +24,7 @@ fn pattern(
         Ok(pattern) => Ok(pattern),
         Err(_) => Pattern::try_new(alloc, place, literal),
     };
-    match made {
-        Ok(pattern) => pattern,
-        Err(_) => panic!(rt; "the pattern {literal} was refused"),
-    }
+    found(rt, made, literal)
 }
 
 /// A text that follows a number.
@@ -114,10 +111,7 @@ fn patterns(rt: &impl Abort, alloc: Global, parts: &Parts) -> CompactPatterns<Si
         Ok(table) => Ok(table),
         Err(_) => table(rt, alloc, parts),
     };
-    match made {
-        Ok(table) => table,
-        Err(_) => panic!(rt; "the table was refused"),
-    }
+    found(rt, made, "the table")
 }
 
 /// The plain formatter of a language with these affixes of a minus and options.
@@ -145,10 +139,7 @@ fn rules_of(rt: &impl Abort, alloc: Global, rows: &[(PluralCategory, &str)]) -> 
         Ok(rules) => Ok(rules),
         Err(_) => PluralRules::from_rules(alloc, rows),
     };
-    match read {
-        Ok(rules) => rules,
-        Err(_) => panic!(rt; "the rules were refused"),
-    }
+    found(rt, read, "the rules")
 }
 
 /// The plural rules of a language.
@@ -188,6 +179,11 @@ pub(crate) fn compact(
     strategy: GroupingStrategy,
 ) -> CompactDecimalFormatter {
     compact_with(rt, alloc, language, DecimalFormatterOptions::from(strategy))
+}
+
+/// The compact formatter of short English.
+pub(crate) fn short_english(rt: &impl Abort, alloc: Global) -> CompactDecimalFormatter {
+    compact(rt, alloc, Language::ShortEnglish, GroupingStrategy::Min2)
 }
 
 /// The compact formatter of a language but for the affixes of a minus.

@@ -1,52 +1,25 @@
 //! Plain numbers in sinks: the parts that are marked, and what a full sink holds.
 
 use crate::fixtures::{ENGLISH, LATIN, english, is_annotated, read, symbols};
+use crate::writing::{Span, begins, made_is_written};
 use icu_decimal::options::DecimalFormatterOptions;
 use icu_decimal::{DecimalFormatter, parts};
 use std::alloc::Global;
 use std::process::Abort;
-use writeable::{Part, PartsText, Writeable};
+use writeable::{PartsText, Writeable};
 
-/// A sink with room for so many events, with what could be written of a decimal; and whether all
-/// could.
-fn annotated(
-    rt: &impl Abort,
-    alloc: Global,
-    formatter: &DecimalFormatter,
-    text: &str,
-    limit: usize,
-) -> (PartsText, bool) {
-    let decimal = read(rt, alloc, text);
-    let mut sink = PartsText::with_limit(alloc, limit);
-    let is_whole = formatter.format(&decimal).write_to_parts(&mut sink).is_ok();
-    (sink, is_whole)
-}
-
-/// Whether a decimal is written whole as this text with these spans.
-fn is_marked(
-    rt: &impl Abort,
-    alloc: Global,
-    formatter: &DecimalFormatter,
-    text: &str,
-    (want, spans): (&str, &[(usize, usize, Part)]),
-) -> bool {
-    let (sink, is_whole) = annotated(rt, alloc, formatter, text, 100);
-    is_whole && is_annotated(alloc, &sink, want, spans)
-}
-
-/// Whether a decimal is written so with these affixes of a minus; asked once more where memory was
-/// refused.
+/// Whether a decimal is written so with these affixes of a minus.
 fn marks(
     rt: &impl Abort,
     alloc: Global,
     minus: (&str, &str),
     text: &str,
-    want: (&str, &[(usize, usize, Part)]),
+    (want, spans): (&str, &[Span]),
 ) -> bool {
     let symbols = symbols(rt, alloc, minus, (".", ","), ENGLISH, "latn");
     let options = DecimalFormatterOptions::default();
     let formatter = DecimalFormatter::from_parts(symbols, LATIN, options);
-    is_marked(rt, alloc, &formatter, text, want) || is_marked(rt, alloc, &formatter, text, want)
+    made_is_written(alloc, formatter, read(rt, alloc, text), want, spans)
 }
 
 #[test]
@@ -89,25 +62,18 @@ fn marks_both_affixes_of_a_sign(rt: HostRuntime) {
 const EVENTS: usize = 14;
 
 /// Whether a sink of so many events holds this beginning of `-1.5`.
-fn is_beginning(
-    rt: &impl Abort,
-    alloc: Global,
-    formatter: &DecimalFormatter,
-    limit: usize,
-    want: &str,
-) -> bool {
-    let (sink, is_whole) = annotated(rt, alloc, formatter, "-1.5", limit);
-    is_whole == (limit >= EVENTS) && sink.text() == want
-}
-
-/// Whether a sink of so many events holds this beginning; asked once more where memory was refused.
 fn leaves(rt: &impl Abort, alloc: Global, limit: usize, want: &str) -> bool {
-    let english = english(rt, alloc);
-    is_beginning(rt, alloc, &english, limit, want) || is_beginning(rt, alloc, &english, limit, want)
+    let decimal = read(rt, alloc, "-1.5");
+    begins(
+        alloc,
+        &english(rt, alloc).format(&decimal),
+        (limit, EVENTS),
+        want,
+    )
 }
 
 /// How many events a sink holds, and what it has of `-1.5` then.
-const BEGINNINGS: [(usize, &str); 15] = [
+const BEGINNINGS: &[(usize, &str)] = &[
     (0, ""),
     (1, ""),
     (2, "-"),
@@ -127,22 +93,25 @@ const BEGINNINGS: [(usize, &str); 15] = [
 
 #[test]
 fn leaves_a_beginning_in_a_full_sink(rt: HostRuntime) {
-    for &(limit, want) in &BEGINNINGS {
+    for &(limit, want) in BEGINNINGS {
         assert!(rt; leaves(&rt, rt.alloc(), limit, want), "{limit}");
     }
 }
 
-/// Whether a sink of five events holds the beginning of `-1.5` with the one part that is closed
+/// Whether a sink of five events holds the beginning of a value with the one part that is closed
 /// there.
-fn is_sign_marked(rt: &impl Abort, alloc: Global, formatter: &DecimalFormatter) -> bool {
-    let (sink, is_whole) = annotated(rt, alloc, formatter, "-1.5", 5);
+fn is_sign_marked<V: Writeable>(alloc: Global, value: &V) -> bool {
+    let mut sink = PartsText::with_limit(alloc, 5);
+    let is_whole = value.write_to_parts(&mut sink).is_ok();
     !is_whole && is_annotated(alloc, &sink, "-1", &[(0, 1, parts::MINUS_SIGN)])
 }
 
-/// Whether it holds that; asked once more where memory was refused.
+/// Whether a sink holds that of `-1.5`; asked once more where memory was refused.
 fn marks_the_sign(rt: &impl Abort, alloc: Global) -> bool {
+    let decimal = read(rt, alloc, "-1.5");
     let english = english(rt, alloc);
-    is_sign_marked(rt, alloc, &english) || is_sign_marked(rt, alloc, &english)
+    is_sign_marked(alloc, &english.format(&decimal))
+        || is_sign_marked(alloc, &english.format(&decimal))
 }
 
 #[test]

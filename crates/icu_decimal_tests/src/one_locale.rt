@@ -6,6 +6,7 @@ ghost use Rattle.icu_provider.specs.Identifier.{same_identifier};
 ghost use Rattle.icu_provider.specs.declared.error.DataErrorKind.TheVariants.{IdentifierNotFound};
 
 use crate::fixtures::LATIN;
+use crate::writing::text_by;
 use fixed_decimal::Decimal;
 use icu_decimal::DecimalFormatter;
 use icu_decimal::options::{DecimalFormatterOptions, GroupingStrategy};
@@ -103,12 +104,15 @@ fn written(
         numbering_system: None,
     };
     let options = DecimalFormatterOptions::from(strategy);
-    match (
-        DecimalFormatter::try_new_unstable(alloc, provider, prefs, options),
-        Decimal::from_u64(alloc, number),
-    ) {
-        (Ok(formatter), Ok(decimal)) => formatter.format_to_string(alloc, &decimal).ok(),
-        _ => None,
+    let made = DecimalFormatter::try_new_unstable(alloc, provider, prefs, options).ok();
+    text_by(alloc, made, Decimal::from_u64(alloc, number).ok())
+}
+
+/// Whether a text is this one; none where there is no text.
+fn is_text(text: Option<String>, want: &str) -> Option<bool> {
+    match text {
+        Some(text) => Some(text.as_str() == want),
+        None => None,
     }
 }
 
@@ -120,9 +124,10 @@ fn is_written_once(
     number: u64,
     want: &str,
 ) -> Option<bool> {
-    let provider = provider(alloc, locale, separator, sizes)?;
-    let text = written(alloc, &provider, strategy, number)?;
-    Some(text.as_str() == want)
+    match provider(alloc, locale, separator, sizes) {
+        Some(provider) => is_text(written(alloc, &provider, strategy, number), want),
+        None => None,
+    }
 }
 
 /// The same, asked once more where memory was wanting.
@@ -139,9 +144,12 @@ fn is_written(
     }
 }
 
+/// A locale, its separator of groups, and how a million and seven are written.
+const OWN: &[(&str, &str, &str)] = &[("de-CH", "’", "1’000’007"), ("en-ZA", " ", "1 000 007")];
+
 #[test]
 fn a_provider_of_the_readers_own(rt: HostRuntime) {
-    for (locale, separator, want) in [("de-CH", "’", "1’000’007"), ("en-ZA", " ", "1 000 007")] {
+    for &(locale, separator, want) in OWN {
         let locale = (locale, separator, (3, 3, 1));
         assert!(rt;
             is_written(rt.alloc(), locale, GroupingStrategy::Auto, 1_000_007, want),
@@ -150,18 +158,29 @@ fn a_provider_of_the_readers_own(rt: HostRuntime) {
     }
 }
 
-/// Why no formatter of a locale is made of a provider of German in Switzerland; none where memory
-/// is wanting.
-fn refusal(alloc: Global, locale: &str) -> Option<DataErrorKind> {
-    let provider = provider(alloc, "de-CH", "’", (3, 3, 1))?;
+/// Why something wasn't made; none where it was.
+fn kind_of<T: Drop>(made: Result<T, DataError>) -> Option<DataErrorKind> {
+    match made {
+        Ok(_) => None,
+        Err(error) => Some(error.kind),
+    }
+}
+
+/// Why no formatter of a locale is made of a provider.
+fn refusal_by(alloc: Global, provider: &OneLocale, locale: &str) -> Option<DataErrorKind> {
     let prefs = DecimalFormatterPreferences {
         locale_preferences: DataLocale::try_from_str(locale).unwrap_or_default(),
         numbering_system: None,
     };
     let options = DecimalFormatterOptions::default();
-    match DecimalFormatter::try_new_unstable(alloc, &provider, prefs, options) {
-        Ok(_) => None,
-        Err(error) => Some(error.kind),
+    kind_of(DecimalFormatter::try_new_unstable(alloc, provider, prefs, options))
+}
+
+/// The same of a provider of German in Switzerland; none where memory is wanting.
+fn refusal(alloc: Global, locale: &str) -> Option<DataErrorKind> {
+    match provider(alloc, "de-CH", "’", (3, 3, 1)) {
+        Some(provider) => refusal_by(alloc, &provider, locale),
+        None => None,
     }
 }
 
@@ -175,7 +194,7 @@ fn is_not_found(alloc: Global, locale: &str) -> bool {
 
 #[test]
 fn a_provider_of_the_readers_own_has_no_other_locale(rt: HostRuntime) {
-    for locale in ["en-US", "de", "und"] {
+    for &locale in &["en-US", "de", "und"] {
         assert!(rt; is_not_found(rt.alloc(), locale), "{locale}");
     }
 }
@@ -208,7 +227,7 @@ const UNGROUPED: [&str; 4] = ["1000", "10000", "100000", "1000000"];
 
 /// The primary and the secondary size and the least digits before a group, the strategy, and what
 /// is written.
-const GROUPED: [((u8, u8, u8), GroupingStrategy, [&str; 4]); 10] = [
+const GROUPED: &[((u8, u8, u8), GroupingStrategy, [&str; 4])] = &[
     ((3, 3, 1), GroupingStrategy::Auto, WESTERN),
     ((3, 3, 1), GroupingStrategy::Min2, WESTERN_MIN2),
     ((3, 2, 1), GroupingStrategy::Auto, INDIC),
@@ -223,7 +242,7 @@ const GROUPED: [((u8, u8, u8), GroupingStrategy, [&str; 4]); 10] = [
 
 #[test]
 fn test_grouper(rt: HostRuntime) {
-    for &(sizes, strategy, wanted) in &GROUPED {
+    for &(sizes, strategy, wanted) in GROUPED {
         assert!(rt;
             are_grouped(rt.alloc(), sizes, strategy, wanted),
             "{wanted:?}"

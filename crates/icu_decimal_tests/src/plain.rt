@@ -5,6 +5,7 @@ ghost use Rattle.std.specs.Prelude.{◌≡◌, true};
 use crate::fixtures::{
     BENGALI, ENGLISH, INDIC, LATIN, english, formatter, nines, read, scaled, symbols,
 };
+use crate::writing::{NumberWriter, is_text, made_is_text};
 use fixed_decimal::Decimal;
 use icu_decimal::options::{DecimalFormatterOptions, GroupingStrategy};
 use icu_decimal::provider::GroupingSizes;
@@ -30,32 +31,29 @@ const UNGROUPED: GroupingSizes = GroupingSizes {
     min_grouping: 1,
 };
 
-/// Whether the formatter writes a decimal so; asked once more where memory was refused.
-pub(crate) fn is_written(
-    alloc: Global,
-    formatter: &DecimalFormatter,
-    decimal: &Decimal,
-    want: &str,
-) -> bool {
-    match formatter.format_to_string(alloc, decimal) {
-        Ok(shown) => shown.as_str() == want,
-        Err(_) => match formatter.format_to_string(alloc, decimal) {
-            Ok(shown) => shown.as_str() == want,
-            Err(_) => false,
-        },
-    }
-}
-
-/// Whether the formatter writes the decimal of a text so.
-fn is_shown(
+/// Whether a formatter writes the decimal of a text so.
+fn is_shown<W: NumberWriter>(
     rt: &impl Abort,
     alloc: Global,
-    formatter: &DecimalFormatter,
+    formatter: &W,
     text: &str,
     want: &str,
 ) -> bool {
     let decimal = read(rt, alloc, text);
-    is_written(alloc, formatter, &decimal, want)
+    is_text(alloc, formatter, &decimal, want)
+}
+
+/// Whether a formatter that was made writes a thousand to a million so.
+fn made_writes_each<W: NumberWriter + Drop>(
+    rt: &impl Abort,
+    alloc: Global,
+    formatter: W,
+    wanted: [&str; 4],
+) -> bool {
+    is_shown(rt, alloc, &formatter, "1000", wanted[0])
+        && is_shown(rt, alloc, &formatter, "10000", wanted[1])
+        && is_shown(rt, alloc, &formatter, "100000", wanted[2])
+        && is_shown(rt, alloc, &formatter, "1000000", wanted[3])
 }
 
 /// Whether a thousand to a million are written so under sizes and a strategy.
@@ -66,11 +64,7 @@ fn are_shown(
     strategy: GroupingStrategy,
     wanted: [&str; 4],
 ) -> bool {
-    let formatter = formatter(rt, alloc, sizes, strategy);
-    is_shown(rt, alloc, &formatter, "1000", wanted[0])
-        && is_shown(rt, alloc, &formatter, "10000", wanted[1])
-        && is_shown(rt, alloc, &formatter, "100000", wanted[2])
-        && is_shown(rt, alloc, &formatter, "1000000", wanted[3])
+    made_writes_each(rt, alloc, formatter(rt, alloc, sizes, strategy), wanted)
 }
 
 const PLAIN: [&str; 4] = ["1000", "10000", "100000", "1000000"];
@@ -86,7 +80,7 @@ const LAKHS: [&str; 4] = ["1,000", "10,000", "1,00,000", "10,00,000"];
 const LAKHS_MIN2: [&str; 4] = ["1000", "10,000", "1,00,000", "10,00,000"];
 
 /// Sizes, a strategy, and a thousand to a million as they are written with them.
-const GROUPED: [(GroupingSizes, GroupingStrategy, [&str; 4]); 12] = [
+const GROUPED: &[(GroupingSizes, GroupingStrategy, [&str; 4])] = &[
     (INDIC, GroupingStrategy::Auto, LAKHS),
     (INDIC, GroupingStrategy::Min2, LAKHS_MIN2),
     (ENGLISH, GroupingStrategy::Auto, WESTERN),
@@ -103,7 +97,7 @@ const GROUPED: [(GroupingSizes, GroupingStrategy, [&str; 4]); 12] = [
 
 #[test]
 fn groups_by_sizes_and_strategies(rt: HostRuntime) {
-    for &(sizes, strategy, wanted) in &GROUPED {
+    for &(sizes, strategy, wanted) in GROUPED {
         assert!(rt;
             are_shown(&rt, rt.alloc(), sizes, strategy, wanted),
             "{}",
@@ -119,10 +113,10 @@ fn writes(
     (text, want): (&str, &str),
 ) -> bool {
     let formatter = formatter(rt, alloc, ENGLISH, strategy);
-    is_shown(rt, alloc, &formatter, text, want)
+    made_is_text(alloc, formatter, read(rt, alloc, text), want)
 }
 
-const SIGNED: [(&str, &str); 6] = [
+const SIGNED: &[(&str, &str)] = &[
     ("-987654.321", "-987,654.321"),
     ("0012", "0,012"),
     ("-0", "-0"),
@@ -133,7 +127,7 @@ const SIGNED: [(&str, &str); 6] = [
 
 #[test]
 fn writes_signs_padding_and_fractions(rt: HostRuntime) {
-    for &row in &SIGNED {
+    for &row in SIGNED {
         assert!(rt;
             writes(&rt, rt.alloc(), GroupingStrategy::Auto, row),
             "{}",
@@ -144,9 +138,8 @@ fn writes_signs_padding_and_fractions(rt: HostRuntime) {
 
 /// Whether a decimal that was scaled is displayed with its zeros.
 fn writes_scaled(rt: &impl Abort, alloc: Global) -> bool {
-    let english = english(rt, alloc);
     let decimal = scaled(rt, alloc, "200050", -2);
-    is_written(alloc, &english, &decimal, "2,000.50")
+    made_is_text(alloc, english(rt, alloc), decimal, "2,000.50")
 }
 
 #[test]
@@ -164,7 +157,7 @@ type Symbols = (
 );
 
 /// Symbols, a decimal, and how it is written with them.
-const OTHERS: [(Symbols, &str, &str); 3] = [
+const OTHERS: &[(Symbols, &str, &str)] = &[
     (
         (&BENGALI, "beng", (".", ","), INDIC),
         "1000007",
@@ -188,12 +181,12 @@ fn writes_with(
     let symbols = symbols(rt, alloc, ("-", ""), separators, sizes, numsys);
     let options = DecimalFormatterOptions::default();
     let formatter = DecimalFormatter::from_parts(symbols, *digits, options);
-    is_shown(rt, alloc, &formatter, text, want)
+    made_is_text(alloc, formatter, read(rt, alloc, text), want)
 }
 
 #[test]
 fn writes_other_digits_and_separators(rt: HostRuntime) {
-    for &(symbols, text, want) in &OTHERS {
+    for &(symbols, text, want) in OTHERS {
         assert!(rt; writes_with(&rt, rt.alloc(), symbols, text, want), "{text}");
     }
 }
@@ -203,27 +196,31 @@ fn has_commas(text: &str, length: usize, commas: usize) -> bool {
     text.len() == length && text.bytes().filter(|byte| *byte == b',').count() == commas
 }
 
-/// Whether the formatter's text of a decimal has so many bytes and so many commas; asked once more
+/// Whether a text was made, and has so many bytes and so many commas.
+fn is_made_long<E: Drop>(made: Result<String, E>, (length, commas): (usize, usize)) -> bool {
+    match made {
+        Ok(text) => has_commas(text.as_str(), length, commas),
+        Err(_) => false,
+    }
+}
+
+/// Whether a formatter's text of a decimal has so many bytes and so many commas; asked once more
 /// where memory was refused.
-fn is_long(
+fn is_long<W: NumberWriter>(
     alloc: Global,
-    formatter: &DecimalFormatter,
+    formatter: &W,
     decimal: &Decimal,
     (length, commas): (usize, usize),
 ) -> bool {
-    match formatter.format_to_string(alloc, decimal) {
+    match formatter.number_text(alloc, decimal) {
         Ok(text) => has_commas(text.as_str(), length, commas),
-        Err(_) => match formatter.format_to_string(alloc, decimal) {
-            Ok(text) => has_commas(text.as_str(), length, commas),
-            Err(_) => false,
-        },
+        Err(_) => is_made_long(formatter.number_text(alloc, decimal), (length, commas)),
     }
 }
 
 fn writes_all_digits(rt: &impl Abort, alloc: Global) -> bool {
-    let english = english(rt, alloc);
     let decimal = nines(rt, alloc, 32768);
-    is_long(alloc, &english, &decimal, (43690, 10922))
+    is_long(alloc, &english(rt, alloc), &decimal, (43690, 10922))
 }
 
 #[test]
@@ -242,14 +239,19 @@ fn are_same(
     one.format(&decimal) == other.format(&decimal)
 }
 
-/// Whether a formatter writes as its copy; asked for once more where memory was refused.
-pub(crate) fn is_copied(rt: &impl Abort, alloc: Global, formatter: &DecimalFormatter) -> bool {
+/// A copy, asked for once more where memory was refused.
+fn copy_of(alloc: Global, formatter: &DecimalFormatter) -> Option<DecimalFormatter> {
     match formatter.copy(alloc) {
-        Ok(copy) => are_same(rt, alloc, formatter, &copy),
-        Err(_) => match formatter.copy(alloc) {
-            Ok(copy) => are_same(rt, alloc, formatter, &copy),
-            Err(_) => false,
-        },
+        Ok(copy) => Some(copy),
+        Err(_) => formatter.copy(alloc).ok(),
+    }
+}
+
+/// Whether a formatter writes as its copy.
+pub(crate) fn is_copied(rt: &impl Abort, alloc: Global, formatter: &DecimalFormatter) -> bool {
+    match copy_of(alloc, formatter) {
+        Some(copy) => are_same(rt, alloc, formatter, &copy),
+        None => false,
     }
 }
 

@@ -1,9 +1,9 @@
 //! Which formatters tell their numbers, and which numbers share a text where one doesn't.
 
-use crate::compact::is_value;
 use crate::fixtures::{ENGLISH, LATIN, read};
 use crate::languages::Language;
 use crate::making::compact_with_minus;
+use crate::writing::{NumberWriter, text_by};
 use fixed_decimal::Decimal;
 use icu_decimal::DecimalFormatter;
 use icu_decimal::options::DecimalFormatterOptions;
@@ -49,11 +49,16 @@ fn formatter(
     }
 }
 
-fn is_readable_once(alloc: Global, numbers: Numbers) -> Option<bool> {
-    match formatter(alloc, numbers) {
-        Some(formatter) => Some(formatter.is_readable()),
+/// Whether a formatter tells its numbers; none where there is no formatter.
+fn tells<W: NumberWriter + Drop>(made: Option<W>) -> Option<bool> {
+    match made {
+        Some(formatter) => Some(formatter.tells_numbers()),
         None => None,
     }
+}
+
+fn is_readable_once(alloc: Global, numbers: Numbers) -> Option<bool> {
+    tells(formatter(alloc, numbers))
 }
 
 /// Whether numbers are readable, asked once more where memory was wanting.
@@ -64,7 +69,7 @@ fn is_readable(alloc: Global, numbers: Numbers) -> Option<bool> {
     }
 }
 
-const READABLE: [Numbers; 4] = [
+const READABLE: &[Numbers] = &[
     (("-", ""), ".", ",", LATIN),
     (("-", ""), ".", "", LATIN),
     (("(", ")"), ".", ",", LATIN),
@@ -73,7 +78,7 @@ const READABLE: [Numbers; 4] = [
 
 #[test]
 fn readable_numbers(rt: HostRuntime) {
-    for &numbers in &READABLE {
+    for &numbers in READABLE {
         assert!(rt;
             is_readable(rt.alloc(), numbers) == Some(true),
             "{numbers:?}"
@@ -82,7 +87,7 @@ fn readable_numbers(rt: HostRuntime) {
 }
 
 /// Numbers that aren't readable.
-const HIDDEN: [Numbers; 6] = [
+const HIDDEN: &[Numbers] = &[
     (("-", ""), ".", ".", LATIN),
     (("-", ""), "", ",", LATIN),
     (("-", ""), ".", "0", LATIN),
@@ -93,7 +98,7 @@ const HIDDEN: [Numbers; 6] = [
 
 #[test]
 fn hidden_numbers(rt: HostRuntime) {
-    for &numbers in &HIDDEN {
+    for &numbers in HIDDEN {
         assert!(rt;
             is_readable(rt.alloc(), numbers) == Some(false),
             "{numbers:?}"
@@ -103,23 +108,16 @@ fn hidden_numbers(rt: HostRuntime) {
 
 /// The text of a number; none where memory is wanting.
 fn text_once(alloc: Global, numbers: Numbers, number: &str) -> Option<String> {
-    match formatter(alloc, numbers) {
-        Some(formatter) => match Decimal::try_from_str(alloc, number) {
-            Ok(decimal) => formatter.format_to_string(alloc, &decimal).ok(),
-            Err(_) => None,
-        },
-        None => None,
-    }
+    let decimal = Decimal::try_from_str(alloc, number).ok();
+    text_by(alloc, formatter(alloc, numbers), decimal)
 }
 
 /// Whether two numbers share a text; none where memory is wanting.
 fn share_once(alloc: Global, numbers: Numbers, first: &str, second: &str) -> Option<bool> {
-    match (
-        text_once(alloc, numbers, first),
-        text_once(alloc, numbers, second),
-    ) {
-        (Some(first), Some(second)) => Some(first == second),
-        _ => None,
+    let text = text_once(alloc, numbers, first);
+    match text.zip(text_once(alloc, numbers, second)) {
+        Some((first, second)) => Some(first == second),
+        None => None,
     }
 }
 
@@ -132,7 +130,7 @@ fn share(alloc: Global, numbers: Numbers, first: &str, second: &str) -> bool {
 }
 
 /// Two numbers that share a text where a part of readability is wanting.
-const SHARED: [(Numbers, &str, &str); 5] = [
+const SHARED: &[(Numbers, &str, &str)] = &[
     ((("-", ""), ".", ".", LATIN), "1000", "1.000"),
     ((("-", ""), "", ",", LATIN), "15", "1.5"),
     ((("", ""), ".", ",", LATIN), "5", "-5"),
@@ -142,7 +140,7 @@ const SHARED: [(Numbers, &str, &str); 5] = [
 
 #[test]
 fn hidden_numbers_share_a_text(rt: HostRuntime) {
-    for &(numbers, first, second) in &SHARED {
+    for &(numbers, first, second) in SHARED {
         assert!(rt;
             share(rt.alloc(), numbers, first, second),
             "{first} {second}"
@@ -152,10 +150,10 @@ fn hidden_numbers_share_a_text(rt: HostRuntime) {
 
 /// Whether the compact formatter of a language is readable.
 fn is_compact_readable(rt: &impl Abort, alloc: Global, language: Language) -> bool {
-    compact_with_minus(rt, alloc, language, ("-", "")).is_readable()
+    tells(Some(compact_with_minus(rt, alloc, language, ("-", "")))) == Some(true)
 }
 
-const READABLE_LANGUAGES: [(Language, &str); 5] = [
+const READABLE_LANGUAGES: &[(Language, &str)] = &[
     (Language::ShortEnglish, "short English"),
     (Language::LongEnglish, "long English"),
     (Language::LongJapanese, "long Japanese"),
@@ -165,9 +163,21 @@ const READABLE_LANGUAGES: [(Language, &str); 5] = [
 
 #[test]
 fn readable_compact_numbers(rt: HostRuntime) {
-    for &(language, name) in &READABLE_LANGUAGES {
+    for &(language, name) in READABLE_LANGUAGES {
         assert!(rt; is_compact_readable(&rt, rt.alloc(), language), "{name}");
     }
+}
+
+/// Whether a formatter that was made isn't readable, and writes two numbers as this text.
+fn made_hides<W: NumberWriter + Drop>(
+    alloc: Global,
+    formatter: W,
+    (first, second): (Decimal, Decimal),
+    text: &str,
+) -> bool {
+    !formatter.tells_numbers()
+        && formatter.has_value(alloc, &first, text)
+        && formatter.has_value(alloc, &second, text)
 }
 
 /// Whether the compact formatter of a language, with other affixes of a minus, isn't readable, and
@@ -179,12 +189,13 @@ fn is_compact_hidden(
     (first, second): (&str, &str),
     text: &str,
 ) -> bool {
-    let formatter = compact_with_minus(rt, alloc, language, minus);
-    let first = read(rt, alloc, first);
-    let second = read(rt, alloc, second);
-    !formatter.is_readable()
-        && is_value(alloc, &formatter, &first, text)
-        && is_value(alloc, &formatter, &second, text)
+    let numbers = (read(rt, alloc, first), read(rt, alloc, second));
+    made_hides(
+        alloc,
+        compact_with_minus(rt, alloc, language, minus),
+        numbers,
+        text,
+    )
 }
 
 /// A language but for the affixes of a minus, and two numbers that have one text.
@@ -197,7 +208,7 @@ type Hidden = (
 /// A pattern without a placeholder; numbers without a pattern and with one; affixes that look like
 /// a pattern; plain numbers that aren't readable; a digit in a pattern; and one pattern for two
 /// exponents.
-const HIDDEN_COMPACT: [Hidden; 6] = [
+const HIDDEN_COMPACT: &[Hidden] = &[
     (
         (Language::LongFrench, ("-", "")),
         ("1000", "01000"),
@@ -216,7 +227,7 @@ const HIDDEN_COMPACT: [Hidden; 6] = [
 
 #[test]
 fn hidden_compact_numbers_share_a_text(rt: HostRuntime) {
-    for &(formatter, numbers, text) in &HIDDEN_COMPACT {
+    for &(formatter, numbers, text) in HIDDEN_COMPACT {
         assert!(rt;
             is_compact_hidden(&rt, rt.alloc(), formatter, numbers, text),
             "{text}"

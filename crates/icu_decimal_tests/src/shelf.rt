@@ -171,7 +171,7 @@ pub(super) const WANT_OF_MEMORY: DataError = DataError {
     context: "",
 };
 
-const SYMBOLS: [Row<Texts>; 6] = [
+const SYMBOLS: &[Row<Texts>] = &[
     (None, "en", Ok(ENGLISH_TEXTS)),
     (None, "es-MX", Ok(ENGLISH_TEXTS)),
     (None, "th", Ok(ENGLISH_TEXTS)),
@@ -184,7 +184,7 @@ const ARABIC: [char; 10] = ['٠', '١', '٢', '٣', '٤', '٥', '٦', '٧', '٨'
 
 const THAI: [char; 10] = ['๐', '๑', '๒', '๓', '๔', '๕', '๖', '๗', '๘', '๙'];
 
-const DIGITS: [Row<[char; 10]>; 7] = [
+const DIGITS: &[Row<[char; 10]>] = &[
     (Some("latn"), "und", Ok(LATIN)),
     (Some("latn"), "ar-EG", Ok(LATIN)),
     (Some("arab"), "und", Ok(ARABIC)),
@@ -194,20 +194,35 @@ const DIGITS: [Row<[char; 10]>; 7] = [
     (Some("nodigits"), "en", Err(KEPT_AWAY)),
 ];
 
-const SHORT: [Row<Thousands>; 3] = [
+const SHORT: &[Row<Thousands>] = &[
     (None, "en", Ok(("K", "K"))),
     (Some("arab"), "en", Ok(("k", "k"))),
     (Some("nopatt"), "en", Err(KEPT_AWAY)),
 ];
 
-const LONG: [Row<Thousands>; 1] = [(None, "en", Ok((" thousand", " thousands")))];
+const LONG: &[Row<Thousands>] = &[(None, "en", Ok((" thousand", " thousands")))];
 
 const ENGLISH_RULES: &[(PluralCategory, &str)] = &[(PluralCategory::One, "i = 1 and v = 0")];
 
-const RULES: [Row<&[(PluralCategory, &str)]>; 2] = [
+const RULES: &[Row<&[(PluralCategory, &str)]>] = &[
     (None, "en", Ok(ENGLISH_RULES)),
     (Some("arab"), "en", Err(KEPT_AWAY)),
 ];
+
+/// Puts the entry of a row, or a refusal of it, behind others; whether memory was found for it.
+fn is_put<T: Kept>(
+    alloc: Global,
+    entries: &mut Vec<Entry<T>>,
+    (system, locale, row): &Row<T::Row>,
+    refusal: Option<DataError>,
+) -> bool {
+    let entry = Entry {
+        system: *system,
+        locale: *locale,
+        answer: answer_of(alloc, row, refusal),
+    };
+    !is_wanting(&entry.answer) && entries.push(entry).is_ok()
+}
 
 /// The entries of rows, or refusals of all of them; none where memory is wanting.
 fn entries_of<T: Kept>(
@@ -216,13 +231,8 @@ fn entries_of<T: Kept>(
     refusal: Option<DataError>,
 ) -> Option<Vec<Entry<T>>> {
     let mut entries = Vec::new(alloc);
-    for (system, locale, row) in rows {
-        let entry = Entry {
-            system: *system,
-            locale: *locale,
-            answer: answer_of(alloc, row, refusal),
-        };
-        if is_wanting(&entry.answer) || entries.push(entry).is_err() {
+    for row in rows {
+        if !is_put(alloc, &mut entries, row, refusal) {
             return None;
         }
     }
@@ -256,21 +266,18 @@ impl Shelf {
     /// The shelf of all rows, with these refusals; none where memory is wanting.
     pub(super) fn made(alloc: Global, refusals: Refusals) -> Option<Shelf> {
         let [symbols, digits, rules, patterns] = refusals;
-        match (
-            entries_of(alloc, &SYMBOLS, symbols),
-            entries_of(alloc, &DIGITS, digits),
-            entries_of(alloc, &RULES, rules),
-            entries_of(alloc, &SHORT, patterns),
-            entries_of(alloc, &LONG, patterns),
-        ) {
-            (Some(symbols), Some(digits), Some(rules), Some(short), Some(long)) => Some(Shelf {
+        let plain = entries_of(alloc, SYMBOLS, symbols).zip(entries_of(alloc, DIGITS, digits));
+        let rules = entries_of(alloc, RULES, rules);
+        let tables = entries_of(alloc, SHORT, patterns).zip(entries_of(alloc, LONG, patterns));
+        match plain.zip(rules).zip(tables) {
+            Some((((symbols, digits), rules), (short, long))) => Some(Shelf {
                 symbols,
                 digits,
                 rules,
                 short,
                 long,
             }),
-            _ => None,
+            None => None,
         }
     }
 }
@@ -288,18 +295,17 @@ pub(super) struct Bare {
 impl Bare {
     /// None where memory is wanting.
     pub(super) fn made(alloc: Global) -> Option<Bare> {
-        match (
-            DecimalSymbols::made(alloc, ("", "", "latn")),
-            PluralRules::made(alloc, &[]),
-            CompactPatterns::new(alloc, BTreeMap::new(alloc), None),
-        ) {
-            (Some(symbols), Some(rules), Ok(patterns)) => Some(Bare {
+        let symbols = DecimalSymbols::made(alloc, ("", "", "latn"));
+        let rules = PluralRules::made(alloc, &[]);
+        let patterns = CompactPatterns::new(alloc, BTreeMap::new(alloc), None).ok();
+        match symbols.zip(rules).zip(patterns) {
+            Some(((symbols, rules), patterns)) => Some(Bare {
                 symbols,
                 digits: LATIN,
                 rules,
                 patterns,
             }),
-            _ => None,
+            None => None,
         }
     }
 }

@@ -3,11 +3,9 @@
 
 use crate::fixtures::{english, is_annotated, nines, read, scaled};
 use crate::interface::holds;
-use crate::languages::Language;
-use crate::making::compact;
-use fixed_decimal::UnsignedDecimal;
+use crate::making::short_english;
+use fixed_decimal::{Decimal, UnsignedDecimal};
 use icu_decimal::error::FormatError;
-use icu_decimal::options::GroupingStrategy;
 use icu_decimal::{AbstractFormatter, parts};
 use icu_plurals::PluralOperands;
 use std::alloc::Global;
@@ -64,22 +62,29 @@ fn is_shown<F: AbstractFormatter>(
         || is_shown_once(alloc, formatter, number, wanted)
 }
 
-/// Whether the plain English formatter writes the number of a text so and tells its operands.
-fn is_plain(rt: &impl Abort, alloc: Global, text: &str, wanted: Wanted<'_>) -> bool {
-    let formatter = english(rt, alloc);
-    let decimal = read(rt, alloc, text);
+/// Whether a formatter that was made writes a number so and tells its operands.
+fn made_is_shown<F: AbstractFormatter + Drop>(
+    alloc: Global,
+    formatter: F,
+    decimal: Decimal,
+    wanted: Wanted<'_>,
+) -> bool {
     is_shown(alloc, &formatter, &decimal.absolute, wanted)
 }
 
+/// Whether the plain English formatter writes the number of a text so and tells its operands.
+fn is_plain(rt: &impl Abort, alloc: Global, text: &str, wanted: Wanted<'_>) -> bool {
+    made_is_shown(alloc, english(rt, alloc), read(rt, alloc, text), wanted)
+}
+
 /// Whether the compact formatter of short English does.
-fn is_compact(
-    rt: &impl Abort,
-    alloc: Global,
-    number: &UnsignedDecimal,
-    wanted: Wanted<'_>,
-) -> bool {
-    let formatter = compact(rt, alloc, Language::ShortEnglish, GroupingStrategy::Min2);
-    is_shown(alloc, &formatter, number, wanted)
+fn is_short(rt: &impl Abort, alloc: Global, text: &str, wanted: Wanted<'_>) -> bool {
+    made_is_shown(
+        alloc,
+        short_english(rt, alloc),
+        read(rt, alloc, text),
+        wanted,
+    )
 }
 
 const ONE_DIGIT: &[(usize, usize, Part)] = &[(0, 1, parts::INTEGER)];
@@ -91,7 +96,7 @@ const THREE_DIGITS: &[(usize, usize, Part)] = &[
     (2, 4, parts::FRACTION),
 ];
 
-const PLAIN: [(&str, Wanted<'static>); 3] = [
+const PLAIN: &[(&str, Wanted<'static>)] = &[
     ("7", (None, "7", ONE_DIGIT, Ok("i = 7 and v = 0 and c = 0"))),
     (
         "-1.20",
@@ -107,14 +112,14 @@ const PLAIN: [(&str, Wanted<'static>); 3] = [
 
 #[test]
 fn a_plain_formatter_tells_the_number_that_it_writes(rt: HostRuntime) {
-    for &(text, wanted) in &PLAIN {
+    for &(text, wanted) in PLAIN {
         assert!(rt; is_plain(&rt, rt.alloc(), text, wanted), "{text}");
     }
 }
 
 /// UTS 35, Part 3, Plural Operand Meanings: `c` is the exponent, and the other operands are those
 /// of the whole number.
-const SHORT: [(&str, Wanted<'static>); 6] = [
+const SHORT: &[(&str, Wanted<'static>)] = &[
     ("0", (None, "0", &[], Ok("i = 0 and c = 0"))),
     ("999", (None, "999", &[], Ok("i = 999 and c = 0"))),
     (
@@ -129,31 +134,34 @@ const SHORT: [(&str, Wanted<'static>); 6] = [
     ("2500", (Some(0), "", &[], Err(FormatError::Sink))),
 ];
 
-fn is_short(rt: &impl Abort, alloc: Global, text: &str, wanted: Wanted<'_>) -> bool {
-    let decimal = read(rt, alloc, text);
-    is_compact(rt, alloc, &decimal.absolute, wanted)
-}
-
 #[test]
 fn a_compact_formatter_tells_the_number_that_it_writes(rt: HostRuntime) {
-    for &(text, wanted) in &SHORT {
+    for &(text, wanted) in SHORT {
         assert!(rt; is_short(&rt, rt.alloc(), text, wanted), "{text}");
     }
 }
 
 /// Whether so many nines overflow, and nothing is written.
 fn overflows(rt: &impl Abort, alloc: Global, count: usize) -> bool {
-    let decimal = nines(rt, alloc, count);
     let wanted: Wanted<'_> = (None, "", &[], Err(FormatError::Overflow));
-    is_compact(rt, alloc, &decimal.absolute, wanted)
+    made_is_shown(
+        alloc,
+        short_english(rt, alloc),
+        nines(rt, alloc, count),
+        wanted,
+    )
 }
 
 /// Whether ten to the seventeenth is written in trillions.
 fn writes_trillions(rt: &impl Abort, alloc: Global) -> bool {
-    let decimal = scaled(rt, alloc, "1", 17);
     let told = Ok("n = 100000000000000000 and c = 12");
     let wanted: Wanted<'_> = (None, "100,000T", &[], told);
-    is_compact(rt, alloc, &decimal.absolute, wanted)
+    made_is_shown(
+        alloc,
+        short_english(rt, alloc),
+        scaled(rt, alloc, "1", 17),
+        wanted,
+    )
 }
 
 #[test]

@@ -91,7 +91,7 @@ fn displays_numbers_under_every_style(rt: HostRuntime) {
     assert!(rt; styles_compact_numbers(&rt, rt.alloc()));
 }
 
-const ERRORS: [(FormatError, &str); 3] = [
+const ERRORS: &[(FormatError, &str)] = &[
     (FormatError::Overflow, "the compact number is too large"),
     (FormatError::OutOfMemory, "out of memory"),
     (FormatError::Sink, "the sink could not take the text"),
@@ -99,7 +99,7 @@ const ERRORS: [(FormatError, &str); 3] = [
 
 #[test]
 fn displays_errors_under_every_style(rt: HostRuntime) {
-    for &(error, want) in &ERRORS {
+    for &(error, want) in ERRORS {
         assert!(rt; is_styled(rt.alloc(), &error, want), "{want}");
     }
 }

@@ -15,6 +15,7 @@ use icu_decimal::laws::{
 use icu_decimal::options::GroupingStrategy;
 use icu_decimal::{CompactDecimalFormatter, DecimalFormatter};
 use std::alloc::Global;
+use std::process::Abort;
 
 /// Whether two decimals have one text: then they are equal. None if the formatter isn't readable or
 /// memory is refused.
@@ -105,7 +106,7 @@ fn show_one_number(
 }
 
 /// Two numbers, and whether they have one text, plain and in short English.
-const PAIRS: [(&str, &str, bool, bool); 7] = [
+const PAIRS: &[(&str, &str, bool, bool)] = &[
     ("1234", "1234", true, true),
     ("1234", "-1234", false, false),
     ("1.5", "1.50", false, true),
@@ -115,59 +116,105 @@ const PAIRS: [(&str, &str, bool, bool); 7] = [
     ("1250", "1150", false, true),
 ];
 
+/// What is told of two decimals by their texts, asked once more where memory was refused.
+fn tell_by_texts(
+    alloc: Global,
+    formatter: &DecimalFormatter,
+    one: &Decimal,
+    other: &Decimal,
+) -> Option<bool> {
+    match have_one_text(alloc, formatter, one, other) {
+        Some(told) => Some(told),
+        None => have_one_text(alloc, formatter, one, other),
+    }
+}
+
+/// What the plain English formatter tells so of the numbers of two texts.
+fn told_plainly(rt: &impl Abort, alloc: Global, one: &str, other: &str) -> Option<bool> {
+    let formatter = english(rt, alloc);
+    let one = read(rt, alloc, one);
+    let other = read(rt, alloc, other);
+    tell_by_texts(alloc, &formatter, &one, &other)
+}
+
 #[test]
 fn equal_texts_are_of_one_decimal(rt: HostRuntime) {
-    let formatter = english(&rt, rt.alloc());
-    for &(one, other, same, _) in &PAIRS {
-        let first = read(&rt, rt.alloc(), one);
-        let second = read(&rt, rt.alloc(), other);
-        let told = match have_one_text(rt.alloc(), &formatter, &first, &second) {
-            Some(told) => Some(told),
-            None => have_one_text(rt.alloc(), &formatter, &first, &second),
-        };
-        assert!(rt; told == Some(same), "{one} and {other}");
+    for &(one, other, same, _) in PAIRS {
+        assert!(rt;
+            told_plainly(&rt, rt.alloc(), one, other) == Some(same),
+            "{one} and {other}"
+        );
     }
+}
+
+/// What is told of two decimals by their compact texts, asked once more where memory was refused.
+fn tell_by_compact_texts(
+    alloc: Global,
+    formatter: &CompactDecimalFormatter,
+    one: &Decimal,
+    other: &Decimal,
+) -> Option<bool> {
+    match have_one_compact_text(alloc, formatter, one, other) {
+        Some(told) => Some(told),
+        None => have_one_compact_text(alloc, formatter, one, other),
+    }
+}
+
+/// What the formatter of short English tells so of the numbers of two texts.
+fn told_compactly(rt: &impl Abort, alloc: Global, one: &str, other: &str) -> Option<bool> {
+    let formatter = compact(rt, alloc, Language::ShortEnglish, GroupingStrategy::Min2);
+    let one = read(rt, alloc, one);
+    let other = read(rt, alloc, other);
+    tell_by_compact_texts(alloc, &formatter, &one, &other)
 }
 
 #[test]
 fn equal_compact_texts_show_one_number(rt: HostRuntime) {
-    let formatter = compact(
-        &rt,
-        rt.alloc(),
-        Language::ShortEnglish,
-        GroupingStrategy::Min2,
-    );
-    for &(one, other, _, same) in &PAIRS {
-        let first = read(&rt, rt.alloc(), one);
-        let second = read(&rt, rt.alloc(), other);
-        let told = match have_one_compact_text(rt.alloc(), &formatter, &first, &second) {
-            Some(told) => Some(told),
-            None => have_one_compact_text(rt.alloc(), &formatter, &first, &second),
-        };
-        assert!(rt; told == Some(same), "{one} and {other}");
+    for &(one, other, _, same) in PAIRS {
+        assert!(rt;
+            told_compactly(&rt, rt.alloc(), one, other) == Some(same),
+            "{one} and {other}"
+        );
+    }
+}
+
+/// What is told of two decimals that may be shown as one number, asked once more where memory was
+/// refused.
+fn tell_by_numbers(
+    alloc: Global,
+    formatter: &CompactDecimalFormatter,
+    one: &Decimal,
+    other: &Decimal,
+) -> Option<bool> {
+    match show_one_number(alloc, formatter, one, other) {
+        Some(told) => Some(told),
+        None => show_one_number(alloc, formatter, one, other),
+    }
+}
+
+/// What the formatter of short English tells so of the numbers of two texts.
+fn told_by_numbers(rt: &impl Abort, alloc: Global, one: &str, other: &str) -> Option<bool> {
+    let formatter = compact(rt, alloc, Language::ShortEnglish, GroupingStrategy::Min2);
+    let one = read(rt, alloc, one);
+    let other = read(rt, alloc, other);
+    tell_by_numbers(alloc, &formatter, &one, &other)
+}
+
+/// What has to be told: nothing of a number with leading padding.
+fn wanted(one: &str, same: bool) -> Option<bool> {
+    if one.starts_with('0') {
+        None
+    } else {
+        Some(same)
     }
 }
 
 #[test]
 fn one_number_is_shown_where_texts_are_equal(rt: HostRuntime) {
-    let formatter = compact(
-        &rt,
-        rt.alloc(),
-        Language::ShortEnglish,
-        GroupingStrategy::Min2,
-    );
-    for &(one, other, _, same) in &PAIRS {
-        let first = read(&rt, rt.alloc(), one);
-        let second = read(&rt, rt.alloc(), other);
-        let told = match show_one_number(rt.alloc(), &formatter, &first, &second) {
-            Some(told) => Some(told),
-            None => show_one_number(rt.alloc(), &formatter, &first, &second),
-        };
-        let wanted = if one.starts_with('0') {
-            None
-        } else {
-            Some(same)
-        };
-        assert!(rt; told == wanted, "{one} and {other}");
+    for &(one, other, _, same) in PAIRS {
+        assert!(rt;
+            told_by_numbers(&rt, rt.alloc(), one, other) == wanted(one, same),
+            "{one} and {other}"
+        );
     }
 }

@@ -144,7 +144,7 @@ const NO_MARKER: Result<char, DataError> = Err(DataError {
     context: "",
 });
 
-const ANSWERED: [(Asked, (&str, &str), Result<char, DataError>); 15] = [
+const ANSWERED: &[(Asked, (&str, &str), Result<char, DataError>)] = &[
     (Asked::Short, ("en", ""), Ok('K')),
     (Asked::Short, ("en", "arab"), Ok('k')),
     (Asked::Short, ("en", "latn"), MISSING),
@@ -164,7 +164,7 @@ const ANSWERED: [(Asked, (&str, &str), Result<char, DataError>); 15] = [
 
 #[test]
 fn the_first_matching_entry_answers(rt: HostRuntime) {
-    for &(asked, id, wanted) in &ANSWERED {
+    for &(asked, id, wanted) in ANSWERED {
         assert!(rt; answer(rt.alloc(), TABLES, asked, id) == wanted, "{id:?}");
     }
 }

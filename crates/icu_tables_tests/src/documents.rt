@@ -30,7 +30,7 @@ const NESTED: &str = "[[[[[[[[[[[[[[[[[[[[[[[[[[[[[[[[[[[[[[[[[[[[[[[[[[\
 ]]]]]]]]]]]]]]]]]]]]]]]]]]]]]]]]]]]]]]]]]]]]]]]]]]\
 ]]]]]]]]]]]]]]]]]]]]]]]]]]]]]]]]]]]]]]]]]]]]]]]]]]";
 
-pub(crate) const REFUSED: [(&str, TableError); 26] = [
+pub(crate) const REFUSED: &[(&str, TableError)] = &[
     ("{\"symbols\":[]", TableError::NotJson),
     ("", TableError::NotJson),
     (NESTED, TableError::NotJson),
@@ -170,13 +170,13 @@ xxxxxxxxxxxxxxxxxxxxxxxxxxxxxxxxxxxxxxxxxxxxxxxxxxxxxxxxxxxxxxxx\",\"numsys\":\"
 
 #[test]
 fn documents_are_refused_by_name(rt: HostRuntime) {
-    for &(text, wanted) in &REFUSED {
+    for &(text, wanted) in REFUSED {
         assert!(rt; refusal(rt.alloc(), text) == Some(wanted), "{text}");
     }
 }
 
 /// A key, its name and its text.
-const KEYS: [(Key, &str); 4] = [
+const KEYS: &[(Key, &str)] = &[
     (Key::Document, ""),
     (Key::Symbols, "symbols"),
     (Key::Numsys, "numsys"),
@@ -197,7 +197,7 @@ fn is_named(alloc: Global, key: Key, want: &str) -> bool {
 
 #[test]
 fn keys_are_named_as_documents_spell_them(rt: HostRuntime) {
-    for &(key, want) in &KEYS {
+    for &(key, want) in KEYS {
         assert!(rt; is_named(rt.alloc(), key, want), "{want}");
     }
 }
@@ -221,7 +221,7 @@ pub(crate) fn entries(alloc: Global, text: &str) -> Result<usize, TableError> {
     }
 }
 
-const TABLE_VALUES: [(&str, Result<usize, TableError>); 6] = [
+const TABLE_VALUES: &[(&str, Result<usize, TableError>)] = &[
     (
         "{\"patterns\":[[3,3,{\"other\":\"{0}K\"}],[4,3,{\"other\":\"{0}K\"}],[6,6,{\"other\":\"{0}M\"}]]}",
         Ok(2),
@@ -245,7 +245,7 @@ const TABLE_VALUES: [(&str, Result<usize, TableError>); 6] = [
 
 #[test]
 fn values_make_tables(rt: HostRuntime) {
-    for &(text, wanted) in &TABLE_VALUES {
+    for &(text, wanted) in TABLE_VALUES {
         assert!(rt; entries(rt.alloc(), text) == wanted, "{text}");
     }
 }

@@ -56,7 +56,7 @@ const MISSING: Result<char, DataError> = Err(DataError {
     context: "",
 });
 
-const ANSWERED: [(Asked, (&str, &str), Result<char, DataError>); 15] = [
+const ANSWERED: &[(Asked, (&str, &str), Result<char, DataError>)] = &[
     (Asked::Symbols, ("de", ""), Ok(',')),
     (Asked::Symbols, ("de", "latn"), MISSING),
     (Asked::Symbols, ("bn", ""), Ok('.')),
@@ -76,7 +76,7 @@ const ANSWERED: [(Asked, (&str, &str), Result<char, DataError>); 15] = [
 
 #[test]
 fn the_locale_is_answered_as_by_all_tables(rt: HostRuntime) {
-    for &(asked, id, wanted) in &ANSWERED {
+    for &(asked, id, wanted) in ANSWERED {
         assert!(rt; answer(rt.alloc(), TWO, asked, id) == wanted, "{id:?}");
     }
 }
@@ -99,14 +99,14 @@ fn refusal(alloc: Global, text: &str) -> Option<TableError> {
 
 #[test]
 fn texts_are_refused_as_for_all_locales(rt: HostRuntime) {
-    for &(text, wanted) in &REFUSED {
+    for &(text, wanted) in REFUSED {
         assert!(rt; refusal(rt.alloc(), text) == Some(wanted), "{text}");
     }
 }
 
 /// Texts that are read, with something rare: a key twice, of which the last counts, and numbers
 /// that no table has.
-const RARE: [&str; 5] = [
+const RARE: &[&str] = &[
     "{\"symbols\":[0],\"symbols\":[],\"digits\":[]}",
     "{\"digits\":[],\"symbols\":[],\"short\":0,\"short\":[]}",
     "{\"x\":1.5,\"x\":1,\"symbols\":[],\"digits\":[]}",
@@ -116,7 +116,7 @@ const RARE: [&str; 5] = [
 
 #[test]
 fn rare_texts_are_read(rt: HostRuntime) {
-    for text in RARE {
+    for &text in RARE {
         assert!(rt; refusal(rt.alloc(), text) == None, "{text}");
     }
 }

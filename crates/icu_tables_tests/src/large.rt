@@ -67,7 +67,7 @@ fn answers_letters(alloc: Global, asked: Asked, given: Around, letters: usize, w
 }
 
 /// What is asked, of which document with how many letters, and the answer.
-const FULL: [(Asked, Around, usize, char); 3] = [
+const FULL: &[(Asked, Around, usize, char)] = &[
     (Asked::Short, SHORT, 65535, 'a'),
     (Asked::Long, LONG, 65535, 'a'),
     (Asked::Symbols, SYMBOLS, 248, '.'),
@@ -75,7 +75,7 @@ const FULL: [(Asked, Around, usize, char); 3] = [
 
 #[test]
 fn as_many_bytes_as_there_may_be_are_kept(rt: HostRuntime) {
-    for &(asked, given, letters, want) in &FULL {
+    for &(asked, given, letters, want) in FULL {
         assert!(rt;
             answers_letters(rt.alloc(), asked, given, letters, want),
             "{asked:?}"
@@ -95,7 +95,7 @@ fn refuses_letters(alloc: Global, given: Around, letters: usize, want: TableErro
 }
 
 /// A document, its letters, and the entry that is refused, with its fault.
-const TOO_LARGE: [(Around, usize, Key, EntryFault); 3] = [
+const TOO_LARGE: &[(Around, usize, Key, EntryFault)] = &[
     (SHORT, 65536, Key::Short, EntryFault::PatternsTooLarge),
     (LONG, 65536, Key::Long, EntryFault::PatternsTooLarge),
     (SYMBOLS, 249, Key::Symbols, EntryFault::SymbolsTooLarge),
@@ -103,7 +103,7 @@ const TOO_LARGE: [(Around, usize, Key, EntryFault); 3] = [
 
 #[test]
 fn one_byte_more_is_refused_by_name(rt: HostRuntime) {
-    for &(given, letters, key, fault) in &TOO_LARGE {
+    for &(given, letters, key, fault) in TOO_LARGE {
         let want = TableError::Entry {
             key,
             index: 0,
@@ -164,7 +164,7 @@ fn lists(alloc: Global, given: &[List], count: usize) -> Result<Vec<u8>, AllocEr
 }
 
 /// Each key with an entry for each number: a locale `L0`, or a system `sys0`.
-const EVERY_KEY: [List; 5] = [
+const EVERY_KEY: &[List] = &[
     (
         "{\"symbols\":[",
         "{\"locale\":\"L",
@@ -194,7 +194,7 @@ const EVERY_KEY: [List; 5] = [
 
 /// Whether a request to a document with fifty entries under each key is answered by this character.
 fn answers_of_fifty(alloc: Global, asked: Asked, id: (&str, &str), want: char) -> bool {
-    match lists(alloc, &EVERY_KEY, 50) {
+    match lists(alloc, EVERY_KEY, 50) {
         Ok(bytes) => {
             let text = str::from_utf8(&bytes).unwrap_or_default();
             answer(alloc, text, asked, id) == Ok(want)
@@ -204,7 +204,7 @@ fn answers_of_fifty(alloc: Global, asked: Asked, id: (&str, &str), want: char) -
 }
 
 /// What is asked by the last locale or system, and the answer.
-const LAST: [(Asked, (&str, &str), char); 5] = [
+const LAST: &[(Asked, (&str, &str), char)] = &[
     (Asked::Symbols, ("L49", ""), '.'),
     (Asked::Digits, ("L49", "sys49"), '0'),
     (Asked::Rules, ("L49", ""), 'r'),
@@ -214,7 +214,7 @@ const LAST: [(Asked, (&str, &str), char); 5] = [
 
 /// The same of the tables that are read for the locale alone.
 fn answers_alone(alloc: Global, asked: Asked, id: (&str, &str), want: char) -> bool {
-    match lists(alloc, &EVERY_KEY, 50) {
+    match lists(alloc, EVERY_KEY, 50) {
         Ok(bytes) => {
             let text = str::from_utf8(&bytes).unwrap_or_default();
             for_locale::answer(alloc, text, asked, id) == Ok(want)
@@ -225,14 +225,14 @@ fn answers_alone(alloc: Global, asked: Asked, id: (&str, &str), want: char) -> b
 
 #[test]
 fn the_last_of_fifty_locales_answers_alone(rt: HostRuntime) {
-    for &(asked, id, want) in &LAST {
+    for &(asked, id, want) in LAST {
         assert!(rt; answers_alone(rt.alloc(), asked, id, want), "{asked:?}");
     }
 }
 
 #[test]
 fn the_last_of_fifty_locales_answers(rt: HostRuntime) {
-    for &(asked, id, want) in &LAST {
+    for &(asked, id, want) in LAST {
         assert!(rt; answers_of_fifty(rt.alloc(), asked, id, want), "{asked:?}");
     }
 }

@@ -26,7 +26,7 @@ fn is_styled<T: Display>(alloc: Global, value: &T, want: &str) -> bool {
     is_styled_once(alloc, value, want) || is_styled_once(alloc, value, want)
 }
 
-const KEYS: [(Key, &str); 3] = [
+const KEYS: &[(Key, &str)] = &[
     (Key::Document, ""),
     (Key::Symbols, "symbols"),
     (Key::ExplicitOne, "explicit_one"),
@@ -34,12 +34,12 @@ const KEYS: [(Key, &str); 3] = [
 
 #[test]
 fn displays_keys_under_every_style(rt: HostRuntime) {
-    for &(error, want) in &KEYS {
+    for &(error, want) in KEYS {
         assert!(rt; is_styled(rt.alloc(), &error, want), "{want}");
     }
 }
 
-const FAULTS: [(EntryFault, &str); 10] = [
+const FAULTS: &[(EntryFault, &str)] = &[
     (EntryFault::BadLocale, "bad locale"),
     (EntryFault::BadNumberingSystem, "bad numbering system"),
     (EntryFault::BadPlace, "a pattern has more than one place"),
@@ -72,12 +72,12 @@ const FAULTS: [(EntryFault, &str); 10] = [
 
 #[test]
 fn displays_faults_under_every_style(rt: HostRuntime) {
-    for &(error, want) in &FAULTS {
+    for &(error, want) in FAULTS {
         assert!(rt; is_styled(rt.alloc(), &error, want), "{want}");
     }
 }
 
-const ERRORS: [(TableError, &str); 5] = [
+const ERRORS: &[(TableError, &str)] = &[
     (TableError::NotJson, "not JSON"),
     (TableError::Float, "a number that is no 64-bit whole number"),
     (TableError::Missing(Key::Digits), "`digits` is missing"),
@@ -90,7 +90,7 @@ const ERRORS: [(TableError, &str); 5] = [
 
 #[test]
 fn displays_errors_under_every_style(rt: HostRuntime) {
-    for &(error, want) in &ERRORS {
+    for &(error, want) in ERRORS {
         assert!(rt; is_styled(rt.alloc(), &error, want), "{want}");
     }
 }

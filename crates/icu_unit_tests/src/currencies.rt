@@ -11,7 +11,7 @@ const PLAIN_DOLLARS: Unit = (Numbers::Plain, Language::French, DOLLARS);
 const LONG_DOLLARS: Unit = (Numbers::Compact, Language::French, DOLLARS);
 
 /// French counts dollars, but says millions of dollars.
-const AMOUNTS: [(Unit, &str, &str); 6] = [
+const AMOUNTS: &[(Unit, &str, &str)] = &[
     (LONG_DOLLARS, "999999", "1 million de dollars"),
     (LONG_DOLLARS, "2500000", "2,5 millions de dollars"),
     (LONG_DOLLARS, "1000", "mille dollars"),
@@ -26,7 +26,7 @@ const AMOUNTS: [(Unit, &str, &str); 6] = [
 
 #[test]
 fn amounts_are_written_with_the_name_of_the_currency(rt: HostRuntime) {
-    for &(unit, number, text) in &AMOUNTS {
+    for &(unit, number, text) in AMOUNTS {
         assert!(rt;
             is_written(rt.alloc(), unit, number, None, (Ok(()), text, &[])),
             "{text}"

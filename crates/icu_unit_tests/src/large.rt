@@ -72,7 +72,7 @@ fn writes_grouped(
 
 /// A unit, a digit, how often it stands in the number and how often in the text, and what stands
 /// behind it there.
-const LONG: [(Unit, u8, usize, usize, &str); 6] = [
+const LONG: &[(Unit, u8, usize, usize, &str)] = &[
     (PLAIN_METRES, b'9', 1001, 1001, " meters"),
     (PLAIN_METRES, b'9', 32768, 32768, " meters"),
     (SHORT_METRES, b'1', 17, 5, "T meters"),
@@ -83,7 +83,7 @@ const LONG: [(Unit, u8, usize, usize, &str); 6] = [
 
 #[test]
 fn long_numbers_are_written_whole(rt: HostRuntime) {
-    for &(unit, digit, count, shown, behind) in &LONG {
+    for &(unit, digit, count, shown, behind) in LONG {
         assert!(rt;
             writes_grouped(rt.alloc(), unit, (digit, count), (shown, behind)),
             "{count} digits"

@@ -112,7 +112,7 @@ fn writes(alloc: Global, style: Style, number: &str, want: &str) -> bool {
     }
 }
 
-const WRITTEN: [(Style, &str, &str); 4] = [
+const WRITTEN: &[(Style, &str, &str)] = &[
     (Style::Short, "12000", "1.2e"),
     (Style::Short, "4000", "4 odd"),
     (Style::Long, "4000", "4 odd"),
@@ -121,7 +121,7 @@ const WRITTEN: [(Style, &str, &str); 4] = [
 
 #[test]
 fn compact_formatters_are_made_of_large_tables(rt: HostRuntime) {
-    for &(style, number, want) in &WRITTEN {
+    for &(style, number, want) in WRITTEN {
         assert!(rt; writes(rt.alloc(), style, number, want), "{want}");
     }
 }

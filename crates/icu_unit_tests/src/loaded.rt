@@ -161,7 +161,7 @@ const LONG_BANGLA: Asked = (Style::Long, "bn");
 
 const LONG_JAPANESE: Asked = (Style::Long, "ja");
 
-const CARRIES: [Carry; 10] = [
+const CARRIES: &[Carry] = &[
     (WORDS, "9999.5", "10000", ("10000", 0), "10,000"),
     (WORDS, "99999.5", "100000", ("10", 4), "10W"),
     (LAKHS, "999500", "1000000", ("10", 5), "10L"),
@@ -176,7 +176,7 @@ const CARRIES: [Carry; 10] = [
 
 #[test]
 fn a_carry_takes_what_stands_at_the_magnitude_reached(rt: HostRuntime) {
-    for &(asked, number, shown, given, want) in &CARRIES {
+    for &(asked, number, shown, given, want) in CARRIES {
         assert!(rt; writes(rt.alloc(), asked, number, want), "{number}");
         assert!(rt; writes(rt.alloc(), asked, shown, want), "{shown}");
         assert!(rt; gives(rt.alloc(), asked, given, (true, want)), "{want}");
@@ -185,7 +185,7 @@ fn a_carry_takes_what_stands_at_the_magnitude_reached(rt: HostRuntime) {
 
 /// A significand, an exponent, whether both are accepted, and what is written of them or of the
 /// refusal.
-const GIVEN: [(Asked, &str, u8, bool, &str); 9] = [
+const GIVEN: &[(Asked, &str, u8, bool, &str)] = &[
     (SHORT_ENGLISH, "999", 3, true, "999K"),
     (SHORT_ENGLISH, "0", 3, true, "0K"),
     (
@@ -223,7 +223,7 @@ const GIVEN: [(Asked, &str, u8, bool, &str); 9] = [
 
 #[test]
 fn a_significand_needs_the_exponent_of_its_magnitude(rt: HostRuntime) {
-    for &(asked, significand, exponent, is_accepted, want) in &GIVEN {
+    for &(asked, significand, exponent, is_accepted, want) in GIVEN {
         assert!(rt;
             gives(
                 rt.alloc(),
@@ -247,7 +247,7 @@ fn exponent_at(alloc: Global, asked: Asked, magnitude: i16) -> Option<u8> {
     }
 }
 
-const EXPONENTS: [(Asked, i16, u8); 12] = [
+const EXPONENTS: &[(Asked, i16, u8)] = &[
     (SHORT_ENGLISH, -32768, 0),
     (SHORT_ENGLISH, 2, 0),
     (SHORT_ENGLISH, 5, 3),
@@ -264,7 +264,7 @@ const EXPONENTS: [(Asked, i16, u8); 12] = [
 
 #[test]
 fn a_magnitude_has_the_exponent_of_its_entry(rt: HostRuntime) {
-    for &(asked, magnitude, exponent) in &EXPONENTS {
+    for &(asked, magnitude, exponent) in EXPONENTS {
         assert!(rt;
             exponent_at(rt.alloc(), asked, magnitude) == Some(exponent),
             "{magnitude}"

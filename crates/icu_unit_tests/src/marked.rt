@@ -41,7 +41,7 @@ const AUTO: SignDisplay = SignDisplay::Auto;
 
 const EXCEPT_ZERO: SignDisplay = SignDisplay::ExceptZero;
 
-const PLAIN: [(&str, Shown, Marked); 6] = [
+const PLAIN: &[(&str, Shown, Marked)] = &[
     (
         "en",
         ("-987654.321", AUTO),
@@ -93,7 +93,7 @@ const PLAIN: [(&str, Shown, Marked); 6] = [
 
 #[test]
 fn plain_numbers_have_their_parts(rt: HostRuntime) {
-    for &(locale, shown, want) in &PLAIN {
+    for &(locale, shown, want) in PLAIN {
         assert!(rt; marks_plain(rt.alloc(), locale, shown, want), "{locale}");
     }
 }
@@ -134,7 +134,7 @@ const PLUS: &[(usize, usize, Part)] = &[(0, 1, parts::PLUS_SIGN)];
 
 const MINUS: &[(usize, usize, Part)] = &[(0, 1, parts::MINUS_SIGN)];
 
-const COMPACT: [(Asked, Shown, Marked); 5] = [
+const COMPACT: &[(Asked, Shown, Marked)] = &[
     (SHORT_ENGLISH, ("-1172700", AUTO), ("-1.2M", MINUS)),
     (SHORT_ENGLISH, ("2500", EXCEPT_ZERO), ("+2.5K", PLUS)),
     (SHORT_ENGLISH, ("-0.00", EXCEPT_ZERO), ("0", &[])),
@@ -144,7 +144,7 @@ const COMPACT: [(Asked, Shown, Marked); 5] = [
 
 #[test]
 fn compact_numbers_have_the_part_of_their_sign(rt: HostRuntime) {
-    for &(asked, shown, want) in &COMPACT {
+    for &(asked, shown, want) in COMPACT {
         assert!(rt; marks(rt.alloc(), asked, shown, want), "{}", want.0);
     }
 }

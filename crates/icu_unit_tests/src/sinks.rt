@@ -10,7 +10,7 @@ const MINUS: &[(usize, usize, Part)] = &[(0, 1, MINUS_SIGN)];
 
 /// The text of -1.5 metres in sinks with room for so many events, for each number that is less than
 /// all. A part that isn't closed has no span.
-const PLAIN_BEGINNINGS: [(&str, &[(usize, usize, Part)]); 15] = [
+const PLAIN_BEGINNINGS: &[(&str, &[(usize, usize, Part)])] = &[
     ("", &[]),
     ("", &[]),
     ("-", &[]),
@@ -40,7 +40,7 @@ fn a_full_sink_holds_a_beginning(rt: HostRuntime) {
 }
 
 /// The text of 1000 metres, shortened, after so many events.
-const SHORT_BEGINNINGS: [&str; 9] = [
+const SHORT_BEGINNINGS: &[&str] = &[
     "", "1", "1K", "1K ", "1K m", "1K me", "1K met", "1K mete", "1K meter",
 ];
 
@@ -60,14 +60,14 @@ fn a_full_sink_holds_a_beginning_of_a_compact_number(rt: HostRuntime) {
 }
 
 /// Units whose last event just finds room.
-const WHOLE: [(Unit, &str, usize, &str, &[(usize, usize, Part)]); 2] = [
+const WHOLE: &[(Unit, &str, usize, &str, &[(usize, usize, Part)])] = &[
     (PLAIN_METRES, "-1.5", 15, "-1.5 meters", MINUS),
     (SHORT_METRES, "1000", 9, "1K meters", &[]),
 ];
 
 #[test]
 fn a_sink_with_just_enough_room_takes_all(rt: HostRuntime) {
-    for &(unit, number, limit, text, parts) in &WHOLE {
+    for &(unit, number, limit, text, parts) in WHOLE {
         assert!(rt;
             is_written(rt.alloc(), unit, number, Some(limit), (Ok(()), text, parts)),
             "{text}"

@@ -20,7 +20,7 @@ const MINUS: &[(usize, usize, Part)] = &[(0, 1, MINUS_SIGN)];
 
 const PLUS: &[(usize, usize, Part)] = &[(0, 1, PLUS_SIGN)];
 
-const WRITTEN: [(Unit, &str, &str, &[(usize, usize, Part)]); 10] = [
+const WRITTEN: &[(Unit, &str, &str, &[(usize, usize, Part)])] = &[
     (PLAIN_METRES, "-1", "-1 meter", MINUS),
     (PLAIN_METRES, "+1", "+1 meter", PLUS),
     (PLAIN_METRES, "1.0", "1.0 meters", &[]),
@@ -40,7 +40,7 @@ const WRITTEN: [(Unit, &str, &str, &[(usize, usize, Part)]); 10] = [
 
 #[test]
 fn numbers_are_written_with_a_unit(rt: HostRuntime) {
-    for &(unit, number, text, parts) in &WRITTEN {
+    for &(unit, number, text, parts) in WRITTEN {
         assert!(rt;
             is_written(rt.alloc(), unit, number, None, (Ok(()), text, parts)),
             "{text}"

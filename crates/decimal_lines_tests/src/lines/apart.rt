@@ -4,7 +4,7 @@ use super::answers;
 use decimal_lines::laws::lines_are_answered_apart;
 
 /// Pieces, what is written of each, and last all of them together.
-const PIECES: [(&[u8], &[u8]); 6] = [
+const PIECES: &[(&[u8], &[u8])] = &[
     (b"0\n1\n", b"0\n1\n"),
     (b"", b""),
     (b"1234567\r\nx\n", b"1,234,567\nerror: not a decimal\n"),

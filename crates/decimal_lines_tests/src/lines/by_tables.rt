@@ -42,7 +42,7 @@ const TEN_TO_15_AND_16: &str = "1000000000000000\n10000000000000000\n";
 const SHORT: &[&str] = &["tables.json", "en", "-", "short"];
 
 /// Words, lines and their answers.
-const ANSWERED: [(&[&str], &str, &str); 19] = [
+const ANSWERED: &[(&[&str], &str, &str)] = &[
     (
         SHORT,
         "999499.99\n999500.00\n2207\n15127\n3010349\n-13132",
@@ -122,7 +122,7 @@ const ANSWERED: [(&[&str], &str, &str); 19] = [
 
 #[test]
 fn answers_by_words_and_tables(rt: HostRuntime) {
-    for &(words, input, want) in &ANSWERED {
+    for &(words, input, want) in ANSWERED {
         assert!(rt;
             answers(rt.alloc(), words, SAMPLE.as_bytes(), (input, want)),
             "at {want}"
@@ -183,7 +183,7 @@ fn refuses(alloc: Global, words: &[&str], file: &[u8], want: StartError) -> bool
 }
 
 /// Words whose locale has no symbols in the tables, no short patterns, or no rules.
-const WITHOUT_DATA: [&[&str]; 3] = [
+const WITHOUT_DATA: &[&[&str]] = &[
     &["tables.json", "xx", "-", "plain"],
     &["tables.json", "fr", "-", "short"],
     &["tables.json", "ar-EG", "-", "short"],
@@ -191,7 +191,7 @@ const WITHOUT_DATA: [&[&str]; 3] = [
 
 #[test]
 fn refuses_words_without_data(rt: HostRuntime) {
-    for &words in &WITHOUT_DATA {
+    for &words in WITHOUT_DATA {
         assert!(rt;
             refuses(rt.alloc(), words, SAMPLE.as_bytes(), StartError::NoData),
             "{}",
@@ -201,11 +201,11 @@ fn refuses_words_without_data(rt: HostRuntime) {
 }
 
 /// Files that are no tables.
-const BROKEN: [&[u8]; 4] = [b"", b"{\"symbols\":[]", b"{\"symbols\":[]}", b"\xff"];
+const BROKEN: &[&[u8]] = &[b"", b"{\"symbols\":[]", b"{\"symbols\":[]}", b"\xff"];
 
 #[test]
 fn refuses_broken_tables(rt: HostRuntime) {
-    for &file in &BROKEN {
+    for &file in BROKEN {
         assert!(rt;
             refuses(
                 rt.alloc(),

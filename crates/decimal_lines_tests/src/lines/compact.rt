@@ -12,7 +12,7 @@ use std::alloc::{AllocError, Global};
 use std::collections::BTreeMap;
 
 /// An exponent, which is its type too, and the text that follows a number.
-const ROWS: [(u8, &str); 4] = [(3, "K"), (6, "M"), (9, "B"), (12, "T")];
+const ROWS: &[(u8, &str)] = &[(3, "K"), (6, "M"), (9, "B"), (12, "T")];
 
 type Elements = PluralElements<Pattern<SinglePlaceholder>>;
 
@@ -30,7 +30,7 @@ fn is_put_once(alloc: Global, map: &mut BTreeMap<u8, (u8, Elements)>, row: (u8, 
 /// are left out.
 fn map(alloc: Global) -> BTreeMap<u8, (u8, Elements)> {
     let mut map = BTreeMap::new(alloc);
-    for &row in &ROWS {
+    for &row in ROWS {
         if !is_put_once(alloc, &mut map, row) {
             is_put_once(alloc, &mut map, row);
         }
@@ -99,7 +99,7 @@ fn answers(alloc: Global, input: &[u8], want: &[u8]) -> bool {
 
 /// Lines and their answers: halves go to the even number, a carry takes the next pattern, small
 /// numbers show two digits.
-const LINES: [(&str, &str); 7] = [
+const LINES: &[(&str, &str)] = &[
     ("1650\n1750\n1950", "1.6K\n1.8K\n2K\n"),
     ("999499.99\n999500.00\r\n", "999K\n1M\n"),
     ("-13132\n+1172700\n", "-13K\n+1.2M\n"),
@@ -114,7 +114,7 @@ const LINES: [(&str, &str); 7] = [
 
 #[test]
 fn answers_in_compact_form(rt: HostRuntime) {
-    for &(input, want) in &LINES {
+    for &(input, want) in LINES {
         assert!(rt;
             answers(rt.alloc(), input.as_bytes(), want.as_bytes()),
             "at {want}"
@@ -173,7 +173,7 @@ fn keeps_a_beginning_where_writing_fails(rt: HostRuntime) {
 }
 
 /// How many bytes can be read, and what is written of them.
-const GOOD: [(usize, &str); 7] = [
+const GOOD: &[(usize, &str)] = &[
     (0, ""),
     (1, ""),
     (4, ""),
@@ -185,7 +185,7 @@ const GOOD: [(usize, &str); 7] = [
 
 #[test]
 fn keeps_whole_lines_where_reading_fails(rt: HostRuntime) {
-    for &(good, want) in &GOOD {
+    for &(good, want) in GOOD {
         let wanted = (Err(RunError::Read), want.as_bytes());
         assert!(rt;
             ends(rt.alloc(), good, (usize::MAX, Full::Fails), wanted),

@@ -8,7 +8,7 @@ use std::alloc::Global;
 const LINES: &[u8] = b"5\n6\r\n7";
 
 /// How much room there is, and what is held where it ends.
-const ROOMS: [(usize, &str); 6] = [
+const ROOMS: &[(usize, &str)] = &[
     (0, ""),
     (1, "5"),
     (2, "5\n"),
@@ -36,13 +36,13 @@ fn keeps(alloc: Global, room: usize, want: &[u8]) -> bool {
 
 #[test]
 fn keeps_a_beginning_where_writing_fails(rt: HostRuntime) {
-    for &(room, want) in &ROOMS {
+    for &(room, want) in ROOMS {
         assert!(rt; keeps(rt.alloc(), room, want.as_bytes()), "after {room}");
     }
 }
 
 /// How many bytes can be read, and what is written of them.
-const GOOD: [(usize, &str); 6] = [
+const GOOD: &[(usize, &str)] = &[
     (0, ""),
     (1, ""),
     (2, "5\n"),
@@ -53,7 +53,7 @@ const GOOD: [(usize, &str); 6] = [
 
 #[test]
 fn keeps_whole_lines_where_reading_fails(rt: HostRuntime) {
-    for &(good, want) in &GOOD {
+    for &(good, want) in GOOD {
         assert!(rt;
             ends(
                 rt.alloc(),

@@ -10,7 +10,7 @@ const LINES: &[u8] = b"5\n6\r\n1234";
 const ALL: &[u8] = b"5\n6\n1,234\n";
 
 /// How much room there is, how much of it holds whole lines, and why not all.
-const ROOMS: [(usize, usize, Option<FillError>); 8] = [
+const ROOMS: &[(usize, usize, Option<FillError>)] = &[
     (0, 0, Some(FillError::TooSmall)),
     (1, 0, Some(FillError::TooSmall)),
     (2, 2, Some(FillError::TooSmall)),
@@ -55,7 +55,7 @@ fn fills(alloc: Global, room: usize, written: usize, cause: Option<FillError>) -
 
 #[test]
 fn fills_with_all_lines_that_fit(rt: HostRuntime) {
-    for &(room, written, cause) in &ROOMS {
+    for &(room, written, cause) in ROOMS {
         assert!(rt; fills(rt.alloc(), room, written, cause), "in {room}");
     }
 }

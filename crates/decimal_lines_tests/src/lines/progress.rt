@@ -12,7 +12,7 @@ const ALL: &[u8] = b"5\n6\n1,234\n";
 
 /// A room, and how far it takes the input: what is consumed and written, and what the next line
 /// needs, if a line is left.
-const ROOMS: [(usize, usize, usize, usize); 9] = [
+const ROOMS: &[(usize, usize, usize, usize)] = &[
     (0, 0, 0, 2),
     (1, 0, 0, 2),
     (2, 2, 2, 2),
@@ -67,7 +67,7 @@ fn goes(alloc: Global, room: usize, want: (usize, usize, usize)) -> bool {
 
 #[test]
 fn goes_as_far_as_the_room(rt: HostRuntime) {
-    for &(room, consumed, written, needed) in &ROOMS {
+    for &(room, consumed, written, needed) in ROOMS {
         assert!(rt;
             goes(rt.alloc(), room, (consumed, written, needed)),
             "in {room}"
