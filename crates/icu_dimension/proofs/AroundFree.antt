@@ -20,7 +20,8 @@ use Rattle.icu_dimension_data.specs.Surrounding.{affix_events, in_part, token_ev
 use Rattle.icu_dimension.specs.MoneyReadable.{AffixesHaveNoDigit, PatternHasNoDigit, StandsForNoDigit, TextsHaveNoDigit}
 use Rattle.icu_dimension.specs.MoneyLaws.{NoDigitStandsAround}
 
-characters-part : (category value text : List ℕ) → characters (in_part category value text) ≡ chars text
+-- the characters of a text in a part
+pub characters-part : (category value text : List ℕ) → characters (in_part category value text) ≡ chars text
 characters-part category value text =
     characters-append (text_events text) (Close ∷ []) ∙ append-nil (characters (text_events text)) ∙ characters-map_Char (chars text)
 

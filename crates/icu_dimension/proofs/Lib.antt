@@ -1,6 +1,9 @@
 pub mod AroundFree
 pub mod Hundred
+pub mod MarksTold
+pub mod MoneySymbolTold
 pub mod MoneyTold
 pub mod PercentsTold
 pub mod PointMoved
+pub mod SymbolTold
 pub mod WorkedMoney

@@ -1,29 +1,43 @@
--- English money with the symbol $ is readable: an instance of the law of texts of money.
-use Rattle.std.proofs.Common.{◌≡◌, ℕ, refl, sym, ap, ◌∙◌, arith}
-use Rattle.std.proofs.Common.{List, [], ◌∷◌, ◌++◌, Bool, true, false, None, Contains, codes, if◌then◌else◌}
+-- English money is readable and tells symbols, by the standard pattern and by that of accounts: instances of the laws of texts
+-- of money.
+use Rattle.std.proofs.Common.{◌≡◌, ◌≢◌, ℕ, refl, sym, ap, ◌∙◌, arith, inl, Some, None, Contains, All}
+use Rattle.std.proofs.Common.{List, [], ◌∷◌, ◌++◌, length, codes}
 use Rattle.std.specs.Str.{chars}
 use Rattle.std.specs.Prelude.{Ok}
 use Rattle.std.proofs.lemmas.List.Elements.{All-cons, All-nil}
 use Rattle.fixed_decimal.specs.declared.signs.Sign.{Sign}
 use Rattle.fixed_decimal.specs.declared.signs.Sign.TheVariants.{Negative, Positive, None as NoSign}
+use Rattle.fixed_decimal.specs.Unsigned.{Unsigned, IsUnsigned}
 use Rattle.writeable.specs.Events.{characters}
-use Rattle.writeable.specs.Writes.{characters-append}
 use Rattle.icu_decimal_data.specs.DecimalSymbols.{english_symbols}
 use Rattle.icu_decimal_options.specs.declared.options.DecimalFormatterOptions.{DecimalFormatterOptions}
+use Rattle.icu_decimal.specs.Decimal.{DecimalFormat}
 use Rattle.icu_decimal.proofs.WorkedReadable.{digits, english_readable, none_of}
 use Rattle.icu_decimal_readable.specs.Readable.{Surroundings}
-use Rattle.icu_dimension_data.specs.declared.affix_token.AffixToken.{AffixToken}
-use Rattle.icu_dimension_data.specs.declared.affix_token.AffixToken.TheVariants.{CurrencySymbol, MinusSign, PlusSign}
-use Rattle.icu_dimension_data.specs.Patterns.{PatternText}
+use Rattle.icu_dimension_data.specs.declared.affix_token.AffixToken.TheVariants.{Character, CurrencySymbol}
+use Rattle.icu_dimension_data.specs.Patterns.{Affixes, PatternText}
 use Rattle.icu_dimension_data.specs.Reading.{pattern_of, reading_from}
-use Rattle.icu_dimension_data.specs.Resolved.{Signed, Texts, last_character, needs_space, no_break_space, resolved}
-use Rattle.icu_dimension_data.specs.Surrounding.{affix_events, token_events}
-use Rattle.icu_dimension.specs.MoneyReadable.{IsReadableMoney, PatternHasNoDigit, SignsDifferAround, StandsForNoDigit, TextsHaveNoDigit, money_surroundings}
-use Rattle.icu_dimension.proofs.AroundFree.{no_digit_stands_around}
+use Rattle.icu_dimension_data.specs.Resolved.{Signed, Texts, resolved}
+use Rattle.icu_dimension.specs.MoneyReadable.{AffixesHaveNoDigit, IsReadableMoney, StandsForNoDigit, TextsHaveNoDigit}
+use Rattle.icu_dimension.specs.MoneySymbol.{HasSymbolPlace, IsToldSymbol, MarksTellSign, TellsSymbols, beside_symbol, marks_around, with_symbol}
+use Rattle.icu_dimension.specs.SymbolLaws.{plain_amount}
+use Rattle.icu_dimension.proofs.MoneySymbolTold.{money_tells_symbol, readable_with_symbol}
+
+-- the symbol in front of the number
+abbrev pub symbol_first : Affixes
+symbol_first = record { before = CurrencySymbol ∷ []; after = [] }
+
+-- the symbol and the number in parentheses
+abbrev pub in_parentheses : Affixes
+in_parentheses = record { before = Character 40 ∷ CurrencySymbol ∷ []; after = Character 41 ∷ [] }
 
 -- the pattern ¤#,##0.00, whose first character is spelled in two bytes
 abbrev pub dollar_pattern : PatternText
-dollar_pattern = record { first = record { before = CurrencySymbol ∷ []; after = [] }; second = None }
+dollar_pattern = record { first = symbol_first; second = None }
+
+-- the pattern ¤#,##0.00;(¤#,##0.00)
+abbrev pub accounts_pattern : PatternText
+accounts_pattern = record { first = symbol_first; second = Some in_parentheses }
 
 abbrev pub dollar_texts : Texts
 dollar_texts = record { minus_sign = codes "-"; plus_sign = codes "+"; percent_sign = codes "%"; currency = codes "$" }
@@ -31,92 +45,154 @@ dollar_texts = record { minus_sign = codes "-"; plus_sign = codes "+"; percent_s
 abbrev pub dollars : Signed
 dollars = resolved dollar_pattern dollar_texts
 
--- it is what `parse` reads
+-- they are what `parse` reads
 pub dollar_pattern_read : pattern_of (194 ∷ 164 ∷ codes "#,##0.00") ≡ Ok dollar_pattern
 unfolding chars pattern_of reading_from
 dollar_pattern_read = refl
 
--- the character that an amount begins with, by its sign
-abbrev pub lead : Sign → ℕ
-lead NoSign = 36
-lead Negative = 45
-lead Positive = 43
+pub accounts_pattern_read : pattern_of (194 ∷ 164 ∷ (codes "#,##0.00;(" ++ 194 ∷ 164 ∷ codes "#,##0.00)")) ≡ Ok accounts_pattern
+unfolding chars pattern_of reading_from
+accounts_pattern_read = refl
 
-lead_tells : (s t : Sign) → lead s ≡ lead t → s ≡ t
-lead_tells NoSign NoSign e = refl
-lead_tells NoSign Negative e = cc
-lead_tells NoSign Positive e = cc
-lead_tells Negative NoSign e = cc
-lead_tells Negative Negative e = refl
-lead_tells Negative Positive e = cc
-lead_tells Positive NoSign e = cc
-lead_tells Positive Negative e = cc
-lead_tells Positive Positive e = refl
+-- ---- the marks of the signs
 
--- tokens, with a space behind them or without one
-abbrev pub perhaps_spaced : Bool → List AffixToken → List AffixToken
-perhaps_spaced b ts = if b then ts ++ no_break_space ∷ [] else ts
+abbrev pub marks : List ℕ
+marks = codes "-+("
 
--- a text that begins with this character
-abbrev pub BeginsWith : ℕ → List ℕ → Type 0
-BeginsWith c cs = (rest : List ℕ) × (cs ≡ c ∷ rest)
+-- the marks before an amount, by its sign: none, or that of minus or of plus
+abbrev pub mark : ℕ → ℕ → Sign → List ℕ
+mark minus plus NoSign = []
+mark minus plus Negative = minus ∷ []
+mark minus plus Positive = plus ∷ []
 
-front : (b : Bool) (t : AffixToken) (c : ℕ) (ts : List AffixToken) → BeginsWith c (characters (token_events dollar_texts t)) →
-    BeginsWith c (characters (affix_events dollar_texts (perhaps_spaced b (t ∷ ts))))
-front true t c ts (rest, e) = (
-  rest ++ characters (affix_events dollar_texts (ts ++ no_break_space ∷ [])),
-  characters-append (token_events dollar_texts t) (affix_events dollar_texts (ts ++ no_break_space ∷ []))
-      ∙ ap (λ l. l ++ characters (affix_events dollar_texts (ts ++ no_break_space ∷ []))) e,
-)
-front false t c ts (rest, e) = (
-  rest ++ characters (affix_events dollar_texts ts),
-  characters-append (token_events dollar_texts t) (affix_events dollar_texts ts) ∙ ap (λ l. l ++ characters (affix_events dollar_texts ts)) e,
-)
+mark_tells : (minus plus : ℕ) → minus ≢ plus → (s t : Sign) → mark minus plus s ≡ mark minus plus t → s ≡ t
+mark_tells minus plus differ NoSign NoSign e = refl
+mark_tells minus plus differ NoSign Negative e = cc
+mark_tells minus plus differ NoSign Positive e = cc
+mark_tells minus plus differ Negative NoSign e = cc
+mark_tells minus plus differ Negative Negative e = refl
+mark_tells minus plus differ Negative Positive e = let same : minus ≡ plus = cc in absurd (differ same)
+mark_tells minus plus differ Positive NoSign e = cc
+mark_tells minus plus differ Positive Negative e = let same : plus ≡ minus = cc in absurd (differ (sym same))
+mark_tells minus plus differ Positive Positive e = refl
 
--- whether a space stands behind the symbol is left open: the sign, or else the symbol, stands in front
-begins : (s : Sign) → BeginsWith (lead s) (money_surroundings dollars s).before
+mark_before : (s : Sign) → (marks_around marks (beside_symbol dollar_pattern dollar_texts s)).before ≡ mark 45 43 s
 unfolding chars
-begins NoSign = front (needs_space (last_character (codes "$"))) CurrencySymbol 36 [] ([], refl)
-begins Negative = front (needs_space (last_character (codes "$"))) MinusSign 45 (CurrencySymbol ∷ []) ([], refl)
-begins Positive = front (needs_space (last_character (codes "$"))) PlusSign 43 (CurrencySymbol ∷ []) ([], refl)
+mark_before NoSign = refl
+mark_before Negative = refl
+mark_before Positive = refl
 
-sign_told : SignsDifferAround dollars
+accounts_mark_before : (s : Sign) → (marks_around marks (beside_symbol accounts_pattern dollar_texts s)).before ≡ mark 40 43 s
+unfolding chars
+accounts_mark_before NoSign = refl
+accounts_mark_before Negative = refl
+accounts_mark_before Positive = refl
+
+minus_is_not_plus : ◌≢◌ {A = ℕ} 45 43
+minus_is_not_plus same = omega arith
+
+parenthesis_is_not_plus : ◌≢◌ {A = ℕ} 40 43
+parenthesis_is_not_plus same = omega arith
+
+sign_told : MarksTellSign marks dollar_pattern dollar_texts
 sign_told s t e =
-    let before : (money_surroundings dollars s).before ≡ (money_surroundings dollars t).before = ap (λ (a : Surroundings). a.before) e in
-    let first = begins s in
-    let second = begins t in
-    let fronts : lead s ∷ first.0 ≡ lead t ∷ second.0 = sym first.1 ∙ before ∙ second.1 in
-    let same : lead s ≡ lead t = cc in
-    lead_tells s t same
+    mark_tells 45 43 minus_is_not_plus s t (sym (mark_before s) ∙ ap (λ (a : Surroundings). a.before) e ∙ mark_before t)
 
-texts_free : TextsHaveNoDigit digits dollar_texts
+accounts_sign_told : MarksTellSign marks accounts_pattern dollar_texts
+accounts_sign_told s t e =
+    mark_tells 40 43 parenthesis_is_not_plus s t (sym (accounts_mark_before s) ∙ ap (λ (a : Surroundings). a.before) e ∙ accounts_mark_before t)
+
+-- ---- no digit, and no space
+
+texts_free : TextsHaveNoDigit digits (with_symbol dollar_texts [])
 unfolding chars
 texts_free = record {
-  symbol_free = none_of digits (codes "$") refl;
+  symbol_free = none_of digits [] refl;
   minus_free = none_of digits (codes "-") refl;
   plus_free = none_of digits (codes "+") refl;
   percent_free = none_of digits (codes "%") refl;
 }
 
-pattern_free : PatternHasNoDigit digits dollar_pattern
-pattern_free = record {
-  first_free = record {
-    before_free = All-cons (StandsForNoDigit digits) CurrencySymbol [] tt (All-nil (StandsForNoDigit digits));
-    after_free = All-nil (StandsForNoDigit digits);
-  };
-  second_free = tt;
+nothing_free : All (StandsForNoDigit digits) []
+nothing_free = All-nil (StandsForNoDigit digits)
+
+symbol_free : AffixesHaveNoDigit digits symbol_first
+symbol_free = record { before_free = All-cons (StandsForNoDigit digits) CurrencySymbol [] tt nothing_free; after_free = nothing_free }
+
+free_of : (c : ℕ) → All (λ d. ¬ (Contains digits d)) (c ∷ []) → ¬ (Contains digits c)
+free_of c h has = h 0 c (omega arith) has
+
+parentheses_free : AffixesHaveNoDigit digits in_parentheses
+parentheses_free = record {
+  before_free =
+      All-cons (StandsForNoDigit digits) (Character 40) (CurrencySymbol ∷ []) (free_of 40 (none_of digits (40 ∷ []) refl)) symbol_free.before_free;
+  after_free = All-cons (StandsForNoDigit digits) (Character 41) [] (free_of 41 (none_of digits (41 ∷ []) refl)) nothing_free;
 }
 
-space_free : ¬ (Contains digits 160)
-space_free has = none_of digits (160 ∷ []) refl 0 160 (omega arith) has
+space_no_digit : ¬ (Contains digits 160)
+space_no_digit = free_of 160 (none_of digits (160 ∷ []) refl)
+
+space_no_mark : ¬ (Contains marks 160)
+space_no_mark has = none_of marks (160 ∷ []) refl 0 160 (omega arith) has
+
+symbol_shown : HasSymbolPlace symbol_first
+symbol_shown = inl (0, omega arith, refl)
+
+-- ---- what they tell
+
+pub dollars_tell_symbols : TellsSymbols digits marks dollar_pattern dollar_texts
+dollars_tell_symbols = record {
+  shown = record { first_shows = symbol_shown; second_shows = tt };
+  sign_told = sign_told;
+  space_no_mark = space_no_mark;
+  pattern_free = record { first_free = symbol_free; second_free = tt };
+  signs_free = texts_free;
+  space_no_digit = space_no_digit;
+}
+
+pub accounts_tell_symbols : TellsSymbols digits marks accounts_pattern dollar_texts
+accounts_tell_symbols = record {
+  shown = record { first_shows = symbol_shown; second_shows = inl (1, omega arith, refl) };
+  sign_told = accounts_sign_told;
+  space_no_mark = space_no_mark;
+  pattern_free = record { first_free = symbol_free; second_free = parentheses_free };
+  signs_free = texts_free;
+  space_no_digit = space_no_digit;
+}
+
+dollar_told : IsToldSymbol digits marks (codes "$")
+unfolding chars
+dollar_told = record {
+  no_digit = none_of digits (codes "$") refl;
+  no_mark = none_of marks (codes "$") refl;
+  no_space = record { first_other = λ e. cc; last_other = λ e. cc };
+}
+
+francs_told : IsToldSymbol digits marks (codes "CHF")
+unfolding chars
+francs_told = record {
+  no_digit = none_of digits (codes "CHF") refl;
+  no_mark = none_of marks (codes "CHF") refl;
+  no_space = record { first_other = λ e. cc; last_other = λ e. cc };
+}
+
+-- English numbers, with these options
+abbrev pub english : DecimalFormatterOptions → DecimalFormat
+english options = record { symbols = english_symbols; digits = digits; options = options }
 
 -- English money in dollars is readable, whatever the groups
-pub english_money_readable : (options : DecimalFormatterOptions) →
-    IsReadableMoney (record { formatter = record { symbols = english_symbols; digits = digits; options = options }; patterns = dollars })
-english_money_readable options = record {
-  numbers_readable = english_readable;
-  around_readable = record {
-    free = no_digit_stands_around digits dollar_pattern dollar_texts texts_free pattern_free space_free;
-    sign_told = sign_told;
-  };
-}
+pub english_money_readable : (options : DecimalFormatterOptions) → IsReadableMoney (record { formatter = english options; patterns = dollars })
+english_money_readable options =
+    readable_with_symbol (english options) marks dollar_pattern dollar_texts (codes "$") english_readable dollars_tell_symbols dollar_told
+
+chars_differ : chars (codes "$") ≢ chars (codes "CHF")
+unfolding chars
+chars_differ e = let lengths : ◌≡◌ {A = ℕ} 1 3 = ap length e in omega arith
+
+-- no text of dollars is one of francs, with whichever signs
+pub dollars_are_no_francs : (options : DecimalFormatterOptions) (s t : Sign) (c d : Unsigned) → IsUnsigned c → IsUnsigned d →
+    characters (plain_amount (english options) accounts_pattern dollar_texts (codes "$") s c)
+    ≢ characters (plain_amount (english options) accounts_pattern dollar_texts (codes "CHF") t d)
+dollars_are_no_francs options s t c d hc hd e =
+    chars_differ (money_tells_symbol (english options) marks accounts_pattern dollar_texts (codes "$") (codes "CHF") s t c d
+    english_readable accounts_tell_symbols dollar_told francs_told hc hd e).2

@@ -5,8 +5,10 @@ pub mod Loaded
 pub mod Money
 pub mod MoneyLaws
 pub mod MoneyReadable
+pub mod MoneySymbol
 pub mod Names
 pub mod Percent
 pub mod PercentLaws
 pub mod PluralFormat
+pub mod SymbolLaws
 pub mod Units

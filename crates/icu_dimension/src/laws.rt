@@ -3,6 +3,9 @@
 ghost use Rattle.icu_dimension.specs.MoneyLaws.{EqualMoneyTextsTell, EqualMoneyTextsTellAround, EqualPercentTextsTell, MoneyTextTells};
 ghost use Rattle.icu_dimension.specs.MoneyLaws.{MoneyTextTellsAround, NoDigitStandsAround, PercentTextTells};
 ghost use Rattle.icu_dimension.specs.PercentLaws.{HundredfoldIsAHundredTimes, HundredfoldHasNoFirstZero};
+ghost use Rattle.icu_dimension.specs.SymbolLaws.{EqualMoneyTextsOfOneSignTellSymbol, EqualMoneyTextsTellSymbol};
+ghost use Rattle.icu_dimension.specs.SymbolLaws.{MoneyTextOfOneSignTellsSymbol, MoneyTextTellsSymbol};
+ghost use Rattle.icu_dimension.specs.SymbolLaws.{MoneyThatTellsSymbolsIsReadable};
 
 /// What is shown as a percent is a hundred times as large as the number, exactly.
 pub fn a_percent_is_a_hundred_times_the_number()
@@ -18,7 +21,8 @@ pub fn a_percent_has_no_zero_at_its_front()
 /// every digit. In the patterns of two currencies, or of two locales with the same numbers, equal
 /// texts mean equal digits and range, and the same characters before the number and after it, if
 /// no digit stands there; and none does, if neither the symbol nor a sign nor the pattern has one.
-/// The symbol alone isn't told: U+00A0 may stand beside one and be part of another.
+/// What stands there is told as a whole: U+00A0 may stand beside one symbol and be part of another.
+/// [`money_text_tells_the_symbol`] says when the symbol is told, too.
 ///
 /// Texts are compared as lists of characters, and as `write_to_string` returns them.
 pub fn money_text_tells()
@@ -27,6 +31,31 @@ pub fn money_text_tells()
     ensures characters_around { MoneyTextTellsAround }
     ensures texts_around { EqualMoneyTextsTellAround }
     ensures free { NoDigitStandsAround }
+{}
+
+/// Money in two currencies, by one plain formatter whose numbers are readable, in one pattern and
+/// with the same signs: equal texts mean equal sign, range, digits and symbol, under the premises
+/// `TellsSymbols` of the pattern and `IsToldSymbol` of both symbols.
+///
+/// | premise | what is untold without it |
+/// |---|---|
+/// | each subpattern has the symbol's place | by `0` the symbol |
+/// | no symbol begins or ends with U+00A0 | in `A\u{a0}1` whether it is `A` or `A\u{a0}` |
+/// | marks, as `-`, `+` and `(`, tell the sign if no symbol is written | by `¤0;¤0` the minus |
+/// | no symbol has a mark | in `-$1` whether it is 1 of `-$` or -1 of `$` |
+/// | U+00A0 is no mark, and no digit | by `¤0;¤\u{a0}0` the minus of `CHF\u{a0}1` |
+/// | symbols, signs and pattern have no digit | in `$1\u{a0}234` if 234 of `$1` or 1234 of `$` |
+///
+/// Between amounts of one sign no marks are asked for. Money that tells its symbol is readable.
+///
+/// Texts are compared as lists of characters, and as `write_to_string` returns them; then the
+/// symbols are equal byte for byte.
+pub fn money_text_tells_the_symbol()
+    ensures characters { MoneyTextTellsSymbol }
+    ensures texts { EqualMoneyTextsTellSymbol }
+    ensures one_sign { MoneyTextOfOneSignTellsSymbol }
+    ensures one_sign_texts { EqualMoneyTextsOfOneSignTellSymbol }
+    ensures readable { MoneyThatTellsSymbolsIsReadable }
 {}
 
 /// If percents by a plain formatter are readable, as money is, equal texts mean equal signs and

@@ -105,7 +105,7 @@ fn holds(alloc: Global, five_text: &str, before: &str, power: u8) -> bool {
 }
 
 /// Five with a sign, the text before its numbers, and a power.
-const POWERS: [(&str, &str, u8); 7] = [
+const POWERS: &[(&str, &str, u8)] = &[
     ("5", "$", 3),
     ("5", "$", 100),
     ("5", "$", 254),
@@ -117,7 +117,7 @@ const POWERS: [(&str, &str, u8); 7] = [
 
 #[test]
 fn each_entry_of_a_large_table_is_found(rt: HostRuntime) {
-    for &(five, before, power) in &POWERS {
+    for &(five, before, power) in POWERS {
         assert!(rt;
             holds(rt.alloc(), five, before, power) || holds(rt.alloc(), five, before, power),
             "{five} {power}"

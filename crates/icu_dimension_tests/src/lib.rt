@@ -28,6 +28,8 @@ mod sinks;
 #[cfg(test)]
 mod stocking;
 #[cfg(test)]
+mod told;
+#[cfg(test)]
 mod units;
 #[cfg(test)]
 mod writing;

@@ -224,7 +224,7 @@ pub(crate) fn writes(
 }
 
 /// Whose data, which formatter, a number, and how it is written.
-const WRITTEN: [(Whose, Made, &str, &str); 18] = [
+const WRITTEN: &[(Whose, Made, &str, &str)] = &[
     (Whose::English, Made::Standard, "1234.50", "$1,234.50"),
     (Whose::English, Made::Standard, "-1234.50", "-$1,234.50"),
     (Whose::English, Made::Accounting, "-1234.50", "($1,234.50)"),
@@ -274,7 +274,7 @@ fn is_written(alloc: Global, whose: Whose, made: Made, row: (&str, &str)) -> boo
 
 #[test]
 fn formatters_are_made_of_the_data_of_the_provider(rt: HostRuntime) {
-    for &(whose, made, number, want) in &WRITTEN {
+    for &(whose, made, number, want) in WRITTEN {
         assert!(rt;
             is_written(rt.alloc(), whose, made, (number, want)),
             "{number} {want}"
@@ -284,7 +284,7 @@ fn formatters_are_made_of_the_data_of_the_provider(rt: HostRuntime) {
 
 /// Formatters whose symbol, name or unit has 800 letters: what stands before the letters and behind
 /// them.
-const LONG: [(Made, &str, &str); 4] = [
+const LONG: &[(Made, &str, &str)] = &[
     (Made::Standard, "", "\u{a0}2"),
     (Made::Names, "2", ""),
     (Made::Compact, "", "\u{a0}2M"),
@@ -312,7 +312,7 @@ fn is_long(alloc: Global, made: Made, before: &str, after: &str) -> bool {
 
 #[test]
 fn long_symbols_and_names_are_loaded(rt: HostRuntime) {
-    for &(made, before, after) in &LONG {
+    for &(made, before, after) in LONG {
         assert!(rt;
             is_long(rt.alloc(), made, before, after) || is_long(rt.alloc(), made, before, after),
             "{before}{after}"

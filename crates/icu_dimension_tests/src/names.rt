@@ -10,12 +10,12 @@ use icu_plurals::{PluralCategory, PluralElements, PluralRules};
 use std::alloc::Global;
 use writeable::Part;
 
-pub(crate) const ENGLISH_RULES: [(PluralCategory, &str); 1] = [(
+pub(crate) const ENGLISH_RULES: &[(PluralCategory, &str)] = &[(
     PluralCategory::One,
     "i = 1 and v = 0",
 )];
 
-pub(crate) const FRENCH_RULES: [(PluralCategory, &str); 1] = [(PluralCategory::One, "i = 0,1")];
+pub(crate) const FRENCH_RULES: &[(PluralCategory, &str)] = &[(PluralCategory::One, "i = 0,1")];
 
 /// A currency in a language.
 #[derive(Clone, Copy)]
@@ -36,8 +36,8 @@ fn numbers_of(currency: Currency) -> Numbers {
 
 fn rules_of(currency: Currency) -> &'static [(PluralCategory, &'static str)] {
     match currency {
-        Currency::EnglishDollars => &ENGLISH_RULES,
-        Currency::FrenchDollars => &FRENCH_RULES,
+        Currency::EnglishDollars => ENGLISH_RULES,
+        Currency::FrenchDollars => FRENCH_RULES,
         Currency::JapaneseYen | Currency::NameFirst => &[],
     }
 }
@@ -116,7 +116,7 @@ fn is_amount(
     made_writes(alloc, long_of(alloc, currency), amount, text, parts)
 }
 
-const AMOUNTS: [(Currency, &str, &str); 9] = [
+const AMOUNTS: &[(Currency, &str, &str)] = &[
     (Currency::EnglishDollars, "1", "1 US dollar"),
     (Currency::EnglishDollars, "1.00", "1.00 US dollars"),
     (Currency::EnglishDollars, "-1234.5", "-1,234.5 US dollars"),
@@ -138,7 +138,7 @@ const AMOUNTS: [(Currency, &str, &str); 9] = [
 
 #[test]
 fn amounts_are_written_with_the_name_of_their_currency(rt: HostRuntime) {
-    for &(currency, amount, text) in &AMOUNTS {
+    for &(currency, amount, text) in AMOUNTS {
         assert!(rt;
             is_amount(rt.alloc(), currency, amount, text, None)
                 || is_amount(rt.alloc(), currency, amount, text, None),
@@ -147,7 +147,7 @@ fn amounts_are_written_with_the_name_of_their_currency(rt: HostRuntime) {
     }
 }
 
-const MARKED: [(Currency, &str, &str, &[(usize, usize, Part)]); 2] = [
+const MARKED: &[(Currency, &str, &str, &[(usize, usize, Part)])] = &[
     (
         Currency::EnglishDollars,
         "-1.0",
@@ -170,7 +170,7 @@ const MARKED: [(Currency, &str, &str, &[(usize, usize, Part)]); 2] = [
 
 #[test]
 fn names_are_parts(rt: HostRuntime) {
-    for &(currency, amount, text, parts) in &MARKED {
+    for &(currency, amount, text, parts) in MARKED {
         assert!(rt;
             is_amount(rt.alloc(), currency, amount, text, Some(parts))
                 || is_amount(rt.alloc(), currency, amount, text, Some(parts)),

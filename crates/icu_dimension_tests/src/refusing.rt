@@ -90,7 +90,7 @@ fn refuses_what_the_provider_refuses(rt: HostRuntime) {
 }
 
 /// Whose data, a preferred system, and whether patterns are found.
-const PREFERRED: [(Whose, Option<&str>, bool); 4] = [
+const PREFERRED: &[(Whose, Option<&str>, bool)] = &[
     (Whose::English, None, true),
     (Whose::English, Some("latn"), true),
     (Whose::ByArab, Some("arab"), true),
@@ -123,7 +123,7 @@ fn are_found(alloc: Global, whose: Whose, system: Option<&'static str>, found: b
 
 #[test]
 fn patterns_are_asked_for_by_the_preferred_system_first(rt: HostRuntime) {
-    for &(whose, system, found) in &PREFERRED {
+    for &(whose, system, found) in PREFERRED {
         assert!(rt; are_found(rt.alloc(), whose, system, found), "{found}");
     }
 }

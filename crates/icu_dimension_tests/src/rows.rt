@@ -73,7 +73,7 @@ fn english(code: &'static str, short: &'static str) -> Rows {
         narrow: "$",
         one: behind(" ", "US dollar"),
         other: behind(" ", "US dollars"),
-        rules: &ENGLISH_RULES,
+        rules: ENGLISH_RULES,
         unit: "kilometer",
         units: (" kilometer", " kilometers"),
     }
@@ -94,7 +94,7 @@ fn dutch() -> Rows {
         narrow: "€",
         one: behind(" ", "euro"),
         other: behind(" ", "euro"),
-        rules: &ENGLISH_RULES,
+        rules: ENGLISH_RULES,
         unit: "kilometer",
         units: (" kilometer", " kilometer"),
     }
@@ -119,7 +119,7 @@ fn swiss() -> Rows {
         narrow: "CHF",
         one: behind(" ", "franc suisse"),
         other: behind(" ", "francs suisses"),
-        rules: &FRENCH_RULES,
+        rules: FRENCH_RULES,
         unit: "kilometer",
         units: ("\u{a0}kilomètre", "\u{a0}kilomètres"),
     }

@@ -76,7 +76,7 @@ fn ends_so(alloc: Global, kind: Kind, limit: usize, text: &str, all: usize) -> b
 
 /// The texts in sinks with room for so many events: a part is opened, its characters follow, and it
 /// is closed. In the formatter's own numbers an empty affix of a sign has a part too.
-const BEGINNINGS: [(Kind, &[&str]); 4] = [
+const BEGINNINGS: &[(Kind, &[&str])] = &[
     (
         Kind::Money,
         &["", "", "-", "-", "-", "-$", "-$", "-$", "-$1", "-$1"],
@@ -107,7 +107,7 @@ const BEGINNINGS: [(Kind, &[&str]); 4] = [
 
 #[test]
 fn a_full_sink_holds_a_beginning(rt: HostRuntime) {
-    for &(kind, texts) in &BEGINNINGS {
+    for &(kind, texts) in BEGINNINGS {
         let all = texts.len() - 1;
         for (limit, text) in texts.iter().enumerate() {
             assert!(rt;

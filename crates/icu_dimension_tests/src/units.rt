@@ -10,7 +10,7 @@ use icu_plurals::{PluralCategory, PluralElements, PluralRules};
 use std::alloc::Global;
 use writeable::Part;
 
-const POLISH_RULES: [(PluralCategory, &str); 3] = [
+const POLISH_RULES: &[(PluralCategory, &str)] = &[
     (PluralCategory::One, "i = 1 and v = 0"),
     (
         PluralCategory::Few,
@@ -22,7 +22,7 @@ const POLISH_RULES: [(PluralCategory, &str); 3] = [
     ),
 ];
 
-const ARABIC_RULES: [(PluralCategory, &str); 2] = [
+const ARABIC_RULES: &[(PluralCategory, &str)] = &[
     (PluralCategory::One, "n = 1"),
     (PluralCategory::Two, "n = 2"),
 ];
@@ -41,9 +41,9 @@ pub(crate) enum Unit {
 
 fn rules_of(unit: Unit) -> &'static [(PluralCategory, &'static str)] {
     match unit {
-        Unit::PolishKilometres => &POLISH_RULES,
+        Unit::PolishKilometres => POLISH_RULES,
         Unit::EweMonths => &[],
-        Unit::ArabicDays => &ARABIC_RULES,
+        Unit::ArabicDays => ARABIC_RULES,
     }
 }
 
@@ -110,7 +110,7 @@ fn is_measure(
     made_writes(alloc, units_of(alloc, unit), number, text, parts)
 }
 
-const MEASURES: [(Unit, &str, &str); 11] = [
+const MEASURES: &[(Unit, &str, &str)] = &[
     (Unit::PolishKilometres, "1", "1 kilometr"),
     (Unit::PolishKilometres, "3", "3 kilometry"),
     (Unit::PolishKilometres, "5", "5 kilometrów"),
@@ -127,7 +127,7 @@ const MEASURES: [(Unit, &str, &str); 11] = [
 
 #[test]
 fn the_sign_stands_beside_the_number(rt: HostRuntime) {
-    for &(unit, number, text) in &MEASURES {
+    for &(unit, number, text) in MEASURES {
         assert!(rt;
             is_measure(rt.alloc(), unit, number, text, None)
                 || is_measure(rt.alloc(), unit, number, text, None),
