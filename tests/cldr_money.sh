@@ -18,8 +18,8 @@ tells "${money_lines[@]}" \
     "qaa: currencies/currency[QQC]/group: $own"
 counts currencies 2
 has currencies \
-    $'{"locale":"qaa","standard":"#,##0.00\u00a0¤","accounting":"#,##0.00\u00a0¤;(#,##0.00\u00a0¤)","minus":"−","plus":"+","names":{"one":"{1} {0}","other":"{0} {1}"},"short":[[4,4,{"one":"{0} wan. ¤","other":"{0} wans ¤"}]]}' \
-    $'{"locale":"und","standard":"¤\u00a0#,##0.00","accounting":"¤\u00a0#,##0.00","minus":"-","plus":"+","names":{"other":"{0} {1}"},"short":[[3,3,{"other":"¤{0}K"}]]}'
+    $'{"locale":"qaa","standard":"#,##0.00\u00a0¤","accounting":"#,##0.00\u00a0¤;(#,##0.00\u00a0¤)","minus":"−","plus":"+","names":{"one":"{1} {0}","other":"{0} {1}"}}' \
+    $'{"locale":"und","standard":"¤\u00a0#,##0.00","accounting":"¤\u00a0#,##0.00","minus":"-","plus":"+","names":{"other":"{0} {1}"}}'
 has currency_decimals \
     '{"locale":"qaa","minus":["−",""],"plus":["+",""],"decimal":"·","group":"˙","numsys":"latn","sizes":[3,3,2]}' \
     '{"locale":"qaa","system":"beng","minus":["−",""],"plus":["+",""],"decimal":"·","group":"˙","numsys":"beng","sizes":[3,3,2]}'
@@ -29,7 +29,12 @@ has currency_symbols \
     '{"locale":"und","symbols":[["QQA","QQA","a",{"other":"QQA"}],["QQB","B$","$",{"other":"QQB"}],["QQC","QQC","QQC",{"other":"QQC"}],["QQD","QQD","QQD",{"other":"QQD"}]]}'
 has currency_digits '["DEFAULT",2,2]' '["QQB",0,0]' '["QQC",3,1]'
 counts currency_digits 3
-judge 'no other keys' [ "$(ls "$folder" | grep -c '^money\.')" = 11 ]
+# compact patterns with their quotes; `0` alone shortens nothing; a type that repeats; none for a symbol that ends in a letter
+has currency_compact \
+    $'{"locale":"qaa","patterns":[[4,4,{"one":"0 wan\'.\' ¤","other":"0 wans ¤"}]]}' \
+    '{"locale":"und","patterns":[[3,3,{"other":"¤0K"}]]}'
+counts currency_compact 2
+judge 'no other keys' [ "$(ls "$folder" | grep -c '^money\.')" = 12 ]
 # decfmt reads such tables as it reads those without money
 answers 'qaa - plain' '1234\n-1234567.5\n' '1234\n−12.34.567,5\n'
 answers 'qaa - short' '99999\n' '10W.\n'
@@ -117,7 +122,7 @@ tells "${digits_lines[@]}" \
     'qbh: symbols of money[latn]: its symbols are more than 255 bytes' \
     "qbi: currencyFormats[latn]/unitPattern[other]: '#,##0.###': its groups aren't those of '¤0', which stand"
 has currencies \
-    $'{"locale":"qba","standard":"#,##0 \'E\'\'1\' ¤-","accounting":"¤#,##,##0;(¤#,##0)","minus":"-","plus":"+","names":{"other":"{0} {1}"},"short":[[3,3,{"other":"¤{0}K"}]]}'
+    $'{"locale":"qba","standard":"#,##0 \'E\'\'1\' ¤-","accounting":"¤#,##,##0;(¤#,##0)","minus":"-","plus":"+","names":{"other":"{0} {1}"}}'
 counts currencies 3
 # no groups in amounts, and the same symbols otherwise
 has currency_decimals \
@@ -125,6 +130,29 @@ has currency_decimals \
 counts currency_decimals 1
 has percents $'{"locale":"qba","pattern":"0%-\'%\'","minus":"-","plus":"+","percent":"%"}'
 counts percents 7
+
+# Compact patterns with negative subpatterns; `0` alone behind others; a symbol's code; none; a sign.
+cat >"$folder/odd/main/qbj.xml" <<END
+<ldml><numbers><currencyFormats numberSystem="latn"><currencyFormatLength type="short">
+    <currencyFormat type="standard">
+        <pattern type="1000" count="other">¤ 0 'k.';¤ -0 'k.'</pattern>
+        <pattern type="10000" count="other">¤ 00 'k.';¤ -00 'k.'</pattern>
+        <pattern type="100000" count="other">0</pattern>
+        <pattern type="1000000" count="other">¤¤0M</pattern>
+        <pattern type="10000000" count="other">00M</pattern>
+        <pattern type="100000000" count="other">-¤000M</pattern>
+    </currencyFormat>
+</currencyFormatLength></currencyFormats></numbers></ldml>
+END
+makes compact_money "$folder/odd" qbj --currencies QQA
+short='qbj: currencyFormats[latn]/short'
+tells "${digits_lines[@]}" \
+    "$short/100000: its exponent is below that of the type before it" \
+    "$short/1000000-other: '¤¤0M': ¤ stands 2 times in a subpattern of '¤¤0M', not once" \
+    "$short/10000000-other: '00M': ¤ stands 0 times in a subpattern of '00M', not once"
+has currency_compact \
+    $'{"locale":"qbj","patterns":[[3,3,{"other":"¤ 0 \'k.\';¤ -0 \'k.\'"}],[8,6,{"other":"-¤0M"}]]}'
+counts currency_compact 1
 
 # Nothing of it without its words.
 makes none "$release" --names none --currencies none --units none
@@ -134,12 +162,13 @@ judge 'none is the default' cmp "$folder/none.json" "$folder/modern.json"
 makes json_money "$release/json" qaa --currencies QQA,QQB --percents --units all
 tells "qaa: currencyFormats[latn]/$named '#,##0.00 ¤', which stand" "qaa: percentFormats[latn]/$percents: '#,##0 %': $groups"
 has currencies \
-    '{"locale":"qaa","standard":"#,##0.00 ¤","accounting":"#,##0.00 ¤;(#,##0.00 ¤)","minus":"−","plus":"+","names":{"one":"{1} {0}","other":"{0} {1}"},"short":[[4,4,{"one":"{0} wan ¤","other":"{0} wans ¤"}]]}' \
+    '{"locale":"qaa","standard":"#,##0.00 ¤","accounting":"#,##0.00 ¤;(#,##0.00 ¤)","minus":"−","plus":"+","names":{"one":"{1} {0}","other":"{0} {1}"}}' \
     '{"locale":"qaa","system":"arab","standard":"¤ #,##0.00","accounting":"¤ #,##0.00","minus":"-","plus":"+","names":{"other":"{0} {1}"}}'
 has currency_decimals \
     '{"locale":"qaa","minus":["−",""],"plus":["+",""],"decimal":"·","group":".","numsys":"latn","sizes":[3,3,2]}'
 counts currency_decimals 1
 has currency_symbols '{"locale":"qaa","symbols":[["QQA","A","a",{"one":"one alpha","other":"alphas"}],["QQB","B$","B$",{"other":"beta"}]]}'
+has currency_compact '{"locale":"qaa","patterns":[[4,4,{"one":"0 wan ¤","other":"0 wans ¤"}]]}'
 has currency_digits '["DEFAULT",2,2]' '["QQB",0,0]'
 has percents '{"locale":"qaa","pattern":"#,##0 %","minus":"−","plus":"+","percent":"%"}' \
     '{"locale":"qaa","system":"arab","pattern":"#,##0 %","minus":"-","plus":"+","percent":"٪"}'

@@ -1,5 +1,5 @@
 """The entries of money, percents and units."""
-from cldr_numbers import CompactReader, fitting, formats_of, symbol, symbols_entry, without_repeats
+from cldr_numbers import CompactReader, fitting, formats_of, symbol, symbols_entry, unfit, without_repeats
 from cldr_paths import (
     UNIT_WIDTHS,
     compact_money_path,
@@ -14,7 +14,7 @@ from cldr_paths import (
     symbols_path,
     unit_path,
 )
-from cldr_patterns import PLACE, refuse_unreadable, sizes_of
+from cldr_patterns import PLACE, compact_text, refuse_unreadable, sizes_of, subpatterns, with_one_zero
 from cldr_reports import CASH, GROUPS, OWN_PATTERN, UNIT, Inexpressible
 
 NAME = "{1}"
@@ -22,6 +22,7 @@ SYMBOL = "¤"
 PERCENT = "%"
 MOST_DIGITS = 15
 DEFAULT = "DEFAULT"
+SHORT = "short"
 OWN = ("pattern", "decimal", "group")
 
 
@@ -82,18 +83,35 @@ def percent_entry(release, locale, system):
 
 
 class CompactMoneyReader(CompactReader):
-    """Reads the compact patterns of money: ¤ stands for the symbol; the number alone isn't shortened."""
+    """Reads the short compact patterns of money, which stand as CLDR has them, but with one zero, since the exponent
+    stands beside them. `0` alone: such amounts aren't shortened."""
 
     element = "currencyFormats"
-    texts = {SYMBOL: SYMBOL}
 
     def path(self, power, count):
         """Where the pattern of a power and a count stands."""
         return compact_money_path(self.system, self.style, "1" + "0" * power, count)
 
-    def checked(self, text):
-        """The text, in which the symbol has its place."""
-        return text if text == PLACE else with_places(text, SYMBOL)
+    def spelled(self, pattern):
+        """The number of zeros of a pattern, and the pattern with one, in which the symbol stands; or `0` alone."""
+        zeros, text = compact_text(subpatterns(pattern)[0], {special: special for special in "-+" + SYMBOL})
+        if (zeros, text) == (1, PLACE):
+            return zeros, text
+        refuse_unreadable(pattern, "", once=SYMBOL)
+        return zeros, with_one_zero(pattern)
+
+    def tell_negative(self, *_):
+        """Tells nothing: the patterns have their negative subpatterns."""
+
+    def unfit(self, power, exponent, before, elements):
+        """Why a type can't stand in the table after the one before it, or None."""
+        return unfit(power, exponent, before, elements) or ("no symbol" if PLACE in elements.values() else None)
+
+
+def compact_money_entry(release, locale, system, rules):
+    """The short compact patterns of money."""
+    formats = money_formats(release, locale, system)
+    return {"patterns": CompactMoneyReader(release, locale, formats, SHORT, rules).table()}
 
 
 def money_names(release, locale, system, rules):
@@ -140,8 +158,8 @@ def money_symbols(release, locale, system):
     return None if entry == numbers else fitting(entry)
 
 
-def money_entry(release, locale, system, styles, rules):
-    """The patterns of money and the texts of the signs in them; `styles` says which compact ones there are."""
+def money_entry(release, locale, system, rules):
+    """The patterns of money and the texts of the signs in them."""
     formats = money_formats(release, locale, system)
     entry = money_patterns(release, locale, formats)
     grouped = {
@@ -151,10 +169,6 @@ def money_entry(release, locale, system, styles, rules):
     for path, pattern in grouped.items():
         tell_groups(release, locale, path, pattern, entry["standard"])
     entry.update(signs_of(release, locale, system), names=money_names(release, locale, formats, rules))
-    for style in styles:
-        patterns = CompactMoneyReader(release, locale, formats, style, rules).table()
-        if patterns:
-            entry[style] = patterns
     return entry
 
 

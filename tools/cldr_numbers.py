@@ -106,7 +106,6 @@ class CompactReader:
     """Reads the compact patterns of a locale in one numbering system and style."""
 
     element = "decimalFormats"
-    texts = {}
 
     def __init__(self, release, locale, system, style, rules):
         self.release = release
@@ -124,9 +123,19 @@ class CompactReader:
         """Where the pattern of a power and a count stands."""
         return compact_path(self.system, self.style, "1" + "0" * power, count)
 
-    def checked(self, text):
-        """The text of a pattern, if it has the places that it is to have."""
-        return text
+    def spelled(self, pattern):
+        """A pattern as its number of zeros and its text in tables."""
+        return compact_text(subpatterns(pattern)[0])
+
+    def tell_negative(self, power, count, pattern):
+        """Tells that a pattern has a negative subpattern, which tables of numbers don't have."""
+        if subpatterns(pattern)[1] is not None:
+            reason = f"{pattern!r}: a negative subpattern; the sign stands before the positive one"
+            self.left_out(power, count, reason, NEGATIVE)
+
+    def unfit(self, power, exponent, before, elements):
+        """Why a type can't stand in the table after the one before it, or None."""
+        return unfit(power, exponent, before, elements)
 
     def pattern(self, power, *counts):
         """The pattern that is found with one of the counts, and the count that it was found with."""
@@ -149,17 +158,13 @@ class CompactReader:
     def read(self, power, count, pattern):
         """A pattern as its exponent, None where it has no zeros, and its text; None where it can't be expressed."""
         try:
-            positive, negative = subpatterns(pattern)
-            zeros, text = compact_text(positive, self.texts)
-            text = self.checked(text)
+            zeros, text = self.spelled(pattern)
             if zeros > power + 1:
                 raise Inexpressible(f"{zeros} zeros are more than the digits of the type")
         except Inexpressible as refused:
             self.left_out(power, count, f"{pattern!r}: {refused}")
             return None
-        if negative is not None:
-            reason = f"{pattern!r}: a negative subpattern; the sign stands before the positive one"
-            self.left_out(power, count, reason, NEGATIVE)
+        self.tell_negative(power, count, pattern)
         # `0` alone: such numbers aren't shortened
         exponent = 0 if (zeros, text) == (1, PLACE) else power + 1 - zeros
         return (exponent if zeros else None), text
@@ -191,7 +196,7 @@ class CompactReader:
             if elements is None or not kept and (exponent, elements) == (0, {"other": PLACE}):
                 continue
             before = kept[-1] if kept else [0, 0, None]
-            reason = unfit(power, exponent, before, elements)
+            reason = self.unfit(power, exponent, before, elements)
             if reason:
                 self.left_out(power, "", reason)
             elif [exponent, elements] != [before[1], without_explicit_one(before[2])]:

@@ -80,6 +80,11 @@ def compact_text(pieces, texts=None):
     return len(number or ""), text
 
 
+def with_one_zero(pattern):
+    """A pattern whose numbers are one zero each."""
+    return "".join("0" if match["number"] else match[0] for match in PIECE.finditer(pattern))
+
+
 def grouping(number):
     """The sizes of the first group and of the further ones (UTS 35 Part 3, Number Patterns)."""
     if not re.fullmatch(r"[#,]*[0,]*(\.0*#*)?", number) or not re.match("[#0]", number):

@@ -25,6 +25,7 @@ import zipfile
 import cldr_names
 from cldr_dimension import (
     codes_of,
+    compact_money_entry,
     currency_digits,
     currency_texts,
     money_entry,
@@ -56,7 +57,7 @@ class TablesMaker:
         digits = [[system, digits] for system, digits in sorted(self.digits.items())]
         self.tables = {"symbols": [], "digits": digits, "rules": [], "short": [], "long": []}
         if wanted.currencies:
-            self.tables.update(currencies=[], currency_decimals=[], currency_symbols=[])
+            self.tables.update(currencies=[], currency_decimals=[], currency_symbols=[], currency_compact=[])
             self.tables["currency_digits"] = currency_digits(release, wanted.currencies)
         if wanted.percents:
             self.tables["percents"] = []
@@ -94,6 +95,7 @@ class TablesMaker:
             codes = codes_of(self.release, locale, self.wanted.currencies)
             texts = [currency_texts(self.release, locale, code, rules) for code in codes]
             entries["currency_symbols"] = [{"symbols": texts}]
+            entries["currency_compact"] = self.compact_money(locale, systems, rules)
         if self.wanted.percents:
             entries["percents"] = self.percents(locale, systems)
         if self.wanted.units:
@@ -124,10 +126,20 @@ class TablesMaker:
 
         def make(system):
             key = f"currencyFormats[{system}]"
-            entry = functools.partial(money_entry, self.release, locale, system, STYLES, rules)
+            entry = functools.partial(money_entry, self.release, locale, system, rules)
             return self.try_entry(locale, key, entry, MONEY_ENTRY)
 
         return self.where_new(systems, make)
+
+    def compact_money(self, locale, systems, rules):
+        """The compact patterns of money of the default system."""
+
+        def make(system):
+            key = f"currencyFormats[{system}]/short"
+            entry = functools.partial(compact_money_entry, self.release, locale, system, rules)
+            return self.try_entry(locale, key, entry, MONEY_ENTRY)
+
+        return self.where_new(systems[:1], make)
 
     def percents(self, locale, systems):
         """The patterns of percents."""

@@ -1,5 +1,5 @@
 -- The first entry with an identifier, where a part of each is seen.
-use Rattle.std.proofs.Common.{◌≡◌, true, false, List, [], ◌∷◌, option_map, map, refl, inl, inr}
+use Rattle.std.proofs.Common.{◌≡◌, List, [], ◌∷◌, option_map, map, refl, inl, inr}
 use Rattle.std.proofs.lemmas.Bool.{cases_Bool}
 use Rattle.icu_provider.specs.Identifier.{Identifier, same_identifier}
 use Rattle.icu_dimension_tables.specs.Money.{filed_part}

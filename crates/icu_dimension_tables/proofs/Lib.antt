@@ -1,3 +1,2 @@
-pub mod PatternFaults
 pub mod Splits
 pub mod Filed

@@ -2,7 +2,7 @@
 use Rattle.std.specs.Prelude.{ℕ, List, Option, Some, None, slice_index_or}
 use Rattle.icu_dimension.specs.Names.{NameText}
 use Rattle.icu_dimension_tables.specs.NamePlaces.{NamePlaces}
-use Rattle.icu_dimension_tables.specs.ByCategory.{elements_in}
+use Rattle.icu_dimension_patterns.specs.ByCategory.{elements_in}
 use Rattle.icu_plurals.specs.Elements.{Elements, slots}
 
 -- a name in its place

@@ -5,17 +5,19 @@ use Rattle.icu_decimal_data.specs.declared.decimal_symbols.DecimalSymbols.{Decim
 use Rattle.icu_dimension.specs.CurrencyData.{MoneyPatterns}
 use Rattle.icu_dimension_data.specs.Digits.{Digits}
 use Rattle.icu_dimension_data.specs.Resolved.{Signed}
+use Rattle.icu_dimension_patterns.specs.CurrencyCompact.{currency_compact_at}
 use Rattle.icu_dimension_tables.specs.CurrencyDigits.{currency_digits_under}
 use Rattle.icu_dimension_tables.specs.CurrencySymbols.{LocaleCurrencies, currency_symbols_at}
 use Rattle.icu_dimension_tables.specs.Money.{currencies_at, patterns_filed, places_filed}
 use Rattle.icu_dimension_tables.specs.NamePlaces.{NamePlaces}
 use Rattle.icu_dimension_tables.specs.Percents.{percents_at}
 use Rattle.icu_dimension_tables.specs.Units.{UnitPatterns, units_at}
+use Rattle.icu_dimension_patterns.specs.declared.currency_compact.CompactRow.{CompactRow}
 use Rattle.icu_plurals.specs.Elements.{Elements}
 use Rattle.icu_table_entries.specs.Named.{NamedEntry}
 use Rattle.icu_table_entries.specs.Reading.{◌>>=◌, entries_in, object_in, optional_at, value_of}
 use Rattle.icu_tables.specs.Symbols.{symbols_at}
-use Rattle.icu_table_entries.specs.declared.error.Key.TheVariants.{Document, Percents, Units, Currencies, CurrencySymbols, CurrencyDecimals}
+use Rattle.icu_table_entries.specs.declared.error.Key.TheVariants.{Document, Percents, Units, Currencies, CurrencySymbols, CurrencyDecimals, CurrencyCompact}
 use Rattle.icu_table_entries.specs.declared.error.TableError.{TableError}
 
 -- the entries under each key of a document; none for a key that is absent
@@ -27,6 +29,7 @@ pub record DimensionData : Type 0 where
   pub places : Option (List (NamedEntry (Elements NamePlaces)))
   pub symbols : Option (List LocaleCurrencies)
   pub decimals : Option (List (NamedEntry DecimalSymbols))
+  pub compact : Option (List (NamedEntry (List CompactRow)))
 
 -- the tables of an object, key by key
 unfoldable pub dimension_tables_at : Data → Result DimensionData TableError
@@ -38,6 +41,7 @@ dimension_tables_at d = do
   money ← optional_at (entries_in currencies_at Currencies) Currencies d
   symbols ← optional_at (entries_in currency_symbols_at CurrencySymbols) CurrencySymbols d
   decimals ← optional_at (entries_in symbols_at CurrencyDecimals) CurrencyDecimals d
+  compact ← optional_at (entries_in currency_compact_at CurrencyCompact) CurrencyCompact d
   Ok (record {
     digits = digits;
     percents = percents;
@@ -46,6 +50,7 @@ dimension_tables_at d = do
     places = option_map places_filed money;
     symbols = symbols;
     decimals = decimals;
+    compact = compact;
   })
 
 -- the tables of a text

@@ -1,5 +1,3 @@
-pub mod NumberPatterns
-pub mod ByCategory
 pub mod NamePlaces
 pub mod CurrencyDigits
 pub mod Percents

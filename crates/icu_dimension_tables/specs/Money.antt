@@ -1,44 +1,18 @@
 -- Entries of the patterns of money.
-use Rattle.std.specs.Prelude.{ℕ, List, [], ◌∷◌, Bool, true, false, not, ◌==◌, Option, Some, None, Result, Ok, chars, map, if◌then◌else◌}
+use Rattle.std.specs.Prelude.{ℕ, List, Result, Ok, map}
 use Rattle.serde_json.specs.Data.{Data}
 use Rattle.icu_dimension.specs.CurrencyData.{MoneyPatterns}
-use Rattle.icu_dimension_data.specs.Patterns.{PatternText}
-use Rattle.icu_dimension_tables.specs.ByCategory.{elements_read}
+use Rattle.icu_dimension_patterns.specs.ByCategory.{elements_read}
+use Rattle.icu_dimension_patterns.specs.MoneyPattern.{money_pattern_of}
 use Rattle.icu_dimension_tables.specs.NamePlaces.{NamePlaces, name_places_of}
-use Rattle.icu_dimension_tables.specs.NumberPatterns.{number_pattern_of}
 use Rattle.icu_plurals.specs.Elements.{Elements}
 use Rattle.icu_table_entries.specs.CategoryTexts.{category_texts_in}
-use Rattle.icu_table_entries.specs.Named.{NamedEntry, identifier_from, refused}
+use Rattle.icu_table_entries.specs.Named.{NamedEntry, identifier_from}
 use Rattle.icu_table_entries.specs.PatternTexts.{Texts}
 use Rattle.icu_table_entries.specs.Reading.{◌>>=◌, member_at, object_in, optional_at, text_at, text_in}
-use Rattle.icu_table_entries.specs.declared.error.EntryFault.TheVariants.{NoSymbolPlace}
 use Rattle.icu_table_entries.specs.declared.error.Key.TheVariants.{Locale, System, Standard, Accounting, Minus, Plus, Names}
 use Rattle.icu_table_entries.specs.declared.error.Place.{Place}
 use Rattle.icu_table_entries.specs.declared.error.TableError.{TableError}
-
--- What a character of a pattern changes of whether it stands in a quote and whether `¤` (U+00A4) stood in the subpattern so far;
--- nothing, where a subpattern ends without it.
-abbrev pub symbol_step : Bool → Bool → ℕ → Option (Bool × Bool)
-symbol_step quoted seen c =
-    if c == 39 then Some (not quoted, seen)
-    else if quoted then Some (true, seen)
-    else if c == 164 then Some (false, true)
-    else if c == 59 then (if seen then Some (false, false) else None)
-    else Some (false, seen)
-
--- whether `¤` stands in each subpattern of the characters, outside quotes
-unfoldable pub symbol_in_each : Bool → Bool → List ℕ → Bool
-symbol_in_each quoted seen [] = seen
-symbol_in_each quoted seen (c ∷ cs) = elim (symbol_step quoted seen c) [
-  | None ↦ false
-  | Some state ↦ symbol_in_each state.0 state.1 cs
-]
-
--- the pattern of a text that has the symbol's place in each subpattern
-unfoldable pub money_pattern_of : Place → List ℕ → Result PatternText TableError
-money_pattern_of place text = do
-  pattern ← number_pattern_of place text
-  if symbol_in_each false false (chars text) then Ok pattern else refused place NoSymbolPlace
 
 -- the texts of the patterns and of the signs
 pub record MoneyTexts : Type 0 where

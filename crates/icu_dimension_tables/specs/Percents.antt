@@ -2,7 +2,7 @@
 use Rattle.std.specs.Prelude.{Result, Ok, codes}
 use Rattle.serde_json.specs.Data.{Data}
 use Rattle.icu_dimension_data.specs.Resolved.{Signed, Texts, resolved}
-use Rattle.icu_dimension_tables.specs.NumberPatterns.{number_pattern_of}
+use Rattle.icu_dimension_patterns.specs.NumberPatterns.{number_pattern_of}
 use Rattle.icu_table_entries.specs.Named.{NamedEntry, identifier_from}
 use Rattle.icu_table_entries.specs.Reading.{◌>>=◌, object_in, optional_at, text_at, text_in}
 use Rattle.icu_table_entries.specs.declared.error.Key.TheVariants.{Locale, System, Pattern, Minus, Plus, Percent}

@@ -1,25 +1,27 @@
 //! Entries of the patterns of money.
 
-ghost use Rattle.std.specs.Prelude.{◌≡◌, Ok, IfOk, None, false, chars, option_map};
+ghost use Rattle.std.specs.Prelude.{◌≡◌, Ok, IfOk, None, option_map};
 ghost use Rattle.serde_json.specs.View.{view};
+ghost use Rattle.icu_dimension.specs.CurrencyData.{money_texts};
+ghost use Rattle.icu_dimension_data.specs.Given.{texts_given};
 ghost use Rattle.icu_provider.specs.Answer.{Answers};
 ghost use Rattle.icu_provider.specs.Identifier.{identifier_of};
 ghost use Rattle.icu_table_entries.specs.Named.{first_filed};
 ghost use Rattle.icu_table_entries.specs.Reading.{Gives};
-ghost use Rattle.icu_dimension_tables.specs.ByCategory.{elements_map};
-ghost use Rattle.icu_dimension_tables.specs.Money.{money_pattern_of, money_patterns_of, money_texts_at, names_at, patterns_filed, places_filed, symbol_in_each, symbol_step};
+ghost use Rattle.icu_dimension_patterns.specs.ByCategory.{elements_map};
+ghost use Rattle.icu_dimension_tables.specs.Money.{money_patterns_of, money_texts_at, names_at, patterns_filed, places_filed};
 
-use crate::by_category::{elements_read, texts_in};
 use crate::name_places::{NamePattern, NamePlaces};
-use crate::number_patterns::number_pattern_of;
 use icu_dimension::provider::CurrencyPatterns;
-use icu_dimension_data::CldrPattern;
+use icu_dimension_data::{AffixTexts, CldrPattern};
+use icu_dimension_patterns::by_category::{elements_read, texts_in};
+use icu_dimension_patterns::money_pattern::money_pattern_of;
 use icu_plurals::PluralElements;
 use icu_provider::{DataError, DataErrorKind, DataIdentifierBorrowed, DataLocale};
 use icu_table_entries::entries::EntryKind;
 use icu_table_entries::fields::{member_at, object_in, optional_text_at, text_at};
 use icu_table_entries::named::{NamedEntry, first_filed, name_of};
-use icu_table_entries::{EntryFault, Key, Place, TableError};
+use icu_table_entries::{Key, Place, TableError};
 use serde_json::Value;
 use std::alloc::{AllocError, Global};
 use std::marker::Model;
@@ -64,6 +66,18 @@ impl MoneyPatterns {
         )
     }
 
+    /// The texts in a pattern of money with a currency's symbol.
+    pub fn texts<'a>(&'a self, symbol: &'a str) -> AffixTexts<'a>
+        ensures { texts_given result ≡ money_texts self.now symbol.now }
+    {
+        AffixTexts {
+            minus_sign: self.minus_sign.as_str(),
+            plus_sign: self.plus_sign.as_str(),
+            percent_sign: "%",
+            currency: symbol,
+        }
+    }
+
     /// The same, as a provider answers.
     pub fn copied(&self, alloc: Global) -> Result<CurrencyPatterns, DataError>
         ensures { Answers result (Ok self.now) }
@@ -72,56 +86,6 @@ impl MoneyPatterns {
             Ok(patterns) => Ok(patterns),
             Err(_) => Err(DataErrorKind::OutOfMemory.into()),
         }
-    }
-}
-
-/// The characters of a text.
-fn characters(alloc: Global, text: &str) -> Result<Vec<char>, AllocError>
-    ensures { IfOk result (λ v. v.items ≡ chars text.now) }
-{
-    text.chars().collect(alloc)
-}
-
-/// What a character changes of whether it stands in a quote, and whether the currency's symbol
-/// stood in the subpattern so far; none where a subpattern ends without it.
-fn symbol_step(is_quoted: bool, is_seen: bool, character: char) -> Option<(bool, bool)>
-    ensures { result ≡ symbol_step is_quoted is_seen character }
-{
-    match character {
-        '\'' => Some((!is_quoted, is_seen)),
-        _ if is_quoted => Some((true, is_seen)),
-        '\u{a4}' => Some((false, true)),
-        ';' if is_seen => Some((false, false)),
-        ';' => None,
-        _ => Some((false, is_seen)),
-    }
-}
-
-/// Whether the currency's symbol has its place in each subpattern of a pattern.
-#[tactic(auto, unfolding(crate::specs::Money::symbol_in_each))]
-fn symbol_in_each(characters: &[char]) -> bool
-    ensures { result ≡ symbol_in_each false false characters.now }
-{
-    let mut state = (false, false);
-    for character in characters {
-        match symbol_step(state.0, state.1, *character) {
-            Some(next) => state = next,
-            None => return false,
-        }
-    }
-    state.1
-}
-
-/// The pattern of a text that has the symbol's place in each subpattern.
-#[tactic(auto, unfolding(crate::specs::Money::money_pattern_of))]
-fn money_pattern_of(alloc: Global, place: Place, text: &str) -> Result<CldrPattern, TableError>
-    ensures { Gives (λ x. x) result (money_pattern_of place text.now) }
-{
-    let pattern = number_pattern_of(alloc, place, text)?;
-    if symbol_in_each(&characters(alloc, text)?) {
-        Ok(pattern)
-    } else {
-        Err(place.refusal(EntryFault::NoSymbolPlace))
     }
 }
 
@@ -251,6 +215,37 @@ pub fn patterns_filed<'a>(
     }
 }
 
+/// The data of the first entry with the identifier's locale and no numbering system.
+pub fn filed_in_locale<'a, T>(
+    entries: &'a [NamedEntry<T>],
+    id: &DataIdentifierBorrowed<'_>,
+) -> Option<&'a T>
+    ensures { option_map (λ x. x.now) result
+        ≡ first_filed (record { system = None; locale = (identifier_of id.now).locale })
+        entries.now }
+{
+    let Ok(locale) = DataLocale::try_from_str(id.locale()) else {
+        unreachable!()
+    };
+    first_filed(entries, &DataIdentifierBorrowed::for_locale(&locale))
+}
+
+/// The patterns of the first entry with the identifier's locale and no numbering system.
+#[tactic(auto, using(crate::proofs::Filed::first_part))]
+pub fn patterns_in_locale<'a>(
+    entries: &'a [NamedEntry<LocaleMoney>],
+    id: &DataIdentifierBorrowed<'_>,
+) -> Option<&'a MoneyPatterns>
+    ensures { option_map (λ x. x.now) result
+        ≡ first_filed (record { system = None; locale = (identifier_of id.now).locale })
+        (patterns_filed entries.now) }
+{
+    match filed_in_locale(entries, id) {
+        Some(money) => Some(&money.patterns),
+        None => None,
+    }
+}
+
 /// The places of names of the first entry with the identifier's locale and no numbering system.
 #[tactic(auto, using(crate::proofs::Filed::first_part))]
 pub fn places_filed<'a>(
@@ -261,10 +256,7 @@ pub fn places_filed<'a>(
         ≡ first_filed (record { system = None; locale = (identifier_of id.now).locale })
         (places_filed entries.now) }
 {
-    let Ok(locale) = DataLocale::try_from_str(id.locale()) else {
-        unreachable!()
-    };
-    match first_filed(entries, &DataIdentifierBorrowed::for_locale(&locale)) {
+    match filed_in_locale(entries, id) {
         Some(money) => Some(&money.places),
         None => None,
     }

@@ -5,8 +5,8 @@ ghost use Rattle.icu_dimension_data.specs.Given.{texts_given};
 ghost use Rattle.icu_table_entries.specs.Reading.{Gives};
 ghost use Rattle.icu_dimension_tables.specs.Percents.{percent_texts_at};
 
-use crate::number_patterns::number_pattern_of;
 use icu_dimension_data::{AffixTexts, SignedPatterns};
+use icu_dimension_patterns::number_patterns::number_pattern_of;
 use icu_provider::DataLocale;
 use icu_table_entries::entries::EntryKind;
 use icu_table_entries::fields::{object_in, optional_text_at, text_at};

@@ -9,17 +9,18 @@ ghost use Rattle.icu_dimension_tables.specs.Answering.{unit_answer};
 use crate::copying::patterns_copy;
 use crate::currency_names::names_answered;
 use crate::currency_symbols::row_filed;
-use crate::money::{patterns_filed, places_filed};
+use crate::money::{filed_in_locale, patterns_filed, patterns_in_locale, places_filed};
 use crate::tables::DimensionTables;
 use crate::units::{UnitPatterns, UnitWidth, first_unit};
 use icu_decimal_data::DecimalSymbols;
 use icu_dimension::NamePattern;
 use icu_dimension::provider::{
-    CurrencyDecimalSymbolsV1, CurrencyDigitsV1, CurrencyNamesV1, CurrencyPatterns,
-    CurrencyPatternsV1, CurrencySymbols, CurrencySymbolsV1, PercentPatternsV1, UnitsLongV1,
-    UnitsNarrowV1, UnitsShortV1,
+    CompactCurrencyPatterns, CurrencyCompactShortV1, CurrencyDecimalSymbolsV1, CurrencyDigitsV1,
+    CurrencyNamesV1, CurrencyPatterns, CurrencyPatternsV1, CurrencySymbols, CurrencySymbolsV1,
+    PercentPatternsV1, UnitsLongV1, UnitsNarrowV1, UnitsShortV1,
 };
 use icu_dimension_data::{CurrencyDigits, SignedPatterns};
+use icu_dimension_patterns::signed_tables::tables_for;
 use icu_plurals::PluralElements;
 use icu_provider::{
     DataError, DataErrorKind, DataIdentifierBorrowed, DataLocale, DataProvider, DataRequest,
@@ -259,6 +260,42 @@ impl DataProvider<CurrencyDecimalSymbolsV1> for DimensionTables {
         match found {
             Some(symbols) => symbols.copied(alloc),
             None => Err(DataErrorKind::IdentifierNotFound.into()),
+        }
+    }
+}
+
+impl DataProvider<CurrencyCompactShortV1> for DimensionTables {
+    ghost use Rattle.icu_dimension_tables.specs.Answering.{compact_answer};
+
+    ghost answer = { λ tables id.
+        compact_answer tables.currencies tables.symbols tables.compact id };
+
+    /// The compact patterns of the first entry of `currency_compact` with the identifier's locale,
+    /// for each sign: with the short symbol of the first row with the currency's code, the
+    /// identifier's system, in the first entry of `currency_symbols` with the locale, and with the
+    /// signs of the first entry of `currencies` with the locale and no numbering system. Where they
+    /// make no table it is refused as `Custom`, with the name of the fault.
+    fn load(
+        &self,
+        alloc: Global,
+        request: &DataRequest<'_>,
+    ) -> Result<CompactCurrencyPatterns, DataError> {
+        let (Some(money), Some(currencies), Some(compact)) = (
+            &self.money,
+            &self.symbols,
+            &self.compact,
+        ) else {
+            return Err(DataErrorKind::MarkerNotFound.into());
+        };
+        match (
+            patterns_in_locale(money, &request.id),
+            row_filed(currencies, &request.id),
+            filed_in_locale(compact, &request.id),
+        ) {
+            (Some(money), Some(row), Some(rows)) => {
+                tables_for(alloc, rows, &money.texts(row.symbols.short()))
+            }
+            _ => Err(DataErrorKind::IdentifierNotFound.into()),
         }
     }
 }

@@ -11,6 +11,7 @@ use crate::percents::PercentsEntry;
 use crate::units::{UnitEntry, UnitPatterns};
 use icu_decimal_data::DecimalSymbols;
 use icu_dimension_data::{CurrencyDigits, SignedPatterns};
+use icu_dimension_patterns::currency_compact::{CompactRows, CurrencyCompactEntry};
 use icu_table_entries::entries::optional_entries;
 use icu_table_entries::fields::object_in;
 use icu_table_entries::named::NamedEntry;
@@ -31,6 +32,7 @@ pub struct DimensionTables {
     pub(crate) money: Option<Vec<NamedEntry<LocaleMoney>>>,
     pub(crate) symbols: Option<Vec<LocaleCurrencies>>,
     pub(crate) decimals: Option<Vec<NamedEntry<DecimalSymbols>>>,
+    pub(crate) compact: Option<Vec<NamedEntry<CompactRows>>>,
 }
 
 impl Model for DimensionTables {
@@ -48,6 +50,7 @@ impl Model for DimensionTables {
       places = option_map places_filed (option_map (λ v. v.items) t.money);
       symbols = option_map (λ v. v.items) t.symbols;
       decimals = option_map (λ v. v.items) t.decimals;
+      compact = option_map (λ v. v.items) t.compact;
     } };
 }
 
@@ -64,6 +67,7 @@ fn dimension_tables_at(alloc: Global, value: &Value) -> Result<DimensionTables, 
         money: optional_entries::<CurrenciesEntry>(alloc, value, Key::Currencies)?,
         symbols: optional_entries::<CurrencySymbolsEntry>(alloc, value, Key::CurrencySymbols)?,
         decimals: optional_entries::<SymbolsEntry>(alloc, value, Key::CurrencyDecimals)?,
+        compact: optional_entries::<CurrencyCompactEntry>(alloc, value, Key::CurrencyCompact)?,
     })
 }
 
@@ -72,10 +76,11 @@ impl DimensionTables {
     ///
     /// A text that isn't JSON is refused first, then a value that has a number anywhere that isn't
     /// a 64-bit whole number. Then keys are judged in the order `currency_digits`, `percents`,
-    /// `units`, `currencies`, `currency_symbols`, `currency_decimals`, and each list entry by
-    /// entry. In an entry the kinds of all fields are judged before their contents; the rows of
-    /// `currency_symbols` come last, one after the other. Each key may be absent; unknown keys are
-    /// ignored, and of equal keys the last one counts.
+    /// `units`, `currencies`, `currency_symbols`, `currency_decimals`, `currency_compact`, and each
+    /// list entry by entry. In an entry the kinds of all fields are judged before their contents;
+    /// the rows of `currency_symbols` come last, one after the other, and so do those of
+    /// `currency_compact`. Each key may be absent; unknown keys are ignored, and of equal keys the
+    /// last one counts.
     #[tactic(auto, unfolding(crate::specs::DimensionTables::dimension_tables_of))]
     pub fn from_json(alloc: Global, text: &str) -> Result<DimensionTables, TableError>
         ensures { Gives (λ x. x) result (dimension_tables_of text.now) }

@@ -3,8 +3,9 @@
 use crate::names::NAMES;
 use crate::written::TABLES;
 use icu_dimension::provider::{
-    CurrencyDecimalSymbolsV1, CurrencyDigitsV1, CurrencyNamesV1, CurrencyPatternsV1,
-    CurrencySymbolsV1, PercentPatternsV1, UnitsLongV1, UnitsNarrowV1, UnitsShortV1,
+    CurrencyCompactShortV1, CurrencyDecimalSymbolsV1, CurrencyDigitsV1, CurrencyNamesV1,
+    CurrencyPatternsV1, CurrencySymbolsV1, PercentPatternsV1, UnitsLongV1, UnitsNarrowV1,
+    UnitsShortV1,
 };
 use icu_dimension_data::{CurrencyCode, FractionDigits};
 use icu_dimension_tables::DimensionTables;
@@ -15,7 +16,7 @@ use std::alloc::Global;
 
 /// What is asked for.
 #[derive(Clone, Copy, Debug)]
-enum Asked {
+pub(crate) enum Asked {
     Digits,
     Percents,
     Long,
@@ -25,6 +26,7 @@ enum Asked {
     Symbols,
     Names,
     Decimals,
+    Compact,
 }
 
 /// Why an answer is refused, if it is.
@@ -70,6 +72,11 @@ fn refused_by(
         Asked::Decimals => refusal(<DimensionTables as DataProvider<
             CurrencyDecimalSymbolsV1,
         >>::load(tables, alloc, request)),
+        Asked::Compact => {
+            refusal(<DimensionTables as DataProvider<CurrencyCompactShortV1>>::load(
+                tables, alloc, request,
+            ))
+        }
     }
 }
 
@@ -93,7 +100,12 @@ fn refused_once(
 }
 
 /// The same, asked once more where memory was wanting.
-fn refused(alloc: Global, text: &str, asked: Asked, id: (&str, &str)) -> Option<DataError> {
+pub(crate) fn refused(
+    alloc: Global,
+    text: &str,
+    asked: Asked,
+    id: (&str, &str),
+) -> Option<DataError> {
     match refused_once(alloc, text, asked, id) {
         Some(error) if error.kind == DataErrorKind::OutOfMemory => {
             refused_once(alloc, text, asked, id)
@@ -103,7 +115,7 @@ fn refused(alloc: Global, text: &str, asked: Asked, id: (&str, &str)) -> Option<
 }
 
 /// What is asked of the tables, by which locale and name, and how it is refused.
-const ASKED: [(Asked, (&str, &str), Option<DataErrorKind>); 23] = [
+const ASKED: &[(Asked, (&str, &str), Option<DataErrorKind>)] = &[
     (Asked::Digits, ("und", ""), None),
     (
         Asked::Digits,
@@ -182,7 +194,7 @@ const ASKED: [(Asked, (&str, &str), Option<DataErrorKind>); 23] = [
 ];
 
 /// Whether what is asked for is refused so, without a context.
-fn is_refused(
+pub(crate) fn is_refused(
     alloc: Global,
     text: &str,
     asked: Asked,
@@ -198,7 +210,7 @@ fn is_refused(
 
 #[test]
 fn entries_answer_under_their_names(rt: HostRuntime) {
-    for &(asked, id, want) in &ASKED {
+    for &(asked, id, want) in ASKED {
         assert!(rt;
             is_refused(rt.alloc(), TABLES, asked, id, want),
             "{asked:?}"
@@ -239,7 +251,7 @@ fn names_want_both_keys(rt: HostRuntime) {
     }
 }
 
-const EVERYTHING: [Asked; 8] = [
+const EVERYTHING: &[Asked] = &[
     Asked::Digits,
     Asked::Percents,
     Asked::Long,
@@ -248,11 +260,12 @@ const EVERYTHING: [Asked; 8] = [
     Asked::Patterns,
     Asked::Symbols,
     Asked::Names,
+    Asked::Compact,
 ];
 
 #[test]
 fn without_a_key_there_is_no_marker(rt: HostRuntime) {
-    for &asked in &EVERYTHING {
+    for &asked in EVERYTHING {
         let want = Some(DataErrorKind::MarkerNotFound);
         assert!(rt;
             is_refused(rt.alloc(), "{}", asked, ("und", ""), want),
@@ -299,7 +312,7 @@ const TWICE: &str =
     "{\"currency_digits\":[[\"EUR\",4,5],[\"DEFAULT\",1,0],[\"EUR\",6,7],[\"DEFAULT\",3,3]]}";
 
 /// The text of tables, a code, its digits and its digits in cash.
-const DIGITS: [(&str, &str, u8, u8); 7] = [
+const DIGITS: &[(&str, &str, u8, u8)] = &[
     (TABLES, "KWD", 3, 3),
     (TABLES, "CRC", 2, 0),
     (TABLES, "JPY", 0, 0),
@@ -311,7 +324,7 @@ const DIGITS: [(&str, &str, u8, u8); 7] = [
 
 #[test]
 fn currencies_have_their_digits(rt: HostRuntime) {
-    for &(text, code, standard, cash) in &DIGITS {
+    for &(text, code, standard, cash) in DIGITS {
         assert!(rt;
             has_digits(rt.alloc(), text, code, standard, cash),
             "{code}"

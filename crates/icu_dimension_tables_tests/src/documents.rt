@@ -20,7 +20,7 @@ pub(crate) fn refusal(alloc: Global, text: &str) -> Option<TableError> {
 }
 
 /// Texts, and why they are refused: JSON and kinds.
-const KINDS: [(&str, TableError); 12] = [
+const KINDS: &[(&str, TableError)] = &[
     ("", TableError::NotJson),
     ("{\"x\":1.5}", TableError::Float),
     ("[]", TableError::WrongKind(Key::Document)),
@@ -55,13 +55,13 @@ const KINDS: [(&str, TableError); 12] = [
 
 #[test]
 fn documents_are_refused_by_their_kinds(rt: HostRuntime) {
-    for &(text, wanted) in &KINDS {
+    for &(text, wanted) in KINDS {
         assert!(rt; refusal(rt.alloc(), text) == Some(wanted), "{text}");
     }
 }
 
 /// Texts, and which entry is refused for what.
-const FAULTS: [(&str, Key, usize, EntryFault); 14] = [
+const FAULTS: &[(&str, Key, usize, EntryFault)] = &[
     (
         "{\"currency_digits\":[[\"DEFAULT\",2,2],[\"eur\",16,2]]}",
         Key::CurrencyDigits,
@@ -150,14 +150,14 @@ const FAULTS: [(&str, Key, usize, EntryFault); 14] = [
 
 #[test]
 fn entries_are_refused_by_name(rt: HostRuntime) {
-    for &(text, key, index, fault) in &FAULTS {
+    for &(text, key, index, fault) in FAULTS {
         let wanted = TableError::Entry { key, index, fault };
         assert!(rt; refusal(rt.alloc(), text) == Some(wanted), "{text}");
     }
 }
 
 /// Texts that aren't refused: keys may be absent, and are judged in their order.
-const ACCEPTED: [&str; 3] = [
+const ACCEPTED: &[&str] = &[
     "{}",
     "{\"symbols\":1,\"currency_digits\":[],\"percents\":[],\"units\":[]}",
     "{\"currency_digits\":[[\"EUR\",0,15]]}",
@@ -165,13 +165,13 @@ const ACCEPTED: [&str; 3] = [
 
 #[test]
 fn keys_may_be_absent(rt: HostRuntime) {
-    for &text in &ACCEPTED {
+    for &text in ACCEPTED {
         assert!(rt; refusal(rt.alloc(), text).is_none(), "{text}");
     }
 }
 
 /// Texts with money, and which entry is refused for what.
-const MONEY: [(&str, Key, usize, EntryFault); 9] = [
+const MONEY: &[(&str, Key, usize, EntryFault)] = &[
     (
         "{\"currencies\":[{\"locale\":\"_\",\"standard\":\"0\",\"accounting\":\"0\",\"minus\":\"-\",\"plus\":\"+\",\"names\":{\"other\":\"{0} {1}\"}}]}",
         Key::Currencies,
@@ -230,14 +230,14 @@ const MONEY: [(&str, Key, usize, EntryFault); 9] = [
 
 #[test]
 fn entries_of_money_are_refused_by_name(rt: HostRuntime) {
-    for &(text, key, index, fault) in &MONEY {
+    for &(text, key, index, fault) in MONEY {
         let wanted = TableError::Entry { key, index, fault };
         assert!(rt; refusal(rt.alloc(), text) == Some(wanted), "{text}");
     }
 }
 
 /// Texts with money, and why they are refused for their kinds.
-const MONEY_KINDS: [(&str, TableError); 7] = [
+const MONEY_KINDS: &[(&str, TableError)] = &[
     (
         "{\"currencies\":[{\"locale\":\"_\",\"standard\":\"\",\"accounting\":\"\",\"minus\":\"\",\"plus\":\"\"}]}",
         TableError::Missing(Key::Names),
@@ -270,7 +270,7 @@ const MONEY_KINDS: [(&str, TableError); 7] = [
 
 #[test]
 fn money_is_refused_by_its_kinds(rt: HostRuntime) {
-    for &(text, wanted) in &MONEY_KINDS {
+    for &(text, wanted) in MONEY_KINDS {
         assert!(rt; refusal(rt.alloc(), text) == Some(wanted), "{text}");
     }
 }

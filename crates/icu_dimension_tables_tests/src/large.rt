@@ -79,7 +79,7 @@ fn is_judged(
 }
 
 /// A document, how often its part stands there, what stands behind, and why it is refused.
-const LARGE: [(Repeated, usize, &str, Option<TableError>); 7] = [
+const LARGE: &[(Repeated, usize, &str, Option<TableError>)] = &[
     (DIGITS, 1000, "", None),
     (
         DIGITS,
@@ -109,7 +109,7 @@ const LARGE: [(Repeated, usize, &str, Option<TableError>); 7] = [
 
 #[test]
 fn large_documents_are_judged_to_their_end(rt: HostRuntime) {
-    for &(around, times, last, want) in &LARGE {
+    for &(around, times, last, want) in LARGE {
         assert!(rt;
             is_judged(rt.alloc(), around, times, last, want),
             "{times} {last}"

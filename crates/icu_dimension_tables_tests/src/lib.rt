@@ -6,6 +6,8 @@ mod answers;
 #[cfg(test)]
 mod both;
 #[cfg(test)]
+mod compact;
+#[cfg(test)]
 mod documents;
 #[cfg(test)]
 mod large;

@@ -162,7 +162,7 @@ fn is_written(
 }
 
 /// A locale and a numbering system, what is made, a number and how it is written.
-const WRITTEN: [((&str, &str), Made, &str, &str); 17] = [
+const WRITTEN: &[((&str, &str), Made, &str, &str)] = &[
     (("en", ""), Made::Percent, "0.1234", "12.34%"),
     (("en", ""), Made::Percent, "-12.345", "-1,234.5%"),
     (("fr", ""), Made::Percent, "0.1234", "12,34\u{202f}%"),
@@ -214,7 +214,7 @@ const WRITTEN: [((&str, &str), Made, &str, &str); 17] = [
 
 #[test]
 fn formatters_of_tables_write_what_cldr_says(rt: HostRuntime) {
-    for &(place, made, number, want) in &WRITTEN {
+    for &(place, made, number, want) in WRITTEN {
         assert!(rt;
             is_written(rt.alloc(), TABLES, place, made, (number, want)),
             "{want}"
@@ -223,7 +223,7 @@ fn formatters_of_tables_write_what_cldr_says(rt: HostRuntime) {
 }
 
 /// A locale and a numbering system, how amounts are written, an amount and its text.
-const AMOUNTS: [((&str, &str), Made, &str, &str); 9] = [
+const AMOUNTS: &[((&str, &str), Made, &str, &str)] = &[
     (
         ("de", ""),
         Made::Money("EUR", CurrencySign::Standard, Width::Short),
@@ -282,7 +282,7 @@ const AMOUNTS: [((&str, &str), Made, &str, &str); 9] = [
 
 #[test]
 fn amounts_of_money_are_written_as_cldr_says(rt: HostRuntime) {
-    for &(place, made, number, want) in &AMOUNTS {
+    for &(place, made, number, want) in AMOUNTS {
         assert!(rt;
             is_written(rt.alloc(), TABLES, place, made, (number, want)),
             "{want}"

@@ -5,7 +5,7 @@ use Rattle.icu_table_entries.specs.declared.error.Key.TheVariants.{Document, Sym
 use Rattle.icu_table_entries.specs.declared.error.Key.TheVariants.{Minus, Plus, Decimal, Group, Numsys}
 use Rattle.icu_table_entries.specs.declared.error.Key.TheVariants.{Sizes, Patterns, ExplicitZero, ExplicitOne, Zero, One, Two, Few, Many, Other}
 use Rattle.icu_table_entries.specs.declared.error.Key.TheVariants.{CurrencyDigits, Percents, Units, Currencies, CurrencySymbols, CurrencyDecimals}
-use Rattle.icu_table_entries.specs.declared.error.Key.TheVariants.{Pattern, Percent, Width, Unit, Standard, Accounting, Names}
+use Rattle.icu_table_entries.specs.declared.error.Key.TheVariants.{CurrencyCompact, Pattern, Percent, Width, Unit, Standard, Accounting, Names}
 
 -- as the document spells them
 abbrev pub name_of : Key → List ℕ
@@ -38,6 +38,7 @@ name_of Units = codes "units"
 name_of Currencies = codes "currencies"
 name_of CurrencySymbols = codes "currency_symbols"
 name_of CurrencyDecimals = codes "currency_decimals"
+name_of CurrencyCompact = codes "currency_compact"
 name_of Pattern = codes "pattern"
 name_of Percent = codes "percent"
 name_of Width = codes "width"

@@ -46,6 +46,25 @@ impl<'a> Model for Texts<'a> {
     } };
 }
 
+impl<'a> Texts<'a> {
+    ghost use Rattle.std.specs.Prelude.{◌≡◌};
+    ghost use Rattle.icu_table_entries.specs.PatternTexts.{texts_lent};
+
+    /// The texts by plural category.
+    pub fn elements(&self) -> PluralElements<&'a str>
+        ensures { texts_lent result ≡ self.now }
+    {
+        PluralElements::new(self.other)
+            .with_explicit_zero_value(self.explicit_zero)
+            .with_explicit_one_value(self.explicit_one)
+            .with_zero_value(self.zero)
+            .with_one_value(self.one)
+            .with_two_value(self.two)
+            .with_few_value(self.few)
+            .with_many_value(self.many)
+    }
+}
+
 /// The texts of an object.
 #[tactic(auto, unfolding(crate::specs::CategoryTexts::category_texts_in))]
 pub fn category_texts_in(value: &Value, key: Key) -> Result<Texts<'_>, TableError>

@@ -27,12 +27,15 @@ use std::alloc::Global;
 use std::collections::BTreeMap;
 use std::marker::Model;
 
-/// A type, its exponent and the texts of its patterns.
+/// A type, its exponent and the texts of its patterns, not yet judged.
 #[derive(Drop)]
-struct GivenEntry<'a> {
-    log10_type: u8,
-    exponent: u8,
-    texts: Texts<'a>,
+pub struct GivenEntry<'a> {
+    /// The power of ten at which the entry begins.
+    pub log10_type: u8,
+    /// The power of ten that its patterns name.
+    pub exponent: u8,
+    /// The texts of its patterns.
+    pub texts: Texts<'a>,
 }
 
 /// The type, if it is above the one before it.
@@ -60,8 +63,8 @@ fn given_entry_in(before: Option<u8>, value: &Value) -> Result<GivenEntry<'_>, T
     })
 }
 
-/// Each entry in turn.
-fn given_entries_in(alloc: Global, values: &[Value]) -> Result<Vec<GivenEntry<'_>>, TableError>
+/// Each entry in turn: a list of its type, above the one before it, its exponent and its texts.
+pub fn given_entries_in(alloc: Global, values: &[Value]) -> Result<Vec<GivenEntry<'_>>, TableError>
     ensures entries { Gives (λ v. v.items) result (given_entries_in None (map view values.now)) }
     ensures rise { IfOk result (λ v. Rise None v.items) }
 {

@@ -22,7 +22,7 @@
 #![tactic(auto)]
 
 mod borrowed;
-mod compact;
+pub mod compact;
 mod digits;
 mod for_locale;
 mod provider;

@@ -77,6 +77,9 @@ returns-in-Accounting c = search rules
 pub returns-in-Currencies : goal.returns-in-Currencies
 returns-in-Currencies c = search rules
 
+pub returns-in-CurrencyCompact : goal.returns-in-CurrencyCompact
+returns-in-CurrencyCompact c = search rules
+
 pub returns-in-CurrencyDecimals : goal.returns-in-CurrencyDecimals
 returns-in-CurrencyDecimals c = search rules
 

@@ -2,7 +2,7 @@
 
 ghost use Rattle.std.specs.Prelude.{◌≡◌};
 ghost use Rattle.icu_table_entries.specs.Reading.{Gives};
-ghost use Rattle.icu_dimension_tables.specs.NumberPatterns.{number_pattern_of, pattern_refusal};
+ghost use Rattle.icu_dimension_patterns.specs.NumberPatterns.{number_pattern_of, pattern_refusal};
 
 use icu_dimension_data::{CldrPattern, PatternFault};
 use icu_table_entries::{EntryFault, Place, TableError};

@@ -7,7 +7,7 @@ use Rattle.icu_dimension_data.specs.Reading.{pattern_of}
 use Rattle.icu_dimension_data.specs.declared.error.PatternFault.{PatternFault}
 use Rattle.icu_dimension_data.specs.declared.error.PatternFault.TheVariants.{NoNumber, TwoNumbers, UnclosedQuote, ThirdSubpattern, Reserved}
 use Rattle.icu_dimension_data.specs.declared.error.PatternFault.TheVariants.{OutOfMemory}
-use Rattle.icu_dimension_tables.specs.NumberPatterns.{number_pattern_of, pattern_or_refused, pattern_refusal}
+use Rattle.icu_dimension_patterns.specs.NumberPatterns.{number_pattern_of, pattern_or_refused, pattern_refusal}
 use Rattle.icu_table_entries.specs.Reading.{Fails}
 use Rattle.icu_table_entries.specs.declared.error.Place.{Place}
 

@@ -1,6 +1,6 @@
 use Rattle.std.proofs.Common.{◌≡◌, drop, false}
-use Rattle.icu_dimension_tables.specs.Money.{symbol_in_each}
-use Rattle.icu_dimension_tables.proofs.money.symbol_in_each.Given as goal
+use Rattle.icu_dimension_patterns.specs.MoneyPattern.{symbol_in_each}
+use Rattle.icu_dimension_patterns.proofs.money_pattern.symbol_in_each.Given as goal
 
 -- the characters that are left decide
 abbrev pub invariant-loop-character : goal.invariant-loop-character

@@ -3,7 +3,7 @@
 ghost use Rattle.std.specs.Prelude.{◌≡◌, ◌<◌, IfOk, ℕ, List, Option, Result, None, option_map, slice_index_or};
 ghost use Rattle.serde_json.specs.View.{view};
 ghost use Rattle.icu_plurals.specs.Elements.{slots};
-ghost use Rattle.icu_dimension_tables.specs.ByCategory.{elements_in, elements_map, elements_read, optional_read};
+ghost use Rattle.icu_dimension_patterns.specs.ByCategory.{elements_in, elements_map, elements_read, optional_read};
 ghost use Rattle.icu_table_entries.specs.CategoryTexts.{category_texts_in};
 ghost use Rattle.icu_table_entries.specs.Reading.{Gives};
 ghost use Rattle.icu_table_entries.specs.declared.error.Place.{Place};

@@ -1,5 +1,5 @@
-use Rattle.icu_dimension_tables.proofs.PatternFaults.{pattern_failed, pattern_read}
-use Rattle.icu_dimension_tables.proofs.number_patterns.number_pattern_of.Goals as goal
+use Rattle.icu_dimension_patterns.proofs.PatternFaults.{pattern_failed, pattern_read}
+use Rattle.icu_dimension_patterns.proofs.number_patterns.number_pattern_of.Goals as goal
 
 pub returns-in-Ok : goal.returns-in-Ok
 returns-in-Ok c = pattern_read c.args.place c.args.text.now c.in-Ok.pattern c.in-Ok.ensures.read

@@ -1,0 +1,3 @@
+pub mod PatternFaults
+pub mod CompactRows
+pub mod SignedTables

@@ -1,0 +1,5 @@
+pub mod NumberPatterns
+pub mod ByCategory
+pub mod MoneyPattern
+pub mod CurrencyCompact
+pub mod SignedTables

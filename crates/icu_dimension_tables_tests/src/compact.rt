@@ -1,0 +1,349 @@
+//! Compact amounts of money, by tables.
+
+use crate::answers::{Asked, is_refused, refused};
+use crate::both::Both;
+use crate::documents::refusal;
+use crate::written::preferences;
+use fixed_decimal::Decimal;
+use icu_decimal::options::{DecimalFormatterOptions, GroupingStrategy};
+use icu_dimension::CompactCurrencyFormatter;
+use icu_dimension_data::CurrencyCode;
+use icu_dimension_tables::{EntryFault, Key, TableError};
+use icu_provider::{DataError, DataErrorKind};
+use std::alloc::{AllocError, Global};
+
+/// Compact patterns of money in some locales (CLDR 46).
+const COMPACT: &str = "{\"symbols\":[\
+{\"locale\":\"en\",\"minus\":[\"-\",\"\"],\"plus\":[\"+\",\"\"],\"decimal\":\".\",\"group\":\",\",\"numsys\":\"latn\",\"sizes\":[3,3,1]},\
+{\"locale\":\"de\",\"minus\":[\"-\",\"\"],\"plus\":[\"+\",\"\"],\"decimal\":\",\",\"group\":\".\",\"numsys\":\"latn\",\"sizes\":[3,3,1]},\
+{\"locale\":\"es\",\"minus\":[\"-\",\"\"],\"plus\":[\"+\",\"\"],\"decimal\":\",\",\"group\":\".\",\"numsys\":\"latn\",\"sizes\":[3,3,2]},\
+{\"locale\":\"fr\",\"minus\":[\"-\",\"\"],\"plus\":[\"+\",\"\"],\"decimal\":\",\",\"group\":\"\u{202f}\",\"numsys\":\"latn\",\"sizes\":[3,3,1]},\
+{\"locale\":\"ja\",\"minus\":[\"-\",\"\"],\"plus\":[\"+\",\"\"],\"decimal\":\".\",\"group\":\",\",\"numsys\":\"latn\",\"sizes\":[3,3,1]},\
+{\"locale\":\"nl\",\"minus\":[\"-\",\"\"],\"plus\":[\"+\",\"\"],\"decimal\":\",\",\"group\":\".\",\"numsys\":\"latn\",\"sizes\":[3,3,1]},\
+{\"locale\":\"sv\",\"minus\":[\"\u{2212}\",\"\"],\"plus\":[\"+\",\"\"],\"decimal\":\",\",\"group\":\"\u{a0}\",\"numsys\":\"latn\",\"sizes\":[3,3,1]}],\
+\"digits\":[[\"latn\",\"0123456789\"]],\
+\"rules\":[{\"locale\":\"en\",\"rules\":[[\"one\",\"i = 1 and v = 0\"]]},\
+{\"locale\":\"de\",\"rules\":[[\"one\",\"i = 1 and v = 0\"]]},\
+{\"locale\":\"es\",\"rules\":[[\"one\",\"n = 1\"]]},\
+{\"locale\":\"fr\",\"rules\":[[\"one\",\"i = 0,1\"]]},\
+{\"locale\":\"ja\",\"rules\":[]},\
+{\"locale\":\"nl\",\"rules\":[[\"one\",\"i = 1 and v = 0\"]]},\
+{\"locale\":\"sv\",\"rules\":[[\"one\",\"i = 1 and v = 0\"]]}],\
+\"currencies\":[{\"locale\":\"en\",\"system\":\"beng\",\"standard\":\"\u{a4}0\",\"accounting\":\"\u{a4}0\",\"minus\":\"~\",\"plus\":\"^\",\"names\":{\"other\":\"{0} {1}\"}},\
+{\"locale\":\"en\",\"standard\":\"\u{a4}#,##0.00\",\"accounting\":\"\u{a4}#,##0.00;(\u{a4}#,##0.00)\",\"minus\":\"-\",\"plus\":\"+\",\"names\":{\"other\":\"{0} {1}\"}},\
+{\"locale\":\"en\",\"standard\":\"\u{a4}0\",\"accounting\":\"\u{a4}0\",\"minus\":\"~\",\"plus\":\"^\",\"names\":{\"other\":\"{0} {1}\"}},\
+{\"locale\":\"de\",\"standard\":\"#,##0.00\u{a0}\u{a4}\",\"accounting\":\"#,##0.00\u{a0}\u{a4}\",\"minus\":\"-\",\"plus\":\"+\",\"names\":{\"other\":\"{0} {1}\"}},\
+{\"locale\":\"es\",\"standard\":\"#,##0.00\u{a0}\u{a4}\",\"accounting\":\"#,##0.00\u{a0}\u{a4}\",\"minus\":\"-\",\"plus\":\"+\",\"names\":{\"other\":\"{0} {1}\"}},\
+{\"locale\":\"fr\",\"system\":\"latn\",\"standard\":\"\u{a4}0\",\"accounting\":\"\u{a4}0\",\"minus\":\"-\",\"plus\":\"+\",\"names\":{\"other\":\"{0} {1}\"}},\
+{\"locale\":\"ja\",\"standard\":\"\u{a4}#,##0.00\",\"accounting\":\"\u{a4}#,##0.00\",\"minus\":\"-\",\"plus\":\"+\",\"names\":{\"other\":\"{0}{1}\"}},\
+{\"locale\":\"nl\",\"standard\":\"\u{a4}\u{a0}#,##0.00;\u{a4}\u{a0}-#,##0.00\",\"accounting\":\"\u{a4}\u{a0}#,##0.00\",\"minus\":\"-\",\"plus\":\"+\",\"names\":{\"other\":\"{0} {1}\"}},\
+{\"locale\":\"sv\",\"standard\":\"#,##0.00\u{a0}\u{a4}\",\"accounting\":\"#,##0.00\u{a0}\u{a4}\",\"minus\":\"\u{2212}\",\"plus\":\"+\",\"names\":{\"other\":\"{0} {1}\"}}],\
+\"currency_symbols\":[{\"locale\":\"en\",\"symbols\":[[\"USD\",\"$\",\"$\",{\"other\":\"US dollars\"}],\
+[\"CAD\",\"CA$\",\"$\",{\"other\":\"Canadian dollars\"}],[\"CHF\",\"CHF\",\"CHF\",{\"other\":\"Swiss francs\"}]]},\
+{\"locale\":\"de\",\"symbols\":[[\"EUR\",\"\u{20ac}\",\"\u{20ac}\",{\"other\":\"Euro\"}]]},\
+{\"locale\":\"es\",\"symbols\":[[\"EUR\",\"\u{20ac}\",\"\u{20ac}\",{\"other\":\"euros\"}]]},\
+{\"locale\":\"fr\",\"symbols\":[[\"EUR\",\"\u{20ac}\",\"\u{20ac}\",{\"other\":\"euros\"}]]},\
+{\"locale\":\"ja\",\"symbols\":[[\"JPY\",\"\u{ffe5}\",\"\u{ffe5}\",{\"other\":\"\u{5186}\"}]]},\
+{\"locale\":\"nl\",\"symbols\":[[\"EUR\",\"\u{20ac}\",\"\u{20ac}\",{\"other\":\"euro\"}]]},\
+{\"locale\":\"sv\",\"symbols\":[[\"SEK\",\"kr\",\"kr\",{\"other\":\"svenska kronor\"}]]}],\
+\"currency_compact\":[{\"locale\":\"en\",\"patterns\":[[3,3,{\"other\":\"\u{a4}0K\"}],[6,6,{\"other\":\"\u{a4}0M\"}],[9,9,{\"other\":\"\u{a4}0B\"}]]},\
+{\"locale\":\"en\",\"patterns\":[[3,3,{\"other\":\"\u{a4}0 twice\"}]]},\
+{\"locale\":\"de\",\"patterns\":[[6,6,{\"other\":\"0 Mio'.' \u{a4}\"}],[9,9,{\"other\":\"0 Mrd'.' \u{a4}\"}]]},\
+{\"locale\":\"es\",\"patterns\":[[3,3,{\"other\":\"0 mil \u{a4}\"}],[6,6,{\"other\":\"0 M\u{a4}\"}],[10,9,{\"other\":\"0 mil M\u{a4}\"}],[12,12,{\"other\":\"0 B\u{a4}\"}]]},\
+{\"locale\":\"fr\",\"patterns\":[[3,3,{\"other\":\"0 k \u{a4}\"}]]},\
+{\"locale\":\"ja\",\"patterns\":[[4,4,{\"other\":\"\u{a4}0\u{4e07}\"}],[8,8,{\"other\":\"\u{a4}0\u{5104}\"}]]},\
+{\"locale\":\"nl\",\"patterns\":[[3,3,{\"other\":\"\u{a4} 0K;\u{a4} -0K\"}],[6,6,{\"one\":\"\u{a4} 0 mln'.';\u{a4} -0 mln'.'\",\"other\":\"\u{a4} 0 mln'.';\u{a4} -0 mln'.'\"}]]},\
+{\"locale\":\"sv\",\"patterns\":[[3,3,{\"other\":\"0 tn \u{a4}\"}],[6,6,{\"other\":\"0 mn \u{a4}\"}]]}]}";
+
+/// The text of a compact amount of a currency, by the tables of a text.
+fn text_of(alloc: Global, text: &str, locale: &str, code: &str, amount: &str) -> Option<String> {
+    let both = Both::of(alloc, text)?;
+    let amount = Decimal::try_from_str(alloc, amount).ok()?;
+    let code = CurrencyCode::try_from_str(code).ok()?;
+    let options = DecimalFormatterOptions {
+        grouping_strategy: Some(GroupingStrategy::Min2),
+    };
+    let prefs = preferences(locale, "");
+    let formatter = CompactCurrencyFormatter::try_new_unstable(
+        alloc, &both, prefs, code, options,
+    ).ok()?;
+    formatter.write_to_string(alloc, &amount).ok()
+}
+
+/// Whether an amount is written so; it is asked once more where memory was wanting.
+fn is_written(alloc: Global, locale: &str, code: &str, amount: &str, want: &str) -> bool {
+    let first = match text_of(alloc, COMPACT, locale, code, amount) {
+        Some(text) => text.as_str() == want,
+        None => false,
+    };
+    if first {
+        return true;
+    }
+    match text_of(alloc, COMPACT, locale, code, amount) {
+        Some(text) => text.as_str() == want,
+        None => false,
+    }
+}
+
+/// A locale, a currency, an amount and how it is written in compact form.
+const AMOUNTS: &[(&str, &str, &str, &str)] = &[
+    ("en", "USD", "1500000", "$1.5M"),
+    ("en", "USD", "-1500000", "-$1.5M"),
+    ("en", "USD", "+1500000", "+$1.5M"),
+    ("en", "USD", "1234", "$1.2K"),
+    ("en", "USD", "999500", "$1M"),
+    ("en", "USD", "0.5", "$0.5"),
+    ("en", "USD", "-12", "-$12"),
+    ("en", "CAD", "2000000000", "CA$2B"),
+    ("en", "CHF", "1500", "CHF\u{a0}1.5K"),
+    ("en", "CHF", "-1500", "-CHF\u{a0}1.5K"),
+    ("de", "EUR", "1500000", "1,5 Mio. \u{20ac}"),
+    ("de", "EUR", "-1500000", "-1,5 Mio. \u{20ac}"),
+    ("de", "EUR", "1234567890", "1,2 Mrd. \u{20ac}"),
+    ("de", "EUR", "1500", "1500\u{a0}\u{20ac}"),
+    ("de", "EUR", "-12345", "-12.345\u{a0}\u{20ac}"),
+    ("es", "EUR", "1234567890", "1235 M\u{20ac}"),
+    ("es", "EUR", "12345678901", "12 mil M\u{20ac}"),
+    ("ja", "JPY", "12345", "\u{ffe5}1.2\u{4e07}"),
+    ("ja", "JPY", "-1234567890", "-\u{ffe5}12\u{5104}"),
+    ("nl", "EUR", "1500000", "\u{20ac} 1,5 mln."),
+    ("nl", "EUR", "-1500000", "\u{20ac} -1,5 mln."),
+    ("nl", "EUR", "+1500000", "\u{20ac} +1,5 mln."),
+    ("nl", "EUR", "-1000000", "\u{20ac} -1 mln."),
+    ("nl", "EUR", "-1", "\u{20ac}\u{a0}-1"),
+    ("sv", "SEK", "-1500", "\u{2212}1,5 tn kr"),
+];
+
+#[test]
+fn compact_amounts_have_their_symbols_and_signs(rt: HostRuntime) {
+    for &(locale, code, amount, want) in AMOUNTS {
+        assert!(rt;
+            is_written(rt.alloc(), locale, code, amount, want),
+            "{want}"
+        );
+    }
+}
+
+/// By which locale and code compact patterns are asked for, and how they are refused.
+const ASKED: &[((&str, &str), Option<DataErrorKind>)] = &[
+    (("en", "USD"), None),
+    (("de", "EUR"), None),
+    (("de", "USD"), Some(DataErrorKind::IdentifierNotFound)),
+    (("en", ""), Some(DataErrorKind::IdentifierNotFound)),
+    (("en-US", "USD"), Some(DataErrorKind::IdentifierNotFound)),
+    // its patterns of money are only those of a numbering system
+    (("fr", "EUR"), Some(DataErrorKind::IdentifierNotFound)),
+];
+
+#[test]
+fn compact_patterns_answer_by_a_code_in_a_locale(rt: HostRuntime) {
+    for &(id, want) in ASKED {
+        assert!(rt;
+            is_refused(rt.alloc(), COMPACT, Asked::Compact, id, want),
+            "{id:?}"
+        );
+    }
+}
+
+/// Texts with two of the three keys that compact patterns want.
+const PARTS: &[&str] = &[
+    "{\"currencies\":[],\"currency_symbols\":[]}",
+    "{\"currencies\":[],\"currency_compact\":[]}",
+    "{\"currency_symbols\":[],\"currency_compact\":[]}",
+];
+
+#[test]
+fn compact_patterns_want_three_keys(rt: HostRuntime) {
+    for &text in PARTS {
+        let want = Some(DataErrorKind::MarkerNotFound);
+        let is_told = is_refused(rt.alloc(), text, Asked::Compact, ("en", "USD"), want);
+        assert!(rt; is_told, "{text}");
+    }
+}
+
+/// Texts with compact patterns of money, and why they are refused for their kinds.
+const KINDS: &[(&str, TableError)] = &[
+    (
+        "{\"currency_compact\":{}}",
+        TableError::WrongKind(Key::CurrencyCompact),
+    ),
+    (
+        "{\"currency_compact\":[1]}",
+        TableError::WrongKind(Key::CurrencyCompact),
+    ),
+    (
+        "{\"currency_compact\":[{}]}",
+        TableError::Missing(Key::Locale),
+    ),
+    (
+        "{\"currency_compact\":[{\"locale\":\"_\"}]}",
+        TableError::Missing(Key::Patterns),
+    ),
+    (
+        "{\"currency_compact\":[{\"locale\":\"_\",\"patterns\":[[3,3]]}]}",
+        TableError::WrongKind(Key::Patterns),
+    ),
+    (
+        "{\"currency_compact\":[{\"locale\":\"_\",\"patterns\":[[3,256,{\"other\":\"\"}]]}]}",
+        TableError::WrongKind(Key::Patterns),
+    ),
+    (
+        "{\"currency_compact\":[{\"locale\":\"_\",\"patterns\":[[3,4,{\"other\":\"\"}],[3,3,{\"other\":\"\"}]]}]}",
+        TableError::WrongKind(Key::Patterns),
+    ),
+    (
+        "{\"currency_compact\":[{\"locale\":\"_\",\"patterns\":[[3,3,{\"one\":\"\"}]]}]}",
+        TableError::Missing(Key::Other),
+    ),
+    (
+        "{\"currency_compact\":[{\"locale\":\"_\",\"patterns\":[[3,3,{\"other\":\"\",\"few\":0}]]}]}",
+        TableError::WrongKind(Key::Few),
+    ),
+    // the keys before it are judged first
+    (
+        "{\"currency_compact\":1,\"currency_decimals\":0}",
+        TableError::WrongKind(Key::CurrencyDecimals),
+    ),
+];
+
+#[test]
+fn compact_money_is_refused_by_its_kinds(rt: HostRuntime) {
+    for &(text, wanted) in KINDS {
+        assert!(rt; refusal(rt.alloc(), text) == Some(wanted), "{text}");
+    }
+}
+
+/// Texts with compact patterns of money, and which entry is refused for what.
+const FAULTS: &[(&str, usize, EntryFault)] = &[
+    (
+        "{\"currency_compact\":[{\"locale\":\"_\",\"patterns\":[[3,4,{\"other\":\"0\"}]]}]}",
+        0,
+        EntryFault::BadLocale,
+    ),
+    (
+        "{\"currency_compact\":[{\"locale\":\"en\",\"patterns\":[]},{\"locale\":\"en\",\"patterns\":[[3,3,{\"other\":\"0\"}]]}]}",
+        1,
+        EntryFault::NoSymbolPlace,
+    ),
+    (
+        "{\"currency_compact\":[{\"locale\":\"en\",\"patterns\":[[3,3,{\"other\":\"\u{a4}0K;0K\"}]]}]}",
+        0,
+        EntryFault::NoSymbolPlace,
+    ),
+    (
+        "{\"currency_compact\":[{\"locale\":\"en\",\"patterns\":[[3,3,{\"one\":\"\u{a4}\",\"other\":\"\u{a4}0K\"}]]}]}",
+        0,
+        EntryFault::NoNumber { byte: 2 },
+    ),
+    (
+        "{\"currency_compact\":[{\"locale\":\"en\",\"patterns\":[[3,3,{\"other\":\"\u{a4}0 0\"}]]}]}",
+        0,
+        EntryFault::TwoNumbers { byte: 4 },
+    ),
+    (
+        "{\"currency_compact\":[{\"locale\":\"en\",\"patterns\":[[3,3,{\"other\":\"\u{a4}0'K\"}]]}]}",
+        0,
+        EntryFault::UnclosedQuote { byte: 3 },
+    ),
+    (
+        "{\"currency_compact\":[{\"locale\":\"en\",\"patterns\":[[3,3,{\"other\":\"\u{a4}0E\"}]]}]}",
+        0,
+        EntryFault::ReservedCharacter { byte: 3 },
+    ),
+    (
+        "{\"currency_compact\":[{\"locale\":\"en\",\"patterns\":[[3,3,{\"other\":\"\u{a4}0K\"}],[4,2,{\"other\":\"\"}]]}]}",
+        0,
+        EntryFault::ExponentsFall,
+    ),
+    (
+        "{\"currency_compact\":[{\"locale\":\"en\",\"patterns\":[[3,4,{\"other\":\"\"}]]}]}",
+        0,
+        EntryFault::ExponentAboveType,
+    ),
+    (
+        "{\"currency_compact\":[{\"locale\":\"en\",\"patterns\":[[19,3,{\"other\":\"\"}]]}]}",
+        0,
+        EntryFault::TooManyZeros,
+    ),
+    // row by row
+    (
+        "{\"currency_compact\":[{\"locale\":\"en\",\"patterns\":[[3,3,{\"other\":\"K\"}],[4,2,{\"other\":\"\"}]]}]}",
+        0,
+        EntryFault::NoNumber { byte: 1 },
+    ),
+];
+
+#[test]
+fn entries_of_compact_money_are_refused_by_name(rt: HostRuntime) {
+    for &(text, index, fault) in FAULTS {
+        let wanted = TableError::Entry {
+            key: Key::CurrencyCompact,
+            index,
+            fault,
+        };
+        assert!(rt; refusal(rt.alloc(), text) == Some(wanted), "{text}");
+    }
+}
+
+/// Texts with compact patterns of money that aren't refused.
+const ACCEPTED: &[&str] = &[
+    "{\"currency_compact\":[]}",
+    "{\"currency_compact\":[{\"locale\":\"en\",\"patterns\":[]}]}",
+    "{\"currency_compact\":[{\"locale\":\"en\",\"system\":1,\"patterns\":[[18,3,{\"other\":\"\u{a4}0K\"}],[255,255,{\"other\":\"\u{a4}0K\"}]]}]}",
+    // compact patterns of an entry of `currencies`, as tables had them
+    "{\"currencies\":[{\"locale\":\"en\",\"standard\":\"\u{a4}0\",\"accounting\":\"\u{a4}0\",\"minus\":\"-\",\"plus\":\"+\",\
+\"names\":{\"other\":\"{0} {1}\"},\"short\":[[3,3,{\"other\":\"\u{a4}{0}K\"}]]}]}",
+];
+
+#[test]
+fn other_compact_money_is_read(rt: HostRuntime) {
+    for &text in ACCEPTED {
+        assert!(rt; refusal(rt.alloc(), text).is_none(), "{text}");
+    }
+}
+
+/// What stands around a currency's symbol in a document with one compact pattern.
+const AROUND: (&str, &str) = (
+    "{\"currencies\":[{\"locale\":\"en\",\"standard\":\"\u{a4}0\",\"accounting\":\"\u{a4}0\",\"minus\":\"-\",\"plus\":\"+\",\"names\":{\"other\":\"{0} {1}\"}}],\
+\"currency_compact\":[{\"locale\":\"en\",\"patterns\":[[3,3,{\"other\":\"\u{a4}0\"}]]}],\
+\"currency_symbols\":[{\"locale\":\"en\",\"symbols\":[[\"USD\",\"",
+    "$\",\"$\",{\"other\":\"US dollars\"}]]}]}",
+);
+
+/// The document in which the symbol has so many dollar signs and one more.
+fn document_once(alloc: Global, signs: usize) -> Result<String, AllocError> {
+    let mut text = String::from_str(alloc, AROUND.0)?;
+    for _ in 0..signs {
+        text.push_str("$")?;
+    }
+    text.push_str(AROUND.1)?;
+    Ok(text)
+}
+
+/// The same, made once more where memory was refused.
+fn document(alloc: Global, signs: usize) -> Result<String, AllocError> {
+    match document_once(alloc, signs) {
+        Ok(text) => Ok(text),
+        Err(_) => document_once(alloc, signs),
+    }
+}
+
+/// How the compact patterns with a symbol of so many dollar signs and one more are refused.
+fn refused_symbol(alloc: Global, signs: usize) -> Option<DataError> {
+    match document(alloc, signs) {
+        Ok(text) => refused(alloc, text.as_str(), Asked::Compact, ("en", "USD")),
+        Err(_) => Some(DataErrorKind::OutOfMemory.into()),
+    }
+}
+
+#[test]
+fn symbols_that_are_too_large_for_a_table_are_told(rt: HostRuntime) {
+    // with a sign the literal is one byte longer
+    assert!(rt; refused_symbol(rt.alloc(), 65_533).is_none());
+    let told = refused_symbol(rt.alloc(), 65_534);
+    let wanted = DataError {
+        kind: DataErrorKind::Custom,
+        context: "compact patterns too large",
+    };
+    assert!(rt; told == Some(wanted));
+}
