@@ -5,8 +5,9 @@ usage: tests/hostile_locnum.py [WORDS [INPUTS [SEED [PROGRAM]]]], by default 150
 
 The model of words has the command line (what isn't an option, is given twice or has no text) and the options, with each of
 their faults. The model of lines has fields, headers, what becomes of texts that are refused, and plain English numbers: groups
-of three, fraction digits, signs. Standard output and standard error are compared whole, but for a fault of the command line,
-of whose text the beginning is known, and for compact numbers, money and percents, of which lines are counted.
+of three, fraction digits, signs; that of CSV has quotes, what stands between them, and quotes without an end. Standard output
+and standard error are compared whole, but for a fault of the command line, of whose text the beginning is known, and for
+compact numbers, money and percents, of which lines are counted.
 
 The same words give the same cases. The last
 line is 'N passed, M failed', one for each kind of input and for what has to be met in it.
@@ -26,7 +27,7 @@ LIMIT = 32768
 # Options with a text and without one, and their letters.
 TEXTS = ["tables", "locale", "system", "style", "grouping", "fraction", "sign", "currency", "width", "unit", "delimiter",
          "field", "padding", "invalid"]
-FLAGS = ["accounting", "cash", "percent", "zero-terminated"]
+FLAGS = ["accounting", "cash", "percent", "csv", "zero-terminated"]
 LETTERS = {"t": "tables", "l": "locale", "d": "delimiter", "z": "zero-terminated", "h": "help", "V": "version"}
 GROUPINGS = ["auto", "never", "always", "min2"]
 SIGNS = ["auto", "always", "never", "except-zero", "negative"]
@@ -37,7 +38,7 @@ GOOD = {
     "tables": [], "locale": ["en", "en", "de", "x" * 63], "system": ["latn", "arab", "00000000"],
     "style": ["plain", "short", "long"], "grouping": GROUPINGS, "fraction": ["0", "0", "2", "255", "0..3", "1..1", "007"],
     "sign": SIGNS, "currency": ["USD", "EUR", "JPY", "CHF"], "width": ["short", "narrow", "long", "name"],
-    "unit": ["kilometer", "", "é"], "delimiter": [";", " ", "\t", "-", "=", "\x7f", "5"], "field": LISTS, "invalid": MODES,
+    "unit": ["kilometer", "", "é"], "delimiter": [";", ",", " ", "\t", "-", "=", "\x7f", "5"], "field": LISTS, "invalid": MODES,
     "padding": ["1", "-1", "12", "-12", "007", "300", "-65535", "65535"],
     "header": ["0", "1", "5", "18446744073709551615", "0002"],
 }
@@ -61,6 +62,7 @@ LONG = [b"9" * LIMIT, b"." + b"5" * LIMIT, *[b"9" * LIMIT + b".5"] * 4, b"9" * (
 PUT_IN = [["--unknown"], ["-q"], ["-zq"], ["---cash"], ["--cash=1"], ["--Cash"], ["--head"], ["-" + "x" * 5000],
           ["--" + "x" * 5000], ["-.5"], ["--help"], ["-h"], ["--version"], ["-V"], ["-zV"], ["-5x"],
           ["--currency=USD", "--accounting", "--width=name"], ["--percent", "--percent"], ["-z", "--zero-terminated"],
+          ["--csv", "-z"], ["--csv", "-d", '"'], ["--csv", "--delimiter=\n"], ["-d\r", "--csv"],
           ["--sign", "auto", "--sign=auto"], [b"\xff"],
           [b"--field=\xc3"], ["--locale", b"e\x80n"], ["--="], [b"\xc3\xa9\xe9"]]
 FAULTS = {
@@ -76,6 +78,8 @@ FAULTS = {
     "width": "--width: short, narrow or name for money; long, short or narrow for units",
     "style": "--style: neither plain, short nor long",
     "delimiter": "--delimiter: not a single byte",
+    "csv with zero": "--csv: not with --zero-terminated",
+    "csv with a mark": "--csv: --delimiter is neither a quote, a line feed nor a carriage return",
     "field": "--field: not a list of N, N-, N-M, -M or -, from 1 on",
     "header": "--header: not a count of lines",
     "padding": "--padding: neither N nor -N, from 1 to 65535",
@@ -154,7 +158,7 @@ def parsed(words):
 
 # The model of options: the page of locnum_options.
 
-Settings = collections.namedtuple("Settings", "kind grouping fraction sign delimiter fields header end mode columns")
+Settings = collections.namedtuple("Settings", "kind grouping fraction sign delimiter fields header end mode columns csv")
 
 
 def number_named(text):
@@ -212,6 +216,10 @@ def settings_of(given):
     wanted("sign", lambda text: text in SIGNS)
     kind = kind_of(given)
     wanted("delimiter", lambda text: len(text.encode()) == 1)
+    if "csv" in given and "zero-terminated" in given:
+        raise Ended("csv with zero")
+    if "csv" in given and given.get("delimiter", ",") in ('"', "\n", "\r"):
+        raise Ended("csv with a mark")
     wanted("field", lambda text: all(range_named(part) for part in text.split(",")))
     wanted("header", lambda text: number_named(text) is not None)
     wanted("padding", columns_named)
@@ -224,10 +232,10 @@ def settings_of(given):
         raise Ended("data")
     return Settings(
         kind, given.get("grouping", "auto"), fraction_named(given["fraction"]) if "fraction" in given else None,
-        given.get("sign", "auto"), given["delimiter"].encode() if "delimiter" in given else None,
+        given.get("sign", "auto"), given["delimiter"].encode() if "delimiter" in given else b"," if "csv" in given else None,
         [range_named(part) for part in given.get("field", "1").split(",")], int(given.get("header", "0")),
         b"\0" if "zero-terminated" in given else b"\n", given.get("invalid", "abort"),
-        columns_named(given.get("padding", "")))
+        columns_named(given.get("padding", "")), "csv" in given)
 
 
 # The model of numbers: plain English.
@@ -290,6 +298,27 @@ def pieces_of(line, delimiter):
     return fields + ([(rest, b"")] if not fields or fields[-1][1] else [])
 
 
+# A field of CSV: in quotes, what stands between them, then up to the delimiter or the end of the line; or without them.
+QUOTED = rb'"((?:[^"]|"")*)"(?!")'
+
+
+def records_of(given, delimiter):
+    """The records of CSV, each as its fields, what stands behind it, and the line in which quotes begin that don't end, or None."""
+    mark, place, fields = re.escape(delimiter), 0, []
+    while place < len(given) or fields:
+        quoted = re.compile(QUOTED).match(given, place)
+        if given[place:place + 1] == b'"' and not quoted:
+            yield fields, b"", given.count(b"\n", 0, place) + 1
+            return
+        behind = re.compile(rb"[^\n" + mark + rb"]*").match(given, quoted.end() if quoted else place)
+        content = (quoted[1].replace(b'""', b'"') if quoted else b"") + behind[0]
+        fields.append((given[place:behind.end()], content))
+        place = behind.end() + 1
+        if given[place - 1:place] != delimiter:
+            yield fields, given[place - 1:place] or b"\n", None
+            fields = []
+
+
 class Run:
     """What is written and told of lines."""
 
@@ -319,6 +348,37 @@ class Run:
         if not self.is_stopped:
             self.output += [number, behind]
 
+    def csv_field(self, text, content):
+        """A field of CSV that is chosen: of its content what is written is put into quotes where it has to be."""
+        kept = b"\r" if text.endswith(b"\r") else b""
+        apart = Run(self.settings, self.met)
+        apart.field(content[:len(content) - len(kept)])
+        self.error += apart.error
+        if apart.is_refused:
+            self.is_refused, self.is_stopped = True, apart.is_stopped
+            self.output.append(b"" if self.is_stopped else text)
+            return
+        written = b"".join(apart.output)
+        if text.startswith(b'"') or re.search(rb'["\n' + re.escape(self.settings.delimiter) + rb"]", written):
+            written = b'"' + written.replace(b'"', b'""') + b'"'
+        self.output += [written, kept]
+
+    def record(self, fields, end, line):
+        """A record of CSV, unless the run has stopped; its quotes begin in this line and don't end, if there is one."""
+        is_header, self.left = self.left > 0, max(self.left - 1, 0)
+        for place, (text, content) in enumerate(fields):
+            if not is_header and any(first <= place + 1 <= last for first, last in self.settings.fields):
+                self.csv_field(text, content)
+            else:
+                self.output.append(text)
+            if self.is_stopped:
+                return
+            self.output.append(end if place + 1 == len(fields) and line is None else self.settings.delimiter)
+        if line is not None:
+            self.met.append("quotes without an end")
+            self.error.append(f"locnum: line {line}: a quote without an end\n".encode())
+            self.is_stopped = True
+
     def line(self, line):
         """A line, unless the run has stopped."""
         if self.left > 0:
@@ -337,6 +397,11 @@ class Run:
 
     def lines(self, given):
         """An input."""
+        if self.settings.csv:
+            for fields, end, line in records_of(given, self.settings.delimiter):
+                if not self.is_stopped:
+                    self.record(fields, end, line)
+            return self
         lines = given.split(self.settings.end)
         for line in lines if lines[-1] else lines[:-1]:
             if not self.is_stopped:
@@ -344,7 +409,7 @@ class Run:
         return self
 
     def answer(self):
-        status = 2 if self.is_refused and self.settings.mode in ("abort", "fail") else 0
+        status = 2 if self.is_refused and self.settings.mode in ("abort", "fail") else 1 if self.is_stopped else 0
         return Answer(status, b"".join(self.output), b"".join(self.error))
 
 
@@ -368,7 +433,8 @@ def answer_of(words, given, met):
     if numbers:
         run.left = 0
     for number in numbers:
-        run.lines(number.encode() or settings.end)
+        if not run.is_stopped:
+            run.lines(number.encode() or settings.end)
     answer = (run if numbers else run.lines(given)).answer()
     met.append(f"status {answer.status}")
     return settings, answer
@@ -465,14 +531,36 @@ def some_words(rng):
     return words
 
 
+def quoted(rng, text):
+    """A field of CSV for this text, mostly in quotes, at times with faults."""
+    roll = rng.random()
+    if roll < 0.3:
+        return text
+    if roll < 0.32:
+        return rng.choice([b'"' + text, text + b'"', b'"' + text + b'"' + text, b'""' + text, b'"' + text + b'" '])
+    return b'"' + text.replace(b'"', b'""') + b'"'
+
+
+def some_records(rng, delimiter):
+    """The bytes of an input of CSV."""
+    records = []
+    for _ in range(rng.choice([0, 1, 2, 5, 20])):
+        texts = [a_number(rng).encode() if rng.random() < 0.7 else rng.choice([b"a\nb", b"", b'"', b" ", delimiter, b"\r\n", a_text(rng)])
+                 for _ in range(rng.choice([1, 2, 3, 8]))]
+        records.append(delimiter.join(quoted(rng, text) for text in texts) + rng.choice([b"", b"", b"\r"]))
+    return b"\n".join(records) + rng.choice([b"", b"\n", b"\n"])
+
+
 def some_settings(rng):
     """Words that are accepted, for plain numbers, and what cuts fields and lines by them."""
     names = [name for name in ("grouping", "fraction", "sign", "delimiter", "field", "padding", "invalid", "header") if rng.random() < 0.5]
     given = {name: rng.choice(GOOD[name]) for name in names}
-    if rng.random() < 0.2:
+    if rng.random() < 0.25:
+        given["csv"] = True
+    elif rng.random() < 0.2:
         given["zero-terminated"] = True
     words = [word for name, text in given.items() for word in a_spelling(rng, name, text)]
-    delimiter = given.get("delimiter")
+    delimiter = given.get("delimiter", "," if "csv" in given else None)
     return words, delimiter and delimiter.encode(), b"\0" if "zero-terminated" in given else b"\n"
 
 
@@ -517,7 +605,7 @@ def noted(settings_words, given, end):
 
 
 MET_OF_LINES = ["not a decimal", "too many digits", "overflow", "no end", "an end", "a header longer than the input",
-                "bytes that aren't UTF-8", "a long line", "status 0", "status 2"]
+                "bytes that aren't UTF-8", "a long line", "quotes without an end", "status 0", "status 1", "status 2"]
 
 
 def words_hold(program, rng):
@@ -529,7 +617,8 @@ def words_hold(program, rng):
 def lines_hold(program, rng):
     """An input under words that are accepted."""
     words, delimiter, end = some_settings(rng)
-    given = some_lines(rng, delimiter, end)
+    is_csv = "--csv" in words and rng.random() < 0.9
+    given = some_records(rng, delimiter) if is_csv else some_lines(rng, delimiter, end)
     is_held, answer, wanted, met = program.holds(words, given)
     return words, given, is_held, answer, wanted, met + list(noted(words, given, end))
 

@@ -54,6 +54,15 @@ lines 0 'a;1234;1234\n' 'a;1234;1,234\n' '' -d ';' --field 3
 lines 0 'rent 1250\nfood 431.5\n' 'rent  $1,250.00\nfood    $431.50\n' '' --field 2 --currency USD --padding 10
 lines 0 'a 1 x\n' 'a \xc2\xa51      x\n' '' --field 2 --currency JPY --padding=-7
 writes '   1,234\n  -1,234\n' --padding 8 1234 -1234
+lines 0 'a,1234\n' 'a,"1,234"\n' '' --csv --field 2
+lines 0 '"a, b\n""c""",1250\r\nd,7\r\n' '"a, b\n""c""","$1,250.00"\r\nd,$7.00\r\n' '' --csv --field 2 --currency USD
+lines 0 'a;"x;y";1234\n' 'a;"x;y";1,234\n' '' --csv -d ';' --field 3
+lines 0 '"a\nb",c\nd,5\n' '"a\nb",c\nd,5\n' '' --csv --header --field 2
+lines 2 '5\n"x"\n' '5\n' 'locnum: x: not a decimal' --csv
+lines 2 '5\n"x",y\n' '5\n"x",y\n' 'locnum: x: not a decimal' --csv --invalid fail
+lines 1 '5\n6,"x\n7\n' '5\n6,' 'locnum: line 2: a quote without an end' --csv
+lines 1 'x\n6,"' 'x\n6,' 'locnum: line 2: a quote without an end' --csv --invalid ignore
+writes '"1,234"\n7,a\n' --csv 1234 7,a
 lines 0 'amount\n1234\n' 'amount\n1,234\n' '' --header
 lines 0 'a\nb\n1234' 'a\nb\n1,234\n' '' --header=2
 lines 0 '1234\00005678\0000' '1,234\00005,678\0000' '' -z
@@ -82,6 +91,8 @@ refuses "locnum: --tables: the file can't be read" -t "$folder/none.json"
 refuses 'locnum: --style, --currency, --percent and --unit: more than one of them' --percent --currency USD
 refuses 'locnum: --currency: not three capital letters' --currency usd
 refuses 'locnum: --field: not a list of N, N-, N-M, -M or -, from 1 on' --field 0
+refuses 'locnum: --csv: not with --zero-terminated' --csv -z
+refuses 'locnum: --csv: --delimiter is neither a quote, a line feed nor a carriage return' --csv -d '"'
 refuses 'locnum: --fraction: neither N nor MIN..MAX, each at most 255' --fraction x
 cat >"$folder/fr.json" <<'FRENCH'
 {

@@ -17,6 +17,7 @@ complete -c locnum -l invalid -x -a 'abort fail warn ignore' -d 'texts that are 
 complete -c locnum -l accounting -d 'amounts as in accounts, as ($1.00)'
 complete -c locnum -l cash -d 'amounts with the fraction digits of cash'
 complete -c locnum -l percent -d 'numbers as percents, 0.5 as 50%'
+complete -c locnum -l csv -d 'lines are records of CSV, with a comma between fields unless -d says another byte'
 complete -c locnum -s z -l zero-terminated -d 'lines end in NUL instead of a line feed'
 complete -c locnum -l header -d 'so many lines in front go through as they are; 1 without N'
 complete -c locnum -s h -l help -d 'Print help'

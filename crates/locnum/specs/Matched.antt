@@ -24,6 +24,7 @@ pub record IsGiven (matches : ArgMatches) (given : GivenData) : Type 0 where
   pub cash : IsFlag matches (codes "cash") given.cash
   pub percent : IsFlag matches (codes "percent") given.percent
   pub unit : option_map (λ s. s.now) given.unit ≡ first_value (found_of matches) (codes "unit")
+  pub csv : IsFlag matches (codes "csv") given.csv
   pub delimiter : given.delimiter ≡ first_value (found_of matches) (codes "delimiter")
   pub field : given.field ≡ first_value (found_of matches) (codes "field")
   pub header : given.header ≡ first_value (found_of matches) (codes "header")

@@ -80,10 +80,15 @@ const TEXTS: [(&str, Option<char>, &str, &str); 14] = [
 ];
 
 /// An option without a text: its name, its letter, and what it does.
-const FLAGS: [(&str, Option<char>, &str); 4] = [
+const FLAGS: [(&str, Option<char>, &str); 5] = [
     ("accounting", None, "amounts as in accounts, as ($1.00)"),
     ("cash", None, "amounts with the fraction digits of cash"),
     ("percent", None, "numbers as percents, 0.5 as 50%"),
+    (
+        "csv",
+        None,
+        "lines are records of CSV, with a comma between fields unless -d says another byte",
+    ),
     (
         "zero-terminated",
         Some('z'),
@@ -149,6 +154,7 @@ pub(crate) fn given<'a>(matches: &ArgMatches<'a>) -> Given<'a>
         cash: matches.get_flag("cash"),
         percent: matches.get_flag("percent"),
         unit: matches.get_str("unit"),
+        csv: matches.get_flag("csv"),
         delimiter: matches.get_str("delimiter"),
         field: matches.get_str("field"),
         header: matches.get_str("header"),

@@ -2,7 +2,7 @@
 #![tactic(auto)]
 
 ghost use Rattle.std.specs.Prelude.{◌≡◌};
-ghost use Rattle.locnum.specs.Endings.{status_of};
+ghost use Rattle.locnum.specs.Endings.{is_failure, status_of};
 
 mod command;
 mod english;
@@ -235,14 +235,25 @@ fn tell(rt: &HostRuntime, failure: Failure) {
     };
 }
 
-/// The status after a run: 2 where a text was refused, unless that only warns or is ignored.
+/// Whether a text that is refused makes the program fail.
+fn is_failure(refusals: Refusals) -> bool
+    ensures { result ≡ is_failure refusals }
+{
+    match refusals {
+        Refusals::Abort | Refusals::Fail => true,
+        Refusals::Warn | Refusals::Ignore => false,
+    }
+}
+
+/// The status after a run: 2 where a text was refused, unless that only warns or is ignored; else 1
+/// where the run stopped.
 fn status_of(refusals: Refusals, report: Report) -> u8
     ensures { result ≡ status_of refusals report }
 {
-    match refusals {
-        Refusals::Abort | Refusals::Fail => { if report.is_refused { 2 } else { 0 } }
-        Refusals::Warn | Refusals::Ignore => 0,
+    if is_failure(refusals) && report.is_refused {
+        return 2;
     }
+    if report.is_stopped { 1 } else { 0 }
 }
 
 /// The status of the program.

@@ -2,10 +2,13 @@
 -- The definitions take a text from the front, one byte a step; a loop that is at a place has the definition of what is left
 -- (`blanks_before-step`, `field_length-step`), and one from the end that of what is in front (`content_length-blank`).
 use Rattle.std.proofs.Common.{◌≡◌, ℕ, zero, suc, ◌+◌, ◌-◌, ◌<◌, ◌≤◌, Bool, true, false, List, [], ◌∷◌, ◌++◌}
-use Rattle.std.proofs.Common.{length, get_or, take, drop, Option, refl, sym, ap, ◌∙◌, arith}
-use Rattle.std.specs.Prelude.{◌||◌, not, if◌then◌else◌}
+use Rattle.std.proofs.Common.{length, get_or, take, drop, refl, sym, ap, ◌∙◌, arith}
+use Rattle.std.specs.Prelude.{if◌then◌else◌}
 use Rattle.std.proofs.lemmas.List.{drop_all, drop_more, length-drop, length-take-le, take_more}
-use Rattle.locnum_lines.specs.Fields.{blanks_before, content_length, cut, ends_field, field_length, is_blank, is_blank_behind, with_byte}
+use Rattle.locnum_lines.specs.Fields.{blanks_before, content_length, cut, ends_field, field_length, is_blank, is_blank_behind, next_place}
+use Rattle.locnum_lines.specs.Fields.{with_byte}
+use Rattle.locnum_lines.specs.declared.cutting.Place.{Place}
+use Rattle.locnum_lines.specs.declared.settings.Delimiter.{Delimiter}
 
 -- a blank more
 pub blanks_before-step : (text : List ℕ) (n : ℕ) → n < length text → is_blank (get_or text n 0) ≡ true →
@@ -24,22 +27,22 @@ unfolding blanks_before
 blanks_before-nothing = refl
 
 -- a byte more of a field
-pub field_length-step : (delimiter : Option ℕ) (had_word : Bool) (line : List ℕ) (n : ℕ) → n < length line →
-    ends_field delimiter had_word (get_or line n 0) ≡ false →
-    field_length delimiter had_word (drop n line) ≡ suc (field_length delimiter (had_word || not (is_blank (get_or line n 0))) (drop (n + 1) line))
+pub field_length-step : (delimiter : Delimiter) (place : Place) (line : List ℕ) (n : ℕ) → n < length line →
+    ends_field delimiter place (get_or line n 0) ≡ false →
+    field_length delimiter place (drop n line) ≡ suc (field_length delimiter (next_place delimiter place (get_or line n 0)) (drop (n + 1) line))
 unfolding field_length
-field_length-step delimiter had_word line n inside h = rw (drop_more line n 0 inside, h) refl
+field_length-step delimiter place line n inside h = rw (drop_more line n 0 inside, h) refl
 
 -- the end of a field
-pub field_length-end : (delimiter : Option ℕ) (had_word : Bool) (line : List ℕ) (n : ℕ) → n < length line →
-    ends_field delimiter had_word (get_or line n 0) ≡ true → field_length delimiter had_word (drop n line) ≡ 0
+pub field_length-end : (delimiter : Delimiter) (place : Place) (line : List ℕ) (n : ℕ) → n < length line →
+    ends_field delimiter place (get_or line n 0) ≡ true → field_length delimiter place (drop n line) ≡ 0
 unfolding field_length
-field_length-end delimiter had_word line n inside h = rw (drop_more line n 0 inside, h) refl
+field_length-end delimiter place line n inside h = rw (drop_more line n 0 inside, h) refl
 
 -- no line
-pub field_length-nothing : (delimiter : Option ℕ) (had_word : Bool) → field_length delimiter had_word [] ≡ 0
+pub field_length-nothing : (delimiter : Delimiter) (place : Place) → field_length delimiter place [] ≡ 0
 unfolding field_length
-field_length-nothing delimiter had_word = refl
+field_length-nothing delimiter place = refl
 
 -- a blank at the end
 pub content_length-blank : (xs : List ℕ) (b : ℕ) → is_blank_behind b ≡ true → content_length (xs ++ b ∷ []) ≡ content_length xs
@@ -63,9 +66,9 @@ pub blanks_before-past : (text : List ℕ) (n : ℕ) → length text ≤ n → b
 blanks_before-past text n past = rw (drop_all n text past) blanks_before-nothing
 
 -- behind the end of a line
-pub field_length-past : (delimiter : Option ℕ) (had_word : Bool) (line : List ℕ) (n : ℕ) → length line ≤ n →
-    field_length delimiter had_word (drop n line) ≡ 0
-field_length-past delimiter had_word line n past = rw (drop_all n line past) (field_length-nothing delimiter had_word)
+pub field_length-past : (delimiter : Delimiter) (place : Place) (line : List ℕ) (n : ℕ) → length line ≤ n →
+    field_length delimiter place (drop n line) ≡ 0
+field_length-past delimiter place line n past = rw (drop_all n line past) (field_length-nothing delimiter place)
 
 -- the last byte of the first n
 last_taken : (text : List ℕ) (n : ℕ) → n ≤ length text → 0 < n → take n text ≡ take (n - 1) text ++ get_or text (n - 1) 0 ∷ []

@@ -1,81 +1,89 @@
--- What lines and parts of lines add to what was gathered.
--- The lines of whole lines and of what follows are those of both, one behind the other (`lines_of-append`), so that what runs
--- for them runs one behind the other too (`lines_ran-append`), unless the run stops.
-use Rattle.std.proofs.Common.{◌≡◌, ℕ, suc, ◌+◌, ◌-◌, ◌<◌, Bool, get_or, take, drop, length-take, true, false, cond, eqb}
-use Rattle.std.proofs.Common.{arith, length, List, [], ◌∷◌, ◌++◌, refl, sym, ap, ◌∙◌, append_assoc, inl, inr}
+-- What records and parts of records add to what was gathered.
+-- A part of a record that ends now is the first record of all that comes (`record-ended`), and what runs for some records and
+-- others runs one behind the other (`records_ran-append`), unless the run stops.
+use Rattle.std.proofs.Common.{◌≡◌, ℕ, suc, ◌+◌, ◌-◌, ◌<◌, Bool, get_or, take, drop, length-take, true, false, eqb}
+use Rattle.std.proofs.Common.{arith, length, List, [], ◌∷◌, ◌++◌, refl, sym, ap, ◌∙◌, append_assoc}
+use Rattle.std.specs.Prelude.{◌&&◌}
 use Rattle.std.proofs.lemmas.Bool.{eqb-true}
 use Rattle.std.proofs.lemmas.Bool.Decides.{nat_tests}
-use Rattle.std.proofs.lemmas.List.{append-nil, get_or-take, drop_more, take-append-drop}
+use Rattle.std.proofs.lemmas.List.{get_or-take, drop_more, take-append-drop}
 use Rattle.memchr.specs.Find.{NoneBefore, Nowhere, Passes, is_byte}
 use Rattle.decimal_lines.specs.Lines.{onto_first}
 use Rattle.locnum_forms.specs.Forms.{FormData}
-use Rattle.locnum_lines.specs.Gathered.{AreWholeLines}
-use Rattle.locnum_lines.specs.LineRuns.{IsPartLine, lines_of, lines_ran, next_ran}
+use Rattle.locnum_lines.specs.Fields.{is_quoted}
+use Rattle.locnum_lines.specs.Gathered.{lines_of}
 use Rattle.locnum_lines.specs.Ran.{then_runs, writes}
+use Rattle.locnum_lines.specs.RecordRuns.{next_ran, open_ran, record_ran, records_ran}
+use Rattle.locnum_lines.specs.Records.{IsPart, IsPartLine, in_front, is_open, last_begun, lines_in, place_after, place_behind, records_from}
 use Rattle.locnum_lines.specs.Settings.{SettingsData}
 use Rattle.locnum_lines.proofs.Adding.{then_runs-assoc}
+use Rattle.locnum_lines.specs.declared.cutting.Place.{Place}
+use Rattle.locnum_lines.specs.declared.cutting.Place.TheVariants.{Front}
+use Rattle.locnum_lines.specs.declared.settings.Delimiter.{Delimiter}
 
 -- a byte is the byte that it is
 eqb_same : (n : ℕ) → eqb n n ≡ true
 eqb_same n = grind (arith, nat_tests)
 
+and_false : (b : Bool) → (b && false) ≡ false
+and_false true = refl
+and_false false = refl
+
+module _ (delimiter : Delimiter) (end : ℕ) where
+  -- a part of a record that is ended now
+  pub record-ended : (place : Place) (p rest : List ℕ) → IsPart delimiter end place p → is_quoted (place_behind delimiter place p) ≡ false →
+      records_from delimiter end place (p ++ end ∷ rest) ≡ p ∷ records_from delimiter end Front rest
+  unfolding records_from place_behind
+  record-ended place [] rest h closed = rw (eqb_same end, closed) refl
+  record-ended place (b ∷ bs) rest h closed = rw (h.0, record-ended (place_after delimiter place b) bs rest h.1 closed) refl
+
+  -- a last record that isn't ended
+  pub record-last : (place : Place) (b : ℕ) (bs : List ℕ) → IsPart delimiter end place (b ∷ bs) →
+      records_from delimiter end place (b ∷ bs) ≡ (b ∷ bs) ∷ []
+  unfolding records_from
+  record-last place b [] h = rw h.0 refl
+  record-last place b (c ∷ bs) h = rw h.0 (ap (onto_first b) (record-last (place_after delimiter place b) c bs h.1))
+
+  -- no byte, no record
+  pub no_records : (place : Place) → records_from delimiter end place [] ≡ []
+  unfolding records_from
+  no_records place = refl
+
+  -- the place behind some bytes and others
+  pub place_behind-append : (place : Place) (p q : List ℕ) →
+      place_behind delimiter place (p ++ q) ≡ place_behind delimiter (place_behind delimiter place p) q
+  unfolding place_behind
+  place_behind-append place [] q = refl
+  place_behind-append place (b ∷ p) q = place_behind-append (place_after delimiter place b) p q
+
+  -- the place behind one byte more
+  pub place_behind-more : (place : Place) (p : List ℕ) (b : ℕ) →
+      place_behind delimiter place (p ++ b ∷ []) ≡ place_after delimiter (place_behind delimiter place p) b
+  unfolding place_behind
+  place_behind-more place p b = place_behind-append place p (b ∷ [])
+
+  -- no byte leaves its place
+  pub place_behind-nothing : (place : Place) → place_behind delimiter place [] ≡ place
+  unfolding place_behind
+  place_behind-nothing place = refl
+
+  -- two parts of a record are one part
+  pub IsPart-append : (place : Place) (p q : List ℕ) → IsPart delimiter end place p → IsPart delimiter end (place_behind delimiter place p) q →
+      IsPart delimiter end place (p ++ q)
+  unfolding place_behind
+  IsPart-append place [] q h k = k
+  IsPart-append place (b ∷ p) q h k = (h.0, IsPart-append (place_after delimiter place b) p q h.1 k)
+
+  -- a part of a line ends no record
+  pub IsPart-line : (place : Place) (p : List ℕ) → IsPartLine end p → IsPart delimiter end place p
+  IsPart-line place [] h = tt
+  IsPart-line place (b ∷ p) h = (rw h.0 refl, IsPart-line (place_after delimiter place b) p h.1)
+
+  -- nor does the end of a line between quotes
+  pub IsPart-end : (place : Place) → is_quoted place ≡ true → IsPart delimiter end place (end ∷ [])
+  IsPart-end place quoted = (rw quoted (and_false (eqb end end)), tt)
+
 module _ (end : ℕ) where
-  -- a part of a line that is ended now
-  pub lines_of-ended : (p rest : List ℕ) → IsPartLine end p → lines_of end (p ++ end ∷ rest) ≡ p ∷ lines_of end rest
-  unfolding lines_of
-  lines_of-ended [] rest h = rw (eqb_same end) refl
-  lines_of-ended (b ∷ bs) rest h = rw (h.0, lines_of-ended bs rest h.1) refl
-
-  -- a last line that isn't ended
-  pub lines_of-last : (b : ℕ) (bs : List ℕ) → IsPartLine end (b ∷ bs) → lines_of end (b ∷ bs) ≡ (b ∷ bs) ∷ []
-  unfolding lines_of
-  lines_of-last b [] h = rw h.0 refl
-  lines_of-last b (c ∷ bs) h = rw h.0 (ap (onto_first b) (lines_of-last c bs h.1))
-
-  -- bytes that end in the end of a line have a line
-  has_line : (bs : List ℕ) → (l : List ℕ) × (ls : List (List ℕ)) × (lines_of end (bs ++ end ∷ []) ≡ l ∷ ls)
-  unfolding lines_of
-  has_line [] = ([], [], rw (eqb_same end) refl)
-  has_line (b ∷ bs) =
-      let h = has_line bs in
-      elim (eqb b end) as (λ t. (l : List ℕ) × (ls : List (List ℕ))
-      × (cond t ([] ∷ lines_of end (bs ++ end ∷ [])) (onto_first b (lines_of end (bs ++ end ∷ []))) ≡ l ∷ ls)) [
-        | true ↦ ([], lines_of end (bs ++ end ∷ []), refl)
-        | false ↦ (b ∷ h.0, h.1, ap (onto_first b) h.2)
-      ]
-
-  -- a byte put onto the first of some lines leaves those behind them
-  onto_first-append : (b : ℕ) (l : List ℕ) (ls ms ks : List (List ℕ)) → ks ≡ l ∷ ls → onto_first b (ks ++ ms) ≡ onto_first b ks ++ ms
-  onto_first-append b l ls ms ks e = rw e refl
-
-  -- what ends in the end of a line, and what follows it
-  ended-append : (f x : List ℕ) → lines_of end ((f ++ end ∷ []) ++ x) ≡ lines_of end (f ++ end ∷ []) ++ lines_of end x
-  unfolding lines_of
-  ended-append [] x = rw (eqb_same end) refl
-  ended-append (b ∷ bs) x =
-      let h = has_line bs in
-      elim (eqb b end) as (λ t. cond t ([] ∷ lines_of end ((bs ++ end ∷ []) ++ x)) (onto_first b (lines_of end ((bs ++ end ∷ []) ++ x)))
-      ≡ cond t ([] ∷ lines_of end (bs ++ end ∷ [])) (onto_first b (lines_of end (bs ++ end ∷ []))) ++ lines_of end x) [
-        | true ↦ ap (λ (k : List (List ℕ)). [] ∷ k) (ended-append bs x)
-        | false ↦ ap (onto_first b) (ended-append bs x) ∙ onto_first-append b h.0 h.1 (lines_of end x) (lines_of end (bs ++ end ∷ [])) h.2
-      ]
-
-  -- the lines of whole lines and of what follows them
-  pub lines_of-append : (w x : List ℕ) → AreWholeLines end w → lines_of end (w ++ x) ≡ lines_of end w ++ lines_of end x
-  unfolding lines_of
-  lines_of-append w x (inl e) = rw e refl
-  lines_of-append w x (inr (f, e)) = rw e (ended-append f x)
-
-  -- whole lines followed by whole lines are whole lines
-  pub AreWholeLines-append : (a b : List ℕ) → AreWholeLines end a → AreWholeLines end b → AreWholeLines end (a ++ b)
-  AreWholeLines-append a b h (inl e) = rw (e, append-nil a) h
-  AreWholeLines-append a b h (inr (f, e)) = inr (a ++ f, rw e (sym (append_assoc a f (end ∷ []))))
-
-  -- two parts of a line are one part
-  pub IsPartLine-append : (p q : List ℕ) → IsPartLine end p → IsPartLine end q → IsPartLine end (p ++ q)
-  IsPartLine-append [] q h k = k
-  IsPartLine-append (b ∷ p) q h k = (h.0, IsPartLine-append p q h.1 k)
-
   -- bytes of which none is the end of a line
   IsPartLine-at : (p : List ℕ) → ((k : ℕ) → k < length p → ¬ (eqb (get_or p k 0) end ≡ true)) → IsPartLine end p
   IsPartLine-at [] h = tt
@@ -105,29 +113,59 @@ module _ (end : ℕ) where
       whole ∙ ap (λ (l : List ℕ). take n hay ++ l) tail ∙ sym (append_assoc (take n hay) (end ∷ []) (drop (n + 1) hay))
       ∙ ap (λ (l : List ℕ). (take n hay ++ end ∷ []) ++ l) (ap (drop 1) (sym tail))
 
-module _ (settings : SettingsData) (form : FormData) where
-  -- lines and then others: those run too, unless the run has stopped
-  pub lines_ran-append : (ls ms : List (List ℕ)) (left : ℕ) →
-      lines_ran settings form left (ls ++ ms) ≡ then_runs (lines_ran settings form left ls) (lines_ran settings form (left - length ls) ms)
-  unfolding lines_ran
-  lines_ran-append [] ms left = let e : left - 0 ≡ left = omega arith in rw e refl
-  lines_ran-append (l ∷ ls) ms left =
-      let e : (left - 1) - length ls ≡ left - suc (length ls) = omega arith in
-      ap (then_runs (next_ran settings form left l)) (lines_ran-append ls ms (left - 1))
-      ∙ rw e (then_runs-assoc (next_ran settings form left l) (lines_ran settings form (left - 1) ls)
-      (lines_ran settings form (left - suc (length ls)) ms))
-
-  -- one line
-  pub lines_ran-one : (line : List ℕ) (left : ℕ) → lines_ran settings form left (line ∷ []) ≡ then_runs (next_ran settings form left line) (writes [])
-  unfolding lines_ran
-  lines_ran-one line left = refl
-
-  -- no line
-  pub lines_ran-none : (left : ℕ) → lines_ran settings form left [] ≡ writes []
-  unfolding lines_ran
-  lines_ran-none left = refl
-
--- no byte, no line
-pub lines_of-nothing : (end : ℕ) → lines_of end [] ≡ []
+-- the lines of some records and others
+pub lines_of-append : (end : ℕ) (ls ms : List (List ℕ)) → lines_of end (ls ++ ms) ≡ lines_of end ls + lines_of end ms
 unfolding lines_of
-lines_of-nothing end = refl
+lines_of-append end [] ms = omega arith
+lines_of-append end (l ∷ ls) ms = omega (arith, lines_of-append end ls ms)
+
+-- those of one
+pub lines_of-one : (end : ℕ) (line : List ℕ) → lines_of end (line ∷ []) ≡ lines_in end line
+unfolding lines_of
+lines_of-one end line = omega arith
+
+-- those of none
+pub lines_of-none : (end : ℕ) → lines_of end [] ≡ 0
+unfolding lines_of
+lines_of-none end = refl
+
+module _ (settings : SettingsData) (form : FormData) where
+  -- records and then others: those run too, unless the run has stopped
+  pub records_ran-append : (ls ms : List (List ℕ)) (left lines : ℕ) → records_ran settings form left lines (ls ++ ms)
+      ≡ then_runs (records_ran settings form left lines ls)
+      (records_ran settings form (left - length ls) (lines + lines_of settings.end ls) ms)
+  unfolding records_ran lines_of
+  records_ran-append [] ms left lines =
+      let e : left - 0 ≡ left = omega arith in
+      let f : lines + 0 ≡ lines = omega arith in
+      rw (e, f) refl
+  records_ran-append (l ∷ ls) ms left lines =
+      let e : (left - 1) - length ls ≡ left - suc (length ls) = omega arith in
+      let f : (lines + lines_in settings.end l) + lines_of settings.end ls ≡ lines + (lines_in settings.end l + lines_of settings.end ls) = omega arith in
+      ap (then_runs (record_ran settings form left lines l)) (records_ran-append ls ms (left - 1) (lines + lines_in settings.end l))
+      ∙ rw (e, f) (then_runs-assoc (record_ran settings form left lines l) (records_ran settings form (left - 1) (lines + lines_in settings.end l) ls)
+      (records_ran settings form (left - suc (length ls)) (lines + (lines_in settings.end l + lines_of settings.end ls)) ms))
+
+  -- one record
+  pub records_ran-one : (line : List ℕ) (left lines : ℕ) →
+      records_ran settings form left lines (line ∷ []) ≡ then_runs (record_ran settings form left lines line) (writes [])
+  unfolding records_ran
+  records_ran-one line left lines = refl
+
+  -- no record
+  pub records_ran-none : (left lines : ℕ) → records_ran settings form left lines [] ≡ writes []
+  unfolding records_ran
+  records_ran-none left lines = refl
+
+  -- a record whose quotes end
+  pub record_ran-closed : (left lines : ℕ) (line : List ℕ) → is_open settings.delimiter line ≡ false →
+      record_ran settings form left lines line ≡ next_ran settings form settings.end left line
+  unfolding record_ran
+  record_ran-closed left lines line closed = rw closed refl
+
+  -- and one whose quotes don't
+  pub record_ran-open : (left lines : ℕ) (line : List ℕ) → is_open settings.delimiter line ≡ true → record_ran settings form left lines line
+      ≡ open_ran settings form left (last_begun settings.delimiter settings.end Front (lines + 1) (lines + 1) line)
+      (in_front settings.delimiter Front line)
+  unfolding record_ran
+  record_ran-open left lines line open' = rw open' refl

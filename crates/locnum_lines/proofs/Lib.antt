@@ -1,4 +1,6 @@
 pub mod Cuts
+pub mod Quotes
+pub mod Places
 pub mod Adding
 pub mod Numbers
 pub mod Chosen

@@ -1,7 +1,7 @@
 -- What was written and told while a run goes on, and when it ends.
--- What was gathered goes to the writers block by block. `Went` says of a run so far that the writers hold what its whole lines
--- write and tell; each way out of the loop is a lemma on it. A run that stopped writes nothing more, whatever is left to read.
-use Rattle.std.proofs.Common.{◌≡◌, ℕ, ◌-◌, Bool, true, false, List, [], ◌∷◌, ◌++◌, length, Option, Some, None, eqb}
+-- What was gathered goes to the writers block by block. `Went` says of a run so far that the writers hold what its whole
+-- records write and tell; each way out of the loop is a lemma on it. A run that stopped writes nothing more, whatever is left to read.
+use Rattle.std.proofs.Common.{◌≡◌, ℕ, ◌+◌, ◌-◌, Bool, true, false, List, [], ◌∷◌, ◌++◌, length, Option, Some, None, eqb}
 use Rattle.std.proofs.Common.{refl, sym, ap, ◌∙◌, append_assoc, arith}
 use Rattle.std.specs.Prelude.{IfSome, ◌||◌, OnErr, Result, Ok, Err}
 use Rattle.std.specs.Io.KnownBytes.{Appends, Consumes, IsAtEnd}
@@ -10,23 +10,21 @@ use Rattle.std.proofs.lemmas.List.{append-nil}
 use Rattle.decimal_lines.specs.Written.{AppendsBeginning}
 use Rattle.decimal_lines.proofs.Known.{Appends-nothing, Appends-then, AppendsBeginning-more, AppendsBeginning-then}
 use Rattle.locnum_forms.specs.Forms.{FormData}
-use Rattle.locnum_lines.specs.Gathered.{Adds, Feeds, GatheredData}
-use Rattle.locnum_lines.specs.LineRuns.{IsPartLine, input_ran, lines_of, lines_ran, next_ran}
+use Rattle.locnum_lines.specs.Gathered.{Adds, Feeds, GatheredData, lines_of}
 use Rattle.locnum_lines.specs.Ran.{Ran, joined, then_runs, writes}
+use Rattle.locnum_lines.specs.RecordRuns.{input_ran, record_ran, records_ran}
+use Rattle.locnum_lines.specs.Records.{IsPart, records_of}
 use Rattle.locnum_lines.specs.Reported.{Begins, Ends, Finishes}
 use Rattle.locnum_lines.specs.Settings.{SettingsData}
+use Rattle.locnum_lines.specs.declared.cutting.Place.TheVariants.{Front}
 use Rattle.locnum_lines.specs.declared.running.Report.{Report}
 use Rattle.locnum_lines.proofs.Adding.{Adds-end, then_runs-on, then_runs-stopped}
 use Rattle.locnum_lines.proofs.Fed.{Feeds-nothing, Feeds-then}
-use Rattle.locnum_lines.proofs.Feeding.{lines_of-append, lines_of-last, lines_of-nothing, lines_ran-append, lines_ran-none, lines_ran-one}
+use Rattle.locnum_lines.proofs.Feeding.{no_records, record-last, records_ran-append, records_ran-none, records_ran-one}
 
 -- all of a text is a beginning of it
 whole_appended : (a b : Option (List ℕ)) (x : List ℕ) → Appends a b x → AppendsBeginning a b x
 whole_appended a b x p = (x, p, ([], sym (append-nil x)))
-
--- where nothing was there before, what is there now was added
-pub only_added : (new old added : List ℕ) → new ≡ old ++ added → old ≡ [] → new ≡ added
-only_added new old added e none = e ∙ ap (λ (k : List ℕ). k ++ added) none
 
 -- a result that may be an error
 pub any_err : {X E : Type 0} {P : Type 0} (r : Result X E) → P → OnErr r P
@@ -47,22 +45,25 @@ begins-then a b w w2 n n2 p q = go a.is_stopped refl
 
 module _ (settings : SettingsData) (form : FormData) where
   -- nothing is held back
-  pub held-none : (held : List ℕ) (left : ℕ) → (eqb (length held) 0 ≡ true) → lines_ran settings form left (lines_of settings.end held) ≡ writes []
-  held-none [] left e = rw (lines_of-nothing settings.end) (lines_ran-none settings form left)
-  held-none (b ∷ held) left e = absurd (omega (arith, eqb-true (length (b ∷ held)) 0 e))
+  pub held-none : (held : List ℕ) (left lines : ℕ) → (eqb (length held) 0 ≡ true) →
+      records_ran settings form left lines (records_of settings.delimiter settings.end held) ≡ writes []
+  held-none [] left lines e = rw (no_records settings.delimiter settings.end Front) (records_ran-none settings form left lines)
+  held-none (b ∷ held) left lines e = absurd (omega (arith, eqb-true (length (b ∷ held)) 0 e))
 
-  -- part of a line is
-  pub held-ran : (held : List ℕ) (old new : GatheredData) → (eqb (length held) 0 ≡ false) → IsPartLine settings.end held →
-      Adds old new (next_ran settings form old.header held) 1 → Adds old new (lines_ran settings form old.header (lines_of settings.end held)) 1
-  held-ran [] old new e part adds = absurd cc
-  held-ran (b ∷ held) old new e part adds =
-      rw (lines_of-last settings.end b held part, lines_ran-one settings form (b ∷ held) old.header)
-      (Adds-end old new (next_ran settings form old.header (b ∷ held)) 1 adds)
+  -- part of a record is
+  pub held-ran : (held : List ℕ) (old new : GatheredData) (lines : ℕ) → (eqb (length held) 0 ≡ false) →
+      IsPart settings.delimiter settings.end Front held → Adds old new (record_ran settings form old.header old.lines held) 1 lines →
+      Adds old new (records_ran settings form old.header old.lines (records_of settings.delimiter settings.end held)) 1 lines
+  held-ran [] old new lines e part adds = absurd cc
+  held-ran (b ∷ held) old new lines e part adds =
+      rw (record-last settings.delimiter settings.end Front b held part, records_ran-one settings form (b ∷ held) old.header old.lines)
+      (Adds-end old new (record_ran settings form old.header old.lines (b ∷ held)) 1 lines adds)
 
   -- gathered behind what was written before
   Feeds-shift : (old new : GatheredData) (p a p1 x y : List ℕ) → old.output ≡ [] → old.notes ≡ [] → Feeds settings form old new p a p1 →
       Feeds settings form (record old { output = x; notes = y }) (record new { output = x ++ new.output; notes = y ++ new.notes }) p a p1
   Feeds-shift old new p a p1 x y none none' f = record {
+    records = f.records;
     whole = f.whole;
     left = f.left;
     are_whole = f.are_whole;
@@ -73,19 +74,20 @@ module _ (settings : SettingsData) (form : FormData) where
       is_refused = f.adds.is_refused;
       is_stopped = f.adds.is_stopped;
       header = f.adds.header;
+      lines = f.adds.lines;
     };
     is_held = f.is_held;
     is_part = f.is_part;
   }
     where
       ran : Ran
-      ran = lines_ran settings form old.header (lines_of settings.end f.whole)
+      ran = records_ran settings form old.header old.lines f.records
 
 -- before anything was read
 abbrev pub start : SettingsData → GatheredData
-start settings = record { output = []; notes = []; is_refused = false; is_stopped = false; header = settings.header }
+start settings = record { output = []; notes = []; is_refused = false; is_stopped = false; header = settings.header; lines = 0 }
 
--- the writers hold what the whole lines of what was read write and tell, and nothing is gathered besides
+-- the writers hold what the whole records of what was read write and tell, and nothing is gathered besides
 pub record Went (settings : SettingsData) (form : FormData) (w w' n n' : Option (List ℕ)) (now : GatheredData) (got held : List ℕ) : Type 0 where
   pub output : List ℕ
   pub notes : List ℕ
@@ -96,15 +98,16 @@ pub record Went (settings : SettingsData) (form : FormData) (w w' n n' : Option 
 -- of an input that begins with bytes that were fed this much was run
 fed-begins : (settings : SettingsData) (form : FormData) (now : GatheredData) (got held : List ℕ)
     (f : Feeds settings form (start settings) now [] got held) (rest : List ℕ) →
-    input_ran settings form (got ++ rest) ≡ then_runs (lines_ran settings form settings.header (lines_of settings.end f.whole))
-    (lines_ran settings form (settings.header - length (lines_of settings.end f.whole)) (lines_of settings.end (f.left ++ rest)))
+    input_ran settings form (got ++ rest) ≡ then_runs (records_ran settings form settings.header 0 f.records)
+    (records_ran settings form (settings.header - length f.records) (0 + lines_of settings.end f.records)
+    (records_of settings.delimiter settings.end (f.left ++ rest)))
 unfolding input_ran
 fed-begins settings form now got held f rest =
     let parts : got ++ rest ≡ f.whole ++ (f.left ++ rest) =
     ap (λ (k : List ℕ). k ++ rest) f.parts ∙ append_assoc f.whole f.left rest in
-    ap (λ (k : List ℕ). lines_ran settings form settings.header (lines_of settings.end k)) parts
-    ∙ ap (lines_ran settings form settings.header) (lines_of-append settings.end f.whole (f.left ++ rest) f.are_whole)
-    ∙ lines_ran-append settings form (lines_of settings.end f.whole) (lines_of settings.end (f.left ++ rest)) settings.header
+    ap (λ (k : List ℕ). records_ran settings form settings.header 0 (records_of settings.delimiter settings.end k)) parts
+    ∙ ap (records_ran settings form settings.header 0) (f.are_whole (f.left ++ rest))
+    ∙ records_ran-append settings form f.records (records_of settings.delimiter settings.end (f.left ++ rest)) settings.header 0
 
 module _ (settings : SettingsData) (form : FormData) (w n : Option (List ℕ)) where
   -- nothing was read
@@ -134,18 +137,22 @@ module _ (settings : SettingsData) (form : FormData) (w n : Option (List ℕ)) w
 
   module _ (w1 n1 : Option (List ℕ)) (now : GatheredData) (got held : List ℕ) (went : Went settings form w w1 n n1 now got held) where
     abbrev first : Ran
-    first = lines_ran settings form settings.header (lines_of settings.end went.feeds.whole)
+    first = records_ran settings form settings.header 0 went.feeds.records
+
+    abbrev later : List ℕ → Ran
+    later rest = records_ran settings form (settings.header - length went.feeds.records) (0 + lines_of settings.end went.feeds.records)
+        (records_of settings.delimiter settings.end (went.feeds.left ++ rest))
 
     -- of an input that begins with what was read, this much was run
     begins : (rest : List ℕ) → input_ran settings form (got ++ rest) ≡ then_runs first
-        (lines_ran settings form (settings.header - length (lines_of settings.end went.feeds.whole)) (lines_of settings.end (went.feeds.left ++ rest)))
+        (later rest)
     begins rest = fed-begins settings form (record now { output = went.output; notes = went.notes }) got held went.feeds rest
 
     -- a beginning was written and told
     begun : (rest : List ℕ) → Begins (input_ran settings form (got ++ rest)) w w1 n n1
     begun rest =
         rw (begins rest) (begins-then first
-        (lines_ran settings form (settings.header - length (lines_of settings.end went.feeds.whole)) (lines_of settings.end (went.feeds.left ++ rest)))
+        (later rest)
         w w1 n n1 (rw went.feeds.adds.output at (whole_appended w w1 went.output went.written))
         (rw went.feeds.adds.notes at (whole_appended n n1 went.notes went.told)))
 
@@ -166,8 +173,7 @@ module _ (settings : SettingsData) (form : FormData) (w n : Option (List ℕ)) w
         rw (
           p,
           begins rest,
-          then_runs-stopped first (lines_ran settings form (settings.header - length (lines_of settings.end went.feeds.whole))
-              (lines_of settings.end (went.feeds.left ++ rest))) stopped,
+          then_runs-stopped first (later rest) stopped,
         ) (record {
           written = rw went.feeds.adds.output at went.written;
           told = rw went.feeds.adds.notes at went.told;
@@ -178,19 +184,17 @@ module _ (settings : SettingsData) (form : FormData) (w n : Option (List ℕ)) w
 
     module _ (on : now.is_stopped ≡ false) where
       abbrev last : Ran
-      last = lines_ran settings form now.header (lines_of settings.end held)
+      last = records_ran settings form now.header now.lines (records_of settings.delimiter settings.end held)
 
       -- of an input that was read to its end this is all
       all : input_ran settings form got ≡ joined first last
       all =
           let going : first.is_stopped ≡ false = sym went.feeds.adds.is_stopped ∙ on in
-          let count = length (lines_of settings.end went.feeds.whole) in
-          let header : now.header ≡ settings.header - count = went.feeds.adds.header on in
+          let header : now.header ≡ settings.header - length went.feeds.records = went.feeds.adds.header on in
+          let lines : now.lines ≡ 0 + lines_of settings.end went.feeds.records = went.feeds.adds.lines on in
           let left : went.feeds.left ++ [] ≡ held = append-nil went.feeds.left ∙ sym (went.feeds.is_held on) in
-          ap (input_ran settings form) (sym (append-nil got)) ∙ begins []
-          ∙ then_runs-on first (lines_ran settings form (settings.header - count) (lines_of settings.end (went.feeds.left ++ []))) going
-          ∙ ap (λ k. joined first (lines_ran settings form k (lines_of settings.end (went.feeds.left ++ [])))) (sym header)
-          ∙ ap (λ (k : List ℕ). joined first (lines_ran settings form now.header (lines_of settings.end k))) left
+          ap (input_ran settings form) (sym (append-nil got)) ∙ begins [] ∙ then_runs-on first (later []) going
+          ∙ rw (header, lines, left) refl
 
       -- at the end of the input what was held back is run
       pub ends : (r r' w2 n2 : Option (List ℕ)) (report : Report) → Consumes r r' got → IsAtEnd r' →
@@ -233,7 +237,8 @@ module _ (settings : SettingsData) (form : FormData) (w n : Option (List ℕ)) w
       Feeds-then settings form (start settings) (record now { output = went.output; notes = went.notes }) so_far [] got held chunk held' on
       went.feeds (Feeds-shift settings form now next held chunk held' went.output went.notes none none' f) in
       rw (p, fed-begins settings form so_far (got ++ chunk) held' fed rest)
-      (begins-then (lines_ran settings form settings.header (lines_of settings.end fed.whole))
-      (lines_ran settings form (settings.header - length (lines_of settings.end fed.whole)) (lines_of settings.end (fed.left ++ rest))) w w2 n n2
+      (begins-then (records_ran settings form settings.header 0 fed.records)
+      (records_ran settings form (settings.header - length fed.records) (0 + lines_of settings.end fed.records)
+      (records_of settings.delimiter settings.end (fed.left ++ rest))) w w2 n n2
       (rw fed.adds.output at (AppendsBeginning-then w w1 w2 went.output next.output went.written a))
       (rw fed.adds.notes at (AppendsBeginning-then n n1 n2 went.notes next.notes went.told b')))

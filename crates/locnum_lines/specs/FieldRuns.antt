@@ -1,15 +1,19 @@
--- What is written for the fields of a line.
-use Rattle.std.specs.Prelude.{ℕ, suc, ◌||◌, ◌==◌, true, false, nat_lt, List, [], ◌∷◌, ◌++◌, map, Option, Some, None, Result, Ok, Err, codes}
-use Rattle.std.specs.Prelude.{if◌then◌else◌}
+-- What is written for the fields of a record.
+use Rattle.std.specs.Prelude.{ℕ, suc, ◌||◌, ◌==◌, true, false, nat_lt, List, [], ◌∷◌, ◌++◌, drop, map, take, Option, Some, None}
+use Rattle.std.specs.Prelude.{Result, Ok, Err, codes, if◌then◌else◌}
 use Rattle.writeable.specs.Events.{Event, text_of}
 use Rattle.decimal_lines.specs.declared.alone.TextError.{TextError}
 use Rattle.decimal_lines.specs.declared.alone.TextError.TheVariants.{NotDecimal, TooManyDigits, Overflow, OutOfMemory}
 use Rattle.locnum_forms.specs.Forms.{FormData, form_events}
+use Rattle.locnum_lines.specs.Csv.{as_field, content_from, core_length, is_in_quotes}
 use Rattle.locnum_lines.specs.Fields.{Cut, Field, cut}
 use Rattle.locnum_lines.specs.Padding.{padded}
 use Rattle.locnum_lines.specs.Ran.{Ran, joined, then_runs, writes}
 use Rattle.locnum_lines.specs.Settings.{SettingsData, is_chosen}
+use Rattle.locnum_lines.specs.declared.cutting.Place.TheVariants.{Front}
 use Rattle.locnum_lines.specs.declared.padding.Padding.{Padding}
+use Rattle.locnum_lines.specs.declared.settings.Delimiter.{Delimiter}
+use Rattle.locnum_lines.specs.declared.settings.Delimiter.TheVariants.{Blanks, Byte, Csv}
 use Rattle.locnum_lines.specs.declared.settings.Refusals.{Refusals}
 use Rattle.locnum_lines.specs.declared.settings.Refusals.TheVariants.{Abort, Fail, Warn, Ignore}
 
@@ -51,10 +55,37 @@ shown_ran settings field (Err error) = joined (writes field.before) (refused_ran
 unfoldable pub chosen_ran : SettingsData → FormData → Cut → Ran
 chosen_ran settings form field = shown_ran settings field (form_events form field.number)
 
+-- a field of CSV whose number is refused: it goes through as its own bytes, or the run stops in front of it
+abbrev pub refused_field : Refusals → List ℕ → List ℕ → TextError → Ran
+refused_field Abort number text error = record { output = []; notes = note number error; is_refused = true; is_stopped = true }
+refused_field Fail number text error = record { output = text; notes = note number error; is_refused = true; is_stopped = false }
+refused_field Warn number text error = record { output = text; notes = note number error; is_refused = true; is_stopped = false }
+refused_field Ignore number text error = record { output = text; notes = []; is_refused = true; is_stopped = false }
+
+-- a field of CSV by what the number of its content is shown as: that is written as a field, in front of a carriage return at
+-- the field's end
+abbrev pub csv_shown_ran : SettingsData → ℕ → List ℕ → Cut → Result (List Event) TextError → Ran
+csv_shown_ran settings delimiter text field (Ok events) =
+    writes (as_field delimiter settings.end (is_in_quotes text)
+    ((blanks_kept settings.padding field.before ++ padded settings.padding (text_of events)) ++ field.behind)
+    ++ drop (core_length text) text)
+csv_shown_ran settings delimiter text field (Err error) = refused_field settings.refusals field.number text error
+
+-- a field of CSV that is chosen, by the parts of its content
+unfoldable pub csv_cut_ran : SettingsData → FormData → ℕ → List ℕ → Cut → Ran
+csv_cut_ran settings form delimiter text field = csv_shown_ran settings delimiter text field (form_events form field.number)
+
+-- a field that is chosen, by what ends it
+abbrev pub picked_ran : SettingsData → FormData → Delimiter → List ℕ → Ran
+picked_ran settings form Blanks text = chosen_ran settings form (cut text)
+picked_ran settings form (Byte delimiter) text = chosen_ran settings form (cut text)
+picked_ran settings form (Csv delimiter) text =
+    csv_cut_ran settings form delimiter text (cut (content_from Front (take (core_length text) text)))
+
 -- a field of this number: its number is written, or it goes through as it is
 unfoldable pub field_ran : SettingsData → FormData → ℕ → List ℕ → Ran
 field_ran settings form index text =
-    if is_chosen settings.fields index then chosen_ran settings form (cut text) else writes text
+    if is_chosen settings.fields index then picked_ran settings form settings.delimiter text else writes text
 
 -- fields from this number on, each with the byte behind it
 unfoldable pub fields_ran : SettingsData → FormData → ℕ → List Field → Ran

@@ -1,6 +1,9 @@
--- The fields of a line, and the number in a field.
-use Rattle.std.specs.Prelude.{ℕ, zero, suc, Bool, false, ◌&&◌, ◌||◌, not, ◌==◌, List, [], ◌∷◌, take, drop, Option, Some}
-use Rattle.std.specs.Prelude.{None, if◌then◌else◌}
+-- The fields of a record, and the number in a field.
+use Rattle.std.specs.Prelude.{ℕ, zero, suc, Bool, true, false, ◌&&◌, ◌||◌, not, ◌==◌, List, [], ◌∷◌, take, drop, if◌then◌else◌}
+use Rattle.locnum_lines.specs.declared.cutting.Place.{Place}
+use Rattle.locnum_lines.specs.declared.cutting.Place.TheVariants.{Front, Plain, Quoted, AfterQuote}
+use Rattle.locnum_lines.specs.declared.settings.Delimiter.{Delimiter}
+use Rattle.locnum_lines.specs.declared.settings.Delimiter.TheVariants.{Blanks, Byte, Csv}
 
 -- a space or a tab
 abbrev pub is_blank : ℕ → Bool
@@ -10,19 +13,48 @@ is_blank b = b == 32 || b == 9
 abbrev pub is_blank_behind : ℕ → Bool
 is_blank_behind b = b == 32 || b == 9 || b == 13
 
--- whether a byte ends a field, in which there was a word before it or not: the delimiter, or without one a blank behind a word
-abbrev pub ends_field : Option ℕ → Bool → ℕ → Bool
-ends_field (Some delimiter) had_word b = b == delimiter
-ends_field None had_word b = had_word && is_blank b
+-- in a field, outside of quotes
+abbrev pub is_plain : Place → Bool
+is_plain Front = false
+is_plain Plain = true
+is_plain Quoted = false
+is_plain AfterQuote = false
 
--- how many bytes of a line its first field has, in which there was a word before them or not
-unfoldable pub field_length : Option ℕ → Bool → List ℕ → ℕ
-field_length delimiter had_word [] = 0
-field_length delimiter had_word (b ∷ bs) =
-    if ends_field delimiter had_word b then 0
-    else suc (field_length delimiter (had_word || not (is_blank b)) bs)
+-- between quotes
+abbrev pub is_quoted : Place → Bool
+is_quoted Front = false
+is_quoted Plain = false
+is_quoted Quoted = true
+is_quoted AfterQuote = false
 
--- one field of a line, and the byte that ends it, if one does
+-- whether a byte at this place ends its field: without a delimiter a blank behind a word; in CSV the delimiter unless it
+-- is between quotes
+abbrev pub ends_field : Delimiter → Place → ℕ → Bool
+ends_field Blanks place b = is_plain place && is_blank b
+ends_field (Byte delimiter) place b = b == delimiter
+ends_field (Csv delimiter) place b = not (is_quoted place) && b == delimiter
+
+-- the place behind a byte of a field of CSV: a quote in front of all begins quotes, and a quote between quotes ends them
+-- unless another follows; any other stands for itself
+abbrev pub csv_place : Place → ℕ → Place
+csv_place Front b = if b == 34 then Quoted else Plain
+csv_place Plain b = Plain
+csv_place Quoted b = if b == 34 then AfterQuote else Quoted
+csv_place AfterQuote b = if b == 34 then Quoted else Plain
+
+-- the place behind a byte that its field goes on with
+abbrev pub next_place : Delimiter → Place → ℕ → Place
+next_place Blanks place b = if is_blank b then place else Plain
+next_place (Byte delimiter) place b = Plain
+next_place (Csv delimiter) place b = csv_place place b
+
+-- how many bytes the first field has, from this place in it on
+unfoldable pub field_length : Delimiter → Place → List ℕ → ℕ
+field_length delimiter place [] = 0
+field_length delimiter place (b ∷ bs) =
+    if ends_field delimiter place b then 0 else suc (field_length delimiter (next_place delimiter place b) bs)
+
+-- one field of a record, and the byte that ends it, if one does
 pub record Field : Type 0 where
   pub text : List ℕ
   pub behind : List ℕ
@@ -32,12 +64,12 @@ abbrev pub onto_field : ℕ → List Field → List Field
 onto_field b [] = record { text = b ∷ []; behind = [] } ∷ []
 onto_field b (field ∷ fields) = record { text = b ∷ field.text; behind = field.behind } ∷ fields
 
--- the fields of the rest of a line, in whose first there was a word before or not
-unfoldable pub fields_from : Option ℕ → Bool → List ℕ → List Field
-fields_from delimiter had_word [] = record { text = []; behind = [] } ∷ []
-fields_from delimiter had_word (b ∷ bs) =
-    if ends_field delimiter had_word b then record { text = []; behind = b ∷ [] } ∷ fields_from delimiter false bs
-    else onto_field b (fields_from delimiter (had_word || not (is_blank b)) bs)
+-- the fields of the rest of a record, from this place in the first of them on
+unfoldable pub fields_from : Delimiter → Place → List ℕ → List Field
+fields_from delimiter place [] = record { text = []; behind = [] } ∷ []
+fields_from delimiter place (b ∷ bs) =
+    if ends_field delimiter place b then record { text = []; behind = b ∷ [] } ∷ fields_from delimiter Front bs
+    else onto_field b (fields_from delimiter (next_place delimiter place b) bs)
 
 -- how many blanks are in front of a text
 unfoldable pub blanks_before : List ℕ → ℕ

@@ -1,8 +1,10 @@
 pub mod Padding
 pub mod Settings
 pub mod Fields
+pub mod Csv
+pub mod Records
 pub mod Ran
 pub mod FieldRuns
-pub mod LineRuns
+pub mod RecordRuns
 pub mod Gathered
 pub mod Reported

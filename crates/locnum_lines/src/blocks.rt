@@ -1,18 +1,22 @@
-//! Lines cut out of blocks of input.
+//! Records cut out of blocks of input.
 
 ghost use Rattle.std.specs.Prelude.{◌≡◌, ◌++◌, ◌∷◌, [], OnOk, false};
-ghost use Rattle.locnum_lines.specs.Gathered.{Feeds};
-ghost use Rattle.locnum_lines.specs.LineRuns.{IsPartLine};
+ghost use Rattle.locnum_lines.specs.Gathered.{Adds, Feeds};
+ghost use Rattle.locnum_lines.specs.RecordRuns.{record_ran};
+ghost use Rattle.locnum_lines.specs.Records.{IsPart, IsPartLine, is_open, lines_in, place_behind};
+ghost use Rattle.locnum_lines.specs.declared.cutting.Place.TheVariants.{Front};
 
+use crate::cutting::{Place, is_quoted};
 use crate::gathered::Gathered;
-use crate::line::push_line;
+use crate::line::push_record;
+use crate::records::{place_after, place_behind};
 use crate::settings::LineSettings;
 use locnum_forms::Form;
 use memchr::memchr;
 use std::alloc::{AllocError, Global};
 
-/// Ends a line whose first bytes may have been held back.
-fn end_line(
+/// Runs a record whose first bytes may have been held back.
+fn end_record(
     alloc: Global,
     settings: &LineSettings,
     form: &Form,
@@ -21,21 +25,54 @@ fn end_line(
     gathered: &mut Gathered,
 ) -> Result<(), AllocError>
     requires going { gathered.old.is_stopped ≡ false }
-    requires held_part { IsPartLine settings.now.end held.old.items }
-    requires rest_part { IsPartLine settings.now.end rest.now }
-    ensures { OnOk result (Feeds settings.now form.now gathered.old gathered.new
-        held.old.items (rest.now ++ settings.now.end ∷ []) held.new.items) }
+    requires closed { is_open settings.now.delimiter (held.old.items ++ rest.now) ≡ false }
+    ensures ran { OnOk result (Adds gathered.old gathered.new
+        (record_ran settings.now form.now gathered.old.header gathered.old.lines
+        (held.old.items ++ rest.now))
+        1 (lines_in settings.now.end (held.old.items ++ rest.now))) }
+    ensures none_held { OnOk result (held.new.items ≡ []) }
 {
     if held.is_empty() {
-        return push_line(alloc, settings, form, rest, gathered);
+        return push_record(alloc, settings, form, rest, gathered);
     }
     held.extend_from_slice(rest)?;
-    push_line(alloc, settings, form, held, gathered)?;
+    push_record(alloc, settings, form, held, gathered)?;
     held.clear();
     Ok(())
 }
 
-/// Cuts a block into lines: what each whole one writes is gathered, and the rest is held back,
+/// Ends a line whose record may have bytes that were held back, behind which this place is: the record
+/// ends, too, unless the line ends between quotes.
+fn end_line(
+    alloc: Global,
+    settings: &LineSettings,
+    form: &Form,
+    rest: &[u8],
+    held: &mut Vec<u8>,
+    place: &mut Place,
+    gathered: &mut Gathered,
+) -> Result<(), AllocError>
+    requires going { gathered.old.is_stopped ≡ false }
+    requires held_part { IsPart settings.now.delimiter settings.now.end Front held.old.items }
+    requires place_is { place.old ≡ place_behind settings.now.delimiter Front held.old.items }
+    requires rest_part { IsPartLine settings.now.end rest.now }
+    ensures feeds { OnOk result (Feeds settings.now form.now gathered.old gathered.new
+        held.old.items (rest.now ++ settings.now.end ∷ []) held.new.items) }
+    ensures place { OnOk result
+        (place.new ≡ place_behind settings.now.delimiter Front held.new.items) }
+{
+    *place = place_behind(settings.delimiter, *place, rest);
+    if is_quoted(*place) {
+        *place = place_after(settings.delimiter, *place, settings.end);
+        held.extend_from_slice(rest)?;
+        held.push(settings.end)?;
+        return Ok(());
+    }
+    *place = Place::Front;
+    end_record(alloc, settings, form, rest, held, gathered)
+}
+
+/// Cuts a block into records: what each whole one writes is gathered, and the rest is held back,
 /// unless the run stops.
 pub(crate) fn take_block(
     alloc: Global,
@@ -43,22 +80,27 @@ pub(crate) fn take_block(
     form: &Form,
     block: &[u8],
     held: &mut Vec<u8>,
+    place: &mut Place,
     gathered: &mut Gathered,
 ) -> Result<(), AllocError>
     requires going { gathered.old.is_stopped ≡ false }
-    requires held_part { IsPartLine settings.now.end held.old.items }
-    ensures { OnOk result (Feeds settings.now form.now gathered.old gathered.new
+    requires held_part { IsPart settings.now.delimiter settings.now.end Front held.old.items }
+    requires place_is { place.old ≡ place_behind settings.now.delimiter Front held.old.items }
+    ensures feeds { OnOk result (Feeds settings.now form.now gathered.old gathered.new
         held.old.items block.now held.new.items) }
+    ensures place { OnOk result (gathered.new.is_stopped ≡ false
+        → place.new ≡ place_behind settings.now.delimiter Front held.new.items) }
 {
     let mut rest = block;
     while let Some(n) = memchr(settings.end, rest) {
         let (line, after) = rest.split_at(n);
-        end_line(alloc, settings, form, line, held, gathered)?;
+        end_line(alloc, settings, form, line, held, place, gathered)?;
         if gathered.is_stopped {
             return Ok(());
         }
         rest = after.split_at(1).1;
     }
+    *place = place_behind(settings.delimiter, *place, rest);
     held.extend_from_slice(rest)?;
     Ok(())
 }

@@ -1,7 +1,23 @@
 //! Where fields end, and what of them is a number.
 
-ghost use Rattle.std.specs.Prelude.{◌≡◌, false};
-ghost use Rattle.locnum_lines.specs.Fields.{blanks_before, content_length, ends_field, field_length, is_blank, is_blank_behind};
+ghost use Rattle.std.specs.Prelude.{◌≡◌};
+ghost use Rattle.locnum_lines.specs.Fields.{blanks_before, content_length, csv_place, ends_field, field_length, is_blank, is_blank_behind, is_plain, is_quoted, next_place};
+ghost use Rattle.locnum_lines.specs.declared.cutting.Place.TheVariants.{Front};
+
+use crate::settings::Delimiter;
+
+/// Where in a field a byte stands, by the bytes in front of it.
+#[derive(Clone, Copy, Debug, PartialEq, Eq)]
+pub(crate) enum Place {
+    /// In front of all of it but blanks.
+    Front,
+    /// In it, outside of quotes.
+    Plain,
+    /// Between its quotes.
+    Quoted,
+    /// Behind a quote between its quotes, which ends them unless another follows.
+    AfterQuote,
+}
 
 /// Whether a byte is a space or a tab.
 fn is_blank(byte: u8) -> bool
@@ -17,24 +33,80 @@ fn is_blank_behind(byte: u8) -> bool
     byte == b' ' || byte == b'\t' || byte == b'\r'
 }
 
-/// Whether a byte ends a field in which there was a word before it, or not.
-fn ends_field(delimiter: Option<u8>, had_word: bool, byte: u8) -> bool
-    ensures { result ≡ ends_field delimiter had_word byte }
+/// Whether a place is in a field, outside of quotes.
+fn is_plain(place: Place) -> bool
+    ensures { result ≡ is_plain place }
 {
-    match delimiter {
-        Some(delimiter) => byte == delimiter,
-        None => had_word && is_blank(byte),
+    match place {
+        Place::Plain => true,
+        Place::Front | Place::Quoted | Place::AfterQuote => false,
     }
 }
 
-/// How long the first field of a line is.
-pub(crate) fn field_length(delimiter: Option<u8>, line: &[u8]) -> usize
-    ensures { result ≡ field_length delimiter false line.now }
+/// Whether a place is between quotes.
+pub(crate) fn is_quoted(place: Place) -> bool
+    ensures { result ≡ is_quoted place }
 {
-    let mut had_word = false;
+    match place {
+        Place::Quoted => true,
+        Place::Front | Place::Plain | Place::AfterQuote => false,
+    }
+}
+
+/// Whether a byte at this place ends its field.
+pub(crate) fn ends_field(delimiter: Delimiter, place: Place, byte: u8) -> bool
+    ensures { result ≡ ends_field delimiter place byte }
+{
+    match delimiter {
+        Delimiter::Blanks => is_plain(place) && is_blank(byte),
+        Delimiter::Byte(delimiter) => byte == delimiter,
+        Delimiter::Csv(delimiter) => !is_quoted(place) && byte == delimiter,
+    }
+}
+
+/// The place behind a byte of a field of CSV.
+pub(crate) fn csv_place(place: Place, byte: u8) -> Place
+    ensures { result ≡ csv_place place byte }
+{
+    match place {
+        Place::Front => if byte == b'"' {
+            Place::Quoted
+        } else {
+            Place::Plain
+        },
+        Place::Plain => Place::Plain,
+        Place::Quoted => if byte == b'"' {
+            Place::AfterQuote
+        } else {
+            Place::Quoted
+        },
+        Place::AfterQuote => if byte == b'"' {
+            Place::Quoted
+        } else {
+            Place::Plain
+        },
+    }
+}
+
+/// The place behind a byte that its field goes on with.
+fn next_place(delimiter: Delimiter, place: Place, byte: u8) -> Place
+    ensures { result ≡ next_place delimiter place byte }
+{
+    match delimiter {
+        Delimiter::Blanks => if is_blank(byte) { place } else { Place::Plain },
+        Delimiter::Byte(_) => Place::Plain,
+        Delimiter::Csv(_) => csv_place(place, byte),
+    }
+}
+
+/// How long the first field of a record is.
+pub(crate) fn field_length(delimiter: Delimiter, line: &[u8]) -> usize
+    ensures { result ≡ field_length delimiter Front line.now }
+{
+    let mut place = Place::Front;
     let mut length = 0;
-    while length < line.len() && !ends_field(delimiter, had_word, line[length]) {
-        had_word = had_word || !is_blank(line[length]);
+    while length < line.len() && !ends_field(delimiter, place, line[length]) {
+        place = next_place(delimiter, place, line[length]);
         length += 1;
     }
     length

@@ -4,6 +4,7 @@ ghost use Rattle.std.specs.Prelude.{◌≡◌, [], false};
 ghost use Rattle.locnum_lines.specs.Gathered.{Adds, GatheredData};
 ghost use Rattle.locnum_lines.specs.Ran.{writes};
 
+use crate::csv::{push_quoted, wants_quotes};
 use crate::padding::{Alignment, Padding, columns_of};
 use std::alloc::{AllocError, Global};
 use std::marker::Model;
@@ -16,6 +17,7 @@ pub(crate) struct Gathered {
     pub(crate) is_refused: bool,
     pub(crate) is_stopped: bool,
     pub(crate) header: u64,
+    pub(crate) lines: u64,
 }
 
 impl Model for Gathered {
@@ -29,14 +31,16 @@ impl Model for Gathered {
       is_refused = g.is_refused;
       is_stopped = g.is_stopped;
       header = g.header;
+      lines = g.lines;
     } };
 }
 
 impl Gathered {
-    ghost use Rattle.std.specs.Prelude.{◌≡◌, ◌≤◌, [], ◌∷◌, ◌++◌, false, OnOk, Some};
+    ghost use Rattle.std.specs.Prelude.{◌≡◌, ◌≤◌, ◌+◌, [], ◌∷◌, ◌++◌, false, OnOk, Some};
+    ghost use Rattle.locnum_lines.specs.Csv.{as_field};
     ghost use Rattle.locnum_lines.specs.Padding.{padded, spaces};
 
-    /// Nothing gathered, with a header of so many lines.
+    /// Nothing gathered, with a header of so many records.
     pub(crate) fn new(alloc: Global, header: u64) -> Self
         ensures { result ≡ record {
           output = [];
@@ -44,6 +48,7 @@ impl Gathered {
           is_refused = false;
           is_stopped = false;
           header = header;
+          lines = 0;
         } }
     {
         Gathered {
@@ -52,6 +57,7 @@ impl Gathered {
             is_refused: false,
             is_stopped: false,
             header,
+            lines: 0,
         }
     }
 
@@ -78,6 +84,35 @@ impl Gathered {
     {
         self.output.push(byte)?;
         Ok(())
+    }
+
+    /// More lines that were run.
+    pub(crate) fn pass(&mut self, lines: u64) -> Result<(), AllocError>
+        ensures { OnOk result (self.new ≡ record self.old { lines = self.old.lines + lines }) }
+    {
+        let Some(lines) = self.lines.checked_add(lines) else {
+            return Err(AllocError);
+        };
+        self.lines = lines;
+        Ok(())
+    }
+
+    /// A text of the output as a field of CSV that was in quotes or not.
+    pub(crate) fn write_field(
+        &mut self,
+        delimiter: u8,
+        end: u8,
+        was_quoted: bool,
+        text: &[u8],
+    ) -> Result<(), AllocError>
+        ensures { OnOk result (self.new ≡ record self.old {
+          output = self.old.output ++ as_field delimiter end was_quoted text.now;
+        }) }
+    {
+        if was_quoted || wants_quotes(delimiter, end, text) {
+            return push_quoted(text, &mut self.output);
+        }
+        self.write(text)
     }
 
     /// So many spaces of the output.

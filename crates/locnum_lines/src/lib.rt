@@ -1,16 +1,19 @@
-//! Lines with numbers in some of their fields, to lines in which these are in the form of a locale.
+//! Lines, or records of CSV, with numbers in some of their fields, to such lines in which these are in
+//! the form of a locale.
 #![tactic(auto)]
 
 mod blocks;
+mod csv;
 mod cutting;
 mod field;
 mod gathered;
 mod line;
 mod note;
 mod padding;
+mod records;
 mod running;
 mod settings;
 
 pub use padding::{Alignment, Padding};
 pub use running::{Report, RunError, run};
-pub use settings::{FieldRange, LineSettings, Refusals};
+pub use settings::{Delimiter, FieldRange, LineSettings, Refusals};

@@ -1,19 +1,23 @@
-//! One line.
+//! One line, or record of CSV.
 
-ghost use Rattle.std.specs.Prelude.{◌≡◌, OnOk, IfOk, option_map, false};
+ghost use Rattle.std.specs.Prelude.{◌≡◌, ◌+◌, OnOk, IfOk, option_map, false, true};
 ghost use Rattle.locnum_lines.specs.FieldRuns.{fields_ran};
 ghost use Rattle.locnum_lines.specs.Fields.{fields_from};
 ghost use Rattle.locnum_lines.specs.Gathered.{Adds, GoesOn};
-ghost use Rattle.locnum_lines.specs.LineRuns.{line_ran, next_ran};
+ghost use Rattle.locnum_lines.specs.Records.{in_front, is_open, last_begun, lines_in, place_behind};
+ghost use Rattle.locnum_lines.specs.declared.cutting.Place.TheVariants.{Front};
+ghost use Rattle.locnum_lines.specs.RecordRuns.{next_ran, open_ran, record_ran, unended_ran};
 
-use crate::cutting::field_length;
+use crate::cutting::{Place, field_length, is_quoted};
 use crate::field::push_field;
 use crate::gathered::Gathered;
+use crate::note::push_unended_note;
+use crate::records::{last_begun, last_end, lines_in};
 use crate::settings::LineSettings;
 use locnum_forms::Form;
 use std::alloc::{AllocError, Global};
 
-/// The first field of the rest of a line, whose number this is, and the byte behind it. The result
+/// The first field of the rest of a record, whose number this is, and the byte behind it. The result
 /// is the rest behind that byte, unless there is none or the run stops.
 fn push_first<'a>(
     alloc: Global,
@@ -39,7 +43,7 @@ fn push_first<'a>(
     Ok(Some(rest))
 }
 
-/// The fields of a line.
+/// The fields of a record.
 fn push_fields(
     alloc: Global,
     settings: &LineSettings,
@@ -50,7 +54,7 @@ fn push_fields(
     requires { gathered.old.is_stopped ≡ false }
     ensures { OnOk result (Adds gathered.old gathered.new
         (fields_ran settings.now form.now 1
-        (fields_from settings.now.delimiter false line.now)) 0) }
+        (fields_from settings.now.delimiter Front line.now)) 0 0) }
 {
     let mut next = Some(line);
     let mut index: usize = 1;
@@ -64,26 +68,107 @@ fn push_fields(
     Ok(())
 }
 
-/// A line, in front of which as many lines of the header are left as were gathered.
-pub(crate) fn push_line(
+/// A record and the byte behind it, in front of which as many records of the header are left as were
+/// gathered.
+fn push_line(
+    alloc: Global,
+    settings: &LineSettings,
+    form: &Form,
+    last: u8,
+    line: &[u8],
+    gathered: &mut Gathered,
+) -> Result<(), AllocError>
+    requires { gathered.old.is_stopped ≡ false }
+    ensures { OnOk result (Adds gathered.old gathered.new
+        (next_ran settings.now form.now last gathered.old.header line.now) 1 0) }
+{
+    if gathered.header > 0 {
+        gathered.header -= 1;
+        gathered.write(line)?;
+        return gathered.push(last);
+    }
+    push_fields(alloc, settings, form, line, gathered)?;
+    if gathered.is_stopped {
+        return Ok(());
+    }
+    gathered.push(last)
+}
+
+/// A record whose quotes end, behind as many lines as were gathered.
+pub(crate) fn push_record(
     alloc: Global,
     settings: &LineSettings,
     form: &Form,
     line: &[u8],
     gathered: &mut Gathered,
 ) -> Result<(), AllocError>
+    requires going { gathered.old.is_stopped ≡ false }
+    requires closed { is_open settings.now.delimiter line.now ≡ false }
+    ensures { OnOk result (Adds gathered.old gathered.new
+        (record_ran settings.now form.now gathered.old.header gathered.old.lines line.now)
+        1 (lines_in settings.now.end line.now)) }
+{
+    push_line(alloc, settings, form, settings.end, line, gathered)?;
+    gathered.pass(lines_in(settings.end, line))
+}
+
+/// Tells of quotes that don't end, which begin in this line.
+fn stop(line: u64, gathered: &mut Gathered) -> Result<(), AllocError>
+    ensures { OnOk result (Adds gathered.old gathered.new (unended_ran line) 0 0) }
+{
+    gathered.is_stopped = true;
+    push_unended_note(line, &mut gathered.notes)
+}
+
+/// A record whose quotes don't end, by the line in which they begin.
+fn push_open(
+    alloc: Global,
+    settings: &LineSettings,
+    form: &Form,
+    begun: u64,
+    line: &[u8],
+    gathered: &mut Gathered,
+) -> Result<(), AllocError>
     requires { gathered.old.is_stopped ≡ false }
     ensures { OnOk result (Adds gathered.old gathered.new
-        (next_ran settings.now form.now gathered.old.header line.now) 1) }
+        (open_ran settings.now form.now gathered.old.header begun
+        (in_front settings.now.delimiter Front line.now)) 1 0) }
 {
-    if gathered.header > 0 {
-        gathered.header -= 1;
-        gathered.write(line)?;
-        return gathered.push(settings.end);
-    }
-    push_fields(alloc, settings, form, line, gathered)?;
+    let Some(n) = last_end(settings.delimiter, line) else {
+        return stop(begun, gathered);
+    };
+    let (front, _) = line.split_at(n);
+    push_line(alloc, settings, form, line[n], front, gathered)?;
     if gathered.is_stopped {
         return Ok(());
     }
-    gathered.push(settings.end)
+    stop(begun, gathered)
+}
+
+/// The last record of an input, behind which this place is.
+pub(crate) fn push_last(
+    alloc: Global,
+    settings: &LineSettings,
+    form: &Form,
+    line: &[u8],
+    place: Place,
+    gathered: &mut Gathered,
+) -> Result<(), AllocError>
+    requires going { gathered.old.is_stopped ≡ false }
+    requires place_is { place ≡ place_behind settings.now.delimiter Front line.now }
+    ensures { OnOk result (Adds gathered.old gathered.new
+        (record_ran settings.now form.now gathered.old.header gathered.old.lines line.now)
+        1 (lines_in settings.now.end line.now)) }
+{
+    if !is_quoted(place) {
+        return push_record(alloc, settings, form, line, gathered);
+    }
+    let Some(first) = gathered.lines.checked_add(1) else {
+        return Err(AllocError);
+    };
+    let Some(begun) = last_begun(settings.delimiter, settings.end, first, line) else {
+        return Err(AllocError);
+    };
+    push_open(alloc, settings, form, begun, line, gathered)?;
+    gathered.pass(lines_in(settings.end, line))
 }

@@ -1,8 +1,10 @@
-//! What is told of a text that is refused.
+//! What is told of a text that is refused, and of quotes that don't end.
 
 ghost use Rattle.std.specs.Prelude.{◌≡◌, ◌++◌, OnOk, map};
 ghost use Rattle.locnum_lines.specs.FieldRuns.{note, printable, reason};
+ghost use Rattle.locnum_lines.specs.RecordRuns.{unended_note};
 
+use itoa::Buffer;
 use locnum_forms::TextError;
 use std::alloc::AllocError;
 
@@ -49,5 +51,17 @@ pub(crate) fn push_note(
     notes.extend_from_slice(b": ")?;
     notes.extend_from_slice(reason(error).as_bytes())?;
     notes.push(b'\n')?;
+    Ok(())
+}
+
+/// Appends the line that tells where quotes begin that don't end.
+#[tactic(auto, unfolding(crate::specs::RecordRuns::unended_note))]
+pub(crate) fn push_unended_note(line: u64, notes: &mut Vec<u8>) -> Result<(), AllocError>
+    ensures { OnOk result (notes.new.items ≡ notes.old.items ++ unended_note line) }
+{
+    let mut digits = Buffer::new();
+    notes.extend_from_slice(b"locnum: line ")?;
+    notes.extend_from_slice(digits.format(line).as_bytes())?;
+    notes.extend_from_slice(b": a quote without an end\n")?;
     Ok(())
 }

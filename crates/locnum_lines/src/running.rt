@@ -4,12 +4,15 @@ ghost use Rattle.std.specs.Prelude.{◌≡◌, ◌<◌, [], Some, false, OnErr, 
 ghost use Rattle.std.specs.Io.KnownBytes.{Appends};
 ghost use Rattle.decimal_lines.specs.Written.{AppendsBeginning};
 ghost use Rattle.locnum_lines.specs.Gathered.{GatheredData};
-ghost use Rattle.locnum_lines.specs.LineRuns.{IsPartLine, input_ran, lines_of, lines_ran};
+ghost use Rattle.locnum_lines.specs.RecordRuns.{input_ran, records_ran};
+ghost use Rattle.locnum_lines.specs.Records.{IsPart, place_behind, records_of};
 ghost use Rattle.locnum_lines.specs.Reported.{Begins, Ends, Finishes};
+ghost use Rattle.locnum_lines.specs.declared.cutting.Place.TheVariants.{Front};
 
 use crate::blocks::take_block;
+use crate::cutting::Place;
 use crate::gathered::Gathered;
-use crate::line::push_line;
+use crate::line::push_last;
 use crate::settings::LineSettings;
 use decimal_lines::write_piece;
 use locnum_forms::Form;
@@ -36,7 +39,7 @@ pub enum RunError {
 pub struct Report {
     /// Whether a text was refused.
     pub is_refused: bool,
-    /// Whether the run stopped there.
+    /// Whether the run stopped there, or at a record of CSV whose quotes don't end.
     pub is_stopped: bool,
 }
 
@@ -88,6 +91,7 @@ fn finish<W: Write, N: Write>(
     settings: &LineSettings,
     form: &Form,
     held: &[u8],
+    place: Place,
     gathered: &mut Gathered,
     writer: &mut W,
     notes: &mut N,
@@ -95,20 +99,23 @@ fn finish<W: Write, N: Write>(
     requires going { gathered.old.is_stopped ≡ false }
     requires no_output { gathered.old.output ≡ [] }
     requires no_notes { gathered.old.notes ≡ [] }
-    requires part { IsPartLine settings.now.end held.now }
+    requires part { IsPart settings.now.delimiter settings.now.end Front held.now }
+    requires place_is { place ≡ place_behind settings.now.delimiter Front held.now }
     ensures ok { IfOk result (λ report. Finishes
-        (lines_ran settings.now form.now gathered.old.header (lines_of settings.now.end held.now))
+        (records_ran settings.now form.now gathered.old.header gathered.old.lines
+        (records_of settings.now.delimiter settings.now.end held.now))
         gathered.old.is_refused (W.contents writer.old) (W.contents writer.new)
         (N.contents notes.old) (N.contents notes.new) report) }
     ensures err { OnErr result (Begins
-        (lines_ran settings.now form.now gathered.old.header (lines_of settings.now.end held.now))
+        (records_ran settings.now form.now gathered.old.header gathered.old.lines
+        (records_of settings.now.delimiter settings.now.end held.now))
         (W.contents writer.old) (W.contents writer.new)
         (N.contents notes.old) (N.contents notes.new)) }
 {
     if held.is_empty() {
         return Ok(reported(gathered));
     }
-    let Ok(()) = push_line(alloc, settings, form, held, gathered) else {
+    let Ok(()) = push_last(alloc, settings, form, held, place, gathered) else {
         return Err(RunError::OutOfMemory);
     };
     flush(gathered, writer, notes)?;
@@ -136,15 +143,34 @@ fn run_by<R: Read, W: Write, N: Write>(
         (N.contents notes.old) (N.contents notes.new))) }
 {
     let mut held = Vec::new(alloc);
+    let mut place = Place::Front;
     let mut gathered = Gathered::new(alloc, settings.header);
     for _ in 0..=u64::MAX {
         let Ok(n) = reader.read(block) else {
             return Err(RunError::Read);
         };
         if n == 0 {
-            return finish(alloc, settings, form, &held, &mut gathered, writer, notes);
+            return finish(
+                alloc,
+                settings,
+                form,
+                &held,
+                place,
+                &mut gathered,
+                writer,
+                notes,
+            );
         }
-        let taken = take_block(alloc, settings, form, &block[..n], &mut held, &mut gathered);
+        let block = &block[..n];
+        let taken = take_block(
+            alloc,
+            settings,
+            form,
+            block,
+            &mut held,
+            &mut place,
+            &mut gathered,
+        );
         let Ok(()) = taken else {
             return Err(RunError::OutOfMemory);
         };
@@ -163,8 +189,8 @@ fn buffer(alloc: Global, len: usize) -> Result<Vec<u8>, AllocError>
     Vec::from_elem(alloc, 0u8, len)
 }
 
-/// Reads all lines; writes each with its chosen numbers in this form, and tells which texts are
-/// refused (this project's own, after GNU `numfmt`).
+/// Reads all lines, or records of CSV; writes each with its chosen numbers in this form, and tells
+/// which texts are refused (this project's own, after GNU `numfmt`).
 ///
 /// The last line may end without its byte, and is written with it. Each error of the reader is
 /// `Read`, and so are 2^64 reads without an end; each error of a writer is `Write`, and so is a
@@ -178,7 +204,7 @@ pub fn run<R: Read, W: Write, N: Write>(
     notes: &mut N,
 ) -> Result<Report, RunError>
     // The output and the notes of the whole input were written, and all of it read, unless the run
-    // stopped at a text that was refused;
+    // stopped at a text that was refused or at quotes that don't end;
     ensures ok { IfOk result (λ report. IfSome (R.remaining reader.old) (λ input. Ends
         (input_ran settings.now form.now input)
         (W.contents writer.old) (W.contents writer.new)

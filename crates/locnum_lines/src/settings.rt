@@ -20,6 +20,19 @@ pub enum Refusals {
     Ignore,
 }
 
+/// What ends a field of a line.
+#[derive(Clone, Copy, Debug, PartialEq, Eq)]
+pub enum Delimiter {
+    /// The first blank behind a word.
+    Blanks,
+    /// This byte.
+    Byte(u8),
+    /// This byte in CSV (RFC 4180), unless it stands between the quotes of a field that begins with
+    /// one; a byte that ends a line belongs to the field there, too. Neither a quote nor the byte that
+    /// ends a line is to be the delimiter.
+    Csv(u8),
+}
+
 /// The fields from one number to another, both included; the first field of a line is 1.
 #[derive(Clone, Copy, Debug, PartialEq, Eq)]
 pub struct FieldRange {
@@ -33,11 +46,11 @@ pub struct FieldRange {
 /// `numfmt`).
 #[derive(Debug, Drop)]
 pub struct LineSettings {
-    /// The byte between fields; without one the first blank behind a word is between two.
-    pub delimiter: Option<u8>,
+    /// What ends a field.
+    pub delimiter: Delimiter,
     /// The fields that are numbers.
     pub fields: Vec<FieldRange>,
-    /// How many lines at the beginning go through as they are.
+    /// How many lines, or records of CSV, at the beginning go through as they are.
     pub header: u64,
     /// The byte that ends a line: a line feed, or 0.
     pub end: u8,

@@ -2,16 +2,22 @@
 
 use crate::running::{Cut, Left, ended, runs_padded};
 use crate::slow::Full;
-use locnum_lines::{Alignment, Padding, Refusals};
+use locnum_lines::{Alignment, Delimiter, Padding, Refusals};
 
 /// How many columns there are, where the number stands in them, an input and its output.
 type Row = (Cut, u16, Alignment, &'static str, &'static str);
 
-const FIRST: Cut = (None, &[(1, 1)], 0, b'\n', Refusals::Ignore);
+const FIRST: Cut = (Delimiter::Blanks, &[(1, 1)], 0, b'\n', Refusals::Ignore);
 
-const SECOND: Cut = (None, &[(2, 2)], 0, b'\n', Refusals::Ignore);
+const SECOND: Cut = (Delimiter::Blanks, &[(2, 2)], 0, b'\n', Refusals::Ignore);
 
-const FROM_SECOND: Cut = (Some(b';'), &[(2, usize::MAX)], 1, b'\n', Refusals::Ignore);
+const FROM_SECOND: Cut = (
+    Delimiter::Byte(b';'),
+    &[(2, usize::MAX)],
+    1,
+    b'\n',
+    Refusals::Ignore,
+);
 
 /// As GNU `numfmt --padding` has them.
 const COLUMNS: &[Row] = &[

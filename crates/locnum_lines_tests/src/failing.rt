@@ -2,11 +2,11 @@
 
 use crate::running::{Cut, Left, runs};
 use crate::slow::Full;
-use locnum_lines::{Refusals, RunError};
+use locnum_lines::{Delimiter, Refusals, RunError};
 
 const LINES: &[u8] = b"5 a\nx\n7";
 
-const CUT: Cut = (None, &[(1, 1)], 0, b'\n', Refusals::Fail);
+const CUT: Cut = (Delimiter::Blanks, &[(1, 1)], 0, b'\n', Refusals::Fail);
 
 /// How much room each writer has, and what is in the output and in the notes where it ends.
 const ROOMS: [(usize, &str, &str); 4] = [

@@ -2,10 +2,24 @@
 
 use crate::running::{Cut, Left, ended, runs};
 use crate::slow::Full;
-use locnum_lines::Refusals;
+use locnum_lines::{Delimiter, Refusals};
 use std::alloc::{AllocError, Global};
 
-const CUT: Cut = (Some(b';'), &[(2, usize::MAX)], 0, b'\n', Refusals::Abort);
+const CUT: Cut = (
+    Delimiter::Byte(b';'),
+    &[(2, usize::MAX)],
+    0,
+    b'\n',
+    Refusals::Abort,
+);
+
+const CSV: Cut = (
+    Delimiter::Csv(b','),
+    &[(2, usize::MAX)],
+    0,
+    b'\n',
+    Refusals::Abort,
+);
 
 /// A text so many times, with an end behind it.
 fn repeated(alloc: Global, text: &str, count: usize, end: &str) -> Result<Vec<u8>, AllocError> {
@@ -18,7 +32,7 @@ fn repeated(alloc: Global, text: &str, count: usize, end: &str) -> Result<Vec<u8
 }
 
 /// Whether texts that were made are an input and its output.
-fn are_run(alloc: Global, input: Option<Vec<u8>>, output: Option<Vec<u8>>) -> bool {
+fn are_run(alloc: Global, cut: Cut, input: Option<Vec<u8>>, output: Option<Vec<u8>>) -> bool {
     match input.zip(output) {
         Some((input, output)) => {
             let left = Left {
@@ -27,27 +41,34 @@ fn are_run(alloc: Global, input: Option<Vec<u8>>, output: Option<Vec<u8>>) -> bo
                 notes: b"",
             };
             let input = (input.as_slice(), usize::MAX, usize::MAX);
-            runs(alloc, CUT, input, (usize::MAX, Full::Fails), left)
+            runs(alloc, cut, input, (usize::MAX, Full::Fails), left)
         }
         None => false,
     }
 }
 
-/// A text that is repeated, what is written for it, and the ends of both.
-const LARGE: [(&str, &str, &str, &str); 3] = [
-    ("a;1234\n", "a;1,234\n", "", ""),
-    (";1234", ";1,234", "\n", "\n"),
-    ("long ", "long ", ";1234", ";1,234\n"),
+/// How lines are cut, a text that is repeated, what is written for it, and the ends of both.
+type Row = (Cut, &'static str, &'static str, &'static str, &'static str);
+
+const LARGE: [Row; 6] = [
+    (CUT, "a;1234\n", "a;1,234\n", "", ""),
+    (CUT, ";1234", ";1,234", "\n", "\n"),
+    (CUT, "long ", "long ", ";1234", ";1,234\n"),
+    (CSV, "\"a\n,\",1234\n", "\"a\n,\",\"1,234\"\n", "", ""),
+    (CSV, ",\"1234\"", ",\"1,234\"", "\n", "\n"),
+    (CSV, "\"\"", "\"\"", ",\"1234\"\r\n", ",\"1,234\"\r\n"),
 ];
 
-fn is_run(alloc: Global, row: &(&str, &str, &str, &str), count: usize) -> bool {
-    let &(input, output, end, output_end) = row;
+fn is_run(alloc: Global, row: &Row, count: usize) -> bool {
+    let &(cut, input, output, end, output_end) = row;
     are_run(
         alloc,
+        cut,
         repeated(alloc, input, count, end).ok(),
         repeated(alloc, output, count, output_end).ok(),
     ) || are_run(
         alloc,
+        cut,
         repeated(alloc, input, count, end).ok(),
         repeated(alloc, output, count, output_end).ok(),
     )
@@ -56,6 +77,6 @@ fn is_run(alloc: Global, row: &(&str, &str, &str, &str), count: usize) -> bool {
 #[test]
 fn many_lines_and_fields_and_long_ones(rt: HostRuntime) {
     for row in &LARGE {
-        assert!(rt; is_run(rt.alloc(), row, 20000), "{}", row.0);
+        assert!(rt; is_run(rt.alloc(), row, 20000), "{}", row.1);
     }
 }

@@ -4,6 +4,8 @@
 #[cfg(test)]
 mod columns;
 #[cfg(test)]
+mod csv;
+#[cfg(test)]
 mod failing;
 #[cfg(test)]
 mod large;

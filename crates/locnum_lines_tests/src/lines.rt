@@ -2,18 +2,18 @@
 
 use crate::running::{Cut, Left, ended, runs};
 use crate::slow::Full;
-use locnum_lines::Refusals;
+use locnum_lines::{Delimiter, Refusals};
 
 /// Settings, an input, its output, its notes, whether a text was refused, and whether the run
 /// stopped.
 type Row = (Cut, &'static str, &'static str, &'static str, bool, bool);
 
-const BLANKS: Cut = (None, &[(1, 1)], 0, b'\n', Refusals::Abort);
+const BLANKS: Cut = (Delimiter::Blanks, &[(1, 1)], 0, b'\n', Refusals::Abort);
 
-const SECOND: Cut = (None, &[(2, 2)], 0, b'\n', Refusals::Fail);
+const SECOND: Cut = (Delimiter::Blanks, &[(2, 2)], 0, b'\n', Refusals::Fail);
 
 const COMMAS: Cut = (
-    Some(b';'),
+    Delimiter::Byte(b';'),
     &[(1, 1), (3, usize::MAX)],
     0,
     b'\n',
@@ -54,7 +54,7 @@ const NUMBERS: [Row; 13] = [
         false,
     ),
     (
-        (Some(b','), &[(1, 1)], 0, 0, Refusals::Abort),
+        (Delimiter::Byte(b','), &[(1, 1)], 0, 0, Refusals::Abort),
         "1234,a\0987654,b",
         "1,234,a\0987,654,b\0",
         "",
@@ -62,7 +62,7 @@ const NUMBERS: [Row; 13] = [
         false,
     ),
     (
-        (None, &[(1, 1)], 2, b'\n', Refusals::Abort),
+        (Delimiter::Blanks, &[(1, 1)], 2, b'\n', Refusals::Abort),
         "amount\n1234\n1234\n",
         "amount\n1234\n1,234\n",
         "",
@@ -75,7 +75,7 @@ const NOT_A_DECIMAL: &str = "locnum: x: not a decimal\n";
 
 const REFUSED: [Row; 10] = [
     (
-        (None, &[(1, 1)], 0, b'\n', Refusals::Abort),
+        (Delimiter::Blanks, &[(1, 1)], 0, b'\n', Refusals::Abort),
         "1234\nx\n5678\n",
         "1,234\n",
         NOT_A_DECIMAL,
@@ -83,7 +83,7 @@ const REFUSED: [Row; 10] = [
         true,
     ),
     (
-        (None, &[(1, 1)], 0, b'\n', Refusals::Fail),
+        (Delimiter::Blanks, &[(1, 1)], 0, b'\n', Refusals::Fail),
         "1234\nx\n5678\n",
         "1,234\nx\n5,678\n",
         NOT_A_DECIMAL,
@@ -91,7 +91,7 @@ const REFUSED: [Row; 10] = [
         false,
     ),
     (
-        (None, &[(1, 1)], 0, b'\n', Refusals::Warn),
+        (Delimiter::Blanks, &[(1, 1)], 0, b'\n', Refusals::Warn),
         "x\n5678",
         "x\n5,678\n",
         NOT_A_DECIMAL,
@@ -99,7 +99,7 @@ const REFUSED: [Row; 10] = [
         false,
     ),
     (
-        (None, &[(1, 1)], 0, b'\n', Refusals::Ignore),
+        (Delimiter::Blanks, &[(1, 1)], 0, b'\n', Refusals::Ignore),
         "x\n5678",
         "x\n5,678\n",
         "",
@@ -107,7 +107,7 @@ const REFUSED: [Row; 10] = [
         false,
     ),
     (
-        (None, &[(1, 2)], 0, b'\n', Refusals::Abort),
+        (Delimiter::Blanks, &[(1, 2)], 0, b'\n', Refusals::Abort),
         "1234  x y\n",
         "1,234  ",
         NOT_A_DECIMAL,
@@ -115,7 +115,7 @@ const REFUSED: [Row; 10] = [
         true,
     ),
     (
-        (Some(b';'), &[(1, 9)], 0, b'\n', Refusals::Fail),
+        (Delimiter::Byte(b';'), &[(1, 9)], 0, b'\n', Refusals::Fail),
         "x;1;x\n",
         "x;1;x\n",
         "locnum: x: not a decimal\nlocnum: x: not a decimal\n",
@@ -123,7 +123,7 @@ const REFUSED: [Row; 10] = [
         false,
     ),
     (
-        (None, &[(1, 1)], 0, b'\n', Refusals::Fail),
+        (Delimiter::Blanks, &[(1, 1)], 0, b'\n', Refusals::Fail),
         "\n",
         "\n",
         "locnum: : not a decimal\n",
@@ -131,7 +131,7 @@ const REFUSED: [Row; 10] = [
         false,
     ),
     (
-        (None, &[(1, 1)], 0, b'\n', Refusals::Fail),
+        (Delimiter::Blanks, &[(1, 1)], 0, b'\n', Refusals::Fail),
         "a\u{1b}b\n",
         "a\u{1b}b\n",
         "locnum: a?b: not a decimal\n",
@@ -139,7 +139,7 @@ const REFUSED: [Row; 10] = [
         false,
     ),
     (
-        (None, &[(1, 1)], 1, b'\n', Refusals::Abort),
+        (Delimiter::Blanks, &[(1, 1)], 1, b'\n', Refusals::Abort),
         "x\nx",
         "x\n",
         NOT_A_DECIMAL,
@@ -147,7 +147,13 @@ const REFUSED: [Row; 10] = [
         true,
     ),
     (
-        (None, &[(1, 1)], u64::MAX, b'\n', Refusals::Abort),
+        (
+            Delimiter::Blanks,
+            &[(1, 1)],
+            u64::MAX,
+            b'\n',
+            Refusals::Abort,
+        ),
         "x\nx",
         "x\nx\n",
         "",

@@ -4,13 +4,13 @@ use crate::slow::{Full, SlowReader, SlowWriter};
 use fixed_decimal::SignDisplay;
 use icu_provider::DataLocale;
 use locnum_forms::{Form, Kind, StartError, Wanted};
-use locnum_lines::{FieldRange, LineSettings, Padding, Refusals, Report, RunError, run};
+use locnum_lines::{Delimiter, FieldRange, LineSettings, Padding, Refusals, Report, RunError, run};
 use sample_tables::SAMPLE;
 use std::alloc::{AllocError, Global};
 
 /// How lines are cut: the delimiter, the fields, the header, the end of a line, what becomes of
 /// refused texts.
-pub(crate) type Cut = (Option<u8>, &'static [(usize, usize)], u64, u8, Refusals);
+pub(crate) type Cut = (Delimiter, &'static [(usize, usize)], u64, u8, Refusals);
 
 /// What a run leaves: its end, its output and its notes.
 #[derive(Clone, Copy)]

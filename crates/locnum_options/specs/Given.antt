@@ -16,6 +16,7 @@ pub record GivenData : Type 0 where
   pub cash : Bool
   pub percent : Bool
   pub unit : Option (Bor (List ℕ))
+  pub csv : Bool
   pub delimiter : Option (List ℕ)
   pub field : Option (List ℕ)
   pub header : Option (List ℕ)

@@ -11,7 +11,7 @@ use Rattle.locnum_options.specs.Given.{GivenData}
 use Rattle.locnum_options.specs.Kinds.{◌>>=◌, kind_given}
 use Rattle.locnum_options.specs.Padding.{padding_named}
 use Rattle.locnum_options.specs.Texts.{number_named}
-use Rattle.locnum_options.specs.Words.{ok_or, locale_given, system_given, grouping_given, sign_given, delimiter_given, refusals_given}
+use Rattle.locnum_options.specs.Words.{ok_or, locale_given, system_given, grouping_given, sign_given, field_end_given, refusals_given}
 use Rattle.locnum_options.specs.declared.fault.OptionFault.{OptionFault}
 use Rattle.locnum_options.specs.declared.fault.OptionFault.TheVariants as fault
 
@@ -62,7 +62,7 @@ options_of given = do
   fraction ← fraction_given given.fraction
   sign ← sign_given given.sign
   kind ← kind_given given
-  delimiter ← delimiter_given given.delimiter
+  delimiter ← field_end_given given
   fields ← fields_given given.field
   header ← header_given given.header
   padding ← padding_given given.padding

@@ -1,5 +1,5 @@
 -- Words of options, and what holds where an option isn't given.
-use Rattle.std.specs.Prelude.{ℕ, List, [], ◌∷◌, Option, Some, None, Result, Ok, Err, codes, nat_eq, if◌then◌else◌}
+use Rattle.std.specs.Prelude.{ℕ, Bool, ◌||◌, ◌==◌, List, [], ◌∷◌, Option, Some, None, Result, Ok, Err, codes, nat_eq, if◌then◌else◌}
 use Rattle.std.specs.Cmp.Lexicographic.{pointwise}
 use Rattle.icu_provider.specs.Locale.{is_locale}
 use Rattle.icu_provider.specs.NumberingSystem.{is_numbering_system}
@@ -7,8 +7,12 @@ use Rattle.icu_decimal.specs.declared.options.GroupingStrategy.{GroupingStrategy
 use Rattle.icu_decimal.specs.declared.options.GroupingStrategy.TheVariants as grouping
 use Rattle.fixed_decimal.specs.declared.signs.SignDisplay.{SignDisplay}
 use Rattle.fixed_decimal.specs.declared.signs.SignDisplay.TheVariants as sign
+use Rattle.locnum_lines.specs.declared.settings.Delimiter.{Delimiter}
+use Rattle.locnum_lines.specs.declared.settings.Delimiter.TheVariants.{Blanks, Byte, Csv}
 use Rattle.locnum_lines.specs.declared.settings.Refusals.{Refusals}
 use Rattle.locnum_lines.specs.declared.settings.Refusals.TheVariants as refusals
+use Rattle.locnum_options.specs.Given.{GivenData}
+use Rattle.locnum_options.specs.Kinds.{◌>>=◌}
 use Rattle.locnum_options.specs.declared.fault.OptionFault.{OptionFault}
 use Rattle.locnum_options.specs.declared.fault.OptionFault.TheVariants as fault
 
@@ -58,6 +62,26 @@ delimiter_given None = Ok None
 delimiter_given (Some []) = Err fault.Delimiter
 delimiter_given (Some (byte ∷ [])) = Ok (Some byte)
 delimiter_given (Some (byte ∷ (other ∷ others))) = Err fault.Delimiter
+
+-- a quote, a line feed or a carriage return
+abbrev pub is_csv_mark : ℕ → Bool
+is_csv_mark byte = byte == 34 || byte == 10 || byte == 13
+
+-- what ends a field of CSV, by the byte between fields; a comma by default
+unfoldable pub csv_given : Option ℕ → Result Delimiter OptionFault
+csv_given None = Ok (Csv 44)
+csv_given (Some byte) = if is_csv_mark byte then Err fault.CsvDelimiter else Ok (Csv byte)
+
+-- what ends a field otherwise; a blank by default
+unfoldable pub plain_given : Option ℕ → Delimiter
+plain_given None = Blanks
+plain_given (Some byte) = Byte byte
+
+-- what ends a field; CSV has lines that end in a line feed
+unfoldable pub field_end_given : GivenData → Result Delimiter OptionFault
+field_end_given given = do
+  byte ← delimiter_given given.delimiter
+  if given.csv then (if given.zero_terminated then Err fault.CsvZero else csv_given byte) else Ok (plain_given byte)
 
 -- what becomes of texts that are refused; `abort` by default
 unfoldable pub refusals_given : Option (List ℕ) → Result Refusals OptionFault

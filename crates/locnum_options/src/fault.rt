@@ -45,6 +45,12 @@ pub enum OptionFault {
     /// The text isn't one byte.
     #[error("--delimiter: not a single byte")]
     Delimiter,
+    /// CSV is asked for with a delimiter that it has another use for.
+    #[error("--csv: --delimiter is neither a quote, a line feed nor a carriage return")]
+    CsvDelimiter,
+    /// CSV is asked for with lines that end in NUL.
+    #[error("--csv: not with --zero-terminated")]
+    CsvZero,
     /// The text isn't a list of fields.
     #[error("--field: not a list of N, N-, N-M, -M or -, from 1 on")]
     Fields,

@@ -30,6 +30,8 @@ pub struct Given<'a> {
     pub percent: bool,
     /// `--unit`.
     pub unit: Option<&'a str>,
+    /// `--csv`.
+    pub csv: bool,
     /// `--delimiter`.
     pub delimiter: Option<&'a str>,
     /// `--field`.
@@ -63,6 +65,7 @@ impl<'a> Model for Given<'a> {
       cash = g.cash;
       percent = g.percent;
       unit = g.unit;
+      csv = g.csv;
       delimiter = option_map (λ s. s.now) g.delimiter;
       field = option_map (λ s. s.now) g.field;
       header = option_map (λ s. s.now) g.header;

@@ -41,12 +41,14 @@ fn money_width(word: Option<&str>) -> Result<Width, OptionFault>
 fn unit_width(word: Option<&str>) -> Result<UnitWidth, OptionFault>
     ensures { result ≡ unit_width (option_map (λ t. t.now) word.entry) }
 {
+    let Some(word) = word else {
+        return Ok(UnitWidth::Short);
+    };
     match word {
-        None => Ok(UnitWidth::Short),
-        Some("long") => Ok(UnitWidth::Long),
-        Some("short") => Ok(UnitWidth::Short),
-        Some("narrow") => Ok(UnitWidth::Narrow),
-        Some(_) => Err(OptionFault::Width),
+        "long" => Ok(UnitWidth::Long),
+        "short" => Ok(UnitWidth::Short),
+        "narrow" => Ok(UnitWidth::Narrow),
+        _ => Err(OptionFault::Width),
     }
 }
 

@@ -11,7 +11,7 @@ use crate::kinds::kind_given;
 use crate::padding::padding_named;
 use crate::texts::number_named;
 use crate::words::{
-    delimiter_given, grouping_given, locale_given, refusals_given, sign_given, system_given,
+    field_end_given, grouping_given, locale_given, refusals_given, sign_given, system_given,
 };
 use locnum_forms::{FractionRange, Wanted};
 use locnum_lines::{FieldRange, LineSettings, Padding};
@@ -120,7 +120,7 @@ pub fn parse_options<'a>(alloc: Global, given: &Given<'a>) -> Result<Options<'a>
         Ok(kind) => kind,
         Err(fault) => return Err(fault),
     };
-    let delimiter = delimiter_given(given.delimiter)?;
+    let delimiter = field_end_given(given)?;
     let fields = fields_given(alloc, given.field)?;
     let header = header_given(given.header)?;
     let padding = padding_given(given.padding)?;

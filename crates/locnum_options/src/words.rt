@@ -1,13 +1,14 @@
 //! Words of options, and what holds where an option isn't given.
 
 ghost use Rattle.std.specs.Prelude.{◌≡◌, option_map};
-ghost use Rattle.locnum_options.specs.Words.{delimiter_given, grouping_given, locale_given, locale_named, refusals_given, sign_given, system_given};
+ghost use Rattle.locnum_options.specs.Words.{csv_given, delimiter_given, field_end_given, grouping_given, is_csv_mark, locale_given, locale_named, plain_given, refusals_given, sign_given, system_given};
 
 use crate::fault::OptionFault;
+use crate::given::Given;
 use fixed_decimal::SignDisplay;
 use icu_decimal::options::GroupingStrategy;
 use icu_provider::{DataLocale, NumberingSystem};
-use locnum_lines::Refusals;
+use locnum_lines::{Delimiter, Refusals};
 
 /// The locale of a text.
 #[tactic(auto, unfolding(crate::specs::Words::locale_named))]
@@ -50,13 +51,15 @@ pub(crate) fn system_given(text: Option<&str>) -> Result<Option<NumberingSystem>
 pub(crate) fn grouping_given(word: Option<&str>) -> Result<Option<GroupingStrategy>, OptionFault>
     ensures { result ≡ grouping_given (option_map (λ t. t.now) word.entry) }
 {
+    let Some(word) = word else {
+        return Ok(None);
+    };
     match word {
-        None => Ok(None),
-        Some("auto") => Ok(Some(GroupingStrategy::Auto)),
-        Some("never") => Ok(Some(GroupingStrategy::Never)),
-        Some("always") => Ok(Some(GroupingStrategy::Always)),
-        Some("min2") => Ok(Some(GroupingStrategy::Min2)),
-        Some(_) => Err(OptionFault::Grouping),
+        "auto" => Ok(Some(GroupingStrategy::Auto)),
+        "never" => Ok(Some(GroupingStrategy::Never)),
+        "always" => Ok(Some(GroupingStrategy::Always)),
+        "min2" => Ok(Some(GroupingStrategy::Min2)),
+        _ => Err(OptionFault::Grouping),
     }
 }
 
@@ -80,7 +83,7 @@ pub(crate) fn sign_given(word: Option<&str>) -> Result<SignDisplay, OptionFault>
 
 /// The byte between fields; none by default.
 #[tactic(auto, unfolding(crate::specs::Words::delimiter_given))]
-pub(crate) fn delimiter_given(text: Option<&str>) -> Result<Option<u8>, OptionFault>
+fn delimiter_given(text: Option<&str>) -> Result<Option<u8>, OptionFault>
     ensures { result ≡ delimiter_given (option_map (λ t. t.now) text.entry) }
 {
     let Some(text) = text else {
@@ -92,17 +95,66 @@ pub(crate) fn delimiter_given(text: Option<&str>) -> Result<Option<u8>, OptionFa
     }
 }
 
+/// Whether a byte is a quote, a line feed or a carriage return.
+fn is_csv_mark(byte: u8) -> bool
+    ensures { result ≡ is_csv_mark byte }
+{
+    byte == b'"' || byte == b'\n' || byte == b'\r'
+}
+
+/// What ends a field of CSV, by the byte between fields; a comma by default.
+#[tactic(auto, unfolding(crate::specs::Words::csv_given))]
+fn csv_given(byte: Option<u8>) -> Result<Delimiter, OptionFault>
+    ensures { result ≡ csv_given byte }
+{
+    let Some(byte) = byte else {
+        return Ok(Delimiter::Csv(b','));
+    };
+    if is_csv_mark(byte) {
+        return Err(OptionFault::CsvDelimiter);
+    }
+    Ok(Delimiter::Csv(byte))
+}
+
+/// What ends a field otherwise; a blank by default.
+#[tactic(auto, unfolding(crate::specs::Words::plain_given))]
+fn plain_given(byte: Option<u8>) -> Delimiter
+    ensures { result ≡ plain_given byte }
+{
+    match byte {
+        None => Delimiter::Blanks,
+        Some(byte) => Delimiter::Byte(byte),
+    }
+}
+
+/// What ends a field; CSV has lines that end in a line feed.
+#[tactic(auto, unfolding(crate::specs::Words::field_end_given))]
+pub(crate) fn field_end_given(given: &Given) -> Result<Delimiter, OptionFault>
+    ensures { result ≡ field_end_given given.now }
+{
+    let byte = delimiter_given(given.delimiter)?;
+    if !given.csv {
+        return Ok(plain_given(byte));
+    }
+    if given.zero_terminated {
+        return Err(OptionFault::CsvZero);
+    }
+    csv_given(byte)
+}
+
 /// What becomes of texts that are refused; `abort` by default.
 #[tactic(auto, unfolding(crate::specs::Words::refusals_given))]
 pub(crate) fn refusals_given(word: Option<&str>) -> Result<Refusals, OptionFault>
     ensures { result ≡ refusals_given (option_map (λ t. t.now) word.entry) }
 {
+    let Some(word) = word else {
+        return Ok(Refusals::Abort);
+    };
     match word {
-        None => Ok(Refusals::Abort),
-        Some("abort") => Ok(Refusals::Abort),
-        Some("fail") => Ok(Refusals::Fail),
-        Some("warn") => Ok(Refusals::Warn),
-        Some("ignore") => Ok(Refusals::Ignore),
-        Some(_) => Err(OptionFault::Invalid),
+        "abort" => Ok(Refusals::Abort),
+        "fail" => Ok(Refusals::Fail),
+        "warn" => Ok(Refusals::Warn),
+        "ignore" => Ok(Refusals::Ignore),
+        _ => Err(OptionFault::Invalid),
     }
 }

@@ -98,6 +98,23 @@ const REFUSED: &[(&[Word], OptionFault)] = &[
     (&[("delimiter", "")], OptionFault::Delimiter),
     (&[("delimiter", ", ")], OptionFault::Delimiter),
     (&[("delimiter", "\u{b7}")], OptionFault::Delimiter),
+    (&[("csv", ""), ("delimiter", "ab")], OptionFault::Delimiter),
+    (
+        &[("csv", ""), ("delimiter", "\"")],
+        OptionFault::CsvDelimiter,
+    ),
+    (
+        &[("csv", ""), ("delimiter", "\n")],
+        OptionFault::CsvDelimiter,
+    ),
+    (
+        &[("csv", ""), ("delimiter", "\r")],
+        OptionFault::CsvDelimiter,
+    ),
+    (
+        &[("csv", ""), ("zero-terminated", "")],
+        OptionFault::CsvZero,
+    ),
     (&[("field", "")], OptionFault::Fields),
     (&[("field", "0")], OptionFault::Fields),
     (&[("field", "3-2")], OptionFault::Fields),

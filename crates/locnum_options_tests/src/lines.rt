@@ -1,13 +1,13 @@
 //! Delimiters, fields, headers, ends of lines, columns, and what becomes of texts that are refused.
 
 use crate::reading::{Word, options_of};
-use locnum_lines::{Alignment, LineSettings, Padding, Refusals};
+use locnum_lines::{Alignment, Delimiter, LineSettings, Padding, Refusals};
 use std::alloc::Global;
 
 /// How lines are cut.
 #[derive(Clone, Copy)]
 struct Asked {
-    delimiter: Option<u8>,
+    delimiter: Delimiter,
     fields: &'static [(usize, usize)],
     header: u64,
     end: u8,
@@ -17,7 +17,7 @@ struct Asked {
 
 /// How they are without options.
 const DEFAULTS: Asked = Asked {
-    delimiter: None,
+    delimiter: Delimiter::Blanks,
     fields: &[(1, 1)],
     header: 0,
     end: b'\n',
@@ -81,10 +81,29 @@ const DELIMITERS: &[(&str, u8)] = &[(",", b','), ("\t", b'\t'), (" ", b' ')];
 fn reads_delimiters(rt: HostRuntime) {
     for (text, byte) in DELIMITERS {
         let asked = Asked {
-            delimiter: Some(*byte),
+            delimiter: Delimiter::Byte(*byte),
             ..DEFAULTS
         };
         assert!(rt; asks(rt.alloc(), &[("delimiter", text)], &asked), "{byte}");
+    }
+}
+
+/// Words with `--csv`, and the byte between fields.
+const RECORDS: &[(&[Word], u8)] = &[
+    (&[("csv", "")], b','),
+    (&[("csv", ""), ("delimiter", ";")], b';'),
+    (&[("delimiter", "\t"), ("csv", "")], b'\t'),
+    (&[("csv", ""), ("delimiter", ",")], b','),
+];
+
+#[test]
+fn reads_csv(rt: HostRuntime) {
+    for &(words, byte) in RECORDS {
+        let asked = Asked {
+            delimiter: Delimiter::Csv(byte),
+            ..DEFAULTS
+        };
+        assert!(rt; asks(rt.alloc(), words, &asked), "{byte}");
     }
 }
 

@@ -1,7 +1,8 @@
-use Rattle.std.proofs.Common.{ℕ, suc, List, length, false, Option, Some, None}
+use Rattle.std.proofs.Common.{ℕ, suc, List, length, Option, Some, None}
 use Rattle.std.specs.Prelude.{option_map}
 use Rattle.locnum_lines.specs.FieldRuns.{fields_ran}
 use Rattle.locnum_lines.specs.Fields.{fields_from}
+use Rattle.locnum_lines.specs.declared.cutting.Place.TheVariants.{Front}
 use Rattle.locnum_lines.proofs.Goes.{InLine}
 use Rattle.locnum_lines.proofs.line.push_fields.Given as goal
 
@@ -11,7 +12,7 @@ left None = 0
 left (Some bytes) = suc (length bytes)
 
 abbrev pub invariant-loop-next : goal.invariant-loop-next
-invariant-loop-next l = InLine l.settings l.form (fields_ran l.settings l.form 1 (fields_from l.settings.delimiter false l.line))
+invariant-loop-next l = InLine l.settings l.form (fields_ran l.settings l.form 1 (fields_from l.settings.delimiter Front l.line))
     l.fn.gathered l.gathered l.index (option_map (λ s. s.now) l.next)
 
 abbrev pub decreases-loop-next : goal.decreases-loop-next

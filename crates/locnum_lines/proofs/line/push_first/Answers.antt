@@ -1,5 +1,6 @@
 use Rattle.std.proofs.Common.{◌≡◌, [], ◌∷◌, false, length, sym, ap, ◌∙◌, arith}
 use Rattle.locnum_lines.specs.Fields.{field_length}
+use Rattle.locnum_lines.specs.declared.cutting.Place.TheVariants.{Front}
 use Rattle.locnum_lines.proofs.FirstField.{field_length-within}
 use Rattle.locnum_lines.proofs.Adding.{Adds-writes}
 use Rattle.locnum_lines.proofs.Cuts.{seam}
@@ -7,18 +8,18 @@ use Rattle.locnum_lines.proofs.Goes.{goes-last, goes-on, goes-stopped}
 use Rattle.locnum_lines.proofs.line.push_first.Goals as goal
 
 pub split_at-requires : goal.split_at-requires
-split_at-requires c = rw c.field_length.ensures (field_length-within _ false c.args.line.now)
+split_at-requires c = rw c.field_length.ensures (field_length-within _ Front c.args.line.now)
 
 pub returns-then-gathered : goal.returns-then-gathered
 returns-then-gathered c =
-    let is : c.field_length.result ≡ field_length c.args.settings.now.delimiter false c.args.line.now = rw (← c.settings.view_is) c.field_length.ensures in
+    let is : c.field_length.result ≡ field_length c.args.settings.now.delimiter Front c.args.line.now = rw (← c.settings.view_is) c.field_length.ensures in
     goes-stopped c.args.settings.now c.args.form.now c.args.index c.args.line.now c.field_length.result is
     c.args.gathered.now c.push_field.new.gathered (rw c.split_at.ensures.front at c.in_ok-push_field.ensures)
     (ap (λ g. g.is_stopped) (sym c.gathered.view_is) ∙ c.if-gathered.true)
 
 pub returns-in_default : goal.returns-in_default
 returns-in_default c =
-    let is : c.field_length.result ≡ field_length c.args.settings.now.delimiter false c.args.line.now = rw (← c.settings.view_is) c.field_length.ensures in
+    let is : c.field_length.result ≡ field_length c.args.settings.now.delimiter Front c.args.line.now = rw (← c.settings.view_is) c.field_length.ensures in
     let whole : c.field_length.result ≡ length c.args.line.now =
     omega (arith, c.in_default.ensures.cases, c.split_at.ensures.back_len, c.split_at.ensures.front_len) in
     goes-last c.args.settings.now c.args.form.now c.args.index c.args.line.now c.field_length.result is
@@ -27,7 +28,7 @@ returns-in_default c =
 
 pub returns : goal.returns
 returns c =
-    let is : c.field_length.result ≡ field_length c.args.settings.now.delimiter false c.args.line.now = rw (← c.settings.view_is) c.field_length.ensures in
+    let is : c.field_length.result ≡ field_length c.args.settings.now.delimiter Front c.args.line.now = rw (← c.settings.view_is) c.field_length.ensures in
     let on : c.push_field.new.gathered.is_stopped ≡ false = ap (λ g. g.is_stopped) (sym c.gathered.view_is) ∙ c.if-gathered.false in
     let apart = seam c.args.line.now c.field_length.result c.in-Some.separator.now c.in-Some.rest.now
     (sym c.split_at.ensures.back ∙ c.in-Some.ensures.cases.0) in

@@ -1,12 +1,13 @@
 use Rattle.std.proofs.Common.{sym, ap, ◌∙◌}
 use Rattle.decimal_lines.proofs.Known.{Appends-nothing}
-use Rattle.locnum_lines.proofs.Adding.{or_false}
-use Rattle.locnum_lines.proofs.Runs.{any_err, held-none, held-ran, only_added}
+use Rattle.locnum_lines.proofs.Adding.{only_added, or_false}
+use Rattle.locnum_lines.proofs.Runs.{any_err, held-none, held-ran}
 use Rattle.locnum_lines.proofs.running.finish.Goals as goal
 
 pub returns-then-is_empty-clause-ok : goal.returns-then-is_empty-clause-ok
 returns-then-is_empty-clause-ok g c =
-    rw (held-none c.args.settings.now c.args.form.now c.args.held.now c.args.gathered.now.header (sym c.is_empty.ensures ∙ c.if-is_empty.true)) (record {
+    rw (held-none c.args.settings.now c.args.form.now c.args.held.now c.args.gathered.now.header c.args.gathered.now.lines
+    (sym c.is_empty.ensures ∙ c.if-is_empty.true)) (record {
       written = Appends-nothing _;
       told = Appends-nothing _;
       is_refused = ap (λ k. k.is_refused) c.reported.ensures ∙ or_false _;
@@ -15,7 +16,7 @@ returns-then-is_empty-clause-ok g c =
 
 pub returns-in_err-flush-clause-err : goal.returns-in_err-flush-clause-err
 returns-in_err-flush-clause-err g c =
-    let adds = held-ran c.args.settings.now c.args.form.now c.args.held.now c.args.gathered.now c.push_line.new.gathered
+    let adds = held-ran c.args.settings.now c.args.form.now c.args.held.now c.args.gathered.now c.push_last.new.gathered _
     (sym c.is_empty.ensures ∙ c.if-is_empty.false) c.requires.part c.in-Ok.ensures in
     any_err c.from_residual.result (record {
       written = rw (only_added _ _ _ adds.output c.requires.no_output) at c.in_err-flush.ensures.err_written;
@@ -24,7 +25,7 @@ returns-in_err-flush-clause-err g c =
 
 pub returns-clause-ok : goal.returns-clause-ok
 returns-clause-ok g c =
-    let adds = held-ran c.args.settings.now c.args.form.now c.args.held.now c.args.gathered.now c.push_line.new.gathered
+    let adds = held-ran c.args.settings.now c.args.form.now c.args.held.now c.args.gathered.now c.push_last.new.gathered _
     (sym c.is_empty.ensures ∙ c.if-is_empty.false) c.requires.part c.in-Ok.ensures in
     record {
       written = rw (only_added _ _ _ adds.output c.requires.no_output) at c.in_ok-flush.ensures.written;

@@ -2,6 +2,8 @@ use Rattle.std.proofs.Common.{◌++◌, [], List, ℕ, take, refl, sym, ap, ◌�
 use Rattle.std.specs.Io.KnownBytes.{Consumes}
 use Rattle.std.proofs.lemmas.Result.{IfOk-weaker, on_err_weaker}
 use Rattle.decimal_lines.proofs.Known.{Consumes-none, Consumes-nothing, Consumes-then}
+use Rattle.locnum_lines.specs.declared.cutting.Place.TheVariants.{Front}
+use Rattle.locnum_lines.proofs.Feeding.{place_behind-nothing}
 use Rattle.locnum_lines.proofs.Runs.{Went, Went-start, Went-then, any_err, breaks, ends, ends_early, pauses, stops}
 use Rattle.locnum_lines.proofs.running.run_by.Given.{Over}
 use Rattle.locnum_lines.proofs.running.run_by.Goals as goal
@@ -16,6 +18,7 @@ loop-init g c = (
   ap (λ k. k.output) c.new-gathered.ensures,
   ap (λ k. k.notes) c.new-gathered.ensures,
   ap (λ k. k.is_stopped) c.new-gathered.ensures,
+  rw c.new-held.ensures.items (sym (place_behind-nothing c.args.settings.now.delimiter c.args.settings.now.end Front)),
 )
 
 pub returns-in_default-clause-err : goal.returns-in_default-clause-err
@@ -40,14 +43,15 @@ pub returns-in_err-flush-clause-err : goal.returns-in_err-flush-clause-err
 returns-in_err-flush-clause-err g c =
     let i = c.loop.invariant in
     let chunk = take c.in-Ok.n c.read.new.buf in
-    any_err c.from_residual.result (breaks _ _ _ _ _ _ _ _ _ _ _ _ i.0 _ chunk _ i.2 i.3 i.4 i.5 c.in-Ok-taken.ensures
+    any_err c.from_residual.result (breaks _ _ _ _ _ _ _ _ _ _ _ _ i.0 _ chunk _ i.2 i.3 i.4 i.5 c.in-Ok-taken.ensures.feeds
     (Consumes-then _ _ _ i.0 _ i.1 c.in-Ok.ensures.bytes.0) c.in_err-flush.ensures.err_written c.in_err-flush.ensures.err_told)
 
 pub returns-then-gathered-clause-ok : goal.returns-then-gathered-clause-ok
 returns-then-gathered-clause-ok g c =
     let i = c.loop.invariant in
     let chunk = take c.in-Ok.n c.read.new.buf in
-    let went = Went-then _ _ _ _ _ _ _ _ _ _ i.0 _ chunk _ i.2 i.3 i.4 i.5 c.in-Ok-taken.ensures c.in_ok-flush.ensures.written c.in_ok-flush.ensures.told in
+    let went = Went-then _ _ _ _ _ _ _ _ _ _ i.0 _ chunk _ i.2 i.3 i.4 i.5 c.in-Ok-taken.ensures.feeds c.in_ok-flush.ensures.written
+    c.in_ok-flush.ensures.told in
     stops _ _ _ _ _ _ _ (i.0 ++ chunk) _ went _ _ c.reported.result (Consumes-then _ _ _ i.0 _ i.1 c.in-Ok.ensures.bytes.0)
     (ap (λ k. k.is_stopped) (sym c.in_ok-flush.ensures.ok) ∙ ap (λ k. k.is_stopped) (sym c.gathered-in-loop-2.view_is) ∙ c.if-gathered.true)
     (c.reported.ensures ∙ ap (λ k. record { is_refused = k.is_refused; is_stopped = k.is_stopped }) c.in_ok-flush.ensures.ok)
@@ -56,13 +60,16 @@ pub loop-preserved : goal.loop-preserved
 loop-preserved g c =
     let i = c.loop.invariant in
     let chunk = take c.in-Ok.n c.read.new.buf in
-    let went = Went-then _ _ _ _ _ _ _ _ _ _ i.0 _ chunk _ i.2 i.3 i.4 i.5 c.in-Ok-taken.ensures c.in_ok-flush.ensures.written c.in_ok-flush.ensures.told in (
+    let went = Went-then _ _ _ _ _ _ _ _ _ _ i.0 _ chunk _ i.2 i.3 i.4 i.5 c.in-Ok-taken.ensures.feeds c.in_ok-flush.ensures.written
+    c.in_ok-flush.ensures.told in (
       i.0 ++ chunk,
       Consumes-then _ _ _ i.0 _ i.1 c.in-Ok.ensures.bytes.0,
       rw c.in_ok-flush.ensures.ok went,
       ap (λ k. k.output) c.in_ok-flush.ensures.ok,
       ap (λ k. k.notes) c.in_ok-flush.ensures.ok,
       ap (λ k. k.is_stopped) (sym c.gathered-in-loop-2.view_is) ∙ c.if-gathered.false,
+      c.in-Ok-taken.ensures.place (ap (λ k. k.is_stopped) (sym c.in_ok-flush.ensures.ok) ∙ ap (λ k. k.is_stopped) (sym c.gathered-in-loop-2.view_is)
+          ∙ c.if-gathered.false),
     )
 
 -- what holds after the last turn
@@ -75,7 +82,8 @@ ends_so g c = elim c.loop-test.branch [
   | then-loop-test+in-Ok+else-n-eq0+in-Ok-taken+in_ok-flush+else-gathered+else-counter-lt18446744073709551615 w ↦
       let i = c.loop.invariant in
       let chunk = take w.in-Ok.n w.read.new.buf in
-      let went = Went-then _ _ _ _ _ _ _ _ _ _ i.0 _ chunk _ i.2 i.3 i.4 i.5 w.in-Ok-taken.ensures w.in_ok-flush.ensures.written w.in_ok-flush.ensures.told in
+      let went = Went-then _ _ _ _ _ _ _ _ _ _ i.0 _ chunk _ i.2 i.3 i.4 i.5 w.in-Ok-taken.ensures.feeds w.in_ok-flush.ensures.written
+      w.in_ok-flush.ensures.told in
       rw (w.reader-is, w.writer-is, w.notes-is, w.held-is, w.gathered-is) (
         i.0 ++ chunk,
         Consumes-then _ _ _ i.0 _ i.1 w.in-Ok.ensures.bytes.0,
@@ -88,3 +96,9 @@ returns-clause-err g c = let i = ends_so g c in pauses _ _ _ _ _ _ _ i.0 _ i.2 _
 
 pub returns-in_default-taken-clause-err : goal.returns-in_default-taken-clause-err
 returns-in_default-taken-clause-err g c = let i = c.loop.invariant in pauses _ _ _ _ _ _ _ i.0 _ i.2 _ _ i.1
+
+pub finish-requires-clause-place_is : goal.finish-requires-clause-place_is
+finish-requires-clause-place_is g c = rw c.deref.ensures.value c.loop.invariant.6
+
+pub take_block-taken-requires-clause-place_is : goal.take_block-taken-requires-clause-place_is
+take_block-taken-requires-clause-place_is g c = c.loop.invariant.6

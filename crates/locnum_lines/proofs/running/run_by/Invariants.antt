@@ -1,5 +1,7 @@
 use Rattle.std.proofs.Common.{◌≡◌, ℕ, List, [], false}
 use Rattle.std.specs.Io.KnownBytes.{Consumes}
+use Rattle.locnum_lines.specs.Records.{place_behind}
+use Rattle.locnum_lines.specs.declared.cutting.Place.TheVariants.{Front}
 use Rattle.locnum_lines.proofs.Runs.{Went}
 use Rattle.locnum_lines.proofs.running.run_by.Given as goal
 
@@ -8,3 +10,4 @@ invariant-loop g l = (got : List ℕ) × Consumes (g.R.Read.remaining l.fn.reade
     × Went l.settings l.form (g.W.Write.contents l.fn.writer) (g.W.Write.contents l.writer) (g.N.Write.contents l.fn.notes)
     (g.N.Write.contents l.notes) l.gathered got l.held.items
     × (l.gathered.output ≡ []) × (l.gathered.notes ≡ []) × (l.gathered.is_stopped ≡ false)
+    × (l.place ≡ place_behind l.settings.delimiter Front l.held.items)
