@@ -1,7 +1,7 @@
 #!/usr/bin/env python3
 """Writes an input of the comparison, always the same: `generate.py mixed|long`; or tables of many locales, the sample's
-under other names: `generate.py tables [BYTES]`; or the sample with the signs that CLDR has in Arabic, which ICU writes:
-`generate.py locales`."""
+or those of another file under other names: `generate.py tables [BYTES [FILE]]`; or the sample with the signs that CLDR has
+in Arabic, which ICU writes: `generate.py locales`."""
 
 import json
 import os
@@ -48,15 +48,18 @@ def long_line(numbers):
     return ("-" if numbers.below(3) == 0 else "") + numbers.digits(length)
 
 
-def sample_tables():
-    """The tables of the sample."""
-    with open(os.path.join(os.path.dirname(__file__), "../tables/sample.json"), encoding="utf-8") as file:
+SAMPLE = os.path.join(os.path.dirname(__file__), "../tables/sample.json")
+
+
+def read_tables(name=SAMPLE):
+    """The tables of a file, by default the sample."""
+    with open(name, encoding="utf-8") as file:
         return json.load(file)
 
 
-def tables(size):
-    """The sample tables, and their entries again and again under other locales, up to so many bytes."""
-    sample = sample_tables()
+def tables(size=10_000_000, name=SAMPLE):
+    """The tables of a file, and their entries again and again under other locales, up to so many bytes."""
+    sample = read_tables(name)
     kinds = ("symbols", "rules", "short", "long")
     texts = {kind: [] for kind in kinds}
     written = turn = 0
@@ -74,7 +77,7 @@ def tables(size):
 
 def locales():
     """The sample tables, with the letter mark before Arabic signs."""
-    sample = sample_tables()
+    sample = read_tables()
     for entry in sample["symbols"]:
         if entry["numsys"] == "arab":
             entry["minus"], entry["plus"] = ["\u061c-", ""], ["\u061c+", ""]
@@ -87,7 +90,7 @@ def main():
         print(locales())
         return
     if shape == "tables":
-        print(tables(int(sys.argv[2]) if len(sys.argv) > 2 else 10_000_000))
+        print(tables(*map(int, sys.argv[2:3]), *sys.argv[3:4]))
         return
     numbers = Numbers({"mixed": 1, "long": 2}[shape])
     line = {"mixed": mixed_line, "long": long_line}[shape]

@@ -154,6 +154,33 @@ has currency_compact \
     $'{"locale":"qbj","patterns":[[3,3,{"other":"¤ 0 \'k.\';¤ -0 \'k.\'"}],[8,6,{"other":"-¤0M"}]]}'
 counts currency_compact 1
 
+# Compact patterns of latn for a numbering system that has other patterns of money alone; an `E` outside of a number.
+cat >"$folder/odd/main/qbk.xml" <<END
+<ldml><numbers>
+    <defaultNumberingSystem>deva</defaultNumberingSystem>
+    <currencyFormats numberSystem="deva">
+        <currencyFormatLength>
+            <currencyFormat type="standard"><pattern>#,##0.00 ¤</pattern></currencyFormat>
+            <currencyFormat type="accounting"><pattern>#,##0.00 ¤</pattern></currencyFormat>
+        </currencyFormatLength>
+        <unitPattern count="other">{0} {1}</unitPattern>
+    </currencyFormats>
+    <currencyFormats numberSystem="latn"><currencyFormatLength type="short">
+        <currencyFormat type="standard">
+            <pattern type="1000" count="other">0 E ¤</pattern>
+            <pattern type="10000" count="other">00 E'x' ¤</pattern>
+            <pattern type="100000" count="other">000E ¤</pattern>
+        </currencyFormat>
+    </currencyFormatLength></currencyFormats>
+</numbers></ldml>
+END
+makes exponents "$folder/odd" qbk --currencies QQA
+short='qbk: currencyFormats[latn]/short'
+tells "${digits_lines[@]}" \
+    "$short/10000-other: \"00 E'x' ¤\": the special character E within a pattern" \
+    "$short/100000-other: '000E ¤': the number 000E isn't zeros alone"
+has currency_compact $'{"locale":"qbk","patterns":[[3,3,{"other":"0 \'E\' ¤"}]]}'
+
 # Nothing of it without its words.
 makes none "$release" --names none --currencies none --units none
 judge 'none is the default' cmp "$folder/none.json" "$folder/modern.json"

@@ -1,5 +1,5 @@
 """The entries of money, percents and units."""
-from cldr_numbers import CompactReader, fitting, formats_of, symbol, symbols_entry, unfit, without_repeats
+from cldr_numbers import LATIN, CompactReader, fitting, formats_of, symbol, symbols_entry, unfit, without_repeats
 from cldr_paths import (
     UNIT_WIDTHS,
     compact_money_path,
@@ -14,7 +14,15 @@ from cldr_paths import (
     symbols_path,
     unit_path,
 )
-from cldr_patterns import PLACE, compact_text, refuse_unreadable, sizes_of, subpatterns, with_one_zero
+from cldr_patterns import (
+    PLACE,
+    compact_text,
+    refuse_unreadable,
+    sizes_of,
+    subpatterns,
+    with_one_zero,
+    with_quoted_exponents,
+)
 from cldr_reports import CASH, GROUPS, OWN_PATTERN, UNIT, Inexpressible
 
 NAME = "{1}"
@@ -94,6 +102,7 @@ class CompactMoneyReader(CompactReader):
 
     def spelled(self, pattern):
         """The number of zeros of a pattern, and the pattern with one, in which the symbol stands; or `0` alone."""
+        pattern = with_quoted_exponents(pattern)
         zeros, text = compact_text(subpatterns(pattern)[0], {special: special for special in "-+" + SYMBOL})
         if (zeros, text) == (1, PLACE):
             return zeros, text
@@ -108,9 +117,16 @@ class CompactMoneyReader(CompactReader):
         return unfit(power, exponent, before, elements) or ("no symbol" if PLACE in elements.values() else None)
 
 
+def compact_money_formats(release, locale, system):
+    """The numbering system whose compact patterns of money are those of a system, which may have other patterns alone."""
+    types = ["1" + "0" * power for power in release.powers(locale, CompactMoneyReader.element)]
+    texts = (release.text(locale, compact_money_path(system, SHORT, name, "other")) for name in types)
+    return system if any(text is not None for text in texts) else LATIN
+
+
 def compact_money_entry(release, locale, system, rules):
     """The short compact patterns of money."""
-    formats = money_formats(release, locale, system)
+    formats = compact_money_formats(release, locale, system)
     return {"patterns": CompactMoneyReader(release, locale, formats, SHORT, rules).table()}
 
 

@@ -5,6 +5,7 @@ from cldr_paths import compact_path, counted, plain_path, shown, step, symbols_p
 from cldr_patterns import CATEGORIES, PLACE, around_number, category_of, compact_text, grouping, literal, subpatterns
 from cldr_reports import COMPACT, NEGATIVE, PLAIN, SYSTEM, Inexpressible
 
+LATIN = "latn"
 EXPLICIT = {"0": "explicit_zero", "1": "explicit_one"}
 SYMBOLS_BYTES = 255
 LARGEST_GROUP = 255
@@ -25,7 +26,7 @@ def systems_of(release, locale, digits):
     default = release.text(locale, (step("defaultNumberingSystem", {}),))
     native = release.text(locale, (step("otherNumberingSystems", {}), step("native", {})))
     systems = []
-    for kind, system in (("default", default), ("native", native), ("", "latn")):
+    for kind, system in (("default", default), ("native", native), ("", LATIN)):
         if system in digits and system not in systems:
             systems.append(system)
         elif system is not None and system not in digits:
@@ -38,7 +39,7 @@ def symbol(release, locale, system, name):
     """A symbol of a numbering system; that of latn where the system has none (UTS 35 Part 3, Number Symbols)."""
     text = release.text(locale, symbols_path(system) + (step(name, {}),))
     if text is None:
-        text = release.text(locale, symbols_path("latn") + (step(name, {}),))
+        text = release.text(locale, symbols_path(LATIN) + (step(name, {}),))
     if text is None:
         raise Inexpressible(f"no {name}")
     return text
@@ -46,7 +47,7 @@ def symbol(release, locale, system, name):
 
 def formats_of(release, locale, system, path_of=plain_path):
     """The numbering system whose patterns are those of a system: latn where it has none."""
-    return system if release.text(locale, path_of(system)) is not None else "latn"
+    return system if release.text(locale, path_of(system)) is not None else LATIN
 
 
 def affixes(negative, minus, plus):

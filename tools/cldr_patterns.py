@@ -85,6 +85,16 @@ def with_one_zero(pattern):
     return "".join("0" if match["number"] else match[0] for match in PIECE.finditer(pattern))
 
 
+def with_quoted_exponents(pattern):
+    """A pattern in which each `E` outside of its number stands in quotes, as it has to in tables; CLDR needs none there. One
+    beside a quote stays as it is."""
+    text = ""
+    for match in PIECE.finditer(pattern):
+        is_alone = "'" not in (text[-1:], pattern[match.end() : match.end() + 1])
+        text += "'E'" if match["plain"] == "E" and is_alone else match[0]
+    return text
+
+
 def grouping(number):
     """The sizes of the first group and of the further ones (UTS 35 Part 3, Number Patterns)."""
     if not re.fullmatch(r"[#,]*[0,]*(\.0*#*)?", number) or not re.match("[#0]", number):
