@@ -169,12 +169,17 @@ def hash_of(crate, circle, seen_by, logic):
     if seen_by == BY_TESTS:
         tests = {tests for edit in edits_of(crate, circle) for tests, _ in edit.shown}
         add(into, files_of(*[f"crates/{name}/src" for name in sorted(tests)]))
-    elif circle == INNER:
+    elif has_controls(crate, circle):
         add(into, [os.path.relpath(edit.path, ROOT) for edit in edits_of(crate, CONTROLS)])
     return into.hexdigest()
 
 
 # Checks
+
+def has_controls(crate, circle):
+    """Whether the prover sees a crate's controls with this circle: with the inner one, or with the outer one where there is none."""
+    return circle == INNER or not edits_of(crate, INNER)
+
 
 def apply(edit, folder):
     """Changes the files of a crate in a folder, or answers why that can't be."""
@@ -257,7 +262,10 @@ def why_not_by(edit, said, function, clause):
     if os.path.exists(answers) and re.search(rf"^(pub )?{re.escape(clause)}( .*)?[:=]", read(answers), flags=re.M):
         return f"{clause} of {function} has a written answer, so that its failing shows nothing: name a test"
     goals = {goal for module, goal in OPEN_GOAL.findall(said) if f"{path}/".startswith(f"{module}/") or module in ("lib", "main")}
-    own = re.search(rf"^fn {edit.crate}::{re.escape(function)}: (no proof: expected|not proved)", said, flags=re.M)
+    own = re.search(rf"^fn {edit.crate}::{re.escape(function)}: (?:no proof: expected|not proved)(.*)", said, flags=re.M)
+    if own:
+        # a method may stand in another file than its type, by whose path it goes
+        goals |= set(re.findall(r"`([^`]+)`", own[1].partition("did not prove")[2]))
     if not own or clause not in goals:
         return f"{clause} of {function} isn't among the open goals: {', '.join(sorted(goals)) or 'none there'}"
     return None
@@ -316,10 +324,10 @@ def faults_by_tests(edit):
 
 
 def try_circle(crate, circle, seen_by, kit, logic):
-    """The faults of each edit of a circle, in the order of the edits; the prover sees the controls with the inner circle."""
+    """The faults of each edit of a circle, in the order of the edits, and of the controls that are seen with it."""
     if seen_by == BY_TESTS:
         return [(edit, faults_by_tests(edit)) for edit in edits_of(crate, circle) if edit.shown]
-    tried = edits_of(crate, *((INNER, CONTROLS) if circle == INNER else (OUTER,)))
+    tried = edits_of(crate, circle, *([CONTROLS] if has_controls(crate, circle) else []))
     contracts_below = hashlib.sha256(f"{logic}\n{crate}\n".encode())
     add_contracts(contracts_below, crate)
     incremental = os.path.join(ROOT, "crates", crate, "out", "incremental")

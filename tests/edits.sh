@@ -5,7 +5,8 @@
 # refuse its edits: of the crate's sources, definitions and proofs, of the circle's edits, of the definitions of the crates
 # below it and of the contracts of what other crates can call there, and of the toolchain's logic. Where edits name tests that
 # show them, a second line, /shown, has the hash under which these were seen to fail: of the sources of the tests too, and not
-# of proofs. So what was seen is tried again only where one of these is another. The prover sees the controls with the inner circle.
+# of proofs. So what was seen is tried again only where one of these is another. The prover sees the controls with the inner
+# circle, or with the outer one where a crate has no inner one.
 # usage: tests/edits.sh [--gate | CRATE .. | CRATE/must-fail[/shown] .. | CRATE/edits[/shown] ..]
 # Without words what has another hash than in edits.lock is tried; with words the circles of these crates, or these.
 # They are tried over the libraries that `rt ci`, `rt all check` or `rt check` left in crates/NAME/out, EDITS_JOBS at a time.

@@ -1,13 +1,15 @@
 #!/usr/bin/env python3
 """What strangers send to locnum: random words and lines against the built program, each answer judged by a model of its own.
 
-usage: tests/hostile_locnum.py [WORDS [INPUTS [SEED [PROGRAM]]]], by default 1500 lists of words and 1500 inputs by seed 1
+usage: tests/hostile_locnum.py [WORDS [INPUTS [SEED [PROGRAM]]]], by default 1500 lists of words and 1500 inputs by seed 1; a
+third as many inputs are explained
 
 The model of words has the command line (what isn't an option, is given twice or has no text) and the options, with each of
 their faults. The model of lines has fields, headers, what becomes of texts that are refused, and plain English numbers: groups
-of three, fraction digits, signs; that of CSV has quotes, what stands between them, and quotes without an end. Standard output
-and standard error are compared whole, but for a fault of the command line, of whose text the beginning is known, and for
-compact numbers, money and percents, of which lines are counted.
+of three, fraction digits, signs; that of CSV has quotes, what stands between them, and quotes without an end; that of
+explanations has the parts of plain English numbers and their magnitudes. Standard output and standard error are compared whole,
+but for a fault of the command line, of whose text the beginning is known, and for compact numbers, money and percents, of which
+lines are counted, and of explanations the texts compared.
 
 The same words give the same cases. The last
 line is 'N passed, M failed', one for each kind of input and for what has to be met in it.
@@ -27,7 +29,11 @@ LIMIT = 32768
 # Options with a text and without one, and their letters.
 TEXTS = ["tables", "locale", "system", "style", "grouping", "fraction", "sign", "currency", "width", "unit", "delimiter",
          "field", "padding", "invalid"]
-FLAGS = ["accounting", "cash", "percent", "csv", "zero-terminated"]
+FLAGS = ["accounting", "cash", "percent", "csv", "zero-terminated", "explain"]
+# What cuts lines, or has to do with their fields: not beside --explain.
+OF_LINES = ["csv", "delimiter", "field", "header", "padding", "zero-terminated"]
+# White space of ASCII, which the text of a line that is explained has not at its ends; and the columns of an explanation.
+WHITE, WIDTH = b" \t\n\f\r", 80
 LETTERS = {"t": "tables", "l": "locale", "d": "delimiter", "z": "zero-terminated", "h": "help", "V": "version"}
 GROUPINGS = ["auto", "never", "always", "min2"]
 SIGNS = ["auto", "always", "never", "except-zero", "negative"]
@@ -61,8 +67,11 @@ LONG = [b"9" * LIMIT, b"." + b"5" * LIMIT, *[b"9" * LIMIT + b".5"] * 4, b"9" * (
 # Words that are put among the others, most of them faults of the command line.
 PUT_IN = [["--unknown"], ["-q"], ["-zq"], ["---cash"], ["--cash=1"], ["--Cash"], ["--head"], ["-" + "x" * 5000],
           ["--" + "x" * 5000], ["-.5"], ["--help"], ["-h"], ["--version"], ["-V"], ["-zV"], ["-5x"],
-          ["--currency=USD", "--accounting", "--width=name"], ["--percent", "--percent"], ["-z", "--zero-terminated"],
-          ["--csv", "-z"], ["--csv", "-d", '"'], ["--csv", "--delimiter=\n"], ["-d\r", "--csv"],
+          ["--currency=USD", "--accounting", "--width=name"], ["--accounting", "--currency=EUR", "--width=name"],
+          ["--currency=EUR", "--style=long"], ["--style=short", "--currency=USD", "--cash"],
+          ["--width=narrow", "--currency=EUR", "--style=short"], ["--currency=USD", "--style=short"],
+          ["--percent", "--percent"], ["-z", "--zero-terminated"],
+          ["--csv", "-z"], ["--explain", "--padding=9"], ["--explain", "-z"], ["--explain"], ["--csv", "-d", '"'], ["--csv", "--delimiter=\n"], ["-d\r", "--csv"],
           ["--sign", "auto", "--sign=auto"], [b"\xff"],
           [b"--field=\xc3"], ["--locale", b"e\x80n"], ["--="], [b"\xc3\xa9\xe9"]]
 FAULTS = {
@@ -71,12 +80,15 @@ FAULTS = {
     "grouping": "--grouping: neither auto, never, always nor min2",
     "fraction": "--fraction: neither N nor MIN..MAX, each at most 255",
     "sign": "--sign: neither auto, always, never, except-zero nor negative",
-    "together": "--style, --currency, --percent and --unit: more than one of them",
+    "together": "--percent and --unit: not together, nor with --style or --currency",
     "alone": "--accounting and --cash want --currency, and --width wants --currency or --unit",
     "currency": "--currency: not three capital letters",
     "accounting": "--accounting: not with --width name",
+    "long money": "--style long: not with --currency",
+    "short money": "--style short: not with --accounting, --cash or a --width but short",
     "width": "--width: short, narrow or name for money; long, short or narrow for units",
     "style": "--style: neither plain, short nor long",
+    "explained": "--explain: not with --csv, -d, --field, --header, --padding or -z",
     "delimiter": "--delimiter: not a single byte",
     "csv with zero": "--csv: not with --zero-terminated",
     "csv with a mark": "--csv: --delimiter is neither a quote, a line feed nor a carriage return",
@@ -158,7 +170,8 @@ def parsed(words):
 
 # The model of options: the page of locnum_options.
 
-Settings = collections.namedtuple("Settings", "kind grouping fraction sign delimiter fields header end mode columns csv")
+Settings = collections.namedtuple(
+    "Settings", "kind grouping fraction sign delimiter fields header end mode columns csv explain")
 
 
 def number_named(text):
@@ -189,19 +202,26 @@ def columns_named(text):
 
 def kind_of(given):
     """Which kind of numbers is asked for."""
-    if sum(name in given for name in ("style", "currency", "percent", "unit")) > 1:
+    if sum(name in given for name in ("percent", "unit")) > ("style" not in given and "currency" not in given):
         raise Ended("together")
     if "currency" not in given and ("accounting" in given or "cash" in given or "width" in given and "unit" not in given):
         raise Ended("alone")
+    style = given.get("style", "plain")
+    if "currency" in given and style not in ("plain", "short"):
+        raise Ended("long money" if style == "long" else "style")
     if "currency" in given and not re.fullmatch("[A-Z]{3}", given["currency"]):
         raise Ended("currency")
+    if "currency" in given and style == "short":
+        if "accounting" in given or "cash" in given or given.get("width", "short") != "short":
+            raise Ended("short money")
+        return OTHER
     if "currency" in given and "accounting" in given and given.get("width") == "name":
         raise Ended("accounting")
     if given.get("width", "short") not in (["short", "narrow", "name"] if "currency" in given else ["short", "narrow", "long"]):
         raise Ended("width")
-    if given.get("style", "plain") not in ("plain", "short", "long"):
+    if style not in ("plain", "short", "long"):
         raise Ended("style")
-    return PLAIN if given.get("style", "plain") == "plain" and not {"currency", "percent", "unit"} & set(given) else OTHER
+    return PLAIN if style == "plain" and not {"currency", "percent", "unit"} & set(given) else OTHER
 
 
 def settings_of(given):
@@ -215,6 +235,8 @@ def settings_of(given):
     wanted("fraction", fraction_named)
     wanted("sign", lambda text: text in SIGNS)
     kind = kind_of(given)
+    if "explain" in given and any(name in given for name in OF_LINES):
+        raise Ended("explained")
     wanted("delimiter", lambda text: len(text.encode()) == 1)
     if "csv" in given and "zero-terminated" in given:
         raise Ended("csv with zero")
@@ -235,7 +257,7 @@ def settings_of(given):
         given.get("sign", "auto"), given["delimiter"].encode() if "delimiter" in given else b"," if "csv" in given else None,
         [range_named(part) for part in given.get("field", "1").split(",")], int(given.get("header", "0")),
         b"\0" if "zero-terminated" in given else b"\n", given.get("invalid", "abort"),
-        columns_named(given.get("padding", "")), "csv" in given)
+        columns_named(given.get("padding", "")), "csv" in given, "explain" in given)
 
 
 # The model of numbers: plain English.
@@ -277,6 +299,45 @@ def shown(text, settings):
         front = len(whole) % 3
         whole = ",".join([*([whole[:front]] if front else []), *(whole[at:at + 3] for at in range(front, len(whole), 3))])
     return sign + whole.encode() + (b"." + fraction.encode() if fraction else b""), None
+
+
+# The model of explanations: the page of locnum_explain.
+
+
+def parts_of(written):
+    """The parts of a plain English number, in the order of opening: where each starts and ends, and its name."""
+    start = 1 if written[:1] in (b"-", b"+") else 0
+    point = written.find(b".")
+    end = len(written) if point < 0 else point
+    yield from [(0, 1, b"minusSign" if written[:1] == b"-" else b"plusSign")] if start else []
+    yield start, end, b"integer"
+    yield from ((at, at + 1, b"group") for at in range(start, end) if written[at:at + 1] == b",")
+    yield from [(end, end + 1, b"decimal"), (end + 1, len(written), b"fraction")] if point >= 0 else []
+
+
+def part_lines(written):
+    """The lines of its parts: marks under it, or the parts themselves where one of these lines has no room."""
+    parts, count = list(parts_of(written)), len(written)
+    if all(count + len(name) + 4 <= WIDTH for _, _, name in parts):
+        return [b"  " + b" " * start + b"^" * (end - start) + b" " * (count - end) + b"  " + name for start, end, name in parts]
+    return [b"  " + name.ljust(11) + written[start:end] for start, end, name in parts]
+
+
+def magnitude_of(written):
+    """The power of ten of the first digit that isn't 0."""
+    whole, _, fraction = written.lstrip(b"+-").replace(b",", b"").partition(b".")
+    significant = whole.lstrip(b"0")
+    if significant or not fraction.strip(b"0"):
+        return max(len(significant), 1) - 1
+    return -1 - (len(fraction) - len(fraction.lstrip(b"0")))
+
+
+def explained(line, settings):
+    """The explanation of the number of a line, and why it is refused, or None."""
+    text = line.strip(WHITE)
+    written, why = shown(text, settings)
+    lines = [b"  " + why] if why else [b"  " + written, *part_lines(written), b"  magnitude  %d" % magnitude_of(written)]
+    return b"\n".join([re.sub(rb"[\x00-\x1f\x7f]", b"?", text), *lines, b""]), why
 
 
 # The model of lines: the page of locnum_lines.
@@ -395,8 +456,23 @@ class Run:
             self.output.append(behind)
         self.output.append(self.settings.end)
 
+    def explained_line(self, line):
+        """A line with a number, which is explained."""
+        lines, why = explained(line, self.settings)
+        self.output.append(lines)
+        if why:
+            self.is_refused = True
+            self.met.append(why.decode())
+            self.is_stopped = self.settings.mode == "abort"
+
     def lines(self, given):
         """An input."""
+        if self.settings.explain:
+            lines = given.split(b"\n")
+            for line in lines if lines[-1] else lines[:-1]:
+                if not self.is_stopped:
+                    self.explained_line(line)
+            return self
         if self.settings.csv:
             for fields, end, line in records_of(given, self.settings.delimiter):
                 if not self.is_stopped:
@@ -433,7 +509,9 @@ def answer_of(words, given, met):
     if numbers:
         run.left = 0
     for number in numbers:
-        if not run.is_stopped:
+        if not run.is_stopped and settings.explain:
+            run.explained_line(number.encode())
+        elif not run.is_stopped:
             run.lines(number.encode() or settings.end)
     answer = (run if numbers else run.lines(given)).answer()
     met.append(f"status {answer.status}")
@@ -446,6 +524,9 @@ def fits(answer, wanted, settings, met):
         return answer[:2] == wanted[:2] and answer.error.startswith(wanted.error) and answer.error.endswith(b"\n")
     if HELP in met:
         return answer.status == 0 and answer.output.startswith(wanted.output) and not answer.error
+    if settings and settings.kind == OTHER and settings.explain:
+        texts = [[line for line in each.output.split(b"\n") if not line.startswith(b"  ")] for each in (answer, wanted)]
+        return answer.status == wanted.status and answer.error == wanted.error and texts[0] == texts[1]
     if settings and settings.kind == OTHER:
         ends = [each.output.count(settings.end) for each in (answer, wanted)]
         return answer.status == wanted.status and answer.error == wanted.error and ends[0] == ends[1]
@@ -564,6 +645,14 @@ def some_settings(rng):
     return words, delimiter and delimiter.encode(), b"\0" if "zero-terminated" in given else b"\n"
 
 
+def some_explained(rng):
+    """Words that are accepted beside --explain, for plain numbers."""
+    names = [name for name in ("grouping", "fraction", "sign", "invalid") if rng.random() < 0.5]
+    words = [word for name in names for word in a_spelling(rng, name, rng.choice(GOOD[name]))]
+    words.insert(rng.choice([0, len(words)]), "--explain")
+    return words
+
+
 # How the program is run.
 
 
@@ -576,7 +665,7 @@ class Program:
     def run(self, words, given):
         """Status, output and error; a status of None where it doesn't end within 20 seconds."""
         try:
-            ended = subprocess.run([self.path, *words], input=given, capture_output=True, timeout=20, cwd=self.folder)
+            ended = subprocess.run([self.path, *words], input=given, capture_output=True, timeout=20, cwd=self.folder, env={})
         except subprocess.TimeoutExpired:
             return Answer(None, b"", b"")
         return Answer(ended.returncode, ended.stdout, ended.stderr)
@@ -623,6 +712,23 @@ def lines_hold(program, rng):
     return words, given, is_held, answer, wanted, met + list(noted(words, given, end))
 
 
+MET_OF_EXPLAINED = ["not a decimal", "too many digits", "overflow", "no end", "an end", "bytes that aren't UTF-8", "a long line",
+                    "status 0", "status 2"]
+
+
+def explained_hold(program, rng):
+    """An input that is explained: mostly a number a line."""
+    words = some_explained(rng)
+    given = some_lines(rng, None, b"\n") if rng.random() < 0.3 else b"\n".join(
+        rng.choice([b"", b"", b" ", b"\t"]) + a_text(rng) + rng.choice([b"", b"", b"\r", b" "]) for _ in range(rng.choice([0, 1, 3, 9])))
+    if rng.random() < 0.03:
+        # rounded to more digits than there may be
+        words, given = ["--explain", "--fraction=0"], b"9" * LIMIT + b".5"
+    given += rng.choice([b"", b"\n"])
+    is_held, answer, wanted, met = program.holds(words, given)
+    return words, given, is_held, answer, wanted, met + list(noted(words, given, b"\n"))
+
+
 def all_hold(name, holds, count, seed, kinds):
     """Whether all cases of a kind hold, and whether all that is to be met is, which few cases needn't show."""
     met, missed = collections.Counter(), 0
@@ -649,7 +755,8 @@ def main():
     with tempfile.TemporaryDirectory() as folder:
         program = Program(path, folder)
         results = [*all_hold("words", lambda rng: words_hold(program, rng), lists, seed, ENDINGS),
-                   *all_hold("lines", lambda rng: lines_hold(program, rng), inputs, seed, MET_OF_LINES)]
+                   *all_hold("lines", lambda rng: lines_hold(program, rng), inputs, seed, MET_OF_LINES),
+                   *all_hold("explained", lambda rng: explained_hold(program, rng), inputs // 3, seed, MET_OF_EXPLAINED)]
     print(f"{sum(results)} passed, {len(results) - sum(results)} failed")
     return 0 if all(results) else 1
 

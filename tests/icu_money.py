@@ -31,6 +31,9 @@ import cldr_to_tables as cldr  # noqa: E402
 from cldr_release import MONEY, PERCENTS, UNITS  # noqa: E402
 from icu_compare import OTHER, Difference, Job, KnownKinds, differences_of, entry_of, same_version, shown  # noqa: E402
 
+# The keys of tables that have entries of a locale.
+KEYS = ("symbols", "rules", "currencies", "currency_symbols", "currency_compact", "percents", "units", "currency_decimals")
+
 CODES = ["USD", "EUR", "JPY", "CHF", "KWD", "INR", "BRL", "CVE"]
 UNIT_NAMES = (
     "kilometer meter centimeter mile foot inch year month week day hour minute second kilogram gram pound liter "
@@ -38,6 +41,7 @@ UNIT_NAMES = (
     "kilowatt calorie"
 ).split()
 NUMBERS = "0 1 -1 2 1.0 3 5 11 21 100 -0.5 0.005 0.015 1234.5 -1234567.891 999.995 1000000"
+LARGE = "1500 -15500 123456 9995000 -1234567890 98765432101 1234567890123456"
 EXPLICIT = "+0 +1 +1234.5"
 
 SPACED = "digits that aren't `[:digit:]`: ICU sets no space between them and a currency's symbol"
@@ -50,13 +54,18 @@ OWN_WITH_NAME = "names beside the pattern of the locale's own currency, in which
 PLACES = "names in another numbering system than the usual one, whose places tables can't express"
 LATIN_PLACES = "names where the usual numbering system has no patterns of money: ICU takes no other one's places"
 PARENTS_FIRST = "a child's name without a category: ICU takes its parent's for the category first"
+COMPACT_SYSTEM = "compact money in another numbering system than the usual one, whose patterns and signs tables can't express"
 
 NO_BREAK_SPACE = "\u00a0"
 
 
+# The files that hold lists of numbers, a line each.
+FILES = {NUMBERS: "numbers", LARGE: "large", EXPLICIT: "explicit"}
+
+
 def kinds():
     """All kinds of texts, as the peer is asked for them."""
-    money = [f"money {code} {width}" for code in CODES for width in ("short", "narrow", "name")]
+    money = [f"money {code} {width}" for code in CODES for width in ("short", "narrow", "name", "compact")]
     accounts = [f"money {code} {width} accounting" for code in CODES for width in ("short", "narrow")]
     units = [f"unit {unit} {width}" for unit in UNIT_NAMES for width in ("long", "short", "narrow")]
     return [*money, *accounts, "percent", *units]
@@ -69,13 +78,21 @@ def words_of(job):
     if kind == "percent":
         return [*words, "--percent"]
     name, width, *accounting = rest
-    words += ["--currency" if kind == "money" else "--unit", name, "--width", width]
+    words += ["--currency" if kind == "money" else "--unit", name]
+    words += ["--style", "short"] if width == "compact" else ["--width", width]
     return [*words, "--accounting"] if accounting else words
 
 
+def runs_of(job):
+    """The numbers that a job gets, each list with the word for signs: compact money has larger ones too, units have none with
+    an explicit sign."""
+    large = [("auto", LARGE)] if job.style.endswith(" compact") else []
+    return [("auto", NUMBERS), *large, *([] if job.style.startswith("unit") else [("always", EXPLICIT)])]
+
+
 def lines_of(job):
-    """The numbers that a job gets: units have them without an explicit sign alone."""
-    return NUMBERS.split() + ([] if job.style.startswith("unit") else EXPLICIT.split())
+    """All of these numbers."""
+    return [number for _, numbers in runs_of(job) for number in numbers.split()]
 
 
 class Locnum:
@@ -85,6 +102,7 @@ class Locnum:
         self.program = program
         self.tables = tables
         self.folder = pathlib.Path(folder)
+        self.texts_of = {}
         self.by_locale = collections.defaultdict(dict)
         for key, entries in tables.items():
             if key not in ("cldr", "digits", "currency_digits"):
@@ -93,9 +111,10 @@ class Locnum:
 
     def tables_of(self, locale):
         """A copy of the tables of a locale."""
-        common = {key: self.tables[key] for key in ("digits", "currency_digits")}
-        keys = ("symbols", "rules", "currencies", "currency_symbols", "percents", "units", "currency_decimals")
-        return copy.deepcopy(common | {key: self.by_locale[locale].get(key, []) for key in keys})
+        if locale not in self.texts_of:
+            common = {key: self.tables[key] for key in ("digits", "currency_digits")}
+            self.texts_of[locale] = json.dumps(common | {key: self.by_locale[locale].get(key, []) for key in KEYS})
+        return json.loads(self.texts_of[locale])
 
     def write(self, name, tables):
         path = self.folder / name
@@ -106,10 +125,9 @@ class Locnum:
         """What it writes for each of these jobs of one locale, for numbers with an explicit plus with the word for it."""
         run = []
         for job in jobs:
-            for signs, chosen in (("auto", "numbers"), ("always", "explicit")):
-                if signs == "auto" or len(lines_of(job)) > len(NUMBERS.split()):
-                    words = shlex.join([str(self.program), "-t", str(path), "--sign", signs, *words_of(job)])
-                    run.append(f"{words} <{shlex.quote(str(self.folder / chosen))} 2>&1")
+            for signs, numbers in runs_of(job):
+                words = shlex.join([str(self.program), "-t", str(path), "--sign", signs, *words_of(job)])
+                run.append(f"{words} <{shlex.quote(str(self.folder / FILES[numbers]))} 2>&1")
             run.append("echo =")
         said = subprocess.run(["sh"], input="\n".join(run), stdout=subprocess.PIPE, encoding="utf-8", check=True).stdout
         answers, lines = [], []
@@ -131,12 +149,36 @@ def icu_texts(peer, jobs):
     return [list(itertools.islice(lines, len(lines_of(job)))) for job in jobs]
 
 
+class LaterTypes(cldr_dimension.CompactMoneyReader):
+    """Reads compact patterns of money without the types whose patterns the next type has, too, with another exponent: tables
+    can't have both, and else leave out the later one."""
+
+    def table(self):
+        """The table without them."""
+        self.earlier, found = set(), None
+        while found != self.earlier:
+            found = set(self.earlier)
+            table = super().table()
+        return table
+
+    def elements(self, power):
+        """The exponent and the elements of a type, none of those that are left out."""
+        return None if power in self.earlier else super().elements(power)
+
+    def unfit(self, power, exponent, before, elements):
+        """Why a type can't stand after the one before it; the latter is left out where they have the same patterns."""
+        if exponent > before[1] and elements == cldr_numbers.without_explicit_one(before[2]):
+            self.earlier.add(before[0])
+        return super().unfit(power, exponent, before, elements)
+
+
 class Kinds(KnownKinds):
     """The known kinds of difference in money, percents and units."""
 
     def __init__(self, locnum, release):
         super().__init__(release)
         self.locnum = locnum
+        self.last, self.answers = None, {}
         self.known = {
             SPACED: self.no_space,
             GROUPS: self.own_groups,
@@ -148,6 +190,7 @@ class Kinds(KnownKinds):
             PLACES: self.places,
             LATIN_PLACES: self.root_places,
             PARENTS_FIRST: self.parents_first,
+            COMPACT_SYSTEM: self.compact_system,
         }
 
     def entry(self, tables, key, job):
@@ -158,10 +201,13 @@ class Kinds(KnownKinds):
             (entry for entry in entries if "system" not in entry), None)
 
     def again(self, tables, difference):
-        """What locnum writes with other tables."""
-        path = self.locnum.write("changed.json", tables)
-        place = lines_of(difference.job).index(difference.number)
-        return [self.locnum.texts(path, [difference.job])[0][place]]
+        """What locnum writes with other tables; all numbers of a job are asked at once, since most of them differ alike."""
+        job, text = difference.job, json.dumps(tables)
+        if job != self.last:
+            self.last, self.answers = job, {}
+        if text not in self.answers:
+            self.answers[text] = self.locnum.texts(self.locnum.write("changed.json", tables), [job])[0]
+        return [self.answers[text][lines_of(job).index(difference.number)]]
 
     def no_space(self, difference):
         """The text without the space, where the digits are of another general category than Nd."""
@@ -243,7 +289,7 @@ class Kinds(KnownKinds):
         return self.texts_with_own(difference, self.release.named(self.names[difference.job.locale], "currencies", "currency"))
 
     def left_out(self, difference):
-        """The text by CLDR's patterns of money, and names behind amounts."""
+        """The text by CLDR's patterns of money, compact ones too, and names behind amounts."""
         job = difference.job
         tables = self.locnum.tables_of(job.locale)
         if difference.ours is not None or not job.style.startswith("money") or self.entry(tables, "currencies", job):
@@ -252,6 +298,8 @@ class Kinds(KnownKinds):
         entry = cldr_dimension.money_patterns(self.release, locale, cldr_dimension.money_formats(self.release, locale, system))
         entry.update(cldr_dimension.signs_of(self.release, locale, system), names={"other": "{0} {1}"}, locale=job.locale)
         tables["currencies"] = [entry]
+        if job.style.endswith(" compact"):
+            return self.by_compact(difference, tables, system)
         return self.again(tables, difference)
 
     def other_script(self, difference):
@@ -321,6 +369,26 @@ class Kinds(KnownKinds):
                 row[3] = names
         return self.again(tables, difference)
 
+    def by_compact(self, difference, tables, system):
+        """The text by each way to put the compact patterns of money of a numbering system into tables."""
+        job = difference.job
+        locale, rules = self.names[job.locale], [tuple(rule) for rule in tables["rules"][0]["rules"]]
+        formats = cldr_dimension.compact_money_formats(self.release, locale, system)
+        for reader_type in (cldr_dimension.CompactMoneyReader, LaterTypes):
+            reader = reader_type(self.release, locale, formats, cldr_dimension.SHORT, rules)
+            tables["currency_compact"] = [{"locale": job.locale, "patterns": reader.table()}]
+            yield from self.again(tables, difference)
+
+    def compact_system(self, difference):
+        """The text by the compact patterns and the signs that the locale has in the numbering system."""
+        job = difference.job
+        tables = self.locnum.tables_of(job.locale)
+        money = self.entry(tables, "currencies", job)
+        if not job.style.endswith(" compact") or job.system == "-" or not money:
+            return []
+        tables["currencies"] = [{name: money[name] for name in money if name != "system"}]
+        return self.by_compact(difference, tables, self.entry(tables, "symbols", job)["numsys"])
+
 
 def group_of(job):
     """Which row of the printed table a job belongs to."""
@@ -329,7 +397,8 @@ def group_of(job):
         return "percents"
     if kind == "unit":
         return f"units, {rest[1]}"
-    return "money in accounts" if len(rest) > 2 else {"name": "money with names"}.get(rest[1], f"money, {rest[1]} symbols")
+    names = {"name": "money with names", "compact": "compact money"}
+    return "money in accounts" if len(rest) > 2 else names.get(rest[1], f"money, {rest[1]} symbols")
 
 
 def print_tables(versions, locales, systems, counts, found):
@@ -348,8 +417,8 @@ def print_tables(versions, locales, systems, counts, found):
 
 def compare(peer, locnum, release, versions):
     """Compares all, and answers how many formatters had a difference of no known kind, of how many."""
-    (locnum.folder / "numbers").write_text(NUMBERS.replace(" ", "\n") + "\n", encoding="utf-8")
-    (locnum.folder / "explicit").write_text(EXPLICIT.replace(" ", "\n") + "\n", encoding="utf-8")
+    for numbers, file in FILES.items():
+        (locnum.folder / file).write_text(numbers.replace(" ", "\n") + "\n", encoding="utf-8")
     places = [(it["locale"], it.get("system", "-")) for it in locnum.tables["symbols"]]
     jobs_of = [[Job(*place, kind) for kind in kinds()] for place in places]
 

@@ -5,6 +5,7 @@
 //   short, long                                  ICU's own rounding
 //   percent                                      a hundred times the decimal, every written digit of it
 //   money CODE short|narrow|name [accounting]    the fraction digits of the currency
+//   money CODE compact                           ICU's own rounding, by the short patterns of money
 //   unit NAME long|short|narrow                  every written fraction digit
 // With the word --version it prints the versions of ICU and of its CLDR data, with --available the locales that it has;
 // with --likely each line is a name, and is answered by the canonical one with likely subtags.
@@ -81,6 +82,9 @@ static LocalizedNumberFormatter formatter_of(const Choice &choice, int places, b
     }
     if (kind[0] == "money") {
         CurrencyUnit unit(UnicodeString::fromUTF8(kind[1]).getTerminatedBuffer(), status);
+        if (kind[2] == "compact") {
+            return formatter.unit(unit).unitWidth(UNUM_UNIT_WIDTH_SHORT).notation(Notation::compactShort());
+        }
         return formatter.unit(unit).unitWidth(width_of(kind[2]));
     }
     if (kind[0] == "unit") {

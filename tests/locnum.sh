@@ -46,6 +46,15 @@ writes '12.34%\n' --percent 0.1234
 writes '12.3%\n' --percent --fraction 1 0.1234
 writes '1.5M\n' --style short 1500000
 writes '1.5 million\n' --style long 1500000
+writes '$1.5M\n-$1.2K\n$0.5\n' --currency USD --style short 1500000 -1234 0.5
+writes '\xe2\x82\xac12B\n' --style short --width short --fraction 2 --currency EUR 12345678901
+writes '+$1T\n' --currency USD --style short --sign always 999999999999
+writes '$1234T\n' --currency USD --style short 1234000000000000
+writes '$1,234T\n' --currency USD --style short --grouping auto 1234000000000000
+lines 0 'rent 1250\nfood 431.5\n' 'rent  $1.2K\nfood   $432\n' '' --field 2 --currency USD --style short --padding 6
+lines 0 'a,1234567890123456789\n' 'a,"$1,234,568T"\n' '' --csv --field 2 --currency USD --style short
+writes '$1,500,000.00\n' --currency USD --style plain 1500000
+writes '1,500,000.00 US dollars\n' --currency USD --style plain --width name 1500000
 writes '1234567\n' --grouping never 1234567
 writes '+1.20\n' --sign always --fraction 2 1.2
 writes '1.2\n1.25\n' --fraction 1..2 1.2 1.25
@@ -78,6 +87,41 @@ lines 2 '\n' '' 'locnum: : not a decimal'
 "$program" '' >"$folder/out" 2>"$folder/err"
 status=$?
 judge 'an empty word' 2 '' 'locnum: : not a decimal'
+# explanations: words, lines, each kind, refused texts, and the columns of a line
+writes '-1234.5\n  -1,234.5\n  ^         minusSign\n   ^^^^^    integer\n    ^       group\n        ^   decimal\n         ^  fraction\n  magnitude  3\n' \
+    --explain -1234.5
+writes '-1650\n  -1.6K\n  ^      minusSign\n  magnitude  3\n  around     1600 (50 below), 1700 (50 above)\n  entry      type 3, exponent 3\n  operands   i=1 v=1 w=1 f=6 t=6 c=0 -> other\n  pattern    {0}K\n' \
+    --explain --style short -1650
+writes '0.1234\n  12.3%\n  ^^     integer\n    ^    decimal\n     ^   fraction\n      ^  percentSign\n  magnitude  -1\n' \
+    --explain --percent --fraction 1 0.1234
+writes '1\n  1 US dollar\n  ^            integer\n    ^^^^^^^^^  currency\n  magnitude  0\n  operands   i=1 v=0 w=0 f=0 t=0 c=0 -> one\n' \
+    --explain --currency USD --width name --fraction 0 1
+writes '1.5\n  +$1.50\n  ^       plusSign\n   ^      currency\n    ^     integer\n     ^    decimal\n      ^^  fraction\n  magnitude  0\n' \
+    --explain --currency USD --sign always 1.5
+lines 0 ' 5 \r\n\t-7' '5\n  5\n  ^  integer\n  magnitude  0\n-7\n  -7\n  ^   minusSign\n   ^  integer\n  magnitude  0\n' '' --explain
+lines 2 '5\nx\n7\n' '5\n  5\n  ^  integer\n  magnitude  0\nx\n  not a decimal\n' '' --explain
+lines 2 'x\n5\n' 'x\n  not a decimal\n5\n  5\n  ^  integer\n  magnitude  0\n' '' --explain --invalid fail
+lines 0 'x\n5\n' 'x\n  not a decimal\n5\n  5\n  ^  integer\n  magnitude  0\n' '' --explain --invalid warn
+lines 0 '' '' '' --explain
+nines=$(head -c 32769 /dev/zero | tr '\0' 9)
+lines 2 "$nines\n" "$nines\n  too many digits\n" '' --explain
+lines 2 "${nines:1}\n" "${nines:1}\n  overflow\n" '' --explain --percent
+five='5\n  5\n  ^  integer\n  magnitude  0\n'
+lines 0 "$(printf '5\\n%.0s' {1..2000})" "$(printf "${five//\\/\\\\}%.0s" {1..2000})" '' --explain
+lines 2 '\n' '\n  not a decimal\n' '' --explain
+"$program" --explain '' >"$folder/out" 2>"$folder/err"
+status=$?
+judge 'an empty word, explained' 2 '\n  not a decimal\n' ''
+COLUMNS=15 "$program" --explain 1234 >"$folder/out" 2>"$folder/err"
+status=$?
+judge 'fifteen columns' 0 '1234\n  1,234\n  integer    1,234\n  group      ,\n  magnitude  3\n' ''
+COLUMNS=wide "$program" --explain 1234 >"$folder/out" 2>"$folder/err"
+status=$?
+judge 'columns that are no number' 0 '1234\n  1,234\n  ^^^^^  integer\n   ^     group\n  magnitude  3\n' ''
+for option in --csv '-d;' --field=2 --header --padding=9 -z; do
+    refuses 'locnum: --explain: not with --csv, -d, --field, --header, --padding or -z' --explain "$option"
+done
+refuses 'locnum: --tables: en has no data for this' --explain --currency CHF
 refuses 'locnum: --locale: not a locale' -l 'a b'
 refuses 'locnum: --tables: no locale de' -l de
 refuses 'locnum: --tables: no locale en-XX; there are en' -l en-XX
@@ -88,7 +132,14 @@ refuses 'locnum: --width: short, narrow or name for money; long, short or narrow
 refuses 'locnum: --width: short, narrow or name for money; long, short or narrow for units' --unit meter --width name
 refuses 'locnum: --accounting and --cash want --currency, and --width wants --currency or --unit' --width name
 refuses "locnum: --tables: the file can't be read" -t "$folder/none.json"
-refuses 'locnum: --style, --currency, --percent and --unit: more than one of them' --percent --currency USD
+refuses 'locnum: --percent and --unit: not together, nor with --style or --currency' --percent --currency USD
+refuses 'locnum: --percent and --unit: not together, nor with --style or --currency' --unit meter --style plain
+refuses 'locnum: --style long: not with --currency' --currency USD --style long
+refuses 'locnum: --style short: not with --accounting, --cash or a --width but short' --currency USD --style short --accounting
+refuses 'locnum: --style short: not with --accounting, --cash or a --width but short' --currency USD --style short --cash
+refuses 'locnum: --style short: not with --accounting, --cash or a --width but short' --currency USD --style short --width name
+refuses 'locnum: --style: neither plain, short nor long' --currency USD --style wide
+refuses 'locnum: --tables: en has no data for this' --currency CHF --style short
 refuses 'locnum: --currency: not three capital letters' --currency usd
 refuses 'locnum: --field: not a list of N, N-, N-M, -M or -, from 1 on' --field 0
 refuses 'locnum: --csv: not with --zero-terminated' --csv -z
@@ -107,6 +158,7 @@ FRENCH
 writes '5,00 dollars des États-Unis\n0,00 dollar des États-Unis\n-1,50 dollar des États-Unis\n' \
     -t "$folder/fr.json" -l fr --currency USD --width name 5 0 -1.5
 refuses 'locnum: --tables: fr has no data for this' -t "$folder/fr.json" -l fr --currency EUR --width name
+refuses 'locnum: --tables: fr has no data for this' -t "$folder/fr.json" -l fr --currency USD --style short
 printf '{' >"$folder/cut.json"
 timeout 20 "$program" -t "$folder/cut.json" 5 >"$folder/out" 2>"$folder/err"
 status=$?

@@ -3,7 +3,7 @@ _locnum() {
     local at=$COMP_CWORD
     local word=${COMP_WORDS[at]} before=${COMP_WORDS[at - 1]} place
     local options='--tables --locale --system --style --grouping --fraction --sign --currency --width --unit --delimiter
-        --field --padding --invalid --accounting --cash --percent --csv --zero-terminated --header --help --version -t -l -d -z -h -V'
+        --field --padding --invalid --accounting --cash --percent --csv --zero-terminated --explain --header --help --version -t -l -d -z -h -V'
     COMPREPLY=()
     # --style=short is three words, the sign one of them
     if [ "$word" = = ]; then

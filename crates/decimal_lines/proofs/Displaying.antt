@@ -173,7 +173,7 @@ decimal-told u is trimmed =
     multiple_rest (k, e) = ap (λ n. n % 10 ^ (finest - 32768)) e ∙ mul-mod_left k (10 ^ (finest - 32768))
 
 -- whatever is displayed, its significand is the computed one
-displayed-told : (table : List TableEntry) (d : Unsigned) (y : ℕ) (entry : Option TableEntry) (s : Unsigned) → IsDisplayed table d y entry s →
+pub displayed-told : (table : List TableEntry) (d : Unsigned) (y : ℕ) (entry : Option TableEntry) (s : Unsigned) → IsDisplayed table d y entry s →
     significand_shown table d y ≡ s
 unfolding significand_shown
 displayed-told table d y entry s h =

@@ -12,7 +12,8 @@ use icu_dimension_tables::{EntryFault, Key, TableError};
 use icu_provider::{DataError, DataErrorKind};
 use std::alloc::{AllocError, Global};
 
-/// Compact patterns of money in some locales (CLDR 46).
+/// Compact patterns of money in some locales (CLDR 46; Dutch as older releases have it, with negative
+/// subpatterns).
 const COMPACT: &str = "{\"symbols\":[\
 {\"locale\":\"en\",\"minus\":[\"-\",\"\"],\"plus\":[\"+\",\"\"],\"decimal\":\".\",\"group\":\",\",\"numsys\":\"latn\",\"sizes\":[3,3,1]},\
 {\"locale\":\"de\",\"minus\":[\"-\",\"\"],\"plus\":[\"+\",\"\"],\"decimal\":\",\",\"group\":\".\",\"numsys\":\"latn\",\"sizes\":[3,3,1]},\

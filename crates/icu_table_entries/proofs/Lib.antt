@@ -1,2 +1,3 @@
 pub mod Splits
 pub mod Lists
+mod Pairs

@@ -3,8 +3,9 @@
 ghost use Rattle.serde_json.specs.View.{view};
 ghost use Rattle.icu_table_entries.specs.CategoryTexts.{category_texts_in, first_patterns_of, patterns_of, optional_patterns_of};
 ghost use Rattle.icu_table_entries.specs.CategoryTexts.{with_one_and_two, with_few_and_many};
-ghost use Rattle.icu_table_entries.specs.Reading.{Gives, optional_at};
-ghost use Rattle.std.specs.Prelude.{option_map};
+ghost use Rattle.icu_table_entries.specs.Spelling.{optional_pattern_of};
+ghost use Rattle.icu_table_entries.specs.Reading.{Gives, ◌>>=◌ as ◌and_then◌, optional_at};
+ghost use Rattle.std.specs.Prelude.{Ok, option_map};
 
 use crate::error::{Key, Place, TableError};
 use crate::fields::{object_in, optional_text_at, text_at};
@@ -103,11 +104,39 @@ pub type Patterns = PluralElements<Pattern<SinglePlaceholder>>;
 fn first_patterns_of(alloc: Global, place: Place, texts: &Texts<'_>) -> Result<Patterns, TableError>
     ensures { Gives (λ x. x) result (first_patterns_of place texts.now) }
 {
-    let patterns = PluralElements::new(pattern_of(alloc, place, texts.other)?)
-        .with_explicit_zero_value(optional_pattern_of(alloc, place, texts.explicit_zero)?)
-        .with_explicit_one_value(optional_pattern_of(alloc, place, texts.explicit_one)?)
-        .with_zero_value(optional_pattern_of(alloc, place, texts.zero)?);
-    Ok(patterns)
+    let other = pattern_of(alloc, place, texts.other)?;
+    let explicit_zero = optional_pattern_of(alloc, place, texts.explicit_zero)?;
+    let explicit_one = optional_pattern_of(alloc, place, texts.explicit_one)?;
+    let zero = optional_pattern_of(alloc, place, texts.zero)?;
+    Ok(
+        PluralElements::new(other)
+            .with_explicit_zero_value(explicit_zero)
+            .with_explicit_one_value(explicit_one)
+            .with_zero_value(zero),
+    )
+}
+
+/// The patterns of two texts that may be absent.
+fn pair_of(
+    alloc: Global,
+    place: Place,
+    first: Option<&str>,
+    second: Option<&str>,
+) -> Result<
+    (
+        Option<Pattern<SinglePlaceholder>>,
+        Option<Pattern<SinglePlaceholder>>,
+    ),
+    TableError,
+>
+    ensures { Gives (λ x. x) result
+        (optional_pattern_of place (option_map (λ t. t.now) first.entry) and_then
+        λ x. optional_pattern_of place (option_map (λ t. t.now) second.entry) and_then
+        λ y. Ok (x, y)) }
+{
+    let first = optional_pattern_of(alloc, place, first)?;
+    let second = optional_pattern_of(alloc, place, second)?;
+    Ok((first, second))
 }
 
 /// These patterns, with those of the categories one and two.
@@ -120,10 +149,10 @@ fn with_one_and_two(
 ) -> Result<Patterns, TableError>
     ensures { Gives (λ x. x) result (with_one_and_two place texts.now patterns) }
 {
-    let patterns = patterns
-        .with_one_value(optional_pattern_of(alloc, place, texts.one)?)
-        .with_two_value(optional_pattern_of(alloc, place, texts.two)?);
-    Ok(patterns)
+    match pair_of(alloc, place, texts.one, texts.two) {
+        Ok((one, two)) => Ok(patterns.with_one_value(one).with_two_value(two)),
+        Err(error) => Err(error),
+    }
 }
 
 /// These patterns, with those of the categories few and many.
@@ -136,10 +165,10 @@ fn with_few_and_many(
 ) -> Result<Patterns, TableError>
     ensures { Gives (λ x. x) result (with_few_and_many place texts.now patterns) }
 {
-    let patterns = patterns
-        .with_few_value(optional_pattern_of(alloc, place, texts.few)?)
-        .with_many_value(optional_pattern_of(alloc, place, texts.many)?);
-    Ok(patterns)
+    match pair_of(alloc, place, texts.few, texts.many) {
+        Ok((few, many)) => Ok(patterns.with_few_value(few).with_many_value(many)),
+        Err(error) => Err(error),
+    }
 }
 
 /// The patterns of these texts.

@@ -31,3 +31,4 @@ pub record IsGiven (matches : ArgMatches) (given : GivenData) : Type 0 where
   pub padding : given.padding ≡ first_value (found_of matches) (codes "padding")
   pub invalid : given.invalid ≡ first_value (found_of matches) (codes "invalid")
   pub zero_terminated : IsFlag matches (codes "zero-terminated") given.zero_terminated
+  pub explain : IsFlag matches (codes "explain") given.explain

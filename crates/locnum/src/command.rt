@@ -21,7 +21,12 @@ const TEXTS: [(&str, Option<char>, &str, &str); 14] = [
         "the locale, such as de or pt-BR; en without it",
     ),
     ("system", None, "NU", "the numbering system, such as latn"),
-    ("style", None, "STYLE", "plain, short or long"),
+    (
+        "style",
+        None,
+        "STYLE",
+        "plain, short or long numbers; plain or short amounts",
+    ),
     (
         "grouping",
         None,
@@ -80,7 +85,7 @@ const TEXTS: [(&str, Option<char>, &str, &str); 14] = [
 ];
 
 /// An option without a text: its name, its letter, and what it does.
-const FLAGS: [(&str, Option<char>, &str); 5] = [
+const FLAGS: [(&str, Option<char>, &str); 6] = [
     ("accounting", None, "amounts as in accounts, as ($1.00)"),
     ("cash", None, "amounts with the fraction digits of cash"),
     ("percent", None, "numbers as percents, 0.5 as 50%"),
@@ -93,6 +98,11 @@ const FLAGS: [(&str, Option<char>, &str); 5] = [
         "zero-terminated",
         Some('z'),
         "lines end in NUL instead of a line feed",
+    ),
+    (
+        "explain",
+        None,
+        "each number with its parts, and why it is written so",
     ),
 ];
 
@@ -161,5 +171,6 @@ pub(crate) fn given<'a>(matches: &ArgMatches<'a>) -> Given<'a>
         padding: matches.get_str("padding"),
         invalid: matches.get_str("invalid"),
         zero_terminated: matches.get_flag("zero-terminated"),
+        explain: matches.get_flag("explain"),
     }
 }

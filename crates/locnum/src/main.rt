@@ -1,17 +1,21 @@
 //! `locnum`: numbers in words or in fields of lines, in the form of a locale.
 #![tactic(auto)]
 
-ghost use Rattle.std.specs.Prelude.{◌≡◌};
+ghost use Rattle.std.specs.Prelude.{◌≡◌, Ok};
+ghost use Rattle.std.specs.Str.{IsUtf8};
+ghost use Rattle.locnum_forms.specs.Making.{form_of};
 ghost use Rattle.locnum.specs.Endings.{is_failure, status_of};
 
 mod command;
 mod english;
+mod explained;
 mod nearest;
 
 use clap::ArgMatches;
 use command::{command, given};
 use english::ENGLISH;
-use locnum_forms::{Form, StartError, Wanted};
+use explained::explain_given;
+use locnum_forms::{Form, StartError};
 use locnum_lines::{LineSettings, Refusals, Report, RunError, run};
 use locnum_options::{OptionFault, Options, parse_options};
 use nearest::{Names, names_for};
@@ -173,45 +177,62 @@ fn tell_no_data(rt: &HostRuntime, locale: &str, file: &[u8]) {
     }
 }
 
-/// The form that is wanted, by the bytes of the tables.
-fn form_of(
+/// Why there is no form by the bytes of the tables; what they lack is told.
+fn failure_of(
     rt: &HostRuntime,
     matches: &ArgMatches<'_>,
-    wanted: &Wanted<'_>,
     file: &[u8],
-) -> Result<Form, Failure> {
-    match Form::make(rt.alloc(), wanted, file) {
-        Ok(form) => Ok(form),
-        Err(StartError::NoData) => {
+    error: StartError,
+) -> Failure {
+    match error {
+        StartError::NoData => {
             tell_no_data(rt, matches.get_str("locale").unwrap_or("en"), file);
-            Err(Failure::Told)
+            Failure::Told
         }
-        Err(error) => Err(Failure::Tables(error)),
+        error => Failure::Tables(error),
     }
 }
 
-/// The form that is wanted, by the tables of the words.
-fn wanted_form(
+/// Runs what is asked for in this form, which was made by the bytes of the tables.
+fn run_formed(
     rt: &HostRuntime,
     matches: &ArgMatches<'_>,
-    wanted: &Wanted<'_>,
-) -> Result<Form, Failure> {
-    let file = tables(rt, matches.get_str("tables"))?;
-    form_of(rt, matches, wanted, &file)
+    options: Options<'_>,
+    file: &[u8],
+    form: &Form,
+) -> Result<(Refusals, Report), Failure>
+    requires { IsUtf8 file.now → form_of options.wanted file.now ≡ Ok form.now }
+{
+    let refusals = options.lines.refusals;
+    let report = if options.explain {
+        explain_given(rt, matches, &options, file, form)?
+    } else {
+        run_given(rt, options.lines, form, matches)?
+    };
+    Ok((refusals, report))
 }
 
-/// Runs what is asked for.
+/// Runs what is asked for, by the bytes of the tables.
+fn run_by_tables(
+    rt: &HostRuntime,
+    matches: &ArgMatches<'_>,
+    options: Options<'_>,
+    file: &[u8],
+) -> Result<(Refusals, Report), Failure> {
+    match Form::make(rt.alloc(), &options.wanted, file) {
+        Ok(form) => run_formed(rt, matches, options, file, &form),
+        Err(error) => Err(failure_of(rt, matches, file, error)),
+    }
+}
+
+/// Runs what is asked for, by the tables of the words.
 fn run_options(
     rt: &HostRuntime,
     matches: &ArgMatches<'_>,
     options: Options<'_>,
 ) -> Result<(Refusals, Report), Failure> {
-    let Options { wanted, lines } = options;
-    let refusals = lines.refusals;
-    match wanted_form(rt, matches, &wanted) {
-        Ok(form) => Ok((refusals, run_given(rt, lines, &form, matches)?)),
-        Err(failure) => Err(failure),
-    }
+    let file = tables(rt, matches.get_str("tables"))?;
+    run_by_tables(rt, matches, options, &file)
 }
 
 /// Runs what the words ask for.

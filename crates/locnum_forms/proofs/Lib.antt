@@ -1,3 +1,5 @@
+pub mod CompactMoney
 pub mod Cutting
 pub mod Pushed
 pub mod Served
+pub mod Marked

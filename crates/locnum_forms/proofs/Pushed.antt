@@ -42,7 +42,7 @@ module _ (format : SignedFormat DecimalFormat) (sign : Sign) (d : Unsigned) wher
   percent-past (inr impossible) = absurd impossible
 
   -- it is within them
-  percent-within : ¬ ((¬ IsWithinLimits (hundredfold d)) ⊎ ⊥)
+  pub percent-within : ¬ ((¬ IsWithinLimits (hundredfold d)) ⊎ ⊥)
       → percent_events format sign d ≡ Ok (money_events format.patterns sign (plain_shown format.formatter (hundredfold d)))
   percent-within within = go (is_within_limits (hundredfold d)) refl
     where

@@ -19,7 +19,7 @@ use Rattle.decimal_lines.specs.Making.{compact_options, plain_options}
 use Rattle.decimal_lines.proofs.OneLocale.{and_then_both, compact_loaded, digits_same, loaded_same, preferably_same}
 use Rattle.locnum_forms.specs.Forms.{FormData}
 use Rattle.locnum_forms.specs.Loaded.{currency_loaded, long_loaded, money_loaded, percent_loaded, plain_loaded, preferences, short_loaded, symbols_for_money}
-use Rattle.locnum_forms.specs.Loaded.{named_loaded, names_loaded, system_digits, unit_loaded}
+use Rattle.locnum_forms.specs.Loaded.{compact_money_loaded, compact_money_options, money_short_loaded, named_loaded, names_loaded, system_digits, unit_loaded}
 use Rattle.locnum_forms.specs.Making.{Stops, read_then, start_error, started, table_error, with_both, with_tables}
 use Rattle.locnum_forms.specs.Wanted.{WantedData}
 use Rattle.locnum_forms.specs.declared.error.StartError.{StartError}
@@ -66,6 +66,13 @@ module _ (wanted : WantedData) (kept all : TablesData) (answers : AnswersAs want
     pub named-same : (code : List ℕ) (is_cash : Bool) → named_loaded wanted code is_cash kept dimension ≡ named_loaded wanted code is_cash all dimension
     unfolding named_loaded names_loaded
     named-same code is_cash = and_then_both _ _ _ _ (and_then_both _ _ _ _ (money_numbers (plain_options wanted.grouping)) (λ f.
+        and_then_both _ _ _ _ (answers.rules _ refl) (λ r. refl))) (λ f. refl)
+
+    -- compact amounts
+    pub money_short-same : (code : List ℕ) → money_short_loaded wanted code kept dimension ≡ money_short_loaded wanted code all dimension
+    unfolding money_short_loaded compact_money_loaded
+    money_short-same code = and_then_both _ _ _ _
+        (and_then_both _ _ _ _ (and_then_both _ _ _ _ (money_numbers (compact_money_options wanted.grouping)) (λ f. refl)) (λ m.
         and_then_both _ _ _ _ (answers.rules _ refl) (λ r. refl))) (λ f. refl)
 
     -- percents

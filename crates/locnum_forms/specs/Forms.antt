@@ -16,9 +16,10 @@ use Rattle.decimal_lines.specs.Alone.{decimal_read, mode_events}
 use Rattle.decimal_lines.specs.LineAnswers.{is_within_limits}
 use Rattle.decimal_lines.specs.declared.alone.TextError.{TextError}
 use Rattle.decimal_lines.specs.declared.alone.TextError.TheVariants.{Overflow}
+use Rattle.locnum_forms.specs.CompactMoney.{compact_money_events}
 use Rattle.locnum_forms.specs.Fractions.{in_range}
 use Rattle.locnum_forms.specs.declared.form.Formatter.{Formatter}
-use Rattle.locnum_forms.specs.declared.form.Formatter.TheVariants.{Numbers, Money, MoneyNamed, Percent, Units}
+use Rattle.locnum_forms.specs.declared.form.Formatter.TheVariants.{Numbers, Money, MoneyNamed, MoneyShort, Percent, Units}
 use Rattle.locnum_forms.specs.declared.wanted.FractionRange.{FractionRange}
 
 -- the range of fraction digits of what is written, where there is one; which signs are shown; and what writes
@@ -32,6 +33,7 @@ abbrev pub digits_moved : Formatter → ℕ
 digits_moved (Numbers mode) = 0
 digits_moved (Money format) = 0
 digits_moved (MoneyNamed format) = 0
+digits_moved (MoneyShort format) = 0
 digits_moved (Percent format) = 2
 digits_moved (Units format) = 0
 
@@ -47,6 +49,7 @@ formatter_events (Numbers mode) sign d = mode_events mode sign d
 formatter_events (Money format) sign d = Ok (money_events format.patterns sign (plain_shown format.formatter d))
 formatter_events (MoneyNamed format) sign d =
     Ok (names_events format.formatter.symbols format.rules format.elements sign (plain_shown format.formatter d))
+formatter_events (MoneyShort format) sign d = compact_money_events format sign d
 formatter_events (Percent format) sign d = percent_events format sign d
 formatter_events (Units format) sign d =
     Ok (units_events format.formatter.symbols format.rules format.elements sign (plain_shown format.formatter d))

@@ -15,7 +15,8 @@ use Rattle.icu_decimal.specs.Decimal.{DecimalFormat}
 use Rattle.icu_dimension.specs.Money.{SignedFormat}
 use Rattle.icu_dimension.specs.Names.{NameText}
 use Rattle.icu_dimension.specs.PluralFormat.{PluralFormat}
-use Rattle.icu_dimension.specs.Loaded.{loaded_currency, loaded_percent, loaded_plural, money_symbols}
+use Rattle.icu_dimension.specs.CompactMoney.{CompactMoney}
+use Rattle.icu_dimension.specs.Loaded.{loaded_compact_money, loaded_currency, loaded_percent, loaded_plural, money_symbols}
 use Rattle.icu_dimension.specs.declared.options.CurrencyFormatterOptions.{CurrencyFormatterOptions}
 use Rattle.icu_dimension.specs.declared.options.CurrencySign.{CurrencySign}
 use Rattle.icu_dimension.specs.declared.options.Width.{Width}
@@ -25,7 +26,7 @@ use Rattle.icu_table_entries.specs.Answering.{filed_answer, optional_answer}
 use Rattle.icu_table_entries.specs.Named.{NamedEntry}
 use Rattle.icu_tables.specs.Digits.{system_answer}
 use Rattle.icu_tables.specs.Tables.{TablesData}
-use Rattle.icu_dimension_tables.specs.Answering.{decimals_answer, digits_answer, names_answer, symbols_answer, unit_answer}
+use Rattle.icu_dimension_tables.specs.Answering.{compact_answer, decimals_answer, digits_answer, names_answer, symbols_answer, unit_answer}
 use Rattle.icu_dimension_tables.specs.DimensionTables.{DimensionData}
 use Rattle.icu_dimension_tables.specs.declared.units.UnitWidth.TheVariants as filed
 use Rattle.decimal_lines.specs.Making.{compact_options, plain_options}
@@ -33,7 +34,7 @@ use Rattle.decimal_lines.specs.declared.mode.Mode.TheVariants.{Plain, Compact}
 use Rattle.locnum_forms.specs.Forms.{FormData}
 use Rattle.locnum_forms.specs.Wanted.{WantedData}
 use Rattle.locnum_forms.specs.declared.form.Formatter.{Formatter}
-use Rattle.locnum_forms.specs.declared.form.Formatter.TheVariants.{Numbers, Money, MoneyNamed, Percent, Units}
+use Rattle.locnum_forms.specs.declared.form.Formatter.TheVariants.{Numbers, Money, MoneyNamed, MoneyShort, Percent, Units}
 use Rattle.locnum_forms.specs.declared.wanted.FractionRange.{FractionRange}
 use Rattle.locnum_forms.specs.declared.wanted.UnitWidth.{UnitWidth}
 use Rattle.locnum_forms.specs.declared.wanted.UnitWidth.TheVariants.{Long, Short, Narrow}
@@ -125,6 +126,23 @@ names_loaded wanted code tables dimension =
 unfoldable pub named_loaded : WantedData → List ℕ → Bool → TablesData → DimensionData → Result FormData Refusal
 named_loaded wanted code is_cash tables dimension =
     and_then (names_loaded wanted code tables dimension) (λ f. amounts_loaded wanted code is_cash dimension (MoneyNamed f))
+
+-- the options of compact amounts: those of compact numbers, `min2` without a strategy
+abbrev pub compact_money_options : Option GroupingStrategy → DecimalFormatterOptions
+compact_money_options grouping = record { grouping_strategy = (compact_options grouping).grouping_strategy }
+
+-- the formatter of compact amounts of a currency
+unfoldable pub compact_money_loaded : WantedData → List ℕ → TablesData → DimensionData → Result CompactMoney Refusal
+compact_money_loaded wanted code tables dimension =
+    loaded_compact_money (symbols_for_money tables dimension) (system_digits tables) (optional_answer dimension.currencies)
+    (symbols_answer dimension.symbols) (optional_answer tables.rules)
+    (compact_answer dimension.currencies dimension.symbols dimension.compact)
+    (preferences wanted) code (compact_money_options wanted.grouping)
+
+-- compact amounts of a currency; they have no range of fraction digits
+unfoldable pub money_short_loaded : WantedData → List ℕ → TablesData → DimensionData → Result FormData Refusal
+money_short_loaded wanted code tables dimension =
+    and_then (compact_money_loaded wanted code tables dimension) (λ f. Ok (form_with wanted None (MoneyShort f)))
 
 -- percents
 unfoldable pub percent_loaded : WantedData → TablesData → DimensionData → Result FormData Refusal

@@ -8,11 +8,12 @@ use Rattle.icu_table_entries.specs.declared.error.TableError.TheVariants as tabl
 use Rattle.icu_tables.specs.Tables.{TablesData, tables_of}
 use Rattle.icu_dimension_tables.specs.DimensionTables.{DimensionData, dimension_tables_of}
 use Rattle.locnum_forms.specs.Forms.{FormData}
-use Rattle.locnum_forms.specs.Loaded.{long_loaded, money_loaded, money_options, named_loaded, percent_loaded, plain_loaded, short_loaded, unit_loaded}
+use Rattle.locnum_forms.specs.Loaded.{long_loaded, money_loaded, money_options, money_short_loaded, named_loaded, percent_loaded, plain_loaded}
+use Rattle.locnum_forms.specs.Loaded.{short_loaded, unit_loaded}
 use Rattle.locnum_forms.specs.Wanted.{WantedData}
 use Rattle.locnum_forms.specs.declared.error.StartError.{StartError}
 use Rattle.locnum_forms.specs.declared.error.StartError.TheVariants as start
-use Rattle.locnum_forms.specs.declared.wanted.Kind.TheVariants.{Plain, Short, Long, Money, MoneyNamed, Percent, Unit as WithUnit}
+use Rattle.locnum_forms.specs.declared.wanted.Kind.TheVariants.{Plain, Short, Long, Money, MoneyNamed, MoneyShort, Percent, Unit as WithUnit}
 
 -- There is no form for this reason; `OutOfMemory` may be reported in place of any result.
 abbrev pub Stops : {X : Type 0} → StartError → Result X StartError → Type 0
@@ -69,6 +70,7 @@ form_of wanted text = elim wanted.kind [
   | Long ↦ with_tables text (long_loaded wanted)
   | Money code width sign is_cash ↦ with_both text (money_loaded wanted code (money_options wanted.grouping width sign) is_cash)
   | MoneyNamed code is_cash ↦ with_both text (named_loaded wanted code is_cash)
+  | MoneyShort code ↦ with_both text (money_short_loaded wanted code)
   | Percent ↦ with_both text (percent_loaded wanted)
   | WithUnit name width ↦ with_both text (unit_loaded wanted name.now width)
 ]

@@ -4,7 +4,10 @@ use crate::wanted::FractionRange;
 use decimal_lines::Mode;
 use fixed_decimal::SignDisplay;
 use icu_decimal::DecimalFormatter;
-use icu_dimension::{CurrencyFormatter, LongCurrencyFormatter, PercentFormatter, UnitsFormatter};
+use icu_dimension::{
+    CompactCurrencyFormatter, CurrencyFormatter, LongCurrencyFormatter, PercentFormatter,
+    UnitsFormatter,
+};
 use std::marker::Model;
 
 /// What writes a number, whose digits and sign are given.
@@ -16,6 +19,8 @@ pub enum Formatter {
     Money(CurrencyFormatter<DecimalFormatter>),
     /// An amount of money with the name of its currency.
     MoneyNamed(LongCurrencyFormatter<DecimalFormatter>),
+    /// An amount of money in compact form with the symbol of its currency.
+    MoneyShort(CompactCurrencyFormatter),
     /// A hundred times the number as a percent.
     Percent(PercentFormatter<DecimalFormatter>),
     /// The number with a unit.

@@ -2,11 +2,13 @@
 //! percents or units, with its fraction digits and its signs.
 #![tactic(auto)]
 
+mod decimals;
 mod error;
 mod form;
 mod fractions;
 mod loading;
 mod making;
+mod marking;
 mod pushing;
 mod tables;
 mod wanted;

@@ -4,7 +4,7 @@ ghost use Rattle.std.specs.Prelude.{◌≡◌};
 ghost use Rattle.icu_provider.specs.Answer.{Answers};
 ghost use Rattle.icu_dimension_tables.specs.Answering.{digits_answer};
 ghost use Rattle.decimal_lines.specs.Making.{compact_options, plain_options};
-ghost use Rattle.locnum_forms.specs.Loaded.{amounts_loaded, compact_preferences, currency_loaded, currency_range, exactly, long_loaded, money_loaded, money_range, named_loaded, names_loaded, percent_loaded};
+ghost use Rattle.locnum_forms.specs.Loaded.{amounts_loaded, compact_money_loaded, compact_money_options, compact_preferences, currency_loaded, currency_range, exactly, long_loaded, money_loaded, money_range, money_short_loaded, named_loaded, names_loaded, percent_loaded};
 ghost use Rattle.locnum_forms.specs.Loaded.{plain_loaded, preferences, short_loaded, unit_loaded, units_loaded};
 
 use crate::form::{Form, Formatter};
@@ -18,7 +18,10 @@ use icu_decimal::preferences::{CompactDecimalFormatterPreferences, DecimalFormat
 use icu_decimal::{CompactDecimalFormatter, DecimalFormatter};
 use icu_dimension::options::CurrencyFormatterOptions;
 use icu_dimension::provider::{UnitsLongV1, UnitsNarrowV1, UnitsShortV1, load_currency_digits};
-use icu_dimension::{CurrencyFormatter, LongCurrencyFormatter, PercentFormatter, UnitsFormatter};
+use icu_dimension::{
+    CompactCurrencyFormatter, CurrencyFormatter, LongCurrencyFormatter, PercentFormatter,
+    UnitsFormatter,
+};
 use icu_dimension_data::{CurrencyCode, FractionDigits};
 use icu_provider::DataError;
 use icu_tables::Tables;
@@ -245,6 +248,47 @@ pub(crate) fn load_named(
 {
     let named = Formatter::MoneyNamed(load_names(alloc, both, wanted, code)?);
     load_amounts(alloc, both, wanted, code, is_cash, named)
+}
+
+/// The options of compact amounts under a strategy, or the default ones, those of compact numbers.
+fn compact_money_options(grouping: Option<GroupingStrategy>) -> DecimalFormatterOptions
+    ensures { result ≡ compact_money_options grouping }
+{
+    DecimalFormatterOptions::from(compact_options(grouping))
+}
+
+/// The formatter of compact amounts of a currency.
+#[tactic(auto, unfolding(crate::specs::Loaded::compact_money_loaded))]
+fn load_compact_money(
+    alloc: Global,
+    both: &Both,
+    wanted: &Wanted<'_>,
+    code: CurrencyCode,
+) -> Result<CompactCurrencyFormatter, DataError>
+    ensures { Answers result
+        (compact_money_loaded wanted.now code both.now.numbers both.now.dimension) }
+{
+    let options = compact_money_options(wanted.grouping);
+    let prefs = preferences(wanted);
+    CompactCurrencyFormatter::try_new_unstable::<Both>(alloc, both, prefs, code, options)
+}
+
+/// Compact amounts of a currency, which have no range of fraction digits.
+#[tactic(auto, unfolding(crate::specs::Loaded::money_short_loaded))]
+pub(crate) fn load_money_short(
+    alloc: Global,
+    both: &Both,
+    wanted: &Wanted<'_>,
+    code: CurrencyCode,
+) -> Result<Form, DataError>
+    ensures { Answers result
+        (money_short_loaded wanted.now code both.now.numbers both.now.dimension) }
+{
+    Ok(Form {
+        fraction: None,
+        sign: wanted.sign,
+        formatter: Formatter::MoneyShort(load_compact_money(alloc, both, wanted, code)?),
+    })
 }
 
 /// Percents.

@@ -6,14 +6,14 @@ ghost use Rattle.icu_tables.specs.ForLocale.{IsFor};
 ghost use Rattle.icu_tables.specs.Tables.{TablesData, tables_of};
 ghost use Rattle.icu_dimension_tables.specs.DimensionTables.{DimensionData, dimension_tables_of};
 ghost use Rattle.locnum_forms.specs.Forms.{FormData};
-ghost use Rattle.locnum_forms.specs.Loaded.{long_loaded, money_loaded, money_options, named_loaded, percent_loaded, plain_loaded, short_loaded, unit_loaded};
+ghost use Rattle.locnum_forms.specs.Loaded.{long_loaded, money_loaded, money_options, money_short_loaded, named_loaded, percent_loaded, plain_loaded, short_loaded, unit_loaded};
 ghost use Rattle.locnum_forms.specs.Making.{Starts, Stops, form_of, read_then, start_error, started, table_error, with_both, with_tables};
 
 use crate::error::StartError;
 use crate::form::Form;
 use crate::loading::{
-    load_long, load_money, load_named, load_percent, load_plain, load_short, load_unit,
-    plain_options,
+    load_long, load_money, load_money_short, load_named, load_percent, load_plain, load_short,
+    load_unit, plain_options,
 };
 use crate::tables::Both;
 use crate::wanted::{Kind, UnitWidth, Wanted};
@@ -138,6 +138,19 @@ fn named_form(
     started(load_named(alloc, &both, wanted, code, is_cash))
 }
 
+/// Compact amounts of a currency, by a text of tables.
+fn money_short_form(
+    alloc: Global,
+    wanted: &Wanted<'_>,
+    text: &str,
+    code: CurrencyCode,
+) -> Result<Form, StartError>
+    ensures { Starts result (with_both text.now (money_short_loaded wanted.now code)) }
+{
+    let both = both_in(alloc, wanted, text)?;
+    started(load_money_short(alloc, &both, wanted, code))
+}
+
 /// Percents, by a text of tables.
 fn percent_form(alloc: Global, wanted: &Wanted<'_>, text: &str) -> Result<Form, StartError>
     ensures { Starts result (with_both text.now (percent_loaded wanted.now)) }
@@ -179,6 +192,7 @@ fn form_of(alloc: Global, wanted: &Wanted<'_>, text: &str) -> Result<Form, Start
             money_form(alloc, wanted, text, code, options, is_cash)
         }
         Kind::MoneyNamed { code, is_cash } => named_form(alloc, wanted, text, code, is_cash),
+        Kind::MoneyShort { code } => money_short_form(alloc, wanted, text, code),
         Kind::Percent => percent_form(alloc, wanted, text),
         Kind::Unit { name, width } => unit_form(alloc, wanted, text, name, width),
     }

@@ -1,22 +1,26 @@
 //! What a form writes for a text.
 
-ghost use Rattle.std.specs.Prelude.{◌≡◌, ◌≢◌, ◌⊎◌, ◌++◌, IfErr, IsErrOf, IsOkAnd, OnOk};
+ghost use Rattle.std.specs.Prelude.{◌≡◌, ◌≢◌, ◌⊎◌, ◌++◌, IfErr, IfSome, IsErrOf, IsOkAnd, None, OnOk};
 ghost use Rattle.std.specs.String.{string_bytes};
-ghost use Rattle.decimal_lines.specs.Alone.{AppendsShown, IsRefusal};
+ghost use Rattle.fixed_decimal.specs.SignDisplay.{minus_or_none};
+ghost use Rattle.decimal_lines.specs.Alone.{AppendsShown, IsRefusal, mode_events};
 ghost use Rattle.locnum_forms.specs.Forms.{digits_moved, formatter_events};
-ghost use Rattle.locnum_forms.specs.declared.form.Formatter.TheVariants.{Money, MoneyNamed, Percent, Units};
+ghost use Rattle.locnum_forms.specs.declared.form.Formatter.TheVariants.{Money, MoneyNamed, MoneyShort, Numbers, Percent, Units};
 
 use crate::form::{Form, Formatter};
 use crate::fractions::in_range;
-use decimal_lines::{TextError, push_shown, read_decimal};
-use fixed_decimal::Decimal;
+use decimal_lines::{Mode, TextError, push_shown, read_decimal};
+use fixed_decimal::{Decimal, Sign, SignDisplay};
 use icu_decimal::DecimalFormatter;
 use icu_decimal::error::FormatError;
-use icu_dimension::{CurrencyFormatter, LongCurrencyFormatter, PercentFormatter, UnitsFormatter};
+use icu_dimension::{
+    CompactCurrencyFormatter, CurrencyFormatter, LongCurrencyFormatter, PercentFormatter,
+    UnitsFormatter,
+};
 use std::alloc::Global;
 
 /// How many more fraction digits the number has than what is written of it.
-fn digits_moved(formatter: &Formatter) -> u8
+pub(crate) fn digits_moved(formatter: &Formatter) -> u8
     ensures { result ≡ digits_moved formatter.now }
 {
     match formatter {
@@ -24,6 +28,7 @@ fn digits_moved(formatter: &Formatter) -> u8
         Formatter::Numbers(_)
         | Formatter::Money(_)
         | Formatter::MoneyNamed(_)
+        | Formatter::MoneyShort(_)
         | Formatter::Units(_) => 0,
     }
 }
@@ -77,6 +82,25 @@ fn push_money_named(
         out.old.items out.new.items) }
     ensures refused { IfErr result (λ error. IsRefusal
         (formatter_events (MoneyNamed formatter.now) decimal.now.sign decimal.now.absolute)
+        error) }
+    ensures unchanged { IfErr result (λ error. error ≢ TextError.OutOfMemory →
+        out.new.items ≡ out.old.items) }
+{
+    push_text(formatter.write_to_string(alloc, decimal), out)
+}
+
+/// Appends a compact amount.
+fn push_money_short(
+    alloc: Global,
+    formatter: &CompactCurrencyFormatter,
+    decimal: &Decimal,
+    out: &mut Vec<u8>,
+) -> Result<(), TextError>
+    ensures ok { OnOk result (AppendsShown
+        (formatter_events (MoneyShort formatter.now) decimal.now.sign decimal.now.absolute)
+        out.old.items out.new.items) }
+    ensures refused { IfErr result (λ error. IsRefusal
+        (formatter_events (MoneyShort formatter.now) decimal.now.sign decimal.now.absolute)
         error) }
     ensures unchanged { IfErr result (λ error. error ≢ TextError.OutOfMemory →
         out.new.items ≡ out.old.items) }
@@ -140,15 +164,85 @@ fn push_formatted(
         Formatter::Numbers(mode) => push_shown(alloc, mode, decimal, out),
         Formatter::Money(money) => push_money(alloc, money, decimal, out),
         Formatter::MoneyNamed(money) => push_money_named(alloc, money, decimal, out),
+        Formatter::MoneyShort(money) => push_money_short(alloc, money, decimal, out),
         Formatter::Percent(percent) => push_percent(alloc, percent, decimal, out),
         Formatter::Units(units) => push_units(alloc, units, decimal, out),
     }
 }
 
+/// What writes numbers of a form that changes nothing of them but a plus.
+fn unchanging(form: &Form) -> Option<&Mode>
+    ensures { IfSome result (λ mode. (form.now.formatter ≡ Numbers mode.now)
+        × (form.now.fraction ≡ None) × (form.now.sign ≡ SignDisplay.Auto)) }
+{
+    let (None, SignDisplay::Auto) = (form.fraction, form.sign) else {
+        return None;
+    };
+    match &form.formatter {
+        Formatter::Numbers(mode) => Some(mode),
+        Formatter::Money(_)
+        | Formatter::MoneyNamed(_)
+        | Formatter::MoneyShort(_)
+        | Formatter::Percent(_)
+        | Formatter::Units(_) => None,
+    }
+}
+
+/// A minus, and no other sign.
+fn minus_or_none(sign: Sign) -> Sign
+    ensures { result ≡ minus_or_none sign }
+{
+    match sign {
+        Sign::Negative => Sign::Negative,
+        Sign::None | Sign::Positive => Sign::None,
+    }
+}
+
+/// Takes a decimal's plus off, and appends what a mode shows for it; without memory some bytes of it
+/// may stand there.
+fn push_unchanged(
+    alloc: Global,
+    mode: &Mode,
+    decimal: &mut Decimal,
+    out: &mut Vec<u8>,
+) -> Result<(), TextError>
+    ensures ok { OnOk result (AppendsShown
+        (mode_events mode.now (minus_or_none decimal.old.sign) decimal.old.absolute)
+        out.old.items out.new.items) }
+    ensures refused { IfErr result (λ error. IsRefusal
+        (mode_events mode.now (minus_or_none decimal.old.sign) decimal.old.absolute) error) }
+    ensures unchanged { IfErr result (λ error. error ≢ TextError.OutOfMemory →
+        out.new.items ≡ out.old.items) }
+{
+    decimal.sign = minus_or_none(decimal.sign);
+    push_shown(alloc, mode, decimal, out)
+}
+
 impl Form {
-    ghost use Rattle.std.specs.Prelude.{◌≡◌, ◌≢◌, IfErr, OnOk};
+    ghost use Rattle.std.specs.Prelude.{◌≡◌, ◌≢◌, IfErr, Ok, OnOk};
     ghost use Rattle.decimal_lines.specs.Alone.{AppendsShown, IsRefusal};
-    ghost use Rattle.locnum_forms.specs.Forms.{form_events};
+    ghost use Rattle.locnum_forms.specs.Forms.{form_events, read_events};
+
+    /// Appends what the form writes for a decimal that was read, by what it asks for.
+    #[inline(never)]
+    fn push_changed(
+        &self,
+        alloc: Global,
+        decimal: Decimal,
+        out: &mut Vec<u8>,
+    ) -> Result<(), TextError>
+        ensures ok { OnOk result (AppendsShown
+            (read_events self.now (Ok (decimal.sign, decimal.absolute)))
+            out.old.items out.new.items) }
+        ensures refused { IfErr result (λ error. IsRefusal
+            (read_events self.now (Ok (decimal.sign, decimal.absolute))) error) }
+        ensures unchanged { IfErr result (λ error. error ≢ TextError.OutOfMemory →
+            out.new.items ≡ out.old.items) }
+    {
+        let rounded = in_range(decimal, self.fraction, digits_moved(&self.formatter))?;
+        let shown = rounded.with_sign_display(self.sign);
+        push_formatted(alloc, &self.formatter, &shown, out)
+    }
 
     /// Appends what the form writes for a text.
     ///
@@ -164,9 +258,10 @@ impl Form {
         ensures unchanged { IfErr result (λ error. error ≢ TextError.OutOfMemory →
             out.new.items ≡ out.old.items) }
     {
-        let decimal = read_decimal(alloc, text)?;
-        let rounded = in_range(decimal, self.fraction, digits_moved(&self.formatter))?;
-        let shown = rounded.with_sign_display(self.sign);
-        push_formatted(alloc, &self.formatter, &shown, out)
+        let mut decimal = read_decimal(alloc, text)?;
+        match unchanging(self) {
+            Some(mode) => push_unchanged(alloc, mode, &mut decimal, out),
+            None => self.push_changed(alloc, decimal, out),
+        }
     }
 }

@@ -3,9 +3,9 @@
 use icu_decimal::provider::{DecimalDigitsV1, DecimalSymbols, DecimalSymbolsV1};
 use icu_dimension::NamePattern;
 use icu_dimension::provider::{
-    CurrencyDecimalSymbolsV1, CurrencyDigitsV1, CurrencyNamesV1, CurrencyPatterns,
-    CurrencyPatternsV1, CurrencySymbols, CurrencySymbolsV1, PercentPatternsV1, UnitsLongV1,
-    UnitsNarrowV1, UnitsShortV1,
+    CompactCurrencyPatterns, CurrencyCompactShortV1, CurrencyDecimalSymbolsV1, CurrencyDigitsV1,
+    CurrencyNamesV1, CurrencyPatterns, CurrencyPatternsV1, CurrencySymbols, CurrencySymbolsV1,
+    PercentPatternsV1, UnitsLongV1, UnitsNarrowV1, UnitsShortV1,
 };
 use icu_dimension_data::{CurrencyDigits, SignedPatterns};
 use icu_dimension_tables::DimensionTables;
@@ -132,6 +132,23 @@ impl DataProvider<CurrencyDecimalSymbolsV1> for Both {
 
     fn load(&self, alloc: Global, request: &DataRequest<'_>) -> Result<DecimalSymbols, DataError> {
         <DimensionTables as DataProvider<CurrencyDecimalSymbolsV1>>::load(
+            &self.dimension,
+            alloc,
+            request,
+        )
+    }
+}
+
+impl DataProvider<CurrencyCompactShortV1> for Both {
+    ghost answer = { λ b.
+        ⟦<DimensionTables as DataProvider<CurrencyCompactShortV1>>⟧.answer b.dimension };
+
+    fn load(
+        &self,
+        alloc: Global,
+        request: &DataRequest<'_>,
+    ) -> Result<CompactCurrencyPatterns, DataError> {
+        <DimensionTables as DataProvider<CurrencyCompactShortV1>>::load(
             &self.dimension,
             alloc,
             request,

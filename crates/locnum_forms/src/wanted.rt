@@ -58,6 +58,11 @@ pub enum Kind<'a> {
         /// Whether the amount has the digits of cash, where no fraction digits are asked for.
         is_cash: bool,
     },
+    /// An amount of money by the short patterns of its currency, as `$15K`.
+    MoneyShort {
+        /// The currency.
+        code: CurrencyCode,
+    },
     /// A hundred times the number as a percent, as `12%`.
     Percent,
     /// The number with a unit, as `2 km`.
@@ -76,10 +81,11 @@ pub struct Wanted<'a> {
     pub locale: DataLocale,
     /// The numbering system that is preferred; `None` where none is.
     pub system: Option<NumberingSystem>,
-    /// When separators are written; `None` is the default: `min2` for compact numbers, else `auto`.
+    /// When separators are written; `None` is the default: `min2` for compact numbers and compact
+    /// amounts, else `auto`.
     pub grouping: Option<GroupingStrategy>,
     /// How many fraction digits are written. `None`: those of the currency for money, else the
-    /// digits as they are given. Compact numbers ignore it.
+    /// digits as they are given. Compact numbers and compact amounts ignore it.
     pub fraction: Option<FractionRange>,
     /// Which signs are written.
     pub sign: SignDisplay,

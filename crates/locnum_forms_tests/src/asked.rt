@@ -1,7 +1,9 @@
 //! Forms that rows ask for, by the tables of a text, and what they write. Values live in functions
 //! that answer whether they hold; what was refused memory is asked once more.
 
-use fixed_decimal::SignDisplay;
+use crate::compact::COMPACT;
+use crate::parts::{Span, has_parts, is_decimal, is_marked, is_of};
+use fixed_decimal::{Sign, SignDisplay};
 use icu_decimal::options::GroupingStrategy;
 use icu_dimension::options::{CurrencySign, Width};
 use icu_dimension_data::CurrencyCode;
@@ -49,6 +51,7 @@ pub(crate) enum Asked {
     Cash(&'static str),
     Named(&'static str),
     NamedCash(&'static str),
+    Compact(&'static str),
     Percent,
     Unit(&'static str, UnitWidth),
 }
@@ -74,6 +77,14 @@ fn named(code: &str, is_cash: bool) -> Option<Kind<'static>> {
     }
 }
 
+/// A compact amount.
+fn compact(code: &str) -> Option<Kind<'static>> {
+    match CurrencyCode::try_from_str(code) {
+        Ok(code) => Some(Kind::MoneyShort { code }),
+        Err(_) => None,
+    }
+}
+
 /// The kind that is asked for.
 fn kind_of(asked: Asked) -> Option<Kind<'static>> {
     match asked {
@@ -86,8 +97,17 @@ fn kind_of(asked: Asked) -> Option<Kind<'static>> {
         Asked::Cash(code) => money(code, Width::Short, CurrencySign::Standard, true),
         Asked::Named(code) => named(code, false),
         Asked::NamedCash(code) => named(code, true),
+        Asked::Compact(code) => compact(code),
         Asked::Percent => Some(Kind::Percent),
         Asked::Unit(name, width) => Some(Kind::Unit { name, width }),
+    }
+}
+
+/// The tables that have what is asked for.
+pub(crate) fn tables_for(asked: Asked) -> &'static str {
+    match asked {
+        Asked::Compact(_) => COMPACT,
+        _ => TABLES,
     }
 }
 
@@ -173,28 +193,8 @@ fn wanted(options: &Options) -> Option<Wanted<'static>> {
     })
 }
 
-/// The form of the options by the bytes of a file, made once more where memory was refused.
-pub(crate) fn made(
-    alloc: Global,
-    options: &Options,
-    file: &[u8],
-) -> Option<Result<Form, StartError>> {
-    let Some(wanted) = wanted(options) else {
-        return None;
-    };
-    match Form::make(alloc, &wanted, file) {
-        Err(StartError::OutOfMemory) => Some(Form::make(alloc, &wanted, file)),
-        answer => Some(answer),
-    }
-}
-
 /// What the form appends, asked once more where memory was refused.
-pub(crate) fn pushed(
-    alloc: Global,
-    form: &Form,
-    text: &[u8],
-    out: &mut Vec<u8>,
-) -> Result<(), TextError> {
+fn pushed(alloc: Global, form: &Form, text: &[u8], out: &mut Vec<u8>) -> Result<(), TextError> {
     match form.push(alloc, text, out) {
         Err(TextError::OutOfMemory) => {
             out.clear();
@@ -214,6 +214,78 @@ fn is_pushed(alloc: Global, form: &Form, text: &str, want: Result<&str, TextErro
     }
 }
 
+/// Whether the form writes so many bytes of the text, or refuses it so.
+fn is_so_many(alloc: Global, form: &Form, text: &[u8], want: Result<usize, TextError>) -> bool {
+    let mut out = Vec::new(alloc);
+    match (pushed(alloc, form, text, &mut out), want) {
+        (Ok(()), Ok(count)) => out.len() == count,
+        (Err(error), Err(want)) => error == want && out.is_empty(),
+        _ => false,
+    }
+}
+
+/// What is asked of a form.
+#[derive(Clone, Copy)]
+pub(crate) enum Question<'a> {
+    /// Whether there is one.
+    Made,
+    /// Whether it writes the text so, or refuses it so.
+    Writes(&'a str, Result<&'a str, TextError>),
+    /// Whether it writes so many bytes of the text, or refuses it so.
+    WritesSoMany(&'a [u8], Result<usize, TextError>),
+    /// Whether it writes the text so with these parts, or refuses it so.
+    Marks(&'a str, Result<(&'a str, &'a [Span]), TextError>),
+    /// Whether it writes the text with so many parts, or refuses it so.
+    MarksSoMany(&'a [u8], Result<usize, TextError>),
+    /// Whether it has this decimal for the text, or refuses it so.
+    Decimal(&'a [u8], Result<(Sign, &'a [u8], &'a [u8]), TextError>),
+    /// Whether what writes is of the kind that a letter names.
+    Kind(char),
+}
+
+/// Whether the answer of a form is yes.
+fn holds(alloc: Global, form: &Form, question: Question<'_>) -> bool {
+    match question {
+        Question::Made => true,
+        Question::Writes(text, want) => is_pushed(alloc, form, text, want),
+        Question::WritesSoMany(text, want) => is_so_many(alloc, form, text, want),
+        Question::Marks(text, want) => is_marked(alloc, form, text, want),
+        Question::MarksSoMany(text, want) => has_parts(alloc, form, text, want),
+        Question::Decimal(text, want) => is_decimal(alloc, form, text, want),
+        Question::Kind(letter) => is_of(form.formatter(), letter),
+    }
+}
+
+/// The answer of the form of the options by the bytes of a file. No other function here has a form
+/// of its own, since all that it may hold is gone through where it is given back.
+fn asked_once(
+    alloc: Global,
+    options: &Options,
+    file: &[u8],
+    question: Question<'_>,
+) -> Result<bool, StartError> {
+    let Some(wanted) = wanted(options) else {
+        return Ok(false);
+    };
+    match Form::make(alloc, &wanted, file) {
+        Ok(form) => Ok(holds(alloc, &form, question)),
+        Err(error) => Err(error),
+    }
+}
+
+/// The same, asked once more where memory was refused.
+pub(crate) fn ask(
+    alloc: Global,
+    options: &Options,
+    file: &[u8],
+    question: Question<'_>,
+) -> Result<bool, StartError> {
+    match asked_once(alloc, options, file, question) {
+        Err(StartError::OutOfMemory) => asked_once(alloc, options, file, question),
+        answer => answer,
+    }
+}
+
 /// Whether a text is written so by the tables, or refused so.
 pub(crate) fn is_written(
     alloc: Global,
@@ -221,8 +293,9 @@ pub(crate) fn is_written(
     text: &str,
     want: Result<&str, TextError>,
 ) -> bool {
-    match made(alloc, options, TABLES.as_bytes()) {
-        Some(Ok(form)) => is_pushed(alloc, &form, text, want),
-        _ => false,
+    let file = tables_for(options.asked).as_bytes();
+    match ask(alloc, options, file, Question::Writes(text, want)) {
+        Ok(is_so) => is_so,
+        Err(_) => false,
     }
 }

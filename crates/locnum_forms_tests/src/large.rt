@@ -1,8 +1,8 @@
 //! Numbers of the most digits.
 
-use crate::asked::{Asked, EN, Options, TABLES, made, pushed};
+use crate::asked::{Asked, EN, Options, Question, ask, tables_for};
 use fixed_decimal::SignDisplay;
-use locnum_forms::{Form, TextError, UnitWidth};
+use locnum_forms::{TextError, UnitWidth};
 use std::alloc::{AllocError, Global};
 
 /// The fraction digits, what is written, how many nines a text has at power 0 and above and below,
@@ -44,6 +44,14 @@ const NINES: &[(
         Err(TextError::Overflow),
     ),
     (None, Asked::Named("USD"), (32768, 0), Ok(43704)),
+    (
+        None,
+        Asked::Compact("USD"),
+        (32768, 0),
+        Err(TextError::Overflow),
+    ),
+    (None, Asked::Compact("USD"), (32767, 0), Ok(43680)),
+    (Some((0, 0)), Asked::Compact("USD"), (1, 32768), Ok(3)),
     (None, Asked::Percent, (32768, 0), Err(TextError::Overflow)),
     (None, Asked::Percent, (32766, 0), Ok(43691)),
     (
@@ -72,16 +80,6 @@ fn some_nines(alloc: Global, counts: (usize, usize)) -> Result<Vec<u8>, AllocErr
     }
 }
 
-/// Whether the form writes so many bytes of the text, or refuses it so.
-fn writes_so_many(alloc: Global, form: &Form, text: &[u8], want: Result<usize, TextError>) -> bool {
-    let mut out = Vec::new(alloc);
-    match (pushed(alloc, form, text, &mut out), want) {
-        (Ok(()), Ok(count)) => out.len() == count,
-        (Err(error), Err(want)) => error == want && out.is_empty(),
-        _ => false,
-    }
-}
-
 /// Whether so many bytes are written of so many nines.
 fn is_so_long(
     alloc: Global,
@@ -92,9 +90,10 @@ fn is_so_long(
     let Ok(text) = some_nines(alloc, counts) else {
         return false;
     };
-    match made(alloc, options, TABLES.as_bytes()) {
-        Some(Ok(form)) => writes_so_many(alloc, &form, &text, want),
-        _ => false,
+    let file = tables_for(options.asked).as_bytes();
+    match ask(alloc, options, file, Question::WritesSoMany(&text, want)) {
+        Ok(is_so) => is_so,
+        Err(_) => false,
     }
 }
 

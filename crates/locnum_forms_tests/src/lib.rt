@@ -4,13 +4,19 @@
 #[cfg(test)]
 mod asked;
 #[cfg(test)]
+mod compact;
+#[cfg(test)]
 mod large;
+#[cfg(test)]
+mod marked;
 #[cfg(test)]
 mod money;
 #[cfg(test)]
 mod names;
 #[cfg(test)]
 mod numbers;
+#[cfg(test)]
+mod parts;
 #[cfg(test)]
 mod percents;
 #[cfg(test)]

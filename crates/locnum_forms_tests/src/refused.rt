@@ -1,6 +1,7 @@
 //! Why there is no form.
 
-use crate::asked::{AR, Asked, DE, EN, Options, Place, TABLES, XX, made};
+use crate::asked::{AR, Asked, DE, EN, FR, Options, Place, Question, TABLES, XX, ask};
+use crate::compact::COMPACT;
 use fixed_decimal::SignDisplay;
 use icu_tables::{EntryFault, Key, TableError};
 use locnum_forms::{StartError, UnitWidth};
@@ -31,6 +32,10 @@ const TWO_FAULTS: &str =
 const NO_LOCALE: &str =
     "{\"symbols\":[],\"digits\":[],\"units\":[{\"locale\":\"\",\"width\":\"long\",\"unit\":\"day\",\"patterns\":{\"other\":\"{0}\"}}]}";
 
+/// Dollars with a compact pattern that has no place for the symbol.
+const NO_PLACE: &str =
+    "{\"symbols\":[],\"digits\":[],\"currency_compact\":[{\"locale\":\"en\",\"patterns\":[[3,3,{\"other\":\"0K\"}]]}]}";
+
 /// Days in full.
 const DAYS: Asked = Asked::Unit("day", UnitWidth::Long);
 
@@ -42,6 +47,13 @@ const BAD_LOCALE: TableError = TableError::Entry {
     key: Key::Units,
     index: 0,
     fault: EntryFault::BadLocale,
+};
+
+/// A fault of the first entry of compact patterns of money.
+const NO_SYMBOL_PLACE: TableError = TableError::Entry {
+    key: Key::CurrencyCompact,
+    index: 0,
+    fault: EntryFault::NoSymbolPlace,
 };
 
 /// Where, what is asked for, the text of a file, and why there is no form.
@@ -90,6 +102,18 @@ const REFUSED: &[(Place, Asked, &str, StartError)] = &[
     (EN, Asked::Named("EUR"), TABLES, StartError::NoData),
     (EN, Asked::Named("USD"), NUMBERS, StartError::NoData),
     (EN, Asked::Named("USD"), NO_RULES, StartError::NoData),
+    (
+        EN,
+        Asked::Compact("USD"),
+        NO_PLACE,
+        StartError::Refused(NO_SYMBOL_PLACE),
+    ),
+    (EN, Asked::Compact("USD"), NUMBERS, StartError::NoData),
+    (EN, Asked::Compact("USD"), NO_RULES, StartError::NoData),
+    (EN, Asked::Compact("USD"), TABLES, StartError::NoData),
+    (DE, Asked::Compact("USD"), COMPACT, StartError::NoData),
+    (FR, Asked::Compact("EUR"), COMPACT, StartError::NoData),
+    (XX, Asked::Compact("USD"), COMPACT, StartError::NoData),
     (EN, Asked::Percent, NUMBERS, StartError::NoData),
     (EN, DAYS, NUMBERS, StartError::NoData),
 ];
@@ -107,10 +131,9 @@ fn is_refused(
         sign: SignDisplay::Auto,
         asked,
     };
-    match made(alloc, &options, file) {
-        Some(Ok(_)) => want == None,
-        Some(Err(error)) => want == Some(error),
-        None => false,
+    match ask(alloc, &options, file, Question::Made) {
+        Ok(is_made) => is_made && want == None,
+        Err(error) => want == Some(error),
     }
 }
 

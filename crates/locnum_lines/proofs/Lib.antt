@@ -6,6 +6,9 @@ pub mod Numbers
 pub mod Chosen
 pub mod FirstField
 pub mod Goes
+pub mod Passing
 pub mod Feeding
+pub mod Skips
 pub mod Fed
 pub mod Runs
+pub mod OneField

@@ -1,5 +1,6 @@
 pub mod Padding
 pub mod Settings
+pub mod Whole
 pub mod Fields
 pub mod Csv
 pub mod Records
@@ -7,4 +8,5 @@ pub mod Ran
 pub mod FieldRuns
 pub mod RecordRuns
 pub mod Gathered
+pub mod Passed
 pub mod Reported

@@ -6,17 +6,18 @@ ghost use Rattle.locnum_lines.specs.RecordRuns.{record_ran};
 ghost use Rattle.locnum_lines.specs.Records.{IsPart, IsPartLine, is_open, lines_in, place_behind};
 ghost use Rattle.locnum_lines.specs.declared.cutting.Place.TheVariants.{Front};
 
-use crate::cutting::{Place, is_quoted};
+use crate::cutting::Place;
 use crate::gathered::Gathered;
 use crate::line::push_record;
-use crate::records::{place_after, place_behind};
+use crate::records::{is_open_behind, lines_in, place_after, place_behind};
 use crate::settings::LineSettings;
 use locnum_forms::Form;
 use memchr::memchr;
 use std::alloc::{AllocError, Global};
 
-/// Runs a record whose first bytes may have been held back.
-fn end_record(
+/// Runs a record whose first bytes were held back.
+#[inline(never)]
+fn end_held(
     alloc: Global,
     settings: &LineSettings,
     form: &Form,
@@ -32,13 +33,35 @@ fn end_record(
         1 (lines_in settings.now.end (held.old.items ++ rest.now))) }
     ensures none_held { OnOk result (held.new.items ≡ []) }
 {
-    if held.is_empty() {
-        return push_record(alloc, settings, form, rest, gathered);
-    }
     held.extend_from_slice(rest)?;
-    push_record(alloc, settings, form, held, gathered)?;
+    let lines = lines_in(settings.end, held);
+    push_record(alloc, settings, form, held, lines, gathered)?;
     held.clear();
     Ok(())
+}
+
+/// Runs a record whose first bytes may have been held back.
+fn end_record(
+    alloc: Global,
+    settings: &LineSettings,
+    form: &Form,
+    rest: &[u8],
+    held: &mut Vec<u8>,
+    gathered: &mut Gathered,
+) -> Result<(), AllocError>
+    requires going { gathered.old.is_stopped ≡ false }
+    requires closed { is_open settings.now.delimiter (held.old.items ++ rest.now) ≡ false }
+    requires rest_part { IsPartLine settings.now.end rest.now }
+    ensures ran { OnOk result (Adds gathered.old gathered.new
+        (record_ran settings.now form.now gathered.old.header gathered.old.lines
+        (held.old.items ++ rest.now))
+        1 (lines_in settings.now.end (held.old.items ++ rest.now))) }
+    ensures none_held { OnOk result (held.new.items ≡ []) }
+{
+    if held.is_empty() {
+        return push_record(alloc, settings, form, rest, 1, gathered);
+    }
+    end_held(alloc, settings, form, rest, held, gathered)
 }
 
 /// Ends a line whose record may have bytes that were held back, behind which this place is: the record
@@ -61,9 +84,8 @@ fn end_line(
     ensures place { OnOk result
         (place.new ≡ place_behind settings.now.delimiter Front held.new.items) }
 {
-    *place = place_behind(settings.delimiter, *place, rest);
-    if is_quoted(*place) {
-        *place = place_after(settings.delimiter, *place, settings.end);
+    if is_open_behind(settings.delimiter, *place, rest) {
+        *place = place_after(settings.delimiter, Place::Quoted, settings.end);
         held.extend_from_slice(rest)?;
         held.push(settings.end)?;
         return Ok(());

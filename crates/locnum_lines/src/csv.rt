@@ -1,10 +1,11 @@
 //! What a field of CSV contains, and how a text is written as one (RFC 4180).
 
-ghost use Rattle.std.specs.Prelude.{◌≡◌, ◌++◌, IfOk, OnOk};
+ghost use Rattle.std.specs.Prelude.{◌≡◌, ◌++◌, IfOk, IfSome, OnOk};
 ghost use Rattle.locnum_lines.specs.Csv.{between_quotes, content_from, core_length, doubled, is_content, is_in_quotes, is_special, kept, quoted, wants_quotes};
 ghost use Rattle.locnum_lines.specs.declared.cutting.Place.TheVariants.{Front};
 
 use crate::cutting::{Place, csv_place};
+use memchr::memchr;
 use std::alloc::{AllocError, Global};
 
 /// How long a field is without a carriage return at its end.
@@ -47,6 +48,22 @@ fn keep(place: Place, byte: u8, content: &mut Vec<u8>) -> Result<(), AllocError>
         content.push(byte)?;
     }
     Ok(())
+}
+
+/// The content of a field whose content stands in it byte for byte: outside of quotes, or between
+/// quotes of which none stands for one.
+pub(crate) fn content_within(text: &[u8]) -> Option<&[u8]>
+    ensures { IfSome result (λ content. content.now ≡ content_from Front text.now) }
+{
+    if !is_in_quotes(text) {
+        return Some(text);
+    }
+    let (_quote, rest) = text.split_at(1);
+    let n = memchr(b'"', rest)?;
+    if n + 1 < rest.len() {
+        return None;
+    }
+    Some(rest.split_at(n).0)
 }
 
 /// The content of a field.
@@ -96,6 +113,9 @@ fn push_between_quotes(byte: u8, out: &mut Vec<u8>) -> Result<(), AllocError>
 fn push_doubled(text: &[u8], out: &mut Vec<u8>) -> Result<(), AllocError>
     ensures { OnOk result (out.new.items ≡ out.old.items ++ doubled text.now) }
 {
+    let Some(_) = memchr(b'"', text) else {
+        return out.extend_from_slice(text);
+    };
     for byte in text {
         push_between_quotes(*byte, out)?;
     }

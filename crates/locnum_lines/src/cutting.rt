@@ -1,10 +1,13 @@
 //! Where fields end, and what of them is a number.
 
-ghost use Rattle.std.specs.Prelude.{◌≡◌};
-ghost use Rattle.locnum_lines.specs.Fields.{blanks_before, content_length, csv_place, ends_field, field_length, is_blank, is_blank_behind, is_plain, is_quoted, next_place};
-ghost use Rattle.locnum_lines.specs.declared.cutting.Place.TheVariants.{Front};
+ghost use Rattle.std.specs.Prelude.{◌≡◌, ◌+◌, ◌≤◌, drop, length};
+ghost use Rattle.locnum_lines.specs.Fields.{blanks_before, content_length, csv_place, ends_field, field_length, is_blank, is_blank_behind, is_plain, is_quoted};
+ghost use Rattle.locnum_lines.specs.Records.{place_behind};
+ghost use Rattle.locnum_lines.specs.declared.cutting.Place.TheVariants.{Front, Plain};
+ghost use Rattle.locnum_lines.specs.declared.settings.Delimiter.TheVariants.{Blanks, Byte, Csv};
 
 use crate::settings::Delimiter;
+use memchr::{memchr, memchr2};
 
 /// Where in a field a byte stands, by the bytes in front of it.
 #[derive(Clone, Copy, Debug, PartialEq, Eq)]
@@ -88,28 +91,75 @@ pub(crate) fn csv_place(place: Place, byte: u8) -> Place
     }
 }
 
-/// The place behind a byte that its field goes on with.
-fn next_place(delimiter: Delimiter, place: Place, byte: u8) -> Place
-    ensures { result ≡ next_place delimiter place byte }
+/// How many bytes are in front of the first one like this; all of them where there is none.
+#[inline(never)]
+fn bytes_before(byte: u8, text: &[u8]) -> usize
+    ensures { result ≡ field_length (Byte byte) Front text.now }
 {
-    match delimiter {
-        Delimiter::Blanks => if is_blank(byte) { place } else { Place::Plain },
-        Delimiter::Byte(_) => Place::Plain,
-        Delimiter::Csv(_) => csv_place(place, byte),
+    match memchr(byte, text) {
+        Some(n) => n,
+        None => text.len(),
     }
+}
+
+/// How many bytes are in front of the first blank; all of them where there is none.
+#[inline(never)]
+fn word_length(text: &[u8]) -> usize
+    ensures { result ≡ field_length Blanks Plain text.now }
+{
+    match memchr2(b' ', b'\t', text) {
+        Some(n) => n,
+        None => text.len(),
+    }
+}
+
+/// How long the first field of a line is that blanks end.
+fn blank_field_length(line: &[u8]) -> usize
+    ensures { result ≡ field_length Blanks Front line.now }
+{
+    let (before, word) = line.split_at(blanks_before(line));
+    before.len() + word_length(word)
+}
+
+/// How many bytes of a field of CSV stand at this place, and change nothing of it.
+pub(crate) fn unchanging_length(delimiter: u8, place: Place, text: &[u8]) -> usize
+    ensures within { result ≤ length text.now }
+    ensures field { field_length (Csv delimiter) place text.now
+        ≡ result + field_length (Csv delimiter) place (drop result text.now) }
+    ensures place { place_behind (Csv delimiter) place text.now
+        ≡ place_behind (Csv delimiter) place (drop result text.now) }
+{
+    match place {
+        Place::Front | Place::AfterQuote => 0,
+        Place::Plain => bytes_before(delimiter, text),
+        Place::Quoted => bytes_before(b'"', text),
+    }
+}
+
+/// How long the first field of a record of CSV is.
+#[inline(never)]
+fn csv_field_length(delimiter: u8, line: &[u8]) -> usize
+    ensures { result ≡ field_length (Csv delimiter) Front line.now }
+{
+    let mut place = Place::Front;
+    let mut length = 0;
+    while length < line.len() && !ends_field(Delimiter::Csv(delimiter), place, line[length]) {
+        place = csv_place(place, line[length]);
+        length += 1;
+        length += unchanging_length(delimiter, place, &line[length..]);
+    }
+    length
 }
 
 /// How long the first field of a record is.
 pub(crate) fn field_length(delimiter: Delimiter, line: &[u8]) -> usize
     ensures { result ≡ field_length delimiter Front line.now }
 {
-    let mut place = Place::Front;
-    let mut length = 0;
-    while length < line.len() && !ends_field(delimiter, place, line[length]) {
-        place = next_place(delimiter, place, line[length]);
-        length += 1;
+    match delimiter {
+        Delimiter::Blanks => blank_field_length(line),
+        Delimiter::Byte(delimiter) => bytes_before(delimiter, line),
+        Delimiter::Csv(delimiter) => csv_field_length(delimiter, line),
     }
-    length
 }
 
 /// How many blanks are in front of a text.

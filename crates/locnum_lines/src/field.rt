@@ -1,6 +1,6 @@
 //! One field of a line.
 
-ghost use Rattle.std.specs.Prelude.{◌≡◌, ◌≢◌, ◌++◌, OnOk, IfErr, Ok, Some, List, drop, false, take};
+ghost use Rattle.std.specs.Prelude.{◌≡◌, ◌≢◌, ◌++◌, OnOk, IfErr, Ok, Some, List, drop, false, take, true};
 ghost use Rattle.decimal_lines.specs.Alone.{IsRefusal};
 ghost use Rattle.locnum_forms.specs.Forms.{form_events};
 ghost use Rattle.locnum_lines.specs.FieldRuns.{blanks_kept, chosen_ran, csv_cut_ran, field_ran, refused_field, refused_ran};
@@ -9,25 +9,17 @@ ghost use Rattle.locnum_lines.specs.Fields.{cut};
 ghost use Rattle.locnum_lines.specs.declared.cutting.Place.TheVariants.{Front};
 ghost use Rattle.locnum_lines.specs.Gathered.{Adds};
 ghost use Rattle.locnum_lines.specs.Padding.{padded};
-ghost use Rattle.locnum_lines.specs.Ran.{writes};
+ghost use Rattle.locnum_lines.specs.Settings.{is_chosen};
 ghost use Rattle.writeable.specs.Events.{Event, text_of};
 
-use crate::csv::{content_of, core_length, is_in_quotes};
+use crate::csv::{content_of, content_within, core_length, is_in_quotes};
 use crate::cutting::{blanks_before, content_length};
 use crate::gathered::Gathered;
 use crate::note::push_note;
 use crate::padding::Padding;
-use crate::settings::{Delimiter, LineSettings, Refusals, is_chosen};
+use crate::settings::{Delimiter, LineSettings, Refusals};
 use locnum_forms::{Form, TextError};
 use std::alloc::{AllocError, Global};
-
-/// Bytes that go through as they are.
-pub(crate) fn pass(bytes: &[u8], gathered: &mut Gathered) -> Result<(), AllocError>
-    requires { gathered.old.is_stopped ≡ false }
-    ensures { OnOk result (Adds gathered.old gathered.new (writes bytes.now) 0 0) }
-{
-    gathered.write(bytes)
-}
 
 /// A number that is refused, behind the blanks in front of it, and what is behind it.
 fn refuse(
@@ -276,7 +268,7 @@ fn push_content(
 {
     let (before, rest) = content.split_at(blanks_before(content));
     let (number, behind) = rest.split_at(content_length(rest));
-    let mut apart = Gathered::new(alloc, 0);
+    let mut apart = gathered.apart(alloc);
     match push_between(
         alloc,
         settings.padding,
@@ -286,7 +278,11 @@ fn push_content(
         behind,
         &mut apart,
     ) {
-        Ok(()) => replace(delimiter, settings.end, text, &apart.output, gathered),
+        Ok(()) => {
+            replace(delimiter, settings.end, text, &apart.output, gathered)?;
+            gathered.take_back(apart);
+            Ok(())
+        }
         Err(error) => {
             if error == TextError::OutOfMemory {
                 return Err(AllocError);
@@ -311,11 +307,14 @@ fn push_csv(
         (cut (content_from Front (take (core_length text.now) text.now)))) 0 0) }
 {
     let (core, _behind) = text.split_at(core_length(text));
+    if let Some(content) = content_within(core) {
+        return push_content(alloc, settings, form, delimiter, text, content, gathered);
+    }
     let content = content_of(alloc, core)?;
     push_content(alloc, settings, form, delimiter, text, &content, gathered)
 }
 
-/// A field of this number.
+/// A field of this number, which is chosen.
 pub(crate) fn push_field(
     alloc: Global,
     settings: &LineSettings,
@@ -324,13 +323,11 @@ pub(crate) fn push_field(
     text: &[u8],
     gathered: &mut Gathered,
 ) -> Result<(), AllocError>
-    requires { gathered.old.is_stopped ≡ false }
+    requires going { gathered.old.is_stopped ≡ false }
+    requires chosen { is_chosen settings.now.fields index ≡ true }
     ensures { OnOk result (Adds gathered.old gathered.new
         (field_ran settings.now form.now index text.now) 0 0) }
 {
-    if !is_chosen(&settings.fields, index) {
-        return pass(text, gathered);
-    }
     match settings.delimiter {
         Delimiter::Blanks | Delimiter::Byte(_) => push_plain(alloc, settings, form, text, gathered),
         Delimiter::Csv(delimiter) => push_csv(alloc, settings, form, delimiter, text, gathered),

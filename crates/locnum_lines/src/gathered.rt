@@ -8,6 +8,7 @@ use crate::csv::{push_quoted, wants_quotes};
 use crate::padding::{Alignment, Padding, columns_of};
 use std::alloc::{AllocError, Global};
 use std::marker::Model;
+use std::mem;
 
 /// Output and notes that aren't written yet, and how far the run is.
 #[derive(Drop)]
@@ -18,7 +19,14 @@ pub(crate) struct Gathered {
     pub(crate) is_stopped: bool,
     pub(crate) header: u64,
     pub(crate) lines: u64,
+    /// Room for the text of one field, whatever stands in it.
+    spare: Vec<u8>,
+    /// How often the rest of a record may still be tried as one number before it is one.
+    tries: u8,
 }
+
+/// How often in turn it may be something else, until what was gathered is written.
+const TRIES: u8 = 8;
 
 impl Model for Gathered {
     ghost use Rattle.locnum_lines.specs.Gathered.{GatheredData};
@@ -58,7 +66,52 @@ impl Gathered {
             is_stopped: false,
             header,
             lines: 0,
+            spare: Vec::new(alloc),
+            tries: TRIES,
         }
+    }
+
+    /// Whether the rest of a record may be tried once more as one number.
+    pub(crate) fn takes_try(&mut self) -> bool
+        ensures { self.new ≡ self.old }
+    {
+        if self.tries == 0 {
+            return false;
+        }
+        self.tries -= 1;
+        true
+    }
+
+    /// It was one.
+    pub(crate) fn renew_tries(&mut self)
+        ensures { self.new ≡ self.old }
+    {
+        self.tries = TRIES;
+    }
+
+    /// Nothing gathered apart, in the room that is spare here.
+    pub(crate) fn apart(&mut self, alloc: Global) -> Self
+        ensures nothing { result ≡ record {
+          output = [];
+          notes = [];
+          is_refused = false;
+          is_stopped = false;
+          header = 0;
+          lines = 0;
+        } }
+        ensures unchanged { self.new ≡ self.old }
+    {
+        let mut apart = Gathered::new(alloc, 0);
+        mem::swap(&mut apart.output, &mut self.spare);
+        apart.output.clear();
+        apart
+    }
+
+    /// Takes back the room of what was gathered apart.
+    pub(crate) fn take_back(&mut self, mut apart: Gathered)
+        ensures { self.new ≡ self.old }
+    {
+        mem::swap(&mut apart.output, &mut self.spare);
     }
 
     /// Forgets what was written.
@@ -67,6 +120,7 @@ impl Gathered {
     {
         self.output.clear();
         self.notes.clear();
+        self.tries = TRIES;
     }
 
     /// Bytes of the output.
@@ -74,6 +128,9 @@ impl Gathered {
         ensures { OnOk result
             (self.new ≡ record self.old { output = self.old.output ++ bytes.now }) }
     {
+        if bytes.is_empty() {
+            return Ok(());
+        }
         self.output.extend_from_slice(bytes)
     }
 

@@ -13,6 +13,7 @@ mod padding;
 mod records;
 mod running;
 mod settings;
+mod whole;
 
 pub use padding::{Alignment, Padding};
 pub use running::{Report, RunError, run};

@@ -1,21 +1,73 @@
 //! One line, or record of CSV.
 
-ghost use Rattle.std.specs.Prelude.{◌≡◌, ◌+◌, OnOk, IfOk, option_map, false, true};
+ghost use Rattle.std.specs.Prelude.{◌≡◌, ◌+◌, ◌≤◌, OnOk, IfOk, length, option_map, false, true};
 ghost use Rattle.locnum_lines.specs.FieldRuns.{fields_ran};
 ghost use Rattle.locnum_lines.specs.Fields.{fields_from};
 ghost use Rattle.locnum_lines.specs.Gathered.{Adds, GoesOn};
+ghost use Rattle.locnum_lines.specs.Passed.{IsPassed};
 ghost use Rattle.locnum_lines.specs.Records.{in_front, is_open, last_begun, lines_in, place_behind};
 ghost use Rattle.locnum_lines.specs.declared.cutting.Place.TheVariants.{Front};
 ghost use Rattle.locnum_lines.specs.RecordRuns.{next_ran, open_ran, record_ran, unended_ran};
+ghost use Rattle.locnum_lines.specs.Settings.{is_chosen};
 
 use crate::cutting::{Place, field_length, is_quoted};
 use crate::field::push_field;
 use crate::gathered::Gathered;
 use crate::note::push_unended_note;
 use crate::records::{last_begun, last_end, lines_in};
-use crate::settings::LineSettings;
+use crate::settings::{LineSettings, is_chosen};
+use crate::whole::push_whole;
 use locnum_forms::Form;
 use std::alloc::{AllocError, Global};
+
+/// So many bytes of a line and the one behind them, as they are. The result is the rest behind that
+/// byte, unless there is none.
+fn pass_through<'a>(
+    line: &'a [u8],
+    count: usize,
+    gathered: &mut Gathered,
+) -> Result<Option<&'a [u8]>, AllocError>
+    requires { count ≤ length line.now }
+    ensures { IfOk result (λ rest. IsPassed gathered.old gathered.new line.now count
+        (option_map (λ s. s.now) rest)) }
+{
+    if count == line.len() {
+        gathered.write(line)?;
+        return Ok(None);
+    }
+    let (passed, rest) = line.split_at(count + 1);
+    gathered.write(passed)?;
+    Ok(Some(rest))
+}
+
+/// The first field of the rest of a record, whose number this is and which is chosen, and the byte
+/// behind it. The result is the rest behind that byte, unless there is none or the run stops.
+#[inline(never)]
+fn push_next<'a>(
+    alloc: Global,
+    settings: &LineSettings,
+    form: &Form,
+    index: usize,
+    line: &'a [u8],
+    gathered: &mut Gathered,
+) -> Result<Option<&'a [u8]>, AllocError>
+    requires going { gathered.old.is_stopped ≡ false }
+    requires chosen { is_chosen settings.now.fields index ≡ true }
+    ensures { IfOk result (λ rest. GoesOn settings.now form.now index
+        gathered.old gathered.new line.now (option_map (λ s. s.now) rest)) }
+{
+    let length = field_length(settings.delimiter, line);
+    let (field, behind) = line.split_at(length);
+    push_field(alloc, settings, form, index, field, gathered)?;
+    if gathered.is_stopped {
+        return Ok(None);
+    }
+    let Some((separator, rest)) = behind.split_first() else {
+        return Ok(None);
+    };
+    gathered.push(*separator)?;
+    Ok(Some(rest))
+}
 
 /// The first field of the rest of a record, whose number this is, and the byte behind it. The result
 /// is the rest behind that byte, unless there is none or the run stops.
@@ -31,16 +83,14 @@ fn push_first<'a>(
     ensures { IfOk result (λ rest. GoesOn settings.now form.now index
         gathered.old gathered.new line.now (option_map (λ s. s.now) rest)) }
 {
-    let (field, behind) = line.split_at(field_length(settings.delimiter, line));
-    push_field(alloc, settings, form, index, field, gathered)?;
-    if gathered.is_stopped {
+    if !is_chosen(&settings.fields, index) {
+        let length = field_length(settings.delimiter, line);
+        return pass_through(line, length, gathered);
+    }
+    if push_whole(alloc, settings, form, index, line, gathered)? {
         return Ok(None);
     }
-    let Some((separator, rest)) = behind.split_first() else {
-        return Ok(None);
-    };
-    gathered.push(*separator)?;
-    Ok(Some(rest))
+    push_next(alloc, settings, form, index, line, gathered)
 }
 
 /// The fields of a record.
@@ -94,22 +144,24 @@ fn push_line(
     gathered.push(last)
 }
 
-/// A record whose quotes end, behind as many lines as were gathered.
+/// A record of so many lines whose quotes end, behind as many lines as were gathered.
 pub(crate) fn push_record(
     alloc: Global,
     settings: &LineSettings,
     form: &Form,
     line: &[u8],
+    lines: u64,
     gathered: &mut Gathered,
 ) -> Result<(), AllocError>
     requires going { gathered.old.is_stopped ≡ false }
     requires closed { is_open settings.now.delimiter line.now ≡ false }
+    requires count { lines ≡ lines_in settings.now.end line.now }
     ensures { OnOk result (Adds gathered.old gathered.new
         (record_ran settings.now form.now gathered.old.header gathered.old.lines line.now)
         1 (lines_in settings.now.end line.now)) }
 {
     push_line(alloc, settings, form, settings.end, line, gathered)?;
-    gathered.pass(lines_in(settings.end, line))
+    gathered.pass(lines)
 }
 
 /// Tells of quotes that don't end, which begin in this line.
@@ -160,8 +212,9 @@ pub(crate) fn push_last(
         (record_ran settings.now form.now gathered.old.header gathered.old.lines line.now)
         1 (lines_in settings.now.end line.now)) }
 {
+    let lines = lines_in(settings.end, line);
     if !is_quoted(place) {
-        return push_record(alloc, settings, form, line, gathered);
+        return push_record(alloc, settings, form, line, lines, gathered);
     }
     let Some(first) = gathered.lines.checked_add(1) else {
         return Err(AllocError);
@@ -170,5 +223,5 @@ pub(crate) fn push_last(
         return Err(AllocError);
     };
     push_open(alloc, settings, form, begun, line, gathered)?;
-    gathered.pass(lines_in(settings.end, line))
+    gathered.pass(lines)
 }

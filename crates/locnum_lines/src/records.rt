@@ -1,12 +1,15 @@
 //! Where records end, and in which line their last field begins.
 
-ghost use Rattle.std.specs.Prelude.{◌≡◌, ◌<◌, IfSome, get_or, length, option_map, take};
-ghost use Rattle.locnum_lines.specs.Records.{begun_after, found_after, in_front, last_begun, line_after, line_end, lines_in, place_after, place_behind};
+ghost use Rattle.std.specs.Prelude.{◌≡◌, ◌<◌, IfSome, false, get_or, length, option_map, take, true};
+ghost use Rattle.locnum_lines.specs.Records.{IsPartLine, begun_after, found_after, in_front, last_begun, line_after, line_end, lines_in, place_after, place_behind};
+ghost use Rattle.locnum_lines.specs.Fields.{is_quoted};
+ghost use Rattle.locnum_lines.specs.declared.cutting.Place.{Place};
 ghost use Rattle.locnum_lines.specs.declared.cutting.Place.TheVariants.{Front};
 ghost use Rattle.locnum_lines.specs.declared.settings.Delimiter.TheVariants.{Csv};
 
-use crate::cutting::{Place, csv_place, ends_field};
+use crate::cutting::{Place, csv_place, ends_field, is_quoted, unchanging_length};
 use crate::settings::Delimiter;
+use memchr::memchr;
 
 /// The place behind a byte of a record of CSV.
 fn csv_place_after(delimiter: u8, place: Place, byte: u8) -> Place
@@ -29,13 +32,38 @@ pub(crate) fn place_after(delimiter: Delimiter, place: Place, byte: u8) -> Place
     }
 }
 
+/// The place behind bytes of a record of CSV of which none is a quote.
+fn place_behind_unquoted(delimiter: u8, before: Place, bytes: &[u8]) -> Place
+    requires { IsPartLine 34 bytes.now }
+    ensures { result ≡ place_behind (Csv delimiter) before bytes.now }
+{
+    if is_quoted(before) {
+        return before;
+    }
+    match bytes.split_last() {
+        None => before,
+        Some((last, _)) => if *last == delimiter {
+            Place::Front
+        } else {
+            Place::Plain
+        },
+    }
+}
+
 /// The place behind bytes of a record of CSV.
+#[inline(never)]
 fn csv_place_behind(delimiter: u8, before: Place, bytes: &[u8]) -> Place
     ensures { result ≡ place_behind (Csv delimiter) before bytes.now }
 {
+    let Some(_) = memchr(b'"', bytes) else {
+        return place_behind_unquoted(delimiter, before, bytes);
+    };
     let mut place = before;
-    for byte in bytes {
-        place = csv_place_after(delimiter, place, *byte);
+    let mut index = unchanging_length(delimiter, place, bytes);
+    while index < bytes.len() {
+        place = csv_place_after(delimiter, place, bytes[index]);
+        index += 1;
+        index += unchanging_length(delimiter, place, &bytes[index..]);
     }
     place
 }
@@ -47,6 +75,43 @@ pub(crate) fn place_behind(delimiter: Delimiter, place: Place, bytes: &[u8]) -> 
     match delimiter {
         Delimiter::Blanks | Delimiter::Byte(_) => place,
         Delimiter::Csv(delimiter) => csv_place_behind(delimiter, place, bytes),
+    }
+}
+
+/// Whether bytes end outside of quotes wherever they begin, since they end with a quote behind a
+/// byte that is neither one nor the delimiter.
+fn ends_outside(delimiter: u8, bytes: &[u8]) -> bool
+    ensures { result ≡ true → (place : Place) →
+        is_quoted (place_behind (Csv delimiter) place bytes.now) ≡ false }
+{
+    let length = bytes.len();
+    if length < 2 {
+        return false;
+    }
+    let (before, last) = (bytes[length - 2], bytes[length - 1]);
+    if last != b'"' || before == b'"' {
+        return false;
+    }
+    before != delimiter
+}
+
+/// Whether quotes are open behind bytes of a record of CSV.
+fn is_csv_open_behind(delimiter: u8, before: Place, bytes: &[u8]) -> bool
+    ensures { result ≡ is_quoted (place_behind (Csv delimiter) before bytes.now) }
+{
+    if ends_outside(delimiter, bytes) {
+        return false;
+    }
+    is_quoted(csv_place_behind(delimiter, before, bytes))
+}
+
+/// Whether quotes are open behind bytes of a record.
+pub(crate) fn is_open_behind(delimiter: Delimiter, place: Place, bytes: &[u8]) -> bool
+    ensures { result ≡ is_quoted (place_behind delimiter place bytes.now) }
+{
+    match delimiter {
+        Delimiter::Blanks | Delimiter::Byte(_) => is_quoted(place),
+        Delimiter::Csv(delimiter) => is_csv_open_behind(delimiter, place, bytes),
     }
 }
 

@@ -23,3 +23,4 @@ pub record GivenData : Type 0 where
   pub padding : Option (List ℕ)
   pub invalid : Option (List ℕ)
   pub zero_terminated : Bool
+  pub explain : Bool

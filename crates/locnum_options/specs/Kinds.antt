@@ -1,5 +1,5 @@
 -- What is written of numbers: a style, money, percents or a unit.
-use Rattle.std.specs.Prelude.{ℕ, Bool, false, ◌&&◌, ◌||◌, List, Option, Some, None, Result, Ok, Err, codes, nat_eq}
+use Rattle.std.specs.Prelude.{ℕ, Bool, true, false, not, ◌&&◌, ◌||◌, List, Option, Some, None, Result, Ok, Err, codes, nat_eq}
 use Rattle.std.specs.Prelude.{if◌then◌else◌}
 use Rattle.std.specs.Borrow.{Bor}
 use Rattle.std.specs.Option.{is_some, is_none}
@@ -10,7 +10,7 @@ use Rattle.icu_dimension.specs.declared.options.Width.{Width}
 use Rattle.icu_dimension.specs.declared.options.Width.TheVariants as width
 use Rattle.icu_dimension_data.specs.Currency.{is_currency_code}
 use Rattle.locnum_forms.specs.declared.wanted.Kind.{Kind}
-use Rattle.locnum_forms.specs.declared.wanted.Kind.TheVariants.{Plain, Short, Long, Money, MoneyNamed, Percent, Unit}
+use Rattle.locnum_forms.specs.declared.wanted.Kind.TheVariants.{Plain, Short, Long, Money, MoneyNamed, MoneyShort, Percent, Unit}
 use Rattle.locnum_forms.specs.declared.wanted.UnitWidth.{UnitWidth}
 use Rattle.locnum_forms.specs.declared.wanted.UnitWidth.TheVariants as unit
 use Rattle.locnum_options.specs.Given.{GivenData}
@@ -75,9 +75,35 @@ named_given text given = do
   code ← currency_named text
   if given.accounting then Err fault.Accounting else Ok (MoneyNamed code given.cash)
 
--- amounts of a currency, with its name or its symbol
+-- amounts of a currency in full, with its name or its symbol
 unfoldable pub amount_given : List ℕ → GivenData → Result Kind OptionFault
 amount_given text given = if is_name given.width then named_given text given else money_given text given
+
+-- whether amounts are compact; in full by default. There are no long compact amounts
+unfoldable pub is_compact : Option (List ℕ) → Result Bool OptionFault
+is_compact None = Ok false
+is_compact (Some word) =
+    if pointwise nat_eq word (codes "plain") then Ok false
+    else if pointwise nat_eq word (codes "short") then Ok true
+    else if pointwise nat_eq word (codes "long") then Err fault.LongMoney
+    else Err fault.Style
+
+-- no width is given but the short one
+unfoldable pub is_short : Option (List ℕ) → Bool
+is_short None = true
+is_short (Some word) = pointwise nat_eq word (codes "short")
+
+-- compact amounts, which have the standard pattern, digits of their own, and the short symbol
+unfoldable pub compact_given : List ℕ → GivenData → Result Kind OptionFault
+compact_given text given = do
+  code ← currency_named text
+  if given.accounting || given.cash || not (is_short given.width) then Err fault.ShortMoney else Ok (MoneyShort code)
+
+-- amounts of a currency, compact or in full
+unfoldable pub currency_given : List ℕ → GivenData → Result Kind OptionFault
+currency_given text given = do
+  compact ← is_compact given.style
+  if compact then compact_given text given else amount_given text given
 
 -- numbers with a unit
 unfoldable pub unit_given : Bor (List ℕ) → GivenData → Result Kind OptionFault
@@ -85,10 +111,10 @@ unit_given name given = do
   width ← unit_width given.width
   Ok (Unit name width)
 
--- more than one of the four is asked for
+-- more than one of the four is asked for, but for a style of amounts
 unfoldable pub is_together : GivenData → Bool
 is_together given =
-    (is_some given.style && (is_some given.currency || given.percent || is_some given.unit))
+    (is_some given.style && (given.percent || is_some given.unit))
     || (is_some given.currency && (given.percent || is_some given.unit))
     || (given.percent && is_some given.unit)
 
@@ -100,7 +126,7 @@ is_alone given =
 
 -- the kind by the currency, else the unit, else whether percents are asked for and the style
 abbrev pub kind_by : Option (List ℕ) → Option (Bor (List ℕ)) → GivenData → Result Kind OptionFault
-kind_by (Some code) unit given = amount_given code given
+kind_by (Some code) unit given = currency_given code given
 kind_by None (Some name) given = unit_given name given
 kind_by None None given = if given.percent then Ok Percent else style_given given.style
 

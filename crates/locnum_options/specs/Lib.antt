@@ -1,3 +1,4 @@
+pub mod Explained
 pub mod Fields
 pub mod Fraction
 pub mod Given

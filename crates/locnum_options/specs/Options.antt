@@ -5,6 +5,7 @@ use Rattle.locnum_forms.specs.declared.wanted.FractionRange.{FractionRange}
 use Rattle.locnum_lines.specs.Settings.{SettingsData}
 use Rattle.locnum_lines.specs.declared.padding.Padding.{Padding}
 use Rattle.locnum_lines.specs.declared.settings.FieldRange.{FieldRange}
+use Rattle.locnum_options.specs.Explained.{explain_given}
 use Rattle.locnum_options.specs.Fields.{fields_named}
 use Rattle.locnum_options.specs.Fraction.{fraction_named}
 use Rattle.locnum_options.specs.Given.{GivenData}
@@ -15,10 +16,11 @@ use Rattle.locnum_options.specs.Words.{ok_or, locale_given, system_given, groupi
 use Rattle.locnum_options.specs.declared.fault.OptionFault.{OptionFault}
 use Rattle.locnum_options.specs.declared.fault.OptionFault.TheVariants as fault
 
--- the form of numbers, and the fields of lines
+-- the form of numbers, the fields of lines, and whether numbers are explained instead
 pub record OptionsData : Type 0 where
   pub wanted : WantedData
   pub lines : SettingsData
+  pub explain : Bool
 
 -- The result of a call, seen by view, is this; `OutOfMemory` may be reported in place of any result.
 abbrev pub Gives : {X Y : Type 0} → (X → Y) → Result X OptionFault → Result Y OptionFault → Type 0
@@ -62,6 +64,7 @@ options_of given = do
   fraction ← fraction_given given.fraction
   sign ← sign_given given.sign
   kind ← kind_given given
+  explain ← explain_given given
   delimiter ← field_end_given given
   fields ← fields_given given.field
   header ← header_given given.header
@@ -77,4 +80,5 @@ options_of given = do
       refusals = refusals;
       padding = padding;
     };
+    explain = explain;
   })

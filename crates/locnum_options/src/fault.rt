@@ -36,12 +36,22 @@ pub enum OptionFault {
     /// The accounting pattern is asked for with the names of currencies, which have none.
     #[error("--accounting: not with --width name")]
     Accounting,
-    /// Two kinds of numbers are asked for at once.
-    #[error("--style, --currency, --percent and --unit: more than one of them")]
+    /// Long compact amounts are asked for, which there aren't.
+    #[error("--style long: not with --currency")]
+    LongMoney,
+    /// Compact amounts are asked for with what they don't have: an accounting pattern, digits of
+    /// cash, or another width than the short one.
+    #[error("--style short: not with --accounting, --cash or a --width but short")]
+    ShortMoney,
+    /// Two kinds of numbers are asked for at once; a style may stand beside a currency.
+    #[error("--percent and --unit: not together, nor with --style or --currency")]
     Together,
     /// An option of money without a currency, or a width without something that has one.
     #[error("--accounting and --cash want --currency, and --width wants --currency or --unit")]
     Alone,
+    /// Explanations are asked for with an option of lines and fields, which they don't have.
+    #[error("--explain: not with --csv, -d, --field, --header, --padding or -z")]
+    Explained,
     /// The text isn't one byte.
     #[error("--delimiter: not a single byte")]
     Delimiter,

@@ -44,6 +44,8 @@ pub struct Given<'a> {
     pub invalid: Option<&'a str>,
     /// `--zero-terminated`.
     pub zero_terminated: bool,
+    /// `--explain`.
+    pub explain: bool,
 }
 
 impl<'a> Model for Given<'a> {
@@ -72,5 +74,6 @@ impl<'a> Model for Given<'a> {
       padding = option_map (λ s. s.now) g.padding;
       invalid = option_map (λ s. s.now) g.invalid;
       zero_terminated = g.zero_terminated;
+      explain = g.explain;
     } };
 }

@@ -1,7 +1,7 @@
 //! What is written of numbers: a style, money, percents or a unit.
 
 ghost use Rattle.std.specs.Prelude.{◌≡◌, option_map};
-ghost use Rattle.locnum_options.specs.Kinds.{amount_given, currency_named, is_alone, is_name, is_together, kind_given, money_given, money_width, named_given, sign_of, style_given, unit_given, unit_width};
+ghost use Rattle.locnum_options.specs.Kinds.{amount_given, compact_given, currency_given, currency_named, is_alone, is_compact, is_name, is_short, is_together, kind_given, money_given, money_width, named_given, sign_of, style_given, unit_given, unit_width};
 
 use crate::fault::OptionFault;
 use crate::given::Given;
@@ -113,7 +113,7 @@ fn named_given<'a>(text: &str, given: &Given) -> Result<Kind<'a>, OptionFault>
     Ok(Kind::MoneyNamed { code, is_cash })
 }
 
-/// Amounts of a currency, with its name or its symbol.
+/// Amounts of a currency in full, with its name or its symbol.
 #[tactic(auto, unfolding(crate::specs::Kinds::amount_given))]
 fn amount_given<'a>(text: &str, given: &Given) -> Result<Kind<'a>, OptionFault>
     ensures { result ≡ amount_given text.now given.now }
@@ -122,6 +122,56 @@ fn amount_given<'a>(text: &str, given: &Given) -> Result<Kind<'a>, OptionFault>
         named_given(text, given)
     } else {
         money_given(text, given)
+    }
+}
+
+/// Whether amounts are compact; in full by default. There are no long compact amounts.
+#[tactic(auto, unfolding(crate::specs::Kinds::is_compact))]
+fn is_compact(word: Option<&str>) -> Result<bool, OptionFault>
+    ensures { result ≡ is_compact (option_map (λ t. t.now) word.entry) }
+{
+    match word {
+        None => Ok(false),
+        Some("plain") => Ok(false),
+        Some("short") => Ok(true),
+        Some("long") => Err(OptionFault::LongMoney),
+        Some(_) => Err(OptionFault::Style),
+    }
+}
+
+/// Whether no width is given but the short one.
+#[tactic(auto, unfolding(crate::specs::Kinds::is_short))]
+fn is_short(word: Option<&str>) -> bool
+    ensures { result ≡ is_short (option_map (λ t. t.now) word.entry) }
+{
+    match word {
+        None => true,
+        Some("short") => true,
+        Some(_) => false,
+    }
+}
+
+/// Compact amounts, which have the standard pattern, digits of their own, and the short symbol.
+#[tactic(auto, unfolding(crate::specs::Kinds::compact_given))]
+fn compact_given<'a>(text: &str, given: &Given) -> Result<Kind<'a>, OptionFault>
+    ensures { result ≡ compact_given text.now given.now }
+{
+    let code = currency_named(text)?;
+    if given.accounting || given.cash || !is_short(given.width) {
+        return Err(OptionFault::ShortMoney);
+    }
+    Ok(Kind::MoneyShort { code })
+}
+
+/// Amounts of a currency, compact or in full.
+#[tactic(auto, unfolding(crate::specs::Kinds::currency_given))]
+fn currency_given<'a>(text: &str, given: &Given) -> Result<Kind<'a>, OptionFault>
+    ensures { result ≡ currency_given text.now given.now }
+{
+    if is_compact(given.style)? {
+        compact_given(text, given)
+    } else {
+        amount_given(text, given)
     }
 }
 
@@ -134,15 +184,14 @@ fn unit_given<'a>(name: &'a str, given: &Given) -> Result<Kind<'a>, OptionFault>
     Ok(Kind::Unit { name, width })
 }
 
-/// Whether more than one of the four is asked for.
+/// Whether more than one of the four is asked for, but for a style of amounts.
 #[tactic(auto, unfolding(crate::specs::Kinds::is_together))]
 fn is_together(given: &Given) -> bool
     ensures { result ≡ is_together given.now }
 {
-    let currency = given.currency.is_some();
     let unit = given.unit.is_some();
-    (given.style.is_some() && (currency || given.percent || unit))
-        || (currency && (given.percent || unit))
+    (given.style.is_some() && (given.percent || unit))
+        || (given.currency.is_some() && (given.percent || unit))
         || (given.percent && unit)
 }
 
@@ -167,7 +216,7 @@ pub(crate) fn kind_given<'a>(given: &Given<'a>) -> Result<Kind<'a>, OptionFault>
         return Err(OptionFault::Alone);
     }
     if let Some(code) = given.currency {
-        return amount_given(code, given);
+        return currency_given(code, given);
     }
     if let Some(name) = given.unit {
         return unit_given(name, given);

@@ -2,6 +2,7 @@
 //! of lines.
 #![tactic(auto)]
 
+mod explained;
 mod fault;
 mod fields;
 mod fraction;

@@ -3,6 +3,7 @@
 ghost use Rattle.std.specs.Prelude.{◌≡◌, None, option_map};
 ghost use Rattle.locnum_options.specs.Options.{Gives, end_of, fields_given, fraction_given, header_given, options_of, padding_given};
 
+use crate::explained::explain_given;
 use crate::fault::OptionFault;
 use crate::fields::fields_named;
 use crate::fraction::fraction_named;
@@ -25,6 +26,8 @@ pub struct Options<'a> {
     pub wanted: Wanted<'a>,
     /// How lines are cut, and what becomes of them.
     pub lines: LineSettings,
+    /// Whether numbers are explained, one a line, and lines aren't cut.
+    pub explain: bool,
 }
 
 impl<'a> Model for Options<'a> {
@@ -32,7 +35,11 @@ impl<'a> Model for Options<'a> {
 
     ghost Value = { OptionsData };
 
-    ghost view = { λ o. record { wanted = o.wanted; lines = o.lines } };
+    ghost view = { λ o. record {
+      wanted = o.wanted;
+      lines = o.lines;
+      explain = o.explain;
+    } };
 }
 
 /// How many fraction digits; none by default.
@@ -120,6 +127,7 @@ pub fn parse_options<'a>(alloc: Global, given: &Given<'a>) -> Result<Options<'a>
         Ok(kind) => kind,
         Err(fault) => return Err(fault),
     };
+    let explain = explain_given(given)?;
     let delimiter = field_end_given(given)?;
     let fields = fields_given(alloc, given.field)?;
     let header = header_given(given.header)?;
@@ -142,5 +150,6 @@ pub fn parse_options<'a>(alloc: Global, given: &Given<'a>) -> Result<Options<'a>
             refusals,
             padding,
         },
+        explain,
     })
 }

@@ -76,6 +76,51 @@ const REFUSED: &[(&[Word], OptionFault)] = &[
         &[("currency", "USD"), ("width", "wide"), ("accounting", "")],
         OptionFault::Width,
     ),
+    (
+        &[("currency", "USD"), ("style", "long")],
+        OptionFault::LongMoney,
+    ),
+    (
+        &[("currency", "USD"), ("style", "long"), ("width", "name")],
+        OptionFault::LongMoney,
+    ),
+    (
+        &[("currency", "usd"), ("style", "long")],
+        OptionFault::LongMoney,
+    ),
+    (
+        &[("currency", "USD"), ("style", "short"), ("accounting", "")],
+        OptionFault::ShortMoney,
+    ),
+    (
+        &[("currency", "USD"), ("style", "short"), ("cash", "")],
+        OptionFault::ShortMoney,
+    ),
+    (
+        &[("currency", "USD"), ("style", "short"), ("width", "narrow")],
+        OptionFault::ShortMoney,
+    ),
+    (
+        &[("currency", "USD"), ("style", "short"), ("width", "name")],
+        OptionFault::ShortMoney,
+    ),
+    (
+        &[("currency", "USD"), ("style", "short"), ("width", "wide")],
+        OptionFault::ShortMoney,
+    ),
+    (
+        &[("currency", "usd"), ("style", "short"), ("cash", "")],
+        OptionFault::Currency,
+    ),
+    (
+        &[("currency", "usd"), ("style", "Short")],
+        OptionFault::Style,
+    ),
+    (&[("currency", "USD"), ("style", "")], OptionFault::Style),
+    (
+        &[("currency", "USD"), ("style", "plain"), ("width", "wide")],
+        OptionFault::Width,
+    ),
     (&[("width", "name")], OptionFault::Alone),
     (&[("width", "name"), ("percent", "")], OptionFault::Alone),
     (&[("accounting", "")], OptionFault::Alone),
@@ -88,6 +133,17 @@ const REFUSED: &[(&[Word], OptionFault)] = &[
     (&[("width", "short")], OptionFault::Alone),
     (&[("width", "short"), ("percent", "")], OptionFault::Alone),
     (&[("width", "wide"), ("style", "wide")], OptionFault::Alone),
+];
+
+#[test]
+fn refuses_each_word_that_has_no_meaning(rt: HostRuntime) {
+    for (words, fault) in REFUSED {
+        assert!(rt; is_refused(rt.alloc(), words, *fault), "{words:?}");
+    }
+}
+
+/// The same of lines, fields and columns.
+const REFUSED_OF_LINES: &[(&[Word], OptionFault)] = &[
     (&[("padding", "")], OptionFault::Padding),
     (&[("padding", "0")], OptionFault::Padding),
     (&[("padding", "-0")], OptionFault::Padding),
@@ -115,6 +171,27 @@ const REFUSED: &[(&[Word], OptionFault)] = &[
         &[("csv", ""), ("zero-terminated", "")],
         OptionFault::CsvZero,
     ),
+    (&[("explain", ""), ("csv", "")], OptionFault::Explained),
+    (
+        &[("explain", ""), ("delimiter", ";")],
+        OptionFault::Explained,
+    ),
+    (&[("explain", ""), ("field", "2")], OptionFault::Explained),
+    (&[("explain", ""), ("header", "1")], OptionFault::Explained),
+    (
+        &[("explain", ""), ("padding", "12")],
+        OptionFault::Explained,
+    ),
+    (
+        &[("explain", ""), ("zero-terminated", "")],
+        OptionFault::Explained,
+    ),
+    (&[("explain", ""), ("style", "wide")], OptionFault::Style),
+    (&[("explain", ""), ("field", "0")], OptionFault::Explained),
+    (
+        &[("explain", ""), ("invalid", "stop")],
+        OptionFault::Invalid,
+    ),
     (&[("field", "")], OptionFault::Fields),
     (&[("field", "0")], OptionFault::Fields),
     (&[("field", "3-2")], OptionFault::Fields),
@@ -133,15 +210,20 @@ const REFUSED: &[(&[Word], OptionFault)] = &[
 ];
 
 #[test]
-fn refuses_each_word_that_has_no_meaning(rt: HostRuntime) {
-    for (words, fault) in REFUSED {
+fn refuses_each_word_of_lines_that_has_no_meaning(rt: HostRuntime) {
+    for (words, fault) in REFUSED_OF_LINES {
         assert!(rt; is_refused(rt.alloc(), words, *fault), "{words:?}");
     }
 }
 
-/// Each two of these exclude one another.
-const TOGETHER: &[Word] = &[
+/// Each of these excludes the other one.
+const TOGETHER: &[Word] = &[("percent", ""), ("unit", "meter")];
+
+/// Each of these excludes those, but for one of the same option.
+const OTHERS: &[Word] = &[
     ("style", "plain"),
+    ("style", "short"),
+    ("style", "wide"),
     ("currency", "EUR"),
     ("percent", ""),
     ("unit", "meter"),
@@ -150,7 +232,7 @@ const TOGETHER: &[Word] = &[
 #[test]
 fn refuses_two_kinds_at_once(rt: HostRuntime) {
     for one in TOGETHER {
-        for other in TOGETHER {
+        for other in OTHERS {
             let is_same = one.0 == other.0;
             assert!(rt;
                 is_same || is_refused(rt.alloc(), &[*one, *other], OptionFault::Together),
@@ -198,7 +280,7 @@ fn tells_kinds_together_before_options_alone_and_their_words(rt: HostRuntime) {
     assert!(rt;
         is_refused(
             rt.alloc(),
-            &[("currency", "usd"), ("style", "wide")],
+            &[("currency", "usd"), ("style", "wide"), ("percent", "")],
             OptionFault::Together
         )
     );
@@ -221,6 +303,19 @@ const DISPLAYED: &[(OptionFault, &str)] = &[
     (
         OptionFault::Accounting,
         "--accounting: not with --width name",
+    ),
+    (OptionFault::LongMoney, "--style long: not with --currency"),
+    (
+        OptionFault::ShortMoney,
+        "--style short: not with --accounting, --cash or a --width but short",
+    ),
+    (
+        OptionFault::Together,
+        "--percent and --unit: not together, nor with --style or --currency",
+    ),
+    (
+        OptionFault::Explained,
+        "--explain: not with --csv, -d, --field, --header, --padding or -z",
     ),
     (OptionFault::OutOfMemory, "out of memory"),
 ];

@@ -13,6 +13,7 @@ enum Asked {
     Long,
     Money(&'static str, Width, CurrencySign, bool),
     MoneyNamed(&'static str, bool),
+    MoneyShort(&'static str),
     Percent,
     Unit(&'static str, UnitWidth),
 }
@@ -40,6 +41,10 @@ fn is_asked(kind: Kind, asked: Asked) -> bool {
         },
         Kind::MoneyNamed { code, is_cash } => match asked {
             Asked::MoneyNamed(text, asked_cash) => code.as_str() == text && is_cash == asked_cash,
+            _ => false,
+        },
+        Kind::MoneyShort { code } => match asked {
+            Asked::MoneyShort(text) => code.as_str() == text,
             _ => false,
         },
         Kind::Unit { name, width } => match asked {
@@ -86,6 +91,32 @@ const KINDS: &[(&[Word], Asked)] = &[
     (
         &[("width", "name"), ("currency", "CHF"), ("cash", "")],
         Asked::MoneyNamed("CHF", true),
+    ),
+    (
+        &[("currency", "USD"), ("style", "short")],
+        Asked::MoneyShort("USD"),
+    ),
+    (
+        &[("style", "short"), ("width", "short"), ("currency", "CHF")],
+        Asked::MoneyShort("CHF"),
+    ),
+    (
+        &[("currency", "USD"), ("style", "plain")],
+        Asked::Money("USD", Width::Short, CurrencySign::Standard, false),
+    ),
+    (
+        &[
+            ("currency", "EUR"),
+            ("style", "plain"),
+            ("width", "narrow"),
+            ("accounting", ""),
+            ("cash", ""),
+        ],
+        Asked::Money("EUR", Width::Narrow, CurrencySign::Accounting, true),
+    ),
+    (
+        &[("currency", "USD"), ("style", "plain"), ("width", "name")],
+        Asked::MoneyNamed("USD", false),
     ),
     (&[("unit", "meter")], Asked::Unit("meter", UnitWidth::Short)),
     (&[("unit", "")], Asked::Unit("", UnitWidth::Short)),

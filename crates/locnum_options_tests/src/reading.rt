@@ -29,6 +29,7 @@ fn nothing<'a>() -> Given<'a> {
         padding: None,
         invalid: None,
         zero_terminated: false,
+        explain: false,
     }
 }
 
@@ -54,6 +55,7 @@ fn give<'a>(given: &mut Given<'a>, option: &str, text: &'a str) {
         "padding" => given.padding = Some(text),
         "invalid" => given.invalid = Some(text),
         "zero-terminated" => given.zero_terminated = true,
+        "explain" => given.explain = true,
         _ => {}
     }
 }

@@ -3,9 +3,10 @@ use Rattle.std.specs.Prelude.{OnOk, Result, Ok, Err}
 use Rattle.std.proofs.lemmas.Result.{on_ok_weaker}
 use Rattle.locnum_lines.specs.Fields.{is_quoted}
 use Rattle.locnum_lines.specs.Records.{is_open, place_after, place_behind}
-use Rattle.locnum_lines.specs.declared.cutting.Place.TheVariants.{Front}
+use Rattle.locnum_lines.specs.declared.cutting.Place.TheVariants.{Front, Quoted}
 use Rattle.locnum_lines.proofs.Fed.{Feeds-part, Feeds-record}
 use Rattle.locnum_lines.proofs.Feeding.{IsPart-append, IsPart-end, IsPart-line, place_behind-append, place_behind-more, place_behind-nothing}
+use Rattle.locnum_lines.proofs.Skips.{quoted-is}
 use Rattle.locnum_lines.proofs.blocks.end_line.Goals as goal
 
 -- what holds of a result that isn't an error
@@ -13,46 +14,50 @@ on_ok_both : {X E : Type 0} {P Q R : Type 0} (r : Result X E) → (P → Q → R
 on_ok_both (Ok x) f p q = f p q
 on_ok_both (Err e) f p q = tt
 
-pub returns-then-is_quoted-clause-feeds : goal.returns-then-is_quoted-clause-feeds
-returns-then-is_quoted-clause-feeds c =
+pub returns-then-is_open_behind-clause-feeds : goal.returns-then-is_open_behind-clause-feeds
+returns-then-is_open_behind-clause-feeds c =
     let d = c.args.settings.now.delimiter in
     let end = c.args.settings.now.end in
     let held = c.args.held.now.items in
     let rest = c.args.rest.now in
-    let at : c.place_behind.result ≡ place_behind d Front (held ++ rest) =
-    c.place_behind.ensures ∙ ap (λ s. place_behind s.delimiter c.args.place.now rest) c.settings.view_is
-    ∙ ap (λ p. place_behind d p rest) c.requires.place_is ∙ sym (place_behind-append d end Front held rest) in
+    let at : c.is_open_behind.result ≡ is_open d (held ++ rest) =
+    c.is_open_behind.ensures ∙ ap (λ s. is_quoted (place_behind s.delimiter c.args.place.now rest)) c.settings.view_is
+    ∙ ap (λ p. is_quoted (place_behind d p rest)) c.requires.place_is ∙ ap is_quoted (sym (place_behind-append d end Front held rest)) in
     let part = IsPart-append d end Front held rest c.requires.held_part (IsPart-line d end (place_behind d Front held) rest c.requires.rest_part) in
     let items : c.push.new.self.items ≡ (held ++ rest) ++ end ∷ [] = c.in_ok-push.ensures.items
     ∙ ap (λ k. k ++ c.settings.inside.end ∷ []) c.in_ok-extend_from_slice.ensures.items
     ∙ ap (λ s. (held ++ rest) ++ s.end ∷ []) c.settings.view_is in
-    let quoted : is_quoted (place_behind d Front (held ++ rest)) ≡ true = ap is_quoted (sym at) ∙ sym c.is_quoted.ensures ∙ c.if-is_quoted.true in
+    let quoted : is_quoted (place_behind d Front (held ++ rest)) ≡ true = sym at ∙ c.if-is_open_behind.true in
     let whole = IsPart-append d end Front (held ++ rest) (end ∷ []) part (IsPart-end d end _ quoted) in
     rw (items, append_assoc held rest (end ∷ [])) (Feeds-part c.args.settings.now c.args.form.now c.args.gathered.now held (rest ++ end ∷ [])
     c.requires.going (rw (append_assoc held rest (end ∷ [])) at whole))
 
-pub returns-then-is_quoted-clause-place : goal.returns-then-is_quoted-clause-place
-returns-then-is_quoted-clause-place c =
+pub returns-then-is_open_behind-clause-place : goal.returns-then-is_open_behind-clause-place
+returns-then-is_open_behind-clause-place c =
     let d = c.args.settings.now.delimiter in
     let end = c.args.settings.now.end in
     let held = c.args.held.now.items in
     let rest = c.args.rest.now in
-    let at : c.place_behind.result ≡ place_behind d Front (held ++ rest) =
-    c.place_behind.ensures ∙ ap (λ s. place_behind s.delimiter c.args.place.now rest) c.settings.view_is
-    ∙ ap (λ p. place_behind d p rest) c.requires.place_is ∙ sym (place_behind-append d end Front held rest) in
+    let at : c.is_open_behind.result ≡ is_open d (held ++ rest) =
+    c.is_open_behind.ensures ∙ ap (λ s. is_quoted (place_behind s.delimiter c.args.place.now rest)) c.settings.view_is
+    ∙ ap (λ p. is_quoted (place_behind d p rest)) c.requires.place_is ∙ ap is_quoted (sym (place_behind-append d end Front held rest)) in
     let items : c.push.new.self.items ≡ (held ++ rest) ++ end ∷ [] = c.in_ok-push.ensures.items
     ∙ ap (λ k. k ++ c.settings.inside.end ∷ []) c.in_ok-extend_from_slice.ensures.items
     ∙ ap (λ s. (held ++ rest) ++ s.end ∷ []) c.settings.view_is in
     rw (items, place_behind-more d end Front (held ++ rest) end) (c.place_after.ensures
-    ∙ ap (λ s. place_after s.delimiter c.place_behind.result s.end) c.settings.view_is ∙ ap (λ p. place_after d p end) at)
+    ∙ ap (λ s. place_after s.delimiter Quoted s.end) c.settings.view_is
+    ∙ ap (λ p. place_after d p end) (sym (quoted-is (place_behind d Front (held ++ rest)) (sym at ∙ c.if-is_open_behind.true))))
 
 pub end_record-requires-clause-closed : goal.end_record-requires-clause-closed
 end_record-requires-clause-closed c =
-    let at : c.place_behind.result ≡ place_behind c.args.settings.now.delimiter Front (c.args.held.now.items ++ c.args.rest.now) =
-    c.place_behind.ensures ∙ ap (λ s. place_behind s.delimiter c.args.place.now c.args.rest.now) c.settings.view_is
-    ∙ ap (λ p. place_behind c.args.settings.now.delimiter p c.args.rest.now) c.requires.place_is
-    ∙ sym (place_behind-append c.args.settings.now.delimiter c.args.settings.now.end Front c.args.held.now.items c.args.rest.now) in
-    ap is_quoted (sym at) ∙ sym c.is_quoted.ensures ∙ c.if-is_quoted.false
+    let d = c.args.settings.now.delimiter in
+    let end = c.args.settings.now.end in
+    let held = c.args.held.now.items in
+    let rest = c.args.rest.now in
+    let at : c.is_open_behind.result ≡ is_open d (held ++ rest) =
+    c.is_open_behind.ensures ∙ ap (λ s. is_quoted (place_behind s.delimiter c.args.place.now rest)) c.settings.view_is
+    ∙ ap (λ p. is_quoted (place_behind d p rest)) c.requires.place_is ∙ ap is_quoted (sym (place_behind-append d end Front held rest)) in
+    sym at ∙ c.if-is_open_behind.false
 
 pub returns : goal.returns
 returns c =
@@ -60,11 +65,11 @@ returns c =
     let end = c.args.settings.now.end in
     let held = c.args.held.now.items in
     let rest = c.args.rest.now in
-    let at : c.place_behind.result ≡ place_behind d Front (held ++ rest) =
-    c.place_behind.ensures ∙ ap (λ s. place_behind s.delimiter c.args.place.now rest) c.settings.view_is
-    ∙ ap (λ p. place_behind d p rest) c.requires.place_is ∙ sym (place_behind-append d end Front held rest) in
+    let at : c.is_open_behind.result ≡ is_open d (held ++ rest) =
+    c.is_open_behind.ensures ∙ ap (λ s. is_quoted (place_behind s.delimiter c.args.place.now rest)) c.settings.view_is
+    ∙ ap (λ p. is_quoted (place_behind d p rest)) c.requires.place_is ∙ ap is_quoted (sym (place_behind-append d end Front held rest)) in
     let part = IsPart-append d end Front held rest c.requires.held_part (IsPart-line d end (place_behind d Front held) rest c.requires.rest_part) in
-    let closed : is_open d (held ++ rest) ≡ false = ap is_quoted (sym at) ∙ sym c.is_quoted.ensures ∙ c.if-is_quoted.false in
+    let closed : is_open d (held ++ rest) ≡ false = sym at ∙ c.if-is_open_behind.false in
     record {
       feeds = on_ok_both c.end_record.result (λ ran none. rw none
           (Feeds-record c.args.settings.now c.args.form.now c.args.gathered.now c.end_record.new.gathered held rest part closed ran))

@@ -13,21 +13,22 @@ split_at-requires c = rw c.blanks_before.ensures (blanks_before-within c.args.co
 pub split_at-requires-2 : goal.split_at-requires-2
 split_at-requires-2 c = rw c.content_length.ensures (content_length-within c.split_at.result.1.now)
 
-pub returns-in-Ok : goal.returns-in-Ok
-returns-in-Ok c =
+pub returns-in_ok-replace-in-Ok : goal.returns-in_ok-replace-in-Ok
+returns-in_ok-replace-in-Ok c =
     let parts = cut-is c.args.content.now _ _ _ _ _ _ c.blanks_before.ensures c.split_at.ensures.front c.split_at.ensures.back
     c.content_length.ensures c.split_at-2.ensures.front c.split_at-2.ensures.back in
     let shown = c.deref.ensures.value ∙ ap (λ g. g.output) c.apart.view_is
-    ∙ only_added _ _ _ c.in-Ok.ensures.ok.2 (ap (λ g. g.output) c.new-apart.ensures) in
-    rw (← c.settings.view_is) (on_ok_weaker c.replace.result (λ e. parts-csv _ c.args.form.now _ _ c.args.delimiter c.args.text.now c.args.content.now
+    ∙ only_added _ _ _ c.in-Ok.ensures.ok.2 (ap (λ g. g.output) c.apart-apart.ensures.nothing) in
+    let replaced = rw c.apart-apart.ensures.unchanged at c.in_ok-replace-in-Ok.ensures in
+    rw (← c.settings.view_is) (parts-csv _ c.args.form.now _ _ c.args.delimiter c.args.text.now c.args.content.now
     _ _ _ parts (csv-shown _ c.args.form.now _ _ c.args.delimiter c.args.text.now _ c.in-Ok.ensures.ok.0 c.deref.result.now c.requires
-    c.in-Ok.ensures.ok.1 shown e)) c.replace.ensures)
+    c.in-Ok.ensures.ok.1 shown (c.take_back.ensures ∙ replaced)))
 
-pub returns : goal.returns
-returns c =
+pub returns-else-eq : goal.returns-else-eq
+returns-else-eq c =
     let parts = cut-is c.args.content.now _ _ _ _ _ _ c.blanks_before.ensures c.split_at.ensures.front c.split_at.ensures.back
     c.content_length.ensures c.split_at-2.ensures.front c.split_at-2.ensures.back in
     let told : c.in-Err.error ≢ OutOfMemory = λ e. false≢true (c.if-eq.ensures ∙ rw e refl) in
     rw (← c.settings.view_is) (on_ok_weaker c.refuse_field.result (λ a. parts-csv _ c.args.form.now _ _ c.args.delimiter c.args.text.now c.args.content.now
     _ _ _ parts (csv-refused _ c.args.form.now _ _ c.args.delimiter c.args.text.now _ c.in-Err.error c.in-Err.ensures.refused told a))
-    c.refuse_field.ensures)
+    (rw c.apart-apart.ensures.unchanged at c.refuse_field.ensures))

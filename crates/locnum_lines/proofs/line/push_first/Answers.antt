@@ -1,38 +1,29 @@
-use Rattle.std.proofs.Common.{◌≡◌, [], ◌∷◌, false, length, sym, ap, ◌∙◌, arith}
-use Rattle.locnum_lines.specs.Fields.{field_length}
+use Rattle.std.proofs.Common.{◌≡◌, false, sym, ap, ◌∙◌}
+use Rattle.std.proofs.lemmas.Result.{IfOk-weaker}
+use Rattle.locnum_lines.specs.Settings.{is_chosen}
 use Rattle.locnum_lines.specs.declared.cutting.Place.TheVariants.{Front}
 use Rattle.locnum_lines.proofs.FirstField.{field_length-within}
-use Rattle.locnum_lines.proofs.Adding.{Adds-writes}
-use Rattle.locnum_lines.proofs.Cuts.{seam}
-use Rattle.locnum_lines.proofs.Goes.{goes-last, goes-on, goes-stopped}
+use Rattle.locnum_lines.proofs.Passing.{passed-goes}
 use Rattle.locnum_lines.proofs.line.push_first.Goals as goal
 
-pub split_at-requires : goal.split_at-requires
-split_at-requires c = rw c.field_length.ensures (field_length-within _ Front c.args.line.now)
+pub returns-then-not-is_chosen : goal.returns-then-not-is_chosen
+returns-then-not-is_chosen c =
+    let not_chosen : is_chosen c.args.settings.now.fields c.args.index ≡ false =
+    ap (λ s. is_chosen s.fields c.args.index) (sym c.settings.view_is) ∙ ap (λ k. is_chosen k c.args.index) (sym c.deref.ensures.value)
+    ∙ sym c.is_chosen.ensures ∙ c.if-not-is_chosen.true in
+    IfOk-weaker c.pass_through.result _ _ (λ rest p. passed-goes c.args.settings.now c.args.form.now c.args.index c.args.line.now _
+    c.args.gathered.now c.pass_through.new.gathered (rw (← c.settings.view_is) c.field_length-length.ensures) not_chosen c.requires _ p)
+    c.pass_through.ensures
 
-pub returns-then-gathered : goal.returns-then-gathered
-returns-then-gathered c =
-    let is : c.field_length.result ≡ field_length c.args.settings.now.delimiter Front c.args.line.now = rw (← c.settings.view_is) c.field_length.ensures in
-    goes-stopped c.args.settings.now c.args.form.now c.args.index c.args.line.now c.field_length.result is
-    c.args.gathered.now c.push_field.new.gathered (rw c.split_at.ensures.front at c.in_ok-push_field.ensures)
-    (ap (λ g. g.is_stopped) (sym c.gathered.view_is) ∙ c.if-gathered.true)
+pub pass_through-requires : goal.pass_through-requires
+pass_through-requires c = rw c.field_length-length.ensures (field_length-within _ Front c.args.line.now)
 
-pub returns-in_default : goal.returns-in_default
-returns-in_default c =
-    let is : c.field_length.result ≡ field_length c.args.settings.now.delimiter Front c.args.line.now = rw (← c.settings.view_is) c.field_length.ensures in
-    let whole : c.field_length.result ≡ length c.args.line.now =
-    omega (arith, c.in_default.ensures.cases, c.split_at.ensures.back_len, c.split_at.ensures.front_len) in
-    goes-last c.args.settings.now c.args.form.now c.args.index c.args.line.now c.field_length.result is
-    c.args.gathered.now c.push_field.new.gathered (rw c.split_at.ensures.front at c.in_ok-push_field.ensures)
-    (ap (λ g. g.is_stopped) (sym c.gathered.view_is) ∙ c.if-gathered.false) whole
+pub push_whole-requires-clause-chosen : goal.push_whole-requires-clause-chosen
+push_whole-requires-clause-chosen c =
+    ap (λ s. is_chosen s.fields c.args.index) (sym c.settings.view_is) ∙ ap (λ k. is_chosen k c.args.index) (sym c.deref.ensures.value)
+    ∙ sym c.is_chosen.ensures ∙ c.if-not-is_chosen.false
 
-pub returns : goal.returns
-returns c =
-    let is : c.field_length.result ≡ field_length c.args.settings.now.delimiter Front c.args.line.now = rw (← c.settings.view_is) c.field_length.ensures in
-    let on : c.push_field.new.gathered.is_stopped ≡ false = ap (λ g. g.is_stopped) (sym c.gathered.view_is) ∙ c.if-gathered.false in
-    let apart = seam c.args.line.now c.field_length.result c.in-Some.separator.now c.in-Some.rest.now
-    (sym c.split_at.ensures.back ∙ c.in-Some.ensures.cases.0) in
-    let written = Adds-writes c.push_field.new.gathered c.push.new.self (c.in-Some.separator.now ∷ []) on c.in_ok-push.ensures in
-    let went = goes-on c.args.settings.now c.args.form.now c.args.index c.args.line.now c.field_length.result is
-    c.args.gathered.now c.push_field.new.gathered (rw c.split_at.ensures.front at c.in_ok-push_field.ensures) c.push.new.self on apart.0 (rw apart.1 written) in
-    rw apart.2 at went
+pub push_next-requires-clause-chosen : goal.push_next-requires-clause-chosen
+push_next-requires-clause-chosen c =
+    ap (λ s. is_chosen s.fields c.args.index) (sym c.settings.view_is) ∙ ap (λ k. is_chosen k c.args.index) (sym c.deref.ensures.value)
+    ∙ sym c.is_chosen.ensures ∙ c.if-not-is_chosen.false

@@ -21,8 +21,8 @@ returns c =
     c.in-Some-last_begun.ensures
     ∙ ap (λ s. last_begun s.delimiter s.end Front c.in-Some.first c.in-Some.first c.args.line.now) c.settings.view_is
     ∙ ap (λ k. last_begun c.args.settings.now.delimiter c.args.settings.now.end Front k k c.args.line.now) first in
-    let count : c.lines_in.result ≡ lines_in c.args.settings.now.end c.args.line.now =
-    c.lines_in.ensures ∙ ap (λ s. lines_in s.end c.args.line.now) c.settings.view_is in
+    let count : c.lines_in-lines.result ≡ lines_in c.args.settings.now.end c.args.line.now =
+    c.lines_in-lines.ensures ∙ ap (λ s. lines_in s.end c.args.line.now) c.settings.view_is in
     on_ok_weaker c.pass.result (λ e. rw (record_ran-open c.args.settings.now c.args.form.now c.args.gathered.now.header lines c.args.line.now open', ← begun)
     (Adds-lines c.args.gathered.now mid c.pass.new.self _ 1 _ c.in_ok-push_open.ensures
     (e ∙ ap (λ k. record mid { lines = mid.lines + k }) count))) c.pass.ensures

@@ -1,12 +1,27 @@
-use Rattle.std.proofs.Common.{sym, ◌∙◌}
+use Rattle.std.proofs.Common.{◌+◌, sym, ◌∙◌, arith}
+use Rattle.std.proofs.lemmas.List.{drop-drop, length-drop}
 use Rattle.locnum_lines.specs.declared.settings.Delimiter.TheVariants.{Csv}
+use Rattle.locnum_lines.proofs.Feeding.{IsPartLine-all}
 use Rattle.locnum_lines.proofs.Places.{place-end, place-step}
+use Rattle.locnum_lines.proofs.Skips.{slice-from}
 use Rattle.locnum_lines.proofs.records.csv_place_behind.Goals as goal
 
-pub loop-byte-preserved : goal.loop-byte-preserved
-loop-byte-preserved c = rw c.csv_place_after-place.ensures (c.loop-byte.invariant
-    ∙ place-step (Csv c.args.delimiter) c.args.bytes.now c.loop-byte.byte-index c.loop-byte.place c.loop-byte-test.true)
+pub place_behind_unquoted-requires : goal.place_behind_unquoted-requires
+place_behind_unquoted-requires c = IsPartLine-all 34 c.args.bytes.now c.in_default.ensures
+
+pub loop-index-preserved : goal.loop-index-preserved
+loop-index-preserved c =
+    let i = c.loop-index.invariant in
+    let n = c.loop-index.index in
+    let bytes = c.args.bytes.now in
+    let at = slice-from bytes (n + 1) in
+    let k = c.unchanging_length-index-in-loop-index.result in
+    let within = rw at at c.unchanging_length-index-in-loop-index.ensures.within in
+    let place = rw (at, c.csv_place_after-place.ensures, drop-drop k (n + 1) bytes) at c.unchanging_length-index-in-loop-index.ensures.place in (
+      omega (arith, c.loop-index-test.true, within, length-drop (n + 1) bytes),
+      rw c.csv_place_after-place.ensures (i.1 ∙ place-step (Csv c.args.delimiter) bytes n c.loop-index.place c.loop-index-test.true ∙ place),
+    )
 
 pub returns : goal.returns
-returns c = sym (c.loop-byte.invariant
-    ∙ place-end (Csv c.args.delimiter) c.args.bytes.now c.loop-byte.byte-index c.loop-byte.place c.loop-byte-test.false)
+returns c = sym (c.loop-index.invariant.1
+    ∙ place-end (Csv c.args.delimiter) c.args.bytes.now c.loop-index.index c.loop-index.place c.loop-index-test.false)

@@ -1,0 +1,5 @@
+pub mod Columns
+pub mod Parts
+pub mod Facts
+pub mod Operands
+pub mod Around

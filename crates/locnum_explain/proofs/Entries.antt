@@ -1,0 +1,153 @@
+-- The lines of an entry, by what the calls append, and those by which a number is displayed.
+use Rattle.std.proofs.Common.{◌≡◌, ℕ, ◌+◌, ◌*◌, ◌^◌, ◌<◌, ◌≤◌, ◌⊎◌, ⊎_elim, inl, inr}
+use Rattle.std.proofs.Common.{List, ◌++◌, length, Option, Some, IfSome, slice_get, sym, ap, ◌∙◌}
+use Rattle.std.proofs.Common.{subst, arith, append_assoc, ℤ, pos, ◌+ℤ◌, ◌-ℤ◌}
+use Rattle.std.proofs.lemmas.Bool.{cases_eq}
+use Rattle.std.proofs.lemmas.Int.{ints}
+use Rattle.std.proofs.lemmas.Option.{slice_get_cases}
+use Rattle.writeable.specs.Events.{Event}
+use Rattle.fixed_decimal.specs.Size.{finest, magnitude, magnitude_place, place, size}
+use Rattle.fixed_decimal.specs.Unsigned.{Unsigned, IsUnsigned}
+use Rattle.fixed_decimal.proofs.MagnitudePlaces.{magnitude_place-zero, magnitude_place_times}
+use Rattle.icu_plurals.specs.Elements.{selected}
+use Rattle.icu_plurals.specs.Operands.{Operands, operands_of}
+use Rattle.icu_plurals.specs.Rules.{Rule, category_of}
+use Rattle.icu_plurals.specs.declared.category.PluralCategory.{PluralCategory}
+use Rattle.icu_pattern.specs.Patterns.{PatternText}
+use Rattle.icu_decimal_data.specs.CompactTable.{IsCompactTable, IsIndex, TableEntry, entry_at, entry_for, exponent_for, exponent_of}
+use Rattle.icu_decimal_data.specs.Faithful.{pattern_for}
+use Rattle.icu_decimal.specs.CompactFormat.{CompactFormat, FormattedCompact, IsCompacted, magnitude_with, pattern_of, significand_of}
+use Rattle.icu_decimal.specs.CompactNumber.{ShowsPastLimits, rounding_place}
+use Rattle.icu_decimal.specs.Displayed.{displayed_entry}
+use Rattle.icu_decimal.proofs.CompactCore.{exponent_le_magnitude}
+use Rattle.icu_decimal.proofs.DisplayedOnce.{displayed_is_one}
+use Rattle.icu_decimal.proofs.PowerPlaces.{place_is}
+use Rattle.decimal_lines.proofs.Displaying.{number-displayed}
+use Rattle.decimal_lines.specs.Computed.{nearest_number, significand_shown}
+use Rattle.explained_lines.specs.Around.{around_line}
+use Rattle.explained_lines.specs.Facts.{entry_line, magnitude_line, pattern_line}
+use Rattle.explained_lines.specs.Operands.{operands_line}
+use Rattle.locnum_explain.specs.Compact.{HasParts, displayed_lines, entry_lines, marked_lines, showable_line, written_lines}
+
+-- the pattern of an entry that there is
+pub pattern-at : (table : List TableEntry) (i : ℕ) (operands : Operands) (category : PluralCategory) (p : PatternText) → i < length table
+    → IfSome (slice_get table i) (λ e. p ≡ selected e.elements operands category) → p ≡ pattern_for operands category (slice_get table i)
+pattern-at table i operands category p h is =
+    ⊎_elim (λ (x, inside, got, get). subst (λ (e : Option TableEntry). p ≡ pattern_for operands category e) (sym got)
+    (subst (λ (e : Option TableEntry). IfSome e (λ e. p ≡ selected e.elements operands category)) got is))
+    (λ (past, got). absurd (omega arith)) (slice_get_cases table i).1
+
+-- the pattern that a table picks is that of its format
+pub pattern-picked : (format formatter : CompactFormat) (rules : List Rule) (table : List TableEntry) (s : Unsigned) (index : Option ℕ) (i : ℕ)
+    (o : Operands) (p : PatternText) → formatter ≡ format → HasParts formatter rules table → index ≡ Some i → IsIndex format.table index
+    → o ≡ operands_of s 0 → IfSome (slice_get table i) (λ e. p ≡ selected e.elements o (category_of rules o))
+    → p ≡ pattern_of format (entry_at format.table index) s
+pattern-picked format formatter rules table s index i o p same parts at is operands picked =
+    let rules_are : rules ≡ format.rules = parts.rules_are ∙ ap (λ (f : CompactFormat). f.rules) same in
+    let table_is : table ≡ format.table = parts.table_is ∙ ap (λ (f : CompactFormat). f.table) same in
+    let inside : i < length format.table = subst (λ (k : Option ℕ). IsIndex format.table k) at is in
+    let here : IfSome (slice_get format.table i) (λ e. p ≡ selected e.elements o (category_of rules o)) =
+    subst (λ (t : List TableEntry). IfSome (slice_get t i) (λ e. p ≡ selected e.elements o (category_of rules o))) table_is picked in
+    let ruled : IfSome (slice_get format.table i) (λ e. p ≡ selected e.elements o (category_of format.rules o)) =
+    subst (λ (r : List Rule). IfSome (slice_get format.table i) (λ e. p ≡ selected e.elements o (category_of r o))) rules_are here in
+    let told : IfSome (slice_get format.table i) (λ e. p ≡ selected e.elements (operands_of s 0) (category_of format.rules (operands_of s 0))) =
+    subst (λ (x : Operands). IfSome (slice_get format.table i) (λ e. p ≡ selected e.elements x (category_of format.rules x))) operands ruled in
+    pattern-at format.table i (operands_of s 0) (category_of format.rules (operands_of s 0)) p inside told
+    ∙ ap (λ (k : Option ℕ). pattern_of format (entry_at format.table k) s) (sym at)
+
+-- the lines of an entry, one behind the other
+pub entry_lines-appended : (format formatter : CompactFormat) (rules : List Rule) (table : List TableEntry) (m : ℕ) (s : Unsigned) (index : Option ℕ)
+    (old first second third : List ℕ) → formatter ≡ format → HasParts formatter rules table → entry_at table index ≡ entry_for table m
+    → first ≡ old ++ entry_line table m → second ≡ first ++ operands_line rules s
+    → third ≡ second ++ pattern_line (pattern_of format (entry_at format.table index) s) → third ≡ old ++ entry_lines format m s
+unfolding entry_lines
+entry_lines-appended format formatter rules table m s index old first second third same parts found a b c =
+    let rules_are : rules ≡ format.rules = parts.rules_are ∙ ap (λ (f : CompactFormat). f.rules) same in
+    let table_is : table ≡ format.table = parts.table_is ∙ ap (λ (f : CompactFormat). f.table) same in
+    let entry : entry_at format.table index ≡ entry_for format.table m =
+    subst (λ (t : List TableEntry). entry_at t index ≡ entry_for t m) table_is found in
+    let last : third ≡ second ++ pattern_line (pattern_of format (entry_for format.table m) s) =
+    c ∙ ap (λ (e : Option TableEntry). second ++ pattern_line (pattern_of format e s)) entry in
+    let middle : second ≡ first ++ operands_line format.rules s = b ∙ ap (λ (r : List Rule). first ++ operands_line r s) rules_are in
+    let front : first ≡ old ++ entry_line format.table m = a ∙ ap (λ (t : List TableEntry). old ++ entry_line t m) table_is in
+    last ∙ ap (λ (xs : List ℕ). xs ++ pattern_line (pattern_of format (entry_for format.table m) s)) (middle
+    ∙ ap (λ (xs : List ℕ). xs ++ operands_line format.rules s) front)
+    ∙ regroup old (entry_line format.table m) (operands_line format.rules s) (pattern_line (pattern_of format (entry_for format.table m) s))
+  where
+    regroup : (p q r s : List ℕ) → ((p ++ q) ++ r) ++ s ≡ p ++ ((q ++ r) ++ s)
+    regroup p q r s = simp append_assoc
+
+-- the magnitude of a significand and an exponent together
+together : (m e : ℕ) → place ((pos m -ℤ pos finest) +ℤ pos e) ≡ m + e
+together m e = place_is ((pos m -ℤ pos finest) +ℤ pos e) (m + e) (omega (arith, ints))
+
+-- the place of that magnitude is the one that the displayed size has
+displayed_place : (table : List TableEntry) (s : Unsigned) (y : ℕ) (entry : Option TableEntry) → IsCompactTable table →
+    entry ≡ entry_for table (magnitude_place y) → size s * 10 ^ exponent_of entry ≡ y →
+    place (magnitude_with s (exponent_of entry)) ≡ magnitude_place y
+displayed_place table s y entry t is scaled = together (magnitude_place (size s)) (exponent_of entry) ∙ go (cases_eq (size s) 0)
+  where
+    go : (size s ≡ 0) ⊎ (¬ (size s ≡ 0)) → magnitude_place (size s) + exponent_of entry ≡ magnitude_place y
+    go (inr some) = sym (magnitude_place_times (size s) (exponent_of entry) (omega arith)) ∙ ap magnitude_place scaled
+    go (inl nothing) =
+        let none : y ≡ 0 = sym scaled ∙ rw nothing (omega arith) in
+        let least : magnitude_place y ≡ finest = ap magnitude_place none ∙ magnitude_place-zero in
+        let here : entry ≡ entry_for table finest = is ∙ ap (entry_for table) least in
+        let zero_exponent : exponent_of entry ≡ 0 = no_exponent (exponent_le_magnitude table finest t) (ap exponent_of here) in
+        let same : magnitude_place (size s) ≡ finest = ap magnitude_place nothing ∙ magnitude_place-zero in
+        omega arith
+      where
+        no_exponent : (exponent_of (entry_for table finest) ≡ 0) ⊎ (exponent_of (entry_for table finest) + finest ≤ finest) →
+            exponent_of entry ≡ exponent_of (entry_for table finest) → exponent_of entry ≡ 0
+        no_exponent (inl e) f = f ∙ e
+        no_exponent (inr h) f = omega arith
+
+-- the lines of a formatted number are those by which its decimal is displayed
+pub displayed-given : (format : CompactFormat) (d : Unsigned) (number : FormattedCompact) → IsCompacted format d number → IsCompactTable format.table
+    → IsUnsigned d → ¬ (ShowsPastLimits format.table (size d))
+    → entry_lines format (place (magnitude_with (significand_of number) number.exponent)) (significand_of number)
+    ≡ displayed_lines format d (nearest_number format.table (size d))
+displayed-given format d number w t valid within =
+    let y : ℕ = nearest_number format.table (size d) in
+    let one = displayed_is_one format.table d w.shown y w.entry (displayed_entry format.table y) (significand_of number)
+    (significand_shown format.table d y) w.displayed (number-displayed format.table d valid t within) in
+    let at : place (magnitude_with (significand_of number) number.exponent) ≡ magnitude_place w.shown =
+    ap (λ (e : ℕ). place (magnitude_with (significand_of number) e)) w.exponent_is
+    ∙ displayed_place format.table (significand_of number) w.shown w.entry t w.displayed.entry_is w.displayed.scaled in
+    ap (λ (m : ℕ). entry_lines format m (significand_of number)) (at ∙ ap magnitude_place one.0) ∙ ap (entry_lines format (magnitude_place y)) one.2
+
+-- the line of the values around a number, by its magnitude and the exponent for that
+pub showable-at : (format formatter : CompactFormat) (d : Unsigned) (m power : ℤ) (exponent : ℕ) → formatter ≡ format → m ≡ magnitude (size d)
+    → exponent ≡ exponent_for formatter.table (place m) → place power ≡ rounding_place exponent (place m)
+    → around_line (place power) d ≡ showable_line format.table d
+unfolding showable_line
+showable-at format formatter d m power exponent same is found at =
+    let p : ℕ = magnitude_place (size d) in
+    let here : place m ≡ p = ap place is ∙ place_is (magnitude (size d)) p (omega (arith, ints)) in
+    let told : exponent ≡ exponent_for format.table p =
+    found ∙ ap (λ (f : CompactFormat). exponent_for f.table (place m)) same ∙ ap (exponent_for format.table) here in
+    let power_is : place power ≡ rounding_place (exponent_for format.table p) p =
+    at ∙ ap (λ (e : ℕ). rounding_place e (place m)) told ∙ ap (rounding_place (exponent_for format.table p)) here in
+    ap (λ (q : ℕ). around_line q d) power_is
+
+-- the lines of a number that was formatted, one behind the other
+pub written-appended : (width : ℕ) (format : CompactFormat) (d : Unsigned) (given events : List Event) (value number : FormattedCompact)
+    (old first second third fourth : List ℕ) → given ≡ events → value ≡ number → IsCompacted format d number → IsCompactTable format.table
+    → IsUnsigned d → ¬ (ShowsPastLimits format.table (size d)) → first ≡ old ++ marked_lines width given → second ≡ first ++ magnitude_line d
+    → third ≡ second ++ showable_line format.table d
+    → fourth ≡ third ++ entry_lines format (place (magnitude_with (significand_of value) value.exponent)) (significand_of value)
+    → fourth ≡ old ++ written_lines width format d (nearest_number format.table (size d)) events
+unfolding written_lines
+written-appended width format d given events value number old first second third fourth is same w t valid within a b m c =
+    let lines : List ℕ = displayed_lines format d (nearest_number format.table (size d)) in
+    let last : fourth ≡ third ++ lines =
+    c ∙ ap (λ (v : FormattedCompact). third ++ entry_lines format (place (magnitude_with (significand_of v) v.exponent)) (significand_of v)) same
+    ∙ ap (λ (xs : List ℕ). third ++ xs) (displayed-given format d number w t valid within) in
+    let front : first ≡ old ++ marked_lines width events = a ∙ ap (λ (es : List Event). old ++ marked_lines width es) is in
+    let middle : third ≡ ((old ++ marked_lines width events) ++ magnitude_line d) ++ showable_line format.table d =
+    m ∙ ap (λ (xs : List ℕ). xs ++ showable_line format.table d) (b ∙ ap (λ (xs : List ℕ). xs ++ magnitude_line d) front) in
+    last ∙ ap (λ (xs : List ℕ). xs ++ lines) middle
+    ∙ regroup old (marked_lines width events) (magnitude_line d) (showable_line format.table d) lines
+  where
+    regroup : (o p q r s : List ℕ) → (((o ++ p) ++ q) ++ r) ++ s ≡ o ++ (((p ++ q) ++ r) ++ s)
+    regroup o p q r s = simp append_assoc

@@ -1,0 +1,5 @@
+pub mod Entries
+pub mod Between
+pub mod Facts
+pub mod Made
+pub mod Lines

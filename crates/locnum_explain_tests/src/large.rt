@@ -1,0 +1,62 @@
+//! Numbers of many digits, explained.
+
+use crate::asked::{Asked, Style, is_explained_with};
+use fixed_decimal::SignDisplay;
+use std::alloc::{AllocError, Global};
+
+const PLAIN: Asked = (Style::Plain, "en", 80);
+
+const SHORT: Asked = (Style::Short, "en", 80);
+
+/// So many bytes, and a text behind them.
+fn repeated(alloc: Global, byte: u8, count: usize, behind: &[u8]) -> Result<Vec<u8>, AllocError> {
+    let mut text = Vec::new(alloc);
+    for _ in 0..count {
+        text.push(byte)?;
+    }
+    text.extend_from_slice(behind)?;
+    Ok(text)
+}
+
+/// The same, once more if memory ran out.
+fn text_of(alloc: Global, byte: u8, count: usize, behind: &[u8]) -> Result<Vec<u8>, AllocError> {
+    match repeated(alloc, byte, count, behind) {
+        Err(_) => repeated(alloc, byte, count, behind),
+        made => made,
+    }
+}
+
+/// Whether so many nines have an explanation that is these lines behind their text.
+fn ends_in(alloc: Global, asked: Asked, count: usize, lines: &[u8]) -> bool {
+    let Ok(text) = text_of(alloc, b'9', count, b"") else {
+        return false;
+    };
+    let Ok(want) = text_of(alloc, b'9', count, lines) else {
+        return false;
+    };
+    is_explained_with(alloc, asked, SignDisplay::Auto, &text, &want)
+}
+
+/// What writes, how many nines, and the lines behind their text.
+const NINES: &[(Asked, usize, &str)] = &[
+    (
+        PLAIN,
+        24,
+        "\n  999,999,999,999,999,999,999,999\n  ^^^^^^^^^^^^^^^^^^^^^^^^^^^^^^^  integer\n     ^                             group\n         ^                         group\n             ^                     group\n                 ^                 group\n                     ^             group\n                         ^         group\n                             ^     group\n  magnitude  23\n",
+    ),
+    (
+        SHORT,
+        24,
+        "\n  1,000,000,000,000,000,000M\n  magnitude  23\n  around     more than 18 digits\n  entry      type 6, exponent 6\n  operands   i=...0 v=0 w=0 f=0 t=0 c=0 -> other\n  pattern    {0}M\n",
+    ),
+    (SHORT, 32768, "\n  overflow\n"),
+    (SHORT, 32769, "\n  too many digits\n"),
+    (PLAIN, 32769, "\n  too many digits\n"),
+];
+
+#[test]
+fn many_digits_are_explained(rt: HostRuntime) {
+    for &(asked, count, lines) in NINES {
+        assert!(rt; ends_in(rt.alloc(), asked, count, lines.as_bytes()));
+    }
+}

@@ -1,0 +1,25 @@
+-- The decimal that a form writes for a text: its digits and its sign, or why there is none.
+use Rattle.std.specs.Prelude.{◌==◌, ℕ, List, Result, Ok, Err}
+use Rattle.fixed_decimal.specs.declared.signs.Sign.{Sign}
+use Rattle.fixed_decimal.specs.declared.signs.SignDisplay.{SignDisplay}
+use Rattle.fixed_decimal.specs.SignDisplay.{displayed_sign}
+use Rattle.fixed_decimal.specs.Size.{size}
+use Rattle.fixed_decimal.specs.Unsigned.{Unsigned}
+use Rattle.decimal_lines.specs.Alone.{decimal_read}
+use Rattle.decimal_lines.specs.declared.alone.TextError.{TextError}
+use Rattle.locnum_forms.specs.Forms.{FormData, digits_moved}
+use Rattle.locnum_forms.specs.Fractions.{in_range}
+
+-- a rounded number with the sign of its text, where that is shown, which depends on the rounded number
+abbrev pub signed_decimal : SignDisplay → Sign → Result Unsigned TextError → Result (Sign × Unsigned) TextError
+signed_decimal display sign (Ok d) = Ok (displayed_sign display (size d == 0) sign, d)
+signed_decimal display sign (Err error) = Err error
+
+-- the decimal that is written for what was read
+abbrev pub rounded_decimal : FormData → Result (Sign × Unsigned) TextError → Result (Sign × Unsigned) TextError
+rounded_decimal form (Ok (sign, d)) = signed_decimal form.sign sign (in_range (digits_moved form.formatter) form.fraction d)
+rounded_decimal form (Err error) = Err error
+
+-- the decimal that is written for a text
+unfoldable pub decimal_written : FormData → List ℕ → Result (Sign × Unsigned) TextError
+decimal_written form text = rounded_decimal form (decimal_read text)

@@ -1,0 +1,218 @@
+//! What a form writes for a text, with the parts of it.
+
+ghost use Rattle.std.specs.Prelude.{◌≡◌, ◌⊎◌, Ok, IfErr, IfOk, IsErrOf, IsOk};
+ghost use Rattle.icu_decimal.specs.Decimal.{decimal_events};
+ghost use Rattle.decimal_lines.specs.Alone.{IsRefusal, compact_events, mode_events};
+ghost use Rattle.locnum_forms.specs.Forms.{formatter_events};
+ghost use Rattle.locnum_forms.specs.declared.form.Formatter.TheVariants.{Money, MoneyNamed, MoneyShort, Percent, Units};
+
+use crate::form::{Form, Formatter};
+use crate::fractions::in_range;
+use crate::pushing::digits_moved;
+use decimal_lines::{Mode, TextError, read_decimal};
+use fixed_decimal::Decimal;
+use icu_decimal::error::FormatError;
+use icu_decimal::{CompactDecimalFormatter, DecimalFormatter};
+use icu_dimension::{
+    CompactCurrencyFormatter, CurrencyFormatter, LongCurrencyFormatter, PercentFormatter,
+    UnitsFormatter,
+};
+use std::alloc::Global;
+use writeable::{PartsText, Writeable};
+
+/// The text into which something was written, or why it wasn't.
+fn marked(written: Result<(), FormatError>, text: PartsText) -> Result<PartsText, TextError>
+    ensures ok { IfOk result (λ t. t ≡ text) }
+    ensures written { IfOk result (λ _. IsOk written) }
+    ensures refused { IfErr result (λ error. (error ≡ TextError.OutOfMemory)
+        ⊎ ((error ≡ TextError.Overflow) × IsErrOf written FormatError.Overflow)) }
+{
+    match written {
+        Ok(()) => Ok(text),
+        Err(FormatError::Overflow) => Err(TextError::Overflow),
+        Err(FormatError::OutOfMemory | FormatError::Sink) => Err(TextError::OutOfMemory),
+    }
+}
+
+/// A decimal in full with its parts.
+fn mark_plain(
+    alloc: Global,
+    formatter: &DecimalFormatter,
+    decimal: &Decimal,
+) -> Result<PartsText, TextError>
+    ensures ok { IfOk result (λ text. text.events
+        ≡ decimal_events formatter.now decimal.now.sign decimal.now.absolute) }
+    ensures refused { IfErr result (λ error. error ≡ TextError.OutOfMemory) }
+{
+    let mut text = PartsText::new(alloc);
+    match formatter.format(decimal).write_to_parts(&mut text) {
+        Ok(()) => Ok(text),
+        Err(_) => Err(TextError::OutOfMemory),
+    }
+}
+
+/// A decimal in compact form with its parts.
+fn mark_compact(
+    alloc: Global,
+    formatter: &CompactDecimalFormatter,
+    decimal: &Decimal,
+) -> Result<PartsText, TextError>
+    ensures ok { IfOk result (λ text.
+        compact_events formatter.now decimal.now.sign decimal.now.absolute ≡ Ok text.events) }
+    ensures refused { IfErr result (λ error. IsRefusal
+        (compact_events formatter.now decimal.now.sign decimal.now.absolute) error) }
+{
+    match formatter.format(alloc, decimal) {
+        Ok(formatted) => {
+            let mut text = PartsText::new(alloc);
+            match formatted.write_to_parts(&mut text) {
+                Ok(()) => Ok(text),
+                Err(_) => Err(TextError::OutOfMemory),
+            }
+        }
+        Err(FormatError::Overflow) => Err(TextError::Overflow),
+        Err(FormatError::OutOfMemory | FormatError::Sink) => Err(TextError::OutOfMemory),
+    }
+}
+
+/// A number alone with its parts.
+fn mark_number(alloc: Global, mode: &Mode, decimal: &Decimal) -> Result<PartsText, TextError>
+    ensures ok { IfOk result (λ text.
+        mode_events mode.now decimal.now.sign decimal.now.absolute ≡ Ok text.events) }
+    ensures refused { IfErr result (λ error. IsRefusal
+        (mode_events mode.now decimal.now.sign decimal.now.absolute) error) }
+{
+    match mode {
+        Mode::Plain(formatter) => mark_plain(alloc, formatter, decimal),
+        Mode::Compact(formatter) => mark_compact(alloc, formatter, decimal),
+    }
+}
+
+/// An amount of money with its parts.
+fn mark_money(
+    alloc: Global,
+    formatter: &CurrencyFormatter<DecimalFormatter>,
+    decimal: &Decimal,
+) -> Result<PartsText, TextError>
+    ensures ok { IfOk result (λ text.
+        formatter_events (Money formatter.now) decimal.now.sign decimal.now.absolute
+        ≡ Ok text.events) }
+    ensures refused { IfErr result (λ error. IsRefusal
+        (formatter_events (Money formatter.now) decimal.now.sign decimal.now.absolute) error) }
+{
+    let mut text = PartsText::new(alloc);
+    let written = formatter.write(alloc, decimal, &mut text);
+    marked(written, text)
+}
+
+/// An amount with the name of its currency, with its parts.
+fn mark_money_named(
+    alloc: Global,
+    formatter: &LongCurrencyFormatter<DecimalFormatter>,
+    decimal: &Decimal,
+) -> Result<PartsText, TextError>
+    ensures ok { IfOk result (λ text.
+        formatter_events (MoneyNamed formatter.now) decimal.now.sign decimal.now.absolute
+        ≡ Ok text.events) }
+    ensures refused { IfErr result (λ error. IsRefusal
+        (formatter_events (MoneyNamed formatter.now) decimal.now.sign decimal.now.absolute)
+        error) }
+{
+    let mut text = PartsText::new(alloc);
+    let written = formatter.write(alloc, decimal, &mut text);
+    marked(written, text)
+}
+
+/// A compact amount with its parts.
+fn mark_money_short(
+    alloc: Global,
+    formatter: &CompactCurrencyFormatter,
+    decimal: &Decimal,
+) -> Result<PartsText, TextError>
+    ensures ok { IfOk result (λ text.
+        formatter_events (MoneyShort formatter.now) decimal.now.sign decimal.now.absolute
+        ≡ Ok text.events) }
+    ensures refused { IfErr result (λ error. IsRefusal
+        (formatter_events (MoneyShort formatter.now) decimal.now.sign decimal.now.absolute)
+        error) }
+{
+    let mut text = PartsText::new(alloc);
+    let written = formatter.write(alloc, decimal, &mut text);
+    marked(written, text)
+}
+
+/// A percent with its parts.
+fn mark_percent(
+    alloc: Global,
+    formatter: &PercentFormatter<DecimalFormatter>,
+    decimal: &Decimal,
+) -> Result<PartsText, TextError>
+    ensures ok { IfOk result (λ text.
+        formatter_events (Percent formatter.now) decimal.now.sign decimal.now.absolute
+        ≡ Ok text.events) }
+    ensures refused { IfErr result (λ error. IsRefusal
+        (formatter_events (Percent formatter.now) decimal.now.sign decimal.now.absolute) error) }
+{
+    let mut text = PartsText::new(alloc);
+    let written = formatter.write(alloc, decimal, &mut text);
+    marked(written, text)
+}
+
+/// A number with its unit, with its parts.
+fn mark_units(
+    alloc: Global,
+    formatter: &UnitsFormatter<DecimalFormatter>,
+    decimal: &Decimal,
+) -> Result<PartsText, TextError>
+    ensures ok { IfOk result (λ text.
+        formatter_events (Units formatter.now) decimal.now.sign decimal.now.absolute
+        ≡ Ok text.events) }
+    ensures refused { IfErr result (λ error. IsRefusal
+        (formatter_events (Units formatter.now) decimal.now.sign decimal.now.absolute) error) }
+{
+    let mut text = PartsText::new(alloc);
+    let written = formatter.write(alloc, decimal, &mut text);
+    marked(written, text)
+}
+
+/// What the formatter writes for a decimal, with its parts.
+fn mark_formatted(
+    alloc: Global,
+    formatter: &Formatter,
+    decimal: &Decimal,
+) -> Result<PartsText, TextError>
+    ensures ok { IfOk result (λ text.
+        formatter_events formatter.now decimal.now.sign decimal.now.absolute ≡ Ok text.events) }
+    ensures refused { IfErr result (λ error. IsRefusal
+        (formatter_events formatter.now decimal.now.sign decimal.now.absolute) error) }
+{
+    match formatter {
+        Formatter::Numbers(mode) => mark_number(alloc, mode, decimal),
+        Formatter::Money(money) => mark_money(alloc, money, decimal),
+        Formatter::MoneyNamed(money) => mark_money_named(alloc, money, decimal),
+        Formatter::MoneyShort(money) => mark_money_short(alloc, money, decimal),
+        Formatter::Percent(percent) => mark_percent(alloc, percent, decimal),
+        Formatter::Units(units) => mark_units(alloc, units, decimal),
+    }
+}
+
+impl Form {
+    ghost use Rattle.std.specs.Prelude.{◌≡◌, Ok, IfErr, IfOk};
+    ghost use Rattle.decimal_lines.specs.Alone.{IsRefusal};
+    ghost use Rattle.locnum_forms.specs.Forms.{form_events};
+
+    /// What the form writes for a text, with the byte offsets of its parts (this project's own):
+    /// those of `icu_decimal` and `icu_dimension`; in a compact number the sign alone has a part.
+    ///
+    /// It is refused as by [`push`](Form::push).
+    #[tactic(auto, unfolding(crate::specs::Forms::form_events))]
+    pub fn mark(&self, alloc: Global, text: &[u8]) -> Result<PartsText, TextError>
+        ensures ok { IfOk result (λ t. form_events self.now text.now ≡ Ok t.events) }
+        ensures refused { IfErr result (λ error. IsRefusal (form_events self.now text.now) error) }
+    {
+        let decimal = read_decimal(alloc, text)?;
+        let rounded = in_range(decimal, self.fraction, digits_moved(&self.formatter))?;
+        let shown = rounded.with_sign_display(self.sign);
+        mark_formatted(alloc, &self.formatter, &shown)
+    }
+}

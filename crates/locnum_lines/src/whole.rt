@@ -1,0 +1,86 @@
+//! A record whose last field is a number and nothing else.
+
+ghost use Rattle.std.specs.Prelude.{◌≡◌, ◌++◌, ◌⊎◌, Ok, None, List, IfOk, MatchBool, false, true};
+ghost use Rattle.locnum_forms.specs.Forms.{form_events};
+ghost use Rattle.locnum_lines.specs.Gathered.{GoesOn};
+ghost use Rattle.locnum_lines.specs.Settings.{is_chosen};
+ghost use Rattle.locnum_lines.specs.Whole.{LeavesNumbers, is_of_numbers};
+ghost use Rattle.writeable.specs.Events.{Event, text_of};
+
+use crate::gathered::Gathered;
+use crate::settings::{Delimiter, LineSettings};
+use locnum_forms::{Form, TextError};
+use std::alloc::{AllocError, Global};
+
+/// Whether a byte may stand in a number.
+fn is_of_numbers(byte: u8) -> bool
+    ensures { result ≡ is_of_numbers byte }
+{
+    byte.is_ascii_digit() || byte == b'.' || byte == b'-' || byte == b'+'
+}
+
+/// Whether a field that begins with a number doesn't end in it, and what is written for it stands
+/// there as it is.
+fn leaves_numbers(settings: &LineSettings) -> bool
+    ensures padding { result ≡ true → settings.now.padding ≡ None }
+    ensures delimiter { result ≡ true → LeavesNumbers settings.now.delimiter }
+{
+    let None = settings.padding else {
+        return false;
+    };
+    match settings.delimiter {
+        Delimiter::Blanks => true,
+        Delimiter::Byte(delimiter) => !is_of_numbers(delimiter),
+        Delimiter::Csv(_) => false,
+    }
+}
+
+/// A text as it is shown, if it is a number that isn't refused.
+fn push_number(
+    alloc: Global,
+    form: &Form,
+    text: &[u8],
+    gathered: &mut Gathered,
+) -> Result<bool, AllocError>
+    ensures { IfOk result (λ is_number. MatchBool is_number
+        ((events : List Event) × (form_events form.now text.now ≡ Ok events)
+        × (gathered.new ≡ record gathered.old {
+          output = gathered.old.output ++ text_of events;
+        }))
+        (gathered.new ≡ gathered.old)) }
+{
+    match form.push(alloc, text, &mut gathered.output) {
+        Ok(()) => Ok(true),
+        Err(TextError::OutOfMemory) => Err(AllocError),
+        Err(TextError::NotDecimal | TextError::TooManyDigits | TextError::Overflow) => Ok(false),
+    }
+}
+
+/// The rest of a record, whose first field has this number and is chosen, as one number. The result
+/// is whether it was one; if not, nothing was written.
+pub(crate) fn push_whole(
+    alloc: Global,
+    settings: &LineSettings,
+    form: &Form,
+    index: usize,
+    line: &[u8],
+    gathered: &mut Gathered,
+) -> Result<bool, AllocError>
+    requires going { gathered.old.is_stopped ≡ false }
+    requires chosen { is_chosen settings.now.fields index ≡ true }
+    ensures { IfOk result (λ is_number. MatchBool is_number
+        (GoesOn settings.now form.now index gathered.old gathered.new line.now None)
+        (gathered.new ≡ gathered.old)) }
+{
+    if !leaves_numbers(settings) {
+        return Ok(false);
+    }
+    if !gathered.takes_try() {
+        return Ok(false);
+    }
+    if !push_number(alloc, form, line, gathered)? {
+        return Ok(false);
+    }
+    gathered.renew_tries();
+    Ok(true)
+}
