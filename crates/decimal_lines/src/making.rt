@@ -18,8 +18,8 @@ use icu_tables::{TableError, Tables};
 use std::alloc::Global;
 use std::str;
 
-/// The options of plain numbers under a strategy, or the default ones.
-fn plain_options(grouping: Option<GroupingStrategy>) -> DecimalFormatterOptions
+/// The options of plain numbers under a strategy, or the default ones (this project's own).
+pub fn plain_options(grouping: Option<GroupingStrategy>) -> DecimalFormatterOptions
     ensures { result ≡ plain_options grouping }
 {
     match grouping {
@@ -28,8 +28,9 @@ fn plain_options(grouping: Option<GroupingStrategy>) -> DecimalFormatterOptions
     }
 }
 
-/// The options of compact numbers under a strategy, or the default ones.
-fn compact_options(grouping: Option<GroupingStrategy>) -> CompactDecimalFormatterOptions
+/// The options of compact numbers under a strategy, or the default ones, which have `Min2` (this
+/// project's own).
+pub fn compact_options(grouping: Option<GroupingStrategy>) -> CompactDecimalFormatterOptions
     ensures { result ≡ compact_options grouping }
 {
     match grouping {

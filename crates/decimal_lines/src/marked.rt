@@ -53,8 +53,11 @@ fn mark_compact(
     }
 }
 
-/// What the mode shows for a decimal, with its parts.
-fn mark_shown(alloc: Global, mode: &Mode, decimal: &Decimal) -> Result<PartsText, TextError>
+/// What the mode shows for a decimal, with the byte offsets of its parts (this project's own).
+///
+/// The parts are those of `icu_decimal`; in a compact number the sign alone has a part. `Overflow`
+/// if the number is too large to be shown, else `OutOfMemory`.
+pub fn mark_shown(alloc: Global, mode: &Mode, decimal: &Decimal) -> Result<PartsText, TextError>
     ensures ok { IfOk result (λ text.
         mode_events mode.now decimal.now.sign decimal.now.absolute ≡ Ok text.events) }
     ensures refused { IfErr result (λ error. IsRefusal

@@ -1,7 +1,10 @@
 //! A single text instead of a line: its characters in rooms of each length, and its parts. Values
 //! live in functions that answer whether they hold; what was refused memory is asked once more.
 
-use decimal_lines::{Mode, StartError, TextError, Words, format_parts, format_text, parse_words};
+use decimal_lines::{
+    Mode, StartError, TextError, Words, format_parts, format_text, mark_shown, parse_words,
+    read_decimal,
+};
 use sample_tables::SAMPLE;
 use std::alloc::{AllocError, Global};
 use writeable::PartsText;
@@ -179,17 +182,32 @@ fn spans_are(alloc: Global, parts: &PartsText, want: &[(usize, usize, &str)]) ->
     is_same
 }
 
-/// Whether a text has these characters and parts.
+/// What a mode shows for the decimal that a text is.
+fn marked(alloc: Global, mode: &Mode, text: &[u8]) -> Result<PartsText, TextError> {
+    let decimal = read_decimal(alloc, text)?;
+    mark_shown(alloc, mode, &decimal)
+}
+
+/// Whether what was shown has these characters and parts.
+fn has(
+    alloc: Global,
+    parts: Result<PartsText, TextError>,
+    (shown, want): (&str, &[(usize, usize, &str)]),
+) -> bool {
+    match parts {
+        Ok(parts) => parts.text() == shown && spans_are(alloc, &parts, want),
+        Err(_) => false,
+    }
+}
+
+/// Whether a text has these characters and parts, and the decimal that it is too.
 fn has_parts_once(
     alloc: Global,
     mode: &Mode,
     text: &[u8],
-    (shown, want): (&str, &[(usize, usize, &str)]),
+    row: (&str, &[(usize, usize, &str)]),
 ) -> bool {
-    match format_parts(alloc, mode, text) {
-        Ok(parts) => parts.text() == shown && spans_are(alloc, &parts, want),
-        Err(_) => false,
-    }
+    has(alloc, format_parts(alloc, mode, text), row) && has(alloc, marked(alloc, mode, text), row)
 }
 
 /// The same, asked once more where memory was refused.
@@ -225,10 +243,21 @@ fn refused(alloc: Global, mode: &Mode, text: &[u8]) -> Option<TextError> {
     }
 }
 
-/// Whether so many nines have no parts, and why.
+/// Why the decimal that a text is has none, asked once more where memory was refused.
+fn refused_decimal(alloc: Global, mode: &Mode, text: &[u8]) -> Option<TextError> {
+    match marked(alloc, mode, text) {
+        Err(TextError::OutOfMemory) => marked(alloc, mode, text).err(),
+        answer => answer.err(),
+    }
+}
+
+/// Whether so many nines have no parts, and why, and the decimal that they are too.
 fn is_refused(alloc: Global, asked: Asked, count: usize, want: TextError) -> bool {
     match (mode(alloc, asked), nines(alloc, count)) {
-        (Some(mode), Ok(text)) => refused(alloc, &mode, &text) == Some(want),
+        (Some(mode), Ok(text)) => {
+            refused(alloc, &mode, &text) == Some(want)
+                && refused_decimal(alloc, &mode, &text) == Some(want)
+        }
         _ => false,
     }
 }

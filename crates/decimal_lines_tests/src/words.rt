@@ -1,6 +1,6 @@
 //! The words of a program, read and refused.
 
-use decimal_lines::{Style, parse_words};
+use decimal_lines::{Style, compact_options, parse_words, plain_options};
 use icu_decimal::options::GroupingStrategy;
 
 /// Whether the words of such a locale and system are read, with this style and strategy.
@@ -103,5 +103,32 @@ fn is_refused(words: &[&str]) -> bool {
 fn refuses_other_words(rt: HostRuntime) {
     for words in REFUSED {
         assert!(rt; is_refused(words), "{}", words.len());
+    }
+}
+
+/// A strategy that is asked for, or none, and those that plain and compact numbers then have.
+const OPTIONS: &[(
+    Option<GroupingStrategy>,
+    Option<GroupingStrategy>,
+    Option<GroupingStrategy>,
+)] = &[
+    (None, None, Some(GroupingStrategy::Min2)),
+    (
+        Some(GroupingStrategy::Auto),
+        Some(GroupingStrategy::Auto),
+        Some(GroupingStrategy::Auto),
+    ),
+    (
+        Some(GroupingStrategy::Never),
+        Some(GroupingStrategy::Never),
+        Some(GroupingStrategy::Never),
+    ),
+];
+
+#[test]
+fn makes_options_of_strategies(rt: HostRuntime) {
+    for &(asked, plain, compact) in OPTIONS {
+        assert_eq!(rt; plain_options(asked).grouping_strategy, plain);
+        assert_eq!(rt; compact_options(asked).grouping_strategy, compact);
     }
 }

@@ -3,17 +3,14 @@
 ghost use Rattle.std.specs.Prelude.{◌≡◌};
 ghost use Rattle.icu_provider.specs.Answer.{Answers};
 ghost use Rattle.icu_dimension_tables.specs.Answering.{digits_answer};
-ghost use Rattle.decimal_lines.specs.Making.{compact_options, plain_options};
 ghost use Rattle.locnum_forms.specs.Loaded.{amounts_loaded, compact_money_loaded, compact_money_options, compact_preferences, currency_loaded, currency_range, exactly, long_loaded, money_loaded, money_range, money_short_loaded, named_loaded, names_loaded, percent_loaded};
 ghost use Rattle.locnum_forms.specs.Loaded.{plain_loaded, preferences, short_loaded, unit_loaded, units_loaded};
 
 use crate::form::{Form, Formatter};
 use crate::tables::Both;
 use crate::wanted::{FractionRange, UnitWidth, Wanted};
-use decimal_lines::Mode;
-use icu_decimal::options::{
-    CompactDecimalFormatterOptions, DecimalFormatterOptions, GroupingStrategy,
-};
+use decimal_lines::{Mode, compact_options, plain_options};
+use icu_decimal::options::{DecimalFormatterOptions, GroupingStrategy};
 use icu_decimal::preferences::{CompactDecimalFormatterPreferences, DecimalFormatterPreferences};
 use icu_decimal::{CompactDecimalFormatter, DecimalFormatter};
 use icu_dimension::options::CurrencyFormatterOptions;
@@ -26,26 +23,6 @@ use icu_dimension_data::{CurrencyCode, FractionDigits};
 use icu_provider::DataError;
 use icu_tables::Tables;
 use std::alloc::Global;
-
-/// The options of numbers under a strategy, or the default ones.
-pub(crate) fn plain_options(grouping: Option<GroupingStrategy>) -> DecimalFormatterOptions
-    ensures { result ≡ plain_options grouping }
-{
-    match grouping {
-        Some(strategy) => DecimalFormatterOptions::from(strategy),
-        None => DecimalFormatterOptions::default(),
-    }
-}
-
-/// The options of compact numbers under a strategy, or the default ones.
-fn compact_options(grouping: Option<GroupingStrategy>) -> CompactDecimalFormatterOptions
-    ensures { result ≡ compact_options grouping }
-{
-    match grouping {
-        Some(strategy) => CompactDecimalFormatterOptions::from(strategy),
-        None => CompactDecimalFormatterOptions::default(),
-    }
-}
 
 /// The locale and the system that are wanted.
 fn preferences(wanted: &Wanted<'_>) -> DecimalFormatterPreferences

@@ -13,10 +13,11 @@ use crate::error::StartError;
 use crate::form::Form;
 use crate::loading::{
     load_long, load_money, load_money_short, load_named, load_percent, load_plain, load_short,
-    load_unit, plain_options,
+    load_unit,
 };
 use crate::tables::Both;
 use crate::wanted::{Kind, UnitWidth, Wanted};
+use decimal_lines::plain_options;
 use icu_dimension::options::{CurrencyFormatterOptions, CurrencySign, Width};
 use icu_dimension_data::CurrencyCode;
 use icu_dimension_tables::DimensionTables;

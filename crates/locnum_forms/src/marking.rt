@@ -1,24 +1,23 @@
 //! What a form writes for a text, with the parts of it.
 
 ghost use Rattle.std.specs.Prelude.{◌≡◌, ◌⊎◌, Ok, IfErr, IfOk, IsErrOf, IsOk};
-ghost use Rattle.icu_decimal.specs.Decimal.{decimal_events};
-ghost use Rattle.decimal_lines.specs.Alone.{IsRefusal, compact_events, mode_events};
+ghost use Rattle.decimal_lines.specs.Alone.{IsRefusal};
 ghost use Rattle.locnum_forms.specs.Forms.{formatter_events};
 ghost use Rattle.locnum_forms.specs.declared.form.Formatter.TheVariants.{Money, MoneyNamed, MoneyShort, Percent, Units};
 
 use crate::form::{Form, Formatter};
 use crate::fractions::in_range;
 use crate::pushing::digits_moved;
-use decimal_lines::{Mode, TextError, read_decimal};
+use decimal_lines::{TextError, mark_shown, read_decimal};
 use fixed_decimal::Decimal;
+use icu_decimal::DecimalFormatter;
 use icu_decimal::error::FormatError;
-use icu_decimal::{CompactDecimalFormatter, DecimalFormatter};
 use icu_dimension::{
     CompactCurrencyFormatter, CurrencyFormatter, LongCurrencyFormatter, PercentFormatter,
     UnitsFormatter,
 };
 use std::alloc::Global;
-use writeable::{PartsText, Writeable};
+use writeable::PartsText;
 
 /// The text into which something was written, or why it wasn't.
 fn marked(written: Result<(), FormatError>, text: PartsText) -> Result<PartsText, TextError>
@@ -31,60 +30,6 @@ fn marked(written: Result<(), FormatError>, text: PartsText) -> Result<PartsText
         Ok(()) => Ok(text),
         Err(FormatError::Overflow) => Err(TextError::Overflow),
         Err(FormatError::OutOfMemory | FormatError::Sink) => Err(TextError::OutOfMemory),
-    }
-}
-
-/// A decimal in full with its parts.
-fn mark_plain(
-    alloc: Global,
-    formatter: &DecimalFormatter,
-    decimal: &Decimal,
-) -> Result<PartsText, TextError>
-    ensures ok { IfOk result (λ text. text.events
-        ≡ decimal_events formatter.now decimal.now.sign decimal.now.absolute) }
-    ensures refused { IfErr result (λ error. error ≡ TextError.OutOfMemory) }
-{
-    let mut text = PartsText::new(alloc);
-    match formatter.format(decimal).write_to_parts(&mut text) {
-        Ok(()) => Ok(text),
-        Err(_) => Err(TextError::OutOfMemory),
-    }
-}
-
-/// A decimal in compact form with its parts.
-fn mark_compact(
-    alloc: Global,
-    formatter: &CompactDecimalFormatter,
-    decimal: &Decimal,
-) -> Result<PartsText, TextError>
-    ensures ok { IfOk result (λ text.
-        compact_events formatter.now decimal.now.sign decimal.now.absolute ≡ Ok text.events) }
-    ensures refused { IfErr result (λ error. IsRefusal
-        (compact_events formatter.now decimal.now.sign decimal.now.absolute) error) }
-{
-    match formatter.format(alloc, decimal) {
-        Ok(formatted) => {
-            let mut text = PartsText::new(alloc);
-            match formatted.write_to_parts(&mut text) {
-                Ok(()) => Ok(text),
-                Err(_) => Err(TextError::OutOfMemory),
-            }
-        }
-        Err(FormatError::Overflow) => Err(TextError::Overflow),
-        Err(FormatError::OutOfMemory | FormatError::Sink) => Err(TextError::OutOfMemory),
-    }
-}
-
-/// A number alone with its parts.
-fn mark_number(alloc: Global, mode: &Mode, decimal: &Decimal) -> Result<PartsText, TextError>
-    ensures ok { IfOk result (λ text.
-        mode_events mode.now decimal.now.sign decimal.now.absolute ≡ Ok text.events) }
-    ensures refused { IfErr result (λ error. IsRefusal
-        (mode_events mode.now decimal.now.sign decimal.now.absolute) error) }
-{
-    match mode {
-        Mode::Plain(formatter) => mark_plain(alloc, formatter, decimal),
-        Mode::Compact(formatter) => mark_compact(alloc, formatter, decimal),
     }
 }
 
@@ -187,7 +132,7 @@ fn mark_formatted(
         (formatter_events formatter.now decimal.now.sign decimal.now.absolute) error) }
 {
     match formatter {
-        Formatter::Numbers(mode) => mark_number(alloc, mode, decimal),
+        Formatter::Numbers(mode) => mark_shown(alloc, mode, decimal),
         Formatter::Money(money) => mark_money(alloc, money, decimal),
         Formatter::MoneyNamed(money) => mark_money_named(alloc, money, decimal),
         Formatter::MoneyShort(money) => mark_money_short(alloc, money, decimal),
