@@ -75,6 +75,20 @@ impl CompactDecimalFormatter {
         }
     }
 
+    /// The plural rules that choose among the patterns of an entry (this project's own).
+    pub fn plural_rules(&self) -> &PluralRules
+        ensures { result.now ≡ self.now.rules }
+    {
+        &self.plural_rules
+    }
+
+    /// The table of patterns (this project's own).
+    pub fn patterns(&self) -> &CompactPatterns<SinglePlaceholder>
+        ensures { result.now ≡ self.now.table }
+    {
+        &self.patterns
+    }
+
     /// The decimal as the nearest compact number.
     ///
     /// Let e be the table's exponent for the magnitude m. The number is rounded at power e if m is

@@ -104,6 +104,14 @@ impl CompactCurrencyFormatter {
         }
     }
 
+    /// The patterns of money for each sign, in which a compact number of exponent 0 stands (this
+    /// project's own).
+    pub fn patterns(&self) -> &SignedPatterns
+        ensures { result.now ≡ self.now.patterns }
+    {
+        &self.patterns
+    }
+
     /// Writes an amount: the characters of the nearest compact number and, if its exponent is 0,
     /// the parts of the sign and of the symbol around it.
     ///

@@ -51,6 +51,13 @@ impl<F: AbstractFormatter> CurrencyFormatter<F> {
         }
     }
 
+    /// The patterns of money for each sign (this project's own).
+    pub fn patterns(&self) -> &SignedPatterns
+        ensures { result.now ≡ self.now.patterns }
+    {
+        &self.patterns
+    }
+
     /// Writes an amount: the parts of the number, and those of the sign and of the symbol.
     ///
     /// After `Overflow` and `OutOfMemory` the sink is unchanged. `Sink` only where the sink failed

@@ -52,6 +52,20 @@ impl<F: AbstractFormatter> LongCurrencyFormatter<F> {
         }
     }
 
+    /// The plural rules that pick among the elements (this project's own).
+    pub fn plural_rules(&self) -> &PluralRules
+        ensures { result.now ≡ self.now.rules }
+    {
+        &self.rules
+    }
+
+    /// The elements: what stands around a number, by plural category (this project's own).
+    pub fn elements(&self) -> &PluralElements<NamePattern>
+        ensures { result.now ≡ self.now.elements }
+    {
+        &self.elements
+    }
+
     /// Writes the amount: the parts of the number, of its sign and of the name.
     ///
     /// After `Overflow` and `OutOfMemory` the sink is unchanged. `Sink` only where the sink failed

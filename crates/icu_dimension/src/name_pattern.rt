@@ -99,8 +99,8 @@ impl NamePattern {
         out.text(self.after.as_str())
     }
 
-    /// Writes a number with the name.
-    pub(crate) fn write_with<W: Writeable, K: EventWriter>(
+    /// Writes a number, or what stands in its place, with the name (this project's own).
+    pub fn write_with<W: Writeable, K: EventWriter>(
         &self,
         number: &W,
         out: &mut K,

@@ -46,6 +46,13 @@ impl<F: AbstractFormatter> PercentFormatter<F> {
         }
     }
 
+    /// The percent patterns for each sign (this project's own).
+    pub fn patterns(&self) -> &SignedPatterns
+        ensures { result.now ≡ self.now.patterns }
+    {
+        &self.patterns
+    }
+
     /// Writes a hundred times the number, exactly and without leading zeros, as a percent: the
     /// parts of the number, and those of the sign and of the percent sign.
     ///

@@ -60,6 +60,20 @@ impl<F: AbstractFormatter> UnitsFormatter<F> {
         }
     }
 
+    /// The plural rules that pick among the elements (this project's own).
+    pub fn plural_rules(&self) -> &PluralRules
+        ensures { result.now ≡ self.now.rules }
+    {
+        &self.rules
+    }
+
+    /// The elements: the patterns of the unit, by plural category (this project's own).
+    pub fn elements(&self) -> &PluralElements<Pattern<SinglePlaceholder>>
+        ensures { result.now ≡ self.now.elements }
+    {
+        &self.elements
+    }
+
     /// Writes the number with its unit: the parts of the number and of its sign. A pattern without
     /// a placeholder is written as its literal.
     ///
