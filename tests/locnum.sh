@@ -92,12 +92,14 @@ writes '-1234.5\n  -1,234.5\n  ^         minusSign\n   ^^^^^    integer\n    ^  
     --explain -1234.5
 writes '-1650\n  -1.6K\n  ^      minusSign\n  magnitude  3\n  around     1600 (50 below), 1700 (50 above)\n  entry      type 3, exponent 3\n  operands   i=1 v=1 w=1 f=6 t=6 c=0 -> other\n  pattern    {0}K\n' \
     --explain --style short -1650
-writes '0.1234\n  12.3%\n  ^^     integer\n    ^    decimal\n     ^   fraction\n      ^  percentSign\n  magnitude  -1\n' \
+writes '0.1234\n  12.3%\n  ^^     integer\n    ^    decimal\n     ^   fraction\n      ^  percentSign\n  magnitude  -1\n  pattern    {0}%\n' \
     --explain --percent --fraction 1 0.1234
-writes '1\n  1 US dollar\n  ^            integer\n    ^^^^^^^^^  currency\n  magnitude  0\n  operands   i=1 v=0 w=0 f=0 t=0 c=0 -> one\n' \
+writes '1\n  1 US dollar\n  ^            integer\n    ^^^^^^^^^  currency\n  magnitude  0\n  operands   i=1 v=0 w=0 f=0 t=0 c=0 -> one\n  pattern    {0} US dollar\n' \
     --explain --currency USD --width name --fraction 0 1
-writes '1.5\n  +$1.50\n  ^       plusSign\n   ^      currency\n    ^     integer\n     ^    decimal\n      ^^  fraction\n  magnitude  0\n' \
+writes '1.5\n  +$1.50\n  ^       plusSign\n   ^      currency\n    ^     integer\n     ^    decimal\n      ^^  fraction\n  magnitude  0\n  pattern    +${0}\n' \
     --explain --currency USD --sign always 1.5
+writes '-1650\n  -$1.6K\n  magnitude  3\n  around     1600 (50 below), 1700 (50 above)\n  entry      type 3, exponent 3\n  operands   i=1 v=1 w=1 f=6 t=6 c=0 -> other\n  pattern    -${0}K\n' \
+    --explain --currency USD --style short -1650
 lines 0 ' 5 \r\n\t-7' '5\n  5\n  ^  integer\n  magnitude  0\n-7\n  -7\n  ^   minusSign\n   ^  integer\n  magnitude  0\n' '' --explain
 lines 2 '5\nx\n7\n' '5\n  5\n  ^  integer\n  magnitude  0\nx\n  not a decimal\n' '' --explain
 lines 2 'x\n5\n' 'x\n  not a decimal\n5\n  5\n  ^  integer\n  magnitude  0\n' '' --explain --invalid fail

@@ -1,17 +1,13 @@
 //! Numbers in words or in lines of standard input, explained.
 
-ghost use Rattle.std.specs.Prelude.{◌≡◌, Ok};
-ghost use Rattle.std.specs.Str.{IsUtf8};
-ghost use Rattle.locnum_forms.specs.Making.{form_of};
-
 use crate::{Failure, joined};
 use clap::ArgMatches;
-use locnum_explain::FormExplainer;
-use locnum_forms::{Form, StartError};
+use locnum_explain::{explain_line, explain_lines};
+use locnum_forms::Form;
 use locnum_lines::{Refusals, Report};
 use locnum_options::Options;
 use std::io::{BufRead, BufReader, ErrorKind, Write};
-use std::{env, io, str};
+use std::{env, io};
 
 /// How many columns a line has at most where the environment doesn't say it.
 const COLUMNS: usize = 80;
@@ -47,25 +43,25 @@ fn reported(stops: bool, is_refused: bool) -> Report {
 fn explain_words(
     rt: &HostRuntime,
     stops: bool,
-    explainer: &FormExplainer<'_>,
+    form: &Form,
     words: &[&str],
 ) -> Result<Report, Failure> {
     let mut out = Vec::new(rt.alloc());
-    let is_refused = explainer.explain_lines(rt.alloc(), columns(rt), stops, words, &mut out)?;
+    let is_refused = explain_lines(rt.alloc(), columns(rt), stops, form, words, &mut out)?;
     put(rt, &out)?;
     Ok(reported(stops, is_refused))
 }
 
 /// Explains the number of a line.
-fn explain_line(
+fn explain_read(
     rt: &HostRuntime,
     width: usize,
     stops: bool,
-    explainer: &FormExplainer<'_>,
+    form: &Form,
     line: &[u8],
 ) -> Result<Report, Failure> {
     let mut out = Vec::new(rt.alloc());
-    let is_refused = explainer.explain_line(rt.alloc(), width, line, &mut out)?;
+    let is_refused = explain_line(rt.alloc(), width, form, line, &mut out)?;
     put(rt, &out)?;
     Ok(reported(stops, is_refused))
 }
@@ -79,11 +75,7 @@ fn failure_of_reading(error: &io::Error) -> Failure {
 }
 
 /// Explains the numbers of the lines of standard input.
-fn explain_input(
-    rt: &HostRuntime,
-    stops: bool,
-    explainer: &FormExplainer<'_>,
-) -> Result<Report, Failure> {
+fn explain_input(rt: &HostRuntime, stops: bool, form: &Form) -> Result<Report, Failure> {
     let Ok(mut reader) = BufReader::new(rt.alloc(), rt.stdin()) else {
         return Err(Failure::OutOfMemory);
     };
@@ -97,7 +89,7 @@ fn explain_input(
             Ok(_) => {}
             Err(error) => return Err(failure_of_reading(&error)),
         }
-        let ran = explain_line(rt, width, stops, explainer, &line)?;
+        let ran = explain_read(rt, width, stops, form, &line)?;
         report = joined(report, ran);
         if report.is_stopped {
             return Ok(report);
@@ -106,24 +98,16 @@ fn explain_input(
     Ok(report)
 }
 
-/// Explains the numbers among the words, or else those of standard input, in this form, which was
-/// made by the bytes of the tables.
+/// Explains the numbers among the words, or else those of standard input, in this form.
 pub(crate) fn explain_given(
     rt: &HostRuntime,
     matches: &ArgMatches<'_>,
     options: &Options<'_>,
-    file: &[u8],
     form: &Form,
-) -> Result<Report, Failure>
-    requires { IsUtf8 file.now → form_of options.now.wanted file.now ≡ Ok form.now }
-{
-    let Ok(text) = str::from_utf8(file) else {
-        return Err(Failure::Tables(StartError::NotUtf8));
-    };
-    let explainer = FormExplainer::try_new(rt.alloc(), form, &options.wanted, text)?;
+) -> Result<Report, Failure> {
     let stops = options.lines.refusals == Refusals::Abort;
     match matches.get_strs("number") {
-        Some(words) => explain_words(rt, stops, &explainer, words),
-        None => explain_input(rt, stops, &explainer),
+        Some(words) => explain_words(rt, stops, form, words),
+        None => explain_input(rt, stops, form),
     }
 }

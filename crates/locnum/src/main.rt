@@ -2,8 +2,6 @@
 #![tactic(auto)]
 
 ghost use Rattle.std.specs.Prelude.{◌≡◌, Ok};
-ghost use Rattle.std.specs.Str.{IsUtf8};
-ghost use Rattle.locnum_forms.specs.Making.{form_of};
 ghost use Rattle.locnum.specs.Endings.{is_failure, status_of};
 
 mod command;
@@ -193,19 +191,16 @@ fn failure_of(
     }
 }
 
-/// Runs what is asked for in this form, which was made by the bytes of the tables.
+/// Runs what is asked for in this form.
 fn run_formed(
     rt: &HostRuntime,
     matches: &ArgMatches<'_>,
     options: Options<'_>,
-    file: &[u8],
     form: &Form,
-) -> Result<(Refusals, Report), Failure>
-    requires { IsUtf8 file.now → form_of options.wanted file.now ≡ Ok form.now }
-{
+) -> Result<(Refusals, Report), Failure> {
     let refusals = options.lines.refusals;
     let report = if options.explain {
-        explain_given(rt, matches, &options, file, form)?
+        explain_given(rt, matches, &options, form)?
     } else {
         run_given(rt, options.lines, form, matches)?
     };
@@ -220,7 +215,7 @@ fn run_by_tables(
     file: &[u8],
 ) -> Result<(Refusals, Report), Failure> {
     match Form::make(rt.alloc(), &options.wanted, file) {
-        Ok(form) => run_formed(rt, matches, options, file, &form),
+        Ok(form) => run_formed(rt, matches, options, &form),
         Err(error) => Err(failure_of(rt, matches, file, error)),
     }
 }

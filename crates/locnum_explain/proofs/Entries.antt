@@ -5,7 +5,6 @@ use Rattle.std.proofs.Common.{subst, arith, append_assoc, ℤ, pos, ◌+ℤ◌, 
 use Rattle.std.proofs.lemmas.Bool.{cases_eq}
 use Rattle.std.proofs.lemmas.Int.{ints}
 use Rattle.std.proofs.lemmas.Option.{slice_get_cases}
-use Rattle.writeable.specs.Events.{Event}
 use Rattle.fixed_decimal.specs.Size.{finest, magnitude, magnitude_place, place, size}
 use Rattle.fixed_decimal.specs.Unsigned.{Unsigned, IsUnsigned}
 use Rattle.fixed_decimal.proofs.MagnitudePlaces.{magnitude_place-zero, magnitude_place_times}
@@ -25,9 +24,9 @@ use Rattle.icu_decimal.proofs.PowerPlaces.{place_is}
 use Rattle.decimal_lines.proofs.Displaying.{number-displayed}
 use Rattle.decimal_lines.specs.Computed.{nearest_number, significand_shown}
 use Rattle.explained_lines.specs.Around.{around_line}
-use Rattle.explained_lines.specs.Facts.{entry_line, magnitude_line, pattern_line}
+use Rattle.explained_lines.specs.Facts.{entry_line, pattern_line}
 use Rattle.explained_lines.specs.Operands.{operands_line}
-use Rattle.locnum_explain.specs.Compact.{HasParts, displayed_lines, entry_lines, marked_lines, showable_line, written_lines}
+use Rattle.locnum_explain.specs.Compact.{displayed_lines, entry_lines, showable_line}
 
 -- the pattern of an entry that there is
 pub pattern-at : (table : List TableEntry) (i : ℕ) (operands : Operands) (category : PluralCategory) (p : PatternText) → i < length table
@@ -37,14 +36,12 @@ pattern-at table i operands category p h is =
     (subst (λ (e : Option TableEntry). IfSome e (λ e. p ≡ selected e.elements operands category)) got is))
     (λ (past, got). absurd (omega arith)) (slice_get_cases table i).1
 
--- the pattern that a table picks is that of its format
-pub pattern-picked : (format formatter : CompactFormat) (rules : List Rule) (table : List TableEntry) (s : Unsigned) (index : Option ℕ) (i : ℕ)
-    (o : Operands) (p : PatternText) → formatter ≡ format → HasParts formatter rules table → index ≡ Some i → IsIndex format.table index
+-- the pattern that a table picks by rules is that of a format with both
+pub pattern-picked : (format : CompactFormat) (rules : List Rule) (table : List TableEntry) (s : Unsigned) (index : Option ℕ) (i : ℕ)
+    (o : Operands) (p : PatternText) → rules ≡ format.rules → table ≡ format.table → index ≡ Some i → IsIndex format.table index
     → o ≡ operands_of s 0 → IfSome (slice_get table i) (λ e. p ≡ selected e.elements o (category_of rules o))
     → p ≡ pattern_of format (entry_at format.table index) s
-pattern-picked format formatter rules table s index i o p same parts at is operands picked =
-    let rules_are : rules ≡ format.rules = parts.rules_are ∙ ap (λ (f : CompactFormat). f.rules) same in
-    let table_is : table ≡ format.table = parts.table_is ∙ ap (λ (f : CompactFormat). f.table) same in
+pattern-picked format rules table s index i o p rules_are table_is at is operands picked =
     let inside : i < length format.table = subst (λ (k : Option ℕ). IsIndex format.table k) at is in
     let here : IfSome (slice_get format.table i) (λ e. p ≡ selected e.elements o (category_of rules o)) =
     subst (λ (t : List TableEntry). IfSome (slice_get t i) (λ e. p ≡ selected e.elements o (category_of rules o))) table_is picked in
@@ -56,14 +53,12 @@ pattern-picked format formatter rules table s index i o p same parts at is opera
     ∙ ap (λ (k : Option ℕ). pattern_of format (entry_at format.table k) s) (sym at)
 
 -- the lines of an entry, one behind the other
-pub entry_lines-appended : (format formatter : CompactFormat) (rules : List Rule) (table : List TableEntry) (m : ℕ) (s : Unsigned) (index : Option ℕ)
-    (old first second third : List ℕ) → formatter ≡ format → HasParts formatter rules table → entry_at table index ≡ entry_for table m
+pub entry_lines-appended : (format : CompactFormat) (rules : List Rule) (table : List TableEntry) (m : ℕ) (s : Unsigned) (index : Option ℕ)
+    (old first second third : List ℕ) → rules ≡ format.rules → table ≡ format.table → entry_at table index ≡ entry_for table m
     → first ≡ old ++ entry_line table m → second ≡ first ++ operands_line rules s
     → third ≡ second ++ pattern_line (pattern_of format (entry_at format.table index) s) → third ≡ old ++ entry_lines format m s
 unfolding entry_lines
-entry_lines-appended format formatter rules table m s index old first second third same parts found a b c =
-    let rules_are : rules ≡ format.rules = parts.rules_are ∙ ap (λ (f : CompactFormat). f.rules) same in
-    let table_is : table ≡ format.table = parts.table_is ∙ ap (λ (f : CompactFormat). f.table) same in
+entry_lines-appended format rules table m s index old first second third rules_are table_is found a b c =
     let entry : entry_at format.table index ≡ entry_for format.table m =
     subst (λ (t : List TableEntry). entry_at t index ≡ entry_for t m) table_is found in
     let last : third ≡ second ++ pattern_line (pattern_of format (entry_for format.table m) s) =
@@ -117,37 +112,14 @@ displayed-given format d number w t valid within =
     ap (λ (m : ℕ). entry_lines format m (significand_of number)) (at ∙ ap magnitude_place one.0) ∙ ap (entry_lines format (magnitude_place y)) one.2
 
 -- the line of the values around a number, by its magnitude and the exponent for that
-pub showable-at : (format formatter : CompactFormat) (d : Unsigned) (m power : ℤ) (exponent : ℕ) → formatter ≡ format → m ≡ magnitude (size d)
-    → exponent ≡ exponent_for formatter.table (place m) → place power ≡ rounding_place exponent (place m)
-    → around_line (place power) d ≡ showable_line format.table d
+pub showable-at : (table : List TableEntry) (d : Unsigned) (m power : ℤ) (exponent : ℕ) → m ≡ magnitude (size d)
+    → exponent ≡ exponent_for table (place m) → place power ≡ rounding_place exponent (place m)
+    → around_line (place power) d ≡ showable_line table d
 unfolding showable_line
-showable-at format formatter d m power exponent same is found at =
+showable-at table d m power exponent is found at =
     let p : ℕ = magnitude_place (size d) in
     let here : place m ≡ p = ap place is ∙ place_is (magnitude (size d)) p (omega (arith, ints)) in
-    let told : exponent ≡ exponent_for format.table p =
-    found ∙ ap (λ (f : CompactFormat). exponent_for f.table (place m)) same ∙ ap (exponent_for format.table) here in
-    let power_is : place power ≡ rounding_place (exponent_for format.table p) p =
-    at ∙ ap (λ (e : ℕ). rounding_place e (place m)) told ∙ ap (rounding_place (exponent_for format.table p)) here in
+    let told : exponent ≡ exponent_for table p = found ∙ ap (exponent_for table) here in
+    let power_is : place power ≡ rounding_place (exponent_for table p) p =
+    at ∙ ap (λ (e : ℕ). rounding_place e (place m)) told ∙ ap (rounding_place (exponent_for table p)) here in
     ap (λ (q : ℕ). around_line q d) power_is
-
--- the lines of a number that was formatted, one behind the other
-pub written-appended : (width : ℕ) (format : CompactFormat) (d : Unsigned) (given events : List Event) (value number : FormattedCompact)
-    (old first second third fourth : List ℕ) → given ≡ events → value ≡ number → IsCompacted format d number → IsCompactTable format.table
-    → IsUnsigned d → ¬ (ShowsPastLimits format.table (size d)) → first ≡ old ++ marked_lines width given → second ≡ first ++ magnitude_line d
-    → third ≡ second ++ showable_line format.table d
-    → fourth ≡ third ++ entry_lines format (place (magnitude_with (significand_of value) value.exponent)) (significand_of value)
-    → fourth ≡ old ++ written_lines width format d (nearest_number format.table (size d)) events
-unfolding written_lines
-written-appended width format d given events value number old first second third fourth is same w t valid within a b m c =
-    let lines : List ℕ = displayed_lines format d (nearest_number format.table (size d)) in
-    let last : fourth ≡ third ++ lines =
-    c ∙ ap (λ (v : FormattedCompact). third ++ entry_lines format (place (magnitude_with (significand_of v) v.exponent)) (significand_of v)) same
-    ∙ ap (λ (xs : List ℕ). third ++ xs) (displayed-given format d number w t valid within) in
-    let front : first ≡ old ++ marked_lines width events = a ∙ ap (λ (es : List Event). old ++ marked_lines width es) is in
-    let middle : third ≡ ((old ++ marked_lines width events) ++ magnitude_line d) ++ showable_line format.table d =
-    m ∙ ap (λ (xs : List ℕ). xs ++ showable_line format.table d) (b ∙ ap (λ (xs : List ℕ). xs ++ magnitude_line d) front) in
-    last ∙ ap (λ (xs : List ℕ). xs ++ lines) middle
-    ∙ regroup old (marked_lines width events) (magnitude_line d) (showable_line format.table d) lines
-  where
-    regroup : (o p q r s : List ℕ) → (((o ++ p) ++ q) ++ r) ++ s ≡ o ++ (((p ++ q) ++ r) ++ s)
-    regroup o p q r s = simp append_assoc

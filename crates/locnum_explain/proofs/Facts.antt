@@ -9,8 +9,10 @@ use Rattle.icu_decimal.specs.CompactFormat.{CompactFormat, FormattedCompact, IsC
 use Rattle.icu_decimal.specs.CompactNumber.{ShowsPastLimits}
 use Rattle.decimal_lines.specs.Computed.{nearest_number}
 use Rattle.decimal_lines.proofs.Displaying.{number-nearest, past-number}
-use Rattle.locnum_explain.specs.Compact.{displayed_lines, entry_lines, showable_line}
-use Rattle.locnum_explain.specs.Lines.{compact_facts}
+use Rattle.icu_dimension.specs.CompactMoney.{CompactMoney, formatter_of}
+use Rattle.fixed_decimal.specs.declared.signs.Sign.{Sign}
+use Rattle.locnum_forms.proofs.CompactMoney.{compacted-told}
+use Rattle.locnum_explain.specs.Compact.{compact_facts, displayed_lines, entry_lines, exponent_shown, frame_for, frame_line, is_past, showable_line}
 use Rattle.locnum_explain.proofs.Entries.{displayed-given}
 
 module _ (format : CompactFormat) (d : Unsigned) where
@@ -50,3 +52,29 @@ module _ (format : CompactFormat) (d : Unsigned) where
     where
       regroup : (a b c : List ℕ) → (a ++ b) ++ c ≡ a ++ (b ++ c)
       regroup a b c = simp append_assoc
+
+module _ (f : CompactMoney) (sign : Sign) (d : Unsigned) where
+  -- no pattern is told where the nearest compact number is past the limits
+  pub frame-past : ShowsPastLimits (formatter_of f sign).table (size d) → frame_line f sign d ≡ []
+  unfolding frame_line
+  frame-past past = go (is_past (formatter_of f sign).table d) refl
+    where
+      go : (b : Bool) → is_past (formatter_of f sign).table d ≡ b
+          → (if b then [] else frame_for f.patterns sign (exponent_shown (formatter_of f sign).table d)) ≡ []
+      go true e = refl
+      go false e = let large = past-number (formatter_of f sign).table (size d) past in absurd (grind (arith, nat_tests))
+
+  -- that by the exponent of the number where it is within them
+  pub frame-within : (number : FormattedCompact) → IsCompacted (formatter_of f sign) d number
+      → ¬ (ShowsPastLimits (formatter_of f sign).table (size d)) → frame_line f sign d ≡ frame_for f.patterns sign number.exponent
+  unfolding frame_line
+  frame-within number is within = go (is_past (formatter_of f sign).table d) refl
+    where
+      go : (b : Bool) → is_past (formatter_of f sign).table d ≡ b
+          → (if b then [] else frame_for f.patterns sign (exponent_shown (formatter_of f sign).table d)) ≡ frame_for f.patterns sign number.exponent
+      go true e = absurd (within (
+        nearest_number (formatter_of f sign).table (size d),
+        number-nearest (formatter_of f sign).table (size d),
+        grind (arith, nat_tests),
+      ))
+      go false e = ap (λ (n : FormattedCompact). frame_for f.patterns sign n.exponent) (compacted-told (formatter_of f sign) d number is)

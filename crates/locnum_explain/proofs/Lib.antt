@@ -1,5 +1,4 @@
 pub mod Entries
 pub mod Between
 pub mod Facts
-pub mod Made
 pub mod Lines

@@ -1,5 +1,5 @@
 -- Lines that are explained one behind the other: what was written so far, and what is left.
-use Rattle.std.proofs.Common.{◌≡◌, ℕ, suc, ◌+◌, ◌<◌, ◌≤◌, Bool, true, false, Bor, List, []}
+use Rattle.std.proofs.Common.{◌≡◌, ℕ, suc, ◌+◌, ◌<◌, ◌≤◌, Bool, true, false, Bor, List, [], subst}
 use Rattle.std.proofs.Common.{◌∷◌, ◌++◌, length, map, drop, get_or, refl, sym, ap, ◌∙◌}
 use Rattle.std.proofs.Common.{add-one, append_assoc}
 use Rattle.std.proofs.Math.Seq.{drop-cons}
@@ -42,19 +42,21 @@ module _ (width : ℕ) (stops : Bool) (form : FormData) (old out : List ℕ) (is
         regroup false b c = refl
 
     -- the line at which it stops
-    pub Explains-stops : stops ≡ true → r ≡ true → out' ≡ old ++ lines_explained width stops form all
+    pub Explains-stops : (stops && r) ≡ true → out' ≡ old ++ lines_explained width stops form all
     unfolding lines_explained
-    Explains-stops stop is_so = told
+    Explains-stops ends = told
         ∙ sym (i.written
         ∙ ap (λ (b : Bool). out ++ (if b then line_explained width form line else line_explained width form line ++ lines_explained width stops form rest))
-        (both stop (sym is ∙ is_so)))
-      where
-        both : stops ≡ true → is_line_refused form line ≡ true → (stops && is_line_refused form line) ≡ true
-        both a b = cc
+        (ap (λ (b : Bool). stops && b) (sym is) ∙ ends))
 
-    pub Explains-stops-refused : r ≡ true → true ≡ is_one_refused form all
-    Explains-stops-refused is_so = sym (i.refused ∙ ap (λ (b : Bool). is_refused || (b || is_one_refused form rest)) (sym is ∙ is_so) ∙ last is_refused)
+    pub Explains-stops-refused : (stops && r) ≡ true → true ≡ is_one_refused form all
+    Explains-stops-refused ends =
+        sym (i.refused ∙ ap (λ (b : Bool). is_refused || (b || is_one_refused form rest)) (sym is ∙ right stops r ends) ∙ last is_refused)
       where
+        right : (a b : Bool) → (a && b) ≡ true → b ≡ true
+        right true b e = e
+        right false b e = absurd cc
+
         last : (a : Bool) → (a || (true || is_one_refused form rest)) ≡ true
         last true = refl
         last false = refl
@@ -72,34 +74,28 @@ module _ (width : ℕ) (stops : Bool) (form : FormData) (old out : List ℕ) (is
         last true = refl
         last false = refl
 
+-- the texts that are lent
+abbrev pub texts : List (Bor (List ℕ)) → List (List ℕ)
+texts xs = map (λ (x : Bor (List ℕ)). x.now) xs
+
 -- the lines that are left, where one is
-pub left-one : (xs : List (Bor (List ℕ))) (i : ℕ) (d : Bor (List ℕ)) (line : List ℕ) → i < length xs → line ≡ (get_or xs i d).now
-    → drop i (map (λ (x : Bor (List ℕ)). x.now) xs) ≡ line ∷ drop (i + 1) (map (λ (x : Bor (List ℕ)). x.now) xs)
+left-one : (xs : List (Bor (List ℕ))) (i : ℕ) (d : Bor (List ℕ)) (line : List ℕ) → i < length xs → line ≡ (get_or xs i d).now
+    → drop i (texts xs) ≡ line ∷ drop (i + 1) (texts xs)
 left-one xs i d line h is =
-    let texts : List (Bor (List ℕ)) → List (List ℕ) = λ ys. map (λ (x : Bor (List ℕ)). x.now) ys in
     let first : drop i (texts xs) ≡ (get_or xs i d).now ∷ texts (drop (suc i) xs) =
     drop-map (λ (x : Bor (List ℕ)). x.now) i xs ∙ ap texts (drop-cons xs i d h) in
     let rest : texts (drop (suc i) xs) ≡ drop (suc i) (texts xs) = sym (drop-map (λ (x : Bor (List ℕ)). x.now) (suc i) xs) in
     rw add-one (first ∙ ap (λ (y : List ℕ). y ∷ texts (drop (suc i) xs)) (sym is) ∙ ap (λ (ys : List (List ℕ)). line ∷ ys) rest)
 
--- and where none is
-pub left-none : (xs : List (Bor (List ℕ))) (i : ℕ) → length xs ≤ i → drop i (map (λ (x : Bor (List ℕ)). x.now) xs) ≡ []
-left-none xs i h = drop-map (λ (x : Bor (List ℕ)). x.now) i xs
-    ∙ ap (λ (ys : List (Bor (List ℕ))). map (λ (x : Bor (List ℕ)). x.now) ys) (drop_all i xs h)
+module _ (width : ℕ) (stops : Bool) (form : FormData) (old out : List ℕ) (is_refused : Bool) (xs : List (Bor (List ℕ))) (i : ℕ)
+    (so_far : Explains width stops form old out is_refused (texts xs) (drop i (texts xs))) where
+  -- where a line is left
+  pub Explains-next : (d : Bor (List ℕ)) (line : List ℕ) → i < length xs → line ≡ (get_or xs i d).now
+      → Explains width stops form old out is_refused (texts xs) (line ∷ drop (i + 1) (texts xs))
+  Explains-next d line h is =
+      subst (λ (rest : List (List ℕ)). Explains width stops form old out is_refused (texts xs) rest) (left-one xs i d line h is) so_far
 
--- where it doesn't stop, or nothing is refused
-pub no_stop : (a b : Bool) → a ≡ false → (a && b) ≡ false
-no_stop a b e = ap (λ (x : Bool). x && b) e
-
-pub no_refusal : (a b : Bool) → b ≡ false → (a && b) ≡ false
-no_refusal true b e = e
-no_refusal false b e = refl
-
--- one is refused now, or as before
-pub now_refused : (a b c : Bool) → c ≡ true → b ≡ true → c ≡ (a || b)
-now_refused true b c e f = e
-now_refused false b c e f = e ∙ sym f
-
-pub as_before : (a b c : Bool) → c ≡ a → b ≡ false → c ≡ (a || b)
-as_before true b c e f = e
-as_before false b c e f = e ∙ sym f
+  -- and where none is
+  pub Explains-last : length xs ≤ i → Explains width stops form old out is_refused (texts xs) []
+  Explains-last h = subst (λ (rest : List (List ℕ)). Explains width stops form old out is_refused (texts xs) rest)
+      (drop-map (λ (x : Bor (List ℕ)). x.now) i xs ∙ ap texts (drop_all i xs h)) so_far

@@ -1,39 +1,19 @@
--- What a compact formatter that explains is made of, and the lines of a compact number.
-use Rattle.std.specs.Prelude.{◌≡◌, ℕ, List, ◌++◌, Result, Ok, Err, codes}
-use Rattle.writeable.specs.Events.{Event, text_of}
-use Rattle.writeable.specs.Spans.{spans}
+-- What is told of a compact number besides its text and its magnitude.
+use Rattle.std.specs.Prelude.{ℕ, Bool, ◌==◌, nat_le, List, [], ◌++◌, if◌then◌else◌, pos}
 use Rattle.fixed_decimal.specs.declared.signs.Sign.{Sign}
-use Rattle.fixed_decimal.specs.Size.{magnitude_place, size}
+use Rattle.fixed_decimal.specs.Size.{magnitude_place, size, ten_to}
 use Rattle.fixed_decimal.specs.Unsigned.{Unsigned}
-use Rattle.icu_plurals.specs.Rules.{Rule}
-use Rattle.icu_decimal_data.specs.CompactTable.{IsCompactTable, TableEntry, entry_for}
+use Rattle.icu_decimal_data.specs.CompactTable.{TableEntry, entry_for, exponent_of}
 use Rattle.icu_decimal.specs.CompactFormat.{CompactFormat, pattern_of}
 use Rattle.icu_decimal.specs.CompactNumber.{rounding_place_for}
-use Rattle.decimal_lines.specs.Alone.{compact_events}
+use Rattle.icu_decimal.specs.Displayed.{displayed_entry}
+use Rattle.icu_dimension_data.specs.Resolved.{Signed}
+use Rattle.icu_dimension.specs.CompactMoney.{CompactMoney, formatter_of}
 use Rattle.decimal_lines.specs.Computed.{nearest_number, significand_shown}
-use Rattle.decimal_lines.specs.declared.alone.TextError.{TextError}
-use Rattle.decimal_lines.specs.declared.alone.TextError.TheVariants.{NotDecimal, TooManyDigits, Overflow, OutOfMemory}
 use Rattle.explained_lines.specs.Around.{around_line}
-use Rattle.explained_lines.specs.Facts.{entry_line, magnitude_line, pattern_line}
+use Rattle.explained_lines.specs.Facts.{entry_line, pattern_line}
 use Rattle.explained_lines.specs.Operands.{operands_line}
-use Rattle.explained_lines.specs.Parts.{parts_lines}
-
--- rules and a table are those of a format
-pub record HasParts (format : CompactFormat) (rules : List Rule) (table : List TableEntry) : Type 0 where
-  pub rules_are : rules ≡ format.rules
-  pub table_is : table ≡ format.table
-  pub is_table : IsCompactTable format.table
-
--- why a text isn't explained further
-abbrev pub refusal_line : TextError → List ℕ
-refusal_line NotDecimal = codes "  not a decimal\n"
-refusal_line TooManyDigits = codes "  too many digits\n"
-refusal_line Overflow = codes "  overflow\n"
-refusal_line OutOfMemory = codes "  out of memory\n"
-
--- the text of events, with its parts
-abbrev pub marked_lines : ℕ → List Event → List ℕ
-marked_lines width events = parts_lines width (text_of events) (spans events)
+use Rattle.locnum_explain.specs.Patterns.{signed_line}
 
 -- the entry of a table for the magnitude at a place, and the operands, the category and the pattern of a significand
 unfoldable pub entry_lines : CompactFormat → ℕ → Unsigned → List ℕ
@@ -48,15 +28,29 @@ displayed_lines format d y = entry_lines format (magnitude_place y) (significand
 unfoldable pub showable_line : List TableEntry → Unsigned → List ℕ
 showable_line table d = around_line (rounding_place_for table (magnitude_place (size d))) d
 
--- what is written of a number, its magnitude, the values around it that are shown, and what it is displayed by
-unfoldable pub written_lines : ℕ → CompactFormat → Unsigned → ℕ → List Event → List ℕ
-written_lines width format d y events = marked_lines width events ++ magnitude_line d ++ showable_line format.table d ++ displayed_lines format d y
+-- whether the compact number nearest to d is past the limits
+abbrev pub is_past : List TableEntry → Unsigned → Bool
+is_past table d = nat_le (ten_to (pos 32768)) (nearest_number table (size d))
 
--- the lines of a compact number, or why there are none
-abbrev pub compact_outcome : ℕ → CompactFormat → Unsigned → Result (List Event) TextError → List ℕ
-compact_outcome width format d (Ok events) = written_lines width format d (nearest_number format.table (size d)) events
-compact_outcome width format d (Err error) = refusal_line error
+-- of a number whose nearest compact number is within the limits: the two values around it that are shown, and what it is displayed by
+unfoldable pub compact_facts : CompactFormat → Unsigned → List ℕ
+compact_facts format d =
+    if is_past format.table d then []
+    else showable_line format.table d ++ displayed_lines format d (nearest_number format.table (size d))
 
--- the lines of a decimal that a compact formatter writes
-abbrev pub compact_lines : ℕ → CompactFormat → Sign → Unsigned → List ℕ
-compact_lines width format sign d = compact_outcome width format d (compact_events format sign d)
+-- the exponent with which the compact number nearest to d is displayed
+abbrev pub exponent_shown : List TableEntry → Unsigned → ℕ
+exponent_shown table d = exponent_of (displayed_entry table (nearest_number table (size d)))
+
+-- the pattern of money around a compact number of exponent 0
+abbrev pub frame_for : Signed → Sign → ℕ → List ℕ
+frame_for patterns sign exponent = if exponent == 0 then signed_line patterns sign else []
+
+-- the pattern of money in which the compact number nearest to d stands, if it stands in one
+unfoldable pub frame_line : CompactMoney → Sign → Unsigned → List ℕ
+frame_line f sign d =
+    if is_past (formatter_of f sign).table d then [] else frame_for f.patterns sign (exponent_shown (formatter_of f sign).table d)
+
+-- what is told of a compact amount: by the compact formatter of its sign, and the pattern of money
+abbrev pub amount_facts : CompactMoney → Sign → Unsigned → List ℕ
+amount_facts f sign d = compact_facts (formatter_of f sign) d ++ frame_line f sign d

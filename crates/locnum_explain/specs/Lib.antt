@@ -1,6 +1,5 @@
 pub mod Compact
-pub mod Explained
-pub mod Showable
-pub mod Details
 pub mod Lines
+pub mod Patterns
+pub mod Showable
 pub mod Texts

@@ -2,14 +2,10 @@
 #![tactic(auto)]
 
 mod compact;
-mod details;
 mod explaining;
-mod forms;
 pub mod laws;
-mod loading;
-mod marking;
+mod patterns;
 mod texts;
 
-pub use compact::CompactExplainer;
-pub use explaining::{Explainer, explain};
-pub use forms::FormExplainer;
+pub use explaining::explain;
+pub use texts::{explain_line, explain_lines};

@@ -1,15 +1,15 @@
-//! Explanations that rows ask for, by the tables of a text.
+//! Explanations that rows ask for, by the tables of a text. What was refused memory is asked once
+//! more.
 
 use fixed_decimal::SignDisplay;
-use icu_decimal::DecimalFormatter;
-use icu_decimal::options::{CompactDecimalFormatterOptions, DecimalFormatterOptions};
-use icu_decimal::preferences::{CompactDecimalFormatterPreferences, DecimalFormatterPreferences};
-use icu_provider::{DataError, DataErrorKind, DataLocale};
-use icu_tables::{TableError, Tables};
-use locnum_explain::{CompactExplainer, Explainer, explain};
-use std::alloc::Global;
+use icu_dimension::options::{CurrencySign, Width};
+use icu_dimension_data::CurrencyCode;
+use icu_provider::DataLocale;
+use locnum_explain::{explain, explain_line, explain_lines};
+use locnum_forms::{Form, Kind, UnitWidth, Wanted};
+use std::alloc::{AllocError, Global};
 
-/// Numbers of some locales (CLDR 46).
+/// Numbers, money, percents and units of some locales (CLDR 46).
 const TABLES: &str = "{\"symbols\":[\
 {\"locale\":\"en\",\"minus\":[\"-\",\"\"],\"plus\":[\"+\",\"\"],\"decimal\":\".\",\"group\":\",\",\"numsys\":\"latn\",\"sizes\":[3,3,1]},\
 {\"locale\":\"ja\",\"minus\":[\"-\",\"\"],\"plus\":[\"+\",\"\"],\"decimal\":\".\",\"group\":\",\",\"numsys\":\"wide\",\"sizes\":[3,3,1]},\
@@ -19,131 +19,173 @@ const TABLES: &str = "{\"symbols\":[\
 [\"arab\",\"\u{660}\u{661}\u{662}\u{663}\u{664}\u{665}\u{666}\u{667}\u{668}\u{669}\"]],\
 \"rules\":[{\"locale\":\"en\",\"rules\":[[\"one\",\"i = 1 and v = 0\"]]},{\"locale\":\"fr\",\"rules\":[[\"one\",\"i = 0,1\"]]}],\
 \"short\":[{\"locale\":\"en\",\"patterns\":[[3,3,{\"other\":\"{0}K\"}],[4,3,{\"other\":\"{0}K\"}],[5,3,{\"other\":\"{0}K\"}],[6,6,{\"other\":\"{0}M\"}]]}],\
-\"long\":[{\"locale\":\"fr\",\"patterns\":[[3,3,{\"explicit_one\":\"mille\",\"other\":\"{0} mille\"}],[6,6,{\"one\":\"{0} million\",\"other\":\"{0} millions\"}]]}]}";
+\"long\":[{\"locale\":\"fr\",\"patterns\":[[3,3,{\"explicit_one\":\"mille\",\"other\":\"{0} mille\"}],[6,6,{\"one\":\"{0} million\",\"other\":\"{0} millions\"}]]}],\
+\"currency_digits\":[[\"DEFAULT\",2,2]],\
+\"percents\":[{\"locale\":\"en\",\"pattern\":\"#,##0%\",\"minus\":\"-\",\"plus\":\"+\",\"percent\":\"%\"}],\
+\"units\":[{\"locale\":\"en\",\"width\":\"long\",\"unit\":\"kilometer\",\"patterns\":{\"one\":\"{0} kilometer\",\"other\":\"{0} kilometers\"}}],\
+\"currencies\":[{\"locale\":\"en\",\"standard\":\"\u{a4}#,##0.00\",\"accounting\":\"\u{a4}#,##0.00;(\u{a4}#,##0.00)\",\"minus\":\"-\",\"plus\":\"+\",\"names\":{\"other\":\"{0} {1}\"}}],\
+\"currency_symbols\":[{\"locale\":\"en\",\"symbols\":[[\"USD\",\"$\",\"$\",{\"one\":\"US dollar\",\"other\":\"US dollars\"}]]}],\
+\"currency_compact\":[{\"locale\":\"en\",\"patterns\":[[3,3,{\"other\":\"\u{a4}0K\"}],[6,6,{\"other\":\"\u{a4}0M\"}]]}]}";
 
-/// What writes a number.
+/// What is written of a number: money in dollars, and the unit is the kilometer.
 #[derive(Clone, Copy, Debug)]
 pub(crate) enum Style {
     Plain,
     Short,
     Long,
+    Money,
+    Named,
+    Amount,
+    Percent,
+    Unit,
 }
 
-/// A style, a locale, and how many columns a line has at most.
+/// What is written, a locale, and how many columns a line has at most.
 pub(crate) type Asked = (Style, &'static str, usize);
 
-/// The tables; they are read once more if memory ran out.
-fn tables(alloc: Global) -> Result<Tables, TableError> {
-    match Tables::from_json(alloc, TABLES) {
-        Err(TableError::OutOfMemory) => Tables::from_json(alloc, TABLES),
-        answered => answered,
+/// What is explained: a text, that of a line, or those of lines, up to one that is refused or all.
+#[derive(Clone, Copy, Debug)]
+pub(crate) enum Given<'a> {
+    Text(&'a [u8]),
+    Line(&'a [u8]),
+    Lines(bool, &'a [&'a str]),
+}
+
+/// The kind of a style in a currency.
+fn kind(style: Style, code: CurrencyCode) -> Kind<'static> {
+    match style {
+        Style::Plain => Kind::Plain,
+        Style::Short => Kind::Short,
+        Style::Long => Kind::Long,
+        Style::Money => Kind::Money {
+            code,
+            width: Width::Short,
+            sign: CurrencySign::Standard,
+            is_cash: false,
+        },
+        Style::Named => Kind::MoneyNamed {
+            code,
+            is_cash: false,
+        },
+        Style::Amount => Kind::MoneyShort { code },
+        Style::Percent => Kind::Percent,
+        Style::Unit => Kind::Unit {
+            name: "kilometer",
+            width: UnitWidth::Long,
+        },
     }
 }
 
-/// The preferences for a locale.
-fn preferences(locale: &str) -> CompactDecimalFormatterPreferences {
-    CompactDecimalFormatterPreferences {
-        locale_preferences: DataLocale::try_from_str(locale).unwrap_or_default(),
-        numbering_system: None,
+/// The form that is asked for, with such signs, besides the tables.
+fn wanted((style, locale, _): Asked, sign: SignDisplay, code: CurrencyCode) -> Wanted<'static> {
+    Wanted {
+        locale: DataLocale::try_from_str(locale).unwrap_or_default(),
+        system: None,
+        grouping: None,
+        fraction: None,
+        sign,
+        kind: kind(style, code),
     }
 }
 
-/// Numbers in full.
-fn plain(alloc: Global, tables: &Tables, locale: &str) -> Result<Explainer, DataError> {
-    let prefs = DecimalFormatterPreferences::from(&preferences(locale));
-    let options = DecimalFormatterOptions::default();
-    match DecimalFormatter::try_new_unstable(alloc, tables, prefs, options) {
-        Ok(formatter) => Ok(Explainer::Plain(formatter)),
-        Err(error) => Err(error),
+/// Appends what is asked for.
+fn push(
+    alloc: Global,
+    width: usize,
+    form: &Form,
+    given: Given<'_>,
+    out: &mut Vec<u8>,
+) -> Result<bool, AllocError> {
+    match given {
+        Given::Text(text) => explain(alloc, width, form, text, out),
+        Given::Line(line) => explain_line(alloc, width, form, line, out),
+        Given::Lines(stops, lines) => explain_lines(alloc, width, stops, form, lines, out),
     }
 }
 
-/// Numbers shortened by the short patterns.
-fn short(alloc: Global, tables: &Tables, locale: &str) -> Result<Explainer, DataError> {
-    let options = CompactDecimalFormatterOptions::default();
-    match CompactExplainer::try_new_short_unstable(alloc, tables, preferences(locale), options) {
-        Ok(explainer) => Ok(Explainer::Compact(explainer)),
-        Err(error) => Err(error),
-    }
-}
-
-/// Numbers shortened by the long patterns.
-fn long(alloc: Global, tables: &Tables, locale: &str) -> Result<Explainer, DataError> {
-    let options = CompactDecimalFormatterOptions::default();
-    match CompactExplainer::try_new_long_unstable(alloc, tables, preferences(locale), options) {
-        Ok(explainer) => Ok(Explainer::Compact(explainer)),
-        Err(error) => Err(error),
-    }
-}
-
-/// What writes the numbers that a row asks for.
-fn made(alloc: Global, tables: &Tables, asked: Asked) -> Result<Explainer, DataError> {
-    match asked.0 {
-        Style::Plain => plain(alloc, tables, asked.1),
-        Style::Short => short(alloc, tables, asked.1),
-        Style::Long => long(alloc, tables, asked.1),
-    }
-}
-
-/// The same, once more if memory ran out.
-fn explainer(alloc: Global, tables: &Tables, asked: Asked) -> Result<Explainer, DataError> {
-    match made(alloc, tables, asked) {
-        Err(
-            DataError {
-                kind: DataErrorKind::OutOfMemory,
-                ..
-            },
-        ) => made(alloc, tables, asked),
-        answered => answered,
-    }
-}
-
-/// Whether a text has this explanation behind a byte; `None` where memory ran out.
+/// Whether these lines stand behind a byte, and whether a text is refused; `None` where memory ran
+/// out.
 fn is_appended(
     alloc: Global,
-    explainer: &Explainer,
-    (width, sign): (usize, SignDisplay),
-    text: &[u8],
-    want: &[u8],
+    width: usize,
+    form: &Form,
+    given: Given<'_>,
+    (want, refused): (&[u8], bool),
 ) -> Option<bool> {
     let mut out = Vec::new(alloc);
-    if out.push(b'>').is_err() || explain(alloc, width, sign, explainer, text, &mut out).is_err() {
+    if out.push(b'>').is_err() {
         return None;
     }
+    let Ok(told) = push(alloc, width, form, given, &mut out) else {
+        return None;
+    };
     match out.split_first() {
-        Some((first, rest)) => Some(*first == b'>' && rest == want),
+        Some((first, rest)) => Some(*first == b'>' && rest == want && told == refused),
         None => Some(false),
     }
 }
 
-/// Whether a text has this explanation, under a display of signs.
-pub(crate) fn is_explained_with(
+/// The same in a form; `None` where memory ran out.
+fn is_explained_by(
     alloc: Global,
-    asked: Asked,
-    sign: SignDisplay,
-    text: &[u8],
-    want: &[u8],
-) -> bool {
-    let Ok(tables) = tables(alloc) else {
-        return false;
-    };
-    let Ok(explainer) = explainer(alloc, &tables, asked) else {
-        return false;
-    };
-    let settings = (asked.2, sign);
-    match is_appended(alloc, &explainer, settings, text, want) {
-        Some(is_appended) => is_appended,
-        None => is_appended(alloc, &explainer, settings, text, want) == Some(true),
+    (wanted, width): (&Wanted<'_>, usize),
+    given: Given<'_>,
+    row: (&[u8], bool),
+) -> Option<bool> {
+    match Form::make(alloc, wanted, TABLES.as_bytes()) {
+        Ok(form) => is_appended(alloc, width, &form, given, row),
+        Err(_) => None,
     }
 }
 
-/// The same under the usual display of signs.
+/// Whether this is the explanation with such signs, and whether a text is refused.
+fn is_explained_with(
+    alloc: Global,
+    asked: Asked,
+    sign: SignDisplay,
+    given: Given<'_>,
+    row: (&[u8], bool),
+) -> bool {
+    let Ok(code) = CurrencyCode::try_from_str("USD") else {
+        return false;
+    };
+    let wanted = wanted(asked, sign, code);
+    let settings = (&wanted, asked.2);
+    match is_explained_by(alloc, settings, given, row) {
+        Some(is_explained) => is_explained,
+        None => is_explained_by(alloc, settings, given, row) == Some(true),
+    }
+}
+
+/// The same with the usual signs.
+pub(crate) fn is_explained_as(
+    alloc: Global,
+    asked: Asked,
+    given: Given<'_>,
+    row: (&[u8], bool),
+) -> bool {
+    is_explained_with(alloc, asked, SignDisplay::Auto, given, row)
+}
+
+/// Whether a text that isn't refused has this explanation with such signs.
+pub(crate) fn is_signed(
+    alloc: Global,
+    asked: Asked,
+    sign: SignDisplay,
+    text: &str,
+    want: &str,
+) -> bool {
+    let given = Given::Text(text.as_bytes());
+    is_explained_with(alloc, asked, sign, given, (want.as_bytes(), false))
+}
+
+/// The same with the usual signs.
 pub(crate) fn is_explained(alloc: Global, asked: Asked, text: &str, want: &str) -> bool {
-    is_explained_with(
-        alloc,
-        asked,
-        SignDisplay::Auto,
-        text.as_bytes(),
-        want.as_bytes(),
-    )
+    is_signed(alloc, asked, SignDisplay::Auto, text, want)
+}
+
+/// Whether a text is refused with this explanation.
+pub(crate) fn is_refused(alloc: Global, asked: Asked, text: &str, want: &str) -> bool {
+    let given = Given::Text(text.as_bytes());
+    is_explained_as(alloc, asked, given, (want.as_bytes(), true))
 }

@@ -7,6 +7,8 @@ const EN: Asked = (Style::Short, "en", 80);
 
 const FR: Asked = (Style::Long, "fr", 80);
 
+const USD: Asked = (Style::Amount, "en", 80);
+
 /// What writes, a text, and its explanation.
 const COMPACT: &[(Asked, &str, &str)] = &[
     (
@@ -54,12 +56,38 @@ const COMPACT: &[(Asked, &str, &str)] = &[
         "2000000",
         "2000000\n  2 millions\n  magnitude  6\n  around     2000000 itself\n  entry      type 6, exponent 6\n  operands   i=2 v=0 w=0 f=0 t=0 c=0 -> other\n  pattern    {0} millions\n",
     ),
-    (EN, "1e3", "1e3\n  not a decimal\n"),
 ];
 
 #[test]
 fn compact_numbers_are_explained(rt: HostRuntime) {
     for &(asked, text, want) in COMPACT {
         assert!(rt; is_explained(rt.alloc(), asked, text, want));
+    }
+}
+
+/// A compact amount, and its explanation: where the exponent is 0, it has the pattern of money besides.
+const AMOUNTS: &[(&str, &str)] = &[
+    (
+        "15127",
+        "15127\n  $15K\n  magnitude  4\n  around     15000 (127 below), 16000 (873 above)\n  entry      type 3, exponent 3\n  operands   i=15 v=0 w=0 f=0 t=0 c=0 -> other\n  pattern    ${0}K\n",
+    ),
+    (
+        "-1650",
+        "-1650\n  -$1.6K\n  magnitude  3\n  around     1600 (50 below), 1700 (50 above)\n  entry      type 3, exponent 3\n  operands   i=1 v=1 w=1 f=6 t=6 c=0 -> other\n  pattern    -${0}K\n",
+    ),
+    (
+        "999999",
+        "999999\n  $1M\n  magnitude  5\n  around     999000 (999 below), 1000000 (1 above)\n  entry      type 6, exponent 6\n  operands   i=1 v=0 w=0 f=0 t=0 c=0 -> one\n  pattern    ${0}M\n",
+    ),
+    (
+        "-999",
+        "-999\n  -$999\n  ^      minusSign\n   ^     currency\n  magnitude  2\n  around     999 itself\n  entry      none\n  operands   i=999 v=0 w=0 f=0 t=0 c=0 -> other\n  pattern    {0}\n  pattern    -${0}\n",
+    ),
+];
+
+#[test]
+fn compact_amounts_are_explained(rt: HostRuntime) {
+    for &(text, want) in AMOUNTS {
+        assert!(rt; is_explained(rt.alloc(), USD, text, want));
     }
 }

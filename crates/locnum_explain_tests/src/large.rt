@@ -1,12 +1,17 @@
 //! Numbers of many digits, explained.
 
-use crate::asked::{Asked, Style, is_explained_with};
-use fixed_decimal::SignDisplay;
+use crate::asked::{Asked, Given, Style, is_explained_as};
 use std::alloc::{AllocError, Global};
 
 const PLAIN: Asked = (Style::Plain, "en", 80);
 
 const SHORT: Asked = (Style::Short, "en", 80);
+
+const AMOUNT: Asked = (Style::Amount, "en", 80);
+
+const PERCENT: Asked = (Style::Percent, "en", 80);
+
+const UNIT: Asked = (Style::Unit, "en", 80);
 
 /// So many bytes, and a text behind them.
 fn repeated(alloc: Global, byte: u8, count: usize, behind: &[u8]) -> Result<Vec<u8>, AllocError> {
@@ -26,37 +31,54 @@ fn text_of(alloc: Global, byte: u8, count: usize, behind: &[u8]) -> Result<Vec<u
     }
 }
 
-/// Whether so many nines have an explanation that is these lines behind their text.
-fn ends_in(alloc: Global, asked: Asked, count: usize, lines: &[u8]) -> bool {
+/// Whether so many nines have an explanation that is these lines behind their text, and whether they
+/// are refused.
+fn ends_in(alloc: Global, asked: Asked, count: usize, (lines, refused): (&[u8], bool)) -> bool {
     let Ok(text) = text_of(alloc, b'9', count, b"") else {
         return false;
     };
     let Ok(want) = text_of(alloc, b'9', count, lines) else {
         return false;
     };
-    is_explained_with(alloc, asked, SignDisplay::Auto, &text, &want)
+    is_explained_as(alloc, asked, Given::Text(&text), (&want, refused))
 }
 
-/// What writes, how many nines, and the lines behind their text.
-const NINES: &[(Asked, usize, &str)] = &[
+/// What writes, how many nines, the lines behind their text, and whether they are refused.
+const NINES: &[(Asked, usize, &str, bool)] = &[
     (
         PLAIN,
         24,
         "\n  999,999,999,999,999,999,999,999\n  ^^^^^^^^^^^^^^^^^^^^^^^^^^^^^^^  integer\n     ^                             group\n         ^                         group\n             ^                     group\n                 ^                 group\n                     ^             group\n                         ^         group\n                             ^     group\n  magnitude  23\n",
+        false,
     ),
     (
         SHORT,
         24,
         "\n  1,000,000,000,000,000,000M\n  magnitude  23\n  around     more than 18 digits\n  entry      type 6, exponent 6\n  operands   i=...0 v=0 w=0 f=0 t=0 c=0 -> other\n  pattern    {0}M\n",
+        false,
     ),
-    (SHORT, 32768, "\n  overflow\n"),
-    (SHORT, 32769, "\n  too many digits\n"),
-    (PLAIN, 32769, "\n  too many digits\n"),
+    (
+        AMOUNT,
+        24,
+        "\n  $1,000,000,000,000,000,000M\n  magnitude  23\n  around     more than 18 digits\n  entry      type 6, exponent 6\n  operands   i=...0 v=0 w=0 f=0 t=0 c=0 -> other\n  pattern    ${0}M\n",
+        false,
+    ),
+    (
+        UNIT,
+        19,
+        "\n  9,999,999,999,999,999,999 kilometers\n  ^^^^^^^^^^^^^^^^^^^^^^^^^             integer\n   ^                                    group\n       ^                                group\n           ^                            group\n               ^                        group\n                   ^                    group\n                       ^                group\n  magnitude  18\n  operands   i=...999999999999999999 v=0 w=0 f=0 t=0 c=0 -> other\n  pattern    {0} kilometers\n",
+        false,
+    ),
+    (SHORT, 32768, "\n  overflow\n", true),
+    (AMOUNT, 32768, "\n  overflow\n", true),
+    (PERCENT, 32768, "\n  overflow\n", true),
+    (SHORT, 32769, "\n  too many digits\n", true),
+    (PLAIN, 32769, "\n  too many digits\n", true),
 ];
 
 #[test]
 fn many_digits_are_explained(rt: HostRuntime) {
-    for &(asked, count, lines) in NINES {
-        assert!(rt; ends_in(rt.alloc(), asked, count, lines.as_bytes()));
+    for &(asked, count, lines, refused) in NINES {
+        assert!(rt; ends_in(rt.alloc(), asked, count, (lines.as_bytes(), refused)));
     }
 }

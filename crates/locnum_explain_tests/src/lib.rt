@@ -9,6 +9,10 @@ mod compact;
 #[cfg(test)]
 mod large;
 #[cfg(test)]
+mod patterns;
+#[cfg(test)]
 mod pieces;
 #[cfg(test)]
 mod plain;
+#[cfg(test)]
+mod texts;

@@ -1,7 +1,7 @@
 //! Numbers in full, explained: parts under wide characters, in little room, and where a terminal may
 //! turn the text around; signs; texts that are refused.
 
-use crate::asked::{Asked, Style, is_explained, is_explained_with};
+use crate::asked::{Asked, Style, is_explained, is_refused, is_signed};
 use fixed_decimal::SignDisplay;
 
 const EN: Asked = (Style::Plain, "en", 80);
@@ -47,15 +47,27 @@ const PLAIN: &[(Asked, &str, &str)] = &[
         "-5",
         "-5\n  \u{61c}-\u{665}\n  minusSign  \u{61c}-\n  integer    \u{665}\n  magnitude  0\n",
     ),
-    (EN, "x", "x\n  not a decimal\n"),
-    (EN, "", "\n  not a decimal\n"),
-    (EN, "1\n2\u{7f}", "1?2?\n  not a decimal\n"),
 ];
 
 #[test]
 fn numbers_in_full_are_explained(rt: HostRuntime) {
     for &(asked, text, want) in PLAIN {
         assert!(rt; is_explained(rt.alloc(), asked, text, want));
+    }
+}
+
+/// A text that is refused, and its explanation.
+const REFUSED: &[(&str, &str)] = &[
+    ("x", "x\n  not a decimal\n"),
+    ("", "\n  not a decimal\n"),
+    ("1e3", "1e3\n  not a decimal\n"),
+    ("1\n2\u{7f}", "1?2?\n  not a decimal\n"),
+];
+
+#[test]
+fn refused_texts_are_explained(rt: HostRuntime) {
+    for &(text, want) in REFUSED {
+        assert!(rt; is_refused(rt.alloc(), EN, text, want));
     }
 }
 
@@ -81,6 +93,6 @@ const SIGNS: &[(SignDisplay, &str, &str)] = &[
 #[test]
 fn signs_are_those_that_are_shown(rt: HostRuntime) {
     for &(sign, text, want) in SIGNS {
-        assert!(rt; is_explained_with(rt.alloc(), EN, sign, text.as_bytes(), want.as_bytes()));
+        assert!(rt; is_signed(rt.alloc(), EN, sign, text, want));
     }
 }

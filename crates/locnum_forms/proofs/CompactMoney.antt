@@ -23,7 +23,7 @@ use Rattle.decimal_lines.proofs.Displaying.{displayed-told, number-nearest, past
 use Rattle.locnum_forms.specs.CompactMoney.{compact_money_events, compacted}
 
 -- the compact number that `format` makes of d is the computed one
-compacted-told : (format : CompactFormat) (d : Unsigned) (number : FormattedCompact) → IsCompacted format d number
+pub compacted-told : (format : CompactFormat) (d : Unsigned) (number : FormattedCompact) → IsCompacted format d number
     → compacted format d (nearest_number format.table (size d)) ≡ number
 compacted-told format d number is =
     let near : is.shown ≡ nearest_number format.table (size d) =

@@ -1,5 +1,5 @@
 use Rattle.std.proofs.Common.{◌≡◌, ◌++◌, map, take}
-use Rattle.locnum_explain.specs.Explained.{printable}
+use Rattle.locnum_explain.specs.Lines.{printable}
 use Rattle.locnum_explain.proofs.explaining.push_printable.Given as goal
 
 abbrev pub invariant-loop-byte : goal.invariant-loop-byte
