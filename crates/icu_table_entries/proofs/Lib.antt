@@ -1,3 +1,4 @@
 pub mod Splits
 pub mod Lists
 mod Pairs
+mod OneMember

@@ -1,6 +1,6 @@
 -- Texts for plural categories, and the patterns that they spell.
-use Rattle.std.specs.Prelude.{Option, Some, None, Result, Ok}
-use Rattle.serde_json.specs.Data.{Data}
+use Rattle.std.specs.Prelude.{Bool, true, false, Option, Some, None, Result, Ok}
+use Rattle.serde_json.specs.Data.{Data, object, Members, no_members, member}
 use Rattle.icu_pattern.specs.Patterns.{PatternText}
 use Rattle.icu_plurals.specs.Elements.{Elements}
 use Rattle.icu_table_entries.specs.PatternTexts.{Texts}
@@ -10,6 +10,17 @@ use Rattle.icu_table_entries.specs.declared.error.Key.{Key}
 use Rattle.icu_table_entries.specs.declared.error.Key.TheVariants.{ExplicitZero, ExplicitOne, Zero, One, Two, Few, Many, Other}
 use Rattle.icu_table_entries.specs.declared.error.Place.{Place}
 use Rattle.icu_table_entries.specs.declared.error.TableError.{TableError}
+
+-- whether members are one
+abbrev pub are_one : Members → Bool
+are_one no_members = false
+are_one (member name d no_members) = true
+are_one (member name d (member next e ds)) = false
+
+-- whether a value is an object with just one member
+abbrev pub has_one_member : Data → Bool
+has_one_member (object ds) = are_one ds
+has_one_member _ = false
 
 -- the texts of an object under a key, one for each plural category
 unfoldable pub category_texts_in : Key → Data → Result Texts TableError

@@ -2,10 +2,10 @@
 
 ghost use Rattle.serde_json.specs.View.{view};
 ghost use Rattle.icu_table_entries.specs.CategoryTexts.{category_texts_in, first_patterns_of, patterns_of, optional_patterns_of};
-ghost use Rattle.icu_table_entries.specs.CategoryTexts.{with_one_and_two, with_few_and_many};
+ghost use Rattle.icu_table_entries.specs.CategoryTexts.{has_one_member, with_one_and_two, with_few_and_many};
 ghost use Rattle.icu_table_entries.specs.Spelling.{optional_pattern_of};
 ghost use Rattle.icu_table_entries.specs.Reading.{Gives, ◌>>=◌ as ◌and_then◌, optional_at};
-ghost use Rattle.std.specs.Prelude.{Ok, option_map};
+ghost use Rattle.std.specs.Prelude.{◌≡◌, Ok, option_map};
 
 use crate::error::{Key, Place, TableError};
 use crate::fields::{object_in, optional_text_at, text_at};
@@ -49,7 +49,23 @@ impl<'a> Model for Texts<'a> {
 
 impl<'a> Texts<'a> {
     ghost use Rattle.std.specs.Prelude.{◌≡◌};
-    ghost use Rattle.icu_table_entries.specs.PatternTexts.{texts_lent};
+    ghost use Rattle.icu_table_entries.specs.PatternTexts.{only_other, texts_lent};
+
+    /// A text for the category other alone.
+    fn of_other(other: &'a str) -> Self
+        ensures { result ≡ only_other other.now }
+    {
+        Texts {
+            explicit_zero: None,
+            explicit_one: None,
+            zero: None,
+            one: None,
+            two: None,
+            few: None,
+            many: None,
+            other,
+        }
+    }
 
     /// The texts by plural category.
     pub fn elements(&self) -> PluralElements<&'a str>
@@ -66,13 +82,28 @@ impl<'a> Texts<'a> {
     }
 }
 
-/// The texts of an object.
+/// Whether an object has just one member.
+#[tactic(auto, using(crate::proofs::OneMember::one_member_rules))]
+fn has_one_member(value: &Value) -> bool
+    ensures { result ≡ has_one_member (view value.now) }
+{
+    match value.as_object() {
+        Some(members) => members.len() == 1,
+        None => false,
+    }
+}
+
+/// The texts of an object. Where the one for all other numbers is all that it has, no other is
+/// looked for.
 #[tactic(auto, unfolding(crate::specs::CategoryTexts::category_texts_in))]
 pub fn category_texts_in(value: &Value, key: Key) -> Result<Texts<'_>, TableError>
     ensures { Gives (λ x. x) result (category_texts_in key (view value.now)) }
 {
     let value = object_in(value, key)?;
     let other = text_at(value, Key::Other)?;
+    if has_one_member(value) {
+        return Ok(Texts::of_other(other));
+    }
     Ok(Texts {
         explicit_zero: optional_text_at(value, Key::ExplicitZero)?,
         explicit_one: optional_text_at(value, Key::ExplicitOne)?,

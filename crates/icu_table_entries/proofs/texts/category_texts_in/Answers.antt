@@ -1,6 +1,7 @@
 -- Goals that a search finds; it is not tried longer where one is false.
-use Rattle.std.proofs.Common.{rules}
+use Rattle.std.proofs.Common.{sym, ◌∙◌, rules}
 use Rattle.icu_table_entries.specs.CategoryTexts.{category_texts_in}
+use Rattle.icu_table_entries.proofs.OneMember.{only_other-lent}
 use Rattle.icu_table_entries.proofs.texts.category_texts_in.Goals as goal
 
 pub returns : goal.returns
@@ -42,3 +43,8 @@ returns-in_err-other c = search rules
 pub returns-in_err-value : goal.returns-in_err-value
 unfolding category_texts_in
 returns-in_err-value c = search rules
+
+pub returns-then-has_one_member : goal.returns-then-has_one_member
+returns-then-has_one_member c =
+    rw c.of_other.ensures (only_other-lent c.args.key c.in_ok-other.other.now _ _ c.in_ok-value.ensures (sym c.has_one_member.ensures ∙ c.if-has_one_member.true)
+    c.in_ok-other.ensures)
