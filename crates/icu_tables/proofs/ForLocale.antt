@@ -1,12 +1,11 @@
 -- The tables that are read for one locale.
--- The loops go forwards, and `entries_at` and the grammar's `members` recurse on what is left. So the invariants `GoesOn` and `ReadsOn` are
--- about every rest: however it is read, the whole is read as what was read so far and then that; at the end the rest is empty. `ReadsOn`
--- also counts the steps that the grammar's bound still allows. Of each list the entries of the locale are kept, and by induction on it the
--- first entry with an identifier of the locale is among them (`first_filed-filter`). A member of a document replaces an earlier one of the
--- same name: what is kept under its own key comes from serde_json's `get_member-put`, what is kept under the other four keys from its
--- `get_member-put_other`.
-use Rattle.std.proofs.Common.{◌≡◌, ℕ, ◌+◌, ◌-◌, ◌<◌, ◌≤◌, Bool, true, false, List, [], ◌∷◌, ◌++◌, length, Option}
-use Rattle.std.proofs.Common.{Some, None, option_map, Result, Ok, Err, nat_eq, refl, sym, ap, ◌∙◌, cond, true≢false, arith, append_assoc}
+-- The loop goes forwards, and `entries_at` recurses on what is left. So the invariant `GoesOn` is about every rest: however it
+-- is read, the whole is read as what was read so far and then that; at the end the rest is empty. Of each list the entries of the
+-- locale are kept, and by induction on it the first entry with an identifier of the locale is among them (`first_filed-filter`).
+-- A member of a document replaces an earlier one of the same name: what is kept under its own key comes from serde_json's
+-- `get_member-put`, what is kept under the other four keys from its `get_member-put_other`.
+use Rattle.std.proofs.Common.{◌≡◌, ℕ, ◌+◌, ◌<◌, Bool, true, false, List, [], ◌∷◌, ◌++◌, length, Option}
+use Rattle.std.proofs.Common.{Some, None, option_and_then, Result, Ok, Err, nat_eq, refl, sym, ap, ◌∙◌, cond, true≢false, arith, append_assoc}
 use Rattle.std.proofs.Math.Bool.{and-false}
 use Rattle.std.proofs.lemmas.Cmp.{nat_list_eq_equiv}
 use Rattle.std.proofs.lemmas.List.{append-nil}
@@ -17,12 +16,11 @@ use Rattle.std.specs.List.{filter}
 use Rattle.json.specs.Lex.{tokens}
 use Rattle.json.specs.Token.{Token}
 use Rattle.json.specs.Json as json
-use Rattle.json.specs.Json.{read_key}
-use Rattle.json.specs.Value.{items_of as borrowed_items_of}
-use Rattle.json.proofs.Grammar.{members_end, members_more, read_key-shorter, value-begin_object}
-use Rattle.serde_json.specs.Data.{Data, array, object, Members, no_members, put}
+use Rattle.json.specs.Json.{after_end_array, read_key}
+use Rattle.json.proofs.Grammar.{read_key-shorter}
+use Rattle.serde_json.specs.Data.{Data, array, object, Members, put}
 use Rattle.serde_json.specs.Find.{get_member}
-use Rattle.serde_json.specs.Read.{of_json, of_members, read as read_text}
+use Rattle.serde_json.specs.Read.{converted, of_json, read as read_text}
 use Rattle.serde_json.specs.View.{items_of}
 use Rattle.serde_json.specs.Written.{has_float, members_have_float}
 use Rattle.serde_json.proofs.Views.{get_member-put, get_member-put_other}
@@ -31,12 +29,12 @@ use Rattle.icu_decimal_data.specs.CompactTable.{TableEntry}
 use Rattle.icu_plurals.specs.Rules.{Rule}
 use Rattle.icu_provider.specs.Identifier.{Identifier}
 use Rattle.icu_table_entries.specs.Answering.{filed_answer, optional_answer, or_not_found}
-use Rattle.icu_tables.specs.ForLocale.{Adds, AnswersAs, AreEntries, FoundData, Holds, HoldsAt, IsFor, IsOnce, IsServed, AreMembersOf}
+use Rattle.icu_tables.specs.ForLocale.{Adds, AnswersAs, AreEntries, FoundData, Holds, HoldsAt, IsFor, IsOnce, IsServed}
 use Rattle.icu_tables.specs.Compact.{compact_at}
 use Rattle.icu_tables.specs.Digits.{SystemDigits, digits_at, system_answer}
 use Rattle.icu_table_entries.specs.Keys.{name_of}
 use Rattle.icu_table_entries.specs.Named.{NamedEntry, first_filed, is_of}
-use Rattle.icu_tables.specs.Owned.{AreItems, Is}
+use Rattle.icu_tables.specs.Owned.{AreMembersOf, IsValue}
 use Rattle.icu_table_entries.specs.Reading.{◌>>=◌, entries_at, entries_in, entries_under, list_in, member_at, object_in, ok_or, optional, optional_at}
 use Rattle.icu_tables.specs.Rules.{rules_at}
 use Rattle.icu_tables.specs.Symbols.{symbols_at}
@@ -47,7 +45,9 @@ use Rattle.icu_table_entries.specs.declared.error.Place.{Place}
 use Rattle.icu_table_entries.specs.declared.error.TableError.{TableError}
 use Rattle.icu_table_entries.specs.declared.error.TableError.TheVariants.{NotJson}
 use Rattle.icu_table_entries.proofs.Lists.{list_of-items_of}
-use Rattle.icu_tables.proofs.OwnedData.{AreItems-item, members_have_float-put}
+use Rattle.icu_tables.proofs.OwnedData.{IsValue-shorter, ItemsGoOn, ItemsGoOn-start, ItemsGoOn-item, ItemsGoOn-end, MembersGoOn}
+use Rattle.icu_tables.proofs.OwnedData.{MembersGoOn-member, members_have_float-put, object_read, owned_list}
+use Rattle.icu_tables.proofs.Turns.{converted_some}
 
 -- ---- entries that are kept
 
@@ -55,51 +55,53 @@ use Rattle.icu_tables.proofs.OwnedData.{AreItems-item, members_have_float-put}
 abbrev pub kept_by : {A : Type 0} → Bool → A → List A
 kept_by b x = cond b (x ∷ []) []
 
--- the entries of borrowed items, from an index on
-abbrev pub AreRead : {A : Type 0} → (Place → Data → Result A TableError) → Key → ℕ → List json.Json → List Data → List A → Type 0
-AreRead read key i js ds xs = AreItems (borrowed_items_of js) (items_of ds) × (entries_at read key i ds ≡ Ok xs)
+-- an entry that serves is kept, and one that doesn't isn't
+pub kept_if : {A : Type 0} (xs : List A) (x : A) (b : Bool) → b ≡ true → xs ++ x ∷ [] ≡ xs ++ kept_by b x
+kept_if xs x b serves = rw serves refl
+
+pub kept_unless : {A : Type 0} (xs : List A) (x : A) (b : Bool) → b ≡ false → xs ≡ xs ++ kept_by b x
+kept_unless xs x b serves = rw serves (sym (append-nil xs))
 
 -- What was read and kept so far: whatever the items from the index on are, they go on with it.
-abbrev pub GoesOn : {A : Type 0} → (Place → Data → Result A TableError) → (A → Bool) → Key → List json.Json → ℕ → List json.Json
+abbrev pub GoesOn : {A : Type 0} → (Place → Data → Result A TableError) → (A → Bool) → Key → List Token → ℕ → List Token
     → List A → Type 0
-GoesOn {A} read serves key all i left kept =
-    (before : List Data) × (front : List A) × (kept ≡ filter serves front)
-    × ((ds : List Data) (xs : List A) → AreRead read key i left ds xs → AreRead read key 0 all (before ++ ds) (front ++ xs))
+GoesOn {A} read serves key start i ts kept =
+    (before : List Data) × (front : List A) × (kept ≡ filter serves front) × ItemsGoOn 125 start ts before
+    × ((ds : List Data) (xs : List A) → entries_at read key i ds ≡ Ok xs → entries_at read key 0 (before ++ ds) ≡ Ok (front ++ xs))
 
-module _ {A : Type 0} (read : Place → Data → Result A TableError) (serves : A → Bool) (key : Key) where
+module _ {A : Type 0} (read : Place → Data → Result A TableError) (serves : A → Bool) (key : Key) (start : List Token) where
   -- before the first entry nothing was read
-  pub begins : (all : List json.Json) → GoesOn read serves key all 0 all []
-  begins all = ([], [], refl, λ ds xs are. are)
+  pub begins : GoesOn read serves key start 0 start []
+  begins = ([], [], refl, ItemsGoOn-start 125 start, λ ds xs are. are)
 
   -- an entry more in front of those that are left
-  entry_first : (i : ℕ) (j : json.Json) (js : List json.Json) (d : Data) (x : A) (ds : List Data) (xs : List A)
-      → Is j d → read (record { key = key; index = i }) d ≡ Ok x → AreRead read key (i + 1) js ds xs
-      → AreRead read key i (j ∷ js) (d ∷ ds) (x ∷ xs)
+  entry_first : (i : ℕ) (d : Data) (x : A) (ds : List Data) (xs : List A) → read (record { key = key; index = i }) d ≡ Ok x
+      → entries_at read key (i + 1) ds ≡ Ok xs → entries_at read key i (d ∷ ds) ≡ Ok (x ∷ xs)
   unfolding entries_at
-  entry_first i j js d x ds xs is reads rest = (AreItems-item j js d ds is rest.0, rw (reads, rest.1) refl)
+  entry_first i d x ds xs reads rest = rw (reads, rest) refl
 
   -- an entry is read, and kept if it serves
-  pub one_more : (all : List json.Json) (i : ℕ) (j : json.Json) (left : List json.Json) (kept : List A) (d : Data) (x : A)
-      → Is j d → read (record { key = key; index = i }) d ≡ Ok x → GoesOn read serves key all i (j ∷ left) kept
-      → GoesOn read serves key all (i + 1) left (kept ++ kept_by (serves x) x)
-  one_more all i j left kept d x is reads (before, front, same, goes_on) =
-      let go : (ds : List Data) (xs : List A) → AreRead read key (i + 1) left ds xs
-      → AreRead read key 0 all ((before ++ d ∷ []) ++ ds) ((front ++ x ∷ []) ++ xs) =
+  pub one_more : (i : ℕ) (ts r : List Token) (kept : List A) (d : Data) (x : A) → after_end_array ts ≡ None → IsValue 125 ts d r
+      → read (record { key = key; index = i }) d ≡ Ok x → GoesOn read serves key start i ts kept
+      → GoesOn read serves key start (i + 1) r (kept ++ kept_by (serves x) x)
+  one_more i ts r kept d x more is reads (before, front, same, items, goes_on) =
+      let go : (ds : List Data) (xs : List A) → entries_at read key (i + 1) ds ≡ Ok xs
+      → entries_at read key 0 ((before ++ d ∷ []) ++ ds) ≡ Ok ((front ++ x ∷ []) ++ xs) =
       λ ds xs rest. rw (
         append_assoc before (d ∷ []) ds,
         append_assoc front (x ∷ []) xs,
-      ) (goes_on (d ∷ ds) (x ∷ xs) (entry_first i j left d x ds xs is reads rest)) in
+      ) (goes_on (d ∷ ds) (x ∷ xs) (entry_first i d x ds xs reads rest)) in
       let kept_too : kept ++ kept_by (serves x) x ≡ filter serves (front ++ x ∷ []) = rw (filter-append serves front (x ∷ []), same) refl in
-      (before ++ d ∷ [], front ++ x ∷ [], kept_too, go)
+      (before ++ d ∷ [], front ++ x ∷ [], kept_too, ItemsGoOn-item 125 start ts r before d more is items, go)
 
   -- behind the last entry the list is read
-  pub all_read : (all : List json.Json) (i : ℕ) (kept : List A) → GoesOn read serves key all i [] kept
-      → AreEntries read serves key (json.array (borrowed_items_of all)) kept
+  pub all_read : (i : ℕ) (ts r : List Token) (kept : List A) → after_end_array ts ≡ Some r → GoesOn read serves key start i ts kept
+      → AreEntries read serves key (Token.begin_array ∷ start) kept r
   unfolding entries_at entries_in list_in
-  all_read all i kept (before, front, same, goes_on) =
-      let whole : AreRead read key 0 all (before ++ []) (front ++ []) = goes_on [] [] ((refl, refl), refl) in
-      let ended = rw (append-nil before, append-nil front) at whole in
-      (array (items_of before), (rw ended.0.0 refl, ended.0.1), (front, rw (list_of-items_of before) ended.1, same))
+  all_read i ts r kept closed (before, front, same, items, goes_on) =
+      let are = ItemsGoOn-end 125 start ts r before closed items in
+      let ended = rw (append-nil before, append-nil front) at (goes_on [] [] refl) in
+      (array (items_of before), owned_list 126 start (items_of before) r (omega arith) are, (front, rw (list_of-items_of before) ended, same))
 
 -- ---- members
 
@@ -143,54 +145,22 @@ module _ {A : Type 0} (locale : List ℕ) (id : Identifier) (same : id.locale �
   first_filed-filter [] = refl
   first_filed-filter (e ∷ es) = first_kept (is_of locale e) e es refl (first_filed-filter es)
 
--- ---- members, one after another
+-- ---- the whole text
 
--- whatever the members are that are left, those from the start are as if they were put to what was read
-abbrev pub ReadsOn : Members → List Token → List Token → Type 0
-ReadsOn ds ts start =
-    (n : ℕ) × (length ts ≤ n)
-    × ((left : json.Members) (rest : List Token) → json.members (json.value 126) n ts ≡ Some (left, rest)
-    → (ms : json.Members) × (json.members (json.value 126) (length start) start ≡ Some (ms, rest)) × (of_members ms no_members ≡ of_members left ds))
-
--- before the first member nothing was read
-pub ReadsOn-start : (start : List Token) → ReadsOn no_members start start
-ReadsOn-start start = (length start, omega arith, λ left rest all. (left, all, refl))
-
--- a member in front of those that are left is put to what was read
-put_first : (ds : Members) (k : List ℕ) (j : json.Json) (d : Data) (left : json.Members) → of_json j ≡ Some d
-    → of_members (json.member k j left) ds ≡ of_members left (put k d ds)
-put_first ds k j d left is = rw is refl
-
--- a member is read and put
-pub ReadsOn-member : (ds : Members) (ts s r start : List Token) (k : List ℕ) (j : json.Json) (d : Data)
-    → read_key ts ≡ Some (Some k, s) → json.value 126 s ≡ Some (j, r) → length r < length s → of_json j ≡ Some d → ReadsOn ds ts start
-    → ReadsOn (put k d ds) r start
-ReadsOn-member ds ts s r start k j d key value shorter is (n, enough, goes_on) =
-    let fewer : length s < length ts = read_key-shorter ts (Some k) s key in
-    let some : 0 < n = omega arith in
-    let enough_left : length r ≤ n - 1 = omega arith in
-    let go : (left : json.Members) (rest : List Token) → json.members (json.value 126) (n - 1) r ≡ Some (left, rest)
-    → (ms : json.Members) × (json.members (json.value 126) (length start) start ≡ Some (
-      ms,
-      rest,
-    )) × (of_members ms no_members ≡ of_members left (put k d ds)) =
-    λ left rest all.
-    let found = goes_on (json.member k j left) rest (members_more (json.value 126) n k ts s r j some key value
-    ∙ ap (json.parse_map (json.member k j)) all) in
-    (found.0, found.1, found.2 ∙ put_first ds k j d left is) in
-    (n - 1, enough_left, go)
-
--- behind the last member all are read
-pub ReadsOn-end : (ds : Members) (ts r start : List Token) → read_key ts ≡ Some (None, r) → ReadsOn ds ts start → AreMembersOf start ds r
-ReadsOn-end ds ts r start key (n, enough, goes_on) = goes_on json.no_members r (members_end (json.value 126) n ts r enough key)
+-- what is read is all that there is
+all_of : (o : Option (json.Json × List Token)) (d : Data) → converted of_json o ≡ Some (d, [])
+    → option_and_then of_json (option_and_then (λ p. json.if_last p.0 p.1) o) ≡ Some d
+all_of o d is =
+    let j = converted_some of_json o d [] is in
+    ap (λ p. option_and_then of_json (option_and_then (λ q. json.if_last q.0 q.1) p)) j.1 ∙ j.2
 
 -- an object that is all that a text has
-pub whole_object : (text : List ℕ) (ts : List Token) (ds : Members) → tokens text ≡ Token.begin_object ∷ ts → AreMembersOf ts ds []
+pub whole_object : (text : List ℕ) (ts : List Token) (ds : Members) → tokens text ≡ Token.begin_object ∷ ts → AreMembersOf 126 ts ds []
     → read_text text ≡ Some (object ds)
-whole_object text ts ds first (ms, inside, are) =
-    let opened : json.value 127 (tokens text) ≡ Some (json.object ms, []) =
-    ap (json.value 127) first ∙ value-begin_object 127 ts (omega arith) ∙ ap (json.parse_map json.object) inside in
-    rw opened (ap (option_map object) are)
+whole_object text ts ds first are =
+    let opened : converted of_json (json.value 127 (tokens text)) ≡ Some (object ds, []) =
+    ap (λ us. converted of_json (json.value 127 us)) first ∙ object_read 127 ts ds [] (omega arith) are in
+    all_of (json.value 127 (tokens text)) (object ds) opened
 
 -- ---- the tables of what was kept
 
@@ -244,10 +214,10 @@ adds_other locale name d ds f none symbols digits rules short long holds = recor
   whole = members_have_float-put name d ds none holds.whole;
 }
 
-module _ (locale : List ℕ) (j : json.Json) (f : FoundData) where
+module _ (locale : List ℕ) (ts : List Token) (f : FoundData) (rest : List Token) where
   -- the first member with symbols
   pub adds_symbols : (name : List ℕ) (slot : Option (List (NamedEntry DecimalSymbols))) → name ≡ name_of Symbols
-      → IsOnce symbols_at (is_of locale) Symbols j f.symbols slot → Adds locale name j f (record f { symbols = slot })
+      → IsOnce symbols_at (is_of locale) Symbols ts f.symbols slot rest → Adds locale name ts f (record f { symbols = slot }) rest
   adds_symbols name slot named (fresh, kept, same, (d, is, served)) = rw named (
     d,
     is,
@@ -263,7 +233,7 @@ module _ (locale : List ℕ) (j : json.Json) (f : FoundData) where
 
   -- the first member with digits
   pub adds_digits : (name : List ℕ) (slot : Option (List (SystemDigits))) → name ≡ name_of Digits
-      → IsOnce digits_at (λ entry. true) Digits j f.digits slot → Adds locale name j f (record f { digits = slot })
+      → IsOnce digits_at (λ entry. true) Digits ts f.digits slot rest → Adds locale name ts f (record f { digits = slot }) rest
   adds_digits name slot named (fresh, kept, same, (d, is, served)) = rw named (
     d,
     is,
@@ -279,7 +249,7 @@ module _ (locale : List ℕ) (j : json.Json) (f : FoundData) where
 
   -- the first member with rules
   pub adds_rules : (name : List ℕ) (slot : Option (List (NamedEntry (List Rule)))) → name ≡ name_of Rules
-      → IsOnce rules_at (is_of locale) Rules j f.rules slot → Adds locale name j f (record f { rules = slot })
+      → IsOnce rules_at (is_of locale) Rules ts f.rules slot rest → Adds locale name ts f (record f { rules = slot }) rest
   adds_rules name slot named (fresh, kept, same, (d, is, served)) = rw named (
     d,
     is,
@@ -295,7 +265,7 @@ module _ (locale : List ℕ) (j : json.Json) (f : FoundData) where
 
   -- the first member with short patterns
   pub adds_short : (name : List ℕ) (slot : Option (List (NamedEntry (List TableEntry)))) → name ≡ name_of Short
-      → IsOnce compact_at (is_of locale) Short j f.short slot → Adds locale name j f (record f { short = slot })
+      → IsOnce compact_at (is_of locale) Short ts f.short slot rest → Adds locale name ts f (record f { short = slot }) rest
   adds_short name slot named (fresh, kept, same, (d, is, served)) = rw named (
     d,
     is,
@@ -311,7 +281,7 @@ module _ (locale : List ℕ) (j : json.Json) (f : FoundData) where
 
   -- the first member with long patterns
   pub adds_long : (name : List ℕ) (slot : Option (List (NamedEntry (List TableEntry)))) → name ≡ name_of Long
-      → IsOnce compact_at (is_of locale) Long j f.long slot → Adds locale name j f (record f { long = slot })
+      → IsOnce compact_at (is_of locale) Long ts f.long slot rest → Adds locale name ts f (record f { long = slot }) rest
   adds_long name slot named (fresh, kept, same, (d, is, served)) = rw named (
     d,
     is,
@@ -326,12 +296,17 @@ module _ (locale : List ℕ) (j : json.Json) (f : FoundData) where
   )
 
 -- what is found is of one member more, and the others go on with it
-pub members_step : (locale : List ℕ) (before after : FoundData) (ts s r start : List Token) (k : List ℕ) (j : json.Json)
-    → ((ds : Members) × Holds locale ds before × ReadsOn ds ts start) → read_key ts ≡ Some (Some k, s) → json.value 126 s ≡ Some (j, r)
-    → length r < length s
-    → Adds locale k j before after → (ds : Members) × Holds locale ds after × ReadsOn ds r start
-members_step locale before after ts s r start k j (ds, holds, on) key value shorter (d, is, adds) =
-    (put k d ds, adds ds holds, ReadsOn-member ds ts s r start k j d key value shorter is.0 on)
+pub members_step : (locale : List ℕ) (before after : FoundData) (ts s r start : List Token) (k : List ℕ)
+    → ((ds : Members) × Holds locale ds before × MembersGoOn 126 start ts ds) → read_key ts ≡ Some (Some k, s) → Adds locale k s before after r
+    → (ds : Members) × Holds locale ds after × MembersGoOn 126 start r ds
+members_step locale before after ts s r start k (ds, holds, on) key (d, is, adds) =
+    (put k d ds, adds ds holds, MembersGoOn-member 126 start ds ts s r k d key is on)
+
+-- a member that is added takes a token at least
+pub members_smaller : (locale : List ℕ) (before after : FoundData) (ts s r : List Token) (k : List ℕ) → read_key ts ≡ Some (Some k, s)
+    → Adds locale k s before after r → length r < length ts
+members_smaller locale before after ts s r k key (d, is, adds) =
+    omega (arith, read_key-shorter ts (Some k) s key, IsValue-shorter 126 s d r is)
 
 -- the tables of members of which each list was read
 tables_read : (ds : Members) (s g : Data) (symbols : List (NamedEntry DecimalSymbols)) (digits : List SystemDigits)

@@ -1,11 +1,9 @@
 -- The tables that are read for one locale.
-use Rattle.std.specs.Prelude.{◌≡◌, ℕ, length, Bool, false, true, List, Option, Some, None, Result, Ok, Err}
+use Rattle.std.specs.Prelude.{◌≡◌, ℕ, Bool, false, true, List, Option, Some, None, Result, Ok, Err}
 use Rattle.std.specs.List.{filter}
 use Rattle.json.specs.Token.{Token}
-use Rattle.json.specs.Json as json
-use Rattle.serde_json.specs.Data.{Data, Members, no_members, put}
+use Rattle.serde_json.specs.Data.{Data, Members, put}
 use Rattle.serde_json.specs.Find.{get_member}
-use Rattle.serde_json.specs.Read.{of_members}
 use Rattle.serde_json.specs.Written.{members_have_float}
 use Rattle.icu_decimal_data.specs.declared.decimal_symbols.DecimalSymbols.{DecimalSymbols}
 use Rattle.icu_decimal_data.specs.CompactTable.{TableEntry}
@@ -16,7 +14,7 @@ use Rattle.icu_tables.specs.Compact.{compact_at}
 use Rattle.icu_tables.specs.Digits.{SystemDigits, digits_at, system_answer}
 use Rattle.icu_table_entries.specs.Keys.{name_of}
 use Rattle.icu_table_entries.specs.Named.{NamedEntry, is_of}
-use Rattle.icu_tables.specs.Owned.{Is}
+use Rattle.icu_tables.specs.Owned.{IsValue}
 use Rattle.icu_table_entries.specs.Reading.{Fails, entries_in}
 use Rattle.icu_tables.specs.Rules.{rules_at}
 use Rattle.icu_tables.specs.Symbols.{symbols_at}
@@ -47,14 +45,15 @@ GivesFor locale (Err e) read = Fails e read
 abbrev pub IsServed : {A : Type 0} → (Place → Data → Result A TableError) → (A → Bool) → Key → Data → List A → Type 0
 IsServed {A} read serves key d kept = (all : List A) × (entries_in read key d ≡ Ok all) × (kept ≡ filter serves all)
 
--- the same of a borrowed value, all of whose numbers are whole
-abbrev pub AreEntries : {A : Type 0} → (Place → Data → Result A TableError) → (A → Bool) → Key → json.Json → List A → Type 0
-AreEntries read serves key j kept = (d : Data) × Is j d × IsServed read serves key d kept
+-- the same of the value in front of tokens, and what stands behind it
+abbrev pub AreEntries : {A : Type 0} → (Place → Data → Result A TableError) → (A → Bool) → Key → List Token → List A → List Token → Type 0
+AreEntries read serves key ts kept rest = (d : Data) × IsValue 126 ts d rest × IsServed read serves key d kept
 
 -- the same, where nothing was before
-abbrev pub IsOnce : {A : Type 0} → (Place → Data → Result A TableError) → (A → Bool) → Key → json.Json → Option (List A)
-    → Option (List A) → Type 0
-IsOnce {A} read serves key j before after = (before ≡ None) × (kept : List A) × (after ≡ Some kept) × AreEntries read serves key j kept
+abbrev pub IsOnce : {A : Type 0} → (Place → Data → Result A TableError) → (A → Bool) → Key → List Token → Option (List A)
+    → Option (List A) → List Token → Type 0
+IsOnce {A} read serves key ts before after rest =
+    (before ≡ None) × (kept : List A) × (after ≡ Some kept) × AreEntries read serves key ts kept rest
 
 -- what is kept of a member, or that there is none
 abbrev pub HoldsAt : {A : Type 0} → (Place → Data → Result A TableError) → (A → Bool) → Key → Option Data → Option (List A) → Type 0
@@ -80,10 +79,7 @@ pub record Holds (locale : List ℕ) (ds : Members) (f : FoundData) : Type 0 whe
   pub long : HoldsAt compact_at (is_of locale) Long (get_member (name_of Long) ds) f.long
   pub whole : members_have_float ds ≡ false
 
--- one member more
-abbrev pub Adds : List ℕ → List ℕ → json.Json → FoundData → FoundData → Type 0
-Adds locale name j before after = (d : Data) × Is j d × ((ds : Members) → Holds locale ds before → Holds locale (put name d ds) after)
-
--- the data of the members of an object, behind its bracket
-abbrev pub AreMembersOf : List Token → Members → List Token → Type 0
-AreMembersOf ts ds rest = (ms : json.Members) × (json.members (json.value 126) (length ts) ts ≡ Some (ms, rest)) × (of_members ms no_members ≡ Some ds)
+-- one member more, whose value is in front of tokens
+abbrev pub Adds : List ℕ → List ℕ → List Token → FoundData → FoundData → List Token → Type 0
+Adds locale name ts before after rest =
+    (d : Data) × IsValue 126 ts d rest × ((ds : Members) → Holds locale ds before → Holds locale (put name d ds) after)

@@ -1,18 +1,18 @@
 //! The tables of a text for one locale: entries of other locales aren't kept.
 
 ghost use Rattle.std.specs.Prelude.{◌≡◌, IfOk, OnOk, Some, option_map};
-ghost use Rattle.json.specs.Value.{value_view};
 ghost use Rattle.serde_json.specs.Data.{Members, object};
 ghost use Rattle.serde_json.specs.Read.{read};
-ghost use Rattle.icu_tables.specs.ForLocale.{Adds, AreEntries, AreMembersOf, Holds, IsFor, IsOnce};
+ghost use Rattle.icu_tables.specs.ForLocale.{Adds, AreEntries, Holds, IsFor, IsOnce};
+ghost use Rattle.icu_tables.specs.Owned.{AreMembersOf};
 ghost use Rattle.icu_tables.specs.Tables.{tables_of};
 
-use crate::borrowed::{Unread, owned};
 use crate::compact::CompactEntry;
 use crate::digits::{DigitsEntry, SystemDigits};
 use crate::rules::RulesEntry;
 use crate::symbols::SymbolsEntry;
 use crate::tables::Tables;
+use crate::tokens::{Unread, owned};
 use icu_decimal_data::{CompactPatterns, DecimalSymbols};
 use icu_pattern::SinglePlaceholder;
 use icu_plurals::PluralRules;
@@ -26,6 +26,9 @@ use std::marker::Model;
 
 /// How deep the values under the keys of a document may nest.
 const MOST_NESTED: usize = 126;
+
+/// How deep the entries in the lists under its keys may nest.
+const MOST_NESTED_ENTRY: usize = MOST_NESTED - 1;
 
 /// What is kept of the members of a document that were read so far.
 #[derive(Drop)]
@@ -52,29 +55,31 @@ impl Model for Found {
     } };
 }
 
-/// The entries under a key that may answer a request in a locale.
+/// The entries of the list that is read next, of those that may answer a request in a locale.
 fn served<T: EntryKind>(
     alloc: Global,
     locale: &DataLocale,
     key: Key,
-    value: &json::Value<'_>,
+    reader: &mut Reader<'_>,
 ) -> Result<Vec<T::Entry>, Unread>
     ensures { IfOk result
-        (λ v. AreEntries T.read_at (T.serves locale.now) key (value_view value.now) v.items) }
+        (λ v. AreEntries T.read_at (T.serves locale.now) key reader.old v.items reader.new) }
 {
-    let json::Value::Array(items) = value else {
+    let Some(Token::BeginArray) = reader.next() else {
         return Err(Unread::Other);
     };
-    let items = items.as_slice();
     let mut found = Vec::new(alloc);
-    for (index, item) in items.iter().enumerate() {
-        let value = owned(alloc, item)?;
+    for index in 0..usize::MAX {
+        if reader.take_end_array() {
+            return Ok(found);
+        }
+        let value = owned(alloc, reader, MOST_NESTED_ENTRY)?;
         let entry = T::from_entry(alloc, Place { key, index }, &value)?;
         if T::serves(&entry, locale) {
             found.push(entry)?;
         }
     }
-    Ok(found)
+    Err(Unread::Other)
 }
 
 /// The same, for a key that wasn't met before.
@@ -82,38 +87,38 @@ fn once<T: EntryKind>(
     alloc: Global,
     locale: &DataLocale,
     key: Key,
-    value: &json::Value<'_>,
+    reader: &mut Reader<'_>,
     slot: &mut Option<Vec<T::Entry>>,
 ) -> Result<(), Unread>
-    ensures { OnOk result (IsOnce T.read_at (T.serves locale.now) key (value_view value.now)
-        (option_map (λ v. v.items) slot.old) (option_map (λ v. v.items) slot.new)) }
+    ensures { OnOk result (IsOnce T.read_at (T.serves locale.now) key reader.old
+        (option_map (λ v. v.items) slot.old) (option_map (λ v. v.items) slot.new) reader.new) }
 {
     if slot.is_some() {
         return Err(Unread::Other);
     }
-    *slot = Some(served::<T>(alloc, locale, key, value)?);
+    *slot = Some(served::<T>(alloc, locale, key, reader)?);
     Ok(())
 }
 
-/// Adds what is kept of one more member.
+/// Reads a member's value, and adds what is kept of it.
 fn add(
     alloc: Global,
     locale: &DataLocale,
     found: &mut Found,
     name: &str,
-    value: &json::Value<'_>,
+    reader: &mut Reader<'_>,
 ) -> Result<(), Unread>
     ensures { OnOk result
-        (Adds locale.now name.now (value_view value.now) found.old found.new) }
+        (Adds locale.now name.now reader.old found.old found.new reader.new) }
 {
     match name {
-        "symbols" => once::<SymbolsEntry>(alloc, locale, Key::Symbols, value, &mut found.symbols),
-        "digits" => once::<DigitsEntry>(alloc, locale, Key::Digits, value, &mut found.digits),
-        "rules" => once::<RulesEntry>(alloc, locale, Key::Rules, value, &mut found.rules),
-        "short" => once::<CompactEntry>(alloc, locale, Key::Short, value, &mut found.short),
-        "long" => once::<CompactEntry>(alloc, locale, Key::Long, value, &mut found.long),
+        "symbols" => once::<SymbolsEntry>(alloc, locale, Key::Symbols, reader, &mut found.symbols),
+        "digits" => once::<DigitsEntry>(alloc, locale, Key::Digits, reader, &mut found.digits),
+        "rules" => once::<RulesEntry>(alloc, locale, Key::Rules, reader, &mut found.rules),
+        "short" => once::<CompactEntry>(alloc, locale, Key::Short, reader, &mut found.short),
+        "long" => once::<CompactEntry>(alloc, locale, Key::Long, reader, &mut found.long),
         _ => {
-            drop(owned(alloc, value)?);
+            drop(owned(alloc, reader, MOST_NESTED)?);
             Ok(())
         }
     }
@@ -122,7 +127,7 @@ fn add(
 /// What is kept of all members that are left.
 fn members(alloc: Global, locale: &DataLocale, reader: &mut Reader<'_>) -> Result<Found, Unread>
     ensures { IfOk result (λ f. (ds : Members) × Holds locale.now ds f
-        × AreMembersOf reader.old ds reader.new) }
+        × AreMembersOf 126 reader.old ds reader.new) }
 {
     let mut found = Found {
         symbols: None,
@@ -132,8 +137,7 @@ fn members(alloc: Global, locale: &DataLocale, reader: &mut Reader<'_>) -> Resul
         long: None,
     };
     'members: while let Some(name) = reader.next_key()? {
-        let value = json::Value::read(alloc, reader, MOST_NESTED)?;
-        add(alloc, locale, &mut found, name, &value)?;
+        add(alloc, locale, &mut found, name, reader)?;
     }
     Ok(found)
 }

@@ -21,7 +21,6 @@
 //! prints `15K`.
 #![tactic(auto)]
 
-mod borrowed;
 pub mod compact;
 mod digits;
 mod for_locale;
@@ -29,6 +28,7 @@ mod provider;
 mod rules;
 pub mod symbols;
 mod tables;
+mod tokens;
 
 pub use compact::compact_from_value;
 pub use icu_table_entries::{EntryFault, Key, TableError};

@@ -40,7 +40,8 @@ pub(crate) fn answer(
     }
 }
 
-/// Two locales in turn under each key, one of them twice under the first.
+/// Two locales in turn under each key, one of them twice under the first, and an entry with two
+/// locales, of which the last counts.
 const TWO: &str = "{\"symbols\":[\
 {\"locale\":\"de\",\"minus\":[\"-\",\"\"],\"plus\":[\"+\",\"\"],\"decimal\":\",\",\"group\":\".\",\"numsys\":\"latn\",\"sizes\":[3,3,1]},\
 {\"locale\":\"bn\",\"minus\":[\"-\",\"\"],\"plus\":[\"+\",\"\"],\"decimal\":\".\",\"group\":\",\",\"numsys\":\"beng\",\"sizes\":[3,2,1]},\
@@ -48,7 +49,7 @@ const TWO: &str = "{\"symbols\":[\
 {\"locale\":\"de\",\"minus\":[\"-\",\"\"],\"plus\":[\"+\",\"\"],\"decimal\":\"!\",\"group\":\".\",\"numsys\":\"latn\",\"sizes\":[3,3,1]}],\
 \"digits\":[[\"beng\",\"০১২৩৪৫৬৭৮৯\"],[\"latn\",\"0123456789\"]],\
 \"rules\":[{\"locale\":\"de\",\"rules\":[[\"one\",\"i = 1 and v = 0\"]]},{\"locale\":\"bn\",\"rules\":[]}],\
-\"short\":[{\"locale\":\"de\",\"patterns\":[[6,6,{\"other\":\"{0}M\"}]]},{\"locale\":\"bn\",\"patterns\":[[3,3,{\"other\":\"{0}K\"}]]}],\
+\"short\":[{\"locale\":\"bn\",\"locale\":\"de\",\"patterns\":[[6,6,{\"other\":\"{0}M\"}]]},{\"locale\":\"bn\",\"patterns\":[[3,3,{\"other\":\"{0}K\"}]]}],\
 \"long\":[{\"locale\":\"bn\",\"system\":\"latn\",\"patterns\":[[5,5,{\"other\":\"{0}L\"}]]},{\"locale\":\"de\",\"patterns\":[[3,3,{\"other\":\"{0}T\"}]]}]}";
 
 const MISSING: Result<char, DataError> = Err(DataError {

@@ -1,33 +1,32 @@
 use Rattle.std.proofs.Common.{sym}
-use Rattle.json.specs.Value.{value_view}
 use Rattle.serde_json.specs.View.{view}
 use Rattle.icu_tables.proofs.ForLocale.{OnOk-map, adds_other, adds_symbols, adds_digits, adds_rules, adds_short, adds_long}
 use Rattle.icu_tables.proofs.for_locale.add.Goals as goal
 
 pub returns-in-symbols : goal.returns-in-symbols
 returns-in-symbols c =
-    rw (← c.found.view_is) (OnOk-map c.once.result (adds_symbols c.args.locale.now (value_view c.args.value.now) _ c.args.name.now _ c.in-symbols.is)
+    rw (← c.found.view_is) (OnOk-map c.once.result (adds_symbols c.args.locale.now c.args.reader.now _ c.once.new.reader c.args.name.now _ c.in-symbols.is)
     c.once.ensures)
 
 pub returns-in-digits : goal.returns-in-digits
 returns-in-digits c =
-    rw (← c.found.view_is) (OnOk-map c.once-in-digits.result (adds_digits c.args.locale.now (value_view c.args.value.now) _ c.args.name.now _
-    c.in-digits.is) c.once-in-digits.ensures)
+    rw (← c.found.view_is) (OnOk-map c.once-in-digits.result (adds_digits c.args.locale.now c.args.reader.now _ c.once-in-digits.new.reader c.args.name.now
+    _ c.in-digits.is) c.once-in-digits.ensures)
 
 pub returns-in-rules : goal.returns-in-rules
 returns-in-rules c =
-    rw (← c.found.view_is) (OnOk-map c.once-in-rules.result (adds_rules c.args.locale.now (value_view c.args.value.now) _ c.args.name.now _
+    rw (← c.found.view_is) (OnOk-map c.once-in-rules.result (adds_rules c.args.locale.now c.args.reader.now _ c.once-in-rules.new.reader c.args.name.now _
     c.in-rules.is) c.once-in-rules.ensures)
 
 pub returns-in-short : goal.returns-in-short
 returns-in-short c =
-    rw (← c.found.view_is) (OnOk-map c.once-in-short.result (adds_short c.args.locale.now (value_view c.args.value.now) _ c.args.name.now _
+    rw (← c.found.view_is) (OnOk-map c.once-in-short.result (adds_short c.args.locale.now c.args.reader.now _ c.once-in-short.new.reader c.args.name.now _
     c.in-short.is) c.once-in-short.ensures)
 
 pub returns-in-long : goal.returns-in-long
 returns-in-long c =
-    rw (← c.found.view_is) (OnOk-map c.once-in-long.result (adds_long c.args.locale.now (value_view c.args.value.now) _ c.args.name.now _ c.in-long.is)
-    c.once-in-long.ensures)
+    rw (← c.found.view_is) (OnOk-map c.once-in-long.result (adds_long c.args.locale.now c.args.reader.now _ c.once-in-long.new.reader c.args.name.now _
+    c.in-long.is) c.once-in-long.ensures)
 
 pub returns-in_ok-owned-in_default : goal.returns-in_ok-owned-in_default
 returns-in_ok-owned-in_default c =

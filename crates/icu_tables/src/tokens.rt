@@ -1,14 +1,14 @@
-//! Owned values of values that are borrowed from a text.
+//! Owned values of what is read from a text, token by token.
 
-ghost use Rattle.json.specs.Value.{items_view as borrowed_items, members_view as borrowed_members, value_view};
 ghost use Rattle.serde_json.specs.View.{items_view, members_view, view};
 ghost use Rattle.serde_json.specs.Data.{unsigned as natural_number};
 ghost use Rattle.serde_json.specs.Read.{number_from, number_of};
 ghost use Rattle.std.specs.Prelude.{◌≡◌, IfOk, IfSome, Some, false};
-ghost use Rattle.icu_tables.specs.Owned.{AreItems, AreMembers, Is};
+ghost use Rattle.icu_tables.specs.Owned.{AreItems, AreMembers, IsValue};
 
 use fast_float::Numeral;
 use icu_table_entries::TableError;
+use json::{Reader, Token};
 use serde_json::{Map, Number, Value};
 use std::alloc::{AllocError, AllocFailed, Global};
 
@@ -30,15 +30,6 @@ impl From<AllocError> for Unread {
 impl<T: Drop> From<AllocFailed<T>> for Unread {
     fn from(_error: AllocFailed<T>) -> Unread {
         Unread::OutOfMemory
-    }
-}
-
-impl From<json::Error> for Unread {
-    fn from(error: json::Error) -> Unread {
-        match error {
-            json::Error::OutOfMemory => Unread::OutOfMemory,
-            _ => Unread::Other,
-        }
     }
 }
 
@@ -78,44 +69,55 @@ fn unsigned(numeral: &Numeral<'_>) -> Option<u64>
     numeral.to_u64()
 }
 
-/// The owned value, if all its numbers are whole ones below 2 to the power 64.
+/// The next value of the reader, if all its numbers are whole ones below 2 to the power 64. Lists
+/// and objects may nest `depth` deep.
 #[cycle(owned)]
-pub fn owned(alloc: Global, value: &json::Value<'_>) -> Result<Value, Unread>
-    ensures { IfOk result (λ v. Is (value_view value.now) (view v)) }
+pub fn owned(alloc: Global, reader: &mut Reader<'_>, depth: usize) -> Result<Value, Unread>
+    ensures { IfOk result (λ v. IsValue depth reader.old (view v) reader.new) }
 {
-    match value {
-        json::Value::Null => Ok(Value::Null),
-        json::Value::Bool(truth) => Ok(Value::Bool(*truth)),
-        json::Value::Number(text) => Ok(Value::Number(Number::from(natural(text)?))),
-        json::Value::String(text) => Ok(Value::String(String::from_str(alloc, text)?)),
-        json::Value::Array(items) => Ok(Value::Array(owned_items(alloc, items)?)),
-        json::Value::Object(members) => Ok(Value::Object(owned_members(alloc, members)?)),
+    let Some(token) = reader.next() else {
+        return Err(Unread::Other);
+    };
+    match token {
+        Token::Null => Ok(Value::Null),
+        Token::Bool(truth) => Ok(Value::Bool(truth)),
+        Token::Number(text) => Ok(Value::Number(Number::from(natural(text)?))),
+        Token::String(text) => Ok(Value::String(String::from_str(alloc, text)?)),
+        Token::BeginArray if depth > 0 => {
+            Ok(Value::Array(owned_items(alloc, reader, depth - 1)?))
+        }
+        Token::BeginObject if depth > 0 => {
+            Ok(Value::Object(owned_members(alloc, reader, depth - 1)?))
+        }
+        _ => Err(Unread::Other),
     }
 }
 
+/// The items up to the bracket that closes a list, each `depth` deep at most.
 #[cycle(owned)]
-fn owned_items(alloc: Global, items: &Vec<json::Value<'_>>) -> Result<Vec<Value>, Unread>
-    ensures { IfOk result (λ v. AreItems (borrowed_items items.now.items) (items_view v.items)) }
+fn owned_items(alloc: Global, reader: &mut Reader<'_>, depth: usize) -> Result<Vec<Value>, Unread>
+    ensures { IfOk result (λ v. AreItems depth reader.old (items_view v.items) reader.new) }
 {
     let mut found = Vec::new(alloc);
-    for item in items {
-        found.push(owned(alloc, item)?)?;
+    'items: while !reader.take_end_array() {
+        found.push(owned(alloc, reader, depth)?)?;
     }
     Ok(found)
 }
 
+/// The members up to the brace that closes an object, each `depth` deep at most.
 #[cycle(owned)]
 fn owned_members(
     alloc: Global,
-    members: &Vec<(&str, json::Value<'_>)>,
+    reader: &mut Reader<'_>,
+    depth: usize,
 ) -> Result<Map<String, Value>, Unread>
-    ensures { IfOk result
-        (λ m. AreMembers (borrowed_members members.now.items) (members_view m.entries)) }
+    ensures { IfOk result (λ m. AreMembers depth reader.old (members_view m.entries) reader.new) }
 {
     let mut found = Map::new(alloc);
-    for member in members {
-        let key = String::from_str(alloc, member.0)?;
-        let value = owned(alloc, &member.1)?;
+    'members: while let Some(name) = reader.next_key()? {
+        let key = String::from_str(alloc, name)?;
+        let value = owned(alloc, reader, depth)?;
         drop(found.insert(key, value)?);
     }
     Ok(found)
