@@ -46,5 +46,5 @@ returns-in_err-value c = search rules
 
 pub returns-then-has_one_member : goal.returns-then-has_one_member
 returns-then-has_one_member c =
-    rw c.of_other.ensures (only_other-lent c.args.key c.in_ok-other.other.now _ _ c.in_ok-value.ensures (sym c.has_one_member.ensures ∙ c.if-has_one_member.true)
-    c.in_ok-other.ensures)
+    let one = sym c.has_one_member.ensures ∙ c.if-has_one_member.true in
+    rw c.of_other.ensures (only_other-lent c.args.key c.in_ok-other.other.now _ _ c.in_ok-value.ensures one c.in_ok-other.ensures)
