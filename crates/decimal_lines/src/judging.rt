@@ -40,7 +40,7 @@ pub fn judge_tables(alloc: Global, file: &[u8]) -> Result<(), TablesFault>
     ensures ok { OnOk result (tables_judged file.now ≡ Ok tt) }
     ensures refused { IfErr result (λ fault. IsFault (tables_judged file.now) fault) }
 {
-    let Ok(text) = str::from_utf8(file) else {
+    let Ok(text) = simdutf8::compat::from_utf8(file) else {
         return Err(TablesFault::NotUtf8);
     };
     judge_text(alloc, text)

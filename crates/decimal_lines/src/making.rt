@@ -155,7 +155,7 @@ impl Mode {
         ensures no_text { ¬ (IsUtf8 file.now) → result ≡ Err StartError.Tables }
         ensures table { IfOk result (λ mode. HasTable mode) }
     {
-        let Ok(text) = str::from_utf8(file) else {
+        let Ok(text) = simdutf8::compat::from_utf8(file) else {
             return Err(StartError::Tables);
         };
         mode_of(alloc, words, text)
