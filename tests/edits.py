@@ -258,8 +258,10 @@ def why_not_refused(said):
 def why_not_by(edit, said, function, clause):
     """Why a goal isn't among those that are open, or why that would be no evidence; else nothing."""
     path = function.replace("::", "/")
-    answers = os.path.join(ROOT, "crates", edit.crate, "proofs", path, "Answers.antt")
-    if os.path.exists(answers) and re.search(rf"^(pub )?{re.escape(clause)}( .*)?[:=]", read(answers), flags=re.M):
+    proofs = os.path.join(ROOT, "crates", edit.crate, "proofs")
+    # functions that call each other have the answers of all in a folder by the name of one, behind a plus sign
+    answers = glob.glob(f"{proofs}/{path}/Answers.antt") + glob.glob(f"{proofs}/{os.path.dirname(path)}/+*/Answers.antt")
+    if any(re.search(rf"^(pub )?{re.escape(clause)}( .*)?[:=]", read(it), flags=re.M) for it in answers):
         return f"{clause} of {function} has a written answer, so that its failing shows nothing: name a test"
     goals = {goal for module, goal in OPEN_GOAL.findall(said) if f"{path}/".startswith(f"{module}/") or module in ("lib", "main")}
     own = re.search(rf"^fn {edit.crate}::{re.escape(function)}: (?:no proof: expected|not proved)(.*)", said, flags=re.M)
