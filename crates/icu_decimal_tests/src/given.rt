@@ -1,5 +1,5 @@
-//! Compact numbers whose exponent is given: significands with it, and the exponent of each
-//! magnitude.
+//! Compact numbers whose exponent is given: significands with it, and the exponent and the entry of
+//! each magnitude.
 
 use crate::fixtures::{is_annotated, is_displayed, read, scaled};
 use crate::languages::Language;
@@ -22,6 +22,9 @@ pub(crate) trait GivenWriter {
     fn is_accepted(&self, alloc: Global, significand: &Decimal, exponent: u8, want: &str) -> bool;
 
     fn has_exponent(&self, magnitude: i16, exponent: u8) -> bool;
+
+    /// Whether the table's entry for a magnitude has this type and this exponent, or there is none.
+    fn has_entry(&self, magnitude: i32, entry: Option<(u8, u8)>) -> bool;
 }
 
 /// Whether a value, or why it wasn't made, is displayed so.
@@ -55,6 +58,14 @@ impl GivenWriter for CompactDecimalFormatter {
 
     fn has_exponent(&self, magnitude: i16, exponent: u8) -> bool {
         self.compact_exponent_for_magnitude(magnitude) == exponent
+    }
+
+    fn has_entry(&self, magnitude: i32, entry: Option<(u8, u8)>) -> bool {
+        let table = self.patterns();
+        match table.entry_index(magnitude) {
+            Some(index) => entry == Some((table.log10_type(index), table.exponent(index))),
+            None => entry == None,
+        }
     }
 }
 
@@ -222,6 +233,53 @@ fn tells_the_exponent_of_a_magnitude(rt: HostRuntime) {
     for &(language, magnitude, exponent) in EXPONENTS {
         assert!(rt;
             tells(&rt, rt.alloc(), language, magnitude, exponent),
+            "{magnitude}"
+        );
+    }
+}
+
+/// Whether a formatter that was made has this entry at a magnitude.
+fn made_lends<W: GivenWriter + Drop>(
+    formatter: W,
+    magnitude: i32,
+    entry: Option<(u8, u8)>,
+) -> bool {
+    formatter.has_entry(magnitude, entry)
+}
+
+/// Whether a language has this entry at a magnitude.
+fn lends(
+    rt: &impl Abort,
+    alloc: Global,
+    language: Language,
+    magnitude: i32,
+    entry: Option<(u8, u8)>,
+) -> bool {
+    let formatter = compact(rt, alloc, language, GroupingStrategy::Min2);
+    made_lends(formatter, magnitude, entry)
+}
+
+/// A language, a magnitude, and the type and the exponent of its entry.
+const ENTRIES: &[(Language, i32, Option<(u8, u8)>)] = &[
+    (Language::ShortEnglish, -32768, None),
+    (Language::ShortEnglish, 2, None),
+    (Language::ShortEnglish, 3, Some((3, 3))),
+    (Language::ShortEnglish, 5, Some((3, 3))),
+    (Language::ShortEnglish, 6, Some((6, 6))),
+    (Language::ShortEnglish, 32767, Some((12, 12))),
+    (Language::ShortSpanish, 9, Some((6, 6))),
+    (Language::ShortSpanish, 10, Some((10, 9))),
+    (Language::LongBangla, 6, Some((5, 5))),
+    (Language::LongJapanese, 3, None),
+    (Language::LongJapanese, 32767, Some((8, 8))),
+    (Language::Words, 32767, Some((5, 4))),
+];
+
+#[test]
+fn tells_the_entry_of_a_magnitude(rt: HostRuntime) {
+    for &(language, magnitude, entry) in ENTRIES {
+        assert!(rt;
+            lends(&rt, rt.alloc(), language, magnitude, entry),
             "{magnitude}"
         );
     }

@@ -1,4 +1,5 @@
-//! What a formatted compact number tells: its significand, its exponent and its plural operands.
+//! What a formatted compact number tells: its significand, its exponent and its plural operands; and
+//! the plural category of a number by the rules of a formatter.
 
 use crate::compact::formatted;
 use crate::fixtures::read;
@@ -86,4 +87,60 @@ fn tells_parts(rt: &impl Abort, alloc: Global) -> bool {
 fn tells_the_operands_of_a_compact_number(rt: HostRuntime) {
     assert!(rt; tells_parts(&rt, rt.alloc()));
     assert!(rt; tells_operands(&rt, rt.alloc()));
+}
+
+/// Whether a formatter's rules tell operands this category.
+fn is_category(
+    formatter: &CompactDecimalFormatter,
+    operands: PluralOperands,
+    category: PluralCategory,
+) -> bool {
+    formatter.plural_rules().category_for(operands) == category
+}
+
+/// Whether the rules of a language's formatter tell a significand with an exponent this category.
+fn has_category(
+    rt: &impl Abort,
+    alloc: Global,
+    language: Language,
+    (text, exponent): (&str, u8),
+    category: PluralCategory,
+) -> bool {
+    let significand = read(rt, alloc, text);
+    let operands = PluralOperands::from_significand_and_exponent(&significand.absolute, exponent);
+    let formatter = compact(rt, alloc, language, GroupingStrategy::Min2);
+    is_category(&formatter, operands, category)
+}
+
+/// A language, a significand and its exponent, and their plural category.
+const CATEGORIES: &[(Language, &str, u8, PluralCategory)] = &[
+    (Language::ShortEnglish, "1", 0, PluralCategory::One),
+    (Language::ShortEnglish, "1.0", 0, PluralCategory::Other),
+    (Language::ShortEnglish, "1.5", 3, PluralCategory::Other),
+    (Language::LongFrench, "1.5", 0, PluralCategory::One),
+    (Language::LongFrench, "2", 0, PluralCategory::Other),
+    (Language::LongFrench, "1.2", 6, PluralCategory::Many),
+    (
+        Language::LongFrench,
+        "1000000000000000000000000",
+        0,
+        PluralCategory::Many,
+    ),
+    (
+        Language::LongFrench,
+        "1000000000000000000000001",
+        0,
+        PluralCategory::Other,
+    ),
+    (Language::LongJapanese, "1", 0, PluralCategory::Other),
+];
+
+#[test]
+fn tells_the_category_by_the_rules_of_a_formatter(rt: HostRuntime) {
+    for &(language, text, exponent, category) in CATEGORIES {
+        assert!(rt;
+            has_category(&rt, rt.alloc(), language, (text, exponent), category),
+            "{text}c{exponent}"
+        );
+    }
 }

@@ -8,6 +8,8 @@ mod large;
 #[cfg(test)]
 mod large_compact;
 #[cfg(test)]
+mod lending;
+#[cfg(test)]
 mod loaded;
 #[cfg(test)]
 mod making;

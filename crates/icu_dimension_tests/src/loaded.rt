@@ -292,7 +292,7 @@ const LONG: &[(Made, &str, &str)] = &[
 ];
 
 /// The letters between two texts.
-fn letters_between(alloc: Global, before: &str, after: &str) -> Option<String> {
+pub(crate) fn letters_between(alloc: Global, before: &str, after: &str) -> Option<String> {
     match format!(in alloc; "{before}{LETTERS}{after}") {
         Ok(text) => Some(text),
         Err(_) => None,

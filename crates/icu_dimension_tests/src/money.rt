@@ -19,13 +19,13 @@ use writeable::Part;
 /// A language, its pattern, a symbol and the digits of the currency.
 pub(crate) type Money = (Numbers, &'static str, &'static str, u8);
 
-const DOLLARS: Money = (ENGLISH, "¤#,##0.00", "$", 2);
+pub(crate) const DOLLARS: Money = (ENGLISH, "¤#,##0.00", "$", 2);
 
-const ACCOUNTS: Money = (ENGLISH, "¤#,##0.00;(¤#,##0.00)", "$", 2);
+pub(crate) const ACCOUNTS: Money = (ENGLISH, "¤#,##0.00;(¤#,##0.00)", "$", 2);
 
 const EUROS: Money = (GERMAN, "#,##0.00\u{a0}¤", "€", 2);
 
-const FRANCS: Money = (SWISS, "¤\u{a0}#,##0.00;¤-#,##0.00", "CHF", 2);
+pub(crate) const FRANCS: Money = (SWISS, "¤\u{a0}#,##0.00;¤-#,##0.00", "CHF", 2);
 
 const DUTCH: Money = (GERMAN, "¤\u{a0}#,##0.00;¤\u{a0}-#,##0.00", "€", 2);
 

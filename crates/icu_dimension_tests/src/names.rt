@@ -1,6 +1,7 @@
 //! Amounts of money with the names of their currencies, as CLDR writes them.
 
 use crate::making::{ENGLISH, FRENCH, Numbers, plain};
+use crate::rows::LETTERS;
 use crate::writing::made_writes;
 use icu_decimal::DecimalFormatter;
 use icu_decimal::parts::{DECIMAL, FRACTION, INTEGER, MINUS_SIGN};
@@ -25,6 +26,8 @@ pub(crate) enum Currency {
     JapaneseYen,
     /// With the name in front, and texts around.
     NameFirst,
+    /// With a name of 800 letters.
+    LongName,
 }
 
 fn numbers_of(currency: Currency) -> Numbers {
@@ -38,7 +41,7 @@ fn rules_of(currency: Currency) -> &'static [(PluralCategory, &'static str)] {
     match currency {
         Currency::EnglishDollars => ENGLISH_RULES,
         Currency::FrenchDollars => FRENCH_RULES,
-        Currency::JapaneseYen | Currency::NameFirst => &[],
+        Currency::JapaneseYen | Currency::NameFirst | Currency::LongName => &[],
     }
 }
 
@@ -72,6 +75,7 @@ fn names_of(currency: Currency) -> (Option<NameTexts<'static>>, NameTexts<'stati
                 name: "US dollars",
             },
         ),
+        Currency::LongName => (None, behind(" ", LETTERS)),
     }
 }
 

@@ -18,7 +18,7 @@ const TURKISH_PERCENT: Percent = (GERMAN, "%#,##0");
 
 const FRENCH_PERCENT: Percent = (FRENCH, "#,##0\u{202f}%");
 
-const BASQUE_PERCENT: Percent = (BASQUE, "%\u{a0}#,##0");
+pub(crate) const BASQUE_PERCENT: Percent = (BASQUE, "%\u{a0}#,##0");
 
 const PERCENTS: &[(Percent, &str, &str)] = &[
     (ENGLISH_PERCENT, "0.1234", "12.34%"),
