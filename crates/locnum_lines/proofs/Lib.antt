@@ -9,6 +9,7 @@ pub mod Goes
 pub mod Passing
 pub mod Feeding
 pub mod Skips
+pub mod LinePlaces
 pub mod Fed
 pub mod Runs
 pub mod OneField

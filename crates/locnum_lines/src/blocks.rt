@@ -12,7 +12,7 @@ use crate::line::push_record;
 use crate::records::{is_open_behind, lines_in, place_after, place_behind};
 use crate::settings::LineSettings;
 use locnum_forms::Form;
-use memchr::memchr;
+use memchr::memchr_iter;
 use std::alloc::{AllocError, Global};
 
 /// Runs a record whose first bytes were held back.
@@ -113,15 +113,16 @@ pub(crate) fn take_block(
     ensures place { OnOk result (gathered.new.is_stopped ≡ false
         → place.new ≡ place_behind settings.now.delimiter Front held.new.items) }
 {
-    let mut rest = block;
-    while let Some(n) = memchr(settings.end, rest) {
-        let (line, after) = rest.split_at(n);
+    let mut start = 0;
+    for n in memchr_iter(settings.end, block) {
+        let line = &block[start..n];
         end_line(alloc, settings, form, line, held, place, gathered)?;
         if gathered.is_stopped {
             return Ok(());
         }
-        rest = after.split_at(1).1;
+        start = n + 1;
     }
+    let rest = &block[start..];
     *place = place_behind(settings.delimiter, *place, rest);
     held.extend_from_slice(rest)?;
     Ok(())
