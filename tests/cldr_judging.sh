@@ -1,4 +1,4 @@
-# What tests/cldr_tables.sh judges tables with. It sets `tool`, `program` and `folder`.
+# What tests/cldr_tables.sh judges tables with. It sets `tool`, `program`, `locnum` and `folder`.
 
 # shellcheck source=/dev/null
 source "$(dirname "$0")/judging.sh"
@@ -84,4 +84,14 @@ answers() {
     printf '%b' "$2" | timeout 20 "$program" "$folder/$made.json" "${words[@]}" >"$folder/out" 2>&1
     printf '%b' "$3" >"$folder/wanted"
     judge "decfmt $1" diff "$folder/wanted" "$folder/out"
+}
+
+# pays OUTPUT WORD..: what locnum writes with the tables made last, status 0.
+pays() {
+    local wanted=$1
+    shift
+    timeout 20 "$locnum" -t "$folder/$made.json" "$@" >"$folder/out" 2>&1
+    judge "locnum $*: status $?" [ $? = 0 ]
+    printf '%b' "$wanted" >"$folder/wanted"
+    judge "locnum $*" diff "$folder/wanted" "$folder/out"
 }

@@ -56,9 +56,8 @@ has percents \
     $'{"locale":"qab","system":"arab","pattern":"#,##0\u00a0%;[#,##0\u00a0%]","minus":"\u061c-","plus":"\u061c+","percent":"٪\u061c"}'
 
 # Units: three widths with root's aliases between them, no other cases, a pattern without a number, one with two.
-makes units "$release" qaa --units kilometer,day,mile
+makes units "$release" qaa --units kilometer,day
 tells "${digits_lines[@]}" \
-    'qaa: unit mile: the release has no such unit' \
     "qaa: unitLength[narrow]/unit[duration-day]/unitPattern[other]: '{0}d{0}': more than one place"
 has units \
     '{"locale":"qaa","width":"long","unit":"kilometer","patterns":{"one":"{0} kilo","other":"{0} kilos"}}' \
@@ -181,6 +180,129 @@ tells "${digits_lines[@]}" \
     "$short/100000-other: '000E ¤': the number 000E isn't zeros alone"
 has currency_compact $'{"locale":"qbk","patterns":[[3,3,{"other":"0 \'E\' ¤"}]]}'
 
+# Types that repeat the patterns of a later one with another exponent go, each of them, whatever they have for exactly one;
+# the type before them serves there.
+cat >"$folder/odd/main/qbl.xml" <<END
+<ldml><numbers>
+    <currencyFormats numberSystem="latn"><currencyFormatLength type="short">
+        <currencyFormat type="standard">
+            <pattern type="1000" count="other">¤0T</pattern>
+            <pattern type="10000" count="other">¤00T</pattern>
+            <pattern type="100000" count="1">¤000l</pattern>
+            <pattern type="100000" count="other">¤000L</pattern>
+            <pattern type="1000000" count="other">¤00L</pattern>
+        </currencyFormat>
+    </currencyFormatLength></currencyFormats>
+    <decimalFormats numberSystem="latn"><decimalFormatLength type="long"><decimalFormat>
+        <pattern type="1000" count="other">0a</pattern>
+        <pattern type="10000" count="1">a</pattern>
+        <pattern type="10000" count="other">00a</pattern>
+        <pattern type="100000" count="other">0a</pattern>
+    </decimalFormat></decimalFormatLength></decimalFormats>
+</numbers></ldml>
+END
+makes repeats "$folder/odd" qbl --currencies QQA
+long='qbl: decimalFormats[latn]/long'
+tells "${digits_lines[@]}" \
+    "$long/10000: the patterns of the type 100000, with another exponent" \
+    "$long/1000: the patterns of the type 100000, with another exponent" \
+    "qbl: currencyFormats[latn]/short/100000: the patterns of the type 1000000, with another exponent"
+has currency_compact '{"locale":"qbl","patterns":[[3,3,{"other":"¤0T"}],[6,5,{"other":"¤0L"}]]}'
+has long '{"locale":"qbl","patterns":[[5,5,{"other":"{0}a"}],[6,6,{"other":"{0}M"}]]}'
+pays 'QQA\u00a0123T\nQQA\u00a014L\n' -l qbl --currency QQA --style short 123456 1423126
+answers 'qbl - long' '1000\n200000\n' '1000\n2a\n'
+
+# Names: a numbering system without patterns for them has those of latn, as one without patterns of money has; names that
+# can't be expressed leave the rest; they go with the default system alone. Compact money in two systems. Percents without
+# their sign, empty signs.
+names_of() {
+    cat >"$folder/odd/main/$1.xml" <<END
+<ldml><numbers>
+    <defaultNumberingSystem>arab</defaultNumberingSystem>
+    <symbols numberSystem="arab"><minusSign>${3--}</minusSign><percentSign>${4-%}</percentSign></symbols>
+    <currencyFormats numberSystem="arab">
+        <currencyFormatLength>
+            <currencyFormat type="standard"><pattern>¤0</pattern></currencyFormat>
+            <currencyFormat type="accounting"><pattern>¤0</pattern></currencyFormat>
+        </currencyFormatLength>
+        <currencyFormatLength type="short"><currencyFormat type="standard">
+            <pattern type="1000" count="other">0x ¤</pattern>
+        </currencyFormat></currencyFormatLength>
+    </currencyFormats>
+    <currencyFormats numberSystem="latn"><unitPattern count="other">$2</unitPattern></currencyFormats>
+    <percentFormats numberSystem="arab">
+        <percentFormatLength><percentFormat><pattern>${5-0%}</pattern></percentFormat></percentFormatLength>
+    </percentFormats>
+</numbers></ldml>
+END
+}
+for file in root; do
+    sed -e '/<currencyFormats numberSystem="arab">/,/<\/currencyFormats>/d' -e '/<percentFormats numberSystem="arab">/,/<\/percentFormats>/d' \
+        "$release/common/main/$file.xml" >"$folder/odd/main/$file.xml"
+done
+names_of qbm '{1}: {0}'
+names_of qbn '{0}'
+names_of qbo '{0} {1}' ''
+names_of qbp '{0} {1}' - ''
+names_of qbq '{0} {1}' - % '0%;(0)'
+makes names_of "$folder/odd" qbm qbn qbo qbp qbq --currencies QQA --percents
+empty='minusSign is empty'
+judge 'names that are left out' grep -qxF "qbn: currencyFormats[arab]/unitPattern: {1} stands 0 times in '{0}', not once" "$folder/names_of.err"
+judge 'an empty minus in money' grep -qxF "qbo: currencyFormats[arab]: $empty" "$folder/names_of.err"
+judge 'an empty minus in percents' grep -qxF "qbo: percentFormats[arab]: $empty" "$folder/names_of.err"
+judge 'an empty percent sign' grep -qxF 'qbp: percentFormats[arab]: percentSign is empty' "$folder/names_of.err"
+judge 'percents without their sign' grep -qxF \
+    "qbq: percentFormats[arab]: % stands 0 times in a subpattern of '0%;(0)', not once" "$folder/names_of.err"
+has currencies \
+    $'{"locale":"qbm","standard":"¤0","accounting":"¤0","minus":"-","plus":"\u061c+","names":{"other":"{1}: {0}"}}' \
+    $'{"locale":"qbm","system":"latn","standard":"¤\u00a0#,##0.00","accounting":"¤\u00a0#,##0.00","minus":"-","plus":"+"}' \
+    $'{"locale":"qbn","standard":"¤0","accounting":"¤0","minus":"-","plus":"\u061c+"}' \
+    $'{"locale":"qbo","system":"latn","standard":"¤\u00a0#,##0.00","accounting":"¤\u00a0#,##0.00","minus":"-","plus":"+"}'
+has currency_compact '{"locale":"qbm","patterns":[[3,3,{"other":"0x ¤"}]]}' \
+    '{"locale":"qbm","system":"latn","patterns":[[3,3,{"other":"¤0K"}]]}'
+counts currency_compact 10
+has percents '{"locale":"qbp","system":"latn","pattern":"#,##0%","minus":"-","plus":"+","percent":"%"}'
+judge 'percents in arab' [ "$(grep '^{' "$folder/names_of.percents" | grep -cv '"system"')" = 2 ]
+
+pays 'QQA: ٢٫٠٠\nQQA: -١٢٣٤٥٫٠٠\n' -l qbm --currency QQA --width name 2 -12345
+pays 'QQA\u00a02.00\n' -l qbm --system latn --currency QQA 2
+pays '١٫٥x QQA\n' -l qbm --currency QQA --style short 1500
+pays 'QQA\u00a01.5K\n-QQA\u00a01.5K\n' -l qbm --system latn --currency QQA --style short 1500 -1500
+pays 'QQA\u00a0٢\n' -l qbn --currency QQA --fraction 0 2
+timeout 20 "$locnum" -t "$folder/names_of.json" -l qbn --currency QQA --width name 2 >"$folder/out" 2>"$folder/err"
+judge 'names that are left out have no data' [ $? = 1 ]
+
+# Drafts are told of what tables have: of a currency that isn't asked for nothing.
+cat >"$folder/odd/main/qbr.xml" <<END
+<ldml><numbers><currencies>
+    <currency type="QQA"><symbol draft="provisional">X</symbol></currency>
+    <currency type="QQB"><symbol draft="unconfirmed">Y</symbol></currency>
+</currencies></numbers></ldml>
+END
+makes drafts "$folder/odd" qbr --currencies QQB
+tells "${digits_lines[@]}" \
+    'qbr: currencies/currency[QQB]/symbol: a draft, unconfirmed: what is inherited stands'
+has currency_symbols '{"locale":"qbr","symbols":[["QQB","B$","$",{"other":"QQB"}]]}'
+
+# Further numbering systems: what root has for them, what the locale itself has, and nothing where all is the default one's.
+makes systems "$release" qaa qab --systems arab,beng,deva --currencies QQA --percents
+has symbols \
+    $'{"locale":"qaa","system":"arab","minus":["\u061c-",""],"plus":["\u061c+",""],"decimal":"٫","group":"٬","numsys":"arab","sizes":[3,2,2]}' \
+    '{"locale":"qaa","system":"beng","minus":["−",""],"plus":["+",""],"decimal":",","group":".","numsys":"beng","sizes":[3,2,2]}'
+judge 'as the default one' [ "$(grep -c '"system":"deva"' "$folder/systems.json")" = 0 ]
+has currency_decimals \
+    $'{"locale":"qaa","system":"arab","minus":["\u061c-",""],"plus":["\u061c+",""],"decimal":"٫","group":"٬","numsys":"arab","sizes":[3,3,2]}'
+has currencies $'{"locale":"qaa","system":"arab","standard":"#,##0.00\u00a0¤","accounting":"#,##0.00\u00a0¤;(#,##0.00\u00a0¤)","minus":"\u061c-","plus":"\u061c+"}'
+has percents $'{"locale":"qaa","system":"arab","pattern":"%#,##0;(%#,##0-)","minus":"\u061c-","plus":"\u061c+","percent":"٪\u061c"}'
+answers 'qaa arab plain' '-12345.5\n' '\u061c-١٢٬٣٤٥٫٥\n'
+answers 'qaa deva plain' '-12345.5\n' '−१२.३४५,५\n'
+pays '\u061c-١٢٬٣٤٥٫٥٠\u00a0A\n' -l qaa --system arab --currency QQA -12345.5
+pays '٪\u061c٥٠\n' -l qaa --system arab --percent 0.5
+makes all_systems "$release" qaa qab --systems all --currencies QQA --percents
+judge 'all systems' cmp "$folder/all_systems.json" "$folder/systems.json"
+makes usual_systems "$release" qaa qab --currencies QQA --percents
+judge 'systems by word alone' [ "$(grep -c '"locale":"qaa","system":"arab"' "$folder/usual_systems.json")" = 0 ]
+
 # Nothing of it without its words.
 makes none "$release" --names none --currencies none --units none
 judge 'none is the default' cmp "$folder/none.json" "$folder/modern.json"
@@ -190,7 +312,7 @@ makes json_money "$release/json" qaa --currencies QQA,QQB --percents --units all
 tells "qaa: currencyFormats[latn]/$named '#,##0.00 ¤', which stand" "qaa: percentFormats[latn]/$percents: '#,##0 %': $groups"
 has currencies \
     '{"locale":"qaa","standard":"#,##0.00 ¤","accounting":"#,##0.00 ¤;(#,##0.00 ¤)","minus":"−","plus":"+","names":{"one":"{1} {0}","other":"{0} {1}"}}' \
-    '{"locale":"qaa","system":"arab","standard":"¤ #,##0.00","accounting":"¤ #,##0.00","minus":"-","plus":"+","names":{"other":"{0} {1}"}}'
+    '{"locale":"qaa","system":"arab","standard":"¤ #,##0.00","accounting":"¤ #,##0.00","minus":"-","plus":"+"}'
 has currency_decimals \
     '{"locale":"qaa","minus":["−",""],"plus":["+",""],"decimal":"·","group":".","numsys":"latn","sizes":[3,3,2]}'
 counts currency_decimals 1
@@ -208,4 +330,19 @@ ends 2 "$release" --currencies eur
 ends 2 "$release" --currencies EUR,
 ends 2 "$release" --currencies
 ends 2 "$release" --which qaa --units day
+ends 2 "$release" --which qaa --systems arab
+
+# lacks LINE WORD..: status 2, and this line is the last one on standard error.
+lacks() {
+    local line=$1
+    shift
+    ends 2 "$release" qaa "$@"
+    judge "$*" diff <(echo "cldr_to_tables.py: error: $line") <(tail -n 1 "$folder/err")
+}
+lacks '--currencies: QQX: not in the release; the nearest: QQD, QQC, QQB, QQA' --currencies QQA,QQX,ZZZ
+lacks '--currencies: ZZZ: not in the release; none is near' --currencies ZZZ
+lacks '--units: kilometre: not in the release; the nearest: kilometer, length-kilometer' --units day,kilometre
+lacks '--systems: arb: not in the release; the nearest: arab' --systems arb
+lacks '--systems: roman: not in the release; none is near' --systems roman
+lacks '--systems: six: not in the release; none is near' --systems six
 ends 3 "$release/json" qad --units all

@@ -1,8 +1,9 @@
 #!/bin/bash
 # Makes tables of a small release, written for the purpose, and compares their entries, what is told on standard error,
-# what names mean, statuses, and what decfmt writes with them.
-# usage: tests/cldr_tables.sh [PROGRAM]
+# what names mean, statuses, and what decfmt and locnum write with them.
+# usage: tests/cldr_tables.sh [DECFMT [LOCNUM]]
 program=${1:-$(dirname "$0")/../crates/decfmt/out/decfmt}
+locnum=${2:-$(dirname "$0")/../crates/locnum/out/locnum}
 tool=$(dirname "$0")/../tools/cldr_to_tables.py
 release=$(dirname "$0")/cldr
 folder=$(mktemp -d)
@@ -56,14 +57,14 @@ has rules \
 has short "{\"locale\":\"qaa\",\"patterns\":[[4,4,{\"other\":\"{0}W.\"}],[6,6,{\"other\":\"{0}-m'm'\"}]]}"
 # exactly one, a literal alone, a doubled quote; past the last long type the short one, by root's alias
 has long "{\"locale\":\"qaa\",\"patterns\":[[3,3,{\"explicit_one\":\"a thousand\",\"one\":\"{0} thousand\",\"other\":\"{0} thousands\"}],[4,3,{\"other\":\"{0} thousands\"}],[5,3,{\"one\":\"{0} thousand\",\"other\":\"{0} thousands\"}],[6,6,{\"one\":\"million\",\"other\":\"x{0} o'clock\"}],[7,6,{\"other\":\"{0}-m'm'\"}]]}"
-# the child's pattern for other numbers comes before its parent's for one and for exactly one
-has long "{\"locale\":\"qaa-001\",\"patterns\":[[3,3,{\"other\":\"{0} grand\"}],[4,3,{\"other\":\"{0} thousands\"}],[5,3,{\"one\":\"{0} thousand\",\"other\":\"{0} thousands\"}],[6,6,{\"one\":\"million\",\"other\":\"x{0} o'clock\"}],[7,6,{\"other\":\"{0}-m'm'\"}]]}"
+# a child's pattern for other numbers alone: its parent's for one and for exactly one come before it
+has long "{\"locale\":\"qaa-001\",\"patterns\":[[3,3,{\"explicit_one\":\"a thousand\",\"one\":\"{0} thousand\",\"other\":\"{0} grand\"}],[4,3,{\"other\":\"{0} thousands\"}],[5,3,{\"one\":\"{0} thousand\",\"other\":\"{0} thousands\"}],[6,6,{\"one\":\"million\",\"other\":\"x{0} o'clock\"}],[7,6,{\"other\":\"{0}-m'm'\"}]]}"
 # categories that the locale's rules haven't
-has long "{\"locale\":\"qaa-CC\",\"patterns\":[[3,3,{\"other\":\"{0} grand\"}],[4,3,{\"other\":\"{0} thousands\"}],[6,6,{\"other\":\"x{0} o'clock\"}],[7,6,{\"other\":\"{0}-m'm'\"}]]}"
-# exactly zero; no long patterns, so the short ones; another numbering system's
+has long "{\"locale\":\"qaa-CC\",\"patterns\":[[3,3,{\"explicit_one\":\"a thousand\",\"other\":\"{0} grand\"}],[4,3,{\"other\":\"{0} thousands\"}],[6,6,{\"other\":\"x{0} o'clock\"}],[7,6,{\"other\":\"{0}-m'm'\"}]]}"
+# exactly zero, also where another numbering system's patterns have none; no long patterns, so the short ones
 has short \
     '{"locale":"qab","patterns":[[3,3,{"explicit_zero":"none","one":"t{0}","few":"t{0}","other":"{0}t"}],[4,3,{"other":"{0} t"}],[5,3,{"other":"{0}K"}],[6,6,{"other":"{0}M"}]]}' \
-    '{"locale":"qab","system":"arab","patterns":[[3,3,{"one":"{0} x","few":"{0} y","other":"{0} z"}],[4,3,{"other":"{0} t"}],[5,3,{"other":"{0}K"}],[6,6,{"other":"{0}M"}]]}'
+    '{"locale":"qab","system":"arab","patterns":[[3,3,{"explicit_zero":"none","one":"{0} x","few":"{0} y","other":"{0} z"}],[4,3,{"other":"{0} t"}],[5,3,{"other":"{0}K"}],[6,6,{"other":"{0}M"}]]}'
 has long '{"locale":"qab","patterns":[[3,3,{"explicit_zero":"none","one":"t{0}","few":"t{0}","other":"{0}t"}],[4,3,{"other":"{0} t"}],[5,3,{"other":"{0}K"}],[6,6,{"other":"{0}M"}]]}'
 
 answers 'qaa - plain' '1234\n-1234567.5\n+5\n' '1234\n−12.34.567,5\n+5\n'
@@ -93,7 +94,8 @@ python3 "$tool" "$release" qaf-ZZ-posix qaa_Arab qaa-Deva-CC qaa-arab root >"$fo
 judge 'the order of names' cmp "$folder/again.json" "$folder/named.json"
 
 # A system without symbols and patterns; text around plain numbers; repeats of other numbers, of a category for exactly
-# zero and of a type but for exactly one; zeros alone; a pattern without a count; a variant.
+# zero and of a type but for exactly one; zeros alone; a pattern without a count, which stands behind all that have one;
+# a variant.
 makes bare "$release" qae qae-tarask
 tells "${digits_lines[@]}" \
     "qae: decimalFormats[deva]/decimalFormatLength/decimalFormat/pattern: '~#,##0;(~#,##0)': text around a plain number is left out" \
@@ -107,7 +109,7 @@ has rules '{"locale":"qae-tarask","rules":[["two","n != 1 and n != 5"]]}'
 counts short 2
 counts long 2
 has short '{"locale":"qae","patterns":[[3,3,{"explicit_one":"K","other":"{0}K"}],[5,3,{"other":"{0}"}],[6,6,{"other":"{0}M"}]]}'
-has long '{"locale":"qae","patterns":[[3,3,{"two":"{0} b","other":"{0} a"}],[4,3,{"other":"{0} a"}],[5,3,{"other":"{0} n"}],[6,6,{"other":"{0}M"}]]}'
+has long '{"locale":"qae","patterns":[[3,3,{"explicit_one":"K","two":"{0} b","other":"{0} a"}],[4,3,{"other":"{0} a"}],[5,3,{"other":"{0}"}],[6,6,{"other":"{0}M"}],[7,6,{"other":"{0} n"}]]}'
 answers 'qae - short' '1000\n2000\n' 'K\n२K\n'
 
 # What can't be expressed.
@@ -121,7 +123,8 @@ tells "${digits_lines[@]}" \
     'qac: decimalFormats/pattern[2000]: its type is no power of ten' \
     "qac: decimalFormats[latn]/short/10000-many: '0W': it counts by another power of ten than the type's first pattern" \
     'qac: decimalFormats[latn]/short/100000: its exponent is below that of the type before it' \
-    'qac: decimalFormats[latn]/short/1000000: the patterns of the type before it, with another exponent' \
+    'qac: decimalFormats[latn]/short/1000: the patterns of the type 1000000, with another exponent' \
+    'qac: decimalFormats[latn]/short/10000: the patterns of the type 1000000, with another exponent' \
     'qac: decimalFormats[latn]/short/10000000000000000000000: more than 16 zeros' \
     "qac: decimalFormats[latn]/long/100-other: \"0'{0}'\": {0} in a literal" \
     "qac: decimalFormats[latn]/long/1000-other: 'elfu 0;elfu -0': a negative subpattern; the sign stands before the positive one" \
@@ -136,7 +139,7 @@ tells "${digits_lines[@]}" \
     "qac: decimalFormats[latn]/long/100000000000-other: '0E0': a pattern has two numbers" \
     'qac: decimalFormats[latn]/long/10000000000000000000000: more than 16 zeros'
 has rules '{"locale":"qac","rules":[["many","n = 10..19"]]}'
-has short '{"locale":"qac","patterns":[[3,3,{"other":"{0}K"}],[7,6,{"other":"{0}M"}],[21,6,{"other":"{0} far"}]]}'
+has short '{"locale":"qac","patterns":[[6,6,{"other":"{0}K"}],[7,6,{"other":"{0}M"}],[21,6,{"other":"{0} far"}]]}'
 has long '{"locale":"qac","patterns":[[3,3,{"other":"elfu {0}"}],[21,6,{"other":"{0} far"}]]}'
 answers 'qac - plain' '1234\n' '1,234\n'
 answers 'qac - long' '5000\n-5000\n' 'elfu 5\n-elfu 5\n'
@@ -315,7 +318,7 @@ judge 'kinds of what is left out' diff - "$folder/err" <<'END'
 3 in 2 locales: numbering systems left out (--verbose names each)
 3 in 1 locale: plural rules left out (--verbose names each)
 1 in 1 locale: plain patterns with a text or a sign left out (--verbose names each)
-16 in 1 locale: compact patterns left out (--verbose names each)
+17 in 1 locale: compact patterns left out (--verbose names each)
 1 in 1 locale: compact patterns with a negative subpattern, for which the sign stands before the positive one (--verbose names each)
 END
 python3 "$tool" "$release" -o "$folder/out" qad qaa-BB 2>"$folder/err"

@@ -26,6 +26,7 @@ import sys
 import tempfile
 
 import layout
+import named
 
 ROOT = os.path.dirname(os.path.dirname(os.path.abspath(__file__)))
 LOCK = os.path.join(ROOT, "edits.lock")
@@ -152,12 +153,13 @@ def add(into, paths):
         into.update(f"{path}\n{layout.spelled(os.path.join(ROOT, path))}\n".encode())
 
 
-def add_contracts(into, crate):
-    """Adds what a crate's proofs are read with: definitions of the crates below it, and contracts of what they offer."""
-    for name in sorted(below(crate)):
-        add(into, files_of(f"crates/{name}/specs"))
-        for path in files_of(f"crates/{name}/src"):
-            into.update(f"{layout.contracts(os.path.join(ROOT, path))}\n".encode())
+def add_contracts(into, crate, *circles):
+    """Adds what a crate's proofs are read with: of the crates below it the definitions, and the contracts of what they offer,
+    that the crate and the edits of these circles name, with all that these stand on."""
+    own = files_of(*[f"crates/{crate}/{part}" for part in (*PARTS, *circles)])
+    offered = files_of(*[f"crates/{name}/{part}" for name in sorted(below(crate)) for part in ("src", "specs")])
+    texts = named.named([os.path.join(ROOT, path) for path in own], [(os.path.join(ROOT, path), path) for path in offered])
+    into.update("".join(f"{text}\n" for text in texts).encode())
 
 
 def hash_of(crate, circle, seen_by, logic):
@@ -165,7 +167,7 @@ def hash_of(crate, circle, seen_by, logic):
     into = hashlib.sha256(f"{logic}\n".encode())
     parts = PARTS if seen_by == BY_PROVER else ("src", "specs")
     add(into, files_of(*[f"crates/{crate}/{part}" for part in parts], f"crates/{crate}/{circle}"))
-    add_contracts(into, crate)
+    add_contracts(into, crate, circle)
     if seen_by == BY_TESTS:
         tests = {tests for edit in edits_of(crate, circle) for tests, _ in edit.shown}
         add(into, files_of(*[f"crates/{name}/src" for name in sorted(tests)]))
@@ -331,7 +333,7 @@ def try_circle(crate, circle, seen_by, kit, logic):
         return [(edit, faults_by_tests(edit)) for edit in edits_of(crate, circle) if edit.shown]
     tried = edits_of(crate, circle, *([CONTROLS] if has_controls(crate, circle) else []))
     contracts_below = hashlib.sha256(f"{logic}\n{crate}\n".encode())
-    add_contracts(contracts_below, crate)
+    add_contracts(contracts_below, crate, INNER, OUTER)
     incremental = os.path.join(ROOT, "crates", crate, "out", "incremental")
     with tempfile.TemporaryDirectory() as kept:
         if os.path.isdir(incremental):

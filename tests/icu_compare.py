@@ -41,7 +41,6 @@ DOUBLE_DIGITS = 15
 EXPLICIT_ONE = "exactly one: ICU compares the number with its sign, so that -1000 isn't exactly one thousand"
 SIGN_WITHIN = "a negative subpattern or a sign in a compact pattern, which tables can't express"
 LONG_TYPES = "long patterns of some types alone: ICU doesn't take the other types from the short style"
-PARENTS_FIRST = "a child's pattern for other numbers: ICU takes its parent's for the category first"
 OPERANDS = "plural categories of significands of more than 15 digits: ICU takes n as a double, and i by 18 digits"
 OTHER = "any other"
 
@@ -128,18 +127,6 @@ class WithSign(cldr.CompactReader):
         return (exponent if number else None), text
 
 
-class ParentsFirst(cldr.CompactReader):
-    """Reads compact patterns with a category's own pattern in a parent before the one for other numbers in a child."""
-
-    def pattern(self, power, *counts):
-        """The first count that the locale or a parent has."""
-        for count in counts:
-            found, pattern = super().pattern(power, count)
-            if found == count:
-                return found, pattern
-        return None, None
-
-
 class KnownKinds:
     """Known kinds of difference, by their names. Each has a method that answers what ICU would write by its reason, or
     nothing where the reason doesn't apply."""
@@ -170,7 +157,6 @@ class Kinds(KnownKinds):
             EXPLICIT_ONE: self.explicit_one,
             SIGN_WITHIN: self.sign_within,
             LONG_TYPES: self.long_types,
-            PARENTS_FIRST: self.parents_first,
             OPERANDS: self.operands,
         }
 
@@ -217,13 +203,6 @@ class Kinds(KnownKinds):
         sign = signs["plus" if number[0] == "+" else "minus"][0]
         tables = self.with_patterns(job, WithSign, self.release, sign=sign, is_signed=number[0] in "+-")
         return self.again(job, tables, number.lstrip("+-"))
-
-    def parents_first(self, difference):
-        """The number in the patterns that are looked for in all parents, category by category."""
-        job, number, *_ = difference
-        if job.style == "plain":
-            return []
-        return self.again(job, self.with_patterns(job, ParentsFirst, self.release), number)
 
     def long_types(self, difference):
         """The long style with the types alone that aren't found in the short one."""

@@ -48,13 +48,10 @@ SPACED = "digits that aren't `[:digit:]`: ICU sets no space between them and a c
 GROUPS = "groups of accounts, names and percents of their own, which tables can't express"
 OWN_PATTERN = "patterns and separators of a single currency, which tables can't express"
 OWN_FOR_ALL = "the same of the locale's own currency, which ICU takes for all others too"
-LEFT_OUT = "money that tables leave out, as CLDR has no pattern of an amount with a name there"
 OTHER_SCRIPT = "units and names of a locale whose script isn't the likely one: ICU has those of the likely one"
 OWN_WITH_NAME = "names beside the pattern of the locale's own currency, in which ICU leaves the symbol"
-PLACES = "names in another numbering system than the usual one, whose places tables can't express"
+REPEATED = "types whose patterns the next type has, too, with another exponent: tables leave out the earlier one"
 LATIN_PLACES = "names where the usual numbering system has no patterns of money: ICU takes no other one's places"
-PARENTS_FIRST = "a child's name without a category: ICU takes its parent's for the category first"
-COMPACT_SYSTEM = "compact money in another numbering system than the usual one, whose patterns and signs tables can't express"
 
 NO_BREAK_SPACE = "\u00a0"
 
@@ -149,27 +146,14 @@ def icu_texts(peer, jobs):
     return [list(itertools.islice(lines, len(lines_of(job)))) for job in jobs]
 
 
-class LaterTypes(cldr_dimension.CompactMoneyReader):
-    """Reads compact patterns of money without the types whose patterns the next type has, too, with another exponent: tables
-    can't have both, and else leave out the later one."""
+class EarlierTypes(cldr_dimension.CompactMoneyReader):
+    """Reads compact patterns of money without the types that repeat the patterns of an earlier one with another exponent:
+    tables can't have both, and else leave out the earlier one."""
 
-    def table(self):
-        """The table without them."""
-        self.earlier, found = set(), None
-        while found != self.earlier:
-            found = set(self.earlier)
-            table = super().table()
-        return table
-
-    def elements(self, power):
-        """The exponent and the elements of a type, none of those that are left out."""
-        return None if power in self.earlier else super().elements(power)
-
-    def unfit(self, power, exponent, before, elements):
-        """Why a type can't stand after the one before it; the latter is left out where they have the same patterns."""
-        if exponent > before[1] and elements == cldr_numbers.without_explicit_one(before[2]):
-            self.earlier.add(before[0])
-        return super().unfit(power, exponent, before, elements)
+    def keep(self, kept, power, exponent, elements):
+        """Puts a type behind those that are kept if it isn't such a one."""
+        if not kept or elements != cldr_numbers.without_explicit_one(kept[-1].elements):
+            super().keep(kept, power, exponent, elements)
 
 
 class Kinds(KnownKinds):
@@ -184,13 +168,10 @@ class Kinds(KnownKinds):
             GROUPS: self.own_groups,
             OWN_PATTERN: self.own_pattern,
             OWN_FOR_ALL: self.own_for_all,
-            LEFT_OUT: self.left_out,
             OTHER_SCRIPT: self.other_script,
             OWN_WITH_NAME: self.own_with_name,
-            PLACES: self.places,
             LATIN_PLACES: self.root_places,
-            PARENTS_FIRST: self.parents_first,
-            COMPACT_SYSTEM: self.compact_system,
+            REPEATED: self.earlier_types,
         }
 
     def entry(self, tables, key, job):
@@ -288,20 +269,6 @@ class Kinds(KnownKinds):
             return []
         return self.texts_with_own(difference, self.release.named(self.names[difference.job.locale], "currencies", "currency"))
 
-    def left_out(self, difference):
-        """The text by CLDR's patterns of money, compact ones too, and names behind amounts."""
-        job = difference.job
-        tables = self.locnum.tables_of(job.locale)
-        if difference.ours is not None or not job.style.startswith("money") or self.entry(tables, "currencies", job):
-            return []
-        locale, system = self.names[job.locale], self.entry(tables, "symbols", job)["numsys"]
-        entry = cldr_dimension.money_patterns(self.release, locale, cldr_dimension.money_formats(self.release, locale, system))
-        entry.update(cldr_dimension.signs_of(self.release, locale, system), names={"other": "{0} {1}"}, locale=job.locale)
-        tables["currencies"] = [entry]
-        if job.style.endswith(" compact"):
-            return self.by_compact(difference, tables, system)
-        return self.again(tables, difference)
-
     def other_script(self, difference):
         """The text by the units and names of the same language and region in another script."""
         job = difference.job
@@ -327,16 +294,6 @@ class Kinds(KnownKinds):
             yield amount + name
             yield amount[:-1] + name + amount[-1:]
 
-    def places(self, difference):
-        """The text by the places that names have in the numbering system."""
-        job = difference.job
-        tables = self.locnum.tables_of(job.locale)
-        entry = self.entry(tables, "currencies", job)
-        if not job.style.endswith(" name") or not entry or "system" not in entry:
-            return []
-        tables["currencies"] = [{name: entry[name] for name in entry if name != "system"}]
-        return self.again(tables, difference)
-
     def root_places(self, difference):
         """The text with the name behind the amount, as root has it."""
         job = difference.job
@@ -350,44 +307,18 @@ class Kinds(KnownKinds):
             entry["names"] = {"other": "{0} {1}"}
         return self.again(tables, difference)
 
-    def parents_first(self, difference):
-        """The text by names that are looked for in all parents category by category, and without one last."""
+    def earlier_types(self, difference):
+        """The text by the patterns of the earlier of two types that repeat each other."""
         job = difference.job
-        if not job.style.endswith(" name"):
+        if not job.style.endswith(" compact"):
             return []
-        tables, code = self.locnum.tables_of(job.locale), job.style.split()[1]
-        path = cldr_paths.currency_path(code)
-        names = {}
-        for category in [*(rule[0] for rule in tables["rules"][0]["rules"]), "other"]:
-            counted = [(*path, cldr_paths.step("displayName", {"count": count})) for count in (category, "other")]
-            texts = [self.release.find(self.names[job.locale], it, lambda option: [option])[1] for it in counted]
-            names[category] = next((text for text in texts if text), None)
-        if names["other"] is None:
-            return []
-        for row in tables["currency_symbols"][0]["symbols"]:
-            if row[0] == code:
-                row[3] = names
-        return self.again(tables, difference)
-
-    def by_compact(self, difference, tables, system):
-        """The text by each way to put the compact patterns of money of a numbering system into tables."""
-        job = difference.job
-        locale, rules = self.names[job.locale], [tuple(rule) for rule in tables["rules"][0]["rules"]]
+        tables, locale = self.locnum.tables_of(job.locale), self.names[job.locale]
+        rules = [tuple(rule) for rule in tables["rules"][0]["rules"]]
+        system = self.entry(tables, "symbols", job)["numsys"]
         formats = cldr_dimension.compact_money_formats(self.release, locale, system)
-        for reader_type in (cldr_dimension.CompactMoneyReader, LaterTypes):
-            reader = reader_type(self.release, locale, formats, cldr_dimension.SHORT, rules)
-            tables["currency_compact"] = [{"locale": job.locale, "patterns": reader.table()}]
-            yield from self.again(tables, difference)
-
-    def compact_system(self, difference):
-        """The text by the compact patterns and the signs that the locale has in the numbering system."""
-        job = difference.job
-        tables = self.locnum.tables_of(job.locale)
-        money = self.entry(tables, "currencies", job)
-        if not job.style.endswith(" compact") or job.system == "-" or not money:
-            return []
-        tables["currencies"] = [{name: money[name] for name in money if name != "system"}]
-        return self.by_compact(difference, tables, self.entry(tables, "symbols", job)["numsys"])
+        reader = EarlierTypes(self.release, locale, formats, cldr_dimension.SHORT, rules)
+        tables["currency_compact"] = [{"locale": job.locale, "patterns": reader.table()}]
+        return self.again(tables, difference)
 
 
 def group_of(job):

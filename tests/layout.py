@@ -9,17 +9,12 @@ BODY = re.compile(r'( *)(\{|(pub(\([a-z]+\))? )?(const )?(unsafe )?(extern "C" )
 PRIVATE = re.compile(r" *(pub\([a-z]+\) )?(const )?(unsafe )?fn .*")
 WHOLE = re.compile(r".*(\}|;)")
 OF_TRAIT = re.compile(r"(pub )?(unsafe )?(impl\b.* for |trait ).*")
-# An import or a constant that no other crate sees, with the names that an import brings, and a name.
-PRIVATE_ITEM = re.compile(
-    r"^ *(?:ghost )?use (?:[^;{]*\{([^}]*)\}|[^;{]*?([\w◌]+));"
-    r"|^ *(?:pub\([a-z]+\) )?const (\w+):(?:\[[^\]]*\]|[^;\[])*;",
-    re.M,
-)
-NAME = re.compile(r"[^\s()\[\]{},;:.]+")
 # An import of definitions or proofs, and the words of a file: texts and characters whole.
 IMPORT = re.compile(r"(?:ghost )?use ([\w.]+)\.\{([^}]*)\};?")
 WORD = re.compile(r"""\"(?:\\.|[^"\\])*"|'(?:\\.|[^'\\])'|[()\[\]{},;]|[^\s()\[\]{},;"]+|\"""")
 CLOSING = (")", "]", "}")
+# Who may call an item of a crate, which changes nothing of the item itself.
+VISIBILITY = re.compile(r"\bpub (?:\( (?:crate|super) \) )?")
 
 
 def said_in(path):
@@ -43,9 +38,10 @@ def with_imports_in_order(lines):
 
 
 def spelled(path):
-    """What a file says, whatever its layout and the order of its imports."""
+    """What a file says, whatever its layout and the order of its imports; of a source whoever may call its items."""
     lines = said_in(path)
-    return with_imports_in_order(lines) if path.endswith((".rt", ".antt")) else words_of(lines)
+    said = with_imports_in_order(lines) if path.endswith((".rt", ".antt")) else words_of(lines)
+    return VISIBILITY.sub("", said) if path.endswith(".rt") else said
 
 
 def without_bodies(lines):
@@ -71,26 +67,3 @@ def without_bodies(lines):
         elif (is_private and WHOLE.fullmatch(line)) or line.strip() == "{}":
             is_hidden = False
         attributes = []
-
-
-def with_used_items(text):
-    """A source with those names alone of its private imports and constants that the rest of it has."""
-    rest = PRIVATE_ITEM.sub("", text)
-    names = set(NAME.findall(rest))
-
-    def is_used(name):
-        return all(part in rest for part in name.split("◌")) if "◌" in name else name in names
-
-    def kept(item):
-        listed, single, constant = item.groups()
-        if listed is None:
-            return item[0] if is_used(single or constant) else ""
-        used = [name for name in NAME.findall(listed) if is_used(name)]
-        return item[0].replace(listed, ", ".join(used)) if used else ""
-
-    return PRIVATE_ITEM.sub(kept, text)
-
-
-def contracts(path):
-    """What a source says to other crates."""
-    return with_imports_in_order(with_used_items("\n".join(without_bodies(said_in(path)))).splitlines())

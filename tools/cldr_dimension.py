@@ -3,7 +3,6 @@ from cldr_numbers import LATIN, CompactReader, fitting, formats_of, symbol, symb
 from cldr_paths import (
     UNIT_WIDTHS,
     compact_money_path,
-    counted,
     currency_path,
     money_names_path,
     money_path,
@@ -47,23 +46,24 @@ def with_places(text, *places):
 
 def by_category(release, locale, rules, path_of):
     """The texts at the paths that `path_of` gives for plural categories, `other` among them, or None."""
-    other = release.find(locale, path_of("other"), counted("other"))[1]
-    if other is None:
-        return None
-    elements = {"other": other}
-    for category, _ in rules:
-        found, text = release.find(locale, path_of(category), counted(category, "other"))
-        if dict(found[-1][1:]).get("count") == category:
-            elements[category] = text
-    return without_repeats(elements, rules)
+    elements = release.counted_texts(locale, [category for category, _ in rules], path_of)
+    return without_repeats(elements, rules) if elements else None
 
 
 # Money and percents.
 
 
+def sign(release, locale, system, name):
+    """The text of a sign, which isn't empty in tables of money and percents."""
+    text = symbol(release, locale, system, name)
+    if not text:
+        raise Inexpressible(f"{name} is empty")
+    return text
+
+
 def signs_of(release, locale, system):
     """The texts of the minus and the plus sign by their names in tables."""
-    return {name: symbol(release, locale, system, f"{name}Sign") for name in ("minus", "plus")}
+    return {name: sign(release, locale, system, f"{name}Sign") for name in ("minus", "plus")}
 
 
 def plain_pattern(release, locale, system):
@@ -84,9 +84,9 @@ def percent_entry(release, locale, system):
     pattern = release.text(locale, path)
     if pattern is None:
         raise Inexpressible("no pattern of percents")
-    refuse_unreadable(pattern, PERCENT)
+    refuse_unreadable(pattern, "", once=PERCENT)
     tell_groups(release, locale, path, pattern, plain_pattern(release, locale, system))
-    percent = symbol(release, locale, system, "percentSign")
+    percent = sign(release, locale, system, "percentSign")
     return {"pattern": pattern, **signs_of(release, locale, system), "percent": percent}
 
 
@@ -113,8 +113,8 @@ class CompactMoneyReader(CompactReader):
         """Tells nothing: the patterns have their negative subpatterns."""
 
     def unfit(self, power, exponent, before, elements):
-        """Why a type can't stand in the table after the one before it, or None."""
-        return unfit(power, exponent, before, elements) or ("no symbol" if PLACE in elements.values() else None)
+        """Why a type can't stand in the table after one with the exponent `before`, or None."""
+        return unfit(power, exponent, before) or ("no symbol" if PLACE in elements.values() else None)
 
 
 def compact_money_formats(release, locale, system):
@@ -131,11 +131,12 @@ def compact_money_entry(release, locale, system, rules):
 
 
 def money_names(release, locale, system, rules):
-    """The patterns of an amount and the name of its currency."""
-    names = by_category(release, locale, rules, lambda count: money_names_path(system, count))
-    if names is None:
-        raise Inexpressible("no pattern of an amount with a name")
-    return {category: with_places(text, PLACE, NAME) for category, text in names.items()}
+    """The patterns of an amount and the name of its currency of a numbering system, or of latn where it has none."""
+    for formats in (system, LATIN):
+        names = by_category(release, locale, rules, lambda count: money_names_path(formats, count))
+        if names:
+            return {category: with_places(text, PLACE, NAME) for category, text in names.items()}
+    raise Inexpressible("no pattern of an amount with a name")
 
 
 def money_formats(release, locale, system):
@@ -174,7 +175,7 @@ def money_symbols(release, locale, system):
     return None if entry == numbers else fitting(entry)
 
 
-def money_entry(release, locale, system, rules):
+def money_entry(release, locale, system):
     """The patterns of money and the texts of the signs in them."""
     formats = money_formats(release, locale, system)
     entry = money_patterns(release, locale, formats)
@@ -184,8 +185,7 @@ def money_entry(release, locale, system, rules):
     }
     for path, pattern in grouped.items():
         tell_groups(release, locale, path, pattern, entry["standard"])
-    entry.update(signs_of(release, locale, system), names=money_names(release, locale, formats, rules))
-    return entry
+    return {**entry, **signs_of(release, locale, system)}
 
 
 # Currencies.
@@ -207,7 +207,7 @@ def currency_texts(release, locale, code, rules):
 
 def codes_of(release, locale, wanted):
     """The codes of currencies that are asked for, or all of which the locale or a parent says something."""
-    return release.named(locale, "currencies", "currency") if wanted == "all" else wanted
+    return release.named([locale], "currencies", "currency") if wanted == "all" else wanted
 
 
 def digits_of(release, code, info):
@@ -238,18 +238,24 @@ def currency_digits(release, wanted):
 
 def unit_types(release, locale, wanted):
     """The units that are asked for, as the release names them, with their kind before them."""
-    types = release.named(locale, "unitLength", "unit")
+    types = release.named([locale], "unitLength", "unit")
     if wanted == "all":
         return types
     found = {unit: next((name for name in types if unit in (name, core(name))), None) for unit in wanted}
     for unit in (unit for unit, name in found.items() if name is None):
-        release.reports.left_out(UNIT, locale, f"unit {unit}", "the release has no such unit")
+        release.reports.left_out(UNIT, locale, f"unit {unit}", "the locale has no such unit")
     return [name for name in found.values() if name]
 
 
 def core(unit):
     """A unit without its kind: `kilometer` of `length-kilometer` (UTS 35 Part 2, Unit Identifiers)."""
     return unit.partition("-")[2]
+
+
+def names_of_units(release, locales):
+    """The names by which units of locales may be asked for: theirs alone, and those with their kind before them."""
+    types = release.named(locales, "unitLength", "unit")
+    return sorted({*map(core, types), *types})
 
 
 def unit_entries(release, locale, wanted, rules):

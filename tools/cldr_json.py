@@ -106,7 +106,7 @@ class JsonRelease(Release):
     def read_tree(self, locale):
         """Reads a locale's files into the paths that LDML has."""
         name = "und" if locale == "root" else locale.replace("_", "-")
-        tree = Tree({}, {})
+        tree = Tree({}, {}, {})
         for key, value in self.part("cldr-numbers-full", name, "numbers.json")["numbers"].items():
             tag, _, system = key.partition("-numberSystem-")
             if tag not in self.scope.elements:
@@ -133,9 +133,18 @@ class JsonRelease(Release):
         """The locale alone."""
         return (locale,)
 
+    def currency_data(self, name):
+        """A part of what the packages say of currencies beside locales."""
+        data = self.load("cldr-core", "supplemental", "currencyData.json")["supplemental"]["currencyData"]
+        return data.get(name, {})
+
+    def dated_currencies(self):
+        """The codes of all currencies that were or are in use somewhere."""
+        return {code for entries in self.currency_data("region").values() for entry in entries for code in entry}
+
     def fractions(self):
         """What is said of the fraction digits of each currency."""
-        data = self.load("cldr-core", "supplemental", "currencyData.json")["supplemental"]["currencyData"]["fractions"]
+        data = self.currency_data("fractions")
         return {code: {name.lstrip("_"): text for name, text in info.items()} for code, info in data.items()}
 
     def digits(self):

@@ -4,17 +4,16 @@ import re
 from xml.etree import ElementTree
 
 import cldr_names
-from cldr_paths import shown, step
+from cldr_paths import step
 from cldr_release import STYLES, Release, Tree, below, truncated
-from cldr_reports import DRAFT
 
 UNCERTAIN = ("unconfirmed", "provisional")
 INHERIT = "↑↑↑"
 
 
-def collect(element, above, tree, uncertain, symbols):
-    """Puts an element and those in it into the tree; calls `uncertain` for what is a draft. Of symbols those that are
-    named are taken, and of forms for grammatical cases none."""
+def collect(element, above, tree, symbols):
+    """Puts an element and those in it into the tree. Of symbols those that are named are taken, and of forms for
+    grammatical cases none."""
     path = above + (step(element.tag, element.attrib),)
     alias = element.find("alias")
     if above and above[0][0] == "symbols" and element.tag not in symbols or "case" in element.attrib:
@@ -23,9 +22,9 @@ def collect(element, above, tree, uncertain, symbols):
         tree.aliases[path] = (alias.get("source", "locale"), alias.get("path", "."))
     elif len(element):
         for child in element:
-            collect(child, path, tree, uncertain, symbols)
+            collect(child, path, tree, symbols)
     elif element.get("draft") in UNCERTAIN:
-        uncertain(path, element.get("draft"))
+        tree.drafts[path] = element.get("draft")
     elif element.text != INHERIT:
         tree.values[path] = element.text or ""
 
@@ -51,15 +50,11 @@ class LdmlRelease(Release):
 
     def read_tree(self, locale):
         """Reads a locale's file; drafts below `contributed` aren't taken (UTS 35 Part 1, Attribute draft)."""
-        tree = Tree({}, {})
-
-        def uncertain(path, draft):
-            self.reports.left_out(DRAFT, locale, shown(path), f"a draft, {draft}: what is inherited stands")
-
+        tree = Tree({}, {}, {})
         root = self.parse("main", f"{locale}.xml")
         for element in (*root.iterfind("numbers/*"), *root.iterfind("units/*")):
             if element.tag in self.scope.elements:
-                collect(element, (), tree, uncertain, self.scope.symbols)
+                collect(element, (), tree, self.scope.symbols)
         return tree
 
     def parent_entries(self, component):
@@ -115,6 +110,11 @@ class LdmlRelease(Release):
         """What is said of the fraction digits of each currency (UTS 35 Part 3, Supplemental Currency Data)."""
         entries = self.parse("supplemental", "supplementalData.xml").iterfind("currencyData/fractions/info")
         return {entry.get("iso4217"): dict(entry.attrib) for entry in entries}
+
+    def dated_currencies(self):
+        """The codes of all currencies that were or are in use somewhere (UTS 35 Part 3, Supplemental Currency Data)."""
+        entries = self.parse("supplemental", "supplementalData.xml").iterfind("currencyData/region/currency")
+        return {entry.get("iso4217") for entry in entries}
 
     @functools.cached_property
     def levels(self):

@@ -1,7 +1,8 @@
 """The entries of numbers: symbols and compact patterns."""
+import collections
 import re
 
-from cldr_paths import compact_path, counted, plain_path, shown, step, symbols_path
+from cldr_paths import compact_path, plain_path, shown, step, symbols_path
 from cldr_patterns import CATEGORIES, PLACE, around_number, category_of, compact_text, grouping, literal, subpatterns
 from cldr_reports import COMPACT, NEGATIVE, PLAIN, SYSTEM, Inexpressible
 
@@ -11,6 +12,9 @@ SYMBOLS_BYTES = 255
 LARGEST_GROUP = 255
 PATTERNS_BYTES = 65535
 MOST_ZEROS = 16
+
+Row = collections.namedtuple("Row", "powers exponent elements")
+Row.__doc__ = "A row of a compact table: the types that it stands for, the lowest first, their exponent and patterns."
 
 
 def named(locale):
@@ -135,26 +139,14 @@ class CompactReader:
             self.left_out(power, count, reason, NEGATIVE)
 
     def unfit(self, power, exponent, before, elements):
-        """Why a type can't stand in the table after the one before it, or None."""
-        return unfit(power, exponent, before, elements)
-
-    def pattern(self, power, *counts):
-        """The pattern that is found with one of the counts, and the count that it was found with."""
-        found, pattern = self.release.find(self.locale, self.path(power, counts[0]), counted(*counts))
-        return (dict(found[-1][1:]).get("count") if found else None), pattern
+        """Why a type can't stand in the table after one with the exponent `before`, or None."""
+        return unfit(power, exponent, before)
 
     def patterns(self, power):
-        """The patterns of a type by their names in tables, `other` first; those that aren't found by another name."""
-        found = {"other": self.pattern(power, "other")[1]}
-        for category, _ in self.rules:
-            count, pattern = self.pattern(power, category, "other")
-            if count == category:
-                found[category] = pattern
-        for number, name in EXPLICIT.items():
-            count, pattern = self.pattern(power, number, category_of(self.rules, int(number)), "other")
-            if count == number:
-                found[name] = pattern
-        return {name: pattern for name, pattern in found.items() if pattern is not None}
+        """The patterns of a type by their names in tables, `other` first."""
+        counts = [*(category for category, _ in self.rules), *EXPLICIT]
+        found = self.release.counted_texts(self.locale, counts, lambda count: self.path(power, count))
+        return {EXPLICIT.get(count, count): pattern for count, pattern in found.items()}
 
     def read(self, power, count, pattern):
         """A pattern as its exponent, None where it has no zeros, and its text; None where it can't be expressed."""
@@ -196,15 +188,25 @@ class CompactReader:
             exponent, elements = self.elements(power) or (None, None)
             if elements is None or not kept and (exponent, elements) == (0, {"other": PLACE}):
                 continue
-            before = kept[-1] if kept else [0, 0, None]
-            reason = self.unfit(power, exponent, before, elements)
+            reason = self.unfit(power, exponent, kept[-1].exponent if kept else 0, elements)
             if reason:
                 self.left_out(power, "", reason)
-            elif [exponent, elements] != [before[1], without_explicit_one(before[2])]:
-                kept.append([power, exponent, elements])
-        if sum(len(text.encode()) for _, _, elements in kept for text in elements.values()) > PATTERNS_BYTES:
+            else:
+                self.keep(kept, power, exponent, elements)
+        if sum(len(text.encode()) for row in kept for text in row.elements.values()) > PATTERNS_BYTES:
             raise Inexpressible(f"its patterns are more than {PATTERNS_BYTES} bytes")
-        return kept
+        return [[row.powers[0], row.exponent, row.elements] for row in kept]
+
+    def keep(self, kept, power, exponent, elements):
+        """Puts a type behind those that are kept: into the row whose patterns it repeats, or as a row of its own. Rows
+        with its patterns and another exponent go, since tables can't have both."""
+        while kept and elements == without_explicit_one(kept[-1].elements):
+            if kept[-1].exponent == exponent:
+                kept[-1].powers.append(power)
+                return
+            for earlier in kept.pop().powers:
+                self.left_out(earlier, "", f"the patterns of the type 1{'0' * power}, with another exponent")
+        kept.append(Row([power], exponent, elements))
 
 
 def without_repeats(elements, rules):
@@ -222,15 +224,13 @@ def without_repeats(elements, rules):
 
 def without_explicit_one(elements):
     """Elements without the pattern for exactly one."""
-    return {name: text for name, text in (elements or {}).items() if name != "explicit_one"}
+    return {name: text for name, text in elements.items() if name != "explicit_one"}
 
 
-def unfit(power, exponent, before, elements):
-    """Why a type can't stand in a compact table after the one before it, or None."""
-    if exponent < before[1]:
+def unfit(power, exponent, before):
+    """Why a type can't stand in a compact table after one with the exponent `before`, or None."""
+    if exponent < before:
         return "its exponent is below that of the type before it"
     if power - exponent >= MOST_ZEROS:
         return f"more than {MOST_ZEROS} zeros"
-    if exponent != before[1] and elements == without_explicit_one(before[2]):
-        return "the patterns of the type before it, with another exponent"
     return None

@@ -26,9 +26,9 @@ def follow(path, relative):
     return path
 
 
-def same(path):
-    """The path itself is all that is looked for."""
-    return (path,)
+def system_of(path):
+    """The numbering system for which a path is, or None."""
+    return dict(path[0][1:]).get("numberSystem") if path else None
 
 
 def symbols_path(system):
@@ -105,14 +105,7 @@ def unit_path(width, unit, count):
     )
 
 
-def counted(*counts):
-    """The paths with these counts in turn, and last without a count (UTS 35 Part 1, Lateral Inheritance)."""
-
-    def options(path):
-        *above, (tag, *attributes) = path
-        attributes = dict(attributes)
-        attributes.pop("count", None)
-        with_counts = [step(tag, {**attributes, "count": count}) for count in counts]
-        return [(*above, last) for last in (*with_counts, step(tag, attributes))]
-
-    return options
+def without_count(path):
+    """The path without the count at its end."""
+    *above, (tag, *attributes) = path
+    return (*above, (tag, *(pair for pair in attributes if pair[0] != "count")))

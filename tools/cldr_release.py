@@ -1,12 +1,13 @@
 """A CLDR release: what every locale says, with inheritance and aliases resolved."""
 import collections
 import functools
+import itertools
 import operator
 import re
 
 import cldr_names
-from cldr_paths import follow, same
-from cldr_reports import COMPACT, Inexpressible
+from cldr_paths import follow, shown, system_of, without_count
+from cldr_reports import COMPACT, DRAFT, Inexpressible
 
 STYLES = ("short", "long")
 LEVELS = ("modern", "moderate", "basic")
@@ -22,8 +23,9 @@ MONEY = Scope({"currencyFormats", "currencies"}, {"currencyDecimal", "currencyGr
 PERCENTS = Scope({"percentFormats"}, {"percentSign"})
 UNITS = Scope({"unitLength"}, set())
 
-Tree = collections.namedtuple("Tree", "values aliases")
-Tree.__doc__ = "What one file says of numbers: texts by path, and aliases as source and path by path."
+Tree = collections.namedtuple("Tree", "values aliases drafts")
+Tree.__doc__ = """What one file says of numbers by path: texts, aliases as source and path, and how uncertain drafts are,
+whose texts aren't taken."""
 
 
 class Release:
@@ -42,36 +44,50 @@ class Release:
             self.trees[locale] = self.read_tree(locale)
         return self.trees[locale]
 
-    def find(self, locale, path, options=same, seen=()):
-        """The first of the paths that `options` gives for `path`, with its text, in the locale or else its parents.
+    def text(self, locale, path, seen=()):
+        """The text at a path in the locale or else its parents, or None. Drafts that are passed over are told.
 
-        All of a locale's options come before its parent (UTS 35 Part 1, Lateral Inheritance). An alias with the
-        source `locale` begins anew at the locale that was asked for (UTS 35 Part 1, Alias Elements).
+        An alias with the source `locale` begins anew at the locale that was asked for (UTS 35 Part 1, Alias Elements).
         """
         if (locale, path) in seen:
             raise Inexpressible("its aliases lead back to it")
         for ancestor in self.chain(locale):
             tree = self.tree(ancestor)
-            for option in options(path):
-                if option in tree.values:
-                    return option, tree.values[option]
+            if path in tree.values:
+                return tree.values[path]
+            if path in tree.drafts:
+                reason = f"a draft, {tree.drafts[path]}: what is inherited stands"
+                self.reports.left_out(DRAFT, ancestor, shown(path), reason)
             for length in range(len(path), 0, -1):
                 if path[:length] in tree.aliases:
                     source, relative = tree.aliases[path[:length]]
                     target = follow(path[:length], relative) + path[length:]
                     begin = locale if source == "locale" else source
-                    return self.find(begin, target, options, seen + ((locale, path),))
-        return None, None
+                    return self.text(begin, target, seen + ((locale, path),))
+        return None
 
-    def text(self, locale, path):
-        """The text at a path, or None."""
-        return self.find(locale, path)[1]
+    def counted_texts(self, locale, counts, path_of):
+        """The texts of those of the counts that the locale or a parent has, at the paths that `path_of` gives, `other`
+        first; without it none.
+
+        Each count is looked for in all parents before `other` stands for it, and `other` before what has no count
+        (UTS 35 Part 1, Lateral Inheritance, in the order of ICU).
+        """
+        texts = {count: self.text(locale, path_of(count)) for count in ("other", *counts)}
+        if texts["other"] is None:
+            texts["other"] = self.text(locale, without_count(path_of("other")))
+        return {} if texts["other"] is None else {count: text for count, text in texts.items() if text is not None}
+
+    def paths(self, locale):
+        """The paths at which this locale's own file has a text, drafts among them."""
+        tree = self.tree(locale)
+        return itertools.chain(tree.values, tree.drafts)
 
     def powers(self, locale, formats="decimalFormats"):
         """The powers of ten for which the locale or a parent of it has a compact pattern."""
         types = set()
         for ancestor in self.chain(locale):
-            for path in self.tree(ancestor).values:
+            for path in self.paths(ancestor):
                 if path[0][0] == formats and path[-1][0] == "pattern":
                     types.add(dict(path[-1][1:]).get("type", "1"))
         for name in sorted(types):
@@ -79,11 +95,29 @@ class Release:
                 self.reports.left_out(COMPACT, locale, f"{formats}/pattern[{name}]", "its type is no power of ten")
         return sorted(len(name) - 1 for name in types if re.fullmatch("10+", name))
 
-    def named(self, locale, element, tag):
-        """The types that elements of a tag have within an element, in the locale or a parent of it."""
-        paths = (path for ancestor in self.chain(locale) for path in self.tree(ancestor).values)
+    def named(self, locales, element, tag):
+        """The types that elements of a tag have within an element, in one of the locales or a parent of it."""
+        ancestors = {ancestor for locale in locales for ancestor in self.chain(locale)}
+        paths = (path for ancestor in ancestors for path in self.paths(ancestor))
         inside = (path[1] for path in paths if path[0][0] == element)
         return sorted({dict(attributes)["type"] for name, *attributes in inside if name == tag})
+
+    @functools.lru_cache(maxsize=None)
+    def systems(self, locale):
+        """The numbering systems for which the locale or a parent has texts, or an alias to another one than latn; all
+        others are written as latn is, by root's aliases or for want of texts (UTS 35 Part 3, Numbering Systems)."""
+        found = set()
+        for ancestor in self.chain(locale):
+            aliases = self.tree(ancestor).aliases.items()
+            targets = {path: follow(path, relative) for path, (_, relative) in aliases}
+            found.update(system_of(path) for path in self.paths(ancestor))
+            found.update(system_of(path) for path, target in targets.items() if system_of(target) != "latn")
+        return found
+
+    def currency_codes(self, locales):
+        """The codes of currencies of which the release or one of the locales says something."""
+        named = self.named(locales, "currencies", "currency")
+        return self.dated_currencies().union(self.fractions(), named) - {"DEFAULT"}
 
     def covered(self, level):
         """The locales of a level of coverage or a better one, or `all`."""

@@ -12,6 +12,7 @@ RULE = "plural rules left out"
 SYSTEM = "numbering systems left out"
 ENTRY = "symbols or compact patterns left out as a whole"
 MONEY_ENTRY = "patterns of money or percents left out as a whole"
+NAMES = "patterns of amounts with names left out"
 GROUPS = "groups of accounts, names and percents left out, for which those of other amounts or numbers stand"
 OWN_PATTERN = "patterns and separators of single currencies left out"
 CASH = "digits and roundings of currencies left out"
@@ -24,6 +25,10 @@ class NotARelease(Exception):
 
 class UnknownLocale(Exception):
     """The release has no such locale; the text says of each name what it means."""
+
+
+class UnknownWord(Exception):
+    """The release has no such currency, unit or numbering system; the text is for the command line."""
 
 
 class Inexpressible(Exception):

@@ -6,6 +6,7 @@ the JSON packages cldr-core and cldr-numbers-full, and cldr-units-full for units
 express is left out, with one line on standard error for each kind; with --verbose one for each: locale, key and reason.
 
 The tables have what numbers need; --currencies, --percents and --units add the keys of money, percents and units.
+--systems adds what locales have in further numbering systems beside their default one, their native one and latn.
 
 Beside the release's locales the tables have the names by which these are known elsewhere, such as zh-TW, no-NO and iw.
 With --which the program tells what a name means, and makes no tables.
@@ -15,6 +16,7 @@ locale of the release.
 """
 import argparse
 import collections
+import difflib
 import functools
 import json
 import pathlib
@@ -29,22 +31,54 @@ from cldr_dimension import (
     currency_digits,
     currency_texts,
     money_entry,
+    money_names,
     money_symbols,
+    names_of_units,
     percent_entry,
     unit_entries,
 )
 from cldr_json import JsonRelease
 from cldr_ldml import LdmlRelease
-from cldr_numbers import CompactReader, formats_of, named, symbols_entry, systems_of
+from cldr_numbers import LATIN, CompactReader, formats_of, named, symbols_entry, systems_of
 from cldr_patterns import conditions
 from cldr_release import LEVELS, MONEY, PERCENTS, STYLES, UNITS
-from cldr_reports import ENTRY, MONEY_ENTRY, SYSTEM, UNREADABLE, Inexpressible, NotARelease, Reports, UnknownLocale
+from cldr_reports import (
+    ENTRY,
+    MONEY_ENTRY,
+    NAMES,
+    SYSTEM,
+    UNREADABLE,
+    Inexpressible,
+    NotARelease,
+    Reports,
+    UnknownLocale,
+    UnknownWord,
+)
 
 
-Wanted = collections.namedtuple("Wanted", "currencies percents units")
-Wanted.__doc__ = "What tables have beside numbers: codes of currencies and names of units, `all` or an empty list."
+Wanted = collections.namedtuple("Wanted", "currencies percents units systems", defaults=((), False, (), ()))
+Wanted.__doc__ = """What tables have beside numbers in the usual numbering systems: codes of currencies, percents or not,
+names of units, and further numbering systems. `all` may stand for a list, and a list may be empty."""
 
-NUMBERS_ALONE = Wanted((), False, ())
+NUMBERS_ALONE = Wanted()
+
+
+def usable_digits(release):
+    """The digits of the numeric systems whose names and digits the format takes."""
+    usable = {}
+    for system, digits in sorted(release.digits().items()):
+        if re.fullmatch("[a-z0-9]{3,8}", system) and len(digits) == 10:
+            usable[system] = digits
+        else:
+            reason = "its name isn't 3 to 8 small letters and digits, or its digits aren't ten"
+            release.reports.left_out(SYSTEM, "root", f"numbering system {system}", reason)
+    return usable
+
+
+def by_system(systems, entries):
+    """The entries of systems in their order; that of the first, the locale's default one, without its name."""
+    found = [system for system in systems if system in entries]
+    return [{**({} if system == systems[0] else {"system": system}), **entries[system]} for system in found]
 
 
 class TablesMaker:
@@ -53,7 +87,8 @@ class TablesMaker:
     def __init__(self, release, wanted=NUMBERS_ALONE):
         self.release = release
         self.wanted = wanted
-        self.digits = self.usable_digits()
+        self.digits = usable_digits(release)
+        self.further = sorted(self.digits) if wanted.systems == "all" else wanted.systems
         digits = [[system, digits] for system, digits in sorted(self.digits.items())]
         self.tables = {"symbols": [], "digits": digits, "rules": [], "short": [], "long": []}
         if wanted.currencies:
@@ -63,17 +98,6 @@ class TablesMaker:
             self.tables["percents"] = []
         if wanted.units:
             self.tables["units"] = []
-
-    def usable_digits(self):
-        """The digits of the numeric systems whose names and digits the format takes."""
-        usable = {}
-        for system, digits in sorted(self.release.digits().items()):
-            if re.fullmatch("[a-z0-9]{3,8}", system) and len(digits) == 10:
-                usable[system] = digits
-            else:
-                reason = "its name isn't 3 to 8 small letters and digits, or its digits aren't ten"
-                self.release.reports.left_out(SYSTEM, "root", f"numbering system {system}", reason)
-        return usable
 
     def add(self, tag, locale):
         """Adds all entries of a locale under a name."""
@@ -86,12 +110,14 @@ class TablesMaker:
         """The entries of a locale with the plural rules of another by their keys, without `locale`: they are read once,
         and stand under every name."""
         rules = conditions(self.release, ruled)
-        systems = systems_of(self.release, locale, self.digits)
-        entries = {"symbols": self.symbols(locale, systems), "rules": [{"rules": rules}]}
+        usual = systems_of(self.release, locale, self.digits)
+        systems = usual + self.further_systems(locale, usual)
+        symbols, amounts = self.symbols(locale, systems, symbols_entry, "symbols"), {}
+        entries = {"rules": [{"rules": rules}]}
         entries.update((style, self.compact(locale, systems, style, rules)) for style in STYLES)
         if self.wanted.currencies:
             entries["currencies"] = self.money(locale, systems, rules)
-            entries["currency_decimals"] = self.symbols(locale, systems, money_symbols, "symbols of money")
+            amounts = self.symbols(locale, systems, money_symbols, "symbols of money")
             codes = codes_of(self.release, locale, self.wanted.currencies)
             texts = [currency_texts(self.release, locale, code, rules) for code in codes]
             entries["currency_symbols"] = [{"symbols": texts}]
@@ -100,7 +126,28 @@ class TablesMaker:
             entries["percents"] = self.percents(locale, systems)
         if self.wanted.units:
             entries["units"] = unit_entries(self.release, locale, self.wanted.units, rules)
+        new = [system for system in systems if system in usual or self.is_new(systems[0], system, symbols, amounts)]
+        entries["symbols"] = by_system(new, symbols)
+        if self.wanted.currencies:
+            entries["currency_decimals"] = by_system(new, amounts)
         return entries
+
+    def further_systems(self, locale, usual):
+        """The further systems that are asked for and may be written otherwise than the locale's default one."""
+        default = usual[0] if usual else None
+        own = self.release.systems(locale) if self.further else set()
+        further = [system for system in self.further if default and system not in usual]
+        return [system for system in further if system in own or default != LATIN]
+
+    @staticmethod
+    def is_new(default, system, *kinds):
+        """Whether a system has other symbols of one of these kinds than the default one, whose symbols stand for those
+        that aren't in tables; the name of the system aside."""
+
+        def named_alike(entries, name):
+            return name in entries and {**entries[name], "numsys": system}
+
+        return any(named_alike(entries, system) != named_alike(entries, default) for entries in kinds)
 
     def try_entry(self, locale, key, make, kind=ENTRY):
         """What `make` answers, or None with a line where it can't be expressed."""
@@ -112,34 +159,36 @@ class TablesMaker:
 
     def where_new(self, systems, make):
         """What `make` answers for the default system, and for the others where it is other than for this one."""
-        entries = []
-        default = make(systems[0]) if systems else None
-        for system in systems:
-            entry = default if system == systems[0] else make(system)
-            if entry is not None and (system == systems[0] or entry != default):
-                which = {} if system == systems[0] else {"system": system}
-                entries.append({**which, **entry})
-        return entries
+        entries = {system: make(system) for system in systems}
+        default = entries.get(systems[0]) if systems else None
+        new = {system: it for system, it in entries.items() if it is not None and (it is default or it != default)}
+        return by_system(systems, new)
 
     def money(self, locale, systems, rules):
-        """The patterns of money."""
+        """The patterns of money. Those of amounts with names go with the default system's, where they are looked up."""
 
         def make(system):
             key = f"currencyFormats[{system}]"
-            entry = functools.partial(money_entry, self.release, locale, system, rules)
+            entry = functools.partial(money_entry, self.release, locale, system)
             return self.try_entry(locale, key, entry, MONEY_ENTRY)
 
-        return self.where_new(systems, make)
+        entries = self.where_new(systems, make)
+        if entries and "system" not in entries[0]:
+            key = f"currencyFormats[{systems[0]}]/unitPattern"
+            make_names = functools.partial(money_names, self.release, locale, systems[0], rules)
+            names = self.try_entry(locale, key, make_names, NAMES)
+            entries[0].update({} if names is None else {"names": names})
+        return entries
 
     def compact_money(self, locale, systems, rules):
-        """The compact patterns of money of the default system."""
+        """The compact patterns of money."""
 
         def make(system):
             key = f"currencyFormats[{system}]/short"
             entry = functools.partial(compact_money_entry, self.release, locale, system, rules)
             return self.try_entry(locale, key, entry, MONEY_ENTRY)
 
-        return self.where_new(systems[:1], make)
+        return self.where_new(systems, make)
 
     def percents(self, locale, systems):
         """The patterns of percents."""
@@ -151,14 +200,13 @@ class TablesMaker:
 
         return self.where_new(systems, make)
 
-    def symbols(self, locale, systems, make=symbols_entry, key="symbols"):
-        """The symbols of the default system, and those of the others under their names, as `make` answers them."""
-        entries = []
+    def symbols(self, locale, systems, make, key):
+        """The symbols of systems that have some, by their names, as `make` answers them."""
+        entries = {}
         for system in systems:
             entry = self.try_entry(locale, f"{key}[{system}]", lambda: make(self.release, locale, system))
             if entry:
-                which = {} if system == systems[0] else {"system": system}
-                entries.append({**which, **entry})
+                entries[system] = entry
         return entries
 
     def compact(self, locale, systems, style, rules):
@@ -239,6 +287,22 @@ def asked_for(release, words):
     return sorted(found.items(), key=lambda pair: (pair[1], pair[0]))
 
 
+def refuse_unknown(release, locales, wanted):
+    """Refuses currencies, units and numbering systems that the release doesn't know."""
+    known = {
+        "currencies": (wanted.currencies, lambda: release.currency_codes(locales)),
+        "units": (wanted.units, lambda: names_of_units(release, locales)),
+        "systems": (wanted.systems, lambda: usable_digits(release)),
+    }
+    for word, (names, known_names) in known.items():
+        there = known_names() if names and names != "all" else names
+        unknown = [name for name in names if name not in there]
+        if unknown:
+            near = difflib.get_close_matches(unknown[0], there, cldr_names.MOST_NEAR)
+            told_near = f"the nearest: {', '.join(near)}" if near else "none is near"
+            raise UnknownWord(f"--{word}: {unknown[0]}: not in the release; {told_near}")
+
+
 def make_tables(release, pairs, wanted=NUMBERS_ALONE):
     """The tables of locales under their names."""
     maker = TablesMaker(release, wanted)
@@ -281,8 +345,8 @@ def scopes_of(options):
     return [scope for is_asked, scope in asked if is_asked]
 
 
-def read_words(words):
-    """The words of the command."""
+def words_parser():
+    """What reads the words of the command."""
     parser = argparse.ArgumentParser(description=__doc__, formatter_class=argparse.RawDescriptionHelpFormatter)
     parser.add_argument("release", metavar="RELEASE", help="core.zip, or the folder of a release")
     parser.add_argument("locales", metavar="LOCALE", nargs="*", help="as de, pt-AO or zh-TW: these alone")
@@ -292,15 +356,21 @@ def read_words(words):
     parser.add_argument("--currencies", metavar="CODES", type=listed, default=(), help="with money in EUR,USD, or all")
     parser.add_argument("--percents", action="store_true", help="with percents")
     parser.add_argument("--units", metavar="UNITS", type=listed, default=(), help="with kilometer,day, or all")
+    parser.add_argument("--systems", metavar="SYSTEMS", type=listed, default=(), help="also in arab,deva, or all")
     parser.add_argument("--which", metavar="NAME", action="append", help="tells which locale NAME means; no tables")
     parser.add_argument("--verbose", action="store_true", help="names each thing that isn't in the tables as in CLDR")
     parser.add_argument("--version", action=TellVersion, nargs=0, help="tells the version of this program, and ends")
+    return parser
+
+
+def read_words(parser, words):
+    """The words of the command."""
     options = parser.parse_intermixed_args(words)
     if options.locales and (options.coverage or options.names):
         parser.error("--coverage and --names are for tables without a LOCALE")
     if options.currencies != "all" and not all(re.fullmatch("[A-Z]{3}", code) for code in options.currencies):
         parser.error("--currencies: a code is three capitals")
-    with_which = (options.locales, options.coverage, options.names, options.output, scopes_of(options))
+    with_which = (options.locales, options.coverage, options.names, options.output, options.systems, scopes_of(options))
     if options.which and any(with_which):
         parser.error("--which stands alone")
     return options
@@ -317,7 +387,8 @@ def tell_which(release, names):
 def made(release, options):
     """The text of the tables that are asked for."""
     pairs = chosen(release, options.locales, options.coverage or "modern", options.names or "usual")
-    wanted = Wanted(options.currencies, options.percents, options.units)
+    wanted = Wanted(options.currencies, options.percents, options.units, options.systems)
+    refuse_unknown(release, {locale for _, locale in pairs}, wanted)
     text = written(make_tables(release, pairs, wanted))
     release.reports.sum_up()
     return text
@@ -325,12 +396,15 @@ def made(release, options):
 
 def main(words):
     """Makes tables, or tells what names mean, and answers the exit status."""
-    options = read_words(words)
+    parser = words_parser()
+    options = read_words(parser, words)
     try:
         release = open_release(options.release, Reports(sys.stderr, options.verbose), scopes_of(options))
         if options.which:
             return tell_which(release, options.which)
         text = made(release, options)
+    except UnknownWord as refused:
+        parser.error(str(refused))
     except UnknownLocale as refused:
         print(refused, file=sys.stderr)
         return 4

@@ -174,7 +174,7 @@ fn of_icu_dimension_data(rt: &HostRuntime) -> Option<()> {
         currency: "$",
     };
     let accounting = CldrPattern::parse(rt.alloc(), "¤#,##0.00;(¤#,##0.00)").ok()?;
-    let patterns = accounting.resolve(rt.alloc(), &texts).ok()?;
+    let patterns = accounting.resolve(rt.alloc(), &texts, &ASCII_DIGITS).ok()?;
     let loss = patterns.for_sign(Sign::Negative).interpolate("1,234.50");
     let text = loss.write_to_string(rt.alloc()).ok()?;
     println!(rt; "{text}").ok()
@@ -194,7 +194,7 @@ fn of_icu_dimension(rt: &HostRuntime) -> Option<()> {
         currency: "CHF",
     };
     let pattern = CldrPattern::parse(rt.alloc(), "¤#,##0.00").ok()?;
-    let patterns = pattern.resolve(rt.alloc(), &texts).ok()?;
+    let patterns = pattern.resolve(rt.alloc(), &texts, &ASCII_DIGITS).ok()?;
     let francs = CurrencyFormatter::new(formatter, patterns);
     let decimal = Decimal::try_from_str(rt.alloc(), "-1234.5").ok()?;
     let amount = rounded_to(decimal, 2).ok()?;

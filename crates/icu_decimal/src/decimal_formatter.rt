@@ -152,22 +152,22 @@ impl DecimalFormatter {
         }
     }
 
-    /// The options.
-    pub(crate) fn options(&self) -> &DecimalFormatterOptions
+    /// The options (this project's own).
+    pub fn options(&self) -> &DecimalFormatterOptions
         ensures { result.now ≡ self.now.options }
     {
         &self.options
     }
 
-    /// The symbols.
-    pub(crate) fn symbols(&self) -> &DecimalSymbols
+    /// The symbols (this project's own).
+    pub fn symbols(&self) -> &DecimalSymbols
         ensures { result.now ≡ self.now.symbols }
     {
         &self.symbols
     }
 
-    /// The characters of the digits.
-    pub(crate) fn digits(&self) -> &[char; 10]
+    /// The characters of the digits 0 to 9 (this project's own).
+    pub fn digits(&self) -> &[char; 10]
         ensures { result.now ≡ self.now.digits }
     {
         &self.digits

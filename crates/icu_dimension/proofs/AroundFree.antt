@@ -14,7 +14,8 @@ use Rattle.icu_decimal_readable.specs.Readable.{HasNoDigit}
 use Rattle.icu_dimension_data.specs.declared.affix_token.AffixToken.{AffixToken}
 use Rattle.icu_dimension_data.specs.declared.affix_token.AffixToken.TheVariants.{Character, CurrencySymbol, MinusSign, PlusSign, PercentSign}
 use Rattle.icu_dimension_data.specs.Patterns.{Affixes, PatternText}
-use Rattle.icu_dimension_data.specs.Resolved.{Texts, affixes_of, first_character, has_minus, is_symbol, last_character, led_by, minus_affixes, minus_by}
+use Rattle.icu_dimension_data.specs.Resolved.{Texts, affixes_of, are_digits, first_character, has_minus, is_symbol, last_character, led_by, minus_affixes}
+use Rattle.icu_dimension_data.specs.Resolved.{minus_by}
 use Rattle.icu_dimension_data.specs.Resolved.{needs_space, no_break_space, plus_affixes, plus_for, resolved, spaced, with_plus}
 use Rattle.icu_dimension_data.specs.Surrounding.{affix_events, in_part, token_events}
 use Rattle.icu_dimension.specs.MoneyReadable.{AffixesHaveNoDigit, PatternHasNoDigit, StandsForNoDigit, TextsHaveNoDigit}
@@ -87,13 +88,13 @@ module _ (digits : List ℕ) where
       (with_plus_free (minus_affixes p) (minus_affixes_free p h)) (led_free PlusSign p.first tt h.first_free)
 
   -- a space beside the symbol is no digit
-  spaced_free : ¬ (Contains digits 160) → (currency : List ℕ) (a : Affixes) → AffixesHaveNoDigit digits a
-      → AffixesHaveNoDigit digits (spaced currency a)
-  spaced_free apart currency a h = record {
-    before_free = either_free (is_symbol (slice_get a.before (length a.before - 1)) && needs_space (last_character currency))
+  spaced_free : ¬ (Contains digits 160) → (inserted : Bool) (currency : List ℕ) (a : Affixes) → AffixesHaveNoDigit digits a
+      → AffixesHaveNoDigit digits (spaced inserted currency a)
+  spaced_free apart inserted currency a h = record {
+    before_free = either_free (is_symbol (slice_get a.before (length a.before - 1)) && (needs_space (last_character currency) && inserted))
         (a.before ++ no_break_space ∷ []) a.before
         (All-append (StandsForNoDigit digits) a.before (no_break_space ∷ []) h.before_free space_free) h.before_free;
-    after_free = either_free (is_symbol (slice_get a.after 0) && needs_space (first_character currency)) (no_break_space ∷ a.after) a.after
+    after_free = either_free (is_symbol (slice_get a.after 0) && (needs_space (first_character currency) && inserted)) (no_break_space ∷ a.after) a.after
         (All-cons (StandsForNoDigit digits) no_break_space a.after apart h.after_free) h.after_free;
   }
     where
@@ -101,16 +102,16 @@ module _ (digits : List ℕ) where
       space_free = All-cons (StandsForNoDigit digits) no_break_space [] apart (All-nil (StandsForNoDigit digits))
 
   resolved_free : (p : PatternText) (texts : Texts) → PatternHasNoDigit digits p → ¬ (Contains digits 160) → (s : Sign) →
-      AffixesHaveNoDigit digits (affixes_of (resolved p texts) s)
-  resolved_free p texts h apart NoSign = spaced_free apart texts.currency p.first h.first_free
-  resolved_free p texts h apart Negative = spaced_free apart texts.currency (minus_affixes p) (minus_affixes_free p h)
-  resolved_free p texts h apart Positive = spaced_free apart texts.currency (plus_affixes p) (plus_affixes_free p h)
+      AffixesHaveNoDigit digits (affixes_of (resolved digits p texts) s)
+  resolved_free p texts h apart NoSign = spaced_free apart (are_digits digits) texts.currency p.first h.first_free
+  resolved_free p texts h apart Negative = spaced_free apart (are_digits digits) texts.currency (minus_affixes p) (minus_affixes_free p h)
+  resolved_free p texts h apart Positive = spaced_free apart (are_digits digits) texts.currency (plus_affixes p) (plus_affixes_free p h)
 
 -- no digit of the pattern and none of the texts: none around a number
 pub no_digit_stands_around : NoDigitStandsAround
 no_digit_stands_around digits pattern texts h k apart s =
     let free = resolved_free digits pattern texts k apart s in
     record {
-      before_free = tokens_free digits texts (affixes_of (resolved pattern texts) s).before h free.before_free;
-      after_free = tokens_free digits texts (affixes_of (resolved pattern texts) s).after h free.after_free;
+      before_free = tokens_free digits texts (affixes_of (resolved digits pattern texts) s).before h free.before_free;
+      after_free = tokens_free digits texts (affixes_of (resolved digits pattern texts) s).after h free.after_free;
     }

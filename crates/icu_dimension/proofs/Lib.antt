@@ -1,4 +1,7 @@
+pub mod ApartTold
 pub mod AroundFree
+pub mod AroundTested
+pub mod EntryShown
 pub mod Hundred
 pub mod MarksTold
 pub mod MoneySymbolTold
@@ -6,4 +9,5 @@ pub mod MoneyTold
 pub mod PercentsTold
 pub mod PointMoved
 pub mod SymbolTold
+pub mod UnitLiterals
 pub mod WorkedMoney

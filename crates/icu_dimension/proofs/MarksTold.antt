@@ -12,7 +12,7 @@ use Rattle.icu_decimal_readable.specs.Readable.{Surroundings}
 use Rattle.icu_dimension_data.specs.declared.affix_token.AffixToken.{AffixToken}
 use Rattle.icu_dimension_data.specs.declared.affix_token.AffixToken.TheVariants.{Character, CurrencySymbol, MinusSign, PlusSign, PercentSign}
 use Rattle.icu_dimension_data.specs.Patterns.{Affixes, PatternText}
-use Rattle.icu_dimension_data.specs.Resolved.{Texts, first_character, is_symbol, last_character, needs_space, no_break_space, resolved}
+use Rattle.icu_dimension_data.specs.Resolved.{Texts, are_digits, first_character, is_symbol, last_character, needs_space, no_break_space, resolved}
 use Rattle.icu_dimension_data.specs.Resolved.{spaced_after, spaced_before}
 use Rattle.icu_dimension.specs.MoneyReadable.{money_surroundings}
 use Rattle.icu_dimension.specs.MoneySymbol.{HasNoMark, MarksTellSign, beside_symbol, marks_among, marks_around, with_symbol}
@@ -76,36 +76,39 @@ module _ (marks : List ℕ) where
   abbrev own_marks : Texts → Affixes → Surroundings
   own_marks texts a = record { before = marks_among marks (written texts [] a.before); after = marks_among marks (written texts [] a.after) }
 
-  marks-spaced : ¬ (Contains marks 160) → (texts : Texts) (currency : List ℕ) → HasNoMark marks (chars currency) → (a : Affixes) →
-      marks_around marks (spaced_around (with_symbol texts currency) a) ≡ own_marks texts a
-  marks-spaced apart texts currency h a =
+  marks-spaced : ¬ (Contains marks 160) → (inserted : Bool) (texts : Texts) (currency : List ℕ) → HasNoMark marks (chars currency) → (a : Affixes) →
+      marks_around marks (spaced_around inserted (with_symbol texts currency) a) ≡ own_marks texts a
+  marks-spaced apart inserted texts currency h a =
       let of : List ℕ → List ℕ → Surroundings = λ x y. record { before = x; after = y } in
-      let behind = is_symbol (slice_get a.before (length a.before - 1)) && needs_space (last_character currency) in
-      let before = is_symbol (slice_get a.after 0) && needs_space (first_character currency) in
+      let behind = is_symbol (slice_get a.before (length a.before - 1)) && (needs_space (last_character currency) && inserted) in
+      let before = is_symbol (slice_get a.after 0) && (needs_space (first_character currency) && inserted) in
       ap₂ of
-      (ap (marks_among marks) (characters-tokens texts currency (spaced_before currency a.before))
+      (ap (marks_among marks) (characters-tokens texts currency (spaced_before inserted currency a.before))
       ∙ among-before apart texts (chars currency) h behind a.before)
-      (ap (marks_among marks) (characters-tokens texts currency (spaced_after currency a.after))
+      (ap (marks_among marks) (characters-tokens texts currency (spaced_after inserted currency a.after))
       ∙ among-after apart texts (chars currency) h before a.after)
 
-  marks-resolved : ¬ (Contains marks 160) → (p : PatternText) (texts : Texts) (currency : List ℕ) → HasNoMark marks (chars currency) → (s : Sign) →
-      marks_around marks (money_surroundings (resolved p (with_symbol texts currency)) s) ≡ own_marks texts (unspaced p s)
-  marks-resolved apart p texts currency h s =
-      ap (marks_around marks) (around-resolved p (with_symbol texts currency) s) ∙ marks-spaced apart texts currency h (unspaced p s)
+  marks-resolved : ¬ (Contains marks 160) → (digits : List ℕ) (p : PatternText) (texts : Texts) (currency : List ℕ) → HasNoMark marks (chars currency)
+      → (s : Sign) →
+      marks_around marks (money_surroundings (resolved digits p (with_symbol texts currency)) s) ≡ own_marks texts (unspaced p s)
+  marks-resolved apart digits p texts currency h s =
+      ap (marks_around marks) (around-resolved digits p (with_symbol texts currency) s)
+      ∙ marks-spaced apart (are_digits digits) texts currency h (unspaced p s)
 
   empty_symbol : HasNoMark marks (chars [])
   unfolding chars
   empty_symbol = All-nil (λ c. ¬ (Contains marks c))
 
   -- with a symbol the marks are those beside it
-  marks-beside : ¬ (Contains marks 160) → (p : PatternText) (texts : Texts) (currency : List ℕ) → HasNoMark marks (chars currency) → (s : Sign) →
-      marks_around marks (money_surroundings (resolved p (with_symbol texts currency)) s) ≡ marks_around marks (beside_symbol p texts s)
-  marks-beside apart p texts currency h s =
-      marks-resolved apart p texts currency h s ∙ sym (marks-resolved apart p texts [] empty_symbol s)
+  marks-beside : ¬ (Contains marks 160) → (digits : List ℕ) (p : PatternText) (texts : Texts) (currency : List ℕ) → HasNoMark marks (chars currency)
+      → (s : Sign) →
+      marks_around marks (money_surroundings (resolved digits p (with_symbol texts currency)) s) ≡ marks_around marks (beside_symbol digits p texts s)
+  marks-beside apart digits p texts currency h s =
+      marks-resolved apart digits p texts currency h s ∙ sym (marks-resolved apart digits p texts [] empty_symbol s)
 
 -- equal characters around numbers are of one sign
-pub sign_told : (marks : List ℕ) (p : PatternText) (texts : Texts) (one other : List ℕ) (s t : Sign) → ¬ (Contains marks 160) →
-    MarksTellSign marks p texts → HasNoMark marks (chars one) → HasNoMark marks (chars other) →
-    money_surroundings (resolved p (with_symbol texts one)) s ≡ money_surroundings (resolved p (with_symbol texts other)) t → s ≡ t
-sign_told marks p texts one other s t apart told h k e =
-    told s t (sym (marks-beside marks apart p texts one h s) ∙ ap (marks_around marks) e ∙ marks-beside marks apart p texts other k t)
+pub sign_told : (digits marks : List ℕ) (p : PatternText) (texts : Texts) (one other : List ℕ) (s t : Sign) → ¬ (Contains marks 160) →
+    MarksTellSign digits marks p texts → HasNoMark marks (chars one) → HasNoMark marks (chars other) →
+    money_surroundings (resolved digits p (with_symbol texts one)) s ≡ money_surroundings (resolved digits p (with_symbol texts other)) t → s ≡ t
+sign_told digits marks p texts one other s t apart told h k e =
+    told s t (sym (marks-beside marks apart digits p texts one h s) ∙ ap (marks_around marks) e ∙ marks-beside marks apart digits p texts other k t)

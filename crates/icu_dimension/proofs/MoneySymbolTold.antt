@@ -17,7 +17,7 @@ use Rattle.icu_dimension.proofs.SymbolTold.{symbol_told}
 
 -- no digit stands around numbers in such a pattern
 free_around : (digits marks : List ℕ) (p : PatternText) (texts : Texts) (currency : List ℕ) → TellsSymbols digits marks p texts →
-    IsToldSymbol digits marks currency → HasNoDigitAround digits (resolved p (with_symbol texts currency))
+    IsToldSymbol digits marks currency → HasNoDigitAround digits (resolved digits p (with_symbol texts currency))
 free_around digits marks p texts currency h k =
     no_digit_stands_around digits p (with_symbol texts currency)
     (record {
@@ -31,19 +31,19 @@ free_around digits marks p texts currency h k =
 -- in one sign the symbol is told by its places
 pub one_sign_tells_symbol : MoneyTextOfOneSignTellsSymbol
 one_sign_tells_symbol f p texts one other s c d h free others shown ends other_ends hc hd e =
-    let told = around_tells f (resolved p (with_symbol texts one)) (resolved p (with_symbol texts other)) s s c d h free others hc hd e in
-    (told.1, symbol_told p texts one other s shown ends other_ends told.0)
+    let told = around_tells f (resolved f.digits p (with_symbol texts one)) (resolved f.digits p (with_symbol texts other)) s s c d h free others hc hd e in
+    (told.1, symbol_told f.digits p texts one other s shown ends other_ends told.0)
 
 -- in all signs the marks tell the sign first
 pub money_tells_symbol : MoneyTextTellsSymbol
 money_tells_symbol f marks p texts one other s t c d h tells k l hc hd e =
-    let first = resolved p (with_symbol texts one) in
-    let second = resolved p (with_symbol texts other) in
+    let first = resolved f.digits p (with_symbol texts one) in
+    let second = resolved f.digits p (with_symbol texts other) in
     let told = around_tells f first second s t c d h
     (free_around f.digits marks p texts one tells k) (free_around f.digits marks p texts other tells l) hc hd e in
-    let same = sign_told marks p texts one other s t tells.space_no_mark tells.sign_told k.no_mark l.no_mark told.0 in
+    let same = sign_told f.digits marks p texts one other s t tells.space_no_mark tells.sign_told k.no_mark l.no_mark told.0 in
     let around = told.0 ∙ ap (money_surroundings second) (sym same) in
-    (same, told.1, symbol_told p texts one other s tells.shown k.no_space l.no_space around)
+    (same, told.1, symbol_told f.digits p texts one other s tells.shown k.no_space l.no_space around)
 
 -- texts of the same characters are the same bytes
 same_bytes : (one other : List ℕ) → IsUtf8 one → IsUtf8 other → chars one ≡ chars other → one ≡ other
@@ -67,6 +67,6 @@ readable_with_symbol f marks p texts currency h tells k = record {
   numbers_readable = h;
   around_readable = record {
     free = free_around f.digits marks p texts currency tells k;
-    sign_told = λ s t e. sign_told marks p texts currency currency s t tells.space_no_mark tells.sign_told k.no_mark k.no_mark e;
+    sign_told = λ s t e. sign_told f.digits marks p texts currency currency s t tells.space_no_mark tells.sign_told k.no_mark k.no_mark e;
   };
 }

@@ -15,7 +15,8 @@ use Rattle.icu_decimal_readable.specs.Readable.{Surroundings}
 use Rattle.icu_dimension_data.specs.declared.affix_token.AffixToken.{AffixToken}
 use Rattle.icu_dimension_data.specs.declared.affix_token.AffixToken.TheVariants.{Character, CurrencySymbol, MinusSign, PlusSign, PercentSign}
 use Rattle.icu_dimension_data.specs.Patterns.{Affixes, PatternText}
-use Rattle.icu_dimension_data.specs.Resolved.{Texts, affixes_of, first_character, has_minus, is_symbol, last_character, led_by, minus_affixes, minus_by}
+use Rattle.icu_dimension_data.specs.Resolved.{Texts, affixes_of, are_digits, first_character, has_minus, is_symbol, last_character, led_by, minus_affixes}
+use Rattle.icu_dimension_data.specs.Resolved.{minus_by}
 use Rattle.icu_dimension_data.specs.Resolved.{needs_space, no_break_space, plus_affixes, plus_for, resolved, spaced, spaced_after, spaced_before, with_plus}
 use Rattle.icu_dimension_data.specs.Surrounding.{affix_events, token_events}
 use Rattle.icu_dimension.specs.MoneyReadable.{money_surroundings}
@@ -123,15 +124,17 @@ module _ (texts : Texts) where
   symbol_first xs ys ts hx hy false true e = absurd (spaced_front ys xs ts hx (sym e))
   symbol_first xs ys ts hx hy false false e = front_told xs ys ts e
 
-  after_told : (one other : List ℕ) (ts : List AffixToken) → SymbolEndsInNoSpace one → SymbolEndsInNoSpace other → Contains ts CurrencySymbol →
-      written texts (chars one) (spaced_after one ts) ≡ written texts (chars other) (spaced_after other ts) → chars one ≡ chars other
-  after_told one other [] h k (i, l, is) e = absurd (omega arith)
-  after_told one other (CurrencySymbol ∷ ts) h k has e =
-      symbol_first (chars one) (chars other) ts h.first_other k.first_other (needs_space (first_character one)) (needs_space (first_character other)) e
-  after_told one other (Character c ∷ ts) h k has e = place_told (chars one) (chars other) (Character c ∷ ts) has e
-  after_told one other (MinusSign ∷ ts) h k has e = place_told (chars one) (chars other) (MinusSign ∷ ts) has e
-  after_told one other (PlusSign ∷ ts) h k has e = place_told (chars one) (chars other) (PlusSign ∷ ts) has e
-  after_told one other (PercentSign ∷ ts) h k has e = place_told (chars one) (chars other) (PercentSign ∷ ts) has e
+  after_told : (inserted : Bool) (one other : List ℕ) (ts : List AffixToken) → SymbolEndsInNoSpace one → SymbolEndsInNoSpace other
+      → Contains ts CurrencySymbol →
+      written texts (chars one) (spaced_after inserted one ts) ≡ written texts (chars other) (spaced_after inserted other ts) → chars one ≡ chars other
+  after_told inserted one other [] h k (i, l, is) e = absurd (omega arith)
+  after_told inserted one other (CurrencySymbol ∷ ts) h k has e =
+      symbol_first (chars one) (chars other) ts h.first_other k.first_other (needs_space (first_character one) && inserted)
+      (needs_space (first_character other) && inserted) e
+  after_told inserted one other (Character c ∷ ts) h k has e = place_told (chars one) (chars other) (Character c ∷ ts) has e
+  after_told inserted one other (MinusSign ∷ ts) h k has e = place_told (chars one) (chars other) (MinusSign ∷ ts) has e
+  after_told inserted one other (PlusSign ∷ ts) h k has e = place_told (chars one) (chars other) (PlusSign ∷ ts) has e
+  after_told inserted one other (PercentSign ∷ ts) h k has e = place_told (chars one) (chars other) (PercentSign ∷ ts) has e
 
   -- ---- before the number
 
@@ -201,25 +204,27 @@ module _ (texts : Texts) where
     | inr (front, t, is, last) ↦ (front, is ∙ ap (λ x. front ++ x ∷ []) (symbol_is t (sym (ap is_symbol last) ∙ e)))
   ]
 
-  before_told : (one other : List ℕ) (ts : List AffixToken) → SymbolEndsInNoSpace one → SymbolEndsInNoSpace other → Contains ts CurrencySymbol →
-      written texts (chars one) (spaced_before one ts) ≡ written texts (chars other) (spaced_before other ts) → chars one ≡ chars other
-  before_told one other ts h k has e =
+  before_told : (inserted : Bool) (one other : List ℕ) (ts : List AffixToken) → SymbolEndsInNoSpace one → SymbolEndsInNoSpace other
+      → Contains ts CurrencySymbol →
+      written texts (chars one) (spaced_before inserted one ts) ≡ written texts (chars other) (spaced_before inserted other ts) → chars one ≡ chars other
+  before_told inserted one other ts h k has e =
       symbol_last (chars one) (chars other) ts h.last_other k.last_other has (is_symbol (slice_get ts (length ts - 1))) (ends_with_symbol ts)
-      (needs_space (last_character one)) (needs_space (last_character other)) e
+      (needs_space (last_character one) && inserted) (needs_space (last_character other) && inserted) e
 
   -- ---- on either side
 
-  side_told : (one other : List ℕ) (a : Affixes) → SymbolEndsInNoSpace one → SymbolEndsInNoSpace other → HasSymbolPlace a →
-      characters (affix_events (with_symbol texts one) (spaced_before one a.before))
-      ≡ characters (affix_events (with_symbol texts other) (spaced_before other a.before)) →
-      characters (affix_events (with_symbol texts one) (spaced_after one a.after))
-      ≡ characters (affix_events (with_symbol texts other) (spaced_after other a.after)) → chars one ≡ chars other
-  side_told one other a h k (inl has) before after =
-      before_told one other a.before h k has
-      (sym (characters-tokens texts one (spaced_before one a.before)) ∙ before ∙ characters-tokens texts other (spaced_before other a.before))
-  side_told one other a h k (inr has) before after =
-      after_told one other a.after h k has
-      (sym (characters-tokens texts one (spaced_after one a.after)) ∙ after ∙ characters-tokens texts other (spaced_after other a.after))
+  side_told : (inserted : Bool) (one other : List ℕ) (a : Affixes) → SymbolEndsInNoSpace one → SymbolEndsInNoSpace other → HasSymbolPlace a →
+      characters (affix_events (with_symbol texts one) (spaced_before inserted one a.before))
+      ≡ characters (affix_events (with_symbol texts other) (spaced_before inserted other a.before)) →
+      characters (affix_events (with_symbol texts one) (spaced_after inserted one a.after))
+      ≡ characters (affix_events (with_symbol texts other) (spaced_after inserted other a.after)) → chars one ≡ chars other
+  side_told inserted one other a h k (inl has) before after =
+      before_told inserted one other a.before h k has
+      (sym (characters-tokens texts one (spaced_before inserted one a.before)) ∙ before
+      ∙ characters-tokens texts other (spaced_before inserted other a.before))
+  side_told inserted one other a h k (inr has) before after =
+      after_told inserted one other a.after h k has
+      (sym (characters-tokens texts one (spaced_after inserted one a.after)) ∙ after ∙ characters-tokens texts other (spaced_after inserted other a.after))
 
 -- ---- in the patterns of all signs
 
@@ -261,28 +266,31 @@ unspaced_has p Positive h =
     (with_plus_has (minus_affixes p) (minus_has p.first p.second h.first_shows h.second_shows)) (led_has PlusSign p.first h.first_shows)
 
 -- spaces are put in beside the symbol alone
-pub affixes-resolved : (p : PatternText) (texts : Texts) (s : Sign) → affixes_of (resolved p texts) s ≡ spaced texts.currency (unspaced p s)
-affixes-resolved p texts NoSign = refl
-affixes-resolved p texts Negative = refl
-affixes-resolved p texts Positive = refl
+pub affixes-resolved : (digits : List ℕ) (p : PatternText) (texts : Texts) (s : Sign) →
+    affixes_of (resolved digits p texts) s ≡ spaced (are_digits digits) texts.currency (unspaced p s)
+affixes-resolved digits p texts NoSign = refl
+affixes-resolved digits p texts Negative = refl
+affixes-resolved digits p texts Positive = refl
 
 -- the characters around numbers, with a symbol
-abbrev pub spaced_around : Texts → Affixes → Surroundings
-spaced_around texts a = record {
-  before = characters (affix_events texts (spaced texts.currency a).before);
-  after = characters (affix_events texts (spaced texts.currency a).after);
+abbrev pub spaced_around : Bool → Texts → Affixes → Surroundings
+spaced_around inserted texts a = record {
+  before = characters (affix_events texts (spaced inserted texts.currency a).before);
+  after = characters (affix_events texts (spaced inserted texts.currency a).after);
 }
 
-pub around-resolved : (p : PatternText) (texts : Texts) (s : Sign) → money_surroundings (resolved p texts) s ≡ spaced_around texts (unspaced p s)
-around-resolved p texts NoSign = refl
-around-resolved p texts Negative = refl
-around-resolved p texts Positive = refl
+pub around-resolved : (digits : List ℕ) (p : PatternText) (texts : Texts) (s : Sign) →
+    money_surroundings (resolved digits p texts) s ≡ spaced_around (are_digits digits) texts (unspaced p s)
+around-resolved digits p texts NoSign = refl
+around-resolved digits p texts Negative = refl
+around-resolved digits p texts Positive = refl
 
 -- equal characters around numbers of one sign are of equal symbols
-pub symbol_told : (p : PatternText) (texts : Texts) (one other : List ℕ) (s : Sign) → ShowsSymbol p → SymbolEndsInNoSpace one →
-    SymbolEndsInNoSpace other → money_surroundings (resolved p (with_symbol texts one)) s ≡ money_surroundings (resolved p (with_symbol texts other)) s →
+pub symbol_told : (digits : List ℕ) (p : PatternText) (texts : Texts) (one other : List ℕ) (s : Sign) → ShowsSymbol p → SymbolEndsInNoSpace one →
+    SymbolEndsInNoSpace other →
+    money_surroundings (resolved digits p (with_symbol texts one)) s ≡ money_surroundings (resolved digits p (with_symbol texts other)) s →
     chars one ≡ chars other
-symbol_told p texts one other s h ends others e =
-    let same = sym (around-resolved p (with_symbol texts one) s) ∙ e ∙ around-resolved p (with_symbol texts other) s in
-    side_told texts one other (unspaced p s) ends others (unspaced_has p s h)
+symbol_told digits p texts one other s h ends others e =
+    let same = sym (around-resolved digits p (with_symbol texts one) s) ∙ e ∙ around-resolved digits p (with_symbol texts other) s in
+    side_told texts (are_digits digits) one other (unspaced p s) ends others (unspaced_has p s h)
     (ap (λ (a : Surroundings). a.before) same) (ap (λ (a : Surroundings). a.after) same)

@@ -43,7 +43,7 @@ abbrev pub dollar_texts : Texts
 dollar_texts = record { minus_sign = codes "-"; plus_sign = codes "+"; percent_sign = codes "%"; currency = codes "$" }
 
 abbrev pub dollars : Signed
-dollars = resolved dollar_pattern dollar_texts
+dollars = resolved digits dollar_pattern dollar_texts
 
 -- they are what `parse` reads
 pub dollar_pattern_read : pattern_of (194 ∷ 164 ∷ codes "#,##0.00") ≡ Ok dollar_pattern
@@ -76,13 +76,13 @@ mark_tells minus plus differ Positive NoSign e = cc
 mark_tells minus plus differ Positive Negative e = let same : plus ≡ minus = cc in absurd (differ (sym same))
 mark_tells minus plus differ Positive Positive e = refl
 
-mark_before : (s : Sign) → (marks_around marks (beside_symbol dollar_pattern dollar_texts s)).before ≡ mark 45 43 s
+mark_before : (s : Sign) → (marks_around marks (beside_symbol digits dollar_pattern dollar_texts s)).before ≡ mark 45 43 s
 unfolding chars
 mark_before NoSign = refl
 mark_before Negative = refl
 mark_before Positive = refl
 
-accounts_mark_before : (s : Sign) → (marks_around marks (beside_symbol accounts_pattern dollar_texts s)).before ≡ mark 40 43 s
+accounts_mark_before : (s : Sign) → (marks_around marks (beside_symbol digits accounts_pattern dollar_texts s)).before ≡ mark 40 43 s
 unfolding chars
 accounts_mark_before NoSign = refl
 accounts_mark_before Negative = refl
@@ -94,11 +94,11 @@ minus_is_not_plus same = omega arith
 parenthesis_is_not_plus : ◌≢◌ {A = ℕ} 40 43
 parenthesis_is_not_plus same = omega arith
 
-sign_told : MarksTellSign marks dollar_pattern dollar_texts
+sign_told : MarksTellSign digits marks dollar_pattern dollar_texts
 sign_told s t e =
     mark_tells 45 43 minus_is_not_plus s t (sym (mark_before s) ∙ ap (λ (a : Surroundings). a.before) e ∙ mark_before t)
 
-accounts_sign_told : MarksTellSign marks accounts_pattern dollar_texts
+accounts_sign_told : MarksTellSign digits marks accounts_pattern dollar_texts
 accounts_sign_told s t e =
     mark_tells 40 43 parenthesis_is_not_plus s t (sym (accounts_mark_before s) ∙ ap (λ (a : Surroundings). a.before) e ∙ accounts_mark_before t)
 

@@ -1,16 +1,17 @@
 -- Compact amounts of money: for each sign a compact formatter, whose patterns have the sign and the symbol in them; and the
 -- patterns of money, for numbers that no compact pattern shortens.
-use Rattle.std.specs.Prelude.{◌==◌, List, if◌then◌else◌}
+use Rattle.std.specs.Prelude.{List, Option, is_some, if◌then◌else◌}
 use Rattle.fixed_decimal.specs.declared.signs.Sign.{Sign}
 use Rattle.fixed_decimal.specs.declared.signs.Sign.TheVariants.{None as NoSign, Negative, Positive}
+use Rattle.fixed_decimal.specs.Size.{place}
 use Rattle.writeable.specs.Events.{Event}
 use Rattle.icu_plurals.specs.Rules.{Rule}
-use Rattle.icu_decimal_data.specs.CompactTable.{TableEntry}
-use Rattle.icu_decimal.specs.CompactFormat.{CompactFormat, FormattedCompact, compact_shown}
+use Rattle.icu_decimal_data.specs.CompactTable.{TableEntry, entry_for}
+use Rattle.icu_decimal.specs.CompactFormat.{CompactFormat, FormattedCompact, compact_shown, magnitude_with, significand_of}
 use Rattle.icu_decimal.specs.Decimal.{DecimalFormat}
 use Rattle.icu_dimension_data.specs.Resolved.{Signed}
 use Rattle.icu_dimension.specs.Money.{SignedFormat, sign_framed}
-use Rattle.icu_dimension.specs.declared.compact_currency_patterns.CompactCurrencyPatterns.{CompactCurrencyPatterns}
+use Rattle.icu_dimension_data.specs.declared.compact_currency_patterns.CompactCurrencyPatterns.{CompactCurrencyPatterns}
 
 -- a compact formatter for each sign, and the patterns of money
 pub record CompactMoney : Type 0 where
@@ -25,10 +26,15 @@ formatter_of f NoSign = f.none
 formatter_of f Negative = f.minus
 formatter_of f Positive = f.plus
 
--- what is written for a compact number: its characters; if its exponent is 0, in the pattern of the sign
-abbrev pub compact_events : Signed → Sign → FormattedCompact → List Event
-compact_events patterns sign number =
-    if number.exponent == 0 then sign_framed patterns sign (compact_shown number) else compact_shown number
+-- the entry by which a compact number is displayed, that of its magnitude; none below the first type of the table
+abbrev pub entry_shown : List TableEntry → FormattedCompact → Option TableEntry
+entry_shown table number = entry_for table (place (magnitude_with (significand_of number) number.exponent))
+
+-- what is written for a compact number: its characters, if it is displayed by an entry, whose pattern has the symbol and the
+-- sign in it; else its characters in the pattern of the sign
+abbrev pub compact_events : List TableEntry → Signed → Sign → FormattedCompact → List Event
+compact_events table patterns sign number =
+    if is_some (entry_shown table number) then compact_shown number else sign_framed patterns sign (compact_shown number)
 
 -- a compact formatter with a table
 abbrev pub with_table : DecimalFormat → List Rule → List TableEntry → CompactFormat

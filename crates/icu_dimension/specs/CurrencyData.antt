@@ -34,6 +34,6 @@ pattern_for p Accounting = p.accounting
 abbrev pub money_texts : MoneyPatterns → List ℕ → Texts
 money_texts p symbol = record { minus_sign = p.minus_sign; plus_sign = p.plus_sign; percent_sign = codes "%"; currency = symbol }
 
--- the patterns of the three signs, with the symbol
-abbrev pub money_patterns : MoneyPatterns → SymbolTexts → CurrencyFormatterOptions → Signed
-money_patterns p s options = resolved (pattern_for p options.sign) (money_texts p (symbol_of s options.width))
+-- the patterns of the three signs around numbers with these ten digits, with the symbol
+abbrev pub money_patterns : List ℕ → MoneyPatterns → SymbolTexts → CurrencyFormatterOptions → Signed
+money_patterns digits p s options = resolved digits (pattern_for p options.sign) (money_texts p (symbol_of s options.width))

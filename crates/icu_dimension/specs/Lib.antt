@@ -11,4 +11,6 @@ pub mod Percent
 pub mod PercentLaws
 pub mod PluralFormat
 pub mod SymbolLaws
+pub mod ToldApart
+pub mod UnitPatterns
 pub mod Units

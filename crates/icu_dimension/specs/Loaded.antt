@@ -14,7 +14,8 @@ use Rattle.icu_dimension_data.specs.Resolved.{Signed}
 use Rattle.icu_dimension.specs.CompactMoney.{CompactMoney, compact_money}
 use Rattle.icu_dimension.specs.CurrencyData.{MoneyPatterns, SymbolTexts, money_patterns}
 use Rattle.icu_dimension.specs.Money.{SignedFormat}
-use Rattle.icu_dimension.specs.declared.compact_currency_patterns.CompactCurrencyPatterns.{CompactCurrencyPatterns}
+use Rattle.icu_dimension_data.specs.SignedTables.{tables_for}
+use Rattle.icu_dimension_data.specs.declared.compact_rows.CompactRow.{CompactRow}
 use Rattle.icu_dimension.specs.declared.options.CurrencyFormatterOptions.{CurrencyFormatterOptions}
 use Rattle.icu_dimension.specs.declared.options.CurrencySign.TheVariants.{Standard}
 use Rattle.icu_dimension.specs.declared.options.Width.TheVariants.{Short}
@@ -36,7 +37,7 @@ loaded_currency symbols digits patterns currencies prefs code options =
     and_then (loaded symbols digits prefs options.decimal) (λ f.
     and_then (preferably patterns prefs (locale_id locale)) (λ p.
     and_then (currencies (named_id code locale)) (λ s.
-    Ok (record { formatter = f; patterns = money_patterns p s options }))))
+    Ok (record { formatter = f; patterns = money_patterns f.digits p s options }))))
 
 -- percents: the plain formatter, then the patterns by the preferred system in the locale, or else by the locale; or the
 -- first refusal
@@ -59,13 +60,15 @@ loaded_plural symbols digits rules named prefs name options made =
     Ok (made f r x))))
 
 -- compact amounts: the formatter of money, with the short symbol and the standard pattern, then the rules by the locale, then
--- the compact tables by the currency's code in the locale; or the first refusal
+-- the compact patterns by the preferred system in the locale, or else by the locale, of which tables are made with the symbol
+-- and the signs of the formatter of money; or the first refusal
 abbrev pub loaded_compact_money : Provider DecimalSymbols → Provider (List ℕ) → Provider MoneyPatterns → Provider SymbolTexts
-    → Provider (List Rule) → Provider CompactCurrencyPatterns → DecimalFormatterPreferences → List ℕ → DecimalFormatterOptions
+    → Provider (List Rule) → Provider (List CompactRow) → DecimalFormatterPreferences → List ℕ → DecimalFormatterOptions
     → Result CompactMoney Refusal
-loaded_compact_money symbols digits patterns currencies rules tables prefs code options =
+loaded_compact_money symbols digits patterns currencies rules compact prefs code options =
     let locale = prefs.locale_preferences in
     and_then (loaded_currency symbols digits patterns currencies prefs code (record { decimal = options; width = Short; sign = Standard })) (λ m.
     and_then (rules (locale_id locale)) (λ r.
-    and_then (tables (named_id code locale)) (λ t.
-    Ok (compact_money m r t))))
+    and_then (preferably compact prefs (locale_id locale)) (λ rows.
+    and_then (tables_for m.formatter.digits m.patterns.texts rows) (λ t.
+    Ok (compact_money m r t)))))

@@ -43,11 +43,11 @@ EqualMoneyTextsTellAround = (f : DecimalFormat) (p q : Signed) (s t : Sign) (c d
     → one ≡ text_of (plain_money f p s c) → other ≡ text_of (plain_money f q t d) → one ≡ other
     → (money_surroundings p s ≡ money_surroundings q t) × (c ≡ d)
 
--- No digit stands around numbers in the patterns that `resolve` makes, if neither the symbol and the other texts nor the
+-- No digit stands around numbers in the patterns that `resolve` makes for them, if neither the symbol and the other texts nor the
 -- pattern's own characters have one, and U+00A0 isn't one.
 abbrev pub NoDigitStandsAround : Type 0
 NoDigitStandsAround = (digits : List ℕ) (pattern : PatternText) (texts : Texts) → TextsHaveNoDigit digits texts →
-    PatternHasNoDigit digits pattern → ¬ (Contains digits 160) → HasNoDigitAround digits (resolved pattern texts)
+    PatternHasNoDigit digits pattern → ¬ (Contains digits 160) → HasNoDigitAround digits (resolved digits pattern texts)
 
 -- Two percents that a readable formatter writes in the same characters have the same sign, and are a hundred times the
 -- same size, in the same range and digits.

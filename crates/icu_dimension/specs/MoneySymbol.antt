@@ -37,8 +37,8 @@ pub record SymbolEndsInNoSpace (currency : List ℕ) : Type 0 where
 -- ---- what tells the sign, whatever the symbols
 
 -- what stands around numbers if the symbol is empty: signs, and the pattern's own characters
-abbrev pub beside_symbol : PatternText → Texts → Sign → Surroundings
-beside_symbol p texts sign = money_surroundings (resolved p (with_symbol texts [])) sign
+abbrev pub beside_symbol : List ℕ → PatternText → Texts → Sign → Surroundings
+beside_symbol digits p texts sign = money_surroundings (resolved digits p (with_symbol texts [])) sign
 
 -- those of the characters that are marks
 abbrev pub marks_among : List ℕ → List ℕ → List ℕ
@@ -49,9 +49,9 @@ abbrev pub marks_around : List ℕ → Surroundings → Surroundings
 marks_around marks a = record { before = marks_among marks a.before; after = marks_among marks a.after }
 
 -- no two signs have the same marks beside the symbol
-abbrev pub MarksTellSign : List ℕ → PatternText → Texts → Type 0
-MarksTellSign marks p texts =
-    (s t : Sign) → marks_around marks (beside_symbol p texts s) ≡ marks_around marks (beside_symbol p texts t) → s ≡ t
+abbrev pub MarksTellSign : List ℕ → List ℕ → PatternText → Texts → Type 0
+MarksTellSign digits marks p texts =
+    (s t : Sign) → marks_around marks (beside_symbol digits p texts s) ≡ marks_around marks (beside_symbol digits p texts t) → s ≡ t
 
 -- none of the characters is one of the marks
 abbrev pub HasNoMark : List ℕ → List ℕ → Type 0
@@ -63,7 +63,7 @@ HasNoMark marks cs = All (λ c. ¬ (Contains marks c)) cs
 -- and `(`, tell the sign, and U+00A0 is none of them; neither the pattern nor a sign has one of the digits.
 pub record TellsSymbols (digits marks : List ℕ) (p : PatternText) (texts : Texts) : Type 0 where
   pub shown : ShowsSymbol p
-  pub sign_told : MarksTellSign marks p texts
+  pub sign_told : MarksTellSign digits marks p texts
   pub space_no_mark : ¬ (Contains marks 160)
   pub pattern_free : PatternHasNoDigit digits p
   pub signs_free : TextsHaveNoDigit digits (with_symbol texts [])

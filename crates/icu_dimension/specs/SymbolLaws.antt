@@ -15,7 +15,7 @@ use Rattle.icu_dimension.specs.MoneyLaws.{plain_money}
 
 -- what is written for an amount of a currency, over a plain formatter
 abbrev pub plain_amount : DecimalFormat → PatternText → Texts → List ℕ → Sign → Unsigned → List Event
-plain_amount f p texts currency sign u = plain_money f (resolved p (with_symbol texts currency)) sign u
+plain_amount f p texts currency sign u = plain_money f (resolved f.digits p (with_symbol texts currency)) sign u
 
 -- Amounts in two currencies: if money in the pattern tells symbols, and these two, equal characters mean equal sign, range,
 -- digits and symbol.
@@ -38,8 +38,8 @@ EqualMoneyTextsTellSymbol = (f : DecimalFormat) (marks : List ℕ) (p : PatternT
 -- has U+00A0 at an end, equal characters mean equal range, digits and symbol.
 abbrev pub MoneyTextOfOneSignTellsSymbol : Type 0
 MoneyTextOfOneSignTellsSymbol = (f : DecimalFormat) (p : PatternText) (texts : Texts) (one other : List ℕ) (s : Sign) (c d : Unsigned) →
-    IsReadable f.symbols.strings f.digits → HasNoDigitAround f.digits (resolved p (with_symbol texts one)) →
-    HasNoDigitAround f.digits (resolved p (with_symbol texts other)) → ShowsSymbol p → SymbolEndsInNoSpace one → SymbolEndsInNoSpace other →
+    IsReadable f.symbols.strings f.digits → HasNoDigitAround f.digits (resolved f.digits p (with_symbol texts one)) →
+    HasNoDigitAround f.digits (resolved f.digits p (with_symbol texts other)) → ShowsSymbol p → SymbolEndsInNoSpace one → SymbolEndsInNoSpace other →
     IsUnsigned c → IsUnsigned d
     → characters (plain_amount f p texts one s c) ≡ characters (plain_amount f p texts other s d)
     → (c ≡ d) × (chars one ≡ chars other)
@@ -47,8 +47,8 @@ MoneyTextOfOneSignTellsSymbol = (f : DecimalFormat) (p : PatternText) (texts : T
 -- So do equal texts.
 abbrev pub EqualMoneyTextsOfOneSignTellSymbol : Type 0
 EqualMoneyTextsOfOneSignTellSymbol = (f : DecimalFormat) (p : PatternText) (texts : Texts) (one other : List ℕ) (s : Sign) (c d : Unsigned)
-    (first second : List ℕ) → IsReadable f.symbols.strings f.digits → HasNoDigitAround f.digits (resolved p (with_symbol texts one)) →
-    HasNoDigitAround f.digits (resolved p (with_symbol texts other)) → ShowsSymbol p → SymbolEndsInNoSpace one → SymbolEndsInNoSpace other →
+    (first second : List ℕ) → IsReadable f.symbols.strings f.digits → HasNoDigitAround f.digits (resolved f.digits p (with_symbol texts one)) →
+    HasNoDigitAround f.digits (resolved f.digits p (with_symbol texts other)) → ShowsSymbol p → SymbolEndsInNoSpace one → SymbolEndsInNoSpace other →
     IsUtf8 one → IsUtf8 other → IsUnsigned c → IsUnsigned d
     → first ≡ text_of (plain_amount f p texts one s c) → second ≡ text_of (plain_amount f p texts other s d) → first ≡ second
     → (c ≡ d) × (one ≡ other)
@@ -57,4 +57,4 @@ EqualMoneyTextsOfOneSignTellSymbol = (f : DecimalFormat) (p : PatternText) (text
 abbrev pub MoneyThatTellsSymbolsIsReadable : Type 0
 MoneyThatTellsSymbolsIsReadable = (f : DecimalFormat) (marks : List ℕ) (p : PatternText) (texts : Texts) (currency : List ℕ) →
     IsReadable f.symbols.strings f.digits → TellsSymbols f.digits marks p texts → IsToldSymbol f.digits marks currency
-    → IsReadableMoney (record { formatter = f; patterns = resolved p (with_symbol texts currency) })
+    → IsReadableMoney (record { formatter = f; patterns = resolved f.digits p (with_symbol texts currency) })

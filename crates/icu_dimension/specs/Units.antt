@@ -4,16 +4,18 @@ use Rattle.fixed_decimal.specs.declared.signs.Sign.{Sign}
 use Rattle.icu_plurals.specs.Elements.{Elements}
 use Rattle.writeable.specs.Events.{Event}
 use Rattle.icu_plurals.specs.Operands.{Operands}
-use Rattle.icu_pattern.specs.Patterns.{PatternText, interpolated}
+use Rattle.icu_pattern.specs.Patterns.{PatternText}
 use Rattle.icu_plurals.specs.Rules.{Rule}
 use Rattle.icu_decimal_data.specs.declared.decimal_symbols.DecimalSymbols.{DecimalSymbols}
 use Rattle.icu_decimal.specs.Decimal.{signed_events}
 use Rattle.icu_decimal.specs.Shown.{Shown, operands_shown, picked}
+use Rattle.icu_dimension.specs.UnitPatterns.{unit_interpolated}
 
--- the pattern that the operands pick, with the number's events and the sign around them in its place
+-- the pattern that the operands pick, its words in the part of a unit, with the number's events and the sign around them in
+-- its place
 abbrev pub units_framed : DecimalSymbols → List Rule → Elements PatternText → Sign → Operands → List Event → List Event
 units_framed symbols rules elements sign operands es =
-    interpolated (picked rules elements operands) (signed_events symbols sign es)
+    unit_interpolated (picked rules elements operands) (signed_events symbols sign es)
 
 -- what is written for a number as it is shown
 abbrev pub units_events : DecimalSymbols → List Rule → Elements PatternText → Sign → Shown → List Event

@@ -1,21 +1,21 @@
 //! Compact amounts of money (ICU4X, `CompactCurrencyFormatter`).
 
-ghost use Rattle.std.specs.Prelude.{◌≡◌, ◌≢◌, ◌↔◌, IfErr, IfOk, IsErrOf, IsOkUnless};
+ghost use Rattle.std.specs.Prelude.{◌≡◌, ◌≢◌, ◌↔◌, IfErr, IfOk, IsErrOf, IsOkUnless, is_some};
 ghost use Rattle.std.specs.String.{string_bytes};
 ghost use Rattle.fixed_decimal.specs.Size.{size};
 ghost use Rattle.writeable.specs.Events.{text_of};
+ghost use Rattle.icu_decimal_data.specs.CompactTable.{IsIndex, entry_at};
 ghost use Rattle.icu_decimal.specs.CompactFormat.{FormattedCompact, IsCompacted};
 ghost use Rattle.icu_decimal.specs.CompactNumber.{ShowsPastLimits};
 ghost use Rattle.icu_decimal.specs.WritesSuch.{KeepsLimitSuch, WritesSuch};
-ghost use Rattle.icu_dimension.specs.CompactMoney.{compact_events, compact_money, formatter_of};
+ghost use Rattle.icu_dimension.specs.CompactMoney.{compact_events, compact_money, entry_shown, formatter_of};
 
-use crate::compact_currency_patterns::CompactCurrencyPatterns;
 use crate::currency_formatter::CurrencyFormatter;
 use crate::frame::Lent;
 use fixed_decimal::{Decimal, Sign};
 use icu_decimal::error::FormatError;
 use icu_decimal::{CompactDecimalFormatter, DecimalFormatter, FormattedUnsignedCompactDecimal};
-use icu_dimension_data::SignedPatterns;
+use icu_dimension_data::{CompactCurrencyPatterns, SignedPatterns};
 use icu_plurals::PluralRules;
 use std::alloc::Global;
 use std::marker::Model;
@@ -26,8 +26,8 @@ use writeable::{EventWriter, PartsWrite, WriteFault, Writeable};
 /// sign.
 ///
 /// CLDR has short patterns for money, with signs and symbol in them; they aren't made of compact
-/// numbers and a pattern of money. A compact number of exponent 0, which they don't shorten, is
-/// written in the pattern of money: `$0.5`.
+/// numbers and a pattern of money. An amount below the first of them, which has none, is written in
+/// the pattern of money: `$0.5`.
 #[derive(Drop)]
 pub struct CompactCurrencyFormatter {
     none: CompactDecimalFormatter,
@@ -63,6 +63,20 @@ fn copied(
         Ok(rules) => Ok((formatter, rules)),
         Err(_) => Err(FormatError::OutOfMemory),
     }
+}
+
+/// The index of the entry by which a compact number is displayed.
+fn displayed_index(
+    formatter: &CompactDecimalFormatter,
+    number: &FormattedUnsignedCompactDecimal<'_>,
+) -> Option<usize>
+    ensures entry { entry_at formatter.now.table result
+        ≡ entry_shown formatter.now.table number.now }
+    ensures index { IsIndex formatter.now.table result }
+{
+    let significand = number.significand();
+    let magnitude = significand.nonzero_magnitude_start() as i32 + number.exponent() as i32;
+    formatter.patterns().entry_index(magnitude)
 }
 
 impl CompactCurrencyFormatter {
@@ -104,16 +118,25 @@ impl CompactCurrencyFormatter {
         }
     }
 
-    /// The patterns of money for each sign, in which a compact number of exponent 0 stands (this
-    /// project's own).
+    /// The patterns of money for each sign, in which a compact number stands that has no entry in
+    /// the table (this project's own).
     pub fn patterns(&self) -> &SignedPatterns
         ensures { result.now ≡ self.now.patterns }
     {
         &self.patterns
     }
 
-    /// Writes an amount: the characters of the nearest compact number and, if its exponent is 0,
-    /// the parts of the sign and of the symbol around it.
+    /// Whether a compact number of a sign is displayed by an entry of the table, whose pattern has
+    /// the symbol and the sign in it (this project's own).
+    #[tactic(auto, using(crate::proofs::EntryShown::some_at))]
+    pub fn has_entry(&self, sign: Sign, number: &FormattedUnsignedCompactDecimal<'_>) -> bool
+        ensures { result ≡ is_some (entry_shown (formatter_of self.now sign).table number.now) }
+    {
+        displayed_index(self.for_sign(sign), number).is_some()
+    }
+
+    /// Writes an amount: the characters of the nearest compact number and, if no entry of the table
+    /// displays it, the parts of the sign and of the symbol around it.
     ///
     /// After `Overflow` and `OutOfMemory` the sink is unchanged. `Sink` only where the sink failed
     /// in this call, and it then holds a beginning of the events besides. `Overflow` exactly where
@@ -126,17 +149,19 @@ impl CompactCurrencyFormatter {
     ) -> Result<(), FormatError>
         ensures written { WritesSuch S.events S.failures sink.old result
             (IsCompacted (formatter_of self.now value.now.sign) value.now.absolute)
-            (compact_events self.now.patterns value.now.sign) sink.new }
+            (compact_events (formatter_of self.now value.now.sign).table self.now.patterns
+            value.now.sign) sink.new }
         ensures limited { KeepsLimitSuch S.events S.limit S.refusals sink.old result
             (IsCompacted (formatter_of self.now value.now.sign) value.now.absolute)
-            (compact_events self.now.patterns value.now.sign) sink.new }
+            (compact_events (formatter_of self.now value.now.sign).table self.now.patterns
+            value.now.sign) sink.new }
         ensures overflow { IsErrOf result FormatError.Overflow
             ↔ ShowsPastLimits (formatter_of self.now value.now.sign).table
             (size value.now.absolute) }
     {
         let shown = self.for_sign(value.sign).format(alloc, value)?;
         let amount = CompactAmount {
-            patterns: &self.patterns,
+            money: self,
             sign: value.sign,
             number: shown.value(),
         };
@@ -150,7 +175,8 @@ impl CompactCurrencyFormatter {
     pub fn write_to_string(&self, alloc: Global, value: &Decimal) -> Result<String, FormatError>
         ensures text { IfOk result (λ t. (n : FormattedCompact)
             × IsCompacted (formatter_of self.now value.now.sign) value.now.absolute n
-            × (string_bytes t ≡ text_of (compact_events self.now.patterns value.now.sign n))) }
+            × (string_bytes t ≡ text_of (compact_events (formatter_of self.now value.now.sign).table
+            self.now.patterns value.now.sign n))) }
         ensures overflow { IsErrOf result FormatError.Overflow
             ↔ ShowsPastLimits (formatter_of self.now value.now.sign).table
             (size value.now.absolute) }
@@ -158,7 +184,7 @@ impl CompactCurrencyFormatter {
     {
         let shown = self.for_sign(value.sign).format(alloc, value)?;
         let amount = CompactAmount {
-            patterns: &self.patterns,
+            money: self,
             sign: value.sign,
             number: shown.value(),
         };
@@ -169,22 +195,24 @@ impl CompactCurrencyFormatter {
     }
 }
 
-/// A compact number; if its exponent is 0, in the pattern of a sign.
+/// A compact number; if no entry displays it, in the pattern of a sign.
 #[derive(Drop)]
 struct CompactAmount<'a, 'l> {
-    patterns: &'a SignedPatterns,
+    money: &'a CompactCurrencyFormatter,
     sign: Sign,
     number: &'a FormattedUnsignedCompactDecimal<'l>,
 }
 
 impl Writeable for CompactAmount<'_, '_> {
-    ghost events = { λ a. compact_events a.patterns.now a.sign a.number.now };
+    ghost events = { λ a. compact_events (formatter_of a.money.now a.sign).table
+        a.money.now.patterns a.sign a.number.now };
 
     fn write_events<K: EventWriter>(&self, out: &mut K) -> Result<(), WriteFault> {
-        if self.number.exponent() != 0 {
+        let money = self.money;
+        if money.has_entry(self.sign, self.number) {
             return self.number.write_events(out);
         }
-        let pattern = self.patterns.for_sign(self.sign);
+        let pattern = money.patterns.for_sign(self.sign);
         pattern
             .interpolate(Lent { value: self.number })
             .write_events(out)

@@ -110,14 +110,16 @@ impl CurrencyPatterns {
         }
     }
 
-    /// The patterns of the three signs for a currency.
+    /// The patterns of the three signs for a currency, around numbers with these ten digits.
     pub(crate) fn resolve(
         &self,
         alloc: Global,
         symbols: &CurrencySymbols,
+        digits: &[char; 10],
         options: CurrencyFormatterOptions,
     ) -> Result<SignedPatterns, AllocError>
-        ensures { IfOk result (λ p. p ≡ money_patterns self.now symbols.now options) }
+        ensures { IfOk result (λ p.
+            p ≡ money_patterns digits.now self.now symbols.now options) }
     {
         let texts = AffixTexts {
             minus_sign: self.minus_sign.as_str(),
@@ -125,6 +127,6 @@ impl CurrencyPatterns {
             percent_sign: "%",
             currency: symbols.of_width(options.width),
         };
-        self.of_sign(options.sign).resolve(alloc, &texts)
+        self.of_sign(options.sign).resolve(alloc, &texts, digits)
     }
 }

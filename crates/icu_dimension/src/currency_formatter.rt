@@ -8,9 +8,10 @@ ghost use Rattle.icu_decimal.specs.WritesSuch.{KeepsLimitSuch, WritesSuch};
 ghost use Rattle.icu_dimension.specs.Money.{money_events};
 
 use crate::frame::SignFrame;
+use crate::readable::{are_readable, are_told_apart};
 use fixed_decimal::Decimal;
-use icu_decimal::AbstractFormatter;
 use icu_decimal::error::FormatError;
+use icu_decimal::{AbstractFormatter, DecimalFormatter};
 use icu_dimension_data::SignedPatterns;
 use std::alloc::Global;
 use std::marker::Model;
@@ -101,5 +102,66 @@ impl<F: AbstractFormatter> CurrencyFormatter<F> {
         };
         self.formatter
             .framed_to_string(alloc, &value.absolute, &frame)
+    }
+}
+
+impl CurrencyFormatter<DecimalFormatter> {
+    ghost use Rattle.std.specs.Prelude.{◌↔◌, IsTrue};
+    ghost use Rattle.icu_dimension.specs.MoneyReadable.{IsReadableMoney};
+    ghost use Rattle.icu_dimension.specs.ToldApart.{AreToldApart};
+
+    /// Whether each text determines its amount: the sign, the range and every digit (this project's
+    /// own).
+    ///
+    /// It does if the numbers are readable ([`DecimalFormatter::is_readable`]), if none of their
+    /// ten digits stands before or after them, and if no two signs have the same characters there.
+    /// So `¤#,##0.00` with `$` is readable; with `$1` it isn't, and by `¤0;¤0` nothing tells the
+    /// minus. Characters are compared, not bytes and not parts. It takes no memory.
+    ///
+    /// Where the answer is true, [`laws::money_text_tells`] says that equal texts are of equal
+    /// amounts. A caller calls that law, which does nothing, and its own contract may then conclude
+    /// from equal texts that `one` and `other` have the same sign and the same digits:
+    ///
+    /// ```
+    /// money_text_tells();
+    /// if !money.is_readable() {
+    ///     return None;
+    /// }
+    /// let first = money.write_to_string(alloc, one).ok()?;
+    /// let second = money.write_to_string(alloc, other).ok()?;
+    /// Some(first == second)
+    /// ```
+    ///
+    /// [`DecimalFormatter::is_readable`]: icu_decimal::DecimalFormatter::is_readable
+    /// [`laws::money_text_tells`]: crate::laws::money_text_tells
+    pub fn is_readable(&self) -> bool
+        ensures { IsTrue result ↔ IsReadableMoney self.now }
+    {
+        are_readable(&self.formatter, &self.patterns)
+    }
+
+    /// Whether each text of either formatter tells which of the two wrote it (this project's own).
+    ///
+    /// It does if both write the same readable numbers, by equal symbols, digits and options, if
+    /// none of the ten digits stands before or after them, and if what stands around numbers by the
+    /// one differs from what stands around numbers by the other, whatever the two signs are. So
+    /// `$` and `US$` in the patterns of one locale are told apart, and `$` isn't from itself.
+    /// Characters are compared, not bytes and not parts. It takes no memory.
+    ///
+    /// Where the answer is true, [`laws::told_apart_share_no_text`] says that no text of the one is
+    /// a text of the other. A caller calls that law beside this call, as [`is_readable`] shows, and
+    /// takes a text that it has from one of the two to be of that one.
+    ///
+    /// [`is_readable`]: CurrencyFormatter::is_readable
+    /// [`laws::told_apart_share_no_text`]: crate::laws::told_apart_share_no_text
+    pub fn is_told_apart_from(&self, other: &Self) -> bool
+        ensures { IsTrue result ↔ AreToldApart self.now other.now }
+    {
+        are_told_apart(
+            &self.formatter,
+            &self.patterns,
+            &other.formatter,
+            &other.patterns,
+        )
     }
 }

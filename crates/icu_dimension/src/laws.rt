@@ -6,6 +6,8 @@ ghost use Rattle.icu_dimension.specs.PercentLaws.{HundredfoldIsAHundredTimes, Hu
 ghost use Rattle.icu_dimension.specs.SymbolLaws.{EqualMoneyTextsOfOneSignTellSymbol, EqualMoneyTextsTellSymbol};
 ghost use Rattle.icu_dimension.specs.SymbolLaws.{MoneyTextOfOneSignTellsSymbol, MoneyTextTellsSymbol};
 ghost use Rattle.icu_dimension.specs.SymbolLaws.{MoneyThatTellsSymbolsIsReadable};
+ghost use Rattle.icu_dimension.specs.ToldApart.{ToldApartShareNoCharacters, ToldApartShareNoText};
+ghost use Rattle.icu_dimension.specs.UnitPatterns.{UnitKeepsCharacters};
 
 /// What is shown as a percent is a hundred times as large as the number, exactly.
 pub fn a_percent_is_a_hundred_times_the_number()
@@ -18,10 +20,12 @@ pub fn a_percent_has_no_zero_at_its_front()
 {}
 
 /// If money by a plain formatter is readable, equal texts mean equal amounts: in sign, range and
-/// every digit. In the patterns of two currencies, or of two locales with the same numbers, equal
-/// texts mean equal digits and range, and the same characters before the number and after it, if
-/// no digit stands there; and none does, if neither the symbol nor a sign nor the pattern has one.
-/// What stands there is told as a whole: U+00A0 may stand beside one symbol and be part of another.
+/// every digit. In the patterns of two currencies, or of two locales, over the same readable
+/// numbers, equal texts mean equal digits and range, and the same characters before the number and
+/// after it, if none of the ten digits stands there. None does in the patterns that
+/// `CldrPattern::resolve` makes, if neither the symbol nor a minus, plus or percent sign nor the
+/// pattern's own characters have one, and U+00A0 isn't one. What stands there is told as a whole:
+/// U+00A0 may stand beside one symbol and be part of another.
 /// [`money_text_tells_the_symbol`] says when the symbol is told, too.
 ///
 /// Texts are compared as lists of characters, and as `write_to_string` returns them.
@@ -63,4 +67,19 @@ pub fn money_text_tells_the_symbol()
 pub fn percent_text_tells()
     ensures characters { PercentTextTells }
     ensures texts { EqualPercentTextsTell }
+{}
+
+/// If two formatters of money are told apart ([`is_told_apart_from`]), no text of the one is a text
+/// of the other, whatever the amounts are: a text tells which of the two wrote it.
+///
+/// [`is_told_apart_from`]: crate::CurrencyFormatter::is_told_apart_from
+pub fn told_apart_share_no_text()
+    ensures characters { ToldApartShareNoCharacters }
+    ensures texts { ToldApartShareNoText }
+{}
+
+/// A unit's pattern writes the characters of its literal around a number, white space too: the part
+/// `unit` adds none and leaves none out. So laws of a pattern's characters hold of a unit's.
+pub fn the_part_of_a_unit_changes_no_character()
+    ensures { UnitKeepsCharacters }
 {}

@@ -14,7 +14,7 @@
 //!     currency: "CHF",
 //! };
 //! let pattern = CldrPattern::parse(rt.alloc(), "¤#,##0.00").ok()?;
-//! let patterns = pattern.resolve(rt.alloc(), &texts).ok()?;
+//! let patterns = pattern.resolve(rt.alloc(), &texts, &ASCII_DIGITS).ok()?;
 //! let francs = CurrencyFormatter::new(formatter, patterns);
 //! let decimal = Decimal::try_from_str(rt.alloc(), "-1234.5").ok()?;
 //! let amount = rounded_to(decimal, 2).ok()?;
@@ -26,7 +26,6 @@
 #![tactic(auto)]
 
 mod compact_currency_formatter;
-mod compact_currency_patterns;
 mod currency_data;
 mod currency_formatter;
 mod frame;
@@ -39,6 +38,8 @@ mod name_pattern;
 pub mod options;
 mod percent_formatter;
 pub mod provider;
+mod readable;
+mod unit_pattern;
 mod units_formatter;
 
 pub use compact_currency_formatter::CompactCurrencyFormatter;

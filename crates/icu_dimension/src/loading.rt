@@ -178,7 +178,7 @@ impl CurrencyFormatter<DecimalFormatter> {
         let patterns = load_preferred_in::<CurrencyPatternsV1, D>(alloc, provider, &prefs)?;
         let locale = &prefs.locale_preferences;
         let symbols = load_named::<CurrencySymbolsV1, D>(alloc, provider, code.as_str(), locale)?;
-        match patterns.resolve(alloc, &symbols, options) {
+        match patterns.resolve(alloc, &symbols, formatter.digits(), options) {
             Ok(patterns) => Ok(CurrencyFormatter::new(formatter, patterns)),
             Err(_) => Err(DataErrorKind::OutOfMemory.into()),
         }
@@ -227,8 +227,12 @@ impl CompactCurrencyFormatter {
     ///
     /// First the formatter of money is made, as [`CurrencyFormatter::try_new_unstable`] makes it
     /// with the short symbol and the standard pattern. Then plural rules are asked for by the
-    /// locale, and then compact patterns by the currency's code in the locale. The first refusal is
-    /// reported, with its context; `OutOfMemory` also where an allocation is refused.
+    /// locale, and then compact patterns by the preferred numbering system in the locale, if one is
+    /// preferred, and else by the locale. The symbol and the signs in them are those of the
+    /// formatter of money ([`CompactRows::resolve`]). The first refusal is reported, with its
+    /// context; `OutOfMemory` also where an allocation is refused.
+    ///
+    /// [`CompactRows::resolve`]: icu_dimension_data::CompactRows::resolve
     pub fn try_new_unstable<
         D: DataProvider<CurrencyDecimalSymbolsV1>
             + DataProvider<DecimalSymbolsV1>
@@ -264,13 +268,9 @@ impl CompactCurrencyFormatter {
             alloc, provider, prefs, code, standard,
         )?;
         let rules = load_rules::<D>(alloc, provider, &prefs)?;
-        let locale = &prefs.locale_preferences;
-        let tables = load_named::<CurrencyCompactShortV1, D>(
-            alloc,
-            provider,
-            code.as_str(),
-            locale,
-        )?;
+        let rows = load_preferred_in::<CurrencyCompactShortV1, D>(alloc, provider, &prefs)?;
+        let texts = money.patterns.texts();
+        let tables = rows.resolve(alloc, &texts, money.formatter.digits())?;
         match CompactCurrencyFormatter::from_parts(alloc, money, rules, tables) {
             Ok(formatter) => Ok(formatter),
             Err(_) => Err(DataErrorKind::OutOfMemory.into()),

@@ -1,10 +1,9 @@
 //! The kinds of data of which formatters of money, percents and units are made.
 
-use crate::compact_currency_patterns::CompactCurrencyPatterns;
 use crate::currency_data::{CurrencyPatterns, CurrencySymbols};
 use crate::name_pattern::NamePattern;
 use icu_decimal_data::DecimalSymbols;
-use icu_dimension_data::{CurrencyDigits, SignedPatterns};
+use icu_dimension_data::{CompactRows, CurrencyDigits, SignedPatterns};
 use icu_pattern::{Pattern, SinglePlaceholder};
 use icu_plurals::PluralElements;
 use icu_provider::DataMarker;
@@ -41,11 +40,12 @@ impl DataMarker for CurrencyNamesV1 {
     type DataStruct = PluralElements<NamePattern>;
 }
 
-/// The short compact patterns of a currency, asked for by its code in the locale.
+/// The short compact patterns of money, asked for by the preferred numbering system in the locale,
+/// or else by the locale. They are those of every currency.
 pub struct CurrencyCompactShortV1;
 
 impl DataMarker for CurrencyCompactShortV1 {
-    type DataStruct = CompactCurrencyPatterns;
+    type DataStruct = CompactRows;
 }
 
 /// The digits of currencies, asked for in the undetermined locale, `und`.

@@ -11,9 +11,10 @@ ghost use Rattle.icu_dimension.specs.Percent.{IsTooLarge, hundredfold};
 
 use crate::frame::SignFrame;
 use crate::hundredfold::hundredfold;
+use crate::readable::are_readable;
 use fixed_decimal::Decimal;
-use icu_decimal::AbstractFormatter;
 use icu_decimal::error::FormatError;
+use icu_decimal::{AbstractFormatter, DecimalFormatter};
 use icu_dimension_data::SignedPatterns;
 use std::alloc::Global;
 use std::marker::Model;
@@ -103,5 +104,25 @@ impl<F: AbstractFormatter> PercentFormatter<F> {
             sign: value.sign,
         };
         self.formatter.framed_to_string(alloc, &hundredfold, &frame)
+    }
+}
+
+impl PercentFormatter<DecimalFormatter> {
+    ghost use Rattle.std.specs.Prelude.{◌↔◌, IsTrue};
+    ghost use Rattle.icu_dimension.specs.MoneyReadable.{IsReadableMoney};
+
+    /// Whether each text determines a hundred times its number, and so the number's sign and size
+    /// (this project's own).
+    ///
+    /// It does under the same conditions as for money ([`CurrencyFormatter::is_readable`]), which
+    /// shows how a caller uses the answer; the law of percents is [`laws::percent_text_tells`]. It
+    /// takes no memory.
+    ///
+    /// [`CurrencyFormatter::is_readable`]: crate::CurrencyFormatter::is_readable
+    /// [`laws::percent_text_tells`]: crate::laws::percent_text_tells
+    pub fn is_readable(&self) -> bool
+        ensures { IsTrue result ↔ IsReadableMoney self.now }
+    {
+        are_readable(&self.formatter, &self.patterns)
     }
 }

@@ -1,6 +1,5 @@
 //! What a locale says about money, percents and units, and how a provider is asked for it.
 
-pub use crate::compact_currency_patterns::CompactCurrencyPatterns;
 pub use crate::currency_data::{CurrencyPatterns, CurrencySymbols};
 pub use crate::loading::load_currency_digits;
 pub use crate::markers::{
@@ -8,3 +7,4 @@ pub use crate::markers::{
     CurrencyPatternsV1, CurrencySymbolsV1, PercentPatternsV1, UnitsLongV1, UnitsNarrowV1,
     UnitsShortV1,
 };
+pub use icu_dimension_data::{CompactCurrencyPatterns, CompactRow, CompactRows};

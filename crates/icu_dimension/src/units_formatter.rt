@@ -8,6 +8,7 @@ ghost use Rattle.icu_decimal.specs.WritesSuch.{KeepsLimitSuch, WritesSuch};
 ghost use Rattle.icu_dimension.specs.Units.{units_events};
 
 use crate::frame::Lent;
+use crate::unit_pattern::write_unit;
 use fixed_decimal::{Decimal, Sign};
 use icu_decimal::error::FormatError;
 use icu_decimal::{AbstractFormatter, Frame, ShownNumber};
@@ -15,7 +16,7 @@ use icu_pattern::{Pattern, SinglePlaceholder};
 use icu_plurals::{PluralElements, PluralRules};
 use std::alloc::Global;
 use std::marker::Model;
-use writeable::{EventWriter, PartsWrite, WriteFault, Writeable};
+use writeable::{EventWriter, PartsWrite, WriteFault};
 
 /// Writes numbers with a unit, as `-1 kilometer` or `ɣleti -1`: the pattern that the number's
 /// plural operands pick, with the number and its sign in its place.
@@ -74,8 +75,9 @@ impl<F: AbstractFormatter> UnitsFormatter<F> {
         &self.elements
     }
 
-    /// Writes the number with its unit: the parts of the number and of its sign. A pattern without
-    /// a placeholder is written as its literal.
+    /// Writes the number with its unit: the parts of the number and of its sign, and the words of
+    /// the pattern on each side of them in the part `unit`, without the white space at their ends,
+    /// which is in no part. A pattern without a placeholder is written as its literal.
     ///
     /// After `Overflow` and `OutOfMemory` the sink is unchanged. `Sink` only where the sink failed
     /// in this call, and it then holds a beginning of the events besides. `Overflow` exactly where
@@ -146,9 +148,7 @@ impl<F: AbstractFormatter> Frame for UnitsFrame<'_, F> {
         let signed = units
             .formatter
             .format_sign(Lent { value: number }, self.sign);
-        number
-            .pick(&units.elements, &units.rules)
-            .interpolate(signed)
-            .write_events(out)
+        let pattern = number.pick(&units.elements, &units.rules);
+        write_unit(pattern, &signed, out)
     }
 }

@@ -3,3 +3,6 @@ pub mod Characters
 pub mod Codes
 pub mod Left
 pub mod Seams
+pub mod RisingRows
+pub mod SignedTables
+pub mod TokenCharacters

@@ -7,3 +7,7 @@ pub mod Resolved
 pub mod Flat
 pub mod Given
 pub mod Surrounding
+pub mod ByCategory
+pub mod CompactRows
+pub mod SignedTables
+pub mod Comparing

@@ -2,9 +2,11 @@
 -- symbol and the number where one is wanted (Currency Formatting, currency spacing).
 use Rattle.std.specs.Prelude.{ℕ, ◌-◌, List, [], ◌∷◌, ◌++◌, Bool, true, false, ◌&&◌, ◌||◌, not, Option, Some, None}
 use Rattle.std.specs.Prelude.{map, length, slice_get, chars, if◌then◌else◌}
-use Rattle.std.specs.List.{list_any}
+use Rattle.std.specs.List.{list_all, list_any}
 use Rattle.ucd_category.specs.GeneralCategory.{general_category}
 use Rattle.ucd_category.specs.GeneralCategoryGroup.{in_group}
+use Rattle.ucd_category.specs.declared.GeneralCategory.{GeneralCategory}
+use Rattle.ucd_category.specs.declared.GeneralCategory.TheVariants.{DecimalNumber}
 use Rattle.ucd_category.specs.declared.GeneralCategoryGroup.TheVariants.{Symbol, Separator}
 use Rattle.fixed_decimal.specs.declared.signs.Sign.{Sign}
 use Rattle.fixed_decimal.specs.declared.signs.Sign.TheVariants.{None as NoSign, Negative, Positive}
@@ -66,10 +68,23 @@ plus_affixes p = if has_minus (minus_affixes p) then with_plus (minus_affixes p)
 abbrev pub stands_apart : ℕ → Bool
 stands_apart c = in_group Symbol (general_category c) || in_group Separator (general_category c)
 
--- a space is inserted between a number and a text that has this character on the number's side, if it has any
+-- a space is inserted between digits and a text that has this character on their side, if it has any
 abbrev pub needs_space : Option ℕ → Bool
 needs_space None = false
 needs_space (Some c) = not (stands_apart c)
+
+-- the general category Nd
+abbrev pub is_decimal_number : GeneralCategory → Bool
+is_decimal_number DecimalNumber = true
+is_decimal_number _ = false
+
+-- a digit beside which a space may be inserted: `[:digit:]`, the general category Nd
+abbrev pub is_digit : ℕ → Bool
+is_digit c = is_decimal_number (general_category c)
+
+-- numbers with these ten digits begin and end with such a digit
+abbrev pub are_digits : List ℕ → Bool
+are_digits digits = list_all is_digit digits
 
 -- the first character of a text
 abbrev pub first_character : List ℕ → Option ℕ
@@ -88,28 +103,28 @@ is_symbol _ = false
 abbrev pub no_break_space : AffixToken
 no_break_space = Character 160
 
--- before the number: a space behind a symbol that stands directly before it and needs one
-abbrev pub spaced_before : List ℕ → List AffixToken → List AffixToken
-spaced_before currency ts =
-    if is_symbol (slice_get ts (length ts - 1)) && needs_space (last_character currency)
+-- before the number: where spaces are inserted at all, one behind a symbol that stands directly before it and needs one
+abbrev pub spaced_before : Bool → List ℕ → List AffixToken → List AffixToken
+spaced_before inserted currency ts =
+    if is_symbol (slice_get ts (length ts - 1)) && (needs_space (last_character currency) && inserted)
     then ts ++ no_break_space ∷ []
     else ts
 
--- after the number: a space before a symbol that stands directly behind it and needs one
-abbrev pub spaced_after : List ℕ → List AffixToken → List AffixToken
-spaced_after currency ts =
-    if is_symbol (slice_get ts 0) && needs_space (first_character currency) then no_break_space ∷ ts else ts
+-- after the number: one before a symbol that stands directly behind it and needs one
+abbrev pub spaced_after : Bool → List ℕ → List AffixToken → List AffixToken
+spaced_after inserted currency ts =
+    if is_symbol (slice_get ts 0) && (needs_space (first_character currency) && inserted) then no_break_space ∷ ts else ts
 
 -- on both sides of the number
-abbrev pub spaced : List ℕ → Affixes → Affixes
-spaced currency a = record { before = spaced_before currency a.before; after = spaced_after currency a.after }
+abbrev pub spaced : Bool → List ℕ → Affixes → Affixes
+spaced inserted currency a = record { before = spaced_before inserted currency a.before; after = spaced_after inserted currency a.after }
 
--- the patterns of the three signs, with these texts in them
-abbrev pub resolved : PatternText → Texts → Signed
-resolved p texts = record {
-  none = spaced texts.currency p.first;
-  minus = spaced texts.currency (minus_affixes p);
-  plus = spaced texts.currency (plus_affixes p);
+-- the patterns of the three signs around numbers with these ten digits, with these texts in them
+abbrev pub resolved : List ℕ → PatternText → Texts → Signed
+resolved digits p texts = record {
+  none = spaced (are_digits digits) texts.currency p.first;
+  minus = spaced (are_digits digits) texts.currency (minus_affixes p);
+  plus = spaced (are_digits digits) texts.currency (plus_affixes p);
   texts = texts;
 }
 

@@ -27,7 +27,8 @@ impl CldrPattern {
     ghost use Rattle.std.specs.Prelude.{◌≡◌, Ok, Err, IfOk, IsOkUnless, MatchResult};
     ghost use Rattle.icu_dimension_data.specs.Reading.{pattern_of};
 
-    /// The pattern of a text. Faults are sought from left to right, before any allocation.
+    /// The pattern of a text. A text that is no pattern is refused by its first fault from left to
+    /// right, whether or not memory ran out; `OutOfMemory` is reported of patterns alone.
     ///
     /// A subpattern is what stands around its number part, a run of `#`, `0`, `,` and `.`; a second
     /// one may stand behind `;`. `¤` is the currency symbol, `-` and `+` the signs, `%` the percent

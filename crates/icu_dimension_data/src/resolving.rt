@@ -8,6 +8,7 @@ use crate::affix_texts::AffixTexts;
 use crate::affix_token::AffixToken;
 use crate::cldr_pattern::CldrPattern;
 use crate::signed_patterns::SignedPatterns;
+use crate::spacing::are_digits;
 use crate::subpattern::Subpattern;
 use std::alloc::{AllocError, Global};
 
@@ -106,28 +107,32 @@ impl CldrPattern {
         }
     }
 
-    /// The patterns of the three signs, with these texts in them.
+    /// The patterns of the three signs around numbers with these ten digits, with these texts in
+    /// them.
     ///
     /// Without a sign it is the first subpattern. With a minus it is the second one, or if there is
     /// none the minus sign and the first. With a plus it is that of minus, with the plus sign in
     /// place of the minus sign; if no minus sign stands there, as in `(¤0)`, it is the plus sign
     /// and the first subpattern. Where the currency's symbol and the number would touch, U+00A0
     /// stands between them, unless the symbol's character on that side is a symbol or a separator:
-    /// `CHF 1`, but `$1`.
+    /// `CHF 1`, but `$1`. Beside digits whose general category isn't Nd, as those of `hanidec`, no
+    /// space is inserted (UTS 35 Part 3, Currencies: currency spacing, `surroundingMatch`).
     pub fn resolve(
         &self,
         alloc: Global,
         texts: &AffixTexts<'_>,
+        digits: &[char; 10],
     ) -> Result<SignedPatterns, AllocError>
-        ensures { IfOk result (λ p. p ≡ resolved self.now (texts_given texts.now)) }
+        ensures { IfOk result (λ p. p ≡ resolved digits.now self.now (texts_given texts.now)) }
     {
         let none = self.first.copy(alloc)?;
         let minus = self.minus(alloc)?;
         let plus = self.plus(alloc)?;
+        let inserted = are_digits(digits);
         Ok(SignedPatterns {
-            none: none.spaced(texts.currency)?,
-            minus: minus.spaced(texts.currency)?,
-            plus: plus.spaced(texts.currency)?,
+            none: none.spaced(inserted, texts.currency)?,
+            minus: minus.spaced(inserted, texts.currency)?,
+            plus: plus.spaced(inserted, texts.currency)?,
             texts: texts.keep(alloc)?,
         })
     }

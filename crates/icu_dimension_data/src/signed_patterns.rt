@@ -1,6 +1,6 @@
 //! Patterns for each sign, and what they write around a value.
 
-use crate::affix_texts::KeptTexts;
+use crate::affix_texts::{AffixTexts, KeptTexts};
 use crate::affix_token::AffixToken;
 use crate::parts::{CURRENCY, MINUS_SIGN, PERCENT_SIGN, PLUS_SIGN};
 use crate::subpattern::Subpattern;
@@ -31,7 +31,20 @@ impl Model for SignedPatterns {
 
 impl SignedPatterns {
     ghost use Rattle.std.specs.Prelude.{◌≡◌};
+    ghost use Rattle.icu_dimension_data.specs.Given.{texts_given};
     ghost use Rattle.icu_dimension_data.specs.Resolved.{affixes_of};
+
+    /// The texts in the patterns. It takes no memory.
+    pub fn texts(&self) -> AffixTexts<'_>
+        ensures { texts_given result ≡ self.now.texts }
+    {
+        AffixTexts {
+            minus_sign: self.texts.minus_sign.as_str(),
+            plus_sign: self.texts.plus_sign.as_str(),
+            percent_sign: self.texts.percent_sign.as_str(),
+            currency: self.texts.currency.as_str(),
+        }
+    }
 
     /// What stands around numbers of a sign. It takes no memory.
     pub fn for_sign(&self, sign: Sign) -> SignedPattern<'_>

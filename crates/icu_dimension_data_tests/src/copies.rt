@@ -6,6 +6,7 @@ use icu_dimension_data::{
     CldrPattern, CurrencyCode, CurrencyDigits, CurrencyEntry, FractionDigits, SignedPatterns,
 };
 use std::alloc::Global;
+use writeable::ASCII_DIGITS;
 
 /// A copy, asked for again where memory was wanting.
 fn pattern_copy(alloc: Global, pattern: &CldrPattern) -> Option<CldrPattern> {
@@ -26,9 +27,9 @@ fn patterns_copy(alloc: Global, patterns: &SignedPatterns) -> Option<SignedPatte
 fn resolved_copy(alloc: Global, text: &str, currency: &'static str) -> Option<SignedPatterns> {
     match parsed(alloc, text) {
         Ok(pattern) => match pattern_copy(alloc, &pattern) {
-            Some(copy) => match copy.resolve(alloc, &english(currency)) {
+            Some(copy) => match copy.resolve(alloc, &english(currency), &ASCII_DIGITS) {
                 Ok(patterns) => Some(patterns),
-                Err(_) => copy.resolve(alloc, &english(currency)).ok(),
+                Err(_) => copy.resolve(alloc, &english(currency), &ASCII_DIGITS).ok(),
             },
             None => None,
         },

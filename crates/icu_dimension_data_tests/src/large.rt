@@ -1,9 +1,9 @@
-//! Patterns and symbols that are long.
+//! Patterns and symbols that are long, and amounts of many digits.
 
 use crate::flat::is_flat;
 use crate::making::{is_text, patterns_of};
-use fixed_decimal::Sign;
-use icu_dimension_data::AffixTexts;
+use fixed_decimal::{Decimal, Sign};
+use icu_dimension_data::{AffixTexts, rounded_to};
 use std::alloc::{AllocError, Global};
 
 const COUNT: usize = 20_000;
@@ -93,4 +93,55 @@ fn long_patterns_and_symbols_are_written(rt: HostRuntime) {
     assert!(rt; writes_a_long_literal(rt.alloc()));
     assert!(rt; writes_a_long_symbol(rt.alloc()));
     assert!(rt; flattens_a_long_symbol(rt.alloc()));
+}
+
+/// The most digits at power 0 and above, and the most below it.
+const MOST: usize = 32_768;
+
+/// The text of a number of so many ones before the point, and so many behind it.
+fn ones_text(alloc: Global, whole: usize, fraction: usize) -> Result<Vec<u8>, AllocError> {
+    let mut text = Vec::from_elem(alloc, b'1', whole)?;
+    text.push(b'.')?;
+    for _ in 0..fraction {
+        text.push(b'1')?;
+    }
+    Ok(text)
+}
+
+fn ones(alloc: Global, whole: usize, fraction: usize) -> Option<Decimal> {
+    match ones_text(alloc, whole, fraction) {
+        Ok(text) => Decimal::try_from_utf8(alloc, &text).ok(),
+        Err(_) => None,
+    }
+}
+
+/// Whether ones before and behind the point, rounded to so many fraction digits, have so many.
+fn is_rounded(alloc: Global, whole: usize, fraction: usize, digits: u8) -> bool {
+    match ones(alloc, whole, fraction).zip(ones(alloc, whole, usize::from(digits))) {
+        Some((amount, want)) => match rounded_to(amount, digits) {
+            Ok(rounded) => rounded == want,
+            Err(_) => false,
+        },
+        None => false,
+    }
+}
+
+/// How many ones stand before the point and behind it, and to how many digits they are rounded.
+const ROUNDED: &[(usize, usize, u8)] = &[
+    (MOST, 1, 1),
+    (MOST, 3, 2),
+    (1, MOST, 2),
+    (MOST, MOST, 2),
+    (MOST, MOST, 255),
+];
+
+#[test]
+fn amounts_of_many_digits_are_rounded(rt: HostRuntime) {
+    for &(whole, fraction, digits) in ROUNDED {
+        assert!(rt;
+            is_rounded(rt.alloc(), whole, fraction, digits)
+                || is_rounded(rt.alloc(), whole, fraction, digits),
+            "{whole} {fraction} {digits}"
+        );
+    }
 }

@@ -2,6 +2,10 @@
 #![tactic(auto)]
 
 #[cfg(test)]
+mod compact;
+#[cfg(test)]
+mod compared;
+#[cfg(test)]
 mod copies;
 #[cfg(test)]
 mod currencies;
@@ -11,6 +15,8 @@ mod faults;
 mod flat;
 #[cfg(test)]
 mod large;
+#[cfg(test)]
+mod long_texts;
 #[cfg(test)]
 mod making;
 #[cfg(test)]

@@ -3,7 +3,7 @@
 use icu_dimension_data::{AffixTexts, CldrPattern, PatternFault, SignedPatterns};
 use std::alloc::{AllocError, Global};
 use std::fmt;
-use writeable::{WriteFault, Writeable};
+use writeable::{ASCII_DIGITS, WriteFault, Writeable};
 
 /// The signs of English with a currency's symbol.
 pub(crate) fn english(currency: &'static str) -> AffixTexts<'static> {
@@ -29,9 +29,9 @@ fn resolved(
     pattern: &CldrPattern,
     texts: &AffixTexts<'_>,
 ) -> Result<SignedPatterns, AllocError> {
-    match pattern.resolve(alloc, texts) {
+    match pattern.resolve(alloc, texts, &ASCII_DIGITS) {
         Ok(patterns) => Ok(patterns),
-        Err(_) => pattern.resolve(alloc, texts),
+        Err(_) => pattern.resolve(alloc, texts, &ASCII_DIGITS),
     }
 }
 

@@ -1,12 +1,13 @@
 -- Rows of compact patterns of money, one after another, and their types.
-use Rattle.std.proofs.Common.{◌≡◌, ℕ, List, [], ◌∷◌, ◌++◌, map, Option, Some, Result, Ok, Err, refl, sym, ap, ◌∙◌}
+use Rattle.std.proofs.Common.{◌≡◌, ℕ, List, [], ◌∷◌, ◌++◌, Option, Some, Result, Ok, Err, refl, sym, ap, ◌∙◌}
 use Rattle.std.proofs.lemmas.List.{append-nil}
 use Rattle.icu_dimension_data.specs.Patterns.{PatternText}
 use Rattle.icu_dimension_patterns.specs.ByCategory.{elements_read}
-use Rattle.icu_dimension_patterns.specs.CurrencyCompact.{RowsRise, compact_row_of, compact_rows_of, exponent_of}
+use Rattle.icu_dimension_data.specs.CompactRows.{RowsRise}
+use Rattle.icu_dimension_patterns.specs.CurrencyCompact.{compact_row_of, compact_rows_of, exponent_of}
 use Rattle.icu_dimension_patterns.specs.MoneyPattern.{money_pattern_of}
-use Rattle.icu_dimension_patterns.specs.declared.currency_compact.CompactRow.{CompactRow}
-use Rattle.icu_plurals.specs.Elements.{Elements, only_other}
+use Rattle.icu_dimension_data.specs.declared.compact_rows.CompactRow.{CompactRow}
+use Rattle.icu_plurals.specs.Elements.{Elements}
 use Rattle.icu_table_entries.proofs.Lists.{with_front, regroup, failed}
 use Rattle.icu_table_entries.specs.Reading.{◌>>=◌, Fails}
 use Rattle.icu_table_entries.specs.declared.error.Place.{Place}
@@ -73,12 +74,3 @@ rows_rise place before last (e ∷ es) rows h rise =
     let s = read_so (compact_row_of place before e) (λ row. compact_rows_of place row.exponent es) rows h in
     let same = row_type place before e s.0 s.1 in
     rw s.2.2 (rw same rise.0, rw same (rows_rise place s.0.exponent (Some e.log10_type) es s.2.0 s.2.1 rise.1))
-
--- the type of a row, as it was given
-abbrev pub typed_as : CompactRow → GivenEntry
-typed_as row = record { log10_type = row.log10_type; exponent = row.exponent; texts = only_other [] }
-
--- types that rise are such as are given
-pub given_rise : (last : Option ℕ) (rows : List CompactRow) → RowsRise last rows → Rise last (map typed_as rows)
-given_rise last [] rise = tt
-given_rise last (row ∷ rows) rise = (rise.0, given_rise (Some row.log10_type) rows rise.1)

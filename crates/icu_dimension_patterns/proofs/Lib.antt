@@ -1,3 +1,3 @@
 pub mod PatternFaults
 pub mod CompactRows
-pub mod SignedTables
+pub mod Repeated

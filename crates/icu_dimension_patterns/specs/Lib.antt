@@ -2,4 +2,4 @@ pub mod NumberPatterns
 pub mod ByCategory
 pub mod MoneyPattern
 pub mod CurrencyCompact
-pub mod SignedTables
+pub mod SignTexts

@@ -1,38 +1,27 @@
 //! Entries of the compact patterns of money.
 
-ghost use Rattle.std.specs.Prelude.{IfOk, None};
+ghost use Rattle.std.specs.Prelude.{◌≡◌, IfOk, None};
 ghost use Rattle.serde_json.specs.View.{view};
 ghost use Rattle.icu_table_entries.specs.Reading.{Gives};
 ghost use Rattle.icu_tables.specs.Compact.{Rise};
-ghost use Rattle.icu_dimension_patterns.specs.CurrencyCompact.{RowsRise, compact_row_of, compact_rows_of, exponent_of};
+ghost use Rattle.icu_dimension_data.specs.CompactRows.{RowsRise};
+ghost use Rattle.icu_dimension_patterns.specs.CurrencyCompact.{compact_row_of, compact_rows_of, exponent_of, first_repeated, repeats};
+ghost use Rattle.icu_dimension_patterns.specs.CurrencyCompact.{unless_repeated};
 
 use crate::by_category::elements_read;
 use crate::money_pattern::MoneyPattern;
-use icu_dimension_data::CldrPattern;
-use icu_plurals::PluralElements;
+use icu_dimension_data::{CompactRow, CompactRows};
 use icu_provider::DataLocale;
 use icu_table_entries::entries::EntryKind;
-use icu_table_entries::fields::{list_at, object_in, text_at};
+use icu_table_entries::fields::{list_at, object_in, optional_text_at, text_at};
 use icu_table_entries::named::{NamedEntry, name_of};
 use icu_table_entries::{EntryFault, Key, Place, TableError};
 use icu_tables::compact::{GivenEntry, given_entries_in};
 use serde_json::Value;
 use std::alloc::Global;
-use std::marker::Model;
 
 /// The most that a type may be above its exponent.
 const MOST_ABOVE: u8 = 15;
-
-/// A type, its exponent and the patterns of amounts from it on.
-#[derive(Drop)]
-pub struct CompactRow {
-    /// The power of ten at which the row begins.
-    pub log10_type: u8,
-    /// The power of ten that its patterns name.
-    pub exponent: u8,
-    /// Its patterns, as CLDR has them.
-    pub patterns: PluralElements<CldrPattern>,
-}
 
 /// The exponent, if it isn't below the one before it, nor above its type, nor more than 15 below
 /// it.
@@ -92,25 +81,44 @@ fn compact_rows_of(
     Ok(found)
 }
 
-/// The compact patterns of money of a locale, by rising types.
-#[derive(Drop)]
-pub struct CompactRows {
-    pub rows: Vec<CompactRow>,
+/// Whether an entry has another exponent than the one before it, and the same texts, that one's
+/// text for exactly one taken away.
+fn repeats(before: &GivenEntry<'_>, entry: &GivenEntry<'_>) -> bool
+    ensures { result ≡ repeats before.now entry.now }
+{
+    let texts = before.texts.elements();
+    before.exponent != entry.exponent && texts.equal_without_explicit_one(&entry.texts.elements())
 }
 
-impl Model for CompactRows {
-    ghost use Rattle.std.specs.Prelude.{List, None};
-    ghost use Rattle.icu_dimension_patterns.specs.CurrencyCompact.{RowsRise};
-    ghost use Rattle.icu_dimension_patterns.specs.declared.currency_compact.CompactRow.{CompactRow};
-
-    ghost Value = { List CompactRow };
-
-    ghost view = { λ t. t.rows.items };
-
-    ghost invariant = { λ t. RowsRise None t.rows.items };
+/// The type of the first entry that repeats the one before it so.
+fn first_repeated(entries: &[GivenEntry<'_>]) -> Option<u8>
+    ensures { result ≡ first_repeated entries.now }
+{
+    for index in 1..entries.len() {
+        let entry = &entries[index];
+        if repeats(&entries[index - 1], entry) {
+            return Some(entry.log10_type);
+        }
+    }
+    None
 }
 
-/// The compact patterns of money of a locale, under its name.
+/// The rows, unless a type repeats the one before it: a table would drop it, and amounts would be
+/// shown by the power of ten of the one before.
+fn unless_repeated(
+    place: Place,
+    repeated: Option<u8>,
+    rows: CompactRows,
+) -> Result<CompactRows, TableError>
+    ensures { Gives (λ x. x) result (unless_repeated place repeated rows) }
+{
+    match repeated {
+        Some(log10_type) => Err(place.refusal(EntryFault::RepeatedPatterns { log10_type })),
+        None => Ok(rows),
+    }
+}
+
+/// The compact patterns of money of a locale and perhaps a numbering system, under its name.
 pub struct CurrencyCompactEntry;
 
 impl EntryKind for CurrencyCompactEntry {
@@ -127,10 +135,11 @@ impl EntryKind for CurrencyCompactEntry {
     fn from_entry(alloc: Global, place: Place, value: &Value) -> Result<Self::Entry, TableError> {
         let value = object_in(value, place.key)?;
         let locale = text_at(value, Key::Locale)?;
+        let system = optional_text_at(value, Key::System)?;
         let given = given_entries_in(alloc, list_at(value, Key::Patterns)?)?;
-        let name = name_of(place, locale, None)?;
+        let name = name_of(place, locale, system)?;
         let rows = compact_rows_of(alloc, place, &given)?;
-        let content = CompactRows { rows };
+        let content = unless_repeated(place, first_repeated(&given), CompactRows { rows })?;
         Ok(NamedEntry { name, content })
     }
 

@@ -1,8 +1,8 @@
-//! Patterns of money.
+//! Patterns of money and of percents.
 
 ghost use Rattle.std.specs.Prelude.{◌≡◌, IfOk, false, chars};
 ghost use Rattle.icu_table_entries.specs.Reading.{Gives};
-ghost use Rattle.icu_dimension_patterns.specs.MoneyPattern.{money_pattern_of, symbol_in_each, symbol_step};
+ghost use Rattle.icu_dimension_patterns.specs.MoneyPattern.{mark_in_each, mark_step, money_pattern_of, percent_pattern_of};
 
 use crate::by_category::TextKind;
 use crate::number_patterns::number_pattern_of;
@@ -17,29 +17,29 @@ fn characters(alloc: Global, text: &str) -> Result<Vec<char>, AllocError>
     text.chars().collect(alloc)
 }
 
-/// What a character changes of whether it stands in a quote, and whether the currency's symbol
-/// stood in the subpattern so far; none where a subpattern ends without it.
-fn symbol_step(is_quoted: bool, is_seen: bool, character: char) -> Option<(bool, bool)>
-    ensures { result ≡ symbol_step is_quoted is_seen character }
+/// What a character changes of whether it stands in a quote, and whether a mark stood in the
+/// subpattern so far; none where a subpattern ends without it.
+fn mark_step(mark: char, is_quoted: bool, is_seen: bool, character: char) -> Option<(bool, bool)>
+    ensures { result ≡ mark_step mark is_quoted is_seen character }
 {
     match character {
         '\'' => Some((!is_quoted, is_seen)),
         _ if is_quoted => Some((true, is_seen)),
-        '\u{a4}' => Some((false, true)),
+        _ if character == mark => Some((false, true)),
         ';' if is_seen => Some((false, false)),
         ';' => None,
         _ => Some((false, is_seen)),
     }
 }
 
-/// Whether the currency's symbol has its place in each subpattern of a pattern.
-#[tactic(auto, unfolding(crate::specs::MoneyPattern::symbol_in_each))]
-fn symbol_in_each(characters: &[char]) -> bool
-    ensures { result ≡ symbol_in_each false false characters.now }
+/// Whether a mark stands in each subpattern of a pattern, outside quotes.
+#[tactic(auto, unfolding(crate::specs::MoneyPattern::mark_in_each))]
+fn mark_in_each(mark: char, characters: &[char]) -> bool
+    ensures { result ≡ mark_in_each mark false false characters.now }
 {
     let mut state = (false, false);
     for character in characters {
-        match symbol_step(state.0, state.1, *character) {
+        match mark_step(mark, state.0, state.1, *character) {
             Some(next) => state = next,
             None => return false,
         }
@@ -53,10 +53,27 @@ pub fn money_pattern_of(alloc: Global, place: Place, text: &str) -> Result<CldrP
     ensures { Gives (λ x. x) result (money_pattern_of place text.now) }
 {
     let pattern = number_pattern_of(alloc, place, text)?;
-    if symbol_in_each(&characters(alloc, text)?) {
+    if mark_in_each('¤', &characters(alloc, text)?) {
         Ok(pattern)
     } else {
         Err(place.refusal(EntryFault::NoSymbolPlace))
+    }
+}
+
+/// The pattern of a text that has the percent sign's place in each subpattern.
+#[tactic(auto, unfolding(crate::specs::MoneyPattern::percent_pattern_of))]
+pub fn percent_pattern_of(
+    alloc: Global,
+    place: Place,
+    text: &str,
+) -> Result<CldrPattern, TableError>
+    ensures { Gives (λ x. x) result (percent_pattern_of place text.now) }
+{
+    let pattern = number_pattern_of(alloc, place, text)?;
+    if mark_in_each('%', &characters(alloc, text)?) {
+        Ok(pattern)
+    } else {
+        Err(place.refusal(EntryFault::NoPercentPlace))
     }
 }
 

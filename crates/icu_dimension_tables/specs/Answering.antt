@@ -7,15 +7,12 @@ use Rattle.icu_provider.specs.Identifier.{Identifier, same_identifier}
 use Rattle.icu_provider.specs.declared.error.DataErrorKind.TheVariants.{IdentifierNotFound, MarkerNotFound}
 use Rattle.icu_dimension_data.specs.Digits.{Digits}
 use Rattle.icu_decimal_data.specs.declared.decimal_symbols.DecimalSymbols.{DecimalSymbols}
-use Rattle.icu_dimension.specs.CurrencyData.{MoneyPatterns, SymbolTexts, money_texts}
+use Rattle.icu_dimension.specs.CurrencyData.{SymbolTexts}
 use Rattle.icu_dimension.specs.Names.{NameText}
-use Rattle.icu_dimension.specs.declared.compact_currency_patterns.CompactCurrencyPatterns.{CompactCurrencyPatterns}
 use Rattle.icu_dimension_tables.specs.CurrencyNames.{names_found}
-use Rattle.icu_dimension_tables.specs.CurrencySymbols.{CurrencyRow, LocaleCurrencies, row_filed}
+use Rattle.icu_dimension_tables.specs.CurrencySymbols.{LocaleCurrencies, row_filed}
 use Rattle.icu_dimension_tables.specs.NamePlaces.{NamePlaces}
-use Rattle.icu_dimension_patterns.specs.SignedTables.{tables_for}
 use Rattle.icu_dimension_tables.specs.Units.{UnitPatterns, first_unit}
-use Rattle.icu_dimension_patterns.specs.declared.currency_compact.CompactRow.{CompactRow}
 use Rattle.icu_dimension_tables.specs.declared.units.UnitWidth.{UnitWidth}
 use Rattle.icu_table_entries.specs.Answering.{filed_answer, or_not_found}
 use Rattle.icu_table_entries.specs.Named.{NamedEntry, first_filed}
@@ -36,9 +33,9 @@ abbrev pub symbols_answer : Option (List LocaleCurrencies) → Identifier → Re
 symbols_answer None id = refused MarkerNotFound
 symbols_answer (Some entries) id = or_not_found (option_map (λ row. row.symbols) (row_filed id entries))
 
--- The names of a currency by its code in the locale, in the places that the locale has in its default numbering system. Without
--- one of the two keys there are none for any identifier.
-abbrev pub names_answer : Option (List (NamedEntry (Elements NamePlaces))) → Option (List LocaleCurrencies) → Identifier
+-- The names of a currency by its code in the locale, in the places that the locale's entry without a numbering system has, if it
+-- has any. Without one of the two keys there are none for any identifier.
+abbrev pub names_answer : Option (List (NamedEntry (Option (Elements NamePlaces)))) → Option (List LocaleCurrencies) → Identifier
     → Result (Elements NameText) Refusal
 names_answer None currencies id = refused MarkerNotFound
 names_answer (Some entries) None id = refused MarkerNotFound
@@ -50,21 +47,3 @@ names_answer (Some entries) (Some currencies) id = or_not_found
 abbrev pub decimals_answer : Option (List (NamedEntry DecimalSymbols)) → Identifier → Result DecimalSymbols Refusal
 decimals_answer None id = refused IdentifierNotFound
 decimals_answer (Some entries) id = filed_answer entries id
-
--- the compact tables of a locale's patterns of money, a currency's row and the locale's compact patterns, if all three are there
-abbrev pub compact_found : Option MoneyPatterns → Option CurrencyRow → Option (List CompactRow) → Result CompactCurrencyPatterns Refusal
-compact_found None currency compact = refused IdentifierNotFound
-compact_found (Some money) None compact = refused IdentifierNotFound
-compact_found (Some money) (Some currency) None = refused IdentifierNotFound
-compact_found (Some money) (Some currency) (Some compact) = tables_for (money_texts money currency.symbols.short) compact
-
--- The compact tables of a currency by its code in the locale: its short symbol and the signs of the locale's patterns of money, those
--- of its default numbering system, in the compact patterns of the locale. Without one of the three keys there are none for any
--- identifier.
-abbrev pub compact_answer : Option (List (NamedEntry MoneyPatterns)) → Option (List LocaleCurrencies) → Option (List (NamedEntry (List CompactRow)))
-    → Identifier → Result CompactCurrencyPatterns Refusal
-compact_answer None currencies compact id = refused MarkerNotFound
-compact_answer (Some money) None compact id = refused MarkerNotFound
-compact_answer (Some money) (Some currencies) None id = refused MarkerNotFound
-compact_answer (Some money) (Some currencies) (Some compact) id = compact_found (first_filed (record { system = None; locale = id.locale }) money)
-    (row_filed id currencies) (first_filed (record { system = None; locale = id.locale }) compact)

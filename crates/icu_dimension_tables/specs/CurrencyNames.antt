@@ -2,7 +2,7 @@
 use Rattle.std.specs.Prelude.{ℕ, List, Option, Some, None, slice_index_or}
 use Rattle.icu_dimension.specs.Names.{NameText}
 use Rattle.icu_dimension_tables.specs.NamePlaces.{NamePlaces}
-use Rattle.icu_dimension_patterns.specs.ByCategory.{elements_in}
+use Rattle.icu_dimension_data.specs.ByCategory.{elements_in}
 use Rattle.icu_plurals.specs.Elements.{Elements, slots}
 
 -- a name in its place
@@ -24,8 +24,9 @@ named_at p n slot = slot_named p.other n.other (slice_index_or (slots p) slot No
 abbrev pub names_placed : Elements NamePlaces → Elements (List ℕ) → Elements NameText
 names_placed p n = elements_in (named_at p n) (name_in p.other n.other)
 
--- the same of places and names that are there
-abbrev pub names_found : Option (Elements NamePlaces) → Option (Elements (List ℕ)) → Option (Elements NameText)
+-- the same of an entry's places and of names that are there; none where the entry has no places
+abbrev pub names_found : Option (Option (Elements NamePlaces)) → Option (Elements (List ℕ)) → Option (Elements NameText)
 names_found None names = None
-names_found (Some places) None = None
-names_found (Some places) (Some names) = Some (names_placed places names)
+names_found (Some None) names = None
+names_found (Some (Some places)) None = None
+names_found (Some (Some places)) (Some names) = Some (names_placed places names)

@@ -12,7 +12,7 @@ use Rattle.icu_dimension_tables.specs.Money.{currencies_at, patterns_filed, plac
 use Rattle.icu_dimension_tables.specs.NamePlaces.{NamePlaces}
 use Rattle.icu_dimension_tables.specs.Percents.{percents_at}
 use Rattle.icu_dimension_tables.specs.Units.{UnitPatterns, units_at}
-use Rattle.icu_dimension_patterns.specs.declared.currency_compact.CompactRow.{CompactRow}
+use Rattle.icu_dimension_data.specs.declared.compact_rows.CompactRow.{CompactRow}
 use Rattle.icu_plurals.specs.Elements.{Elements}
 use Rattle.icu_table_entries.specs.Named.{NamedEntry}
 use Rattle.icu_table_entries.specs.Reading.{◌>>=◌, entries_in, object_in, optional_at, value_of}
@@ -26,7 +26,7 @@ pub record DimensionData : Type 0 where
   pub percents : Option (List (NamedEntry Signed))
   pub units : Option (List UnitPatterns)
   pub currencies : Option (List (NamedEntry MoneyPatterns))
-  pub places : Option (List (NamedEntry (Elements NamePlaces)))
+  pub places : Option (List (NamedEntry (Option (Elements NamePlaces))))
   pub symbols : Option (List LocaleCurrencies)
   pub decimals : Option (List (NamedEntry DecimalSymbols))
   pub compact : Option (List (NamedEntry (List CompactRow)))

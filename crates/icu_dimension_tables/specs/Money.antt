@@ -1,15 +1,16 @@
 -- Entries of the patterns of money.
-use Rattle.std.specs.Prelude.{ℕ, List, Result, Ok, map}
+use Rattle.std.specs.Prelude.{ℕ, List, Option, Some, None, Result, Ok, map}
 use Rattle.serde_json.specs.Data.{Data}
 use Rattle.icu_dimension.specs.CurrencyData.{MoneyPatterns}
 use Rattle.icu_dimension_patterns.specs.ByCategory.{elements_read}
+use Rattle.icu_dimension_patterns.specs.SignTexts.{sign_text_of}
 use Rattle.icu_dimension_patterns.specs.MoneyPattern.{money_pattern_of}
 use Rattle.icu_dimension_tables.specs.NamePlaces.{NamePlaces, name_places_of}
 use Rattle.icu_plurals.specs.Elements.{Elements}
 use Rattle.icu_table_entries.specs.CategoryTexts.{category_texts_in}
 use Rattle.icu_table_entries.specs.Named.{NamedEntry, identifier_from}
 use Rattle.icu_table_entries.specs.PatternTexts.{Texts}
-use Rattle.icu_table_entries.specs.Reading.{◌>>=◌, member_at, object_in, optional_at, text_at, text_in}
+use Rattle.icu_table_entries.specs.Reading.{◌>>=◌, object_in, optional_at, text_at, text_in}
 use Rattle.icu_table_entries.specs.declared.error.Key.TheVariants.{Locale, System, Standard, Accounting, Minus, Plus, Names}
 use Rattle.icu_table_entries.specs.declared.error.Place.{Place}
 use Rattle.icu_table_entries.specs.declared.error.TableError.{TableError}
@@ -30,23 +31,26 @@ money_texts_at d = do
   plus ← text_at Plus d
   Ok (record { standard = standard; accounting = accounting; minus_sign = minus; plus_sign = plus })
 
--- the patterns of these texts, the standard one first
+-- the patterns of these texts, the standard one first, and the signs, none of which is empty
 unfoldable pub money_patterns_of : Place → MoneyTexts → Result MoneyPatterns TableError
 money_patterns_of place texts = do
   standard ← money_pattern_of place texts.standard
   accounting ← money_pattern_of place texts.accounting
-  Ok (record { standard = standard; accounting = accounting; minus_sign = texts.minus_sign; plus_sign = texts.plus_sign })
+  minus ← sign_text_of place Minus texts.minus_sign
+  plus ← sign_text_of place Plus texts.plus_sign
+  Ok (record { standard = standard; accounting = accounting; minus_sign = minus; plus_sign = plus })
 
--- the texts of how an amount and its currency's name stand together, by plural category
-unfoldable pub names_at : Data → Result Texts TableError
-names_at d = do
-  names ← member_at Names d
-  category_texts_in Names names
-
--- how a locale writes amounts: with a symbol, and with a name
+-- how a locale writes amounts: with a symbol, and with a name, if the entry says how
 pub record LocaleMoney : Type 0 where
   pub patterns : MoneyPatterns
-  pub places : Elements NamePlaces
+  pub places : Option (Elements NamePlaces)
+
+-- the places of texts that may be absent
+unfoldable pub places_of : Place → Option Texts → Result (Option (Elements NamePlaces)) TableError
+places_of place None = Ok None
+places_of place (Some names) = do
+  places ← elements_read name_places_of place names
+  Ok (Some places)
 
 -- an entry: first the kinds of all its fields, then its name, then its patterns, then the places of names
 unfoldable pub currencies_at : Place → Data → Result (NamedEntry LocaleMoney) TableError
@@ -55,10 +59,10 @@ currencies_at place d = do
   locale ← text_at Locale d
   system ← optional_at (text_in System) System d
   texts ← money_texts_at d
-  names ← names_at d
+  names ← optional_at (category_texts_in Names) Names d
   identifier ← identifier_from place locale system
   patterns ← money_patterns_of place texts
-  places ← elements_read name_places_of place names
+  places ← places_of place names
   Ok (record { identifier = identifier; content = record { patterns = patterns; places = places } })
 
 -- an entry with a part of its content
@@ -69,6 +73,6 @@ filed_part part e = record { identifier = e.identifier; content = part e.content
 abbrev pub patterns_filed : List (NamedEntry LocaleMoney) → List (NamedEntry MoneyPatterns)
 patterns_filed es = map (filed_part (λ m. m.patterns)) es
 
--- the places of each entry
-abbrev pub places_filed : List (NamedEntry LocaleMoney) → List (NamedEntry (Elements NamePlaces))
+-- the places of each entry, which may have none
+abbrev pub places_filed : List (NamedEntry LocaleMoney) → List (NamedEntry (Option (Elements NamePlaces)))
 places_filed es = map (filed_part (λ m. m.places)) es

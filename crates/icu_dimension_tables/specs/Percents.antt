@@ -2,7 +2,9 @@
 use Rattle.std.specs.Prelude.{Result, Ok, codes}
 use Rattle.serde_json.specs.Data.{Data}
 use Rattle.icu_dimension_data.specs.Resolved.{Signed, Texts, resolved}
-use Rattle.icu_dimension_patterns.specs.NumberPatterns.{number_pattern_of}
+use Rattle.icu_dimension_patterns.specs.MoneyPattern.{percent_pattern_of}
+use Rattle.icu_dimension_patterns.specs.SignTexts.{sign_text_of}
+use Rattle.writeable.specs.Events.{ascii_characters}
 use Rattle.icu_table_entries.specs.Named.{NamedEntry, identifier_from}
 use Rattle.icu_table_entries.specs.Reading.{◌>>=◌, object_in, optional_at, text_at, text_in}
 use Rattle.icu_table_entries.specs.declared.error.Key.TheVariants.{Locale, System, Pattern, Minus, Plus, Percent}
@@ -17,7 +19,16 @@ percent_texts_at d = do
   percent ← text_at Percent d
   Ok (record { minus_sign = minus; plus_sign = plus; percent_sign = percent; currency = codes "" })
 
--- an entry: first the kinds of all its fields, then its name, then its pattern, of which the patterns of the signs are made
+-- texts of which none is empty but that of the currency
+unfoldable pub percent_texts_of : Place → Texts → Result Texts TableError
+percent_texts_of place texts = do
+  minus ← sign_text_of place Minus texts.minus_sign
+  plus ← sign_text_of place Plus texts.plus_sign
+  percent ← sign_text_of place Percent texts.percent_sign
+  Ok (record { minus_sign = minus; plus_sign = plus; percent_sign = percent; currency = texts.currency })
+
+-- an entry: first the kinds of all its fields, then its name, then its pattern and its texts, of which the patterns of the signs
+-- are made; without a symbol no space is inserted beside any digits
 unfoldable pub percents_at : Place → Data → Result (NamedEntry Signed) TableError
 percents_at place d = do
   d ← object_in place.key d
@@ -26,5 +37,6 @@ percents_at place d = do
   text ← text_at Pattern d
   texts ← percent_texts_at d
   identifier ← identifier_from place locale system
-  pattern ← number_pattern_of place text
-  Ok (record { identifier = identifier; content = resolved pattern texts })
+  pattern ← percent_pattern_of place text
+  told ← percent_texts_of place texts
+  Ok (record { identifier = identifier; content = resolved ascii_characters pattern told })

@@ -2,12 +2,12 @@
 
 ghost use Rattle.std.specs.Prelude.{◌≡◌, IfOk, Ok};
 ghost use Rattle.icu_provider.specs.Answer.{Answers};
-ghost use Rattle.icu_dimension_patterns.specs.ByCategory.{elements_map};
+ghost use Rattle.icu_dimension_data.specs.ByCategory.{elements_map};
 ghost use Rattle.icu_dimension_tables.specs.CurrencyNames.{name_in, names_placed};
 
 use crate::name_places::NamePlaces;
 use icu_dimension::{NamePattern, NameTexts};
-use icu_dimension_patterns::by_category::{SlotMaker, elements_made, other_of};
+use icu_dimension_data::by_category::{SlotMaker, elements_made, other_of};
 use icu_plurals::PluralElements;
 use icu_provider::{DataError, DataErrorKind};
 use std::alloc::{AllocError, Global};

@@ -39,13 +39,6 @@ impl Model for SymbolTexts {
 }
 
 impl SymbolTexts {
-    /// The symbol that distinguishes the currency from others.
-    pub fn short(&self) -> &str
-        ensures { result.now ≡ self.now.short }
-    {
-        self.short.as_str()
-    }
-
     /// The symbols with memory of their own, as a formatter takes them.
     pub fn copied(&self, alloc: Global) -> Result<CurrencySymbols, DataError>
         ensures { Answers result (Ok self.now) }

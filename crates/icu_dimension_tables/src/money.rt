@@ -2,25 +2,24 @@
 
 ghost use Rattle.std.specs.Prelude.{◌≡◌, Ok, IfOk, None, option_map};
 ghost use Rattle.serde_json.specs.View.{view};
-ghost use Rattle.icu_dimension.specs.CurrencyData.{money_texts};
-ghost use Rattle.icu_dimension_data.specs.Given.{texts_given};
 ghost use Rattle.icu_provider.specs.Answer.{Answers};
 ghost use Rattle.icu_provider.specs.Identifier.{identifier_of};
 ghost use Rattle.icu_table_entries.specs.Named.{first_filed};
 ghost use Rattle.icu_table_entries.specs.Reading.{Gives};
-ghost use Rattle.icu_dimension_patterns.specs.ByCategory.{elements_map};
-ghost use Rattle.icu_dimension_tables.specs.Money.{money_patterns_of, money_texts_at, names_at, patterns_filed, places_filed};
+ghost use Rattle.icu_dimension_tables.specs.Money.{money_patterns_of, money_texts_at, patterns_filed, places_filed, places_of};
 
 use crate::name_places::{NamePattern, NamePlaces};
 use icu_dimension::provider::CurrencyPatterns;
-use icu_dimension_data::{AffixTexts, CldrPattern};
-use icu_dimension_patterns::by_category::{elements_read, texts_in};
+use icu_dimension_data::CldrPattern;
+use icu_dimension_patterns::by_category::elements_read;
 use icu_dimension_patterns::money_pattern::money_pattern_of;
+use icu_dimension_patterns::sign_texts::sign_text_of;
 use icu_plurals::PluralElements;
 use icu_provider::{DataError, DataErrorKind, DataIdentifierBorrowed, DataLocale};
 use icu_table_entries::entries::EntryKind;
-use icu_table_entries::fields::{member_at, object_in, optional_text_at, text_at};
+use icu_table_entries::fields::{object_in, optional_text_at, text_at};
 use icu_table_entries::named::{NamedEntry, first_filed, name_of};
+use icu_table_entries::texts::{Texts, optional_texts_at};
 use icu_table_entries::{Key, Place, TableError};
 use serde_json::Value;
 use std::alloc::{AllocError, Global};
@@ -64,18 +63,6 @@ impl MoneyPatterns {
             minus_sign,
             self.plus_sign.as_str(),
         )
-    }
-
-    /// The texts in a pattern of money with a currency's symbol.
-    pub fn texts<'a>(&'a self, symbol: &'a str) -> AffixTexts<'a>
-        ensures { texts_given result ≡ money_texts self.now symbol.now }
-    {
-        AffixTexts {
-            minus_sign: self.minus_sign.as_str(),
-            plus_sign: self.plus_sign.as_str(),
-            percent_sign: "%",
-            currency: symbol,
-        }
     }
 
     /// The same, as a provider answers.
@@ -124,7 +111,7 @@ fn money_texts_at(value: &Value) -> Result<MoneyTexts<'_>, TableError>
     })
 }
 
-/// The patterns of these texts.
+/// The patterns of these texts, and the signs, none of which is empty.
 #[tactic(auto, unfolding(crate::specs::Money::money_patterns_of))]
 fn money_patterns_of(
     alloc: Global,
@@ -135,8 +122,8 @@ fn money_patterns_of(
 {
     let standard = money_pattern_of(alloc, place, texts.standard)?;
     let accounting = money_pattern_of(alloc, place, texts.accounting)?;
-    let minus_sign = String::from_str(alloc, texts.minus_sign)?;
-    let plus_sign = String::from_str(alloc, texts.plus_sign)?;
+    let minus_sign = sign_text_of(alloc, place, Key::Minus, texts.minus_sign)?;
+    let plus_sign = sign_text_of(alloc, place, Key::Plus, texts.plus_sign)?;
     Ok(MoneyPatterns {
         standard,
         accounting,
@@ -145,19 +132,29 @@ fn money_patterns_of(
     })
 }
 
-/// The texts of how an amount and its currency's name stand together, by plural category.
-#[tactic(auto, unfolding(crate::specs::Money::names_at))]
-fn names_at(value: &Value) -> Result<PluralElements<&str>, TableError>
-    ensures { Gives (elements_map (λ s. s.now)) result (names_at (view value.now)) }
+/// The places of texts that may be absent.
+#[tactic(auto, unfolding(crate::specs::Money::places_of))]
+fn places_of(
+    alloc: Global,
+    place: Place,
+    names: &Option<Texts<'_>>,
+) -> Result<Option<PluralElements<NamePlaces>>, TableError>
+    ensures { Gives (λ x. x) result (places_of place names.now) }
 {
-    texts_in(member_at(value, Key::Names)?, Key::Names)
+    match names {
+        Some(names) => {
+            let places = elements_read::<NamePattern>(alloc, place, &names.elements())?;
+            Ok(Some(places))
+        }
+        None => Ok(None),
+    }
 }
 
-/// How a locale writes amounts: with a symbol, and with a name.
+/// How a locale writes amounts: with a symbol, and with a name, if the entry says how.
 #[derive(Drop)]
 pub struct LocaleMoney {
     pub patterns: MoneyPatterns,
-    pub places: PluralElements<NamePlaces>,
+    pub places: Option<PluralElements<NamePlaces>>,
 }
 
 impl Model for LocaleMoney {
@@ -187,10 +184,10 @@ impl EntryKind for CurrenciesEntry {
         let locale = text_at(value, Key::Locale)?;
         let system = optional_text_at(value, Key::System)?;
         let texts = money_texts_at(value)?;
-        let names = names_at(value)?;
+        let names = optional_texts_at(value, Key::Names)?;
         let name = name_of(place, locale, system)?;
         let patterns = money_patterns_of(alloc, place, &texts)?;
-        let places = elements_read::<NamePattern>(alloc, place, &names)?;
+        let places = places_of(alloc, place, &names)?;
         let content = LocaleMoney { patterns, places };
         Ok(NamedEntry { name, content })
     }
@@ -230,28 +227,13 @@ pub fn filed_in_locale<'a, T>(
     first_filed(entries, &DataIdentifierBorrowed::for_locale(&locale))
 }
 
-/// The patterns of the first entry with the identifier's locale and no numbering system.
-#[tactic(auto, using(crate::proofs::Filed::first_part))]
-pub fn patterns_in_locale<'a>(
-    entries: &'a [NamedEntry<LocaleMoney>],
-    id: &DataIdentifierBorrowed<'_>,
-) -> Option<&'a MoneyPatterns>
-    ensures { option_map (λ x. x.now) result
-        ≡ first_filed (record { system = None; locale = (identifier_of id.now).locale })
-        (patterns_filed entries.now) }
-{
-    match filed_in_locale(entries, id) {
-        Some(money) => Some(&money.patterns),
-        None => None,
-    }
-}
-
-/// The places of names of the first entry with the identifier's locale and no numbering system.
+/// The places of names of the first entry with the identifier's locale and no numbering system,
+/// which may have none.
 #[tactic(auto, using(crate::proofs::Filed::first_part))]
 pub fn places_filed<'a>(
     entries: &'a [NamedEntry<LocaleMoney>],
     id: &DataIdentifierBorrowed<'_>,
-) -> Option<&'a PluralElements<NamePlaces>>
+) -> Option<&'a Option<PluralElements<NamePlaces>>>
     ensures { option_map (λ x. x.now) result
         ≡ first_filed (record { system = None; locale = (identifier_of id.now).locale })
         (places_filed entries.now) }

@@ -3,10 +3,11 @@
 ghost use Rattle.serde_json.specs.View.{view};
 ghost use Rattle.icu_dimension_data.specs.Given.{texts_given};
 ghost use Rattle.icu_table_entries.specs.Reading.{Gives};
-ghost use Rattle.icu_dimension_tables.specs.Percents.{percent_texts_at};
+ghost use Rattle.icu_dimension_tables.specs.Percents.{percent_texts_at, percent_texts_of};
 
 use icu_dimension_data::{AffixTexts, SignedPatterns};
-use icu_dimension_patterns::number_patterns::number_pattern_of;
+use icu_dimension_patterns::money_pattern::percent_pattern_of;
+use icu_dimension_patterns::sign_texts::judge_sign;
 use icu_provider::DataLocale;
 use icu_table_entries::entries::EntryKind;
 use icu_table_entries::fields::{object_in, optional_text_at, text_at};
@@ -14,6 +15,7 @@ use icu_table_entries::named::{NamedEntry, name_of};
 use icu_table_entries::{Key, Place, TableError};
 use serde_json::Value;
 use std::alloc::Global;
+use writeable::ASCII_DIGITS;
 
 /// The texts of the signs and of the percent sign.
 #[tactic(auto, unfolding(crate::specs::Percents::percent_texts_at))]
@@ -25,6 +27,19 @@ fn percent_texts_at(value: &Value) -> Result<AffixTexts<'_>, TableError>
         plus_sign: text_at(value, Key::Plus)?,
         percent_sign: text_at(value, Key::Percent)?,
         currency: "",
+    })
+}
+
+/// The texts, of which none is empty but that of the currency.
+#[tactic(auto, unfolding(crate::specs::Percents::percent_texts_of))]
+fn judged<'a>(place: Place, texts: AffixTexts<'a>) -> Result<AffixTexts<'a>, TableError>
+    ensures { Gives texts_given result (percent_texts_of place (texts_given texts.entry)) }
+{
+    Ok(AffixTexts {
+        minus_sign: judge_sign(place, Key::Minus, texts.minus_sign)?,
+        plus_sign: judge_sign(place, Key::Plus, texts.plus_sign)?,
+        percent_sign: judge_sign(place, Key::Percent, texts.percent_sign)?,
+        currency: texts.currency,
     })
 }
 
@@ -49,8 +64,9 @@ impl EntryKind for PercentsEntry {
         let text = text_at(value, Key::Pattern)?;
         let texts = percent_texts_at(value)?;
         let name = name_of(place, locale, system)?;
-        let pattern = number_pattern_of(alloc, place, text)?;
-        let content = pattern.resolve(alloc, &texts)?;
+        let pattern = percent_pattern_of(alloc, place, text)?;
+        let texts = judged(place, texts)?;
+        let content = pattern.resolve(alloc, &texts, &ASCII_DIGITS)?;
         Ok(NamedEntry { name, content })
     }
 

@@ -9,18 +9,17 @@ ghost use Rattle.icu_dimension_tables.specs.Answering.{unit_answer};
 use crate::copying::patterns_copy;
 use crate::currency_names::names_answered;
 use crate::currency_symbols::row_filed;
-use crate::money::{filed_in_locale, patterns_filed, patterns_in_locale, places_filed};
+use crate::money::{patterns_filed, places_filed};
 use crate::tables::DimensionTables;
 use crate::units::{UnitPatterns, UnitWidth, first_unit};
 use icu_decimal_data::DecimalSymbols;
 use icu_dimension::NamePattern;
 use icu_dimension::provider::{
-    CompactCurrencyPatterns, CurrencyCompactShortV1, CurrencyDecimalSymbolsV1, CurrencyDigitsV1,
+    CompactRows, CurrencyCompactShortV1, CurrencyDecimalSymbolsV1, CurrencyDigitsV1,
     CurrencyNamesV1, CurrencyPatterns, CurrencyPatternsV1, CurrencySymbols, CurrencySymbolsV1,
     PercentPatternsV1, UnitsLongV1, UnitsNarrowV1, UnitsShortV1,
 };
 use icu_dimension_data::{CurrencyDigits, SignedPatterns};
-use icu_dimension_patterns::signed_tables::tables_for;
 use icu_plurals::PluralElements;
 use icu_provider::{
     DataError, DataErrorKind, DataIdentifierBorrowed, DataLocale, DataProvider, DataRequest,
@@ -49,6 +48,15 @@ impl Copied for SignedPatterns {
     fn copied(&self, alloc: Global) -> Result<Self, DataError> {
         match self.copy(alloc) {
             Ok(patterns) => Ok(patterns),
+            Err(_) => Err(DataErrorKind::OutOfMemory.into()),
+        }
+    }
+}
+
+impl Copied for CompactRows {
+    fn copied(&self, alloc: Global) -> Result<Self, DataError> {
+        match self.copy(alloc) {
+            Ok(rows) => Ok(rows),
             Err(_) => Err(DataErrorKind::OutOfMemory.into()),
         }
     }
@@ -223,7 +231,7 @@ impl DataProvider<CurrencyNamesV1> for DimensionTables {
 
     /// The names of the first row with the currency's code, the identifier's system, in the first
     /// entry of `currency_symbols` with the identifier's locale, in the places that the first entry
-    /// of `currencies` with the locale and no numbering system gives them.
+    /// of `currencies` with the locale and no numbering system gives them, if it gives any.
     fn load(
         &self,
         alloc: Global,
@@ -239,7 +247,7 @@ impl DataProvider<CurrencyNamesV1> for DimensionTables {
             places_filed(money, &request.id),
             row_filed(currencies, &request.id),
         ) {
-            (Some(places), Some(row)) => names_answered(alloc, places, &row.names),
+            (Some(Some(places)), Some(row)) => names_answered(alloc, places, &row.names),
             _ => Err(DataErrorKind::IdentifierNotFound.into()),
         }
     }
@@ -265,37 +273,13 @@ impl DataProvider<CurrencyDecimalSymbolsV1> for DimensionTables {
 }
 
 impl DataProvider<CurrencyCompactShortV1> for DimensionTables {
-    ghost use Rattle.icu_dimension_tables.specs.Answering.{compact_answer};
+    ghost use Rattle.icu_table_entries.specs.Answering.{optional_answer};
 
-    ghost answer = { λ tables id.
-        compact_answer tables.currencies tables.symbols tables.compact id };
+    ghost answer = { λ tables id. optional_answer tables.compact id };
 
-    /// The compact patterns of the first entry of `currency_compact` with the identifier's locale,
-    /// for each sign: with the short symbol of the first row with the currency's code, the
-    /// identifier's system, in the first entry of `currency_symbols` with the locale, and with the
-    /// signs of the first entry of `currencies` with the locale and no numbering system. Where they
-    /// make no table it is refused as `Custom`, with the name of the fault.
-    fn load(
-        &self,
-        alloc: Global,
-        request: &DataRequest<'_>,
-    ) -> Result<CompactCurrencyPatterns, DataError> {
-        let (Some(money), Some(currencies), Some(compact)) = (
-            &self.money,
-            &self.symbols,
-            &self.compact,
-        ) else {
-            return Err(DataErrorKind::MarkerNotFound.into());
-        };
-        match (
-            patterns_in_locale(money, &request.id),
-            row_filed(currencies, &request.id),
-            filed_in_locale(compact, &request.id),
-        ) {
-            (Some(money), Some(row), Some(rows)) => {
-                tables_for(alloc, rows, &money.texts(row.symbols.short()))
-            }
-            _ => Err(DataErrorKind::IdentifierNotFound.into()),
-        }
+    /// A copy of the first entry of `currency_compact` with the identifier's locale and numbering
+    /// system, or none.
+    fn load(&self, alloc: Global, request: &DataRequest<'_>) -> Result<CompactRows, DataError> {
+        load_optional(alloc, &self.compact, &request.id)
     }
 }

@@ -100,12 +100,7 @@ fn refused_once(
 }
 
 /// The same, asked once more where memory was wanting.
-pub(crate) fn refused(
-    alloc: Global,
-    text: &str,
-    asked: Asked,
-    id: (&str, &str),
-) -> Option<DataError> {
+fn refused(alloc: Global, text: &str, asked: Asked, id: (&str, &str)) -> Option<DataError> {
     match refused_once(alloc, text, asked, id) {
         Some(error) if error.kind == DataErrorKind::OutOfMemory => {
             refused_once(alloc, text, asked, id)
@@ -235,6 +230,32 @@ fn names_answer_by_a_code_in_a_locale(rt: HostRuntime) {
         assert!(rt;
             is_refused(rt.alloc(), NAMES, Asked::Names, id, want),
             "{id:?}"
+        );
+    }
+}
+
+/// A locale whose entry says nothing of names.
+const NAMELESS: &str =
+    "{\"currencies\":[{\"locale\":\"en\",\"standard\":\"\u{a4}0\",\"accounting\":\"\u{a4}0\",\"minus\":\"-\",\"plus\":\"+\"}],\
+\"currency_symbols\":[{\"locale\":\"en\",\"symbols\":[[\"USD\",\"$\",\"$\",{\"other\":\"US dollars\"}]]}]}";
+
+/// What it is asked for, and how that is refused.
+const OF_NAMELESS: &[(Asked, (&str, &str), Option<DataErrorKind>)] = &[
+    (Asked::Patterns, ("en", ""), None),
+    (Asked::Symbols, ("en", "USD"), None),
+    (
+        Asked::Names,
+        ("en", "USD"),
+        Some(DataErrorKind::IdentifierNotFound),
+    ),
+];
+
+#[test]
+fn a_locale_without_places_for_names_has_money(rt: HostRuntime) {
+    for &(asked, id, want) in OF_NAMELESS {
+        assert!(rt;
+            is_refused(rt.alloc(), NAMELESS, asked, id, want),
+            "{asked:?}"
         );
     }
 }

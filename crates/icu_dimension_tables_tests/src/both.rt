@@ -3,7 +3,7 @@
 use icu_decimal::provider::{DecimalDigitsV1, DecimalSymbols, DecimalSymbolsV1};
 use icu_dimension::NamePattern;
 use icu_dimension::provider::{
-    CompactCurrencyPatterns, CurrencyCompactShortV1, CurrencyDecimalSymbolsV1, CurrencyDigitsV1,
+    CompactRows, CurrencyCompactShortV1, CurrencyDecimalSymbolsV1, CurrencyDigitsV1,
     CurrencyNamesV1, CurrencyPatterns, CurrencyPatternsV1, CurrencySymbols, CurrencySymbolsV1,
     PercentPatternsV1, UnitsLongV1, UnitsNarrowV1, UnitsShortV1,
 };
@@ -141,11 +141,7 @@ impl DataProvider<CurrencyCompactShortV1> for Both {
     ghost answer = { λ b.
         ⟦<DimensionTables as DataProvider<CurrencyCompactShortV1>>⟧.answer b.dimension };
 
-    fn load(
-        &self,
-        alloc: Global,
-        request: &DataRequest<'_>,
-    ) -> Result<CompactCurrencyPatterns, DataError> {
+    fn load(&self, alloc: Global, request: &DataRequest<'_>) -> Result<CompactRows, DataError> {
         <DimensionTables as DataProvider<CurrencyCompactShortV1>>::load(
             &self.dimension,
             alloc,

@@ -1,6 +1,6 @@
 //! Compact amounts of money, by tables.
 
-use crate::answers::{Asked, is_refused, refused};
+use crate::answers::{Asked, is_refused};
 use crate::both::Both;
 use crate::documents::refusal;
 use crate::written::preferences;
@@ -21,15 +21,21 @@ const COMPACT: &str = "{\"symbols\":[\
 {\"locale\":\"fr\",\"minus\":[\"-\",\"\"],\"plus\":[\"+\",\"\"],\"decimal\":\",\",\"group\":\"\u{202f}\",\"numsys\":\"latn\",\"sizes\":[3,3,1]},\
 {\"locale\":\"ja\",\"minus\":[\"-\",\"\"],\"plus\":[\"+\",\"\"],\"decimal\":\".\",\"group\":\",\",\"numsys\":\"latn\",\"sizes\":[3,3,1]},\
 {\"locale\":\"nl\",\"minus\":[\"-\",\"\"],\"plus\":[\"+\",\"\"],\"decimal\":\",\",\"group\":\".\",\"numsys\":\"latn\",\"sizes\":[3,3,1]},\
-{\"locale\":\"sv\",\"minus\":[\"\u{2212}\",\"\"],\"plus\":[\"+\",\"\"],\"decimal\":\",\",\"group\":\"\u{a0}\",\"numsys\":\"latn\",\"sizes\":[3,3,1]}],\
-\"digits\":[[\"latn\",\"0123456789\"]],\
+{\"locale\":\"sv\",\"minus\":[\"\u{2212}\",\"\"],\"plus\":[\"+\",\"\"],\"decimal\":\",\",\"group\":\"\u{a0}\",\"numsys\":\"latn\",\"sizes\":[3,3,1]},\
+{\"locale\":\"ar\",\"minus\":[\"\u{61c}-\",\"\"],\"plus\":[\"\u{61c}+\",\"\"],\"decimal\":\"\u{66b}\",\"group\":\"\u{66c}\",\"numsys\":\"arab\",\"sizes\":[3,3,1]},\
+{\"locale\":\"ar\",\"system\":\"latn\",\"minus\":[\"\u{200e}-\",\"\"],\"plus\":[\"\u{200e}+\",\"\"],\"decimal\":\",\",\"group\":\".\",\"numsys\":\"latn\",\"sizes\":[3,3,1]},\
+{\"locale\":\"zh\",\"minus\":[\"-\",\"\"],\"plus\":[\"+\",\"\"],\"decimal\":\".\",\"group\":\",\",\"numsys\":\"latn\",\"sizes\":[3,3,1]},\
+{\"locale\":\"xx\",\"minus\":[\"-\",\"\"],\"plus\":[\"+\",\"\"],\"decimal\":\".\",\"group\":\",\",\"numsys\":\"latn\",\"sizes\":[3,3,1]}],\
+\"digits\":[[\"latn\",\"0123456789\"],[\"arab\",\"\u{660}\u{661}\u{662}\u{663}\u{664}\u{665}\u{666}\u{667}\u{668}\u{669}\"],\
+[\"hanidec\",\"\u{3007}\u{4e00}\u{4e8c}\u{4e09}\u{56db}\u{4e94}\u{516d}\u{4e03}\u{516b}\u{4e5d}\"]],\
 \"rules\":[{\"locale\":\"en\",\"rules\":[[\"one\",\"i = 1 and v = 0\"]]},\
 {\"locale\":\"de\",\"rules\":[[\"one\",\"i = 1 and v = 0\"]]},\
 {\"locale\":\"es\",\"rules\":[[\"one\",\"n = 1\"]]},\
 {\"locale\":\"fr\",\"rules\":[[\"one\",\"i = 0,1\"]]},\
 {\"locale\":\"ja\",\"rules\":[]},\
 {\"locale\":\"nl\",\"rules\":[[\"one\",\"i = 1 and v = 0\"]]},\
-{\"locale\":\"sv\",\"rules\":[[\"one\",\"i = 1 and v = 0\"]]}],\
+{\"locale\":\"sv\",\"rules\":[[\"one\",\"i = 1 and v = 0\"]]},\
+{\"locale\":\"ar\",\"rules\":[]},{\"locale\":\"zh\",\"rules\":[]},{\"locale\":\"xx\",\"rules\":[]}],\
 \"currencies\":[{\"locale\":\"en\",\"system\":\"beng\",\"standard\":\"\u{a4}0\",\"accounting\":\"\u{a4}0\",\"minus\":\"~\",\"plus\":\"^\",\"names\":{\"other\":\"{0} {1}\"}},\
 {\"locale\":\"en\",\"standard\":\"\u{a4}#,##0.00\",\"accounting\":\"\u{a4}#,##0.00;(\u{a4}#,##0.00)\",\"minus\":\"-\",\"plus\":\"+\",\"names\":{\"other\":\"{0} {1}\"}},\
 {\"locale\":\"en\",\"standard\":\"\u{a4}0\",\"accounting\":\"\u{a4}0\",\"minus\":\"~\",\"plus\":\"^\",\"names\":{\"other\":\"{0} {1}\"}},\
@@ -38,7 +44,11 @@ const COMPACT: &str = "{\"symbols\":[\
 {\"locale\":\"fr\",\"system\":\"latn\",\"standard\":\"\u{a4}0\",\"accounting\":\"\u{a4}0\",\"minus\":\"-\",\"plus\":\"+\",\"names\":{\"other\":\"{0} {1}\"}},\
 {\"locale\":\"ja\",\"standard\":\"\u{a4}#,##0.00\",\"accounting\":\"\u{a4}#,##0.00\",\"minus\":\"-\",\"plus\":\"+\",\"names\":{\"other\":\"{0}{1}\"}},\
 {\"locale\":\"nl\",\"standard\":\"\u{a4}\u{a0}#,##0.00;\u{a4}\u{a0}-#,##0.00\",\"accounting\":\"\u{a4}\u{a0}#,##0.00\",\"minus\":\"-\",\"plus\":\"+\",\"names\":{\"other\":\"{0} {1}\"}},\
-{\"locale\":\"sv\",\"standard\":\"#,##0.00\u{a0}\u{a4}\",\"accounting\":\"#,##0.00\u{a0}\u{a4}\",\"minus\":\"\u{2212}\",\"plus\":\"+\",\"names\":{\"other\":\"{0} {1}\"}}],\
+{\"locale\":\"sv\",\"standard\":\"#,##0.00\u{a0}\u{a4}\",\"accounting\":\"#,##0.00\u{a0}\u{a4}\",\"minus\":\"\u{2212}\",\"plus\":\"+\",\"names\":{\"other\":\"{0} {1}\"}},\
+{\"locale\":\"ar\",\"standard\":\"\u{200f}#,##0.00\u{a0}\u{a4};\u{200f}-#,##0.00\u{a0}\u{a4}\",\"accounting\":\"#,##0.00\u{a0}\u{a4}\",\"minus\":\"\u{61c}-\",\"plus\":\"\u{61c}+\",\"names\":{\"other\":\"{0} {1}\"}},\
+{\"locale\":\"ar\",\"system\":\"latn\",\"standard\":\"\u{200f}#,##0.00\u{a0}\u{a4};\u{200f}-#,##0.00\u{a0}\u{a4}\",\"accounting\":\"#,##0.00\u{a0}\u{a4}\",\"minus\":\"\u{200e}-\",\"plus\":\"\u{200e}+\"},\
+{\"locale\":\"zh\",\"standard\":\"\u{a4}#,##0.00\",\"accounting\":\"\u{a4}#,##0.00\",\"minus\":\"-\",\"plus\":\"+\"},\
+{\"locale\":\"xx\",\"standard\":\"\u{a4}#,##0.00\",\"accounting\":\"\u{a4}#,##0.00\",\"minus\":\"-\",\"plus\":\"+\"}],\
 \"currency_symbols\":[{\"locale\":\"en\",\"symbols\":[[\"USD\",\"$\",\"$\",{\"other\":\"US dollars\"}],\
 [\"CAD\",\"CA$\",\"$\",{\"other\":\"Canadian dollars\"}],[\"CHF\",\"CHF\",\"CHF\",{\"other\":\"Swiss francs\"}]]},\
 {\"locale\":\"de\",\"symbols\":[[\"EUR\",\"\u{20ac}\",\"\u{20ac}\",{\"other\":\"Euro\"}]]},\
@@ -46,7 +56,10 @@ const COMPACT: &str = "{\"symbols\":[\
 {\"locale\":\"fr\",\"symbols\":[[\"EUR\",\"\u{20ac}\",\"\u{20ac}\",{\"other\":\"euros\"}]]},\
 {\"locale\":\"ja\",\"symbols\":[[\"JPY\",\"\u{ffe5}\",\"\u{ffe5}\",{\"other\":\"\u{5186}\"}]]},\
 {\"locale\":\"nl\",\"symbols\":[[\"EUR\",\"\u{20ac}\",\"\u{20ac}\",{\"other\":\"euro\"}]]},\
-{\"locale\":\"sv\",\"symbols\":[[\"SEK\",\"kr\",\"kr\",{\"other\":\"svenska kronor\"}]]}],\
+{\"locale\":\"sv\",\"symbols\":[[\"SEK\",\"kr\",\"kr\",{\"other\":\"svenska kronor\"}]]},\
+{\"locale\":\"ar\",\"symbols\":[[\"CHF\",\"CHF\",\"CHF\",{\"other\":\"CHF\"}]]},\
+{\"locale\":\"zh\",\"symbols\":[[\"CHF\",\"CHF\",\"CHF\",{\"other\":\"CHF\"}]]},\
+{\"locale\":\"xx\",\"symbols\":[[\"USD\",\"$\",\"$\",{\"other\":\"USD\"}]]}],\
 \"currency_compact\":[{\"locale\":\"en\",\"patterns\":[[3,3,{\"other\":\"\u{a4}0K\"}],[6,6,{\"other\":\"\u{a4}0M\"}],[9,9,{\"other\":\"\u{a4}0B\"}]]},\
 {\"locale\":\"en\",\"patterns\":[[3,3,{\"other\":\"\u{a4}0 twice\"}]]},\
 {\"locale\":\"de\",\"patterns\":[[6,6,{\"other\":\"0 Mio'.' \u{a4}\"}],[9,9,{\"other\":\"0 Mrd'.' \u{a4}\"}]]},\
@@ -54,17 +67,30 @@ const COMPACT: &str = "{\"symbols\":[\
 {\"locale\":\"fr\",\"patterns\":[[3,3,{\"other\":\"0 k \u{a4}\"}]]},\
 {\"locale\":\"ja\",\"patterns\":[[4,4,{\"other\":\"\u{a4}0\u{4e07}\"}],[8,8,{\"other\":\"\u{a4}0\u{5104}\"}]]},\
 {\"locale\":\"nl\",\"patterns\":[[3,3,{\"other\":\"\u{a4} 0K;\u{a4} -0K\"}],[6,6,{\"one\":\"\u{a4} 0 mln'.';\u{a4} -0 mln'.'\",\"other\":\"\u{a4} 0 mln'.';\u{a4} -0 mln'.'\"}]]},\
-{\"locale\":\"sv\",\"patterns\":[[3,3,{\"other\":\"0 tn \u{a4}\"}],[6,6,{\"other\":\"0 mn \u{a4}\"}]]}]}";
+{\"locale\":\"sv\",\"patterns\":[[3,3,{\"other\":\"0 tn \u{a4}\"}],[6,6,{\"other\":\"0 mn \u{a4}\"}]]},\
+{\"locale\":\"ar\",\"patterns\":[[3,3,{\"other\":\"0\u{a0}\u{623}\u{644}\u{641}\u{a0}\u{a4}\"}],[6,6,{\"other\":\"0\u{a0}\u{645}\u{644}\u{64a}\u{648}\u{646}\u{a0}\u{a4}\"}]]},\
+{\"locale\":\"ar\",\"system\":\"latn\",\"patterns\":[[3,3,{\"other\":\"0K\u{a0}\u{a4}\"}],[6,6,{\"other\":\"0M\u{a0}\u{a4}\"}]]},\
+{\"locale\":\"sd\",\"system\":\"arab\",\"patterns\":[[3,3,{\"other\":\"\u{a4}0K\"}]]},\
+{\"locale\":\"zh\",\"patterns\":[[4,4,{\"other\":\"\u{a4}0\u{4e07}\"}]]},\
+{\"locale\":\"xx\",\"patterns\":[[2,0,{\"other\":\"\u{a4}000\"}],[3,3,{\"other\":\"\u{a4}0K\"}]]}]}";
+
+/// A locale, a numbering system, which may be empty, and a currency.
+type Place<'a> = (&'a str, &'a str, &'a str);
 
 /// The text of a compact amount of a currency, by the tables of a text.
-fn text_of(alloc: Global, text: &str, locale: &str, code: &str, amount: &str) -> Option<String> {
+fn text_of(
+    alloc: Global,
+    text: &str,
+    (locale, system, code): Place<'_>,
+    amount: &str,
+) -> Option<String> {
     let both = Both::of(alloc, text)?;
     let amount = Decimal::try_from_str(alloc, amount).ok()?;
     let code = CurrencyCode::try_from_str(code).ok()?;
     let options = DecimalFormatterOptions {
         grouping_strategy: Some(GroupingStrategy::Min2),
     };
-    let prefs = preferences(locale, "");
+    let prefs = preferences(locale, system);
     let formatter = CompactCurrencyFormatter::try_new_unstable(
         alloc, &both, prefs, code, options,
     ).ok()?;
@@ -72,15 +98,15 @@ fn text_of(alloc: Global, text: &str, locale: &str, code: &str, amount: &str) ->
 }
 
 /// Whether an amount is written so; it is asked once more where memory was wanting.
-fn is_written(alloc: Global, locale: &str, code: &str, amount: &str, want: &str) -> bool {
-    let first = match text_of(alloc, COMPACT, locale, code, amount) {
+fn is_written(alloc: Global, place: Place<'_>, amount: &str, want: &str) -> bool {
+    let first = match text_of(alloc, COMPACT, place, amount) {
         Some(text) => text.as_str() == want,
         None => false,
     };
     if first {
         return true;
     }
-    match text_of(alloc, COMPACT, locale, code, amount) {
+    match text_of(alloc, COMPACT, place, amount) {
         Some(text) => text.as_str() == want,
         None => false,
     }
@@ -113,31 +139,79 @@ const AMOUNTS: &[(&str, &str, &str, &str)] = &[
     ("nl", "EUR", "-1000000", "\u{20ac} -1 mln."),
     ("nl", "EUR", "-1", "\u{20ac}\u{a0}-1"),
     ("sv", "SEK", "-1500", "\u{2212}1,5 tn kr"),
+    // an entry of exponent 0, which has the symbol and the sign in it
+    ("xx", "USD", "150", "$150"),
+    ("xx", "USD", "-150", "-$150"),
+    ("xx", "USD", "+150", "+$150"),
+    ("xx", "USD", "99", "$99"),
+    ("xx", "USD", "-99.9", "-$100"),
+    ("xx", "USD", "1500", "$1.5K"),
+    // below the first entry
+    ("xx", "USD", "-0.5", "-$0.5"),
+    ("xx", "USD", "0", "$0"),
 ];
 
 #[test]
 fn compact_amounts_have_their_symbols_and_signs(rt: HostRuntime) {
     for &(locale, code, amount, want) in AMOUNTS {
         assert!(rt;
-            is_written(rt.alloc(), locale, code, amount, want),
+            is_written(rt.alloc(), (locale, "", code), amount, want),
             "{want}"
         );
     }
 }
 
-/// By which locale and code compact patterns are asked for, and how they are refused.
-const ASKED: &[((&str, &str), Option<DataErrorKind>)] = &[
-    (("en", "USD"), None),
-    (("de", "EUR"), None),
-    (("de", "USD"), Some(DataErrorKind::IdentifierNotFound)),
-    (("en", ""), Some(DataErrorKind::IdentifierNotFound)),
-    (("en-US", "USD"), Some(DataErrorKind::IdentifierNotFound)),
-    // its patterns of money are only those of a numbering system
-    (("fr", "EUR"), Some(DataErrorKind::IdentifierNotFound)),
+/// Amounts in a numbering system: its patterns and its signs, the same in both patterns, and a space
+/// beside digits of the general category Nd alone (ICU 76).
+const IN_SYSTEMS: &[(Place<'static>, &str, &str)] = &[
+    (
+        ("ar", "", "CHF"),
+        "-1500000",
+        "\u{61c}-\u{661}\u{66b}\u{665}\u{a0}\u{645}\u{644}\u{64a}\u{648}\u{646}\u{a0}CHF",
+    ),
+    (
+        ("ar", "", "CHF"),
+        "-0.5",
+        "\u{200f}\u{61c}-\u{660}\u{66b}\u{665}\u{a0}CHF",
+    ),
+    (("ar", "latn", "CHF"), "-1500000", "\u{200e}-1,5M\u{a0}CHF"),
+    (
+        ("ar", "latn", "CHF"),
+        "-0.5",
+        "\u{200f}\u{200e}-0,5\u{a0}CHF",
+    ),
+    (("zh", "", "CHF"), "15000", "CHF\u{a0}1.5\u{4e07}"),
+    (("zh", "", "CHF"), "1", "CHF\u{a0}1"),
+    (
+        ("zh", "hanidec", "CHF"),
+        "15000",
+        "CHF\u{4e00}.\u{4e94}\u{4e07}",
+    ),
+    (("zh", "hanidec", "CHF"), "-1", "-CHF\u{4e00}"),
 ];
 
 #[test]
-fn compact_patterns_answer_by_a_code_in_a_locale(rt: HostRuntime) {
+fn compact_amounts_have_the_signs_of_their_system(rt: HostRuntime) {
+    for &(place, amount, want) in IN_SYSTEMS {
+        assert!(rt; is_written(rt.alloc(), place, amount, want), "{want}");
+    }
+}
+
+/// By which locale and numbering system, if any, compact patterns are asked for, and how they are
+/// refused.
+const ASKED: &[((&str, &str), Option<DataErrorKind>)] = &[
+    (("en", ""), None),
+    (("de", ""), None),
+    (("en", "latn"), Some(DataErrorKind::IdentifierNotFound)),
+    (("en-US", ""), Some(DataErrorKind::IdentifierNotFound)),
+    (("ar", "latn"), None),
+    // it has patterns of a numbering system alone
+    (("sd", "arab"), None),
+    (("sd", ""), Some(DataErrorKind::IdentifierNotFound)),
+];
+
+#[test]
+fn compact_patterns_answer_by_a_system_in_a_locale(rt: HostRuntime) {
     for &(id, want) in ASKED {
         assert!(rt;
             is_refused(rt.alloc(), COMPACT, Asked::Compact, id, want),
@@ -146,20 +220,12 @@ fn compact_patterns_answer_by_a_code_in_a_locale(rt: HostRuntime) {
     }
 }
 
-/// Texts with two of the three keys that compact patterns want.
-const PARTS: &[&str] = &[
-    "{\"currencies\":[],\"currency_symbols\":[]}",
-    "{\"currencies\":[],\"currency_compact\":[]}",
-    "{\"currency_symbols\":[],\"currency_compact\":[]}",
-];
-
 #[test]
-fn compact_patterns_want_three_keys(rt: HostRuntime) {
-    for &text in PARTS {
-        let want = Some(DataErrorKind::MarkerNotFound);
-        let is_told = is_refused(rt.alloc(), text, Asked::Compact, ("en", "USD"), want);
-        assert!(rt; is_told, "{text}");
-    }
+fn compact_patterns_want_their_key(rt: HostRuntime) {
+    let text = "{\"currencies\":[],\"currency_symbols\":[]}";
+    let want = Some(DataErrorKind::MarkerNotFound);
+    let is_told = is_refused(rt.alloc(), text, Asked::Compact, ("en", ""), want);
+    assert!(rt; is_told, "{text}");
 }
 
 /// Texts with compact patterns of money, and why they are refused for their kinds.
@@ -179,6 +245,10 @@ const KINDS: &[(&str, TableError)] = &[
     (
         "{\"currency_compact\":[{\"locale\":\"_\"}]}",
         TableError::Missing(Key::Patterns),
+    ),
+    (
+        "{\"currency_compact\":[{\"locale\":\"_\",\"system\":1}]}",
+        TableError::WrongKind(Key::System),
     ),
     (
         "{\"currency_compact\":[{\"locale\":\"_\",\"patterns\":[[3,3]]}]}",
@@ -266,6 +336,29 @@ const FAULTS: &[(&str, usize, EntryFault)] = &[
         0,
         EntryFault::TooManyZeros,
     ),
+    (
+        "{\"currency_compact\":[{\"locale\":\"en\",\"system\":\"\",\"patterns\":[]}]}",
+        0,
+        EntryFault::BadNumberingSystem,
+    ),
+    // a type that repeats the one before it under another exponent
+    (
+        "{\"currency_compact\":[{\"locale\":\"en\",\"patterns\":[[5,3,{\"other\":\"\u{a4}0L\"}],[6,5,{\"other\":\"\u{a4}0L\"}]]}]}",
+        0,
+        EntryFault::RepeatedPatterns { log10_type: 6 },
+    ),
+    (
+        "{\"currency_compact\":[{\"locale\":\"en\",\"patterns\":[]},{\"locale\":\"de\",\"patterns\":[[3,3,{\"other\":\"\u{a4}0K\"}],\
+[4,3,{\"explicit_one\":\"\u{a4}0\",\"one\":\"0\u{a4}\",\"other\":\"\u{a4}0L\"}],[255,255,{\"one\":\"0\u{a4}\",\"other\":\"\u{a4}0L\"}]]}]}",
+        1,
+        EntryFault::RepeatedPatterns { log10_type: 255 },
+    ),
+    // which is told after the faults of all rows
+    (
+        "{\"currency_compact\":[{\"locale\":\"en\",\"patterns\":[[5,3,{\"other\":\"\u{a4}0L\"}],[6,5,{\"other\":\"\u{a4}0L\"}],[7,7,{\"other\":\"0\"}]]}]}",
+        0,
+        EntryFault::NoSymbolPlace,
+    ),
     // row by row
     (
         "{\"currency_compact\":[{\"locale\":\"en\",\"patterns\":[[3,3,{\"other\":\"K\"}],[4,2,{\"other\":\"\"}]]}]}",
@@ -290,7 +383,10 @@ fn entries_of_compact_money_are_refused_by_name(rt: HostRuntime) {
 const ACCEPTED: &[&str] = &[
     "{\"currency_compact\":[]}",
     "{\"currency_compact\":[{\"locale\":\"en\",\"patterns\":[]}]}",
-    "{\"currency_compact\":[{\"locale\":\"en\",\"system\":1,\"patterns\":[[18,3,{\"other\":\"\u{a4}0K\"}],[255,255,{\"other\":\"\u{a4}0K\"}]]}]}",
+    "{\"currency_compact\":[{\"locale\":\"en\",\"system\":\"latn\",\"patterns\":[[18,3,{\"other\":\"\u{a4}0K\"}],[255,255,{\"other\":\"\u{a4}0M\"}]]}]}",
+    // repeated under the same exponent, and other texts under another one
+    "{\"currency_compact\":[{\"locale\":\"en\",\"patterns\":[[3,3,{\"other\":\"\u{a4}0K\"}],[4,3,{\"other\":\"\u{a4}0K\"}],[6,6,{\"one\":\"\u{a4}0K\",\"other\":\"\u{a4}0K\"}],\
+[9,9,{\"explicit_one\":\"\u{a4}0K\",\"one\":\"\u{a4}0K\",\"other\":\"\u{a4}0K\"}]]}]}",
     // compact patterns of an entry of `currencies`, as tables had them
     "{\"currencies\":[{\"locale\":\"en\",\"standard\":\"\u{a4}0\",\"accounting\":\"\u{a4}0\",\"minus\":\"-\",\"plus\":\"+\",\
 \"names\":{\"other\":\"{0} {1}\"},\"short\":[[3,3,{\"other\":\"\u{a4}{0}K\"}]]}]}",
@@ -305,14 +401,16 @@ fn other_compact_money_is_read(rt: HostRuntime) {
 
 /// What stands around a currency's symbol in a document with one compact pattern.
 const AROUND: (&str, &str) = (
-    "{\"currencies\":[{\"locale\":\"en\",\"standard\":\"\u{a4}0\",\"accounting\":\"\u{a4}0\",\"minus\":\"-\",\"plus\":\"+\",\"names\":{\"other\":\"{0} {1}\"}}],\
+    "{\"symbols\":[{\"locale\":\"en\",\"minus\":[\"-\",\"\"],\"plus\":[\"+\",\"\"],\"decimal\":\".\",\"group\":\",\",\"numsys\":\"latn\",\"sizes\":[3,3,1]}],\
+\"digits\":[[\"latn\",\"0123456789\"]],\"rules\":[{\"locale\":\"en\",\"rules\":[]}],\
+\"currencies\":[{\"locale\":\"en\",\"standard\":\"\u{a4}0\",\"accounting\":\"\u{a4}0\",\"minus\":\"-\",\"plus\":\"+\"}],\
 \"currency_compact\":[{\"locale\":\"en\",\"patterns\":[[3,3,{\"other\":\"\u{a4}0\"}]]}],\
 \"currency_symbols\":[{\"locale\":\"en\",\"symbols\":[[\"USD\",\"",
     "$\",\"$\",{\"other\":\"US dollars\"}]]}]}",
 );
 
 /// The document in which the symbol has so many dollar signs and one more.
-fn document_once(alloc: Global, signs: usize) -> Result<String, AllocError> {
+fn document(alloc: Global, signs: usize) -> Result<String, AllocError> {
     let mut text = String::from_str(alloc, AROUND.0)?;
     for _ in 0..signs {
         text.push_str("$")?;
@@ -321,19 +419,35 @@ fn document_once(alloc: Global, signs: usize) -> Result<String, AllocError> {
     Ok(text)
 }
 
-/// The same, made once more where memory was refused.
-fn document(alloc: Global, signs: usize) -> Result<String, AllocError> {
-    match document_once(alloc, signs) {
-        Ok(text) => Ok(text),
-        Err(_) => document_once(alloc, signs),
+/// How the formatter of compact amounts by a document is refused, if it is.
+fn refused_formatter(alloc: Global, text: &str) -> Option<DataError> {
+    let Some(both) = Both::of(alloc, text) else {
+        return Some(DataErrorKind::OutOfMemory.into());
+    };
+    let Ok(code) = CurrencyCode::try_from_str("USD") else {
+        return None;
+    };
+    let prefs = preferences("en", "");
+    let options = DecimalFormatterOptions::default();
+    match CompactCurrencyFormatter::try_new_unstable(alloc, &both, prefs, code, options) {
+        Ok(_) => None,
+        Err(error) => Some(error),
     }
 }
 
-/// How the compact patterns with a symbol of so many dollar signs and one more are refused.
-fn refused_symbol(alloc: Global, signs: usize) -> Option<DataError> {
+/// How it is refused with a symbol of so many dollar signs and one more.
+fn refused_once(alloc: Global, signs: usize) -> Option<DataError> {
     match document(alloc, signs) {
-        Ok(text) => refused(alloc, text.as_str(), Asked::Compact, ("en", "USD")),
+        Ok(text) => refused_formatter(alloc, text.as_str()),
         Err(_) => Some(DataErrorKind::OutOfMemory.into()),
+    }
+}
+
+/// The same, asked once more where memory was refused.
+fn refused_symbol(alloc: Global, signs: usize) -> Option<DataError> {
+    match refused_once(alloc, signs) {
+        Some(error) if error.kind == DataErrorKind::OutOfMemory => refused_once(alloc, signs),
+        answered => answered,
     }
 }
 

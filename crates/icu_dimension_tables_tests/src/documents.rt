@@ -129,6 +129,54 @@ const FAULTS: &[(&str, Key, usize, EntryFault)] = &[
         EntryFault::ReservedCharacter { byte: 1 },
     ),
     (
+        "{\"percents\":[{\"locale\":\"en\",\"pattern\":\"#,##0\",\"minus\":\"-\",\"plus\":\"+\",\"percent\":\"%\"}]}",
+        Key::Percents,
+        0,
+        EntryFault::NoPercentPlace,
+    ),
+    (
+        "{\"percents\":[{\"locale\":\"en\",\"pattern\":\"0%;(0)\",\"minus\":\"-\",\"plus\":\"+\",\"percent\":\"%\"}]}",
+        Key::Percents,
+        0,
+        EntryFault::NoPercentPlace,
+    ),
+    (
+        "{\"percents\":[{\"locale\":\"en\",\"pattern\":\"0;0%\",\"minus\":\"-\",\"plus\":\"+\",\"percent\":\"%\"}]}",
+        Key::Percents,
+        0,
+        EntryFault::NoPercentPlace,
+    ),
+    (
+        "{\"percents\":[{\"locale\":\"en\",\"pattern\":\"0'%'\",\"minus\":\"-\",\"plus\":\"+\",\"percent\":\"%\"}]}",
+        Key::Percents,
+        0,
+        EntryFault::NoPercentPlace,
+    ),
+    (
+        "{\"percents\":[{\"locale\":\"en\",\"pattern\":\"0\",\"minus\":\"\",\"plus\":\"+\",\"percent\":\"%\"}]}",
+        Key::Percents,
+        0,
+        EntryFault::NoPercentPlace,
+    ),
+    (
+        "{\"percents\":[{\"locale\":\"en\",\"pattern\":\"0%\",\"minus\":\"\",\"plus\":\"\",\"percent\":\"\"}]}",
+        Key::Percents,
+        0,
+        EntryFault::EmptyText { name: Key::Minus },
+    ),
+    (
+        "{\"percents\":[{\"locale\":\"en\",\"pattern\":\"0%\",\"minus\":\"-\",\"plus\":\"\",\"percent\":\"\"}]}",
+        Key::Percents,
+        0,
+        EntryFault::EmptyText { name: Key::Plus },
+    ),
+    (
+        "{\"percents\":[{\"locale\":\"en\",\"pattern\":\"0%\",\"minus\":\"-\",\"plus\":\"+\",\"percent\":\"\"}]}",
+        Key::Percents,
+        0,
+        EntryFault::EmptyText { name: Key::Percent },
+    ),
+    (
         "{\"units\":[{\"locale\":\"_\",\"width\":\"wide\",\"unit\":\"day\",\"patterns\":{\"other\":\"{0}{0}\"}}]}",
         Key::Units,
         0,
@@ -215,6 +263,18 @@ const MONEY: &[(&str, Key, usize, EntryFault)] = &[
         EntryFault::NoNumber { byte: 2 },
     ),
     (
+        "{\"currencies\":[{\"locale\":\"en\",\"standard\":\"\u{a4}0\",\"accounting\":\"\u{a4}0\",\"minus\":\"\",\"plus\":\"\"}]}",
+        Key::Currencies,
+        0,
+        EntryFault::EmptyText { name: Key::Minus },
+    ),
+    (
+        "{\"currencies\":[{\"locale\":\"en\",\"standard\":\"\u{a4}0\",\"accounting\":\"\u{a4}0\",\"minus\":\"-\",\"plus\":\"\",\"names\":{\"other\":\"\"}}]}",
+        Key::Currencies,
+        0,
+        EntryFault::EmptyText { name: Key::Plus },
+    ),
+    (
         "{\"currency_symbols\":[{\"locale\":\"en\",\"symbols\":[]},{\"locale\":\"en\",\"symbols\":[[\"EUR\",\"\",\"\",{\"other\":\"\"}],[\"E\",\"\",\"\",{\"other\":\"\"}]]}]}",
         Key::CurrencySymbols,
         1,
@@ -239,8 +299,12 @@ fn entries_of_money_are_refused_by_name(rt: HostRuntime) {
 /// Texts with money, and why they are refused for their kinds.
 const MONEY_KINDS: &[(&str, TableError)] = &[
     (
-        "{\"currencies\":[{\"locale\":\"_\",\"standard\":\"\",\"accounting\":\"\",\"minus\":\"\",\"plus\":\"\"}]}",
-        TableError::Missing(Key::Names),
+        "{\"currencies\":[{\"locale\":\"_\",\"standard\":\"\",\"accounting\":\"\",\"minus\":\"\"}]}",
+        TableError::Missing(Key::Plus),
+    ),
+    (
+        "{\"currencies\":[{\"locale\":\"_\",\"standard\":\"\",\"accounting\":\"\",\"minus\":\"\",\"plus\":\"\",\"names\":null}]}",
+        TableError::WrongKind(Key::Names),
     ),
     (
         "{\"currencies\":[{\"locale\":\"_\",\"standard\":\"\",\"accounting\":\"\",\"minus\":\"\",\"plus\":\"\",\"names\":{\"one\":\"\"}}]}",

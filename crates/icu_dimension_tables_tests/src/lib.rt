@@ -12,6 +12,10 @@ mod documents;
 #[cfg(test)]
 mod large;
 #[cfg(test)]
+mod large_data;
+#[cfg(test)]
+mod large_document;
+#[cfg(test)]
 mod names;
 #[cfg(test)]
 mod written;

@@ -21,7 +21,8 @@ pub(crate) const TABLES: &str = "{\"symbols\":[\
 {\"locale\":\"pl\",\"minus\":[\"-\",\"\"],\"plus\":[\"+\",\"\"],\"decimal\":\",\",\"group\":\"\u{a0}\",\"numsys\":\"latn\",\"sizes\":[3,3,2]},\
 {\"locale\":\"ar\",\"minus\":[\"\u{200e}-\",\"\"],\"plus\":[\"\u{200e}+\",\"\"],\"decimal\":\".\",\"group\":\",\",\"numsys\":\"latn\",\"sizes\":[3,3,1]},\
 {\"locale\":\"ar\",\"system\":\"arab\",\"minus\":[\"\u{61c}-\",\"\"],\"plus\":[\"\u{61c}+\",\"\"],\"decimal\":\"\u{66b}\",\"group\":\"\u{66c}\",\"numsys\":\"arab\",\"sizes\":[3,3,1]}],\
-\"digits\":[[\"latn\",\"0123456789\"],[\"arab\",\"\u{660}\u{661}\u{662}\u{663}\u{664}\u{665}\u{666}\u{667}\u{668}\u{669}\"]],\
+\"digits\":[[\"latn\",\"0123456789\"],[\"arab\",\"\u{660}\u{661}\u{662}\u{663}\u{664}\u{665}\u{666}\u{667}\u{668}\u{669}\"],\
+[\"hanidec\",\"\u{3007}\u{4e00}\u{4e8c}\u{4e09}\u{56db}\u{4e94}\u{516d}\u{4e03}\u{516b}\u{4e5d}\"]],\
 \"rules\":[{\"locale\":\"en\",\"rules\":[[\"one\",\"i = 1 and v = 0\"]]},\
 {\"locale\":\"pl\",\"rules\":[[\"one\",\"i = 1 and v = 0\"],[\"few\",\"v = 0 and i % 10 = 2..4 and i % 100 != 12..14\"],\
 [\"many\",\"v = 0 and i != 1 and i % 10 = 0..1 or v = 0 and i % 10 = 5..9 or v = 0 and i % 100 = 12..14\"]]},\
@@ -265,6 +266,19 @@ const AMOUNTS: &[((&str, &str), Made, &str, &str)] = &[
         Made::Money("CHF", CurrencySign::Standard, Width::Short),
         "-1.00",
         "-CHF\u{a0}1.00",
+    ),
+    // a space beside digits of the general category Nd alone
+    (
+        ("en", "arab"),
+        Made::Money("CHF", CurrencySign::Standard, Width::Short),
+        "1.00",
+        "CHF\u{a0}\u{661}.\u{660}\u{660}",
+    ),
+    (
+        ("en", "hanidec"),
+        Made::Money("CHF", CurrencySign::Standard, Width::Short),
+        "1.00",
+        "CHF\u{4e00}.\u{3007}\u{3007}",
     ),
     (
         ("de-AT", ""),

@@ -1,1 +1,2 @@
 pub mod OneAmount
+pub mod PlainText

@@ -12,7 +12,7 @@ use Rattle.icu_dimension.specs.MoneySymbol.{IsToldSymbol, TellsSymbols, with_sym
 
 -- money of a currency in a pattern, with the signs of these texts
 abbrev pub money_of : DecimalFormat → PatternText → Texts → List ℕ → SignedFormat DecimalFormat
-money_of f p texts currency = record { formatter = f; patterns = resolved p (with_symbol texts currency) }
+money_of f p texts currency = record { formatter = f; patterns = resolved f.digits p (with_symbol texts currency) }
 
 -- readable numbers, a pattern that tells symbols, and two symbols that are told
 pub record TellsBoth (f : DecimalFormat) (marks : List ℕ) (p : PatternText) (texts : Texts) (one other : List ℕ) : Type 0 where

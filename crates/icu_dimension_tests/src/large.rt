@@ -1,11 +1,11 @@
-//! Numbers of many digits: they are written whole, or are too large.
+//! Numbers of many digits: they are written whole, into a sink and as a text, or are too large.
 
 use crate::making::ENGLISH;
 use crate::money::{Money, money_of};
 use crate::names::{Currency, long_of};
 use crate::percents::{Percent, percent_of};
 use crate::units::{Unit, units_of};
-use crate::writing::{NumberWriter, Wanted, is_text, writes};
+use crate::writing::{NumberWriter, Wanted, is_written, writes};
 use fixed_decimal::Decimal;
 use icu_decimal::error::FormatError;
 use std::alloc::{AllocError, Global};
@@ -16,7 +16,7 @@ const DOLLARS: Money = (ENGLISH, "¤#0", "$", 0);
 const PERCENT: Percent = (ENGLISH, "#0%");
 
 /// So many ones in groups of three, with a text before them and one behind them.
-fn grouped(
+pub(crate) fn grouped(
     alloc: Global,
     before: &str,
     (count, zeros): (usize, usize),
@@ -41,12 +41,12 @@ fn ones(alloc: Global, count: usize) -> Option<Decimal> {
     }
 }
 
-/// Whether so many ones are this text.
+/// Whether so many ones are written as this text.
 fn are_ones<W: NumberWriter>(alloc: Global, formatter: &W, count: usize, text: &[u8]) -> bool {
     match ones(alloc, count) {
         Some(number) => {
             let text = str::from_utf8(text).unwrap_or_default();
-            is_text(alloc, formatter, &number, text)
+            is_written(alloc, formatter, &number, text, None)
         }
         None => false,
     }

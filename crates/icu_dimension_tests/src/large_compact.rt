@@ -60,7 +60,7 @@ fn tables(alloc: Global) -> Option<CompactCurrencyPatterns> {
 }
 
 /// The formatter of compact dollars by these tables.
-fn dollars(alloc: Global) -> Option<CompactCurrencyFormatter> {
+pub(crate) fn dollars(alloc: Global) -> Option<CompactCurrencyFormatter> {
     let money = plain(alloc, ENGLISH).zip(patterns(alloc, ENGLISH, "¤#0", "$"));
     let rules = PluralRules::from_rules(alloc, &[]).ok();
     match money.zip(rules.zip(tables(alloc))) {

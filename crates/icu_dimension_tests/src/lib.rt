@@ -2,6 +2,10 @@
 #![tactic(auto)]
 
 #[cfg(test)]
+mod compact;
+#[cfg(test)]
+mod fractions;
+#[cfg(test)]
 mod instances;
 #[cfg(test)]
 mod large;
@@ -12,6 +16,8 @@ mod lending;
 #[cfg(test)]
 mod loaded;
 #[cfg(test)]
+mod long_texts;
+#[cfg(test)]
 mod making;
 #[cfg(test)]
 mod money;
@@ -19,6 +25,10 @@ mod money;
 mod names;
 #[cfg(test)]
 mod percents;
+#[cfg(test)]
+mod preferred;
+#[cfg(test)]
+mod readable;
 #[cfg(test)]
 mod refusing;
 #[cfg(test)]

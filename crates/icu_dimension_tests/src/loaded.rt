@@ -6,7 +6,7 @@ use crate::shelf::{NOTHING, Refused, Shelf};
 use crate::writing::NumberWriter;
 use fixed_decimal::Decimal;
 use icu_decimal::error::FormatError;
-use icu_decimal::options::DecimalFormatterOptions;
+use icu_decimal::options::{DecimalFormatterOptions, GroupingStrategy};
 use icu_decimal::preferences::DecimalFormatterPreferences;
 use icu_dimension::options::{CurrencyFormatterOptions, CurrencySign, Width};
 use icu_dimension::provider::UnitsLongV1;
@@ -30,12 +30,13 @@ pub(crate) enum Made {
     Units,
 }
 
-/// What is asked for: a locale, a preferred system, a currency.
+/// What is asked for: a locale, a preferred system, how digits are grouped, a currency.
 #[derive(Clone, Copy)]
 pub(crate) struct Asked {
     pub(crate) made: Made,
     pub(crate) locale: &'static str,
     pub(crate) system: Option<&'static str>,
+    pub(crate) grouping: Option<GroupingStrategy>,
     pub(crate) code: &'static str,
 }
 
@@ -56,9 +57,16 @@ fn preferences(asked: Asked) -> DecimalFormatterPreferences {
     }
 }
 
-fn options(made: Made) -> CurrencyFormatterOptions {
+fn numbers(asked: Asked) -> DecimalFormatterOptions {
+    DecimalFormatterOptions {
+        grouping_strategy: asked.grouping,
+    }
+}
+
+fn options(asked: Asked) -> CurrencyFormatterOptions {
     let mut options = CurrencyFormatterOptions::default();
-    match made {
+    options.decimal = numbers(asked);
+    match asked.made {
         Made::Accounting => options.sign = CurrencySign::Accounting,
         Made::Narrow => options.width = Width::Narrow,
         _ => {}
@@ -93,7 +101,7 @@ fn money_text(
     code: CurrencyCode,
     amount: &Decimal,
 ) -> Result<String, DataError> {
-    let options = options(asked.made);
+    let options = options(asked);
     let prefs = preferences(asked);
     let made = CurrencyFormatter::try_new_unstable(alloc, shelf, prefs, code, options);
     text_by(alloc, made, amount)
@@ -106,7 +114,7 @@ fn names_text(
     code: CurrencyCode,
     amount: &Decimal,
 ) -> Result<String, DataError> {
-    let options = DecimalFormatterOptions::default();
+    let options = numbers(asked);
     let prefs = preferences(asked);
     let made = LongCurrencyFormatter::try_new_unstable(alloc, shelf, prefs, code, options);
     text_by(alloc, made, amount)
@@ -119,7 +127,7 @@ fn compact_text(
     code: CurrencyCode,
     amount: &Decimal,
 ) -> Result<String, DataError> {
-    let options = DecimalFormatterOptions::default();
+    let options = numbers(asked);
     let prefs = preferences(asked);
     let made = CompactCurrencyFormatter::try_new_unstable(alloc, shelf, prefs, code, options);
     text_by(alloc, made, amount)
@@ -131,7 +139,7 @@ fn percent_text(
     asked: Asked,
     number: &Decimal,
 ) -> Result<String, DataError> {
-    let options = DecimalFormatterOptions::default();
+    let options = numbers(asked);
     let made = PercentFormatter::try_new_unstable(alloc, shelf, preferences(asked), options);
     text_by(alloc, made, number)
 }
@@ -142,7 +150,7 @@ fn units_text(
     asked: Asked,
     number: &Decimal,
 ) -> Result<String, DataError> {
-    let options = DecimalFormatterOptions::default();
+    let options = numbers(asked);
     let prefs = preferences(asked);
     let made = UnitsFormatter::try_new_unstable::<UnitsLongV1, Shelf>(
         alloc,
@@ -267,6 +275,7 @@ fn is_written(alloc: Global, whose: Whose, made: Made, row: (&str, &str)) -> boo
         made,
         locale: rows.locale,
         system: None,
+        grouping: None,
         code: rows.code,
     };
     writes(alloc, rows, NOTHING, asked, row) == Ok(true)

@@ -96,7 +96,7 @@ pub(crate) fn patterns(
         currency,
     };
     match CldrPattern::parse(alloc, pattern) {
-        Ok(pattern) => pattern.resolve(alloc, &texts).ok(),
+        Ok(pattern) => pattern.resolve(alloc, &texts, &ASCII_DIGITS).ok(),
         Err(_) => None,
     }
 }

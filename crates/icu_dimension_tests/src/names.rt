@@ -124,6 +124,7 @@ const AMOUNTS: &[(Currency, &str, &str)] = &[
     (Currency::EnglishDollars, "1", "1 US dollar"),
     (Currency::EnglishDollars, "1.00", "1.00 US dollars"),
     (Currency::EnglishDollars, "-1234.5", "-1,234.5 US dollars"),
+    (Currency::EnglishDollars, "+5.00", "+5.00 US dollars"),
     (
         Currency::FrenchDollars,
         "5.00",

@@ -29,6 +29,11 @@ const PERCENTS: &[(Percent, &str, &str)] = &[
     (ENGLISH_PERCENT, "0.01", "1%"),
     (ENGLISH_PERCENT, "0.001", "0.1%"),
     (ENGLISH_PERCENT, "0.00012", "0.012%"),
+    (
+        ENGLISH_PERCENT,
+        "0.1234567890123456789012345678901234567890",
+        "12.34567890123456789012345678901234567890%",
+    ),
     // Zeros at the end stay, and those at the front don't.
     (ENGLISH_PERCENT, "0.0050", "0.50%"),
     (ENGLISH_PERCENT, "0.1000", "10.00%"),

@@ -15,6 +15,7 @@ enum Lacking {
     Symbols,
     Patterns,
     Currency,
+    Compact,
     Rules,
     /// The locale has no data.
     Locale,
@@ -28,6 +29,7 @@ fn refused_of(lacking: Lacking) -> Refused {
         Lacking::Symbols => refused.symbols = true,
         Lacking::Patterns => refused.patterns = true,
         Lacking::Currency => refused.currency = true,
+        Lacking::Compact => refused.compact = true,
         Lacking::Rules => refused.rules = true,
         _ => {}
     }
@@ -39,6 +41,7 @@ fn asked_of(made: Made, lacking: Lacking) -> Asked {
         made,
         locale: "en",
         system: None,
+        grouping: None,
         code: "USD",
     };
     match lacking {
@@ -69,6 +72,7 @@ const REFUSED: &[(Made, Lacking, DataError)] = &[
     (Made::Compact, Lacking::Symbols, KEPT_AWAY),
     (Made::Compact, Lacking::Rules, KEPT_AWAY),
     (Made::Compact, Lacking::Currency, KEPT_AWAY),
+    (Made::Compact, Lacking::Compact, KEPT_AWAY),
     (Made::Compact, Lacking::Code, NOT_FOUND),
     (Made::Percent, Lacking::Symbols, KEPT_AWAY),
     (Made::Percent, Lacking::Patterns, KEPT_AWAY),
@@ -109,6 +113,7 @@ fn is_found(
         made,
         locale: rows.locale,
         system,
+        grouping: None,
         code: rows.code,
     };
     writes(alloc, rows, NOTHING, asked, (number, want))

@@ -7,10 +7,10 @@ ghost use Rattle.icu_provider.specs.declared.error.DataErrorKind.TheVariants.{Id
 ghost use Rattle.icu_dimension.specs.GivenNames.{name_given};
 
 use crate::rows::Rows;
-use icu_decimal::provider::{CompactPatterns, DecimalDigitsV1, DecimalSymbols, DecimalSymbolsV1};
+use icu_decimal::provider::{DecimalDigitsV1, DecimalSymbols, DecimalSymbolsV1};
 use icu_dimension::NamePattern;
 use icu_dimension::provider::{
-    CompactCurrencyPatterns, CurrencyCompactShortV1, CurrencyDecimalSymbolsV1, CurrencyDigitsV1,
+    CompactRows, CurrencyCompactShortV1, CurrencyDecimalSymbolsV1, CurrencyDigitsV1,
     CurrencyNamesV1, CurrencyPatterns, CurrencyPatternsV1, CurrencySymbols, CurrencySymbolsV1,
     PercentPatternsV1, UnitsLongV1,
 };
@@ -27,6 +27,7 @@ pub(crate) struct Refused {
     pub(crate) symbols: bool,
     pub(crate) patterns: bool,
     pub(crate) currency: bool,
+    pub(crate) compact: bool,
     pub(crate) rules: bool,
     pub(crate) error: DataError,
 }
@@ -42,6 +43,7 @@ pub(crate) const NOTHING: Refused = Refused {
     symbols: false,
     patterns: false,
     currency: false,
+    compact: false,
     rules: false,
     error: KEPT_AWAY,
 };
@@ -57,9 +59,7 @@ pub(crate) struct Shelf {
     pub(crate) rules: PluralRules,
     pub(crate) standard: CldrPattern,
     pub(crate) accounting: CldrPattern,
-    pub(crate) none: CompactPatterns<SinglePlaceholder>,
-    pub(crate) minus: CompactPatterns<SinglePlaceholder>,
-    pub(crate) plus: CompactPatterns<SinglePlaceholder>,
+    pub(crate) compact: CompactRows,
     pub(crate) percent: SignedPatterns,
     pub(crate) digits: CurrencyDigits,
 }
@@ -271,31 +271,22 @@ impl DataProvider<CurrencyNamesV1> for Shelf {
 }
 
 impl DataProvider<CurrencyCompactShortV1> for Shelf {
-    ghost answer = { λ s id. if s.refused.currency then told (Err s.refused.error)
+    ghost answer = { λ s id. if s.refused.compact then told (Err s.refused.error)
         else (if same_identifier (record {
-          system = Some s.rows.code.now;
+          system = option_map (λ t. t.now) s.rows.system;
           locale = s.rows.locale.now;
-        }) id then Ok (record { none = s.none; minus = s.minus; plus = s.plus })
-        else refused IdentifierNotFound) };
+        }) id then Ok s.compact else refused IdentifierNotFound) };
 
-    fn load(
-        &self,
-        alloc: Global,
-        request: &DataRequest<'_>,
-    ) -> Result<CompactCurrencyPatterns, DataError> {
-        if self.refused.currency {
+    fn load(&self, alloc: Global, request: &DataRequest<'_>) -> Result<CompactRows, DataError> {
+        if self.refused.compact {
             return Err(self.refused.error);
         }
-        if !is_at(&request.id, Some(self.rows.code), self.rows.locale) {
+        if !is_at(&request.id, self.rows.system, self.rows.locale) {
             return Err(DataErrorKind::IdentifierNotFound.into());
         }
-        match (
-            self.none.copy(alloc),
-            self.minus.copy(alloc),
-            self.plus.copy(alloc),
-        ) {
-            (Ok(none), Ok(minus), Ok(plus)) => Ok(CompactCurrencyPatterns { none, minus, plus }),
-            _ => Err(DataErrorKind::OutOfMemory.into()),
+        match self.compact.copy(alloc) {
+            Ok(rows) => Ok(rows),
+            Err(_) => Err(DataErrorKind::OutOfMemory.into()),
         }
     }
 }

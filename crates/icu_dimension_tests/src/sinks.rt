@@ -86,10 +86,12 @@ const BEGINNINGS: &[(Kind, &[&str])] = &[
         Kind::Months,
         &[
             "",
+            "",
             "ɣ",
             "ɣl",
             "ɣle",
             "ɣlet",
+            "ɣleti",
             "ɣleti",
             "ɣleti ",
             "ɣleti ",

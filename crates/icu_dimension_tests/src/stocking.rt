@@ -3,34 +3,31 @@
 use crate::making::{patterns, symbols};
 use crate::rows::Rows;
 use crate::shelf::{Refused, Shelf};
-use fixed_decimal::Sign;
-use icu_decimal::provider::{CompactPatterns, DecimalSymbols};
-use icu_dimension_data::{CldrPattern, CurrencyDigits, FractionDigits, SignedPatterns};
-use icu_pattern::{Pattern, SinglePlaceholder};
+use icu_decimal::provider::DecimalSymbols;
+use icu_dimension_data::{
+    CldrPattern, CompactRow, CompactRows, CurrencyDigits, FractionDigits, SignedPatterns,
+};
 use icu_plurals::{PluralElements, PluralRules};
 use std::alloc::Global;
-use std::collections::BTreeMap;
 
-/// The table of one pattern, for millions.
-fn table_of(
-    alloc: Global,
-    pattern: Pattern<SinglePlaceholder>,
-) -> Option<CompactPatterns<SinglePlaceholder>> {
-    let mut types = BTreeMap::new(alloc);
-    match types.insert(6, (6, PluralElements::new(pattern))) {
-        Ok(_) => CompactPatterns::new(alloc, types, None).ok(),
+/// The one row of a pattern, for millions.
+fn one_row(alloc: Global, pattern: CldrPattern) -> Option<CompactRows> {
+    let row = CompactRow {
+        log10_type: 6,
+        exponent: 6,
+        patterns: PluralElements::new(pattern),
+    };
+    let mut rows = Vec::new(alloc);
+    match rows.push(row) {
+        Ok(()) => Some(CompactRows { rows }),
         Err(_) => None,
     }
 }
 
-/// The table of the pattern of a sign, for millions.
-fn millions(
-    alloc: Global,
-    patterns: &SignedPatterns,
-    sign: Sign,
-) -> Option<CompactPatterns<SinglePlaceholder>> {
-    match patterns.for_sign(sign).to_pattern(alloc) {
-        Ok(pattern) => table_of(alloc, pattern),
+/// The compact patterns of a text, for millions.
+fn millions(alloc: Global, text: &str) -> Option<CompactRows> {
+    match CldrPattern::parse(alloc, text) {
+        Ok(pattern) => one_row(alloc, pattern),
         Err(_) => None,
     }
 }
@@ -42,29 +39,6 @@ fn two_digits(alloc: Global) -> CurrencyDigits {
         cash: 2,
     };
     CurrencyDigits::new(Vec::new(alloc), two)
-}
-
-/// Tables for no sign, for minus and for plus.
-type Tables = (
-    (
-        CompactPatterns<SinglePlaceholder>,
-        CompactPatterns<SinglePlaceholder>,
-    ),
-    CompactPatterns<SinglePlaceholder>,
-);
-
-fn signed_tables(alloc: Global, patterns: &SignedPatterns) -> Option<Tables> {
-    let none = millions(alloc, patterns, Sign::None);
-    let minus = millions(alloc, patterns, Sign::Negative);
-    none.zip(minus)
-        .zip(millions(alloc, patterns, Sign::Positive))
-}
-
-fn tables(alloc: Global, rows: &Rows) -> Option<Tables> {
-    match patterns(alloc, rows.numbers, rows.millions, rows.short) {
-        Some(patterns) => signed_tables(alloc, &patterns),
-        None => None,
-    }
 }
 
 /// The standard pattern of money and that of accounting.
@@ -92,7 +66,7 @@ impl Shelf {
         (rows, refused): (Rows, Refused),
         ((symbols, money), rules): Spelled,
         (standard, accounting): Parsed,
-        (((none, minus), plus), percent): (Tables, SignedPatterns),
+        (compact, percent): (CompactRows, SignedPatterns),
     ) -> Shelf {
         Shelf {
             rows,
@@ -103,9 +77,7 @@ impl Shelf {
             rules,
             standard,
             accounting,
-            none,
-            minus,
-            plus,
+            compact,
             percent,
             digits: two_digits(alloc),
         }
@@ -115,7 +87,7 @@ impl Shelf {
     pub(crate) fn made(alloc: Global, rows: Rows, refused: Refused) -> Option<Shelf> {
         let texts = spelled(alloc, &rows).zip(parsed(alloc, &rows));
         let percent = patterns(alloc, rows.numbers, rows.percent, "");
-        match texts.zip(tables(alloc, &rows).zip(percent)) {
+        match texts.zip(millions(alloc, rows.millions).zip(percent)) {
             Some(((spelled, parsed), signed)) => {
                 Some(Shelf::filled(alloc, (rows, refused), spelled, parsed, signed))
             }

@@ -3,8 +3,9 @@
 use crate::making::{ENGLISH, plain};
 use crate::writing::made_writes;
 use icu_decimal::DecimalFormatter;
-use icu_decimal::parts::{INTEGER, MINUS_SIGN};
+use icu_decimal::parts::{DECIMAL, FRACTION, INTEGER, MINUS_SIGN};
 use icu_dimension::UnitsFormatter;
+use icu_dimension::parts::UNIT;
 use icu_pattern::{Pattern, SinglePlaceholder};
 use icu_plurals::{PluralCategory, PluralElements, PluralRules};
 use std::alloc::Global;
@@ -37,13 +38,21 @@ pub(crate) enum Unit {
     PolishKilometres,
     EweMonths,
     ArabicDays,
+    /// Words on both sides of the number.
+    JapaneseSpeed,
+    /// A word that stands beside the number.
+    Celsius,
+    /// Two words, and white space at both ends of the literal.
+    LightYears,
+    /// White space alone.
+    Wordless,
 }
 
 fn rules_of(unit: Unit) -> &'static [(PluralCategory, &'static str)] {
     match unit {
         Unit::PolishKilometres => POLISH_RULES,
-        Unit::EweMonths => &[],
         Unit::ArabicDays => ARABIC_RULES,
+        _ => &[],
     }
 }
 
@@ -63,6 +72,13 @@ fn placed(unit: Unit) -> ([Option<Placed>; 4], Placed) {
             [Some((None, "يوم")), Some((None, "يومان")), None, None],
             (Some(0), " يوم"),
         ),
+        Unit::JapaneseSpeed => ([None, None, None, None], (Some(7), "時速  キロメートル")),
+        Unit::Celsius => ([None, None, None, None], (Some(0), "°C")),
+        Unit::LightYears => (
+            [None, None, None, None],
+            (Some(0), "\u{a0}light years\u{202f}"),
+        ),
+        Unit::Wordless => ([None, None, None, None], (Some(2), "\u{a0} ")),
     }
 }
 
@@ -136,11 +152,50 @@ fn the_sign_stands_beside_the_number(rt: HostRuntime) {
     }
 }
 
-const MARKED: &[(usize, usize, Part)] = &[(7, 8, MINUS_SIGN), (8, 9, INTEGER)];
+/// Numbers with all their parts: white space at the ends of a literal is in none (as ICU and ECMA-402
+/// cut it).
+const MARKED: &[(Unit, &str, &str, &[(usize, usize, Part)])] = &[
+    (
+        Unit::EweMonths,
+        "-1",
+        "ɣleti -1",
+        &[(0, 6, UNIT), (7, 8, MINUS_SIGN), (8, 9, INTEGER)],
+    ),
+    (
+        Unit::PolishKilometres,
+        "1.5",
+        "1.5 kilometra",
+        &[
+            (0, 1, INTEGER),
+            (1, 2, DECIMAL),
+            (2, 3, FRACTION),
+            (4, 13, UNIT),
+        ],
+    ),
+    (
+        Unit::JapaneseSpeed,
+        "5",
+        "時速 5 キロメートル",
+        &[(0, 6, UNIT), (7, 8, INTEGER), (9, 27, UNIT)],
+    ),
+    (Unit::Celsius, "5", "5°C", &[(0, 1, INTEGER), (1, 4, UNIT)]),
+    (
+        Unit::LightYears,
+        "5",
+        "5\u{a0}light years\u{202f}",
+        &[(0, 1, INTEGER), (3, 14, UNIT)],
+    ),
+    (Unit::Wordless, "5", "\u{a0}5 ", &[(2, 3, INTEGER)]),
+    (Unit::ArabicDays, "2", "يومان", &[(0, 10, UNIT)]),
+];
 
 #[test]
-fn measures_have_the_parts_of_their_numbers(rt: HostRuntime) {
-    let told = is_measure(rt.alloc(), Unit::EweMonths, "-1", "ɣleti -1", Some(MARKED))
-        || is_measure(rt.alloc(), Unit::EweMonths, "-1", "ɣleti -1", Some(MARKED));
-    assert!(rt; told);
+fn measures_have_the_parts_of_their_numbers_and_of_the_unit(rt: HostRuntime) {
+    for &(unit, number, text, parts) in MARKED {
+        assert!(rt;
+            is_measure(rt.alloc(), unit, number, text, Some(parts))
+                || is_measure(rt.alloc(), unit, number, text, Some(parts)),
+            "{text}"
+        );
+    }
 }

@@ -150,6 +150,12 @@ pub enum EntryFault {
     /// The literals of the kept patterns are more than 65,535 bytes together.
     #[error("the literals of the compact patterns are more than 65535 bytes together")]
     PatternsTooLarge,
+    /// A type of compact money has the patterns of the type just before under another exponent.
+    #[error("type {log10_type} repeats the patterns of the type before under another exponent")]
+    RepeatedPatterns {
+        /// The later of the two types.
+        log10_type: u8,
+    },
     /// The code of a currency isn't three ASCII capitals.
     #[error("bad currency code")]
     BadCurrencyCode,
@@ -192,6 +198,15 @@ pub enum EntryFault {
     /// A pattern of money has a subpattern without `¤`, the place of the currency's symbol.
     #[error("a pattern of money has no place for the symbol")]
     NoSymbolPlace,
+    /// A pattern of percents has a subpattern without `%`, the place of the percent sign.
+    #[error("a pattern of percents has no place for the percent sign")]
+    NoPercentPlace,
+    /// The text of a sign is empty.
+    #[error("`{name}` is empty")]
+    EmptyText {
+        /// The key of the text.
+        name: Key,
+    },
     /// The pattern of a number with a currency's name hasn't one place for each of the two.
     #[error("a pattern of names hasn't one place for the number and one for the name")]
     BadNamePlaces,

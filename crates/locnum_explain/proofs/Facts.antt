@@ -1,6 +1,6 @@
 -- What is told of a compact number besides its text and its magnitude.
 use Rattle.std.proofs.Common.{◌≡◌, ℕ, Bool, true, false, List, [], ◌++◌, refl, sym, ap, ◌∙◌, append_assoc, arith, pos}
-use Rattle.std.specs.Prelude.{nat_le, if◌then◌else◌}
+use Rattle.std.specs.Prelude.{is_some, nat_le, if◌then◌else◌}
 use Rattle.std.proofs.lemmas.Bool.Decides.{nat_tests}
 use Rattle.fixed_decimal.specs.Size.{place, size, ten_to}
 use Rattle.fixed_decimal.specs.Unsigned.{Unsigned, IsUnsigned}
@@ -9,10 +9,10 @@ use Rattle.icu_decimal.specs.CompactFormat.{CompactFormat, FormattedCompact, IsC
 use Rattle.icu_decimal.specs.CompactNumber.{ShowsPastLimits}
 use Rattle.decimal_lines.specs.Computed.{nearest_number}
 use Rattle.decimal_lines.proofs.Displaying.{number-nearest, past-number}
-use Rattle.icu_dimension.specs.CompactMoney.{CompactMoney, formatter_of}
+use Rattle.icu_dimension.specs.CompactMoney.{CompactMoney, entry_shown, formatter_of}
 use Rattle.fixed_decimal.specs.declared.signs.Sign.{Sign}
 use Rattle.locnum_forms.proofs.CompactMoney.{compacted-told}
-use Rattle.locnum_explain.specs.Compact.{compact_facts, displayed_lines, entry_lines, exponent_shown, frame_for, frame_line, is_past, showable_line}
+use Rattle.locnum_explain.specs.Compact.{compact_facts, displayed_lines, entry_lines, frame_for, frame_line, has_entry, is_past, showable_line}
 use Rattle.locnum_explain.proofs.Entries.{displayed-given}
 
 module _ (format : CompactFormat) (d : Unsigned) where
@@ -60,21 +60,24 @@ module _ (f : CompactMoney) (sign : Sign) (d : Unsigned) where
   frame-past past = go (is_past (formatter_of f sign).table d) refl
     where
       go : (b : Bool) → is_past (formatter_of f sign).table d ≡ b
-          → (if b then [] else frame_for f.patterns sign (exponent_shown (formatter_of f sign).table d)) ≡ []
+          → (if b then [] else frame_for f.patterns sign (has_entry (formatter_of f sign) d)) ≡ []
       go true e = refl
       go false e = let large = past-number (formatter_of f sign).table (size d) past in absurd (grind (arith, nat_tests))
 
-  -- that by the exponent of the number where it is within them
+  -- that by whether an entry displays the number where it is within them
   pub frame-within : (number : FormattedCompact) → IsCompacted (formatter_of f sign) d number
-      → ¬ (ShowsPastLimits (formatter_of f sign).table (size d)) → frame_line f sign d ≡ frame_for f.patterns sign number.exponent
+      → ¬ (ShowsPastLimits (formatter_of f sign).table (size d)) →
+      frame_line f sign d ≡ frame_for f.patterns sign (is_some (entry_shown (formatter_of f sign).table number))
   unfolding frame_line
   frame-within number is within = go (is_past (formatter_of f sign).table d) refl
     where
       go : (b : Bool) → is_past (formatter_of f sign).table d ≡ b
-          → (if b then [] else frame_for f.patterns sign (exponent_shown (formatter_of f sign).table d)) ≡ frame_for f.patterns sign number.exponent
+          → (if b then [] else frame_for f.patterns sign (has_entry (formatter_of f sign) d))
+          ≡ frame_for f.patterns sign (is_some (entry_shown (formatter_of f sign).table number))
       go true e = absurd (within (
         nearest_number (formatter_of f sign).table (size d),
         number-nearest (formatter_of f sign).table (size d),
         grind (arith, nat_tests),
       ))
-      go false e = ap (λ (n : FormattedCompact). frame_for f.patterns sign n.exponent) (compacted-told (formatter_of f sign) d number is)
+      go false e = ap (λ (n : FormattedCompact). frame_for f.patterns sign (is_some (entry_shown (formatter_of f sign).table n)))
+          (compacted-told (formatter_of f sign) d number is)

@@ -1,15 +1,15 @@
 -- What is told of a compact number besides its text and its magnitude.
-use Rattle.std.specs.Prelude.{ℕ, Bool, ◌==◌, nat_le, List, [], ◌++◌, if◌then◌else◌, pos}
+use Rattle.std.specs.Prelude.{ℕ, Bool, is_some, nat_le, List, [], ◌++◌, if◌then◌else◌, pos}
 use Rattle.fixed_decimal.specs.declared.signs.Sign.{Sign}
 use Rattle.fixed_decimal.specs.Size.{magnitude_place, size, ten_to}
 use Rattle.fixed_decimal.specs.Unsigned.{Unsigned}
-use Rattle.icu_decimal_data.specs.CompactTable.{TableEntry, entry_for, exponent_of}
+use Rattle.icu_decimal_data.specs.CompactTable.{TableEntry, entry_for}
 use Rattle.icu_decimal.specs.CompactFormat.{CompactFormat, pattern_of}
 use Rattle.icu_decimal.specs.CompactNumber.{rounding_place_for}
-use Rattle.icu_decimal.specs.Displayed.{displayed_entry}
 use Rattle.icu_dimension_data.specs.Resolved.{Signed}
-use Rattle.icu_dimension.specs.CompactMoney.{CompactMoney, formatter_of}
+use Rattle.icu_dimension.specs.CompactMoney.{CompactMoney, entry_shown, formatter_of}
 use Rattle.decimal_lines.specs.Computed.{nearest_number, significand_shown}
+use Rattle.locnum_forms.specs.CompactMoney.{compacted}
 use Rattle.explained_lines.specs.Around.{around_line}
 use Rattle.explained_lines.specs.Facts.{entry_line, pattern_line}
 use Rattle.explained_lines.specs.Operands.{operands_line}
@@ -38,18 +38,18 @@ compact_facts format d =
     if is_past format.table d then []
     else showable_line format.table d ++ displayed_lines format d (nearest_number format.table (size d))
 
--- the exponent with which the compact number nearest to d is displayed
-abbrev pub exponent_shown : List TableEntry → Unsigned → ℕ
-exponent_shown table d = exponent_of (displayed_entry table (nearest_number table (size d)))
+-- whether the compact number nearest to d is displayed by an entry of the table
+abbrev pub has_entry : CompactFormat → Unsigned → Bool
+has_entry format d = is_some (entry_shown format.table (compacted format d (nearest_number format.table (size d))))
 
--- the pattern of money around a compact number of exponent 0
-abbrev pub frame_for : Signed → Sign → ℕ → List ℕ
-frame_for patterns sign exponent = if exponent == 0 then signed_line patterns sign else []
+-- the pattern of money around a compact number, unless an entry displays it
+abbrev pub frame_for : Signed → Sign → Bool → List ℕ
+frame_for patterns sign has_entry = if has_entry then [] else signed_line patterns sign
 
 -- the pattern of money in which the compact number nearest to d stands, if it stands in one
 unfoldable pub frame_line : CompactMoney → Sign → Unsigned → List ℕ
 frame_line f sign d =
-    if is_past (formatter_of f sign).table d then [] else frame_for f.patterns sign (exponent_shown (formatter_of f sign).table d)
+    if is_past (formatter_of f sign).table d then [] else frame_for f.patterns sign (has_entry (formatter_of f sign) d)
 
 -- what is told of a compact amount: by the compact formatter of its sign, and the pattern of money
 abbrev pub amount_facts : CompactMoney → Sign → Unsigned → List ℕ

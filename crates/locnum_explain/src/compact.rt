@@ -126,21 +126,21 @@ pub(crate) fn push_compact(
     }
 }
 
-/// Appends the pattern of money around a compact number of exponent 0.
+/// Appends the pattern of money around a compact number, unless an entry displays it.
 fn push_frame_for(
     alloc: Global,
     patterns: &SignedPatterns,
     sign: Sign,
-    exponent: u8,
+    has_entry: bool,
     out: &mut Vec<u8>,
 ) -> Result<(), AllocError>
     ensures { OnOk result (out.new.items ≡ out.old.items
-        ++ frame_for patterns.now sign exponent) }
+        ++ frame_for patterns.now sign has_entry) }
 {
-    if exponent == 0 {
-        push_signed(alloc, patterns, sign, out)
-    } else {
+    if has_entry {
         Ok(())
+    } else {
+        push_signed(alloc, patterns, sign, out)
     }
 }
 
@@ -157,8 +157,8 @@ fn push_frame(
     let sign = decimal.sign;
     match money.for_sign(sign).format(alloc, decimal) {
         Ok(formatted) => {
-            let exponent = formatted.value().exponent();
-            push_frame_for(alloc, money.patterns(), sign, exponent, out)
+            let has_entry = money.has_entry(sign, formatted.value());
+            push_frame_for(alloc, money.patterns(), sign, has_entry, out)
         }
         Err(FormatError::Overflow) => Ok(()),
         Err(FormatError::OutOfMemory | FormatError::Sink) => Err(AllocError),

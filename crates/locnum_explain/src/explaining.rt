@@ -163,7 +163,8 @@ fn push_text(
 /// are shown, the table's entry, the plural operands of the significand with their category, and
 /// the pattern; of money and percents the pattern; of a number with a unit or the name of a
 /// currency its operands with their category, and the pattern. In a pattern `{0}` stands for the
-/// number. A compact amount of exponent 0 has two patterns, that of its table and that of money.
+/// number. A compact amount below the first entry of the table has two patterns, `{0}` and that of
+/// money.
 ///
 /// A text that is refused has a line that says why instead. Lines of parts take `width` columns at
 /// most, as `explained_lines` says. Without memory some bytes of it may stand there.

@@ -66,7 +66,7 @@ const NINES: &[(Asked, usize, &str, bool)] = &[
     (
         UNIT,
         19,
-        "\n  9,999,999,999,999,999,999 kilometers\n  ^^^^^^^^^^^^^^^^^^^^^^^^^             integer\n   ^                                    group\n       ^                                group\n           ^                            group\n               ^                        group\n                   ^                    group\n                       ^                group\n  magnitude  18\n  operands   i=...999999999999999999 v=0 w=0 f=0 t=0 c=0 -> other\n  pattern    {0} kilometers\n",
+        "\n  9,999,999,999,999,999,999 kilometers\n  ^^^^^^^^^^^^^^^^^^^^^^^^^             integer\n   ^                                    group\n       ^                                group\n           ^                            group\n               ^                        group\n                   ^                    group\n                       ^                group\n                            ^^^^^^^^^^  unit\n  magnitude  18\n  operands   i=...999999999999999999 v=0 w=0 f=0 t=0 c=0 -> other\n  pattern    {0} kilometers\n",
         false,
     ),
     (SHORT, 32768, "\n  overflow\n", true),

@@ -23,12 +23,12 @@ const PATTERNS: &[(Style, &str, &str)] = &[
     (
         Style::Unit,
         "1",
-        "1\n  1 kilometer\n  ^            integer\n  magnitude  0\n  operands   i=1 v=0 w=0 f=0 t=0 c=0 -> one\n  pattern    {0} kilometer\n",
+        "1\n  1 kilometer\n  ^            integer\n    ^^^^^^^^^  unit\n  magnitude  0\n  operands   i=1 v=0 w=0 f=0 t=0 c=0 -> one\n  pattern    {0} kilometer\n",
     ),
     (
         Style::Unit,
         "-2.5",
-        "-2.5\n  -2.5 kilometers\n  ^                minusSign\n   ^               integer\n    ^              decimal\n     ^             fraction\n  magnitude  0\n  operands   i=2 v=1 w=1 f=5 t=5 c=0 -> other\n  pattern    {0} kilometers\n",
+        "-2.5\n  -2.5 kilometers\n  ^                minusSign\n   ^               integer\n    ^              decimal\n     ^             fraction\n       ^^^^^^^^^^  unit\n  magnitude  0\n  operands   i=2 v=1 w=1 f=5 t=5 c=0 -> other\n  pattern    {0} kilometers\n",
     ),
 ];
 

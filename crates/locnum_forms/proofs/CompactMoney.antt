@@ -43,32 +43,34 @@ module _ (f : CompactMoney) (sign : Sign) (d : Unsigned) where
   compact_money-past past = go (nat_le (ten_to (pos 32768)) (nearest_number (formatter_of f sign).table (size d))) refl
     where
       go : (b : Bool) → nat_le (ten_to (pos 32768)) (nearest_number (formatter_of f sign).table (size d)) ≡ b
-          → (if b then Err Overflow else Ok (compact_events f.patterns sign
+          → (if b then Err Overflow else Ok (compact_events (formatter_of f sign).table f.patterns sign
           (compacted (formatter_of f sign) d (nearest_number (formatter_of f sign).table (size d))))) ≡ Err Overflow
       go true e = refl
       go false e = let large = past-number (formatter_of f sign).table (size d) past in absurd (grind (arith, nat_tests))
 
   -- one whose nearest compact number is within them
   pub compact_money-within : (number : FormattedCompact) → IsCompacted (formatter_of f sign) d number
-      → ¬ (ShowsPastLimits (formatter_of f sign).table (size d)) → compact_money_events f sign d ≡ Ok (compact_events f.patterns sign number)
+      → ¬ (ShowsPastLimits (formatter_of f sign).table (size d)) →
+      compact_money_events f sign d ≡ Ok (compact_events (formatter_of f sign).table f.patterns sign number)
   unfolding compact_money_events
   compact_money-within number is within = go (nat_le (ten_to (pos 32768)) (nearest_number (formatter_of f sign).table (size d))) refl
     where
       go : (b : Bool) → nat_le (ten_to (pos 32768)) (nearest_number (formatter_of f sign).table (size d)) ≡ b
-          → (if b then Err Overflow else Ok (compact_events f.patterns sign
+          → (if b then Err Overflow else Ok (compact_events (formatter_of f sign).table f.patterns sign
           (compacted (formatter_of f sign) d (nearest_number (formatter_of f sign).table (size d)))))
-          ≡ Ok (compact_events f.patterns sign number)
+          ≡ Ok (compact_events (formatter_of f sign).table f.patterns sign number)
       go true e = absurd (within (
         nearest_number (formatter_of f sign).table (size d),
         number-nearest (formatter_of f sign).table (size d),
         grind (arith, nat_tests),
       ))
-      go false e = ap (λ (n : FormattedCompact). Ok (compact_events f.patterns sign n)) (compacted-told (formatter_of f sign) d number is)
+      go false e = ap (λ (n : FormattedCompact). Ok (compact_events (formatter_of f sign).table f.patterns sign n))
+          (compacted-told (formatter_of f sign) d number is)
 
   -- its text was appended, if the text that was written was
   pub compact_money-appended : {W : Type 0} (written : Result W FormatError) (bytes : W → List ℕ) (old new : List ℕ)
       → IfOk written (λ t. (n : FormattedCompact) × IsCompacted (formatter_of f sign) d n
-      × (bytes t ≡ text_of (compact_events f.patterns sign n)))
+      × (bytes t ≡ text_of (compact_events (formatter_of f sign).table f.patterns sign n)))
       → (ShowsPastLimits (formatter_of f sign).table (size d) → IsErrOf written format.Overflow)
       → IsOkAnd written (λ t. new ≡ old ++ bytes t) → AppendsShown (compact_money_events f sign d) old new
   compact_money-appended (Ok t) bytes old new (number, is, wrote) over appended =

@@ -64,15 +64,16 @@ module _ (s t : Annotated) (empty : s.events ≡ []) (written : Result (Unit {0}
 
     -- a compact amount
     pub compact-marked : (f : CompactMoney)
-        → WritesSuch (λ x. x.events) (λ x. x.failures) s written (IsCompacted (formatter_of f sign) d) (compact_events f.patterns sign) t
+        → WritesSuch (λ x. x.events) (λ x. x.failures) s written (IsCompacted (formatter_of f sign) d)
+        (compact_events (formatter_of f sign).table f.patterns sign) t
         → (ShowsPastLimits (formatter_of f sign).table (size d) → IsErrOf written format.Overflow) → IsOk written
         → compact_money_events f sign d ≡ Ok t.events
-    compact-marked f wrote over is = go (held (IsCompacted (formatter_of f sign) d) (compact_events f.patterns sign) wrote is)
+    compact-marked f wrote over is = go (held (IsCompacted (formatter_of f sign) d) (compact_events (formatter_of f sign).table f.patterns sign) wrote is)
       where
         not_over : (w : Result (Unit {0}) FormatError) → IsOk w → IsErrOf w format.Overflow → ⊥
         not_over (Ok x) is error = cc error
         not_over (Err e) is error = absurd (false≢true is)
 
-        go : (n : FormattedCompact) × IsCompacted (formatter_of f sign) d n × (t.events ≡ compact_events f.patterns sign n)
+        go : (n : FormattedCompact) × IsCompacted (formatter_of f sign) d n × (t.events ≡ compact_events (formatter_of f sign).table f.patterns sign n)
             → compact_money_events f sign d ≡ Ok t.events
         go (n, compacted, events) = compact_money-within f sign d n compacted (λ past. not_over written is (over past)) ∙ ap Ok (sym events)

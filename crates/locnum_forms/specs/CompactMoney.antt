@@ -20,12 +20,12 @@ compacted format d y = record {
   exponent = exponent_of (displayed_entry format.table y);
 }
 
--- what a compact formatter writes for the compact number nearest to d, in the pattern of money of the sign where the exponent is 0;
+-- what a compact formatter writes for the compact number nearest to d, in the pattern of money of the sign where no entry displays it;
 -- `Overflow` if that number is ten to the power 32768 or more
 abbrev pub nearest_events : CompactFormat → Signed → Sign → Unsigned → Result (List Event) TextError
 nearest_events format patterns sign d =
     if nat_le (ten_to (pos 32768)) (nearest_number format.table (size d)) then Err Overflow
-    else Ok (compact_events patterns sign (compacted format d (nearest_number format.table (size d))))
+    else Ok (compact_events format.table patterns sign (compacted format d (nearest_number format.table (size d))))
 
 -- what is written for an amount: by the compact formatter of its sign
 unfoldable pub compact_money_events : CompactMoney → Sign → Unsigned → Result (List Event) TextError

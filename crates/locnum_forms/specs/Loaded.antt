@@ -26,7 +26,7 @@ use Rattle.icu_table_entries.specs.Answering.{filed_answer, optional_answer}
 use Rattle.icu_table_entries.specs.Named.{NamedEntry}
 use Rattle.icu_tables.specs.Digits.{system_answer}
 use Rattle.icu_tables.specs.Tables.{TablesData}
-use Rattle.icu_dimension_tables.specs.Answering.{compact_answer, decimals_answer, digits_answer, names_answer, symbols_answer, unit_answer}
+use Rattle.icu_dimension_tables.specs.Answering.{decimals_answer, digits_answer, names_answer, symbols_answer, unit_answer}
 use Rattle.icu_dimension_tables.specs.DimensionTables.{DimensionData}
 use Rattle.icu_dimension_tables.specs.declared.units.UnitWidth.TheVariants as filed
 use Rattle.decimal_lines.specs.Making.{compact_options, plain_options}
@@ -135,8 +135,7 @@ compact_money_options grouping = record { grouping_strategy = (compact_options g
 unfoldable pub compact_money_loaded : WantedData → List ℕ → TablesData → DimensionData → Result CompactMoney Refusal
 compact_money_loaded wanted code tables dimension =
     loaded_compact_money (symbols_for_money tables dimension) (system_digits tables) (optional_answer dimension.currencies)
-    (symbols_answer dimension.symbols) (optional_answer tables.rules)
-    (compact_answer dimension.currencies dimension.symbols dimension.compact)
+    (symbols_answer dimension.symbols) (optional_answer tables.rules) (optional_answer dimension.compact)
     (preferences wanted) code (compact_money_options wanted.grouping)
 
 -- compact amounts of a currency; they have no range of fraction digits

@@ -95,7 +95,10 @@ const MARKED: &[(Asked, &str, Result<(&str, &[Span]), TextError>)] = &[
     (
         Asked::Unit("kilometer", UnitWidth::Short),
         "-2",
-        Ok(("-2 km", &[(0, 1, "minusSign"), (1, 2, "integer")])),
+        Ok((
+            "-2 km",
+            &[(0, 1, "minusSign"), (1, 2, "integer"), (3, 5, "unit")],
+        )),
     ),
     (Asked::Plain, "1e3", Err(TextError::NotDecimal)),
     (Asked::Money("USD"), "", Err(TextError::NotDecimal)),

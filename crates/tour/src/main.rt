@@ -62,7 +62,7 @@ fn dollars(alloc: Global) -> Option<CurrencyFormatter<DecimalFormatter>> {
         currency: "$",
     };
     let pattern = CldrPattern::parse(alloc, "¤#,##0.00").ok()?;
-    let patterns = pattern.resolve(alloc, &texts).ok()?;
+    let patterns = pattern.resolve(alloc, &texts, &ASCII_DIGITS).ok()?;
     let formatter = english(alloc, DecimalFormatterOptions::default())?;
     Some(CurrencyFormatter::new(formatter, patterns))
 }

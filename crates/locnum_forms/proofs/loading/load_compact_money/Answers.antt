@@ -4,7 +4,7 @@ use Rattle.icu_decimal.specs.declared.options.DecimalFormatterOptions.{DecimalFo
 use Rattle.icu_decimal.specs.declared.preferences.DecimalFormatterPreferences.{DecimalFormatterPreferences}
 use Rattle.icu_dimension.specs.Loaded.{loaded_compact_money}
 use Rattle.icu_table_entries.specs.Answering.{optional_answer}
-use Rattle.icu_dimension_tables.specs.Answering.{compact_answer, symbols_answer}
+use Rattle.icu_dimension_tables.specs.Answering.{symbols_answer}
 use Rattle.locnum_forms.specs.Loaded.{compact_money_loaded, compact_money_options, preferences, symbols_for_money, system_digits}
 use Rattle.locnum_forms.specs.Wanted.{WantedData}
 use Rattle.locnum_forms.proofs.loading.load_compact_money.Goals as goal
@@ -17,7 +17,7 @@ returns c =
     let told : DecimalFormatterPreferences → DecimalFormatterOptions → Type 0 = λ prefs options. Answers c.try_new_unstable.result
     (loaded_compact_money (symbols_for_money tables dimension) (system_digits tables) (optional_answer dimension.currencies)
     (symbols_answer dimension.symbols) (optional_answer tables.rules)
-    (compact_answer dimension.currencies dimension.symbols dimension.compact) prefs c.args.code options) in
+    (optional_answer dimension.compact) prefs c.args.code options) in
     subst (told (preferences c.args.wanted.now))
     (c.compact_money_options-options.ensures ∙ ap (λ (w : WantedData). compact_money_options w.grouping) c.wanted.view_is)
     (subst (λ (prefs : DecimalFormatterPreferences). told prefs c.compact_money_options-options.result) c.preferences-prefs.ensures

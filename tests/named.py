@@ -1,0 +1,229 @@
+"""What a crate's sources, definitions, proofs and edits name of the crates below it, with all that this stands on.
+
+A file of definitions is cut into its items: a name with its equations, a record, a block of a module. A source is cut into
+what it says to other crates: types, each variant of an enum, traits, impls of a trait, functions. An item is named where its
+name is among the words so far, and its own words are added to these, until nothing is added. A function has to be called
+besides; an impl of a trait is named with its type. Names are looked for whatever their module, so that two items of one name
+are both taken.
+"""
+import dataclasses
+import functools
+import re
+
+import layout
+
+# A word of any file, and a name with the places of arguments.
+WORD = re.compile(r"[\w'\-]+|[^\s(){}\[\],;.]*◌[^\s(){}\[\],;]*")
+PLAIN = re.compile(r"[\w'\-]+")
+# A name that is brought in under another one.
+ALIAS = re.compile(r"([\w'\-]+) as ([\w'\-]+)")
+# How a source calls a method, or names it by its type; and a function.
+METHOD = re.compile(r"\.\s*(\w+)\s*(?=\(|::<)|(?:\b[A-Z]\w*|>)::\s*(\w+)")
+CALL = re.compile(r"\b(\w+)\s*(?=\(|::<)|::\s*(\w+)")
+IMPORT = re.compile(r"^(?:pub )?use [^;]*;", re.M)
+# The heads of items at the beginning of a line.
+MODIFIERS = {"abbrev", "pub", "unfoldable", "data", "record", "syntax", "ruleset"}
+FUNCTION = re.compile(r" *(?:pub )?(?:const )?(?:unsafe )?(?:final )?fn (\w+)")
+TYPE = re.compile(r"(?:pub )?(struct|enum|trait|type|const|static|macro_rules!) ?(\w+)?")
+IMPL = re.compile(r"(?:unsafe )?impl\b(?:<(?:[^<>]|<[^<>]*>)*>)? ?(.*)")
+VARIANT = re.compile(r"    ([A-Z]\w*)")
+IDENTIFIER = re.compile(r"[A-Za-z_]\w*")
+BUILT_IN = {"u8", "u16", "u32", "u64", "usize", "i16", "i32", "i64", "bool", "char", "str", "String", "Vec", "Option", "Result"}
+
+
+@dataclasses.dataclass(frozen=True)
+class Item:
+    """What a file says at one place: the names of which one has to be a word, and how a function has to be called."""
+
+    names: frozenset
+    call: str
+    text: str
+    words: frozenset
+    within: str = ""
+
+
+def words_in(text):
+    return frozenset(WORD.findall(text))
+
+
+def item(names, lines, call="", within=""):
+    text = layout.words_of(lines)
+    return Item(frozenset(names), call, text, words_in(text), within)
+
+
+# Definitions
+
+
+def head_name(line):
+    """The name that a line at the left edge defines or goes on with; nothing for `unfolding`."""
+    words = line.split()
+    while words and words[0] in MODIFIERS:
+        words = words[1:]
+    return words[0] if words and words[0] != "unfolding" else ""
+
+
+def inner_names(lines):
+    """The names at the left edge of a block: definitions of a module, fields and constructors."""
+    for line in lines:
+        inner = re.match(r"  (?:abbrev |pub |unfoldable |\| )*([^\s:]+)", line)
+        if inner and not line.startswith("   "):
+            yield inner[1]
+
+
+def definitions(lines):
+    """The items of a file of definitions."""
+    blocks, name = [], None
+    for line in (line for line in lines if line.strip() and not line.startswith(("use ", "mod ", "pub use ", "pub mod "))):
+        if line.startswith(" ") or line.startswith(")") or head_name(line) in ("", name):
+            if blocks:
+                blocks[-1].append(line)
+            continue
+        name = head_name(line)
+        blocks.append([line])
+    for block in blocks:
+        names = {head_name(block[0])}
+        if names == {"module"} or re.match(r"(pub )?(data|record)\b", block[0]):
+            names.update(inner_names(block[1:]))
+        yield item(names, block)
+
+
+# Sources
+
+
+def blocks_of(lines):
+    """The items of a source at the left edge, each with its attributes."""
+    block = []
+    for line in lines:
+        is_head = line and not line[0].isspace() and line[0] not in ")}]" and not line.startswith(("where", "requires", "ensures", "{"))
+        if is_head and block and not all(it.startswith("#") for it in block):
+            yield block
+            block = []
+        if line.strip():
+            block.append(line)
+    if block:
+        yield block
+
+
+def variants(name, lines):
+    """The variants of an enum, each with its attributes."""
+    found, attributes = [], []
+    for line in lines:
+        if line.startswith("    #"):
+            attributes.append(line)
+        elif VARIANT.match(line):
+            found.append([*attributes, line])
+            attributes = []
+        elif found and line.startswith("    "):
+            found[-1].append(line)
+    for block in found:
+        variant = next(VARIANT.match(line)[1] for line in block if VARIANT.match(line))
+        yield item({variant}, block, within=name)
+
+
+def functions(head, lines):
+    """The functions of an impl, each with its type."""
+    found, attributes = [], []
+    for line in lines:
+        if line.startswith("    #"):
+            attributes.append(line)
+        elif line.startswith("    ") and not line.startswith("     ") and FUNCTION.match(line):
+            found.append([*attributes, line])
+            attributes = []
+        elif found and not line.startswith("    ghost use"):
+            found[-1].append(line)
+    for block in found:
+        name = next(FUNCTION.match(line)[1] for line in block if FUNCTION.match(line))
+        yield item({name}, [head, *block], call="method")
+
+
+def self_names(header):
+    """The names of the type of an impl; of its trait where the type is built in."""
+    trait, _, of = header.rpartition(" for ")
+    names = {name for name in IDENTIFIER.findall(of.partition(" where")[0]) if name[0].isupper() and len(name) > 1} - BUILT_IN
+    return names or set(IDENTIFIER.findall(trait))
+
+
+def items_of_block(block):
+    heads = [line for line in block if not line.startswith("#")]
+    if not heads or heads[0].startswith(("use ", "pub use ", "ghost use ", "mod ", "pub mod ")):
+        return
+    head, rest = heads[0], block[block.index(heads[0]) + 1:]
+    declared = TYPE.match(head)
+    function = FUNCTION.match(head)
+    header = IMPL.match(head)
+    if function:
+        yield item({function[1]}, block, call="function")
+    elif declared and declared[1] == "enum" and not any(re.search(r"Ord\b|repr", line) for line in block if line.startswith("#")):
+        yield item({declared[2]}, [line for line in block if line.startswith("#")] + [head])
+        yield from variants(declared[2], rest)
+    elif declared and declared[1] == "macro_rules!":
+        yield item(set(), block)
+    elif declared:
+        yield item({declared[2]}, block)
+    elif header:
+        joined = " ".join([header[1], *[line.strip() for line in rest[: next((k for k, line in enumerate(rest) if line.startswith("{")), 0)]]])
+        if " for " in joined:
+            yield item(self_names(joined.partition("{")[0]), block)
+        else:
+            yield from functions(head, rest)
+    else:
+        yield item(set(), block)
+
+
+@functools.lru_cache(maxsize=None)
+def items_in(path):
+    """The items of a file, and the names that it brings in under others."""
+    lines = layout.said_in(path)
+    aliases = tuple((new, old) for old, new in ALIAS.findall("\n".join(lines)))
+    if path.endswith(".antt"):
+        return tuple(definitions(lines)), aliases
+    lines = list(layout.without_bodies(lines))
+    return tuple(it for block in blocks_of(lines) for it in items_of_block(block)), aliases
+
+
+# What is named
+
+
+def calls_in(paths):
+    """The names of methods and of functions that sources call."""
+    texts = ["\n".join(layout.said_in(path)) for path in paths if path.endswith(".rt")]
+    methods, functions = ({name for text in texts for found in call.findall(text) for name in found if name} for call in (METHOD, CALL))
+    functions.update(name for text in texts for brought in IMPORT.findall(text) for name in IDENTIFIER.findall(brought))
+    return {"method": methods, "function": functions}
+
+
+def named(own, below):
+    """What files name of others, as texts in their order: `own` are paths, `below` pairs of a path and what it is called."""
+    words = {word for path in own for word in words_in("\n".join(layout.said_in(path)))}
+    calls = calls_in(own)
+    aliases, waiting = {}, []
+    for path in own:
+        for old, new in ALIAS.findall("\n".join(layout.said_in(path))):
+            aliases.setdefault(new, set()).add(old)
+    for path, called in below:
+        items, renamed = items_in(path)
+        waiting += [(called, it) for it in items]
+        for new, old in renamed:
+            aliases.setdefault(new, set()).add(old)
+
+    def is_word(name):
+        if PLAIN.fullmatch(name):
+            return name in words
+        parts = [part for part in name.split("◌") if part]
+        return name in words or bool(parts) and all(part in words for part in parts)
+
+    def is_named(it):
+        if it.within and it.within not in words:
+            return False
+        return not it.names or any(is_word(name) and (not it.call or name in calls[it.call]) for name in it.names)
+
+    taken, grows = [], True
+    while grows:
+        words |= {old for new, olds in aliases.items() if new in words for old in olds}
+        found = [(called, it) for called, it in waiting if is_named(it)]
+        waiting = [pair for pair in waiting if pair not in found]
+        taken += found
+        added = {word for _, it in found for word in it.words} - words
+        words |= added
+        grows = bool(found)
+    return sorted(f"{called}: {it.text}" for called, it in taken)
