@@ -1,5 +1,7 @@
 # What the scripts of this folder share: the mixed lines, programs over the repository's crates, times and instructions.
 # A script sets `runs` and sources it in its own folder.
+# shellcheck shell=bash
+runs=${runs:-11}
 mkdir -p build
 [ -s build/mixed.txt ] || python3 generate.py mixed >build/mixed.txt
 

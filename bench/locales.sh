@@ -2,6 +2,8 @@
 # Times library callers in four locales beside ICU4C: a decimal and a text of its own for each of a million mixed lines, by
 # programs/locales.rattle.
 # usage: bench/locales.sh [RUNS]
+source "$(dirname "$0")/../tests/usage.sh"
+takes 1 -- "$@"
 set -u
 cd "$(dirname "$0")" || exit 1
 runs=${1:-11}

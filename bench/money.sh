@@ -3,6 +3,8 @@
 # currencies. Each of a million mixed lines is read, and its text is made by programs/money.rattle, the amount rounded to cents
 # where ICU4C does the same: as a text of its own, or straight behind the lines before it, as reports are written.
 # usage: bench/money.sh [RUNS]
+source "$(dirname "$0")/../tests/usage.sh"
+takes 1 -- "$@"
 set -u
 cd "$(dirname "$0")" || exit 1
 runs=${1:-11}

@@ -1,6 +1,8 @@
 #!/bin/bash
 # Compares decfmt with other programs that do the same work on the same input, and prints a table.
 # usage: bench/run.sh [PROGRAM] [RUNS]; builds the peers for which the machine has a compiler.
+source "$(dirname "$0")/../tests/usage.sh"
+takes 2 -- "$@"
 set -u
 program=$(realpath "${1:-$(dirname "$0")/../crates/decfmt/out/decfmt}")
 cd "$(dirname "$0")" || exit 1
@@ -33,9 +35,10 @@ declare -A names=(
 )
 declare -A best equal skipped
 
-# the time of one run in milliseconds
+# the time of one run in microseconds
 once() {
     local from=${EPOCHREALTIME/./}
+    # shellcheck disable=SC2086 # a command and its words
     ${command[$1]} <"build/$2.txt" >/dev/null 2>&1
     echo $((${EPOCHREALTIME/./} - from))
 }
@@ -46,7 +49,7 @@ measure() {
     for name in "${list[@]}"; do
         local first=${command[$name]%% *}
         command -v "$first" >/dev/null || { skipped[$name]=1; continue; }
-        best[$name,$input]=$(once "$name" $input)
+        best[$name,$input]=$(once "$name" "$input")
         ${command[$name]} <"build/$input.txt" >build/output 2>/dev/null
         # the first peer's output is the measure of all
         [ "$name" = rust_plain ] && cp build/output "build/$input.wanted"
@@ -58,7 +61,7 @@ measure() {
             [ -n "${skipped[$name]:-}" ] && continue
             # slow peers are measured three times
             [ "${best[$name,$input]}" -gt 1500000 ] && [ "$turn" -gt 3 ] && continue
-            took=$(once "$name" $input)
+            took=$(once "$name" "$input")
             [ "$took" -lt "${best[$name,$input]}" ] && best[$name,$input]=$took
         done
     done
@@ -66,6 +69,7 @@ measure() {
 
 instructions() {
     head -n "$2" "build/$3.txt" >build/part.txt
+    # shellcheck disable=SC2086 # a command and its words
     valgrind --tool=callgrind --callgrind-out-file=/dev/null ${command[$1]} <build/part.txt 2>&1 >/dev/null |
         awk -v n="$2" '/Collected/ {printf "%d", $NF / n}'
 }
@@ -98,7 +102,7 @@ for pair in "${pairs[@]}"; do
         best=()
         for turn in $(seq 1 "$runs"); do
             for name in "${list[@]}"; do
-                took=$(once "$name" $input)
+                took=$(once "$name" "$input")
                 [ "$took" -lt "${best[$name]:-999999999}" ] && best[$name]=$took
             done
         done
@@ -125,7 +129,7 @@ for turn in $(seq 1 "$runs"); do
     [ "$took" -lt "${best[start]:-999999999}" ] && best[start]=$took
 done
 echo
-echo "start-up with $(stat -c %s build/tables.json) bytes of tables: $((${best[start]} / 1000)) ms"
+echo "start-up with $(stat -c %s build/tables.json) bytes of tables: $((best[start] / 1000)) ms"
 
 # Library callers in four locales.
 echo

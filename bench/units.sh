@@ -2,6 +2,8 @@
 # Counts what a unit over short English costs beside the number alone: each of the first mixed lines is read, and written
 # into a sink with parts of its own, by programs/units.rattle.
 # usage: bench/units.sh
+source "$(dirname "$0")/../tests/usage.sh"
+takes 0 -- "$@"
 set -u
 cd "$(dirname "$0")" || exit 1
 . ./common.sh

@@ -9,9 +9,11 @@
 # The archive is crates/talmuiga_c/out/libtalmuiga_c.a, as `rt lib` in crates/talmuiga_c builds it; that is done here where
 # it isn't there or a source is newer. With --after-ci, right after `rt ci`, it is built over the libraries that this proved,
 # and talmuiga_c alone is proved once more; `rt lib` would prove them all.
-# The last line is 'N passed, M failed'. What can't be done here, for want of a C or C++ compiler, of Python, of SQLite or
-# of crates/decfmt/out/decfmt, is told by a line 'skipped: c_library: WHY'. CC and CXX are the compilers with their words,
+# The last line is 'N passed, M failed'. What can't be done here, without a C or C++ compiler, Python, SQLite or
+# crates/decfmt/out/decfmt, is reported by a line 'skipped: c_library: WHY'. CC and CXX are the compilers with their words,
 # by default cc and c++.
+source "$(dirname "$0")/usage.sh"
+takes 1 --build --install --after-ci -- "$@"
 set -u
 cd "$(dirname "$0")/.." || exit 1
 root=$PWD archive=$PWD/crates/talmuiga_c/out/libtalmuiga_c.a
@@ -20,25 +22,11 @@ read -r -a cpp_compiler <<<"${CXX:-c++}"
 kit=$(dirname "$(rt doc)")
 # what the toolchain's allocator needs of C
 heap=$kit/c/liblibc_c.a
-passed=0 failed=0
-
-# judge NAME WANTED GIVEN
-judge() {
-    if [ "$2" = "$3" ]; then
-        passed=$((passed + 1))
-    else
-        failed=$((failed + 1))
-        printf 'c_library: %s: wanted\n%s\ngiven\n%s\n' "$1" "$2" "$3"
-    fi
-}
+source tests/judging.sh
 
 # is_there COMMAND: whether there is such a command.
 is_there() {
     command -v "$1" >/dev/null
-}
-
-skipped() {
-    echo "skipped: c_library: $1"
 }
 
 # The archive over the libraries that `rt ci` has proved, as that calls the compiler for a program.
@@ -72,15 +60,16 @@ build() {
     fi
 }
 
-# refused: the statuses of tests/c_refused.c, each once, where every allocation but that of its file finds no memory in turn.
-refused() {
+# out_of_memory: the statuses of tests/c_refused.c, each once, where every allocation but that of its file finds no memory in
+# turn.
+out_of_memory() {
     local number calls
-    CALLS=$folder/calls LD_PRELOAD=$folder/refuse.so "$folder/c_refused" $sample
+    CALLS=$folder/calls LD_PRELOAD=$folder/refuse.so "$folder/c_refused" "$sample"
     calls=$(cat "$folder/calls")
     for ((number = 2; number <= calls; number++)); do
         rm -f "$folder/mark"
-        REFUSED=$number MARK=$folder/mark LD_PRELOAD=$folder/refuse.so "$folder/c_refused" $sample
-        echo "$? $([ -e "$folder/mark" ] && echo refused)"
+        REFUSED=$number MARK=$folder/mark LD_PRELOAD=$folder/refuse.so "$folder/c_refused" "$sample"
+        echo "$? $([ -e "$folder/mark" ] && echo 'out of memory')"
     done | sort -u
 }
 
@@ -112,27 +101,25 @@ if [ "${1:-}" = --install ]; then
     mkdir -p "$folder/lib" && build "$folder/lib" && install_from "$folder/lib" "$2"
     exit
 fi
-build "$folder" || { echo 'c_library: no library'; echo '0 passed, 1 failed'; exit 1; }
+build "$folder" || failed_all 'the library is built'
 
 # c NAME STATUS OUTPUT INPUT WORD..: what the C example writes, behind its status.
 c() {
     local name=$1 status=$2 output=$3 input=$4
     shift 4
-    judge "C: $name" "$status $(printf '%b' "$output")" \
+    judge "C: $name" same "$status $(printf '%b' "$output")" \
         "$(given=$(printf '%b' "$input" | "$folder/format_lines" "$@" 2>&1); echo "$? $given")"
 }
 
 # builds PROGRAM SOURCE [ARCHIVE]: the C program, over the archive.
 builds() {
-    "${compiler[@]}" -std=c11 -O2 -Wall -Wextra -Wcast-qual -Werror -pedantic -Iinclude "${@:2}" -o "$folder/$1"
-    judge "C: $2 builds" 0 $?
+    judge "C: $2 builds" "${compiler[@]}" -std=c11 -O2 -Wall -Wextra -Wcast-qual -Werror -pedantic -Iinclude "${@:2}" -o "$folder/$1"
 }
 
 # reads_header LANGUAGE STANDARD COMPILER..: the header alone.
 reads_header() {
-    echo '#include "talmuiga.h"' |
-        "${@:3}" -x "$1" "-std=$2" -Wall -Wextra -Wcast-qual -Werror -pedantic -Iinclude -fsyntax-only -
-    judge "the header as $2" 0 $?
+    judge "the header as $2" "${@:3}" -x "$1" "-std=$2" -Wall -Wextra -Wcast-qual -Werror -pedantic -Iinclude -fsyntax-only - \
+        <<<'#include "talmuiga.h"'
 }
 
 # calls_from_cpp: a program in C++98 over the archive formats a line.
@@ -147,7 +134,7 @@ int main() {
     return status == TALMUIGA_DONE && written == 6 && memcmp(output, "1,234\n", 6) == 0 ? 0 : 1;
 }
 END
-    judge 'C++: a call' 0 "$("$folder/calls" >&2; echo $?)"
+    judge 'C++: a call' "$folder/calls"
 }
 
 # A thousand lines: numbers of each length and sign, fractions, padding, carriage returns and lines that are none.
@@ -171,7 +158,7 @@ thousand_lines() {
 as_decfmt() {
     crates/decfmt/out/decfmt "$@" <"$folder/lines" >"$folder/wanted" 2>&1 &&
         "$folder/format_lines" "$@" <"$folder/lines" >"$folder/given" 2>&1
-    judge "C: a thousand lines${1:+ by ${*:2}}" '0 1001 lines, the same' \
+    judge "C: a thousand lines${1:+ by ${*:2}}" same '0 1001 lines, the same' \
         "$? $(wc -l <"$folder/wanted") lines, $(cmp "$folder/wanted" "$folder/given" 2>&1 && echo 'the same')"
 }
 
@@ -197,12 +184,20 @@ kept() {
     local name=$*
     head -n 500 "$folder/random" >"$folder/few"
     for part in random few; do
-        crates/decfmt/out/decfmt $sample "$@" <"$folder/$part" >"$folder/$part.wanted"
+        crates/decfmt/out/decfmt "$sample" "$@" <"$folder/$part" >"$folder/$part.wanted"
     done
     [ $# -lt 4 ] && set -- "$@" ''
-    judge "C: kept formatters by $name" 0 "$("$folder/kept" $sample "$@" "$folder/random" "$folder/random.wanted" >&2; echo $?)"
-    judge "C: kept formatters by $name, with sanitizers" 0 \
-        "$("$folder/kept_sanitized" $sample "$@" "$folder/few" "$folder/few.wanted" >&2; echo $?)"
+    judge "C: kept formatters by $name" "$folder/kept" "$sample" "$@" "$folder/random" "$folder/random.wanted"
+    judge "C: kept formatters by $name, with sanitizers" \
+        "$folder/kept_sanitized" "$sample" "$@" "$folder/few" "$folder/few.wanted"
+}
+
+# shown LANGUAGE HEAD: a program of the blocks of README.md and docs/LIBRARY.md in this language, each in braces, behind HEAD.
+shown() {
+    printf '%b\n{\n' "$2"
+    awk -v head="\`\`\`$1" '$0 == head { shown = 1; next }
+        /^```$/ { if (shown) print "}\n{"; shown = 0 } shown' README.md docs/LIBRARY.md
+    printf '}\nreturn 0;\n}\n'
 }
 
 sample=tables/sample.json
@@ -210,21 +205,21 @@ if is_there "${compiler[0]}"; then
     builds format_lines examples/c/format_lines.c "$folder/libtalmuiga.a"
     c 'no line' 0 '' ''
     c 'English' 0 '1,000,007\n-987,654.321\nerror: not a decimal\n0.5' '1000007\n-987654.321\r\n1e3\n.5'
-    c 'short' 0 '1.6K\n10,000T\n' '1650\n10000000000000000\n' $sample en - short
-    c 'digits of Bengali' 0 '১০,০০,০০৭\n' '1000007\n' $sample bn - plain
-    c 'a strategy' 0 '١٢٣٤٥٦٧\n' '1234567\n' $sample ar-EG arab plain never
-    c 'another style' 2 'error: words refused' '5\n' $sample en - tall
-    c 'no UTF-8 in a word' 2 'error: words refused' '5\n' $sample $'\xff' - plain
-    c 'refused tables' 3 'error: tables refused' '5\n' tables/hostile.json en - short
-    c 'another locale' 4 'error: no data' '5\n' $sample xx - plain
+    c 'short' 0 '1.6K\n10,000T\n' '1650\n10000000000000000\n' "$sample" en - short
+    c 'digits of Bengali' 0 '১০,০০,০০৭\n' '1000007\n' "$sample" bn - plain
+    c 'a strategy' 0 '١٢٣٤٥٦٧\n' '1234567\n' "$sample" ar-EG arab plain never
+    c 'another style' 2 'error: words refused' '5\n' "$sample" en - tall
+    c 'no UTF-8 in a word' 2 'error: words refused' '5\n' "$sample" $'\xff' - plain
+    c 'rejected tables' 3 'error: tables refused' '5\n' tables/hostile.json en - short
+    c 'another locale' 4 'error: no data' '5\n' "$sample" xx - plain
     c 'a missing file' 1 'error: input or output failed' '5\n' "$folder/none" en - plain
     c 'a folder for tables' 1 'error: input or output failed' '5\n' "$folder" en - plain
-    judge 'C: a folder as standard input' '1 error: input or output failed' \
+    judge 'C: a folder as standard input' same '1 error: input or output failed' \
         "$(given=$("$folder/format_lines" <"$folder" 2>&1); echo "$? $given")"
-    judge 'C: a closed standard output' '1 error: input or output failed' \
+    judge 'C: a closed standard output' same '1 error: input or output failed' \
         "$(given=$(echo 5 | "$folder/format_lines" 2>&1 >&-); echo "$? $given")"
     if [ -c /dev/full ]; then
-        judge 'C: a full device' '1 error: input or output failed' \
+        judge 'C: a full device' same '1 error: input or output failed' \
             "$(given=$(echo 5 | "$folder/format_lines" 2>&1 >/dev/full); echo "$? $given")"
     else
         skipped 'there is no full device'
@@ -232,17 +227,16 @@ if is_there "${compiler[0]}"; then
     if [ -x crates/decfmt/out/decfmt ]; then
         thousand_lines >"$folder/lines"
         as_decfmt
-        as_decfmt $sample en - plain
-        as_decfmt $sample en - short
-        as_decfmt $sample bn - plain always
-        as_decfmt $sample fr - long
-        as_decfmt $sample ar-EG arab plain min2
+        as_decfmt "$sample" en - plain
+        as_decfmt "$sample" en - short
+        as_decfmt "$sample" bn - plain always
+        as_decfmt "$sample" fr - long
+        as_decfmt "$sample" ar-EG arab plain min2
         random_lines >"$folder/random"
         compiler_words=("${compiler[@]}" -std=gnu11 -Wall -Wextra -Wcast-qual -Werror -Iinclude tests/c_kept.c "$folder/libtalmuiga.a")
-        "${compiler_words[@]}" -O2 -pthread -o "$folder/kept"
-        judge 'C: tests/c_kept.c builds' 0 $?
-        "${compiler_words[@]}" -O1 -g -fsanitize=address,undefined -pthread -o "$folder/kept_sanitized"
-        judge 'C: tests/c_kept.c builds with sanitizers' 0 $?
+        judge 'C: tests/c_kept.c builds' "${compiler_words[@]}" -O2 -pthread -o "$folder/kept"
+        judge 'C: tests/c_kept.c builds with sanitizers' \
+            "${compiler_words[@]}" -O1 -g -fsanitize=address,undefined -pthread -o "$folder/kept_sanitized"
         kept en - plain
         kept en - short
         kept bn - plain always
@@ -250,28 +244,23 @@ if is_there "${compiler[0]}"; then
         skipped "there is no crates/decfmt/out/decfmt: 'rt run' in crates/decfmt builds it"
     fi
     builds rooms tests/c_library.c "$folder/libtalmuiga.a"
-    judge 'C: rooms, refusals and null' 0 "$("$folder/rooms" $sample >&2; echo $?)"
+    judge 'C: rooms, errors and null' "$folder/rooms" "$sample"
     builds parts tests/c_parts.c "$folder/libtalmuiga.a" -O1 -g -fsanitize=address,undefined
-    judge 'C: parts of a number' 0 "$("$folder/parts" $sample >&2; echo $?)"
-    judge 'C: what the shared object exports' '' \
+    judge 'C: parts of a number' "$folder/parts" "$sample"
+    judge 'C: what the shared object exports' same '' \
         "$(nm -D --defined-only "$folder/libtalmuiga.so.0" | awk '{print $3}' | grep -v '^talmuiga_')"
     install_from "$folder" "$folder/prefix"
-    PKG_CONFIG_PATH=$folder/prefix/lib/pkgconfig pkg-config --cflags --libs talmuiga >"$folder/flags"
-    "${compiler[@]}" -std=c11 -O2 examples/c/format_lines.c $(cat "$folder/flags") -o "$folder/installed"
-    judge 'C: as pkg-config says' '1,650' "$(echo 1650 | LD_LIBRARY_PATH=$folder/prefix/lib "$folder/installed" 2>&1)"
+    read -r -a flags < <(PKG_CONFIG_PATH=$folder/prefix/lib/pkgconfig pkg-config --cflags --libs talmuiga)
+    "${compiler[@]}" -std=c11 -O2 examples/c/format_lines.c "${flags[@]}" -o "$folder/installed"
+    judge 'C: as pkg-config says' same '1,650' "$(echo 1650 | LD_LIBRARY_PATH=$folder/prefix/lib "$folder/installed" 2>&1)"
     builds c_refused tests/c_refused.c "$folder/libtalmuiga.a"
     "${compiler[@]}" -O2 -shared -fPIC -o "$folder/refuse.so" tests/refuse_nth.c -ldl
-    judge 'C: a refused allocation at each place' '0 refused' "$(refused)"
-    # README shows what it says
-    {
-        printf '#include "talmuiga.h"\n#include <stdio.h>\nint main(void) {\n{\n'
-        awk '/^```c$/ { shown = 1; next } /^```$/ { if (shown) print "}\n{"; shown = 0 } shown' README.md
-        printf '}\nreturn 0;\n}\n'
-    } >"$folder/readme.c"
+    judge 'C: each allocation finds no memory in turn' same '0 out of memory' "$(out_of_memory)"
+    shown c '#include "talmuiga.h"\n#include <stdio.h>\nint main(void) {' >"$folder/readme.c"
     "${compiler[@]}" -Iinclude "$folder/readme.c" "$folder/libtalmuiga.a" -o "$folder/readme"
-    judge 'C: as README shows' $'1,000,007\n-987,654.321' "$("$folder/readme" 2>&1)"
+    judge 'C: as README.md and docs/LIBRARY.md show' same $'1,000,007\n-987,654.321\n1,000,007\n-987,654.321' "$("$folder/readme" 2>&1)"
     builds header tests/c_header.c
-    judge 'C: what the header hands on' 0 "$("$folder/header" >&2; echo $?)"
+    judge 'C: what the header hands on' "$folder/header"
     reads_header c c99 "${compiler[@]}"
 else
     skipped "there is no C compiler ${compiler[0]}"
@@ -282,20 +271,24 @@ if is_there "${cpp_compiler[0]}"; then
     calls_from_cpp
     "${cpp_compiler[@]}" -std=c++17 -O1 -g -Wall -Wextra -Werror -pedantic -fsanitize=address,undefined -Iinclude \
         tests/cpp_kept.cpp "$folder/libtalmuiga.a" -o "$folder/cpp_kept"
-    judge 'C++: formatters that are kept' 0 "$("$folder/cpp_kept" $sample >&2; echo $?)"
+    shown cpp '#include "talmuiga.hpp"\n#include <fstream>\n#include <iostream>\n#include <sstream>\nint main() {
+        std::stringstream read;\nread << std::ifstream("tables/six_locales.json").rdbuf();\nconst std::string tables = read.str();' \
+        >"$folder/readme.cpp"
+    "${cpp_compiler[@]}" -std=c++17 -Iinclude "$folder/readme.cpp" "$folder/libtalmuiga.a" -o "$folder/readme_cpp"
+    judge 'C++: as README.md and docs/LIBRARY.md show' same $'1.234.567,8\n1.234.567,8' "$("$folder/readme_cpp" 2>&1)"
+    judge 'C++: formatters that are kept' "$folder/cpp_kept" "$sample"
 else
     skipped "there is no C++ compiler ${cpp_compiler[0]}"
 fi
 
 # in_sql WANTED TEXT: what the sqlite3 command answers with the extension.
 in_sql() {
-    judge "SQL: $2" "$1" "$(TALMUIGA_TABLES=$sample sqlite3 -batch -cmd ".load $folder/talmuiga_sqlite" :memory: "$2" 2>&1)"
+    judge "SQL: $2" same "$1" "$(TALMUIGA_TABLES=$sample sqlite3 -batch -cmd ".load $folder/talmuiga_sqlite" :memory: "$2" 2>&1)"
 }
 
 if is_there sqlite3 && [ -e /usr/include/sqlite3ext.h ]; then
-    "${compiler[@]}" -O2 -fPIC -shared -Wall -Wextra -Werror -Iinclude examples/sqlite/talmuiga_sqlite.c \
-        "$folder/libtalmuiga.a" -o "$folder/talmuiga_sqlite.so"
-    judge 'SQL: the extension builds' 0 $?
+    judge 'SQL: the extension builds' "${compiler[@]}" -O2 -fPIC -shared -Wall -Wextra -Werror -Iinclude \
+        examples/sqlite/talmuiga_sqlite.c "$folder/libtalmuiga.a" -o "$folder/talmuiga_sqlite.so"
     in_sql $'1.6K\n\n1.8M\n2.5' "CREATE TABLE sales(price); INSERT INTO sales VALUES(1650),(NULL),('1750000'),(2.5);
         SELECT decfmt(price, 'en', 'short') FROM sales"
     in_sql '১০,০০,০০৭' "SELECT decfmt(1000007, 'bn')"
@@ -309,10 +302,10 @@ fi
 # The Python package, in a wheel that holds the archive.
 said=$(tests/python_wheel.sh "$folder/libtalmuiga.a" 2>&1)
 if [[ $said == skipped:* ]]; then
-    skipped "${said#skipped: python_wheel: }"
+    why=${said#skipped: python_wheel: }
+    skipped "${why%%$'\n'*}"
 else
     printf '%s\n' "$said" | grep '^FAILED'
-    judge 'Python: the wheel and its tests' '0 failed' "$(printf '%s\n' "$said" | tail -n 1 | cut -d ' ' -f 3-)"
+    judge 'Python: the wheel and its tests' same '0 failed' "$(printf '%s\n' "$said" | tail -n 1 | cut -d ' ' -f 3-)"
 fi
-echo "$passed passed, $failed failed"
-[ "$failed" -eq 0 ]
+ended_all

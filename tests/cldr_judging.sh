@@ -1,7 +1,6 @@
-# What tests/cldr_tables.sh judges tables with. It sets `tool`, `program`, `locnum` and `folder`.
-
-# shellcheck source=/dev/null
-source "$(dirname "$0")/judging.sh"
+# How tests/cldr_tables.sh judges tables, on top of tests/judging.sh. It sets `tool`, `program`, `locnum` and `folder`.
+# shellcheck shell=bash
+source "$(dirname "${BASH_SOURCE[0]}")/judging.sh"
 
 # makes NAME WORD..: the tables of these words, with all that is left out, end with status 0, in the files NAME.json and
 # NAME.err.
@@ -23,13 +22,13 @@ has() {
     done
 }
 
-# counts KEY NUMBER: so many entries stand under this key.
+# counts KEY NUMBER: that many entries stand under this key.
 counts() {
     judge "$made: $1 has not $2 entries" [ "$(grep -c '^[{[]' "$folder/$made.$1")" = "$2" ]
 }
 
-# tells LINE..: these lines are told, and no others.
-tells() {
+# reports LINE..: these lines are reported, and no others.
+reports() {
     printf '%s\n' "$@" >"$folder/wanted"
     [ $# -gt 0 ] || : >"$folder/wanted"
     judge "$made: standard error" diff "$folder/wanted" "$folder/$made.err"

@@ -1,4 +1,6 @@
-# Money, percents and units of the small release. tests/cldr_tables.sh goes through it.
+# Money, percents and units of the small release. tests/cldr_tables.sh sources it.
+# shellcheck shell=bash
+: "${folder:?tests/cldr_tables.sh sources this file}"
 
 money_lines=("${digits_lines[@]}"
     'root: currency QQC: cashRounding by 5: amounts are rounded to digits alone'
@@ -11,7 +13,7 @@ named="unitPattern[other]: '#,##,##0.###': its groups aren't those of"
 # CLDR's patterns, with the accounting pattern's brackets, and the signs; separators and groups of its own; a narrow
 # symbol of root beside the locale's own symbol; what stands without a count; the code for what isn't there.
 makes money "$release" qaa root --currencies QQA,QQB,QQC,QQD
-tells "${money_lines[@]}" \
+reports "${money_lines[@]}" \
     "qaa: currencyFormats[latn]/$named '#,##0.00\\xa0¤', which stand" \
     "qaa: currencyFormats[beng]/$named '#,##0.00\\xa0¤', which stand" \
     "qaa: currencies/currency[QQC]/pattern: $own" \
@@ -34,7 +36,8 @@ has currency_compact \
     $'{"locale":"qaa","patterns":[[4,4,{"one":"0 wan\'.\' ¤","other":"0 wans ¤"}]]}' \
     '{"locale":"und","patterns":[[3,3,{"other":"¤0K"}]]}'
 counts currency_compact 2
-judge 'no other keys' [ "$(ls "$folder" | grep -c '^money\.')" = 12 ]
+keys=("$folder"/money.*)
+judge 'no other keys' [ ${#keys[@]} = 12 ]
 # decfmt reads such tables as it reads those without money
 answers 'qaa - plain' '1234\n-1234567.5\n' '1234\n−12.34.567,5\n'
 answers 'qaa - short' '99999\n' '10W.\n'
@@ -47,7 +50,7 @@ counts currencies 1
 # Percents: a sign behind the number, brackets without a sign; a system with signs of its own, and one without; groups
 # that aren't those of numbers.
 makes percents "$release" qaa qab --percents
-tells "${digits_lines[@]}" "qaa: percentFormats[latn]/$percents: '%#,##0;(%#,##0-)': $groups" \
+reports "${digits_lines[@]}" "qaa: percentFormats[latn]/$percents: '%#,##0;(%#,##0-)': $groups" \
     "qaa: percentFormats[beng]/$percents: '%#,##0;(%#,##0-)': $groups"
 counts percents 3
 has percents \
@@ -57,7 +60,7 @@ has percents \
 
 # Units: three widths with root's aliases between them, no other cases, a pattern without a number, one with two.
 makes units "$release" qaa --units kilometer,day
-tells "${digits_lines[@]}" \
+reports "${digits_lines[@]}" \
     "qaa: unitLength[narrow]/unit[duration-day]/unitPattern[other]: '{0}d{0}': more than one place"
 has units \
     '{"locale":"qaa","width":"long","unit":"kilometer","patterns":{"one":"{0} kilo","other":"{0} kilos"}}' \
@@ -107,7 +110,7 @@ odd qbg '¤#,##0%'
 odd qbh '#,##0¤' '#,##0¤' '#,##0%' "$(printf '%0256d' 0)"
 odd qbi '¤0'
 makes odd "$folder/odd" qba qbb qbc qbd qbe qbf qbg qbh qbi --currencies QQA --percents
-tells "${digits_lines[@]}" \
+reports "${digits_lines[@]}" \
     "qba: currencyFormats[latn]/currencyFormatLength/currencyFormat[accounting]/pattern: '¤#,##,##0;(¤#,##0)': its groups aren't those of \"#,##0 'E''1' ¤-\", which stand" \
     "qba: percentFormats[latn]/$percents: \"0%-'%'\": its groups aren't those of '#,##0.###', which stand" \
     'qbb: currencyFormats[latn]: the special character E within a pattern' \
@@ -145,7 +148,7 @@ cat >"$folder/odd/main/qbj.xml" <<END
 END
 makes compact_money "$folder/odd" qbj --currencies QQA
 short='qbj: currencyFormats[latn]/short'
-tells "${digits_lines[@]}" \
+reports "${digits_lines[@]}" \
     "$short/100000: its exponent is below that of the type before it" \
     "$short/1000000-other: '¤¤0M': ¤ stands 2 times in a subpattern of '¤¤0M', not once" \
     "$short/10000000-other: '00M': ¤ stands 0 times in a subpattern of '00M', not once"
@@ -175,7 +178,7 @@ cat >"$folder/odd/main/qbk.xml" <<END
 END
 makes exponents "$folder/odd" qbk --currencies QQA
 short='qbk: currencyFormats[latn]/short'
-tells "${digits_lines[@]}" \
+reports "${digits_lines[@]}" \
     "$short/10000-other: \"00 E'x' ¤\": the special character E within a pattern" \
     "$short/100000-other: '000E ¤': the number 000E isn't zeros alone"
 has currency_compact $'{"locale":"qbk","patterns":[[3,3,{"other":"0 \'E\' ¤"}]]}'
@@ -203,7 +206,7 @@ cat >"$folder/odd/main/qbl.xml" <<END
 END
 makes repeats "$folder/odd" qbl --currencies QQA
 long='qbl: decimalFormats[latn]/long'
-tells "${digits_lines[@]}" \
+reports "${digits_lines[@]}" \
     "$long/10000: the patterns of the type 100000, with another exponent" \
     "$long/1000: the patterns of the type 100000, with another exponent" \
     "qbl: currencyFormats[latn]/short/100000: the patterns of the type 1000000, with another exponent"
@@ -236,10 +239,8 @@ names_of() {
 </numbers></ldml>
 END
 }
-for file in root; do
-    sed -e '/<currencyFormats numberSystem="arab">/,/<\/currencyFormats>/d' -e '/<percentFormats numberSystem="arab">/,/<\/percentFormats>/d' \
-        "$release/common/main/$file.xml" >"$folder/odd/main/$file.xml"
-done
+sed -e '/<currencyFormats numberSystem="arab">/,/<\/currencyFormats>/d' -e '/<percentFormats numberSystem="arab">/,/<\/percentFormats>/d' \
+    "$release/common/main/root.xml" >"$folder/odd/main/root.xml"
 names_of qbm '{1}: {0}'
 names_of qbn '{0}'
 names_of qbo '{0} {1}' ''
@@ -272,7 +273,7 @@ pays 'QQA\u00a0٢\n' -l qbn --currency QQA --fraction 0 2
 timeout 20 "$locnum" -t "$folder/names_of.json" -l qbn --currency QQA --width name 2 >"$folder/out" 2>"$folder/err"
 judge 'names that are left out have no data' [ $? = 1 ]
 
-# Drafts are told of what tables have: of a currency that isn't asked for nothing.
+# Drafts are reported of what tables have: nothing of a currency that isn't asked for.
 cat >"$folder/odd/main/qbr.xml" <<END
 <ldml><numbers><currencies>
     <currency type="QQA"><symbol draft="provisional">X</symbol></currency>
@@ -280,7 +281,7 @@ cat >"$folder/odd/main/qbr.xml" <<END
 </currencies></numbers></ldml>
 END
 makes drafts "$folder/odd" qbr --currencies QQB
-tells "${digits_lines[@]}" \
+reports "${digits_lines[@]}" \
     'qbr: currencies/currency[QQB]/symbol: a draft, unconfirmed: what is inherited stands'
 has currency_symbols '{"locale":"qbr","symbols":[["QQB","B$","$",{"other":"QQB"}]]}'
 
@@ -301,15 +302,15 @@ pays '٪\u061c٥٠\n' -l qaa --system arab --percent 0.5
 makes all_systems "$release" qaa qab --systems all --currencies QQA --percents
 judge 'all systems' cmp "$folder/all_systems.json" "$folder/systems.json"
 makes usual_systems "$release" qaa qab --currencies QQA --percents
-judge 'systems by word alone' [ "$(grep -c '"locale":"qaa","system":"arab"' "$folder/usual_systems.json")" = 0 ]
+judge 'systems by the option alone' [ "$(grep -c '"locale":"qaa","system":"arab"' "$folder/usual_systems.json")" = 0 ]
 
-# Nothing of it without its words.
+# Nothing of it without its options.
 makes none "$release" --names none --currencies none --units none
 judge 'none is the default' cmp "$folder/none.json" "$folder/modern.json"
 
 # The JSON packages.
 makes json_money "$release/json" qaa --currencies QQA,QQB --percents --units all
-tells "qaa: currencyFormats[latn]/$named '#,##0.00 ¤', which stand" "qaa: percentFormats[latn]/$percents: '#,##0 %': $groups"
+reports "qaa: currencyFormats[latn]/$named '#,##0.00 ¤', which stand" "qaa: percentFormats[latn]/$percents: '#,##0 %': $groups"
 has currencies \
     '{"locale":"qaa","standard":"#,##0.00 ¤","accounting":"#,##0.00 ¤;(#,##0.00 ¤)","minus":"−","plus":"+","names":{"one":"{1} {0}","other":"{0} {1}"}}' \
     '{"locale":"qaa","system":"arab","standard":"¤ #,##0.00","accounting":"¤ #,##0.00","minus":"-","plus":"+"}'
@@ -325,7 +326,7 @@ has units '{"locale":"qaa","width":"long","unit":"kilometer","patterns":{"one":"
     '{"locale":"qaa","width":"narrow","unit":"kilometer","patterns":{"other":"{0}km"}}'
 counts units 3
 
-# Words.
+# Arguments.
 ends 2 "$release" --currencies eur
 ends 2 "$release" --currencies EUR,
 ends 2 "$release" --currencies

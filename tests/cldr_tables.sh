@@ -1,7 +1,9 @@
 #!/bin/bash
-# Makes tables of a small release, written for the purpose, and compares their entries, what is told on standard error,
+# Makes tables of a small release, written for the purpose, and compares their entries, what is reported on standard error,
 # what names mean, statuses, and what decfmt and locnum write with them.
 # usage: tests/cldr_tables.sh [DECFMT [LOCNUM]]
+source "$(dirname "$0")/usage.sh"
+takes 2 -- "$@"
 program=${1:-$(dirname "$0")/../crates/decfmt/out/decfmt}
 locnum=${2:-$(dirname "$0")/../crates/locnum/out/locnum}
 tool=$(dirname "$0")/../tools/cldr_to_tables.py
@@ -9,7 +11,6 @@ release=$(dirname "$0")/cldr
 folder=$(mktemp -d)
 trap 'rm -rf "$folder"' EXIT
 
-# shellcheck source=/dev/null
 source "$(dirname "$0")/cldr_judging.sh"
 
 digits_lines=(
@@ -20,7 +21,7 @@ draft='qaa_BB: symbols[latn]/group: a draft, unconfirmed: what is inherited stan
 
 # All modern locales: each locale's own, its parents', aliases, quotes and zeros.
 makes modern "$release" --names none
-tells "${digits_lines[@]}" "$draft"
+reports "${digits_lines[@]}" "$draft"
 counts symbols 15
 counts digits 4
 counts rules 7
@@ -78,7 +79,7 @@ answers 'qab arab short' '1000\n2000\n5000\n' '١ x\n٢ y\n٥ z\n'
 
 # Named locales, basic ones too: root as a parent, by name or for a script that isn't likely; a POSIX locale; root.
 makes named "$release" root qaa_Arab qaa-deva-cc qaf-ZZ-posix
-tells "${digits_lines[@]}" \
+reports "${digits_lines[@]}" \
     'qaf_ZZ_POSIX: symbols[latn]: the number #,##@0.### has more than #, 0, a group and a point'
 counts symbols 4
 counts short 4
@@ -97,7 +98,7 @@ judge 'the order of names' cmp "$folder/again.json" "$folder/named.json"
 # zero and of a type but for exactly one; zeros alone; a pattern without a count, which stands behind all that have one;
 # a variant.
 makes bare "$release" qae qae-tarask
-tells "${digits_lines[@]}" \
+reports "${digits_lines[@]}" \
     "qae: decimalFormats[deva]/decimalFormatLength/decimalFormat/pattern: '~#,##0;(~#,##0)': text around a plain number is left out" \
     "qae: decimalFormats[latn]/decimalFormatLength/decimalFormat/pattern: '~#,##0;(~#,##0)': text around a plain number is left out" \
     "qae_TARASK: decimalFormats[deva]/decimalFormatLength/decimalFormat/pattern: '~#,##0;(~#,##0)': text around a plain number is left out" \
@@ -113,8 +114,8 @@ has long '{"locale":"qae","patterns":[[3,3,{"explicit_one":"K","two":"{0} b","ot
 answers 'qae - short' '1000\n2000\n' 'K\n२K\n'
 
 # What can't be expressed.
-makes refused "$release" qac
-tells "${digits_lines[@]}" \
+makes inexpressible "$release" qac
+reports "${digits_lines[@]}" \
     "qac: plural rule one: the condition 'n is 1' isn't in the grammar" \
     "qac: plural rule two: the condition 'n % 0 = 2' isn't in the grammar" \
     'qac: plural rule several: no such category' \
@@ -144,9 +145,9 @@ has long '{"locale":"qac","patterns":[[3,3,{"other":"elfu {0}"}],[21,6,{"other":
 answers 'qac - plain' '1234\n' '1,234\n'
 answers 'qac - long' '5000\n-5000\n' 'elfu 5\n-elfu 5\n'
 
-# Symbols that are too long, a negative subpattern with a currency, aliases in a circle and to another locale.
-makes circle "$release" qad
-tells "${digits_lines[@]}" \
+# Symbols that are too long, a negative subpattern with a currency, aliases in a loop and to another locale.
+makes loop "$release" qad
+reports "${digits_lines[@]}" \
     "qad: default numbering system roman: its digits aren't in tables" \
     "qad: decimalFormats[beng]/decimalFormatLength/decimalFormat/pattern: '#,##0.###;¤#,##0.###': the special character ¤ within a pattern; the sign stands before numbers" \
     'qad: symbols[beng]: its symbols are more than 255 bytes' \
@@ -172,7 +173,7 @@ cat >"$folder/large/main/qag.xml" <<END
 </numbers></ldml>
 END
 makes large "$folder/large" qag
-tells "${digits_lines[@]}" \
+reports "${digits_lines[@]}" \
     "qag: default numbering system six: its digits aren't in tables" \
     'qag: symbols[latn]: a group of more than 255 digits' \
     'qag: decimalFormats[latn]/short: its patterns are more than 65535 bytes' \
@@ -182,7 +183,7 @@ counts rules 1
 counts short 0
 counts long 0
 makes missing "$release/json" qad qae
-tells 'qad: symbols[latn]: no minusSign' 'qae: symbols[latn]: no plain pattern'
+reports 'qad: symbols[latn]: no minusSign' 'qae: symbols[latn]: no plain pattern'
 counts symbols 0
 counts long 2
 
@@ -195,7 +196,7 @@ for form in "$release/common" "$folder/core.zip"; do
     judge "$form: other lines" cmp "$folder/err" "$folder/modern.err"
 done
 makes json "$release/json" --names none
-tells
+reports
 counts symbols 4
 judge 'the version of the packages' grep -qF '"cldr":"0.1.0"' "$folder/json.json"
 has symbols \
@@ -211,7 +212,6 @@ has long \
     '{"locale":"qaa","system":"arab","patterns":[[3,3,{"other":"{0} x"}]]}'
 answers 'qaa arab long' '1000\n' '١ x\n'
 
-# shellcheck source=/dev/null
 source "$(dirname "$0")/cldr_money.sh"
 
 # Names. The release of the folder names: qba in several regions, qbb in two scripts, qbf that is qba by another name.
@@ -373,5 +373,4 @@ ends 2 "$release" --which qaa -o "$folder/out"
 ends 1 "$release" -o "$folder/none/tables.json"
 ends 1 "$release" -o /dev/full
 
-echo "$passed passed, $failed failed"
-[ "$failed" = 0 ]
+ended_all

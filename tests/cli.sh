@@ -1,12 +1,14 @@
 #!/bin/bash
 # Runs the built program on a table of cases: status, standard output and standard error.
 # usage: tests/cli.sh [PROGRAM]
-# The last line is 'N passed, M failed'. A case that can't be made here is told by a line 'skipped: cli: WHY'.
+# The last line is 'N passed, M failed'. A case that can't be made here is reported by a line 'skipped: cli: WHY'.
+source "$(dirname "$0")/usage.sh"
+takes 1 -- "$@"
 program=${1:-$(dirname "$0")/../crates/decfmt/out/decfmt}
 usage='usage: decfmt TABLES LOCALE NU|- plain|short|long [auto|never|always|min2]'
-failed='error: input or output failed'
+io_failed='error: input or output failed'
 memory='error: out of memory'
-refused='error: tables refused'
+rejected='error: tables refused'
 no_data='error: no data'
 sample=$(dirname "$0")/../tables/sample.json
 source "$(dirname "$0")/outcomes.sh"
@@ -17,7 +19,7 @@ same_as() {
     cat >/dev/null
 }
 
-# times NUMBER LINE: so many of this line.
+# times NUMBER LINE: this line that many times.
 times() {
     yes "$2" | head -n "$1"
 }
@@ -43,18 +45,16 @@ while block:
 
 # lines NAME INPUT OUTPUT: status 0 and nothing on standard error.
 lines() {
-    printf '%b' "$2" | timeout 20 "$program" >"$folder/out" 2>"$folder/err"
-    status=$?
-    judge "$1" 0 "$3" ''
+    ran "$program" < <(printf '%b' "$2")
+    judge_run "$1" 0 "$3" ''
 }
 
 # ends NAME STATUS ERROR WORD..: nothing on standard output.
 ends() {
     local name=$1 wanted=$2 error=$3
     shift 3
-    echo 5 | timeout 20 "$program" "$@" >"$folder/out" 2>"$folder/err"
-    status=$?
-    judge "$name" "$wanted" '' "$error"
+    ran "$program" "$@" < <(echo 5)
+    judge_run "$name" "$wanted" '' "$error"
 }
 
 # words NAME WORD..: status 2 and the usage line.
@@ -68,15 +68,14 @@ words() {
 answers() {
     local words
     read -r -a words <<<"$1"
-    printf '%b' "$2" | timeout 20 "$program" "$sample" "${words[@]}" >"$folder/out" 2>"$folder/err"
-    status=$?
-    judge "$1: ${2:0:40}" 0 "$3" ''
+    ran "$program" "$sample" "${words[@]}" < <(printf '%b' "$2")
+    judge_run "$1: ${2:0:40}" 0 "$3" ''
 }
 
-# tables TEXT: a file of this text is refused.
+# tables TEXT: a file of this text is rejected.
 tables() {
     printf '%b' "$1" >"$folder/tables.json"
-    ends "tables ${1:0:60}" 3 "$refused" "$folder/tables.json" en - plain
+    ends "tables ${1:0:60}" 3 "$rejected" "$folder/tables.json" en - plain
 }
 
 lines 'the first lines' '1000007\n-987654.321\n' '1,000,007\n-987,654.321\n'
@@ -111,20 +110,19 @@ words 'words that are no text and no file' "$folder/none" $'\xff' - plain
 words 'a path that is no text' $'\xff' en - plain
 
 # The tables' file.
-ends 'a missing file' 1 "$failed" "$folder/none" en - plain
-ends 'an empty path' 1 "$failed" '' en - plain
-ends 'a folder for tables' 1 "$failed" "$folder" en - plain
+ends 'a missing file' 1 "$io_failed" "$folder/none" en - plain
+ends 'an empty path' 1 "$io_failed" '' en - plain
+ends 'a folder for tables' 1 "$io_failed" "$folder" en - plain
 cp "$sample" "$folder/closed.json"
 chmod 000 "$folder/closed.json"
 # root reads each file, but for one that gave up the right to.
 unprivileged=()
-[ "$(id -u)" != 0 ] || unprivileged=(setpriv --bounding-set -dac_override,-dac_read_search)
+[ "$(id -u)" != 0 ] || unprivileged=(setpriv --bounding-set '-dac_override,-dac_read_search')
 if "${unprivileged[@]}" cat "$sample" >/dev/null 2>&1 && ! "${unprivileged[@]}" cat "$folder/closed.json" >/dev/null 2>&1; then
-    echo 5 | "${unprivileged[@]}" timeout 20 "$program" "$folder/closed.json" en - plain >"$folder/out" 2>"$folder/err"
-    status=$?
-    judge 'an unreadable file' 1 '' "$failed"
+    ran "${unprivileged[@]}" "$program" "$folder/closed.json" en - plain < <(echo 5)
+    judge_run 'an unreadable file' 1 '' "$io_failed"
 else
-    echo 'skipped: cli: no file is unreadable here'
+    skipped 'no file is unreadable here'
 fi
 
 tables ''
@@ -149,10 +147,10 @@ tables '{"symbols":[],"digits":[],"short":[{"locale":"en","patterns":[[3,3,{"oth
 # 50 MB of tables whose last entry is a number; and where 200 MB of memory are allowed.
 entry='{"locale":"a","minus":["",""],"plus":["",""],"decimal":".","group":",","numsys":"latn","sizes":[3,3,1]},'
 { printf '{"symbols":['; yes "$entry" | head -n 500000 | tr -d '\n'; printf '7],"digits":[]}'; } >"$folder/large.json"
-ends 'large tables' 3 "$refused" "$folder/large.json" en - plain
+ends 'large tables' 3 "$rejected" "$folder/large.json" en - plain
 echo 5 | (ulimit -v 200000; exec timeout 20 "$program" "$folder/large.json" en - plain) >"$folder/out" 2>"$folder/err"
 status=$?
-judge 'large tables in little memory' 1 '' "$memory"
+judge_run 'large tables in little memory' 1 '' "$memory"
 rm "$folder/large.json"
 
 printf '{"symbols":[],"digits":[]}' >"$folder/tables.json"
@@ -205,75 +203,73 @@ answers 'ja - long' '35357670\n' '3536万\n'
 # Many lines, more than a pipe or a block holds.
 times 200000 1234567 | timeout 20 "$program" 2>"$folder/err" | same_as times 200000 1,234,567 >"$folder/out"
 status=${PIPESTATUS[1]}
-judge 'many lines' 0 'the same\n' ''
+judge_run 'many lines' 0 'the same\n' ''
 
 # A slow reader: the program waits at a full pipe and loses nothing.
 times 50000 1234567 | ended | slow_reader | same_as times 50000 1,234,567 >"$folder/out"
 status=$(cat "$folder/status")
-judge 'a full pipe' 0 'the same\n' ''
+judge_run 'a full pipe' 0 'the same\n' ''
 
 # A reader of one byte at a time.
 times 20000 1234567 | ended | dd bs=1 status=none | same_as times 20000 1,234,567 >"$folder/out"
 status=$(cat "$folder/status")
-judge 'a reader of single bytes' 0 'the same\n' ''
+judge_run 'a reader of single bytes' 0 'the same\n' ''
 
 # A reader that goes away after the first line.
 times 500000 1234567 | ended | head -n 1 >"$folder/out"
 status=$(cat "$folder/status")
-judge 'a closed reader' 1 '1,234,567\n' "$failed"
+judge_run 'a closed reader' 1 '1,234,567\n' "$io_failed"
 
 echo 5 | timeout 20 "$program" >&- 2>"$folder/err"
 status=$?
 : >"$folder/out"
-judge 'a closed standard output' 1 '' "$failed"
+judge_run 'a closed standard output' 1 '' "$io_failed"
 
 timeout 20 "$program" </dev/null >&- 2>"$folder/err"
 status=$?
 : >"$folder/out"
-judge 'a closed standard output and no input' 0 '' ''
+judge_run 'a closed standard output and no input' 0 '' ''
 
-timeout 20 "$program" <&- >"$folder/out" 2>"$folder/err"
-status=$?
-judge 'a closed standard input' 1 '' "$failed"
+ran "$program" <&-
+judge_run 'a closed standard input' 1 '' "$io_failed"
 
-timeout 20 "$program" <"$folder" >"$folder/out" 2>"$folder/err"
-status=$?
-judge 'a folder as standard input' 1 '' "$failed"
+ran "$program" <"$folder"
+judge_run 'a folder as standard input' 1 '' "$io_failed"
 
 if [ ! -c /dev/full ]; then
-    echo 'skipped: cli: there is no full device'
+    skipped 'there is no full device'
 else
     echo 5 | timeout 20 "$program" >/dev/full 2>"$folder/err"
     status=$?
     : >"$folder/out"
-    judge 'a full device' 1 '' "$failed"
+    judge_run 'a full device' 1 '' "$io_failed"
 fi
 
 # The status stands where the message can't be written.
 echo 5 | timeout 20 "$program" plain >"$folder/out" 2>&-
 status=$?
 : >"$folder/err"
-judge 'a closed standard error' 2 '' ''
+judge_run 'a closed standard error' 2 '' ''
 
 # One line of 64 MB, where 40 MB of memory are allowed.
 head -c 64000000 /dev/zero | tr '\0' 1 | (ulimit -v 40000; exec timeout 20 "$program") >"$folder/out" 2>"$folder/err"
 status=$?
-judge 'memory refused' 1 '' "$memory"
+judge_run 'out of memory' 1 '' "$memory"
 
 # Memory stays flat in the number of lines.
 times 2000000 1234567 | (ulimit -v 10000; exec timeout 20 "$program") 2>"$folder/err" | same_as times 2000000 1,234,567 >"$folder/out"
 status=${PIPESTATUS[1]}
-judge 'many lines in little memory' 0 'the same\n' ''
+judge_run 'many lines in little memory' 0 'the same\n' ''
 
 # A reader that goes away before the first line, and one that goes late.
 { sleep 0.3; times 50000 1234567; } | ended | :
 status=$(cat "$folder/status")
 : >"$folder/out"
-judge 'a reader closed before the first line' 1 '' "$failed"
+judge_run 'a reader closed before the first line' 1 '' "$io_failed"
 
 times 300000 1234567 | ended | head -n 150000 | same_as times 150000 1,234,567 >"$folder/out"
 status=$(cat "$folder/status")
-judge 'a reader closed late' 1 'the same\n' "$failed"
+judge_run 'a reader closed late' 1 'the same\n' "$io_failed"
 
 # A terminal as standard input, where a line feed and a sign for the end of file are typed.
 python3 - "$program" >"$folder/out" 2>"$folder/err" <<'END'
@@ -284,18 +280,17 @@ os.write(typed, b"1234567\n-5\n\x04")
 sys.exit(program.wait(timeout=20))
 END
 status=$?
-judge 'a terminal as standard input' 0 '1,234,567\n-5\n' ''
+judge_run 'a terminal as standard input' 0 '1,234,567\n-5\n' ''
 
 # Files that end in the middle of a character.
 lines 'an end in the middle of a character' '5\n\xe2\x80' '5\nerror: not a decimal\n'
 answers 'fr - long' '1000\n1\xe2\x80' 'mille\nerror: not a decimal\n'
 printf '1000007\n1\xe0\xa7' >"$folder/lines"
-timeout 20 "$program" "$sample" bn - plain <"$folder/lines" >"$folder/out" 2>"$folder/err"
-status=$?
-judge 'a file that ends in the middle of a character' 0 '১০,০০,০০৭\nerror: not a decimal\n' ''
+ran "$program" "$sample" bn - plain <"$folder/lines"
+judge_run 'a file that ends in the middle of a character' 0 '১০,০০,০০৭\nerror: not a decimal\n' ''
 cut=$(LC_ALL=C grep -abo $'[\xc0-\xff]' "$sample" | head -n 1 | cut -d : -f 1)
 head -c $((cut + 1)) "$sample" >"$folder/tables.json"
-ends 'tables that end in the middle of a character' 3 "$refused" "$folder/tables.json" en - plain
+ends 'tables that end in the middle of a character' 3 "$rejected" "$folder/tables.json" en - plain
 
 # A gigabyte of lines, the last of which is cut, where 10 MB of address space are allowed.
 fraction=$(seq -s '' 1 50)
@@ -307,45 +302,44 @@ formatted() {
 }
 yes "$long" | head -c "$bytes" | (ulimit -v 10000; exec timeout 120 "$program") 2>"$folder/err" | same_as formatted >"$folder/out"
 status=${PIPESTATUS[2]}
-judge 'a gigabyte in little memory' 0 'the same\n' ''
+judge_run 'a gigabyte in little memory' 0 'the same\n' ''
 
 # The same failures in a compact mode.
 times 50000 1650 | ended "$sample" en - short | slow_reader | same_as times 50000 1.6K >"$folder/out"
 status=$(cat "$folder/status")
-judge 'short: a full pipe' 0 'the same\n' ''
+judge_run 'short: a full pipe' 0 'the same\n' ''
 
 times 500000 1650 | ended "$sample" en - short | head -n 1 >"$folder/out"
 status=$(cat "$folder/status")
-judge 'short: a closed reader' 1 '1.6K\n' "$failed"
+judge_run 'short: a closed reader' 1 '1.6K\n' "$io_failed"
 
 echo 5 | timeout 20 "$program" "$sample" en - short >&- 2>"$folder/err"
 status=$?
 : >"$folder/out"
-judge 'short: a closed standard output' 1 '' "$failed"
+judge_run 'short: a closed standard output' 1 '' "$io_failed"
 
-timeout 20 "$program" "$sample" en - short <&- >"$folder/out" 2>"$folder/err"
-status=$?
-judge 'short: a closed standard input' 1 '' "$failed"
+ran "$program" "$sample" en - short <&-
+judge_run 'short: a closed standard input' 1 '' "$io_failed"
 
 if [ -c /dev/full ]; then
     echo 5 | timeout 20 "$program" "$sample" en - short >/dev/full 2>"$folder/err"
     status=$?
     : >"$folder/out"
-    judge 'short: a full device' 1 '' "$failed"
+    judge_run 'short: a full device' 1 '' "$io_failed"
 fi
 
 head -c 64000000 /dev/zero | tr '\0' 1 | (ulimit -v 40000; exec timeout 20 "$program" "$sample" en - short) >"$folder/out" 2>"$folder/err"
 status=$?
-judge 'short: memory refused' 1 '' "$memory"
+judge_run 'short: out of memory' 1 '' "$memory"
 
 times 500000 1650 | (ulimit -v 40000; exec timeout 60 "$program" "$sample" en - short) 2>"$folder/err" | same_as times 500000 1.6K >"$folder/out"
 status=${PIPESTATUS[1]}
-judge 'short: many lines in little memory' 0 'the same\n' ''
+judge_run 'short: many lines in little memory' 0 'the same\n' ''
 
 # Tables of 64 MB, where 40 MB of memory are allowed.
 { printf '{"symbols":"'; head -c 64000000 /dev/zero | tr '\0' 1; printf '"}'; } >"$folder/tables.json"
 (ulimit -v 40000; exec timeout 20 "$program" "$folder/tables.json" en - plain) </dev/null >"$folder/out" 2>"$folder/err"
 status=$?
-judge 'tables: memory refused' 1 '' "$memory"
+judge_run 'tables: out of memory' 1 '' "$memory"
 
 ended_all

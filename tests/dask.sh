@@ -1,18 +1,18 @@
 #!/bin/bash
 # Formats a column of partitioned CSV files on a cluster of Dask: a scheduler and three workers on the loopback, one of which
 # is killed while it works. The output has to be whole, and equal to that of one process. It installs nothing: where Dask
-# (Debian's python3-dask and python3-distributed) or the Python package's wheel isn't there, it says so. It isn't part of the
-# gate.
+# (Debian's python3-dask and python3-distributed) or the Python package's wheel isn't there, it says so. It isn't part of CI.
 # usage: tests/dask.sh [WHEEL], by default the one in lib/ as tests/python_wheel.sh --build lib makes it
+source "$(dirname "$0")/usage.sh"
+takes 1 -- "$@"
 set -u
 cd "$(dirname "$0")/.." || exit 1
 wheels=(lib/talmuiga-*.whl)
 wheel=${1:-${wheels[0]}}
 python=${PYTHON:-/usr/bin/python3}
-# skip WHY
-skip() { printf 'skipped: dask: %s\n0 passed, 0 failed\n' "$1"; exit 0; }
-"$python" -c 'import dask, distributed' 2>/dev/null || skip "no Dask for $python"
-[ -e "$wheel" ] || skip "no $wheel"
+source tests/judging.sh
+"$python" -c 'import dask, distributed' 2>/dev/null || skipped_all "no Dask for $python"
+[ -e "$wheel" ] || skipped_all "no $wheel"
 folder=$(mktemp -d)
 "$python" -m zipfile -e "$wheel" "$folder/package"
 export PYTHONPATH=$folder/package:$PWD/examples/dask
@@ -23,9 +23,6 @@ finish() {
     rm -rf "$folder"
 }
 trap finish EXIT
-
-# shellcheck source=/dev/null
-source tests/judging.sh
 
 # Sixty files of 20,000 rows, of which a hundredth has no number.
 "$python" - "$folder" <<'PYTHON'
@@ -91,13 +88,12 @@ disown "${began[1]}"
 wait "$run"
 status=$?
 echo "one process: $one ms; three workers, of which one was killed after $done_before files: $(((${EPOCHREALTIME/./} - from) / 1000)) ms"
-judge "the run failed: $(tail -n 3 "$folder/said")" [ "$status" = 0 ]
-judge "the worker was killed after $done_before files, so not while it worked" [ "$done_before" -lt 60 ]
-judge "it said $(tail -n 1 "$folder/said")" [ "$(tail -n 1 "$folder/said")" = '60 files, 1200000 rows' ]
+judge "the run has status $status: $(tail -n 3 "$folder/said")" [ "$status" = 0 ]
+judge "the worker was killed after $done_before files of 60" [ "$done_before" -lt 60 ]
+judge 'the last line of the run' same '60 files, 1200000 rows' "$(tail -n 1 "$folder/said")"
 # what the killed worker left of a file
 rm -f "$folder"/many/.[!.]*
-judge 'the output is another than that of one process' diff -rq "$folder/one" "$folder/many"
-judge 'no number was formatted' grep -Eq '^row [0-9]+,"-?[0-9.]+\.[0-9]{3},[0-9]{2}",' "$folder/many/part-000.csv"
-judge 'what is no number did not stay' [ "$(grep -c ',n/a,' "$folder/many/part-059.csv")" = 200 ]
-echo "$passed passed, $failed failed"
-[ "$failed" -eq 0 ]
+judge 'the output is that of one process' diff -rq "$folder/one" "$folder/many"
+judge 'numbers are formatted' grep -Eq '^row [0-9]+,"-?[0-9.]+\.[0-9]{3},[0-9]{2}",' "$folder/many/part-000.csv"
+judge 'what is no number stays' [ "$(grep -c ',n/a,' "$folder/many/part-059.csv")" = 200 ]
+ended_all

@@ -1,15 +1,15 @@
 #!/usr/bin/env python3
-"""Tries the must-fail edits of crates by what refuses each of them; tests/edits.sh has the usage.
+"""Tries the must-fail mutations of crates by what rejects each of them; tests/edits.sh has the usage.
 
-An edit is a file of lines `file: PATH`, `old: TEXT`, `new: TEXT`, as `rt` reads it, with lines that `rt` passes over:
+A mutation is a file of lines `file: PATH`, `old: TEXT`, `new: TEXT`, as `rt` reads it, with lines that `rt` passes over:
 
     refused: FUNCTION CLAUSE    this goal has to be among those that the prover leaves open. FUNCTION is the path in the
                                 crate, as in `rounding::rounds_up`, and CLAUSE the name of the goal. A goal with a written
                                 answer in proofs/ is no evidence, since an answer that no longer fits fails too.
     shown: CRATE TEST           this test of the crate has to fail on the edited program, unproved (`rt try --test`).
 
-Each edit of the inner circle, must-fail/, has one of the two at least. One of the outer circle, edits/, that has none is
-refused at some goal, as `rt ci` sees those of the inner circle refused. A control, edits/controls/, changes no meaning:
+Each mutation of the inner set, must-fail/, has one of the two at least. One of the outer set, edits/, that has none is
+rejected at some goal, as `rt ci` sees those of the inner set rejected. A control, edits/controls/, changes no meaning:
 it has to be proved, or says by a line `fragile: WHY` that the written answers don't survive it.
 
 What a check said is kept in crates/NAME/out/edits, under the hash of all that it read.
@@ -24,9 +24,12 @@ import shutil
 import subprocess
 import sys
 import tempfile
+from collections.abc import Callable, Iterable, Iterator, Sequence
+from typing import NamedTuple, TypeAlias
 
 import layout
 import named
+import usage
 
 ROOT = os.path.dirname(os.path.dirname(os.path.abspath(__file__)))
 LOCK = os.path.join(ROOT, "edits.lock")
@@ -41,27 +44,53 @@ UNREAD = re.compile(r"(\./)?(src|specs)/\S+:\d+:\d+: error(\[\S+\])?: (?!`)")
 OPEN_GOAL = re.compile(r"note: (?:\./)?src/(\S+)\.rt:\d+:\d+: it is not proved that .*?\(`([^`]+)`\)")
 
 
+# A hash that is being made.
+Hash: TypeAlias = "hashlib._Hash"
+
+
+class Circle(NamedTuple):
+    """The edits of a crate in a folder, and how they are seen."""
+
+    crate: str
+    folder: str
+    seen_by: str
+
+
+class Pair(NamedTuple):
+    """The text that stands once in a file, and the text that takes its place."""
+
+    file: str
+    old: str
+    new: str
+
+
 @dataclasses.dataclass
 class Edit:
+    """What the file of an edit says; `refused` and `shown` have the words of each such line."""
+
     crate: str
     circle: str
     path: str
-    pairs: list = dataclasses.field(default_factory=list)
-    refused: list = dataclasses.field(default_factory=list)
-    shown: list = dataclasses.field(default_factory=list)
+    pairs: list[Pair] = dataclasses.field(default_factory=list)
+    refused: list[tuple[str, ...]] = dataclasses.field(default_factory=list)
+    shown: list[tuple[str, ...]] = dataclasses.field(default_factory=list)
     fragile: str = ""
 
     @property
-    def name(self):
+    def name(self) -> str:
         return os.path.splitext(os.path.basename(self.path))[0]
 
 
-def read(path):
+# Edits, each with the reasons for which it isn't as it has to be.
+Faults: TypeAlias = list[tuple[Edit, list[str]]]
+
+
+def read(path: str) -> str:
     with open(path, encoding="utf-8") as file:
         return file.read()
 
 
-def read_edit(crate, circle, path):
+def read_edit(crate: str, circle: str, path: str) -> Edit:
     """The edit of a file."""
     edit, file, old = Edit(crate, circle, path), "", ""
     for line in read(path).split("\n"):
@@ -72,7 +101,7 @@ def read_edit(crate, circle, path):
         elif key == "old":
             old = text
         elif key == "new":
-            edit.pairs.append((file, old, text))
+            edit.pairs.append(Pair(file, old, text))
         elif key in ("refused", "shown"):
             getattr(edit, key).append(tuple(text.split()))
         elif key == "fragile":
@@ -80,7 +109,7 @@ def read_edit(crate, circle, path):
     return edit
 
 
-def edits_of(crate, *circles):
+def edits_of(crate: str, *circles: str) -> list[Edit]:
     """The edits of some circles of a crate, of all where none is named."""
     found = []
     for circle in circles or (INNER, OUTER, CONTROLS):
@@ -91,9 +120,10 @@ def edits_of(crate, *circles):
 
 # Crates
 
-def read_crates():
+def read_crates() -> tuple[dict[str, list[str]], set[str]]:
     """For each crate the words behind its name in crates.txt, and whether it is a static library."""
-    uses, static = {}, set()
+    uses: dict[str, list[str]] = {}
+    static: set[str] = set()
     for line in read(os.path.join(ROOT, "crates.txt")).splitlines():
         head, colon, tail = line.partition("#")[0].partition(":")
         if colon:
@@ -107,22 +137,22 @@ def read_crates():
 USES, STATIC = read_crates()
 
 
-def below(crate):
+def below(crate: str) -> list[str]:
     """The repository's crates below a crate, each behind those that it uses."""
-    found = []
+    found: list[str] = []
     for name in USES[crate]:
         if name in USES:
             found += [it for it in [*below(name), name] if it not in found]
     return found
 
 
-def said_by(*words):
+def said_by(*words: str) -> str:
     return subprocess.run(words, capture_output=True, text=True, check=True).stdout.strip()
 
 
-def words_of_check(crate, kit):
+def words_of_check(crate: str, kit: str) -> list[str]:
     """How `rt` calls the prover for a crate over the libraries in out/rlib."""
-    def library(name):
+    def library(name: str) -> str:
         return os.path.join(ROOT, "crates", name, "out", "rlib")
 
     source = "src/main.rt" if os.path.exists(os.path.join(ROOT, "crates", crate, "src/main.rt")) else "src/lib.rt"
@@ -141,19 +171,19 @@ def words_of_check(crate, kit):
 
 # Hashes
 
-def files_of(*folders):
+def files_of(*folders: str) -> list[str]:
     """The files below some folders of the repository, in the order of their paths, without the controls."""
     found = [path for folder in folders for path in glob.glob(f"{folder}/**", root_dir=ROOT, recursive=True)]
     return sorted(path for path in found if os.path.isfile(os.path.join(ROOT, path)) and f"/{CONTROLS}/" not in path)
 
 
-def add(into, paths):
+def add(into: Hash, paths: Iterable[str]) -> None:
     """Adds files to a hash, each by its path and what it says."""
     for path in paths:
         into.update(f"{path}\n{layout.spelled(os.path.join(ROOT, path))}\n".encode())
 
 
-def add_contracts(into, crate, *circles):
+def add_contracts(into: Hash, crate: str, *circles: str) -> None:
     """Adds what a crate's proofs are read with: of the crates below it the definitions, and the contracts of what they offer,
     that the crate and the edits of these circles name, with all that these stand on."""
     own = files_of(*[f"crates/{crate}/{part}" for part in (*PARTS, *circles)])
@@ -162,7 +192,7 @@ def add_contracts(into, crate, *circles):
     into.update("".join(f"{text}\n" for text in texts).encode())
 
 
-def hash_of(crate, circle, seen_by, logic):
+def hash_of(crate: str, circle: str, seen_by: str, logic: str) -> str:
     """The hash of all on which it rests that a circle of a crate's edits is seen so. Tests run without proofs."""
     into = hashlib.sha256(f"{logic}\n".encode())
     parts = PARTS if seen_by == BY_PROVER else ("src", "specs")
@@ -178,12 +208,12 @@ def hash_of(crate, circle, seen_by, logic):
 
 # Checks
 
-def has_controls(crate, circle):
+def has_controls(crate: str, circle: str) -> bool:
     """Whether the prover sees a crate's controls with this circle: with the inner one, or with the outer one where there is none."""
     return circle == INNER or not edits_of(crate, INNER)
 
 
-def apply(edit, folder):
+def apply(edit: Edit, folder: str) -> str | None:
     """Changes the files of a crate in a folder, or answers why that can't be."""
     if not edit.pairs:
         return "it has no 'old:' and 'new:' pair"
@@ -197,7 +227,7 @@ def apply(edit, folder):
     return None
 
 
-def once(crate, key, ask):
+def once(crate: str, key: Hash, ask: Callable[[], str]) -> str:
     """What was said under a key, asked for where nothing is kept of it."""
     path = os.path.join(ROOT, "crates", crate, "out", "edits", key.hexdigest())
     if os.path.exists(path):
@@ -209,27 +239,27 @@ def once(crate, key, ask):
     return said
 
 
-def ran(words, folder):
+def ran(words: Sequence[str], folder: str) -> str:
     """What a command says in a folder, with its status as the last line."""
     ended = subprocess.run(words, cwd=folder, stdin=subprocess.DEVNULL, stdout=subprocess.PIPE, stderr=subprocess.STDOUT,
                            encoding="utf-8", errors="replace")
     return f"{ended.stdout.rstrip()}\n{ended.returncode}"
 
 
-def copy_crate(crate, to):
+def copy_crate(crate: str, to: str) -> None:
     for part in PARTS:
         if os.path.isdir(os.path.join(ROOT, "crates", crate, part)):
             shutil.copytree(os.path.join(ROOT, "crates", crate, part), os.path.join(to, part))
 
 
-def add_room(into, room, *parts):
+def add_room(into: Hash, room: str, *parts: str) -> None:
     """Adds the files of a changed copy of a crate to a hash."""
     for path in sorted(path for part in parts for path in glob.glob(f"{part}/**", root_dir=room, recursive=True)):
         if os.path.isfile(os.path.join(room, path)):
             into.update(f"{path}\n{read(os.path.join(room, path))}\n".encode())
 
 
-def check(edit, kit, contracts_below, kept):
+def check(edit: Edit, kit: str, contracts_below: Hash, kept: str) -> str:
     """What the prover says of the edited crate."""
     with tempfile.TemporaryDirectory(prefix="rt-edit-") as room:
         copy_crate(edit.crate, room)
@@ -241,7 +271,7 @@ def check(edit, kit, contracts_below, kept):
         return once(edit.crate, key, lambda: ran([*words_of_check(edit.crate, kit), "--incremental", kept], room))
 
 
-def why_not_refused(said):
+def why_not_refused(said: str) -> str | None:
     """Why what the prover said isn't a refusal at a goal, or nothing."""
     lines = said.split("\n")
     if lines[-1] == "0":
@@ -257,7 +287,7 @@ def why_not_refused(said):
     return None
 
 
-def why_not_by(edit, said, function, clause):
+def why_not_by(edit: Edit, said: str, function: str, clause: str) -> str | None:
     """Why a goal isn't among those that are open, or why that would be no evidence; else nothing."""
     path = function.replace("::", "/")
     proofs = os.path.join(ROOT, "crates", edit.crate, "proofs")
@@ -277,7 +307,7 @@ def why_not_by(edit, said, function, clause):
 
 # Tests
 
-def failed_tests(edit, tests):
+def failed_tests(edit: Edit, tests: str) -> tuple[set[str], str | None]:
     """The tests of a crate that fail on the edited program, unproved, or what kept them from running."""
     with tempfile.TemporaryDirectory(prefix="rt-edit-") as room:
         for file in ("crates.txt", "HANDLES"):
@@ -296,7 +326,7 @@ def failed_tests(edit, tests):
     return failed, None if is_run else f"the tests didn't run: {said[:200]}"
 
 
-def why_not_shown(edit, tests, test):
+def why_not_shown(edit: Edit, tests: str, test: str) -> str | None:
     failed, why = failed_tests(edit, tests)
     if why or test in failed:
         return why
@@ -305,7 +335,7 @@ def why_not_shown(edit, tests, test):
 
 # Verdicts
 
-def faults_by_prover(edit, said):
+def faults_by_prover(edit: Edit, said: str) -> list[str]:
     """Why an edit isn't what its circle asks for, by what the prover said of it."""
     if said.startswith("unread: "):
         return [said]
@@ -321,13 +351,13 @@ def faults_by_prover(edit, said):
     return [why for why in found if why]
 
 
-def faults_by_tests(edit):
+def faults_by_tests(edit: Edit) -> list[str]:
     """Why an edit isn't what its circle asks for, by the tests that it names."""
     found = [why_not_shown(edit, *words) if len(words) == 2 else f"shown: {words}" for words in edit.shown]
     return [why for why in found if why]
 
 
-def try_circle(crate, circle, seen_by, kit, logic):
+def try_circle(crate: str, circle: str, seen_by: str, kit: str, logic: str) -> Faults:
     """The faults of each edit of a circle, in the order of the edits, and of the controls that are seen with it."""
     if seen_by == BY_TESTS:
         return [(edit, faults_by_tests(edit)) for edit in edits_of(crate, circle) if edit.shown]
@@ -341,54 +371,56 @@ def try_circle(crate, circle, seen_by, kit, logic):
         return [(edit, faults_by_prover(edit, check(edit, kit, contracts_below, kept))) for edit in tried]
 
 
-def read_lock():
+def read_lock() -> dict[str, str]:
     """The hashes of edits.lock, by the path of a circle's folder and how it was seen."""
     lines = read(LOCK).splitlines() if os.path.exists(LOCK) else []
     return dict(line.split() for line in lines)
 
 
-def write_lock(lines):
+def write_lock(lines: dict[str, str]) -> None:
     """Writes the hash of each circle."""
     with open(LOCK, "w", encoding="utf-8") as file:
         file.writelines(f"{it} {lines[it]}\n" for it in sorted(lines))
 
 
-def path_of(crate, circle, seen_by):
+def path_of(crate: str, circle: str, seen_by: str) -> str:
     """What edits.lock calls a circle, and how it is seen."""
     return f"{crate}/{circle}{seen_by}"
 
 
-def circles_of_all():
+def circles_of_all() -> list[Circle]:
     """Each circle that has edits, and each way in which some of them are seen."""
-    return [(crate, circle, seen_by) for crate in USES for circle in (INNER, OUTER) for seen_by in (BY_PROVER, BY_TESTS)
+    return [Circle(crate, circle, seen_by) for crate in USES for circle in (INNER, OUTER) for seen_by in (BY_PROVER, BY_TESTS)
             if any(seen_by == BY_PROVER or edit.shown for edit in edits_of(crate, circle))]
 
 
-def try_all(circles, kit, logic):
+def try_all(circles: Sequence[Circle], kit: str, logic: str) -> Iterator[tuple[Circle, int, int]]:
     """Tries circles side by side, tells what is wrong, and yields for each how many of its edits are right and wrong."""
+    def tried(circle: Circle) -> Faults:
+        return try_circle(*circle, kit, logic)
+
     lanes = int(os.environ.get("EDITS_JOBS", len(os.sched_getaffinity(0))))
     with concurrent.futures.ThreadPoolExecutor(lanes) as pool:
-        results = pool.map(lambda it: try_circle(*it, kit, logic), circles)
-        for circle, tried in zip(circles, results):
-            for edit, faults in tried:
+        for circle, results in zip(circles, pool.map(tried, circles)):
+            for edit, faults in results:
                 for why in faults:
                     print(f"edits: {os.path.relpath(edit.path, ROOT)}: {why}")
-            right = sum(not faults for _, faults in tried)
-            print(f"edits: {path_of(*circle)}: {right} of {len(tried)} are as they have to be", flush=True)
-            yield circle, right, len(tried) - right
+            right = sum(not faults for _, faults in results)
+            print(f"edits: {path_of(*circle)}: {right} of {len(results)} are as they have to be", flush=True)
+            yield circle, right, len(results) - right
 
 
-def main(words):
+def main(words: Sequence[str]) -> int:
     is_gate = "--gate" in words
     asked = [word for word in words if word != "--gate"]
     if any(word.startswith("-") for word in asked) or (is_gate and asked):
         print("usage: tests/edits.sh [--gate | CRATE .. | CRATE/must-fail[/shown] .. | CRATE/edits[/shown] ..]", file=sys.stderr)
         return 2
-    logic = re.search(r"logic .*", said_by("rt", "version"))[0]
+    logic = re.findall(r"logic .*", said_by("rt", "version"))[0]
     locked = read_lock()
     hashes = {it: hash_of(*it, logic) for it in circles_of_all()}
     paths = {path_of(*it): it for it in hashes}
-    names = {it: (it[0], "/".join(it[:2]), path_of(*it)) for it in hashes}
+    names = {it: (it.crate, f"{it.crate}/{it.folder}", path_of(*it)) for it in hashes}
     current = [paths[path] for path in paths if locked.get(path) == hashes[paths[path]]]
     passed, failed = 0 if asked else len(current), 0
     for word in [word for word in asked if not any(word in told for told in names.values())]:
@@ -398,7 +430,7 @@ def main(words):
         print(f"edits: {path}: its line of edits.lock is of another state: run tests/edits.sh, and commit edits.lock")
         failed += 1
     tried = [it for it in hashes if (any(name in asked for name in names[it]) if asked else it not in current)]
-    tried.sort(key=lambda it: -len(edits_of(*it[:2])))
+    tried.sort(key=lambda it: -len(edits_of(it.crate, it.folder)))
     if not is_gate:
         write_lock({path: locked[path] for path in paths if paths[path] in current})
     for circle, right, wrong in try_all(tried, os.path.dirname(said_by("rt", "doc")), logic):
@@ -412,4 +444,4 @@ def main(words):
 
 if __name__ == "__main__":
     os.chdir(ROOT)
-    sys.exit(main(sys.argv[1:]))
+    sys.exit(main(usage.words_of(__doc__, 0, 1000, ["--gate"])))

@@ -1,6 +1,6 @@
 #!/usr/bin/env python3
-"""Runs the gate and prints, after its own output, a table of what each crate cost: functions proved, tests, edits, and
-the processor minutes of each. Counts are read from the gate's output, minutes from the prover's processes on the processors
+"""Runs CI and prints, after its own output, a table of what each crate cost: functions proved, tests, mutations, and
+the processor minutes of each. Counts are read from CI's output, minutes from the prover's processes on the processors
 that this script is bound to, so that taskset tells a run from others beside it. Below it stand
 the minutes from begin to end, the longest chain of tasks that wait for one another, what the same tasks take on four
 processors that do nothing else, and how much of this machine's processors its host gave to others meanwhile.
@@ -14,12 +14,21 @@ import subprocess
 import sys
 import threading
 import time
+from collections.abc import Iterable
+from typing import TypeAlias
+
+import usage
 
 TASKS = ("proof", "tests", "edits")
 TICKS = os.sysconf("SC_CLK_TCK")
+# The name of a crate and that of a task; a task with the number of the edit, if it is one of a crate's edits.
+CrateTask: TypeAlias = tuple[str, str]
+Task: TypeAlias = CrateTask | tuple[str, str, int]
+# Counts by crates and then by tasks.
+Counts: TypeAlias = dict[str, dict[str, int]]
 
 
-def task_of(pid):
+def task_of(pid: str) -> CrateTask | None:
     """The crate and the task that a process works for, if it is the prover, on the processors of this script."""
     with open(f"/proc/{pid}/cmdline", "rb") as file:
         words = file.read().decode(errors="replace").split("\0")
@@ -33,14 +42,14 @@ def task_of(pid):
     return crate, "tests" if "--test" in words else "proof"
 
 
-def seconds_of(pid):
+def seconds_of(pid: str) -> float:
     """The processor time of a process so far."""
     with open(f"/proc/{pid}/stat") as file:
         fields = file.read().rsplit(")", 1)[1].split()
     return (int(fields[11]) + int(fields[12])) / TICKS
 
 
-def sample(spent):
+def sample(spent: dict[tuple[CrateTask, str], float]) -> None:
     """Notes the processor time of every process of the prover."""
     for pid in filter(str.isdigit, os.listdir("/proc")):
         try:
@@ -51,9 +60,11 @@ def sample(spent):
             pass
 
 
-def counts_of(lines):
+def counts_of(lines: Iterable[str]) -> Counts:
     """The numbers of functions, tests and edits of each crate, from the gate's output."""
-    counts, crate, is_tests = {}, None, False
+    counts: Counts = {}
+    crate: str | None = None
+    is_tests = False
     for line in lines:
         begun = re.match(r"== (\w+)(: its tests)?$", line)
         proved = re.match(r"logic=proved (?:tests=(\d+) )?functions=(\d+)", line)
@@ -69,16 +80,16 @@ def counts_of(lines):
     return counts
 
 
-def waits_of(counts):
+def waits_of(counts: Counts) -> dict[Task, list[Task]]:
     """The tasks that each task waits for: a proof and tests for the proofs of the crates below, each edit for both."""
     below = {}
     with open("crates.txt") as file:
         for line in file:
             name, _, words = line.split("#")[0].partition(":")
             below[name.split(" ")[0].strip()] = words.split()
-    waits = {}
+    waits: dict[Task, list[Task]] = {}
     for crate, count in counts.items():
-        proofs = [(it, "proof") for it in below.get(crate, []) if it in counts]
+        proofs: list[Task] = [(it, "proof") for it in below.get(crate, []) if it in counts]
         waits[crate, "proof"] = proofs
         waits[crate, "tests"] = proofs
         for number in range(count["edits"]):
@@ -86,35 +97,39 @@ def waits_of(counts):
     return waits
 
 
-def shares_of(waits, minutes, counts):
+def shares_of(waits: Iterable[Task], minutes: dict[CrateTask, float], counts: Counts) -> dict[Task, float]:
     """The minutes of each task, an edit's as its share of what those of its crate took."""
-    return {it: minutes.get(it[:2], 0) / (counts[it[0]]["edits"] if it[1] == "edits" else 1) for it in waits}
+    return {it: minutes.get((it[0], it[1]), 0) / (counts[it[0]]["edits"] if it[1] == "edits" else 1) for it in waits}
 
 
-def chain_of(waits, minutes):
+def chain_of(waits: dict[Task, list[Task]], minutes: dict[Task, float]) -> tuple[float, list[Task]]:
     """The longest chain of tasks that wait for one another, and its minutes."""
-    longest = {}
+    none: tuple[float, list[Task]] = (0, [])
+    longest: dict[Task, tuple[float, list[Task]]] = {}
 
-    def chain(task):
+    def chain(task: Task) -> tuple[float, list[Task]]:
         if task not in longest:
-            before = max((chain(it) for it in waits[task]), default=(0, []))
+            before = max((chain(it) for it in waits[task]), default=none)
             longest[task] = (before[0] + minutes[task], before[1] + [task])
         return longest[task]
 
-    return max((chain(it) for it in waits), default=(0, []))
+    return max((chain(it) for it in waits), default=none)
 
 
-def scheduled(waits, minutes, processors=4):
+def scheduled(waits: dict[Task, list[Task]], minutes: dict[Task, float], processors: int = 4) -> float:
     """The minutes that the tasks take with one task a processor, those with the longest chain behind them first."""
-    behind = {}
+    behind: dict[Task, float] = {}
 
-    def weight(task):
+    def weight(task: Task) -> float:
         if task not in behind:
             after = (weight(it) for it, before in waits.items() if task in before)
             behind[task] = minutes[task] + max(after, default=0)
         return behind[task]
 
-    left, running, done, now = sorted(waits, key=weight, reverse=True), [], set(), 0
+    left = sorted(waits, key=weight, reverse=True)
+    running: list[tuple[float, Task]] = []
+    done: set[Task] = set()
+    now = 0.0
     while left or running:
         ready = [it for it in left if done.issuperset(waits[it])]
         for task in ready[: processors - len(running)]:
@@ -125,34 +140,38 @@ def scheduled(waits, minutes, processors=4):
     return now
 
 
-def host():
+def host() -> tuple[float, float]:
     """The minutes that this machine's processors have worked so far, and those that its host gave to others instead."""
     with open("/proc/stat") as file:
         ticks = [int(it) for it in file.readline().split()[1:9]]
     return sum(ticks[:3] + ticks[5:7]) / TICKS / 60, ticks[7] / TICKS / 60
 
 
-def main():
+def main() -> int:
+    if sys.argv[1:] and sys.argv[1].startswith("-"):
+        usage.words_of(__doc__, 0, 0)
     command = sys.argv[1:] or [".ci/run"]
-    began, spent, lines, before = time.time(), {}, [], host()
+    began, before = time.time(), host()
+    spent: dict[tuple[CrateTask, str], float] = {}
+    lines: list[str] = []
     gate = subprocess.Popen(command, stdout=subprocess.PIPE, stderr=subprocess.STDOUT, text=True, errors="replace")
 
-    def watch():
+    def watch() -> None:
         while gate.poll() is None:
             sample(spent)
             time.sleep(1)
 
     threading.Thread(target=watch, daemon=True).start()
-    for line in gate.stdout:
+    for line in gate.stdout or ():
         print(line, end="", flush=True)
         lines.append(line.rstrip("\n"))
     status = gate.wait()
-    minutes = {}
+    minutes: dict[CrateTask, float] = {}
     for (task, _), seconds in spent.items():
         minutes[task] = minutes.get(task, 0) + seconds / 60
     print("\n| crate | functions | minutes | tests | minutes | edits | minutes |")
     print("|---|---|---|---|---|---|---|")
-    sums, counts = [0] * 6, counts_of(lines)
+    sums, counts = [0.0] * 6, counts_of(lines)
     for crate, count in counts.items():
         row = [cell for task in TASKS for cell in (count[task], minutes.get((crate, task), 0))]
         sums = [a + b for a, b in zip(sums, row)]

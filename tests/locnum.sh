@@ -2,34 +2,35 @@
 # Runs the built program locnum on a table of cases: status, standard output and standard error.
 # usage: tests/locnum.sh [PROGRAM]
 # The last line is 'N passed, M failed'.
-program=${1:-$(dirname "$0")/../crates/locnum/out/locnum}
+
+# shellcheck disable=SC2016 # amounts have a dollar sign
+source "$(dirname "$0")/usage.sh"
+takes 1 -- "$@"
+program=$(realpath "${1:-$(dirname "$0")/../crates/locnum/out/locnum}")
 source "$(dirname "$0")/outcomes.sh"
 
 # writes OUTPUT WORD..: status 0, nothing on standard error.
 writes() {
     local wanted=$1
     shift
-    timeout 20 "$program" "$@" >"$folder/out" 2>"$folder/err" </dev/null
-    status=$?
-    judge "$*" 0 "$wanted" ''
+    ran "$program" "$@" </dev/null
+    judge_run "$*" 0 "$wanted" ''
 }
 
 # lines STATUS INPUT OUTPUT ERROR WORD..
 lines() {
     local wanted=$1 input=$2 output=$3 error=$4
     shift 4
-    printf '%b' "$input" | timeout 20 "$program" "$@" >"$folder/out" 2>"$folder/err"
-    status=$?
-    judge "$*: ${input:0:40}" "$wanted" "$output" "$error"
+    ran "$program" "$@" < <(printf '%b' "$input")
+    judge_run "$*: ${input:0:40}" "$wanted" "$output" "$error"
 }
 
-# refuses ERROR WORD..: status 1, nothing on standard output.
-refuses() {
+# rejects ERROR WORD..: status 1, nothing on standard output.
+rejects() {
     local error=$1
     shift
-    echo 5 | timeout 20 "$program" "$@" >"$folder/out" 2>"$folder/err"
-    status=$?
-    judge "$*" 1 '' "$error"
+    ran "$program" "$@" < <(echo 5)
+    judge_run "$*" 1 '' "$error"
 }
 
 writes '1,234.5\n-987,654\n' 1234.5 -987654
@@ -50,12 +51,12 @@ writes '$1.5M\n-$1.2K\n$0.5\n' --currency USD --style short 1500000 -1234 0.5
 writes '\xe2\x82\xac12B\n' --style short --width short --fraction 2 --currency EUR 12345678901
 writes '+$1T\n' --currency USD --style short --sign always 999999999999
 writes '$1234T\n' --currency USD --style short 1234000000000000
-writes '$1,234T\n' --currency USD --style short --grouping auto 1234000000000000
+writes '$1,234T\n' --currency USD --style short --grouping=auto 1234000000000000
 lines 0 'rent 1250\nfood 431.5\n' 'rent  $1.2K\nfood   $432\n' '' --field 2 --currency USD --style short --padding 6
 lines 0 'a,1234567890123456789\n' 'a,"$1,234,568T"\n' '' --csv --field 2 --currency USD --style short
 writes '$1,500,000.00\n' --currency USD --style plain 1500000
 writes '1,500,000.00 US dollars\n' --currency USD --style plain --width name 1500000
-writes '1234567\n' --grouping never 1234567
+writes '1234567\n' --grouping=never 1234567
 writes '+1.20\n' --sign always --fraction 2 1.2
 writes '1.2\n1.25\n' --fraction 1..2 1.2 1.25
 lines 0 'rent 1250\nfood 431.5\n' 'rent $1,250.00\nfood $431.50\n' '' --field 2 --currency USD
@@ -67,8 +68,8 @@ lines 0 'a,1234\n' 'a,"1,234"\n' '' --csv --field 2
 lines 0 '"a, b\n""c""",1250\r\nd,7\r\n' '"a, b\n""c""","$1,250.00"\r\nd,$7.00\r\n' '' --csv --field 2 --currency USD
 lines 0 'a;"x;y";1234\n' 'a;"x;y";1,234\n' '' --csv -d ';' --field 3
 lines 0 '"a\nb",c\nd,5\n' '"a\nb",c\nd,5\n' '' --csv --header --field 2
-lines 2 '5\n"x"\n' '5\n' 'locnum: x: not a decimal' --csv
-lines 2 '5\n"x",y\n' '5\n"x",y\n' 'locnum: x: not a decimal' --csv --invalid fail
+lines 2 '5\n"x"\n' '5\n' 'locnum: line 2, field 1: x: not a decimal' --csv
+lines 2 '5\n"x",y\n' '5\n"x",y\n' 'locnum: line 2, field 1: x: not a decimal' --csv --invalid fail
 lines 1 '5\n6,"x\n7\n' '5\n6,' 'locnum: line 2: a quote without an end' --csv
 lines 1 'x\n6,"' 'x\n6,' 'locnum: line 2: a quote without an end' --csv --invalid ignore
 writes '"1,234"\n7,a\n' --csv 1234 7,a
@@ -79,74 +80,92 @@ lines 0 '1234' '1,234\n' ''
 lines 0 '' '' ''
 writes '1,234\n5,678\n' --header 1234 5678
 writes '1,234\n' --header=9 1234
-lines 2 '1234\nx\n5\n' '1,234\n' 'locnum: x: not a decimal'
-lines 2 '1234\nx\n5\n' '1,234\nx\n5\n' 'locnum: x: not a decimal' --invalid fail
-lines 0 'x\n5\n' 'x\n5\n' 'locnum: x: not a decimal' --invalid warn
+lines 2 '1234\nx\n5\n' '1,234\n' 'locnum: line 2, field 1: x: not a decimal'
+lines 2 '1234\nx\n5\n' '1,234\nx\n5\n' 'locnum: line 2, field 1: x: not a decimal' --invalid fail
+lines 0 'x\n5\n' 'x\n5\n' 'locnum: line 1, field 1: x: not a decimal' --invalid warn
 lines 0 'x\n5\n' 'x\n5\n' '' --invalid ignore
-lines 2 '\n' '' 'locnum: : not a decimal'
-"$program" '' >"$folder/out" 2>"$folder/err"
-status=$?
-judge 'an empty word' 2 '' 'locnum: : not a decimal'
-# explanations: words, lines, each kind, refused texts, and the columns of a line
-writes '-1234.5\n  -1,234.5\n  ^         minusSign\n   ^^^^^    integer\n    ^       group\n        ^   decimal\n         ^  fraction\n  magnitude  3\n' \
+lines 2 '\n' '' 'locnum: line 1, field 1: (empty): not a decimal'
+ran "$program" ''
+judge_run 'an empty word' 2 '' 'locnum: word 1: (empty): not a decimal'
+# explanations: words, lines, each kind, refused texts, and the columns of a line; the first line says what they go by
+numbers='the tables in the program: locale en, symbols\n'
+amounts='the tables in the program: locale en, currencies\n'
+writes "$numbers"'-1234.5\n  -1,234.5\n  ^         minusSign\n   ^^^^^    integer\n    ^       group\n        ^   decimal\n         ^  fraction\n  magnitude  3\n' \
     --explain -1234.5
-writes '-1650\n  -1.6K\n  ^      minusSign\n  magnitude  3\n  around     1600 (50 below), 1700 (50 above)\n  entry      type 3, exponent 3\n  operands   i=1 v=1 w=1 f=6 t=6 c=0 -> other\n  pattern    {0}K\n' \
+writes 'the tables in the program: locale en, short\n-1650\n  -1.6K\n  ^      minusSign\n   ^     integer\n    ^    decimal\n     ^   fraction\n  magnitude  3\n  around     1600 (50 below), 1700 (50 above)\n  entry      type 3, exponent 3\n  operands   i=1 v=1 w=1 f=6 t=6 c=0 -> other\n  pattern    {0}K\n' \
     --explain --style short -1650
-writes '0.1234\n  12.3%\n  ^^     integer\n    ^    decimal\n     ^   fraction\n      ^  percentSign\n  magnitude  -1\n  pattern    {0}%\n' \
+writes 'the tables in the program: locale en, percents\n0.1234\n  12.3%\n  ^^     integer\n    ^    decimal\n     ^   fraction\n      ^  percentSign\n  rounded    0.1234 to 0.123: --fraction 1\n  magnitude  -1\n  pattern    {0}%\n' \
     --explain --percent --fraction 1 0.1234
-writes '1\n  1 US dollar\n  ^            integer\n    ^^^^^^^^^  currency\n  magnitude  0\n  operands   i=1 v=0 w=0 f=0 t=0 c=0 -> one\n  pattern    {0} US dollar\n' \
+writes "$amounts"'1234.567\n  $1,234.57\n  ^          currency\n   ^^^^^     integer\n    ^        group\n        ^    decimal\n         ^^  fraction\n  rounded    1234.567 to 1234.57: 2 digits of USD\n  magnitude  3\n  pattern    ${0}\n' \
+    --explain --currency USD 1234.567
+writes "$amounts"'1\n  1 US dollar\n  ^            integer\n    ^^^^^^^^^  currency\n  magnitude  0\n  operands   i=1 v=0 w=0 f=0 t=0 c=0 -> one\n  pattern    {0} US dollar\n' \
     --explain --currency USD --width name --fraction 0 1
-writes '1.5\n  +$1.50\n  ^       plusSign\n   ^      currency\n    ^     integer\n     ^    decimal\n      ^^  fraction\n  magnitude  0\n  pattern    +${0}\n' \
+writes "$amounts"'1.5\n  +$1.50\n  ^       plusSign\n   ^      currency\n    ^     integer\n     ^    decimal\n      ^^  fraction\n  magnitude  0\n  pattern    +${0}\n' \
     --explain --currency USD --sign always 1.5
-writes '-1650\n  -$1.6K\n  magnitude  3\n  around     1600 (50 below), 1700 (50 above)\n  entry      type 3, exponent 3\n  operands   i=1 v=1 w=1 f=6 t=6 c=0 -> other\n  pattern    -${0}K\n' \
-    --explain --currency USD --style short -1650
-lines 0 ' 5 \r\n\t-7' '5\n  5\n  ^  integer\n  magnitude  0\n-7\n  -7\n  ^   minusSign\n   ^  integer\n  magnitude  0\n' '' --explain
-lines 2 '5\nx\n7\n' '5\n  5\n  ^  integer\n  magnitude  0\nx\n  not a decimal\n' '' --explain
-lines 2 'x\n5\n' 'x\n  not a decimal\n5\n  5\n  ^  integer\n  magnitude  0\n' '' --explain --invalid fail
-lines 0 'x\n5\n' 'x\n  not a decimal\n5\n  5\n  ^  integer\n  magnitude  0\n' '' --explain --invalid warn
-lines 0 '' '' '' --explain
+writes 'the tables in the program: locale en, currency_compact\n-1650\n  -$1.6K\n    ^     integer\n     ^    decimal\n      ^   fraction\n  magnitude  3\n  around     1600 (50 below), 1700 (50 above)\n  entry      type 3, exponent 3\n  operands   i=1 v=1 w=1 f=6 t=6 c=0 -> other\n  pattern    -${0}K\n-12\n  -$12\n  ^     minusSign\n   ^    currency\n    ^^  integer\n  magnitude  1\n  around     12 itself\n  entry      none\n  operands   i=12 v=0 w=0 f=0 t=0 c=0 -> other\n  pattern    {0}\n  pattern    -${0}\n' \
+    --explain --currency USD --style short -1650 -12
+lines 0 ' 5 \r\n\t-7' "$numbers"'5\n  5\n  ^  integer\n  magnitude  0\n-7\n  -7\n  ^   minusSign\n   ^  integer\n  magnitude  0\n' '' --explain
+lines 0 '\xef\xbb\xbf5\n' "$numbers"'5\n  5\n  ^  integer\n  magnitude  0\n' '' --explain
+lines 2 '5\nx\n7\n' "$numbers"'5\n  5\n  ^  integer\n  magnitude  0\nx\n  not a decimal\n' '' --explain
+lines 2 'x\n5\n' "$numbers"'x\n  not a decimal\n5\n  5\n  ^  integer\n  magnitude  0\n' '' --explain --invalid fail
+lines 0 'x\n5\n' "$numbers"'x\n  not a decimal\n5\n  5\n  ^  integer\n  magnitude  0\n' '' --explain --invalid warn
+lines 0 '' "$numbers" '' --explain
+lines 0 '\xef\xbb\xbf' "$numbers" '' --explain
+lines 0 '\xef\xbb\xbf' "$numbers" '' --explain --csv
 nines=$(head -c 32769 /dev/zero | tr '\0' 9)
-lines 2 "$nines\n" "$nines\n  too many digits\n" '' --explain
-lines 2 "${nines:1}\n" "${nines:1}\n  overflow\n" '' --explain --percent
+shown=${nines:0:28}..${nines:0:28}
+lines 2 "$nines\n" "$numbers$shown (32769 characters)\n  too many digits\n" '' --explain
+lines 2 "${nines:1}\n" "the tables in the program: locale en, percents\n$shown (32768 characters)\n  overflow\n" '' --explain --percent
 five='5\n  5\n  ^  integer\n  magnitude  0\n'
-lines 0 "$(printf '5\\n%.0s' {1..2000})" "$(printf "${five//\\/\\\\}%.0s" {1..2000})" '' --explain
-lines 2 '\n' '\n  not a decimal\n' '' --explain
-"$program" --explain '' >"$folder/out" 2>"$folder/err"
-status=$?
-judge 'an empty word, explained' 2 '\n  not a decimal\n' ''
-COLUMNS=15 "$program" --explain 1234 >"$folder/out" 2>"$folder/err"
-status=$?
-judge 'fifteen columns' 0 '1234\n  1,234\n  integer    1,234\n  group      ,\n  magnitude  3\n' ''
-COLUMNS=wide "$program" --explain 1234 >"$folder/out" 2>"$folder/err"
-status=$?
-judge 'columns that are no number' 0 '1234\n  1,234\n  ^^^^^  integer\n   ^     group\n  magnitude  3\n' ''
-for option in --csv '-d;' --field=2 --header --padding=9 -z; do
-    refuses 'locnum: --explain: not with --csv, -d, --field, --header, --padding or -z' --explain "$option"
-done
-refuses 'locnum: --tables: en has no data for this' --explain --currency CHF
-refuses 'locnum: --locale: not a locale' -l 'a b'
-refuses 'locnum: --tables: no locale de' -l de
-refuses 'locnum: --tables: no locale en-XX; there are en' -l en-XX
-refuses 'locnum: --tables: en has no data for this' --currency CHF
-refuses 'locnum: --tables: en has no data for this' --currency CHF --width name
-refuses 'locnum: --accounting: not with --width name' --currency USD --width name --accounting
-refuses 'locnum: --width: short, narrow or name for money; long, short or narrow for units' --currency USD --width names
-refuses 'locnum: --width: short, narrow or name for money; long, short or narrow for units' --unit meter --width name
-refuses 'locnum: --accounting and --cash want --currency, and --width wants --currency or --unit' --width name
-refuses "locnum: --tables: the file can't be read" -t "$folder/none.json"
-refuses 'locnum: --percent and --unit: not together, nor with --style or --currency' --percent --currency USD
-refuses 'locnum: --percent and --unit: not together, nor with --style or --currency' --unit meter --style plain
-refuses 'locnum: --style long: not with --currency' --currency USD --style long
-refuses 'locnum: --style short: not with --accounting, --cash or a --width but short' --currency USD --style short --accounting
-refuses 'locnum: --style short: not with --accounting, --cash or a --width but short' --currency USD --style short --cash
-refuses 'locnum: --style short: not with --accounting, --cash or a --width but short' --currency USD --style short --width name
-refuses 'locnum: --style: neither plain, short nor long' --currency USD --style wide
-refuses 'locnum: --tables: en has no data for this' --currency CHF --style short
-refuses 'locnum: --currency: not three capital letters' --currency usd
-refuses 'locnum: --field: not a list of N, N-, N-M, -M or -, from 1 on' --field 0
-refuses 'locnum: --csv: not with --zero-terminated' --csv -z
-refuses 'locnum: --csv: --delimiter is neither a quote, a line feed nor a carriage return' --csv -d '"'
-refuses 'locnum: --fraction: neither N nor MIN..MAX, each at most 255' --fraction x
+lines 0 "$(printf '5\\n%.0s' {1..2000})" "$numbers$(printf "${five//\\/\\\\}%.0s" {1..2000})" '' --explain
+lines 2 '\n' "$numbers"'(empty)\n  not a decimal\n' '' --explain
+ran "$program" --explain ''
+judge_run 'an empty word, explained' 2 "$numbers"'(empty)\n  not a decimal\n' ''
+ran env COLUMNS=15 "$program" --explain 1234
+judge_run 'fifteen columns' 0 "$numbers"'1234\n  1,234\n  integer    1,234\n  group      ,\n  magnitude  3\n' ''
+ran env COLUMNS=wide "$program" --explain 1234
+judge_run 'columns that are no number' 0 "$numbers"'1234\n  1,234\n  ^^^^^  integer\n   ^     group\n  magnitude  3\n' ''
+# fields are explained each under a line that says where it stands
+lines 0 'rent 1250\nfood  7\n' "$numbers"'line 1, field 2\n1250\n  1,250\n  ^^^^^  integer\n   ^     group\n  magnitude  3\nline 2, field 2\n7\n  7\n  ^  integer\n  magnitude  0\n' '' \
+    --explain --field 2
+lines 0 'name,net,gross\n"Smith, J."," 1250",x2\n' "$numbers"'line 2, field 2 (net)\n1250\n  1,250\n  ^^^^^  integer\n   ^     group\n  magnitude  3\nline 2, field 3 (gross)\nx2\n  not a decimal\n' '' \
+    --explain --csv --header --field gross,net --invalid warn
+lines 0 '"a\nb";7\r\n6;"8"' "$numbers"'line 1, field 2\n7\n  7\n  ^  integer\n  magnitude  0\nline 3, field 2\n8\n  8\n  ^  integer\n  magnitude  0\n' '' --explain --csv -d ';' --field 2
+lines 2 'a;x;5\n' "$numbers"'line 1, field 2\nx\n  not a decimal\n' '' --explain -d ';' --field 2-
+lines 0 'a\n5\0000' "$numbers"'line 1, field 2\n5\n  5\n  ^  integer\n  magnitude  0\n' '' --explain -z --field 2
+lines 0 '\xef\xbb\xbf"a\nb",5\n' "$numbers"'line 1, field 2\n5\n  5\n  ^  integer\n  magnitude  0\n' '' --explain --csv --field 2
+lines 0 '\xef\xbb\xbf"5",6\n' "$numbers"'line 1, field 1\n5\n  5\n  ^  integer\n  magnitude  0\n' '' --explain --csv
+lines 1 'a,b\n1,2\n' "$numbers" 'locnum: no field c; the header has a, b' --explain --csv --header --field c
+lines 1 '5\n"6\n7\n' "$numbers"'line 1, field 1\n5\n  5\n  ^  integer\n  magnitude  0\n' 'locnum: line 2: a quote without an end' --explain --csv
+lines 0 '1 2\n' "$numbers" 'locnum: no record has field 3' --explain --field 3
+writes "$numbers"'word 1\n5\n  5\n  ^  integer\n  magnitude  0\nword 2\n6\n  6\n  ^  integer\n  magnitude  0\n' --explain --field 2 --header 'a 5' 'b 6'
+rejects 'locnum: --explain: not with --padding' --explain --padding=9 --field 2
+rejects "locnum: en has no currency CHF; the tables have EUR, GBP, JPY, USD
+locnum: to make one: tools/cldr_to_tables.py core.zip en --currencies CHF -o en.json" --explain --currency CHF
+rejects 'locnum: --locale: not a locale' -l 'a b'
+rejects 'locnum: --accounting: not with --width name' --currency USD --width name --accounting
+rejects 'locnum: --width: short, narrow or name for money; long, short or narrow for units' --currency USD --width names
+rejects 'locnum: --width: short, narrow or name for money; long, short or narrow for units' --unit meter --width name
+rejects 'locnum: --accounting and --cash want --currency, and --width wants --currency or --unit' --width name
+rejects "locnum: $folder/none.json: No such file or directory" -t "$folder/none.json"
+rejects "locnum: $folder: Is a directory" -t "$folder"
+rejects 'locnum: --percent and --unit: not together, nor with --style or --currency' --percent --currency USD
+rejects 'locnum: --percent and --unit: not together, nor with --style or --currency' --unit meter --style plain
+rejects 'locnum: --style long: not with --currency' --currency USD --style long
+rejects 'locnum: --style short: not with --accounting, --cash or a --width but short' --currency USD --style short --accounting
+rejects 'locnum: --style short: not with --accounting, --cash or a --width but short' --currency USD --style short --cash
+rejects 'locnum: --style short: not with --accounting, --cash or a --width but short' --currency USD --style short --width name
+rejects 'locnum: --style: neither plain, short nor long' --currency USD --style wide
+rejects 'locnum: --currency: not three capital letters' --currency usd
+rejects 'locnum: --field: neither a list of N, N-, N-M, -M or -, from 1 on, nor one of names' --field 0
+rejects 'locnum: --field: neither a list of N, N-, N-M, -M or -, from 1 on, nor one of names' --header --field 1,net
+rejects 'locnum: --field: names are those of a header, which --header asks for' --field net
+rejects 'locnum: --field: names are those of a header, and arguments have none' --header --field net 5
+rejects 'locnum: --header: not a count of lines, from 1 on' --header=0
+rejects 'locnum: --delimiter: neither a single byte nor tab' -d tabs
+rejects 'locnum: --csv: not with --zero-terminated' --csv -z
+rejects 'locnum: --csv: --delimiter is neither a quote, a line feed nor a carriage return' --csv -d '"'
+rejects 'locnum: --fraction: neither N nor MIN..MAX, each at most 255' --fraction x
 cat >"$folder/fr.json" <<'FRENCH'
 {
 "symbols": [{"locale": "fr", "minus": ["-", ""], "plus": ["+", ""], "decimal": ",", "group": "\u202f", "numsys": "latn", "sizes": [3, 3, 1]}],
@@ -159,14 +178,12 @@ cat >"$folder/fr.json" <<'FRENCH'
 FRENCH
 writes '5,00 dollars des États-Unis\n0,00 dollar des États-Unis\n-1,50 dollar des États-Unis\n' \
     -t "$folder/fr.json" -l fr --currency USD --width name 5 0 -1.5
-refuses 'locnum: --tables: fr has no data for this' -t "$folder/fr.json" -l fr --currency EUR --width name
-refuses 'locnum: --tables: fr has no data for this' -t "$folder/fr.json" -l fr --currency USD --style short
-printf '{' >"$folder/cut.json"
-timeout 20 "$program" -t "$folder/cut.json" 5 >"$folder/out" 2>"$folder/err"
-status=$?
-sed -i 's/^locnum: --tables: .*/locnum: --tables: WHY/' "$folder/err"
-judge 'a file that is cut' 1 '' 'locnum: --tables: WHY'
-"$program" --version >"$folder/out" 2>"$folder/err"
-status=$?
-judge '--version' 0 "locnum $(cat "$(dirname "$0")/../VERSION")\n" ''
+rejects 'locnum: fr has no currency EUR; the tables have USD' -t "$folder/fr.json" -l fr --currency EUR --width name
+rejects 'locnum: fr has no short amounts, nor has any other locale of the tables' -t "$folder/fr.json" -l fr --currency USD --style short
+# a file that has one locale alone needs no -l
+writes '5,00 dollars des États-Unis\n' -t "$folder/fr.json" --currency USD --width name 5
+source "$(dirname "$0")/locnum_typed.sh"
+source "$(dirname "$0")/locnum_tables.sh"
+ran "$program" --version
+judge_run '--version' 0 "locnum $(cat "$(dirname "$0")/../VERSION")\n" ''
 ended_all

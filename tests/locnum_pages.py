@@ -1,81 +1,55 @@
 """What `locnum --help` says, and whether its page, its manual page and the completions of three shells say the same.
 
-tests/docs.py counts what `cases` finds.
+tools/option_pages.py makes the completions and the options of the manual page; tests/docs.py counts what `cases` finds.
 """
-import collections
+import os
 import re
-import shlex
 import subprocess
+import sys
+from collections.abc import Callable, Iterator, Mapping, Sequence
+from typing import TypeAlias
+
+sys.path.insert(0, os.path.join(os.path.dirname(os.path.dirname(os.path.abspath(__file__))), "tools"))
+import option_pages  # noqa
+from option_pages import BASH, FILE, LISTED, MANUAL, NONE, OPTIONAL, WORDS, Option, read, spellings  # noqa
 
 PAGE = "crates/locnum/README.md"
-MANUAL = "docs/locnum.1"
-BASH, ZSH, FISH = "docs/completions/locnum.bash", "docs/completions/_locnum", "docs/completions/locnum.fish"
-# The options whose texts are words that --help names, each with the words beside which these are taken.
-WORDED = {"style": [[]], "grouping": [[]], "sign": [[]], "width": [["--currency=USD"], ["--unit=x"]], "invalid": [[]]}
-# What an option takes: no text, one behind `=` or none, the name of a file, any other text.
-NONE, OPTIONAL, FILE, TEXT = "no text", "perhaps a text", "a file", "a text"
-
-# An option: its letter or None, its name, what it takes, the name of its text, its words in order, what is told of it.
-Option = collections.namedtuple("Option", "letter name takes text words told")
+# The words beside which the words of an option are taken.
+BESIDE = {"width": [["--currency=USD"], ["--unit=x"]]}
+# Whether a case holds, its name, and what is told where it doesn't.
+Case: TypeAlias = tuple[bool, str, str]
+Options: TypeAlias = Mapping[str, Option]
 
 
-def read(path):
-    with open(path, encoding="utf-8") as file:
-        return file.read()
-
-
-def is_taken(program, name, word):
-    """Whether the program doesn't refuse this word of an option."""
-    runs = [subprocess.run([program, f"--{name}={word}", *beside, "5"], capture_output=True, timeout=60) for beside in WORDED[name]]
+def is_taken(program: str, name: str, word: str) -> bool:
+    """Whether the program doesn't reject this word of an option."""
+    runs = [subprocess.run([program, f"--{name}={word}", *beside, "5"], capture_output=True, timeout=60)
+            for beside in BESIDE.get(name, [[]])]
     return any(not run.stderr.startswith(f"locnum: --{name}: ".encode()) for run in runs)
 
 
-def options_told(program):
-    """The options that --help tells, by their names. Their words are those of its text that the program takes."""
+def help_cases(program: str, options: Options) -> Iterator[Case]:
+    """The words of options are those that the program takes, and --help says them; it has 80 columns at most."""
     helped = subprocess.run([program, "--help"], stdout=subprocess.PIPE, timeout=60).stdout.decode()
-    options = {}
-    for line in helped.partition("\nOptions:\n")[2].splitlines():
-        letter, name, given, needed, perhaps, told = re.fullmatch(
-            r" +(?:-(\w), )?--([\w-]+)( <([^>]*)>|\[=<([^>]*)>\])? +(\S.*)", line).groups()
-        takes = NONE if not given else OPTIONAL if perhaps else FILE if needed == "FILE" else TEXT
-        words = [word for word in sorted(set(re.findall(r"[\w-]+", told))) if name in WORDED and is_taken(program, name, word)]
-        options[name] = Option(letter, name, takes, needed or perhaps, words, told)
-    return options
+    wide = [line for line in helped.splitlines() if len(line) > 80]
+    yield not wide, "locnum --help: has lines of more than 80 columns:", "; ".join(wide)
+    for name, words in WORDS.items():
+        missing = [word for word in words.split() if not is_taken(program, name, word)] if name in options else [name]
+        unsaid = [word for word in words.split() if name in options and word not in re.findall(r"[\w-]+", options[name].said)]
+        yield not missing and not unsaid, f"locnum: --{name} hasn't the words", ", ".join(missing + unsaid)
+        yield not is_taken(program, name, "else"), f"locnum: --{name} takes any word", ""
 
 
-# The manual page and the page.
+def made_cases(program: str) -> Iterator[Case]:
+    """The completions, and the options of the manual page, are what tools/option_pages.py makes."""
+    for path, text in option_pages.pages(program).items():
+        yield read(path) == text, f"{path}: isn't what tools/option_pages.py makes", ""
 
 
-def head(option):
-    """An option as the manual page has it."""
-    letter = f"-{option.letter}, " if option.letter else ""
-    text = {NONE: "", OPTIONAL: f"[={option.text}]"}.get(option.takes, f" {option.text}")
-    return f"{letter}--{option.name}{text}"
-
-
-def paragraphs_of(manual):
-    """The heads of the options of a manual page, each with the text below it."""
-    section = re.search(r"^\.SH OPTIONS\n(.*?)^\.SH ", manual, flags=re.M | re.S)[1]
-    section = re.sub(r"\\f[A-Z]", "", section.replace("\\-", "-"))
-    found = []
-    for paragraph in re.split(r"^\.TP\n", section, flags=re.M)[1:]:
-        first, _, text = paragraph.partition("\n")
-        found.append(("".join(shlex.split(first)[1:]), re.split(r"^\.(?:PP|SS)", text, flags=re.M)[0]))
-    return found
-
-
-def manual_cases(options, lines):
-    """The manual page beside --help and the page; these are the lines that `man` shows."""
-    paragraphs = paragraphs_of(read(MANUAL))
-    heads, wanted = [title for title, _ in paragraphs], [head(option) for option in options.values()]
-    yield sorted(heads) == sorted(wanted), f"{MANUAL}: other options:", ", ".join(sorted(set(heads) ^ set(wanted)) or heads)
-    texts = dict(paragraphs)
-    for name in WORDED:
-        told = re.findall(r"[\w-]+", texts.get(head(options[name]), "")) if name in options else []
-        missing = [word for word in options[name].words if word not in told] if name in options else [name]
-        yield not missing, f"{MANUAL}: --{name} hasn't the words", ", ".join(missing)
+def manual_cases(lines: Sequence[str]) -> Iterator[Case]:
+    """The manual page beside the page; these are the lines that `man` shows."""
     page, text = read(PAGE), " ".join(line for line in lines if line)
-    for status, when in re.findall(r"^\| (\d) \| (.*) \|$", page, flags=re.M):
+    for status, when in re.findall(r"^\| (\d+) \| (.*) \|$", page, flags=re.M):
         line = f"{status} {when.replace('`', '')}"
         yield line in lines, f"{MANUAL}: hasn't the status", line
     for shown in re.findall(r"(?:^    .*\n)+", page, flags=re.M):
@@ -85,74 +59,11 @@ def manual_cases(options, lines):
     yield f'"locnum {version}"' in read(MANUAL).split("\n", 1)[0], f"{MANUAL}: isn't of version", version
 
 
-def page_cases(options):
+def page_cases(options: Options) -> Iterator[Case]:
     """The page beside --help: each option stands in its table, and no other."""
     table = "\n".join(re.findall(r"^\| (`-.*) \|$", read(PAGE), flags=re.M))
     names = set(re.findall(r"--([\w-]+)", table)) | {"help", "version"}
     yield names == set(options), f"{PAGE}: other options:", ", ".join(sorted(names ^ set(options)))
-
-
-# The completions of zsh and fish, which are read.
-
-
-def in_zsh(line):
-    """An option as a line of zsh's completion has it, or None."""
-    found = re.fullmatch(
-        r"    '(?:\(-(\w) --([\w-]+)\)'\{-\1(\+?),--\2(=?)\}'|--([\w-]+)(=-?|))\[([^\]]*)\]((?::.*)?)'(?: \\)?", line)
-    if not found:
-        return None
-    letter, name, plus, equals, alone, sign, told, taken = found.groups()
-    shape = re.fullmatch(r"(::?)([^:]+):(.*)", taken)
-    if bool(plus) != bool(equals) or bool(shape) != bool(equals or sign):
-        return None
-    if not shape:
-        return Option(letter, name or alone, NONE, None, [], told)
-    action = shape[3]
-    takes = OPTIONAL if sign == "=-" and shape[1] == "::" else FILE if action == "_files" else TEXT
-    words = sorted(action[1:-1].split()) if action.startswith("(") else []
-    is_known = action in (" ", "_files") or re.fullmatch(r"\(.*\)", action)
-    return Option(letter, name or alone, takes, shape[2], words, told) if is_known else None
-
-
-def in_fish(line):
-    """An option as a line of fish's completion has it, or None. Whether it may take a text isn't seen there."""
-    found = re.fullmatch(
-        r"complete -c locnum(?: -s (\w))? -l ([\w-]+)( -r -F| -x|)(?: -a '([^']*)')? -d '([^']*)'", line)
-    if not found:
-        return None
-    letter, name, takes, words, told = found.groups()
-    takes = {" -r -F": FILE, " -x": TEXT, "": NONE}[takes]
-    return Option(letter, name, takes, None, sorted((words or "").split()), told)
-
-
-def as_fish(option):
-    """The option without what fish's completion doesn't say."""
-    return option._replace(takes=NONE if option.takes == OPTIONAL else option.takes, text=None)
-
-
-def read_cases(path, lines, reader, wanted):
-    """Each line of a completion is an option of --help with all that is told of it, and none is missing."""
-    found = [reader(line) for line in lines]
-    unread = [line.strip() for line, option in zip(lines, found) if option is None]
-    yield not unread, f"{path}: isn't read:", "; ".join(unread)
-    names = [option.name for option in found if option]
-    yield sorted(names) == sorted(wanted), f"{path}: other options:", ", ".join(sorted(set(names) ^ set(wanted)) or names)
-    for option in found:
-        if option and option.name in wanted:
-            yield option == wanted[option.name], f"{path}: --{option.name}:", f"{option}, --help has {wanted[option.name]}"
-
-
-def zsh_cases(options):
-    lines = read(ZSH).splitlines()
-    yield lines[0] == "#compdef locnum" and lines[-1] == "    '*:NUMBER: '", f"{ZSH}: has another head or end", ""
-    start = lines.index("_arguments -s -S \\")
-    yield from read_cases(ZSH, lines[start + 1:-1], in_zsh, options)
-
-
-def fish_cases(options):
-    lines = [line for line in read(FISH).splitlines() if not line.startswith("#")]
-    yield lines[0] == "complete -c locnum -f", f"{FISH}: offers files", ""
-    yield from read_cases(FISH, lines[1:], in_fish, {name: as_fish(option) for name, option in options.items()})
 
 
 # The completion of bash, which is run.
@@ -172,23 +83,29 @@ done
 """
 
 
-def offered(questions):
+def offered(program: str, questions: Sequence[Sequence[str]]) -> list[list[str]]:
     """What bash offers for the last of these words, which stand behind the program's name; a list for each question."""
-    asked = "".join(f"{word}\0" for words in questions for word in [str(len(words) + 1), "locnum", *words])
-    how = {"stdout": subprocess.PIPE, "stderr": subprocess.STDOUT, "timeout": 60}
-    told = subprocess.run(["bash", "-c", ASKING, "bash", BASH], input=asked.encode(), **how).stdout.decode().split("\0")
-    answers, at = [], 0
+    asked = "".join(f"{word}\0" for words in questions for word in [str(len(words) + 1), program, *words])
+    done = subprocess.run(["bash", "-c", ASKING, "bash", BASH], input=asked.encode(), stdout=subprocess.PIPE,
+                          stderr=subprocess.STDOUT, timeout=60)
+    told = done.stdout.decode().split("\0")
+    answers: list[list[str]] = []
+    at = 0
     while at < len(told) and told[at].isdigit():
         answers.append(sorted(told[at + 1:at + 1 + int(told[at])]))
         at += 1 + int(told[at])
     return answers if len(answers) == len(questions) else [told] * len(questions)
 
 
-def spellings(option):
-    return [f"--{option.name}", *([f"-{option.letter}"] if option.letter else [])]
+def words_of(program: str, option: Option) -> list[str]:
+    """The words that are offered for the text of an option, in order."""
+    if option.name in LISTED:
+        listed = [program, "--list", LISTED[option.name]]
+        return sorted(subprocess.run(listed, stdout=subprocess.PIPE, timeout=60).stdout.decode().split())
+    return sorted(WORDS.get(option.name, "").split())
 
 
-def bash_questions(options):
+def bash_questions(program: str, options: Options) -> Iterator[tuple[list[str], list[str]]]:
     """Lists of words, each with what is to be offered for the last of them."""
     every = sorted(spelling for option in options.values() for spelling in spellings(option))
     yield ["-"], every
@@ -196,35 +113,38 @@ def bash_questions(options):
     yield ["5", "-"], every
     for words in ([""], ["5", ""], ["docs"], ["--", "-"], ["--cash", ""], ["--cash", "--", "--s"], ["="]):
         yield words, []
+    yield ["--tables", "tables/six_locales.json", "-l", "b"], ["bn"]
+    yield ["--tables", "=", "tables/six_locales.json", "--locale", "=", "b"], ["bn"]
     for option in options.values():
+        words = words_of(program, option)
+        # behind a name alone stands the text of an option that always has one
+        apart = words if option.takes not in (NONE, OPTIONAL) else []
         for spelling in spellings(option):
             # the next word is another option, unless it is this one's text
             yield [spelling, "-"], every if option.takes in (NONE, OPTIONAL) else []
             yield [spelling, "docs/locnu"], ["docs/locnum.1"] if option.takes == FILE else []
-            yield ["5", spelling, ""] if option.takes != FILE else [spelling, MANUAL], \
-                option.words if option.takes != FILE else [MANUAL]
-        for words in ([f"--{option.name}", "="], [f"--{option.name}", "=", ""]):
-            yield [*words] if option.takes != FILE else [f"--{option.name}", "=", MANUAL], \
-                option.words if option.takes != FILE else [MANUAL]
+            yield ["5", spelling, ""] if option.takes != FILE else [spelling, MANUAL], apart if option.takes != FILE else [MANUAL]
+        for start in ([f"--{option.name}", "="], [f"--{option.name}", "=", ""]):
+            yield [*start] if option.takes != FILE else [f"--{option.name}", "=", MANUAL], words if option.takes != FILE else [MANUAL]
         yield [f"--{option.name}", "=", "-"], []
-        for word in option.words:
-            yield [f"--{option.name}", word[:-1]], [each for each in option.words if each.startswith(word[:-1])]
+        for word in words:
+            yield [f"--{option.name}", "=", word[:-1]], [each for each in words if each.startswith(word[:-1])]
 
 
-def bash_cases(options):
-    questions = list(bash_questions(options))
-    answers = offered([words for words, _ in questions])
+def bash_cases(program: str, options: Options) -> Iterator[Case]:
+    questions = list(bash_questions(program, options))
+    answers = offered(program, [words for words, _ in questions])
     for (words, wanted), given in zip(questions, answers):
         yield given == sorted(wanted), f"{BASH}: {words}:", f"{given}, wanted {sorted(wanted)}"
 
 
-def cases(program, manual_lines):
+def cases(program: str, manual_lines: Callable[[str], list[str]] | None) -> Iterator[Case]:
     """Whether each case holds, its name, and what is told where it doesn't; manual_lines shows a manual page, or is None."""
-    options = options_told(program)
-    yield set(WORDED) <= set(options), "locnum --help: hasn't the options", ", ".join(WORDED)
+    program = os.path.abspath(program)
+    options = {option.name: option for option in option_pages.options_of(program)}
+    yield from help_cases(program, options)
     yield from page_cases(options)
     if manual_lines:
-        yield from manual_cases(options, manual_lines(MANUAL))
-    yield from zsh_cases(options)
-    yield from fish_cases(options)
-    yield from bash_cases(options)
+        yield from manual_cases(manual_lines(MANUAL))
+    yield from made_cases(program)
+    yield from bash_cases(program, options)

@@ -9,6 +9,7 @@ are both taken.
 import dataclasses
 import functools
 import re
+from collections.abc import Collection, Iterable, Iterator
 
 import layout
 
@@ -35,18 +36,18 @@ BUILT_IN = {"u8", "u16", "u32", "u64", "usize", "i16", "i32", "i64", "bool", "ch
 class Item:
     """What a file says at one place: the names of which one has to be a word, and how a function has to be called."""
 
-    names: frozenset
+    names: frozenset[str]
     call: str
     text: str
-    words: frozenset
+    words: frozenset[str]
     within: str = ""
 
 
-def words_in(text):
+def words_in(text: str) -> frozenset[str]:
     return frozenset(WORD.findall(text))
 
 
-def item(names, lines, call="", within=""):
+def item(names: Iterable[str], lines: Iterable[str], call: str = "", within: str = "") -> Item:
     text = layout.words_of(lines)
     return Item(frozenset(names), call, text, words_in(text), within)
 
@@ -54,7 +55,7 @@ def item(names, lines, call="", within=""):
 # Definitions
 
 
-def head_name(line):
+def head_name(line: str) -> str:
     """The name that a line at the left edge defines or goes on with; nothing for `unfolding`."""
     words = line.split()
     while words and words[0] in MODIFIERS:
@@ -62,7 +63,7 @@ def head_name(line):
     return words[0] if words and words[0] != "unfolding" else ""
 
 
-def inner_names(lines):
+def inner_names(lines: Iterable[str]) -> Iterator[str]:
     """The names at the left edge of a block: definitions of a module, fields and constructors."""
     for line in lines:
         inner = re.match(r"  (?:abbrev |pub |unfoldable |\| )*([^\s:]+)", line)
@@ -70,9 +71,10 @@ def inner_names(lines):
             yield inner[1]
 
 
-def definitions(lines):
+def definitions(lines: Iterable[str]) -> Iterator[Item]:
     """The items of a file of definitions."""
-    blocks, name = [], None
+    blocks: list[list[str]] = []
+    name: str | None = None
     for line in (line for line in lines if line.strip() and not line.startswith(("use ", "mod ", "pub use ", "pub mod "))):
         if line.startswith(" ") or line.startswith(")") or head_name(line) in ("", name):
             if blocks:
@@ -90,9 +92,9 @@ def definitions(lines):
 # Sources
 
 
-def blocks_of(lines):
+def blocks_of(lines: Iterable[str]) -> Iterator[list[str]]:
     """The items of a source at the left edge, each with its attributes."""
-    block = []
+    block: list[str] = []
     for line in lines:
         is_head = line and not line[0].isspace() and line[0] not in ")}]" and not line.startswith(("where", "requires", "ensures", "{"))
         if is_head and block and not all(it.startswith("#") for it in block):
@@ -104,9 +106,10 @@ def blocks_of(lines):
         yield block
 
 
-def variants(name, lines):
+def variants(name: str, lines: Iterable[str]) -> Iterator[Item]:
     """The variants of an enum, each with its attributes."""
-    found, attributes = [], []
+    found: list[list[str]] = []
+    attributes: list[str] = []
     for line in lines:
         if line.startswith("    #"):
             attributes.append(line)
@@ -116,13 +119,14 @@ def variants(name, lines):
         elif found and line.startswith("    "):
             found[-1].append(line)
     for block in found:
-        variant = next(VARIANT.match(line)[1] for line in block if VARIANT.match(line))
+        variant = next(match[1] for match in map(VARIANT.match, block) if match)
         yield item({variant}, block, within=name)
 
 
-def functions(head, lines):
+def functions(head: str, lines: Iterable[str]) -> Iterator[Item]:
     """The functions of an impl, each with its type."""
-    found, attributes = [], []
+    found: list[list[str]] = []
+    attributes: list[str] = []
     for line in lines:
         if line.startswith("    #"):
             attributes.append(line)
@@ -132,18 +136,18 @@ def functions(head, lines):
         elif found and not line.startswith("    ghost use"):
             found[-1].append(line)
     for block in found:
-        name = next(FUNCTION.match(line)[1] for line in block if FUNCTION.match(line))
+        name = next(match[1] for match in map(FUNCTION.match, block) if match)
         yield item({name}, [head, *block], call="method")
 
 
-def self_names(header):
+def self_names(header: str) -> set[str]:
     """The names of the type of an impl; of its trait where the type is built in."""
     trait, _, of = header.rpartition(" for ")
     names = {name for name in IDENTIFIER.findall(of.partition(" where")[0]) if name[0].isupper() and len(name) > 1} - BUILT_IN
     return names or set(IDENTIFIER.findall(trait))
 
 
-def items_of_block(block):
+def items_of_block(block: list[str]) -> Iterator[Item]:
     heads = [line for line in block if not line.startswith("#")]
     if not heads or heads[0].startswith(("use ", "pub use ", "ghost use ", "mod ", "pub mod ")):
         return
@@ -171,7 +175,7 @@ def items_of_block(block):
 
 
 @functools.lru_cache(maxsize=None)
-def items_in(path):
+def items_in(path: str) -> tuple[tuple[Item, ...], tuple[tuple[str, str], ...]]:
     """The items of a file, and the names that it brings in under others."""
     lines = layout.said_in(path)
     aliases = tuple((new, old) for old, new in ALIAS.findall("\n".join(lines)))
@@ -184,7 +188,7 @@ def items_in(path):
 # What is named
 
 
-def calls_in(paths):
+def calls_in(paths: Iterable[str]) -> dict[str, set[str]]:
     """The names of methods and of functions that sources call."""
     texts = ["\n".join(layout.said_in(path)) for path in paths if path.endswith(".rt")]
     methods, functions = ({name for text in texts for found in call.findall(text) for name in found if name} for call in (METHOD, CALL))
@@ -192,11 +196,12 @@ def calls_in(paths):
     return {"method": methods, "function": functions}
 
 
-def named(own, below):
+def named(own: Collection[str], below: Iterable[tuple[str, str]]) -> list[str]:
     """What files name of others, as texts in their order: `own` are paths, `below` pairs of a path and what it is called."""
     words = {word for path in own for word in words_in("\n".join(layout.said_in(path)))}
     calls = calls_in(own)
-    aliases, waiting = {}, []
+    aliases: dict[str, set[str]] = {}
+    waiting: list[tuple[str, Item]] = []
     for path in own:
         for old, new in ALIAS.findall("\n".join(layout.said_in(path))):
             aliases.setdefault(new, set()).add(old)
@@ -206,18 +211,19 @@ def named(own, below):
         for new, old in renamed:
             aliases.setdefault(new, set()).add(old)
 
-    def is_word(name):
+    def is_word(name: str) -> bool:
         if PLAIN.fullmatch(name):
             return name in words
         parts = [part for part in name.split("◌") if part]
         return name in words or bool(parts) and all(part in words for part in parts)
 
-    def is_named(it):
+    def is_named(it: Item) -> bool:
         if it.within and it.within not in words:
             return False
         return not it.names or any(is_word(name) and (not it.call or name in calls[it.call]) for name in it.names)
 
-    taken, grows = [], True
+    taken: list[tuple[str, Item]] = []
+    grows = True
     while grows:
         words |= {old for new, olds in aliases.items() if new in words for old in olds}
         found = [(called, it) for called, it in waiting if is_named(it)]

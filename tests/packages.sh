@@ -1,28 +1,30 @@
 #!/bin/bash
-# Looks for the packages that the gate needs, installs those that are missing where it may, and otherwise says the command
+# Looks for the packages that CI needs, installs those that are missing where it may, and otherwise says the command
 # that does. Where none is missing it asks nothing of the network.
 # usage: tests/packages.sh [LIST], by default tests/packages.txt
 # A package isn't looked for where SKIP has all steps that need it. Without dpkg the commands of the packages are looked for.
 # Exit status: 0 all is there, 1 something is missing, which the last lines name.
+source "$(dirname "$0")/usage.sh"
+takes 1 -- "$@"
 set -u
 list=${1:-$(dirname "$0")/packages.txt}
 may_skip=" ${SKIP:-} "
 
 # Leaves in $packages and in $commands what is wanted.
 read_list() {
-    local package told step is_wanted
+    local package needed step is_wanted
     packages=() commands=()
-    while IFS='#' read -r package told; do
+    while IFS='#' read -r package needed; do
         read -r package <<<"$package"
         [ "$package" ] || continue
         is_wanted=
-        for step in ${told#*:}; do
+        for step in ${needed#*:}; do
             [[ $may_skip == *" $step "* ]] || is_wanted=yes
         done
         [ "$is_wanted" ] || continue
         packages+=("$package")
         # shellcheck disable=SC2206
-        commands+=(${told%%:*})
+        commands+=(${needed%%:*})
     done <"$list"
 }
 

@@ -1,14 +1,17 @@
 #!/bin/bash
 # Every sample of every cardinal rule set of a CLDR release gets its category from icu_plurals. A program that asks the
 # crate is written to a folder of its own, beside copies of the crates that it stands on, and is proved and built there.
-# Where there is no release the script says so, and counts as skipped. It isn't part of the gate.
+# Where there is no release the script says so, and counts as skipped. It isn't part of CI.
 # usage: tests/plural_samples.sh [RELEASE], by default the one that Debian's unicode-cldr-core installs
+source "$(dirname "$0")/usage.sh"
+takes 1 -- "$@"
+source "$(dirname "$0")/judging.sh"
 release=${1:-/usr/share/unicode/cldr}
 here=$(cd "$(dirname "$0")" && pwd)
 folder=$(mktemp -d)
 trap 'rm -rf "$folder"' EXIT
 
-[ -e "$release" ] || { echo "plural_samples: skipped: no CLDR release at $release"; exit 0; }
+[ -e "$release" ] || skipped_all "no CLDR release at $release"
 release=$(realpath "$release")
 
 # copy CRATE: its sources and what is built of it
@@ -100,5 +103,5 @@ fn main(rt: HostRuntime) -> io::Result<()> {
     Ok(())
 }
 END
-(cd "$folder/crates/samples" && rt run </dev/null) >"$folder/log" 2>&1 || { cat "$folder/log"; exit 1; }
+(cd "$folder/crates/samples" && rt run </dev/null) >"$folder/log" 2>&1 || { cat "$folder/log"; failed_all 'the program is built'; }
 python3 "$here/plural_samples.py" "$release" "$folder/crates/samples/out/samples"

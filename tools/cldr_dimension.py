@@ -1,7 +1,24 @@
 """The entries of money, percents and units."""
-from cldr_numbers import LATIN, CompactReader, fitting, formats_of, symbol, symbols_entry, unfit, without_repeats
+from __future__ import annotations
+
+from typing import Iterable, Iterator, Literal, Mapping, Sequence, Tuple, Union
+
+from cldr_numbers import (
+    LATIN,
+    CompactReader,
+    CompactTable,
+    Elements,
+    Symbols,
+    fitting,
+    formats_of,
+    symbol,
+    symbols_entry,
+    unfit,
+    without_repeats,
+)
 from cldr_paths import (
     UNIT_WIDTHS,
+    ElementPath,
     compact_money_path,
     currency_path,
     money_names_path,
@@ -15,6 +32,7 @@ from cldr_paths import (
 )
 from cldr_patterns import (
     PLACE,
+    Rules,
     compact_text,
     refuse_unreadable,
     sizes_of,
@@ -22,6 +40,7 @@ from cldr_patterns import (
     with_one_zero,
     with_quoted_exponents,
 )
+from cldr_release import PathOf, Release
 from cldr_reports import CASH, GROUPS, OWN_PATTERN, UNIT, Inexpressible
 
 NAME = "{1}"
@@ -32,11 +51,18 @@ DEFAULT = "DEFAULT"
 SHORT = "short"
 OWN = ("pattern", "decimal", "group")
 
+# The names that are asked for of currencies, units or numbering systems, or all of them.
+Names = Union[Literal["all"], Sequence[str]]
+# A currency's code, its symbol, its narrow one and its names by plural categories.
+CurrencyTexts = Tuple[str, str, str, Elements]
+# A currency's code and its fraction digits, in general and in cash.
+CurrencyDigits = Tuple[str, int, int]
+
 
 # Patterns with places.
 
 
-def with_places(text, *places):
+def with_places(text: str, *places: str) -> str:
     """The text, in which each of the places has to stand once."""
     for place in places:
         if text.count(place) != 1:
@@ -44,7 +70,7 @@ def with_places(text, *places):
     return text
 
 
-def by_category(release, locale, rules, path_of):
+def by_category(release: Release, locale: str, rules: Rules, path_of: PathOf) -> Elements | None:
     """The texts at the paths that `path_of` gives for plural categories, `other` among them, or None."""
     elements = release.counted_texts(locale, [category for category, _ in rules], path_of)
     return without_repeats(elements, rules) if elements else None
@@ -53,7 +79,7 @@ def by_category(release, locale, rules, path_of):
 # Money and percents.
 
 
-def sign(release, locale, system, name):
+def sign(release: Release, locale: str, system: str, name: str) -> str:
     """The text of a sign, which isn't empty in tables of money and percents."""
     text = symbol(release, locale, system, name)
     if not text:
@@ -61,24 +87,24 @@ def sign(release, locale, system, name):
     return text
 
 
-def signs_of(release, locale, system):
+def signs_of(release: Release, locale: str, system: str) -> dict[str, str]:
     """The texts of the minus and the plus sign by their names in tables."""
     return {name: sign(release, locale, system, f"{name}Sign") for name in ("minus", "plus")}
 
 
-def plain_pattern(release, locale, system):
+def plain_pattern(release: Release, locale: str, system: str) -> str | None:
     """The pattern of plain numbers of a numbering system, or None."""
     return release.text(locale, plain_path(formats_of(release, locale, system)))
 
 
-def tell_groups(release, locale, path, pattern, others):
+def tell_groups(release: Release, locale: str, path: ElementPath, pattern: str | None, others: str | None) -> None:
     """Tells where CLDR groups the numbers of a path by a pattern that groups otherwise than the one of the tables."""
-    if None not in (pattern, others) and sizes_of(pattern) != sizes_of(others):
+    if pattern is not None and others is not None and sizes_of(pattern) != sizes_of(others):
         reason = f"{pattern!r}: its groups aren't those of {others!r}, which stand"
         release.reports.left_out(GROUPS, locale, shown(path), reason)
 
 
-def percent_entry(release, locale, system):
+def percent_entry(release: Release, locale: str, system: str) -> dict[str, str]:
     """The pattern of percents and the texts of the signs in it (UTS 35 Part 3, Number Patterns)."""
     path = percent_path(formats_of(release, locale, system, percent_path))
     pattern = release.text(locale, path)
@@ -96,11 +122,11 @@ class CompactMoneyReader(CompactReader):
 
     element = "currencyFormats"
 
-    def path(self, power, count):
+    def path(self, power: int, count: str) -> ElementPath:
         """Where the pattern of a power and a count stands."""
         return compact_money_path(self.system, self.style, "1" + "0" * power, count)
 
-    def spelled(self, pattern):
+    def spelled(self, pattern: str) -> tuple[int, str]:
         """The number of zeros of a pattern, and the pattern with one, in which the symbol stands; or `0` alone."""
         pattern = with_quoted_exponents(pattern)
         zeros, text = compact_text(subpatterns(pattern)[0], {special: special for special in "-+" + SYMBOL})
@@ -109,28 +135,28 @@ class CompactMoneyReader(CompactReader):
         refuse_unreadable(pattern, "", once=SYMBOL)
         return zeros, with_one_zero(pattern)
 
-    def tell_negative(self, *_):
+    def tell_negative(self, *_: object) -> None:
         """Tells nothing: the patterns have their negative subpatterns."""
 
-    def unfit(self, power, exponent, before, elements):
+    def unfit(self, power: int, exponent: int, before: int, elements: Elements) -> str | None:
         """Why a type can't stand in the table after one with the exponent `before`, or None."""
         return unfit(power, exponent, before) or ("no symbol" if PLACE in elements.values() else None)
 
 
-def compact_money_formats(release, locale, system):
+def compact_money_formats(release: Release, locale: str, system: str) -> str:
     """The numbering system whose compact patterns of money are those of a system, which may have other patterns alone."""
     types = ["1" + "0" * power for power in release.powers(locale, CompactMoneyReader.element)]
     texts = (release.text(locale, compact_money_path(system, SHORT, name, "other")) for name in types)
     return system if any(text is not None for text in texts) else LATIN
 
 
-def compact_money_entry(release, locale, system, rules):
+def compact_money_entry(release: Release, locale: str, system: str, rules: Rules) -> dict[str, CompactTable]:
     """The short compact patterns of money."""
     formats = compact_money_formats(release, locale, system)
     return {"patterns": CompactMoneyReader(release, locale, formats, SHORT, rules).table()}
 
 
-def money_names(release, locale, system, rules):
+def money_names(release: Release, locale: str, system: str, rules: Rules) -> Elements:
     """The patterns of an amount and the name of its currency of a numbering system, or of latn where it has none."""
     for formats in (system, LATIN):
         names = by_category(release, locale, rules, lambda count: money_names_path(formats, count))
@@ -139,22 +165,24 @@ def money_names(release, locale, system, rules):
     raise Inexpressible("no pattern of an amount with a name")
 
 
-def money_formats(release, locale, system):
+def money_formats(release: Release, locale: str, system: str) -> str:
     """The numbering system whose patterns of money are those of a system."""
     return formats_of(release, locale, system, lambda name: money_path(name, "standard"))
 
 
-def money_patterns(release, locale, formats):
+def money_patterns(release: Release, locale: str, formats: str) -> dict[str, str]:
     """The patterns of money, standard and accounting, as CLDR has them."""
-    patterns = {kind: release.text(locale, money_path(formats, kind)) for kind in ("standard", "accounting")}
-    for kind, pattern in patterns.items():
+    texts = {kind: release.text(locale, money_path(formats, kind)) for kind in ("standard", "accounting")}
+    patterns = {}
+    for kind, pattern in texts.items():
         if pattern is None:
             raise Inexpressible(f"no {kind} pattern of money")
         refuse_unreadable(pattern, "", once=SYMBOL)
+        patterns[kind] = pattern
     return patterns
 
 
-def money_separators(release, locale, system):
+def money_separators(release: Release, locale: str, system: str) -> Iterator[tuple[str, str]]:
     """The separators that money has for itself."""
     for field, name in (("decimal", "currencyDecimal"), ("group", "currencyGroup")):
         text = release.text(locale, symbols_path(system) + (step(name, {}),))
@@ -162,7 +190,7 @@ def money_separators(release, locale, system):
             yield field, text
 
 
-def money_symbols(release, locale, system):
+def money_symbols(release: Release, locale: str, system: str) -> Symbols | None:
     """The symbols of amounts, by the separators that money has for itself and the groups of its standard pattern; None
     where they are those of numbers, or where these or the patterns can't be expressed, which is told of them."""
     try:
@@ -170,12 +198,15 @@ def money_symbols(release, locale, system):
         patterns = money_patterns(release, locale, money_formats(release, locale, system))
     except Inexpressible:
         return None
-    sizes = [*sizes_of(patterns["standard"]), numbers["sizes"][-1]]
-    entry = {**numbers, **dict(money_separators(release, locale, system)), "sizes": sizes}
+    own = dict(money_separators(release, locale, system))
+    entry = numbers.copy()
+    entry["decimal"] = own.get("decimal", numbers["decimal"])
+    entry["group"] = own.get("group", numbers["group"])
+    entry["sizes"] = [*sizes_of(patterns["standard"]), numbers["sizes"][-1]]
     return None if entry == numbers else fitting(entry)
 
 
-def money_entry(release, locale, system):
+def money_entry(release: Release, locale: str, system: str) -> dict[str, str]:
     """The patterns of money and the texts of the signs in them."""
     formats = money_formats(release, locale, system)
     entry = money_patterns(release, locale, formats)
@@ -191,7 +222,7 @@ def money_entry(release, locale, system):
 # Currencies.
 
 
-def currency_texts(release, locale, code, rules):
+def currency_texts(release: Release, locale: str, code: str, rules: Rules) -> CurrencyTexts:
     """A currency's symbol, its narrow one and its names; the code stands for what isn't there (UTS 35 Part 3,
     Currencies)."""
     path = currency_path(code)
@@ -202,15 +233,15 @@ def currency_texts(release, locale, code, rules):
         if release.text(locale, (*path, step(name, {}))) is not None:
             key = shown((*path, step(name, {})))
             release.reports.left_out(OWN_PATTERN, locale, key, "money is written in the locale's own way")
-    return [code, short, narrow, names or {"other": code}]
+    return code, short, narrow, names or {"other": code}
 
 
-def codes_of(release, locale, wanted):
+def codes_of(release: Release, locale: str, wanted: Names) -> Sequence[str]:
     """The codes of currencies that are asked for, or all of which the locale or a parent says something."""
     return release.named([locale], "currencies", "currency") if wanted == "all" else wanted
 
 
-def digits_of(release, code, info):
+def digits_of(release: Release, code: str, info: Mapping[str, str]) -> list[CurrencyDigits]:
     """The fraction digits of a currency, in general and in cash; none where there are too many."""
     digits = int(info.get("digits", 2))
     cash = int(info.get("cashDigits", digits))
@@ -222,10 +253,10 @@ def digits_of(release, code, info):
     if max(digits, cash) > MOST_DIGITS:
         release.reports.left_out(CASH, "root", key, f"more than {MOST_DIGITS} digits")
         return []
-    return [[code, digits, cash]]
+    return [(code, digits, cash)]
 
 
-def currency_digits(release, wanted):
+def currency_digits(release: Release, wanted: Names) -> list[CurrencyDigits]:
     """The fraction digits of all other currencies and of those that are asked for."""
     fractions = release.fractions()
     codes = sorted(fractions) if wanted == "all" else [code for code in wanted if code in fractions]
@@ -236,7 +267,7 @@ def currency_digits(release, wanted):
 # Units.
 
 
-def unit_types(release, locale, wanted):
+def unit_types(release: Release, locale: str, wanted: Names) -> list[str]:
     """The units that are asked for, as the release names them, with their kind before them."""
     types = release.named([locale], "unitLength", "unit")
     if wanted == "all":
@@ -247,25 +278,25 @@ def unit_types(release, locale, wanted):
     return [name for name in found.values() if name]
 
 
-def core(unit):
+def core(unit: str) -> str:
     """A unit without its kind: `kilometer` of `length-kilometer` (UTS 35 Part 2, Unit Identifiers)."""
     return unit.partition("-")[2]
 
 
-def names_of_units(release, locales):
+def names_of_units(release: Release, locales: Iterable[str]) -> list[str]:
     """The names by which units of locales may be asked for: theirs alone, and those with their kind before them."""
     types = release.named(locales, "unitLength", "unit")
     return sorted({*map(core, types), *types})
 
 
-def unit_entries(release, locale, wanted, rules):
+def unit_entries(release: Release, locale: str, wanted: Names, rules: Rules) -> list[dict[str, object]]:
     """The patterns of units in each width."""
     types = unit_types(release, locale, wanted)
     each = (unit_entry(release, locale, width, unit, rules) for width in UNIT_WIDTHS for unit in types)
     return [entry for entries in each for entry in entries]
 
 
-def unit_entry(release, locale, width, unit, rules):
+def unit_entry(release: Release, locale: str, width: str, unit: str, rules: Rules) -> list[dict[str, object]]:
     """The entry of a unit in a width, or none."""
     patterns = by_category(release, locale, rules, lambda count: unit_path(width, unit, count))
     key = shown(unit_path(width, unit, "other"))

@@ -1,11 +1,15 @@
 """Reads a release as JSON packages."""
+from __future__ import annotations
+
 import functools
 import json
 import re
+from typing import Any, Callable, Dict, Mapping, Sequence
 
 import cldr_names
 from cldr_paths import (
     UNIT_WIDTHS,
+    Step,
     compact_money_path,
     compact_path,
     currency_path,
@@ -17,16 +21,20 @@ from cldr_paths import (
     symbols_path,
     unit_path,
 )
-from cldr_release import STYLES, Release, Tree, below
+from cldr_release import STYLES, Folder, Release, Scope, Tree, below
+from cldr_reports import Reports
+
+# An object of JSON, whose members are what the packages have them to be.
+JsonObject = Dict[str, Any]
 
 
-def attributed(key):
+def attributed(key: str) -> Step:
     """The tag and the attributes that a key of the packages stands for, such as `symbol-alt-narrow`."""
     tag, *words = key.split("-")
     return step(tag, dict(zip(words[::2], words[1::2])))
 
 
-def add_decimals(tree, system, formats):
+def add_decimals(tree: Tree, system: str, formats: JsonObject) -> None:
     """Adds the plain and the compact patterns of a numbering system."""
     if "standard" in formats:
         tree.values[plain_path(system)] = formats["standard"]
@@ -36,7 +44,7 @@ def add_decimals(tree, system, formats):
             tree.values[compact_path(system, style, power, count)] = text
 
 
-def add_money(tree, system, formats):
+def add_money(tree: Tree, system: str, formats: JsonObject) -> None:
     """Adds the patterns of money of a numbering system."""
     for key, value in formats.items():
         if isinstance(value, str):
@@ -52,19 +60,19 @@ def add_money(tree, system, formats):
                 tree.values[compact_money_path(system, style, power, count)] = text
 
 
-def add_percents(tree, system, formats):
+def add_percents(tree: Tree, system: str, formats: JsonObject) -> None:
     """Adds the pattern of percents of a numbering system."""
     tree.values[percent_path(system)] = formats["standard"]
 
 
-def add_currencies(tree, currencies):
+def add_currencies(tree: Tree, currencies: Mapping[str, Mapping[str, str]]) -> None:
     """Adds symbols and names of currencies."""
     for code, texts in currencies.items():
         for key, text in texts.items():
             tree.values[(*currency_path(code), attributed(key))] = text
 
 
-def add_units(tree, widths):
+def add_units(tree: Tree, widths: Mapping[str, Mapping[str, Mapping[str, str]]]) -> None:
     """Adds the patterns of units, in the cases of which nothing is said."""
     for width in UNIT_WIDTHS:
         for unit, texts in widths.get(width, {}).items():
@@ -73,18 +81,22 @@ def add_units(tree, widths):
                     tree.values[unit_path(width, unit, key.rpartition("-")[2])] = text
 
 
-ADDERS = {"decimalFormats": add_decimals, "currencyFormats": add_money, "percentFormats": add_percents}
+ADDERS: dict[str, Callable[[Tree, str, JsonObject], None]] = {
+    "decimalFormats": add_decimals,
+    "currencyFormats": add_money,
+    "percentFormats": add_percents,
+}
 
 
 class JsonRelease(Release):
     """The JSON packages cldr-core and cldr-numbers-full, side by side in a folder. In them all is inherited already."""
 
     @staticmethod
-    def is_at(folder):
+    def is_at(folder: Folder) -> bool:
         """Tells whether such a release is in this folder."""
         return (folder / "cldr-core" / "availableLocales.json").exists()
 
-    def __init__(self, folder, reports, scopes=()):
+    def __init__(self, folder: Folder, reports: Reports, scopes: Sequence[Scope] = ()) -> None:
         super().__init__(folder, reports, scopes)
         self.main = folder / "cldr-numbers-full" / "main"
         self.locales = sorted(self.internal(file.name) for file in self.main.iterdir())
@@ -95,15 +107,16 @@ class JsonRelease(Release):
         }
 
     @staticmethod
-    def internal(name):
+    def internal(name: str) -> str:
         """A locale as LDML files are named."""
         return "root" if name == "und" else name.replace("-", "_")
 
-    def load(self, *names):
+    def load(self, *names: str) -> JsonObject:
         """A file of the release."""
-        return json.loads(below(self.folder, *names).read_bytes())
+        content: JsonObject = json.loads(below(self.folder, *names).read_bytes())
+        return content
 
-    def read_tree(self, locale):
+    def read_tree(self, locale: str) -> Tree:
         """Reads a locale's files into the paths that LDML has."""
         name = "und" if locale == "root" else locale.replace("_", "-")
         tree = Tree({}, {}, {})
@@ -125,35 +138,37 @@ class JsonRelease(Release):
             add_units(tree, self.part("cldr-units-full", name, "units.json")["units"])
         return tree
 
-    def part(self, package, name, file):
+    def part(self, package: str, name: str, file: str) -> JsonObject:
         """What a file of a package says of a locale."""
-        return self.load(package, "main", name, file)["main"][name]
+        said: JsonObject = self.load(package, "main", name, file)["main"][name]
+        return said
 
-    def chain(self, locale):
+    def chain(self, locale: str) -> tuple[str, ...]:
         """The locale alone."""
         return (locale,)
 
-    def currency_data(self, name):
+    def currency_data(self, name: str) -> JsonObject:
         """A part of what the packages say of currencies beside locales."""
-        data = self.load("cldr-core", "supplemental", "currencyData.json")["supplemental"]["currencyData"]
-        return data.get(name, {})
+        data: JsonObject = self.load("cldr-core", "supplemental", "currencyData.json")["supplemental"]["currencyData"]
+        part: JsonObject = data.get(name, {})
+        return part
 
-    def dated_currencies(self):
+    def dated_currencies(self) -> set[str]:
         """The codes of all currencies that were or are in use somewhere."""
         return {code for entries in self.currency_data("region").values() for entry in entries for code in entry}
 
-    def fractions(self):
+    def fractions(self) -> dict[str, dict[str, str]]:
         """What is said of the fraction digits of each currency."""
         data = self.currency_data("fractions")
         return {code: {name.lstrip("_"): text for name, text in info.items()} for code, info in data.items()}
 
-    def digits(self):
+    def digits(self) -> dict[str, str]:
         """The ten digits of each numeric numbering system."""
         systems = self.load("cldr-core", "supplemental", "numberingSystems.json")["supplemental"]["numberingSystems"]
         return {name: system["_digits"] for name, system in systems.items() if system["_type"] == "numeric"}
 
     @functools.cached_property
-    def levels(self):
+    def levels(self) -> dict[str, str]:
         """The levels of coverage: modern as the packages list such locales, others if they have a file of levels."""
         levels = {}
         if below(self.folder, "cldr-core", "coverageLevels.json").exists():
@@ -161,11 +176,11 @@ class JsonRelease(Release):
         modern = self.load("cldr-core", "availableLocales.json")["availableLocales"]["modern"]
         return {self.internal(name): level for name, level in {**levels, **dict.fromkeys(modern, "modern")}.items()}
 
-    def level(self, locale):
+    def level(self, locale: str) -> str | None:
         """The level of coverage of a locale."""
         return self.levels.get(locale) if locale != "root" else None
 
-    def facts(self):
+    def facts(self) -> cldr_names.Facts:
         """What the packages say of names."""
         likely = self.load("cldr-core", "supplemental", "likelySubtags.json")["supplemental"]["likelySubtags"]
         parents = self.load("cldr-core", "supplemental", "parentLocales.json")["supplemental"]["parentLocales"]
@@ -179,9 +194,9 @@ class JsonRelease(Release):
         parents = {self.internal(name): self.internal(parent) for name, parent in parents.items()}
         return cldr_names.Facts(likely, languages, scripts, regions, parents, self.spoken())
 
-    def spoken(self):
+    def spoken(self) -> set[tuple[str, str]]:
         """Each language with each territory of which the packages say that it is spoken there."""
-        pairs = set()
+        pairs: set[tuple[str, str]] = set()
         territories = self.load("cldr-core", "supplemental", "territoryInfo.json")["supplemental"]["territoryInfo"]
         for region, info in territories.items():
             pairs.update((self.internal(language), region) for language in info.get("languagePopulation", ()))
@@ -190,6 +205,7 @@ class JsonRelease(Release):
             pairs.update((language.partition("-alt-")[0], region) for region in info.get("_territories", ()))
         return pairs
 
-    def version(self):
+    def version(self) -> str | None:
         """The version of the package."""
-        return self.load("cldr-core", "package.json").get("version")
+        version: str | None = self.load("cldr-core", "package.json").get("version")
+        return version

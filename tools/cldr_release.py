@@ -1,19 +1,33 @@
 """A CLDR release: what every locale says, with inheritance and aliases resolved."""
-import collections
+from __future__ import annotations
+
+import abc
 import functools
 import itertools
-import operator
+import pathlib
 import re
+import zipfile
+from typing import Callable, Iterable, Iterator, NamedTuple, Sequence, Union
 
 import cldr_names
-from cldr_paths import follow, shown, system_of, without_count
-from cldr_reports import COMPACT, DRAFT, Inexpressible
+from cldr_paths import ElementPath, follow, shown, system_of, without_count
+from cldr_reports import COMPACT, DRAFT, Inexpressible, Reports
 
 STYLES = ("short", "long")
 LEVELS = ("modern", "moderate", "basic")
 
-Scope = collections.namedtuple("Scope", "elements symbols")
-Scope.__doc__ = "What is read of a locale's file: elements of `numbers` and `units`, and of these `symbols` some."
+# Where a release is.
+Folder = Union[pathlib.Path, zipfile.Path]
+# Where a text stands, by what tells apart the texts of a kind, as a plural category.
+PathOf = Callable[[str], ElementPath]
+
+
+class Scope(NamedTuple):
+    """What is read of a locale's file: elements of `numbers` and `units`, and of these `symbols` some."""
+
+    elements: set[str]
+    symbols: set[str]
+
 
 NUMBERS = Scope(
     {"defaultNumberingSystem", "otherNumberingSystems", "minimumGroupingDigits", "symbols", "decimalFormats"},
@@ -23,29 +37,76 @@ MONEY = Scope({"currencyFormats", "currencies"}, {"currencyDecimal", "currencyGr
 PERCENTS = Scope({"percentFormats"}, {"percentSign"})
 UNITS = Scope({"unitLength"}, set())
 
-Tree = collections.namedtuple("Tree", "values aliases drafts")
-Tree.__doc__ = """What one file says of numbers by path: texts, aliases as source and path, and how uncertain drafts are,
-whose texts aren't taken."""
+
+class Tree(NamedTuple):
+    """What one file says of numbers by path: texts, aliases as source and path, and how uncertain drafts are, whose texts
+    aren't taken."""
+
+    values: dict[ElementPath, str]
+    aliases: dict[ElementPath, tuple[str, str]]
+    drafts: dict[ElementPath, str]
 
 
-class Release:
-    """A CLDR release: what every locale says, with inheritance and aliases resolved."""
+class Release(abc.ABC):
+    """A CLDR release: what every locale says, with inheritance and aliases resolved. How it is read stands in the classes
+    of its two forms, which set `locales` and `cardinals` too, the rules of locales that have some."""
 
-    def __init__(self, folder, reports, scopes=()):
+    locales: list[str]
+    cardinals: dict[str, list[tuple[str, str]]]
+
+    def __init__(self, folder: Folder, reports: Reports, scopes: Sequence[Scope] = ()) -> None:
         self.folder = folder
         self.reports = reports
-        self.scope = Scope(*(set().union(*parts) for parts in zip(NUMBERS, *scopes)))
-        self.trees = {}
-        self.plural_parents = {}
+        elements, symbols = (set().union(*parts) for parts in zip(NUMBERS, *scopes))
+        self.scope = Scope(elements, symbols)
+        self.trees: dict[str, Tree] = {}
+        self.plural_parents: dict[str, str] = {}
 
-    def tree(self, locale):
+    @staticmethod
+    @abc.abstractmethod
+    def is_at(folder: Folder) -> bool:
+        """Tells whether such a release is in this folder."""
+
+    @abc.abstractmethod
+    def read_tree(self, locale: str) -> Tree:
+        """Reads what a locale's own files say."""
+
+    @abc.abstractmethod
+    def chain(self, locale: str) -> tuple[str, ...]:
+        """The locale and those from which it inherits, in their order."""
+
+    @abc.abstractmethod
+    def digits(self) -> dict[str, str]:
+        """The ten digits of each numeric numbering system."""
+
+    @abc.abstractmethod
+    def fractions(self) -> dict[str, dict[str, str]]:
+        """What is said of the fraction digits of each currency."""
+
+    @abc.abstractmethod
+    def dated_currencies(self) -> set[str]:
+        """The codes of all currencies that were or are in use somewhere."""
+
+    @abc.abstractmethod
+    def level(self, locale: str) -> str | None:
+        """The level of coverage of a locale."""
+
+    @abc.abstractmethod
+    def facts(self) -> cldr_names.Facts:
+        """What the release says of names."""
+
+    @abc.abstractmethod
+    def version(self) -> str | None:
+        """The release's version, if it tells it."""
+
+    def tree(self, locale: str) -> Tree:
         """What this locale's own file says of numbers."""
         if locale not in self.trees:
             self.trees[locale] = self.read_tree(locale)
         return self.trees[locale]
 
-    def text(self, locale, path, seen=()):
-        """The text at a path in the locale or else its parents, or None. Drafts that are passed over are told.
+    def text(self, locale: str, path: ElementPath, seen: tuple[tuple[str, ElementPath], ...] = ()) -> str | None:
+        """The text at a path in the locale or else its parents, or None. Drafts that are passed over are reported.
 
         An alias with the source `locale` begins anew at the locale that was asked for (UTS 35 Part 1, Alias Elements).
         """
@@ -66,7 +127,7 @@ class Release:
                     return self.text(begin, target, seen + ((locale, path),))
         return None
 
-    def counted_texts(self, locale, counts, path_of):
+    def counted_texts(self, locale: str, counts: Iterable[str], path_of: PathOf) -> dict[str, str]:
         """The texts of those of the counts that the locale or a parent has, at the paths that `path_of` gives, `other`
         first; without it none.
 
@@ -78,35 +139,35 @@ class Release:
             texts["other"] = self.text(locale, without_count(path_of("other")))
         return {} if texts["other"] is None else {count: text for count, text in texts.items() if text is not None}
 
-    def paths(self, locale):
+    def paths(self, locale: str) -> Iterator[ElementPath]:
         """The paths at which this locale's own file has a text, drafts among them."""
         tree = self.tree(locale)
         return itertools.chain(tree.values, tree.drafts)
 
-    def powers(self, locale, formats="decimalFormats"):
+    def powers(self, locale: str, formats: str = "decimalFormats") -> list[int]:
         """The powers of ten for which the locale or a parent of it has a compact pattern."""
         types = set()
         for ancestor in self.chain(locale):
             for path in self.paths(ancestor):
-                if path[0][0] == formats and path[-1][0] == "pattern":
-                    types.add(dict(path[-1][1:]).get("type", "1"))
+                if path[0].tag == formats and path[-1].tag == "pattern":
+                    types.add(dict(path[-1].attributes).get("type", "1"))
         for name in sorted(types):
             if not re.fullmatch("10*", name):
                 self.reports.left_out(COMPACT, locale, f"{formats}/pattern[{name}]", "its type is no power of ten")
         return sorted(len(name) - 1 for name in types if re.fullmatch("10+", name))
 
-    def named(self, locales, element, tag):
+    def named(self, locales: Iterable[str], element: str, tag: str) -> list[str]:
         """The types that elements of a tag have within an element, in one of the locales or a parent of it."""
         ancestors = {ancestor for locale in locales for ancestor in self.chain(locale)}
         paths = (path for ancestor in ancestors for path in self.paths(ancestor))
-        inside = (path[1] for path in paths if path[0][0] == element)
-        return sorted({dict(attributes)["type"] for name, *attributes in inside if name == tag})
+        inside = (path[1] for path in paths if path[0].tag == element)
+        return sorted({dict(attributes)["type"] for name, attributes in inside if name == tag})
 
     @functools.lru_cache(maxsize=None)
-    def systems(self, locale):
+    def systems(self, locale: str) -> set[str | None]:
         """The numbering systems for which the locale or a parent has texts, or an alias to another one than latn; all
         others are written as latn is, by root's aliases or for want of texts (UTS 35 Part 3, Numbering Systems)."""
-        found = set()
+        found: set[str | None] = set()
         for ancestor in self.chain(locale):
             aliases = self.tree(ancestor).aliases.items()
             targets = {path: follow(path, relative) for path, (_, relative) in aliases}
@@ -114,12 +175,12 @@ class Release:
             found.update(system_of(path) for path, target in targets.items() if system_of(target) != "latn")
         return found
 
-    def currency_codes(self, locales):
+    def currency_codes(self, locales: Iterable[str]) -> set[str]:
         """The codes of currencies of which the release or one of the locales says something."""
         named = self.named(locales, "currencies", "currency")
         return self.dated_currencies().union(self.fractions(), named) - {"DEFAULT"}
 
-    def covered(self, level):
+    def covered(self, level: str) -> list[str]:
         """The locales of a level of coverage or a better one, or `all`."""
         if level == "all":
             return self.locales
@@ -127,11 +188,11 @@ class Release:
         return [locale for locale in self.locales if self.level(locale) in taken]
 
     @functools.cached_property
-    def names(self):
+    def names(self) -> cldr_names.Names:
         """What names mean by this release."""
         return cldr_names.Names(self.locales, self.facts())
 
-    def rules_of(self, locale):
+    def rules_of(self, locale: str) -> list[tuple[str, str]]:
         """The cardinal rules of the locale, or of what is left when subtags are taken off its end, unless a parent is
         named for plural rules: pairs of a category and a text with samples (UTS 35 Part 3, Language Plural Rules)."""
         while locale not in self.cardinals and locale != "root":
@@ -139,11 +200,13 @@ class Release:
         return self.cardinals.get(locale, [])
 
 
-def below(folder, *names):
+def below(folder: Folder, *names: str) -> Folder:
     """The file or folder of these names in turn, in a folder or an archive."""
-    return functools.reduce(operator.truediv, names, folder)
+    for name in names:
+        folder = folder / name
+    return folder
 
 
-def truncated(locale):
+def truncated(locale: str) -> str:
     """The locale without its last subtag; `root` after the first one."""
     return locale.rpartition("_")[0] or "root"

@@ -1,6 +1,9 @@
 """What goes wrong with a release, and what is told of what tables leave out."""
+from __future__ import annotations
+
 import collections
 import zipfile
+from typing import TextIO
 from xml.etree import ElementTree
 
 # kinds of what isn't in the tables as CLDR has it
@@ -41,12 +44,12 @@ UNREADABLE = (NotARelease, Inexpressible, OSError, ElementTree.ParseError, zipfi
 class Reports:
     """What goes to standard error: what was left out, each once or counted by kinds; on a terminal progress too."""
 
-    def __init__(self, stream, is_verbose=False):
+    def __init__(self, stream: TextIO, is_verbose: bool = False) -> None:
         self.stream = stream
         self.is_verbose = is_verbose
-        self.said = {}
+        self.said: dict[str, tuple[str, str]] = {}
 
-    def left_out(self, kind, locale, key, reason):
+    def left_out(self, kind: str, locale: str, key: str, reason: str | Inexpressible) -> None:
         """Tells that a key of a locale isn't in the tables as CLDR has it; at once, or counted at the end."""
         line = f"{locale}: {key}: {reason}"
         if line not in self.said:
@@ -55,7 +58,7 @@ class Reports:
                 self.clear()
                 print(line, file=self.stream)
 
-    def sum_up(self):
+    def sum_up(self) -> None:
         """Tells how many of each kind were left out, if they weren't told one by one."""
         counts = collections.Counter(kind for kind, _ in self.said.values())
         for kind, count in counts.items() if not self.is_verbose else ():
@@ -63,12 +66,12 @@ class Reports:
             text = f"{count} in {locales} locale{'s' * (locales > 1)}: {kind} (--verbose names each)"
             print(text, file=self.stream)
 
-    def progress(self, done, count, locale):
+    def progress(self, done: int, count: int, locale: str) -> None:
         """Shows on a terminal alone how far the work is."""
         if self.stream.isatty():
             print(f"\r\033[K{done}/{count} {locale}", end="", file=self.stream, flush=True)
 
-    def clear(self):
+    def clear(self) -> None:
         """Takes the progress away."""
         if self.stream.isatty():
             print("\r\033[K", end="", file=self.stream)

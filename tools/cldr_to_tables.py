@@ -14,8 +14,9 @@ With --which the program tells what a name means, and makes no tables.
 Exit status: 0 done, 1 the output couldn't be written, 2 wrong words, 3 not a CLDR release, 4 a name that means no
 locale of the release.
 """
+from __future__ import annotations
+
 import argparse
-import collections
 import difflib
 import functools
 import json
@@ -23,9 +24,11 @@ import pathlib
 import re
 import sys
 import zipfile
+from typing import Callable, Collection, Dict, Iterable, Mapping, NamedTuple, NoReturn, Optional, Sequence, TypeVar
 
 import cldr_names
 from cldr_dimension import (
+    Names,
     codes_of,
     compact_money_entry,
     currency_digits,
@@ -39,9 +42,9 @@ from cldr_dimension import (
 )
 from cldr_json import JsonRelease
 from cldr_ldml import LdmlRelease
-from cldr_numbers import LATIN, CompactReader, formats_of, named, symbols_entry, systems_of
-from cldr_patterns import conditions
-from cldr_release import LEVELS, MONEY, PERCENTS, STYLES, UNITS
+from cldr_numbers import LATIN, CompactReader, Symbols, formats_of, named, symbols_entry, systems_of
+from cldr_patterns import Rules, conditions
+from cldr_release import LEVELS, MONEY, PERCENTS, STYLES, UNITS, Folder, Release, Scope
 from cldr_reports import (
     ENTRY,
     MONEY_ENTRY,
@@ -55,15 +58,27 @@ from cldr_reports import (
     UnknownWord,
 )
 
+Something = TypeVar("Something")
+# An entry of tables, as its JSON is made of it.
+Entry = Dict[str, object]
+# What makes the entry of a numbering system, without `locale` and `system`, or nothing.
+MakeEntry = Callable[[str], Optional[Mapping[str, object]]]
 
-Wanted = collections.namedtuple("Wanted", "currencies percents units systems", defaults=((), False, (), ()))
-Wanted.__doc__ = """What tables have beside numbers in the usual numbering systems: codes of currencies, percents or not,
-names of units, and further numbering systems. `all` may stand for a list, and a list may be empty."""
+
+class Wanted(NamedTuple):
+    """What tables have beside numbers in the usual numbering systems: codes of currencies, percents or not, names of
+    units, and further numbering systems. `all` may stand for a list, and a list may be empty."""
+
+    currencies: Names = ()
+    percents: bool = False
+    units: Names = ()
+    systems: Names = ()
+
 
 NUMBERS_ALONE = Wanted()
 
 
-def usable_digits(release):
+def usable_digits(release: Release) -> dict[str, str]:
     """The digits of the numeric systems whose names and digits the format takes."""
     usable = {}
     for system, digits in sorted(release.digits().items()):
@@ -75,7 +90,7 @@ def usable_digits(release):
     return usable
 
 
-def by_system(systems, entries):
+def by_system(systems: Sequence[str], entries: Mapping[str, Mapping[str, object]]) -> list[Entry]:
     """The entries of systems in their order; that of the first, the locale's default one, without its name."""
     found = [system for system in systems if system in entries]
     return [{**({} if system == systems[0] else {"system": system}), **entries[system]} for system in found]
@@ -84,36 +99,38 @@ def by_system(systems, entries):
 class TablesMaker:
     """Gathers the entries of the tables, locale by locale."""
 
-    def __init__(self, release, wanted=NUMBERS_ALONE):
+    def __init__(self, release: Release, wanted: Wanted = NUMBERS_ALONE) -> None:
         self.release = release
         self.wanted = wanted
         self.digits = usable_digits(release)
         self.further = sorted(self.digits) if wanted.systems == "all" else wanted.systems
-        digits = [[system, digits] for system, digits in sorted(self.digits.items())]
-        self.tables = {"symbols": [], "digits": digits, "rules": [], "short": [], "long": []}
+        self.tables: dict[str, list[object]] = {"symbols": [], "digits": [], "rules": [], "short": [], "long": []}
+        self.tables["digits"].extend(sorted(self.digits.items()))
         if wanted.currencies:
             self.tables.update(currencies=[], currency_decimals=[], currency_symbols=[], currency_compact=[])
-            self.tables["currency_digits"] = currency_digits(release, wanted.currencies)
+            self.tables["currency_digits"] = [*currency_digits(release, wanted.currencies)]
         if wanted.percents:
             self.tables["percents"] = []
         if wanted.units:
             self.tables["units"] = []
 
-    def add(self, tag, locale):
+    def add(self, tag: str, locale: str) -> None:
         """Adds all entries of a locale under a name."""
-        ruled = locale if tag == named(locale) else self.release.names.ruled(tag)
+        ruled = locale if tag == named(locale) else self.release.names.ruled(tag) or locale
+        head: Entry = {"locale": tag}
         for key, entries in self.entries(locale, ruled).items():
-            self.tables[key].extend({"locale": tag, **entry} for entry in entries)
+            self.tables[key].extend({**head, **entry} for entry in entries)
 
     @functools.lru_cache(maxsize=None)
-    def entries(self, locale, ruled):
+    def entries(self, locale: str, ruled: str) -> dict[str, list[Entry]]:
         """The entries of a locale with the plural rules of another by their keys, without `locale`: they are read once,
         and stand under every name."""
         rules = conditions(self.release, ruled)
         usual = systems_of(self.release, locale, self.digits)
         systems = usual + self.further_systems(locale, usual)
-        symbols, amounts = self.symbols(locale, systems, symbols_entry, "symbols"), {}
-        entries = {"rules": [{"rules": rules}]}
+        symbols = self.symbols(locale, systems, symbols_entry, "symbols")
+        amounts: dict[str, Symbols] = {}
+        entries: dict[str, list[Entry]] = {"rules": [{"rules": rules}]}
         entries.update((style, self.compact(locale, systems, style, rules)) for style in STYLES)
         if self.wanted.currencies:
             entries["currencies"] = self.money(locale, systems, rules)
@@ -132,7 +149,7 @@ class TablesMaker:
             entries["currency_decimals"] = by_system(new, amounts)
         return entries
 
-    def further_systems(self, locale, usual):
+    def further_systems(self, locale: str, usual: list[str]) -> list[str]:
         """The further systems that are asked for and may be written otherwise than the locale's default one."""
         default = usual[0] if usual else None
         own = self.release.systems(locale) if self.further else set()
@@ -140,16 +157,22 @@ class TablesMaker:
         return [system for system in further if system in own or default != LATIN]
 
     @staticmethod
-    def is_new(default, system, *kinds):
+    def is_new(default: str, system: str, *kinds: Mapping[str, Symbols]) -> bool:
         """Whether a system has other symbols of one of these kinds than the default one, whose symbols stand for those
         that aren't in tables; the name of the system aside."""
 
-        def named_alike(entries, name):
-            return name in entries and {**entries[name], "numsys": system}
+        def named_alike(entries: Mapping[str, Symbols], name: str) -> Symbols | None:
+            if name not in entries:
+                return None
+            entry = entries[name].copy()
+            entry["numsys"] = system
+            return entry
 
         return any(named_alike(entries, system) != named_alike(entries, default) for entries in kinds)
 
-    def try_entry(self, locale, key, make, kind=ENTRY):
+    def try_entry(
+        self, locale: str, key: str, make: Callable[[], Something], kind: str = ENTRY
+    ) -> Something | None:
         """What `make` answers, or None with a line where it can't be expressed."""
         try:
             return make()
@@ -157,17 +180,17 @@ class TablesMaker:
             self.release.reports.left_out(kind, locale, key, refused)
             return None
 
-    def where_new(self, systems, make):
+    def where_new(self, systems: Sequence[str], make: MakeEntry) -> list[Entry]:
         """What `make` answers for the default system, and for the others where it is other than for this one."""
         entries = {system: make(system) for system in systems}
         default = entries.get(systems[0]) if systems else None
         new = {system: it for system, it in entries.items() if it is not None and (it is default or it != default)}
         return by_system(systems, new)
 
-    def money(self, locale, systems, rules):
+    def money(self, locale: str, systems: Sequence[str], rules: Rules) -> list[Entry]:
         """The patterns of money. Those of amounts with names go with the default system's, where they are looked up."""
 
-        def make(system):
+        def make(system: str) -> Mapping[str, object] | None:
             key = f"currencyFormats[{system}]"
             entry = functools.partial(money_entry, self.release, locale, system)
             return self.try_entry(locale, key, entry, MONEY_ENTRY)
@@ -180,27 +203,33 @@ class TablesMaker:
             entries[0].update({} if names is None else {"names": names})
         return entries
 
-    def compact_money(self, locale, systems, rules):
+    def compact_money(self, locale: str, systems: Sequence[str], rules: Rules) -> list[Entry]:
         """The compact patterns of money."""
 
-        def make(system):
+        def make(system: str) -> Mapping[str, object] | None:
             key = f"currencyFormats[{system}]/short"
             entry = functools.partial(compact_money_entry, self.release, locale, system, rules)
             return self.try_entry(locale, key, entry, MONEY_ENTRY)
 
         return self.where_new(systems, make)
 
-    def percents(self, locale, systems):
+    def percents(self, locale: str, systems: Sequence[str]) -> list[Entry]:
         """The patterns of percents."""
 
-        def make(system):
+        def make(system: str) -> Mapping[str, object] | None:
             key = f"percentFormats[{system}]"
             entry = functools.partial(percent_entry, self.release, locale, system)
             return self.try_entry(locale, key, entry, MONEY_ENTRY)
 
         return self.where_new(systems, make)
 
-    def symbols(self, locale, systems, make, key):
+    def symbols(
+        self,
+        locale: str,
+        systems: Sequence[str],
+        make: Callable[[Release, str, str], Symbols | None],
+        key: str,
+    ) -> dict[str, Symbols]:
         """The symbols of systems that have some, by their names, as `make` answers them."""
         entries = {}
         for system in systems:
@@ -209,10 +238,10 @@ class TablesMaker:
                 entries[system] = entry
         return entries
 
-    def compact(self, locale, systems, style, rules):
+    def compact(self, locale: str, systems: Sequence[str], style: str, rules: Rules) -> list[Entry]:
         """The compact patterns of the default system, and of the others where they differ from these."""
 
-        def make(system):
+        def make(system: str) -> Mapping[str, object] | None:
             formats = formats_of(self.release, locale, system)
             reader = CompactReader(self.release, locale, formats, style, rules)
             patterns = self.try_entry(locale, f"decimalFormats[{system}]/{style}", reader.table)
@@ -221,9 +250,9 @@ class TablesMaker:
         return self.where_new(systems, make)
 
 
-def open_release(name, reports, scopes=()):
+def open_release(name: str, reports: Reports, scopes: Sequence[Scope] = ()) -> Release:
     """The release in a folder or an archive, of which so much is read beside numbers."""
-    folder = zipfile.Path(name) if zipfile.is_zipfile(name) else pathlib.Path(name)
+    folder: Folder = zipfile.Path(name) if zipfile.is_zipfile(name) else pathlib.Path(name)
     for place in (folder, folder / "common"):
         for form in (LdmlRelease, JsonRelease):
             if form.is_at(place):
@@ -234,7 +263,7 @@ def open_release(name, reports, scopes=()):
 # What a name means, in words.
 
 
-def told(release, name):
+def told(release: Release, name: str) -> tuple[bool, str]:
     """Whether a name means a locale of the release, and a line that says which, and what decfmt takes for it."""
     question = cldr_names.asked(name)
     locale = release.names.meant(question.name)
@@ -245,13 +274,13 @@ def told(release, name):
     if question.system and question.system not in release.digits():
         return False, f"{name}: the release has no digits of a numbering system {question.system}"
     level = release.level(locale)
-    coverage = level if level in LEVELS else "all"
+    coverage = level if level is not None and level in LEVELS else "all"
     words = f"{written_for(release, question.name, locale, coverage)} {question.system or '-'}"
     where = "" if coverage == LEVELS[0] else f", in tables with --coverage {coverage}"
     return True, f"{name}: the locale {named(locale)}; write {words} (LOCALE and NU of decfmt){where}"
 
 
-def written_for(release, name, locale, coverage):
+def written_for(release: Release, name: str, locale: str, coverage: str) -> str:
     """The name as tables of a coverage have it, in its usual letters, or else that of its locale."""
     tag = named(cldr_names.in_usual_letters(name))
     return tag if tag in map(named, release.names.added(release.covered(coverage))) else named(locale)
@@ -260,7 +289,9 @@ def written_for(release, name, locale, coverage):
 # The program.
 
 
-def chosen(release, words, coverage="modern", names="none"):
+def chosen(
+    release: Release, words: Sequence[str], coverage: str = "modern", names: str = "none"
+) -> list[tuple[str, str]]:
     """What the tables are made of, as names with the locale of each: those that are asked for; else the locales of a
     coverage, and their usual names, all or none."""
     if words:
@@ -270,9 +301,10 @@ def chosen(release, words, coverage="modern", names="none"):
     return [(named(locale), locale) for locale in locales] + [(named(name), added[name]) for name in sorted(added)]
 
 
-def asked_for(release, words):
+def asked_for(release: Release, words: Sequence[str]) -> list[tuple[str, str]]:
     """The names of the command, each with its locale."""
-    found, unknown = {}, []
+    found: dict[str, str] = {}
+    unknown: list[str] = []
     for word in words:
         question = cldr_names.asked(word)
         locale = release.names.meant(question.name) if question.is_tag else None
@@ -287,15 +319,17 @@ def asked_for(release, words):
     return sorted(found.items(), key=lambda pair: (pair[1], pair[0]))
 
 
-def refuse_unknown(release, locales, wanted):
+def refuse_unknown(release: Release, locales: Collection[str], wanted: Wanted) -> None:
     """Refuses currencies, units and numbering systems that the release doesn't know."""
-    known = {
+    known: dict[str, tuple[Names, Callable[[], Collection[str]]]] = {
         "currencies": (wanted.currencies, lambda: release.currency_codes(locales)),
         "units": (wanted.units, lambda: names_of_units(release, locales)),
         "systems": (wanted.systems, lambda: usable_digits(release)),
     }
     for word, (names, known_names) in known.items():
-        there = known_names() if names and names != "all" else names
+        if not names or names == "all":
+            continue
+        there = known_names()
         unknown = [name for name in names if name not in there]
         if unknown:
             near = difflib.get_close_matches(unknown[0], there, cldr_names.MOST_NEAR)
@@ -303,7 +337,9 @@ def refuse_unknown(release, locales, wanted):
             raise UnknownWord(f"--{word}: {unknown[0]}: not in the release; {told_near}")
 
 
-def make_tables(release, pairs, wanted=NUMBERS_ALONE):
+def make_tables(
+    release: Release, pairs: Collection[tuple[str, str]], wanted: Wanted = NUMBERS_ALONE
+) -> dict[str, object]:
     """The tables of locales under their names."""
     maker = TablesMaker(release, wanted)
     for index, (tag, locale) in enumerate(pairs):
@@ -313,7 +349,7 @@ def make_tables(release, pairs, wanted=NUMBERS_ALONE):
     return {"cldr": release.version() or "unknown", **maker.tables}
 
 
-def written(tables):
+def written(tables: Mapping[str, object]) -> str:
     """The tables as JSON, one entry a line."""
     parts = []
     for key, value in tables.items():
@@ -325,29 +361,36 @@ def written(tables):
     return "{" + ",\n".join(parts) + "}\n"
 
 
+class Parser(argparse.ArgumentParser):
+    """Reports wrong arguments in one line."""
+
+    def error(self, message: str) -> NoReturn:
+        self.exit(2, f"{self.prog}: error: {message}\n")
+
+
 class TellVersion(argparse.Action):
     """Tells the version of the project, and ends."""
 
-    def __call__(self, parser, *_):
+    def __call__(self, parser: argparse.ArgumentParser, *_: object) -> None:
         version = pathlib.Path(__file__).resolve().parent.parent / "VERSION"
         print(parser.prog, version.read_text().strip())
         parser.exit()
 
 
-def listed(word):
+def listed(word: str) -> Names:
     """The names of a list with commas; `all`; none for `none`."""
     return "all" if word == "all" else () if word == "none" else tuple(dict.fromkeys(word.split(",")))
 
 
-def scopes_of(options):
+def scopes_of(options: argparse.Namespace) -> list[Scope]:
     """What is read beside numbers."""
     asked = (options.currencies, MONEY), (options.percents, PERCENTS), (options.units, UNITS)
     return [scope for is_asked, scope in asked if is_asked]
 
 
-def words_parser():
+def words_parser() -> argparse.ArgumentParser:
     """What reads the words of the command."""
-    parser = argparse.ArgumentParser(description=__doc__, formatter_class=argparse.RawDescriptionHelpFormatter)
+    parser = Parser(description=__doc__, formatter_class=argparse.RawDescriptionHelpFormatter)
     parser.add_argument("release", metavar="RELEASE", help="core.zip, or the folder of a release")
     parser.add_argument("locales", metavar="LOCALE", nargs="*", help="as de, pt-AO or zh-TW: these alone")
     parser.add_argument("-o", "--output", metavar="FILE", help="where the tables go; standard output if left out")
@@ -363,7 +406,7 @@ def words_parser():
     return parser
 
 
-def read_words(parser, words):
+def read_words(parser: argparse.ArgumentParser, words: Sequence[str]) -> argparse.Namespace:
     """The words of the command."""
     options = parser.parse_intermixed_args(words)
     if options.locales and (options.coverage or options.names):
@@ -376,7 +419,7 @@ def read_words(parser, words):
     return options
 
 
-def tell_which(release, names):
+def tell_which(release: Release, names: Iterable[str]) -> int:
     """Tells what names mean, and answers the exit status."""
     answers = [told(release, name) for name in names]
     for _, line in answers:
@@ -384,7 +427,7 @@ def tell_which(release, names):
     return 0 if all(is_known for is_known, _ in answers) else 4
 
 
-def made(release, options):
+def made(release: Release, options: argparse.Namespace) -> str:
     """The text of the tables that are asked for."""
     pairs = chosen(release, options.locales, options.coverage or "modern", options.names or "usual")
     wanted = Wanted(options.currencies, options.percents, options.units, options.systems)
@@ -394,7 +437,7 @@ def made(release, options):
     return text
 
 
-def main(words):
+def main(words: Sequence[str]) -> int:
     """Makes tables, or tells what names mean, and answers the exit status."""
     parser = words_parser()
     options = read_words(parser, words)

@@ -10,16 +10,22 @@ usage: tools/pictures.py [--check]
 - speed.svg: the first table of docs/PERFORMANCE.md.
 
 With --check nothing is written, and a picture that is another is named. Exit status: 0 done, 1 a picture is another, 2 wrong
-words.
+arguments.
 """
 import html
+import itertools
 import json
 import math
 import os
 import re
 import sys
+from collections.abc import Iterable, Mapping, Sequence
+from typing import TypeAlias
 
 ROOT = os.path.dirname(os.path.dirname(os.path.abspath(__file__)))
+sys.path.insert(0, os.path.join(ROOT, "tests"))
+import usage  # noqa: E402
+
 FOLDER = "docs/pictures"
 SANS = "DejaVu Sans, Verdana, Noto Sans, Noto Sans Bengali, Noto Sans CJK JP, sans-serif"
 MONO = "DejaVu Sans Mono, Menlo, Consolas, monospace"
@@ -39,19 +45,19 @@ SHOWN = [
 ]
 
 
-def read(path):
+def read(path: str) -> str:
     with open(os.path.join(ROOT, path), encoding="utf-8") as file:
         return file.read()
 
 
 # Elements
 
-def number(value):
+def number(value: float) -> str:
     """A coordinate, in tenths at most."""
     return f"{value:.1f}".rstrip("0").rstrip(".")
 
 
-def element(name, body=None, **attributes):
+def element(name: str, body: str | None = None, **attributes: str | float) -> str:
     words = "".join(
         f' {key.rstrip("_").replace("_", "-")}="{number(value) if isinstance(value, (int, float)) else html.escape(value)}"'
         for key, value in attributes.items()
@@ -59,19 +65,21 @@ def element(name, body=None, **attributes):
     return f"<{name}{words}/>" if body is None else f"<{name}{words}>{html.escape(body, quote=False)}</{name}>"
 
 
-def text(x, y, body, size=14, anchor="start", fill=INK, family=SANS, **more):
+def text(
+    x: float, y: float, body: str, size: int = 14, anchor: str = "start", fill: str = INK, family: str = SANS, **more: str
+) -> str:
     return element("text", body, x=x, y=y, font_size=size, text_anchor=anchor, fill=fill, font_family=family, **more)
 
 
-def line(x1, y1, x2, y2, stroke=INK, width=1.5, **more):
-    return element("line", x1=x1, y1=y1, x2=x2, y2=y2, stroke=stroke, stroke_width=width, **more)
+def line(x1: float, y1: float, x2: float, y2: float, stroke: str = INK, width: float = 1.5) -> str:
+    return element("line", x1=x1, y1=y1, x2=x2, y2=y2, stroke=stroke, stroke_width=width)
 
 
-def box(x, y, width, height, fill="white", stroke=INK, **more):
-    return element("rect", x=x, y=y, width=width, height=height, rx=5, fill=fill, stroke=stroke, stroke_width=1.2, **more)
+def box(x: float, y: float, width: float, height: float, fill: str) -> str:
+    return element("rect", x=x, y=y, width=width, height=height, rx=5, fill=fill, stroke=INK, stroke_width=1.2)
 
 
-def arrow_head(x, y, dx, dy, size=7):
+def arrow_head(x: float, y: float, dx: float, dy: float, size: int = 7) -> str:
     """The head of an arrow that ends at a point, in one of the two directions."""
     length = (dx * dx + dy * dy) ** 0.5
     dx, dy = dx / length * size, dy / length * size
@@ -79,7 +87,7 @@ def arrow_head(x, y, dx, dy, size=7):
     return element("polygon", points=" ".join(f"{number(a)},{number(b)}" for a, b in points), fill=GREY)
 
 
-def picture(width, height, title, elements):
+def picture(width: float, height: float, title: str, elements: Iterable[str]) -> str:
     size = f'viewBox="0 0 {width} {height}" width="{width}" height="{height}"'
     head = f'<svg xmlns="http://www.w3.org/2000/svg" {size} role="img">'
     back = element("rect", x=0, y=0, width=width, height=height, fill="white")
@@ -88,9 +96,16 @@ def picture(width, height, title, elements):
 
 # The crates
 
-def crates():
+# Those that each crate uses.
+Uses: TypeAlias = dict[str, list[str]]
+# A crate, or the bend in a layer of the edges to a crate, and edges between them.
+Node: TypeAlias = str | tuple[str, int]
+Edges: TypeAlias = list[tuple[Node, Node]]
+
+
+def crates() -> Uses:
     """The crates of the repository, each with those that its line names."""
-    named = {}
+    named: Uses = {}
     for row in read("crates.txt").splitlines():
         name, _, rest = row.partition("#")[0].partition(":")
         if name.strip():
@@ -98,9 +113,9 @@ def crates():
     return {name: [dep for dep in deps if dep in named] for name, deps in named.items()}
 
 
-def reduced(uses):
+def reduced(uses: Uses) -> Uses:
     """The direct uses that no other way leads to."""
-    def below(name):
+    def below(name: str) -> set[str]:
         return {name}.union(*(below(dep) for dep in uses[name]))
     return {
         name: [dep for dep in deps if not any(dep in below(other) for other in deps if other != dep)]
@@ -108,11 +123,11 @@ def reduced(uses):
     }
 
 
-def layers_of(uses):
+def layers_of(uses: Uses) -> dict[str, int]:
     """The layer of each crate: one above the highest that it stands on; what stands on none is next to its lowest user."""
-    layer = {}
+    layer: dict[str, int] = {}
 
-    def find(name):
+    def find(name: str) -> int:
         if name not in layer:
             layer[name] = max((find(dep) + 1 for dep in uses[name]), default=0)
         return layer[name]
@@ -125,13 +140,13 @@ def layers_of(uses):
     return layer
 
 
-def with_bends(uses, layer):
+def with_bends(uses: Uses, layer: Mapping[str, int]) -> tuple[list[list[Node]], Edges]:
     """Nodes by layer and edges of one layer each: an edge over several layers has a bend in each, shared by its target."""
-    rows = [[name for name in uses if layer[name] == at] for at in range(max(layer.values()) + 1)]
-    edges = set()
+    rows: list[list[Node]] = [[name for name in uses if layer[name] == at] for at in range(max(layer.values()) + 1)]
+    edges: set[tuple[Node, Node]] = set()
     for name, deps in uses.items():
         for dep in deps:
-            above = name
+            above: Node = name
             for at in range(layer[name] - 1, layer[dep], -1):
                 bend = (dep, at)
                 if bend not in rows[at]:
@@ -142,7 +157,7 @@ def with_bends(uses, layer):
     return rows, sorted(edges, key=str)
 
 
-def crossings(rows, edges):
+def crossings(rows: Sequence[Sequence[Node]], edges: Edges) -> int:
     """How many edges cross."""
     place = {node: at for row in rows for at, node in enumerate(row)}
     level = {node: at for at, row in enumerate(rows) for node in row}
@@ -154,9 +169,9 @@ def crossings(rows, edges):
     return count
 
 
-def ordered(rows, edges):
+def ordered(rows: list[list[Node]], edges: Edges) -> tuple[list[list[Node]], dict[Node, list[Node]]]:
     """The rows in an order with few crossings: by the mean place of the neighbours, and then by exchanges."""
-    near = {node: [] for row in rows for node in row}
+    near: dict[Node, list[Node]] = {node: [] for row in rows for node in row}
     for upper, lower in edges:
         near[upper].append(lower)
         near[lower].append(upper)
@@ -179,24 +194,23 @@ def ordered(rows, edges):
     return rows, near
 
 
-def apart(wanted, gaps):
+def apart(wanted: Sequence[float], gaps: Sequence[float]) -> list[float]:
     """The places nearest to those that are wanted, in this order and at least these gaps apart."""
-    offset, offsets = 0, []
-    for gap in [0, *gaps]:
-        offset += gap
-        offsets.append(offset)
-    blocks = []
+    offsets = list(itertools.accumulate([0, *gaps]))
+    # the mean place of nodes that stand as near as they may, and how many they are
+    blocks: list[tuple[float, int]] = []
     for place, shift in zip(wanted, offsets):
-        blocks.append([place - shift, 1])
+        blocks.append((place - shift, 1))
         while len(blocks) > 1 and blocks[-2][0] > blocks[-1][0]:
             mean, count = blocks.pop()
-            total = blocks[-1][1] + count
-            blocks[-1] = [(blocks[-1][0] * blocks[-1][1] + mean * count) / total, total]
+            mean_before, count_before = blocks.pop()
+            total = count_before + count
+            blocks.append(((mean_before * count_before + mean * count) / total, total))
     flat = [mean for mean, count in blocks for _ in range(count)]
     return [place + shift for place, shift in zip(flat, offsets)]
 
 
-def crates_picture():
+def crates_picture() -> str:
     size, height, step = 13, 30, 74
     uses = reduced(crates())
     rows, edges = with_bends(uses, layers_of(uses))
@@ -237,14 +251,14 @@ def crates_picture():
 
 # Parts
 
-def parts_of(number_text, symbols):
+def parts_of(number_text: str, symbols: Mapping[str, str]) -> list[tuple[str, int, int]]:
     """Which cells of a plain number are which part: pairs of a name and a range."""
     point = number_text.index(symbols["decimal"])
     groups = [("group", at, at + 1) for at, letter in enumerate(number_text[:point]) if letter == symbols["group"]]
     return [("integer", 0, point), *groups, ("decimal", point, point + 1), ("fraction", point + 1, len(number_text))]
 
 
-def parts_picture():
+def parts_picture() -> str:
     rows = re.findall(r"^\| ([\w-]+) \| `([^`]+)` \| `", read("README.md"), flags=re.M)
     tables = {entry["locale"]: entry for entry in json.loads(read("tables/six_locales.json"))["symbols"]}
     colours = {"integer": BLUE, "group": ORANGE, "decimal": RED, "fraction": GREEN}
@@ -270,10 +284,10 @@ def parts_picture():
 
 # Showable sizes
 
-def showable_picture():
+def showable_picture() -> str:
     first, last, left, right, axis = 997700, 1000600, 40, 960, 120
 
-    def place(value):
+    def place(value: float) -> float:
         return left + (value - first) / (last - first) * (right - left)
 
     drawn = [line(left, axis, right, axis, INK, 2)]
@@ -299,7 +313,7 @@ def showable_picture():
 
 # A table's way
 
-def tables_picture():
+def tables_picture() -> str:
     steps = [
         ("a CLDR release", ["core.zip, or the", "JSON packages"], "#f3f4f6"),
         ("cldr.json", ["symbols, digits,", "rules, patterns"], "#f3f4f6"),
@@ -326,15 +340,15 @@ def tables_picture():
     low = top + height + 22
     border = middle - gap / 2
     spans = [(16, border - 4, "tested; what comes out compared with ICU"), (border + 4, end, "proved")]
-    for first, last, told in spans:
-        drawn += [line(first, low, last, low, INK, 2), text((first + last) / 2, low + 24, told, 16, "middle")]
+    for first, last, label in spans:
+        drawn += [line(first, low, last, low, INK, 2), text((first + last) / 2, low + 24, label, 16, "middle")]
     drawn.append(text(16, 24, "A table's way from CLDR to a text", 16))
     return picture(end + 16, low + 40, "A table's way from CLDR to a text", drawn)
 
 
 # Speed
 
-def speed_picture():
+def speed_picture() -> str:
     table = read("docs/PERFORMANCE.md").split("| program |")[1].split("\n\n")[0].splitlines()[2:]
     rows = []
     for row in table:
@@ -345,14 +359,14 @@ def speed_picture():
     left, right, top, bar = 130, 840, 62, 17
     low, high = math.log(0.3), math.log(200)
 
-    def place(ratio):
+    def place(ratio: float) -> float:
         return left + (math.log(ratio) - low) / (high - low) * (right - left)
 
     bottom = top + len(rows) * 54
     drawn = [text(left - 114, 24, "Time, as a multiple of rust_plain's (logarithmic; less is faster)", 16)]
-    for ratio in (0.5, 1, 2, 5, 10, 20, 50, 100):
-        drawn.append(line(place(ratio), top - 12, place(ratio), bottom, INK if ratio == 1 else PALE, 1.5))
-        drawn.append(text(place(ratio), bottom + 20, f"{ratio:g}", 14, "middle"))
+    for mark in (0.5, 1, 2, 5, 10, 20, 50, 100):
+        drawn.append(line(place(mark), top - 12, place(mark), bottom, INK if mark == 1 else PALE, 1.5))
+        drawn.append(text(place(mark), bottom + 20, f"{mark:g}", 14, "middle"))
     for at, (name, bars) in enumerate(rows):
         y = top + at * 54
         drawn.append(text(left - 12, y + 22, name, 15, "end"))
@@ -383,7 +397,7 @@ PICTURES = {
 }
 
 
-def stale():
+def stale() -> dict[str, str]:
     """The pictures that aren't as they are drawn, each with its text."""
     wanted = {f"{FOLDER}/{name}.svg": draw() for name, draw in PICTURES.items()}
     return {
@@ -392,10 +406,7 @@ def stale():
     }
 
 
-def main(words):
-    if words not in ([], ["--check"]):
-        print(__doc__, file=sys.stderr)
-        return 2
+def main(words: Sequence[str]) -> int:
     others = stale()
     for path, drawn in others.items():
         if words:
@@ -408,4 +419,4 @@ def main(words):
 
 
 if __name__ == "__main__":
-    sys.exit(main(sys.argv[1:]))
+    sys.exit(main(usage.words_of(__doc__, 0, 0, ["--check"])))

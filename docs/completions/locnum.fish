@@ -1,25 +1,42 @@
-# Completion of locnum for fish: to be put into ~/.config/fish/completions.
+# Completion of locnum for fish: to be put into ~/.config/fish/completions. tools/option_pages.py makes it.
+
+# what the file of tables that the words name holds, or else the program
+function __locnum_list
+    set -l words (commandline -opc)
+    set -l file
+    for place in (seq (count $words))
+        switch $words[$place]
+            case -t --tables
+                set file -t $words[(math $place + 1)]
+            case '--tables=*'
+                set file -t (string replace -- --tables= '' $words[$place])
+        end
+    end
+    locnum --list $argv[1] $file 2>/dev/null
+end
+
 complete -c locnum -f
-complete -c locnum -s t -l tables -r -F -d 'tables of locales; without them English alone'
-complete -c locnum -s l -l locale -x -d 'the locale, such as de or pt-BR; en without it'
-complete -c locnum -l system -x -d 'the numbering system, such as latn'
-complete -c locnum -l style -x -a 'plain short long' -d 'plain, short or long numbers; plain or short amounts'
-complete -c locnum -l grouping -x -a 'auto never always min2' -d 'separators: auto, never, always or min2'
-complete -c locnum -l fraction -x -d 'how many fraction digits'
-complete -c locnum -l sign -x -a 'auto always never except-zero negative' -d 'auto, always, never, except-zero or negative'
-complete -c locnum -l currency -x -d 'amounts of a currency, such as EUR'
-complete -c locnum -l width -x -a 'short narrow name long' -d 'short or narrow symbols, or name; long, short or narrow units'
-complete -c locnum -l unit -x -d 'numbers with a unit of the tables, such as kilometer'
-complete -c locnum -s d -l delimiter -x -d 'the byte between fields, instead of blanks'
-complete -c locnum -l field -x -d 'the fields that are numbers, as 2, 2-4, 1,3- or -; 1 without it'
-complete -c locnum -l padding -x -d 'numbers take N columns at least, behind spaces, or before them with -N'
-complete -c locnum -l invalid -x -a 'abort fail warn ignore' -d 'texts that are no numbers: abort, fail, warn or ignore'
+complete -c locnum -s t -l tables -r -F -d 'tables of locales; English without it'
+complete -c locnum -s l -l locale -x -a '(__locnum_list locales)' -d 'such as de or pt-BR; env: that of the environment'
+complete -c locnum -l system -x -a '(__locnum_list systems)' -d 'the numbering system, such as latn'
+complete -c locnum -l list -x -a 'locales systems currencies units' -d 'print the locales, systems, currencies or units'
+complete -c locnum -l style -x -a 'plain short long' -d 'plain, short or long; of amounts plain or short'
+complete -c locnum -l currency -x -a '(__locnum_list currencies)' -d 'amounts of a currency, such as EUR'
 complete -c locnum -l accounting -d 'amounts as in accounts, as ($1.00)'
 complete -c locnum -l cash -d 'amounts with the fraction digits of cash'
+complete -c locnum -l unit -x -a '(__locnum_list units)' -d 'a unit of the tables, such as kilometer'
+complete -c locnum -l width -x -a 'short narrow name long' -d 'short, narrow or name; of units long, too'
 complete -c locnum -l percent -d 'numbers as percents, 0.5 as 50%'
-complete -c locnum -l csv -d 'lines are records of CSV, with a comma between fields unless -d says another byte'
+complete -c locnum -l fraction -x -d 'how many fraction digits'
+complete -c locnum -l grouping -d 'auto, never, always or min2; auto without WHEN'
+complete -c locnum -l sign -x -a 'auto always never except-zero negative' -d 'auto, always, never, except-zero or negative'
+complete -c locnum -s d -l delimiter -x -d 'the byte between fields, instead of blanks'
+complete -c locnum -l csv -d 'records of CSV, with commas unless -d says another byte'
+complete -c locnum -l field -x -d 'the numbers: 2, 2-4, 1,3- or -, or names of --header'
+complete -c locnum -l header -d 'N lines in front go through, 1 without N'
 complete -c locnum -s z -l zero-terminated -d 'lines end in NUL instead of a line feed'
+complete -c locnum -l padding -x -d 'N columns at least, behind spaces; -N: before them'
+complete -c locnum -l invalid -x -a 'abort fail warn ignore' -d 'texts that are no numbers: abort, fail, warn or ignore'
 complete -c locnum -l explain -d 'each number with its parts, and why it is written so'
-complete -c locnum -l header -d 'so many lines in front go through as they are; 1 without N'
-complete -c locnum -s h -l help -d 'Print help'
-complete -c locnum -s V -l version -d 'Print version'
+complete -c locnum -s h -l help -d 'this text'
+complete -c locnum -s V -l version -d 'the version'

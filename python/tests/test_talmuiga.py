@@ -2,41 +2,44 @@
 import json
 import sys
 import threading
+from collections.abc import Callable, Iterable
 from decimal import Decimal
+from typing import Any
 
 import talmuiga
-from talmuiga import Formatter, NoData, NotFormatted, TablesRefused, WordsRefused
+from talmuiga import Formatter, NoData, NotFormatted, Number, TablesRefused, WordsRefused
 
 SAMPLE = open(sys.argv[1], "rb").read()
 ENGLISH = Formatter.english()
 CASES = FAILED = 0
 
 
-def judge(name, wanted, call):
+def judge(name: str, wanted: object, call: Callable[[], object]) -> None:
     """Compares what a call answers, or its exception, with what is wanted."""
     global CASES, FAILED
     CASES += 1
+    given: object
     try:
         given = call()
     except Exception as error:
         given = type(error)
         if isinstance(error, NotFormatted):
-            given = (given, error.index, error.text, error.reason)
+            given = (type(error), error.index, error.text, error.reason)
         elif isinstance(error, TablesRefused):
-            given = (given, str(error))
+            given = (type(error), str(error))
     if given != wanted:
         FAILED += 1
         print(f"FAILED {name}: wanted {wanted!r}, given {given!r}")
 
 
-def pieces(text, parts):
+def pieces(text: str, parts: Iterable[tuple[int, int, str]]) -> tuple[str, list[str]]:
     """A text and the texts of its parts."""
     return text, [text[begin:end] for begin, end, _ in parts]
 
 
-def tables(**texts):
+def tables(**texts: str) -> bytes:
     """English tables with other texts: a separator of groups, a short pattern of thousands."""
-    symbols = {"locale": "en", "minus": ["-", ""], "plus": ["+", ""], "decimal": ".", "group": ",", "numsys": "latn",
+    symbols: dict[str, object] = {"locale": "en", "minus": ["-", ""], "plus": ["+", ""], "decimal": ".", "group": ",", "numsys": "latn",
                "sizes": [3, 3, 1]}
     symbols.update(group=texts.get("group", ","))
     return json.dumps({
@@ -47,17 +50,19 @@ def tables(**texts):
     }).encode()
 
 
-for number, text in [
+ENGLISH_TEXTS: list[tuple[Number, str]] = [
     (1000007, "1,000,007"), ("-987654.321", "-987,654.321"), (Decimal("1E+6"), "1,000,000"), (Decimal("1.50"), "1.50"),
     (0.1, "0.1"), (1e22, "10,000,000,000,000,000,000,000"), (1e-7, "0.0000001"), (True, "1"), ("+5", "+5"),
     ("9" * 30000, "9" * 3 + ",999" * 9999), (10**40, "10" + ",000" * 13),
-]:
+]
+for number, text in ENGLISH_TEXTS:
     judge(f"English of {str(number)[:20]}", text, lambda: ENGLISH.format(number))
 for text, reason in [("1e3", "not a decimal"), ("", "not a decimal"), ("5\n", "not a decimal"), ("5\r", "not a decimal"),
                      ("\ud800", "not a decimal"), ("5\0", "not a decimal"), ("9" * 70000, "too many digits")]:
     judge(f"refused {text[:5]!r}", (NotFormatted, 0, text, reason), lambda: ENGLISH.format(text))
 judge("infinity", (NotFormatted, 0, "Infinity", "not a decimal"), lambda: ENGLISH.format(float("inf")))
-judge("another type", TypeError, lambda: ENGLISH.format(None))
+NOTHING: Any = None
+judge("another type", TypeError, lambda: ENGLISH.format(NOTHING))
 judge("parts", ("-1,234.5", [(0, 1, "minusSign"), (1, 6, "integer"), (2, 3, "group"), (6, 7, "decimal"), (7, 8, "fraction")]),
       lambda: ENGLISH.parts("-1234.5"))
 judge("parts of Bengali", ("-১,২৩৪.৫", ["-", "১,২৩৪", ",", ".", "৫"]),
@@ -68,7 +73,8 @@ judge("parts of a rounded number", ("-2.34", ["-", "2", ".", "34"]), lambda: pie
 for text, reason in [("1e3", "not a decimal"), ("\ud800", "not a decimal"), ("9" * 70000, "too many digits")]:
     judge(f"parts of refused {text[:5]!r}", (NotFormatted, 0, text, reason), lambda: ENGLISH.parts(text))
 judge("no number", [], lambda: ENGLISH.format_many([]))
-judge("many", ["5", "1,000", "0.5"], lambda: ENGLISH.format_many(iter(["5", 1000, 0.5])))
+MIXED: list[Number] = ["5", 1000, 0.5]
+judge("many", ["5", "1,000", "0.5"], lambda: ENGLISH.format_many(iter(MIXED)))
 judge("the first that isn't", (NotFormatted, 1, "x", "not a decimal"), lambda: ENGLISH.format_many(["5", "x", "y"]))
 judge("marked", ["5", "?", "6", "?"], lambda: ENGLISH.format_many(["5", "x", "6", "7\n8"], mark="?"))
 judge("short", ["1.6K", "1M"], lambda: Formatter(SAMPLE, "en", style="short").format_many(["1650", 1000000]))
@@ -94,7 +100,7 @@ judge("exceptions of values", True, lambda: issubclass(NoData, ValueError) and i
 judge("the version", "0.1.0", lambda: talmuiga.__version__)
 
 WANTED = [f"{n:,}" for n in range(20000)]
-GIVEN = []
+GIVEN: list[list[str]] = []
 THREADS = [threading.Thread(target=lambda: GIVEN.append(ENGLISH.format_many(range(20000)))) for _ in range(8)]
 for thread in THREADS:
     thread.start()

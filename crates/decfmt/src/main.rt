@@ -35,6 +35,8 @@ impl Failure {
         }
     }
 
+    // promise: Each ending but the good one has its status.
+    // mutations: ending_no_data_with_the_status_of_tables
     fn status(&self) -> u8
         ensures { result ≡ exit_status_of self.now }
     {
@@ -100,7 +102,7 @@ impl<T: Drop> From<AllocFailed<T>> for Failure {
     }
 }
 
-/// Want of memory, or another failure.
+/// out of memory, or another failure.
 fn unless_memory(error: &io::Error, failure: Failure) -> Failure {
     match error.kind() {
         ErrorKind::OutOfMemory => Failure::OutOfMemory,
@@ -108,7 +110,7 @@ fn unless_memory(error: &io::Error, failure: Failure) -> Failure {
     }
 }
 
-/// The words after the program's name.
+/// The arguments after the program's name.
 fn words_given(rt: &HostRuntime) -> Result<Vec<String>, Failure> {
     let given = match env::args(rt) {
         Ok(given) => given,
@@ -129,7 +131,7 @@ fn file_at(rt: &HostRuntime, path: &str) -> Result<Vec<u8>, Failure> {
     }
 }
 
-/// The mode that the words ask for; they are judged before the file is read.
+/// The mode that the arguments ask for; they are judged before the file is read.
 fn mode_asked(rt: &HostRuntime, words: &[String]) -> Result<Mode, Failure> {
     let mut texts = Vec::new(rt.alloc());
     for word in words {
@@ -142,7 +144,7 @@ fn mode_asked(rt: &HostRuntime, words: &[String]) -> Result<Mode, Failure> {
     Ok(Mode::make(rt.alloc(), &asked, &file)?)
 }
 
-/// Formats standard input: in plain English without words, and else as they ask.
+/// Formats standard input: in plain English without arguments, and else as they ask.
 fn format_lines(rt: &HostRuntime) -> Result<(), Failure> {
     let words = words_given(rt)?;
     let mode = if words.is_empty() {

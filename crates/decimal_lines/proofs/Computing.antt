@@ -51,7 +51,7 @@ use Rattle.fixed_decimal.proofs.Rounds.{finest_large}
 use Rattle.fixed_decimal.proofs.Nearness.{nearest_below, nearest_above, nearest_tie_even, nearest_tie_odd}
 use Rattle.decimal_lines.specs.Computed.{rounded_units, digits_from, scale_up_to, scale_of, decimal_of}
 
--- so many units are nearest
+-- that many units are nearest
 pub rounded-nearest : (u x : ℕ) → 0 < u → IsNearest (IsMultiple u) u x (rounded_units u x * u)
 unfolding rounded_units
 rounded-nearest u x some = go (nat_lt (2 * (x % u)) u) (nat_lt u (2 * (x % u))) refl refl
@@ -158,7 +158,7 @@ scale-least x (suc n) k e = go (x % 10 ^ (finest - n) == 0) refl (scale-least x 
         let here : x % 10 ^ (finest - n) ≡ 0 = ap (λ j. x % 10 ^ (finest - j)) same ∙ z in
         absurd (grind (arith, nat_tests))
 
--- A size that fits: so many digits at power 0 and above, and 32768 below.
+-- A size that fits: that many digits at power 0 and above, and 32768 below.
 module _ (count x : ℕ) (some : 0 < count) (few : count ≤ 32768) (whole : x % 10 ^ (finest - 32768) ≡ 0) (below : x < 10 ^ (finest + count)) where
   scale_within : scale_of x ≤ 32768
   unfolding scale_of
@@ -190,7 +190,7 @@ module _ (count x : ℕ) (some : 0 < count) (few : count ≤ 32768) (whole : x %
       let same : finest + count ≡ finest - scale_of x + (count + scale_of x) = omega (arith, scale_within, finest_large) in
       weighed-digits_from x (finest - scale_of x) (count + scale_of x) scale_whole (rw same at below)
 
-  -- it has so many integer digits
+  -- it has that many integer digits
   pub decimal-count : integer_count (decimal_of count x) ≡ count
   decimal-count = omega (arith, length_is)
 

@@ -149,7 +149,7 @@ count_is : (h : ℤ) → pos 0 ≤ℤ h → pos (count_up_to h) ≡ h +ℤ pos 1
 count_is (pos n) p = omega (arith, ints)
 count_is (negsuc n) p = absurd (omega (arith, ints))
 
--- so many integer digits go up to the power one below their count
+-- that many integer digits go up to the power one below their count
 count-high : (n : ℕ) → 0 < n → count_up_to (pos n -ℤ pos 1) ≡ n
 count-high zero some = absurd (omega arith)
 count-high (suc k) some =

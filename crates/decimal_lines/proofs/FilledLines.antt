@@ -1,6 +1,6 @@
 -- What an output holds after some lines were written into it.
 -- The invariant of the loop is `Fills`: the lines done, and the output filled with the output of these. One line more is `Fills-then`; a line
--- without room ends in `Fills-full`, want of memory in `Fills-room`, an input without a rest in `Fills-all`. Each step splits on whether the
+-- without room ends in `Fills-full`, out of memory in `Fills-room`, an input without a rest in `Fills-all`. Each step splits on whether the
 -- line ends in a line feed or is the last one without. The bytes done aren't always whole lines, as that last line may be among them, so
 -- `boundary` says that they are or that nothing is left. Outputs are joined by `output_of-append` of Parts, which asks for whole lines.
 use Rattle.std.proofs.Common.{

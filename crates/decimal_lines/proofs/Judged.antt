@@ -24,7 +24,7 @@ tables_judged-nothing file no_text = go (is_utf8 file) refl
     go true e = absurd (no_text (IsUtf8-from_is_utf8 file e))
     go false e = refl
 
--- what refuses a text
+-- what rejects a text
 pub text_judged-refused : (error : TableError) (read : Result TablesData TableError) → Fails error read → IsFault (text_judged read) (Refused error)
 text_judged-refused table.NotJson read is = inr (ap text_judged is)
 text_judged-refused table.Float read is = inr (ap text_judged is)

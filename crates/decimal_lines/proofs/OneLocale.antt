@@ -1,4 +1,4 @@
--- Tables for the words' locale make the same mode as all tables.
+-- Tables for the arguments' locale make the same mode as all tables.
 use Rattle.std.proofs.Common.{◌≡◌, ℕ, List, Option, Some, None, Result, Ok, Err, codes, refl, sym, ap, ◌∙◌}
 use Rattle.icu_provider.specs.Answer.{Refusal}
 use Rattle.icu_provider.specs.Identifier.{Identifier}
@@ -115,7 +115,7 @@ module _ (words : WordsData) (kept all : TablesData) (answers : AnswersAs words.
   unfolding mode_by
   mode_by_same = by_same words.style
 
--- tables for the locale of the words make the mode of the text
+-- tables for the locale of the arguments make the mode of the text
 pub mode_for : (words : WordsData) (text : List ℕ) (kept : TablesData) → IsFor words.locale kept (tables_of text)
     → mode_of words text ≡ mode_by words kept
 unfolding mode_of

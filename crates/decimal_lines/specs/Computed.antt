@@ -50,7 +50,7 @@ scale_up_to x (suc n) = if x % 10 ^ (finest - n) == 0 then scale_up_to x n else 
 unfoldable pub scale_of : ℕ → ℕ
 scale_of x = scale_up_to x 32768
 
--- the decimal of a size, with so many digits at power 0 and above, and as few as it needs below
+-- the decimal of a size, with that many digits at power 0 and above, and as few as it needs below
 abbrev pub decimal_of : ℕ → ℕ → Unsigned
 decimal_of count x = record { digits = digits_from x (finest - scale_of x) (count + scale_of x); scale = scale_of x }
 

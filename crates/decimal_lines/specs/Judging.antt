@@ -7,12 +7,12 @@ use Rattle.icu_table_entries.specs.declared.error.TableError.TheVariants.{OutOfM
 use Rattle.decimal_lines.specs.declared.judging.TablesFault.{TablesFault}
 use Rattle.decimal_lines.specs.declared.judging.TablesFault.TheVariants.{NotUtf8, Refused}
 
--- by the tables of a text, or what refuses it
+-- by the tables of a text, or what rejects it
 abbrev pub text_judged : Result TablesData TableError → Result (Unit {0}) TablesFault
 text_judged (Ok tables) = Ok tt
 text_judged (Err error) = Err (Refused error)
 
--- a file that isn't UTF-8 is refused, and else its text is judged
+-- a file that isn't UTF-8 is rejected, and else its text is judged
 unfoldable pub tables_judged : List ℕ → Result (Unit {0}) TablesFault
 tables_judged file = if is_utf8 file then text_judged (tables_of file) else Err NotUtf8
 

@@ -1,4 +1,4 @@
--- The mode that the words and the file of tables make.
+-- The mode that the arguments and the file of tables make.
 use Rattle.std.specs.Prelude.{◌≡◌, ℕ, List, Option, Some, None, Result, Ok, Err}
 use Rattle.icu_provider.specs.Answer.{Refusal}
 use Rattle.icu_provider.specs.declared.error.DataErrorKind.{DataErrorKind}
@@ -43,7 +43,7 @@ abbrev pub compact_options : Option GroupingStrategy → CompactDecimalFormatter
 compact_options None = record { grouping_strategy = Some Min2 }
 compact_options (Some strategy) = record { grouping_strategy = Some strategy }
 
--- the words' locale and system, for plain numbers
+-- the arguments' locale and system, for plain numbers
 abbrev pub plain_preferences : WordsData → DecimalFormatterPreferences
 plain_preferences words = record { locale_preferences = words.locale; numbering_system = words.system }
 
@@ -51,7 +51,7 @@ plain_preferences words = record { locale_preferences = words.locale; numbering_
 abbrev pub compact_preferences : WordsData → CompactDecimalFormatterPreferences
 compact_preferences words = record { locale_preferences = words.locale; numbering_system = words.system }
 
--- why there is no mode if the tables refuse
+-- why there is no mode if the tables reject
 abbrev pub start_error : DataErrorKind → StartError
 start_error refusal.IdentifierNotFound = start.NoData
 start_error refusal.MarkerNotFound = start.NoData
@@ -96,11 +96,11 @@ mode_by words tables = elim words.style [
   | style.Long ↦ long_mode words tables
 ]
 
--- by the tables of a text, or what refuses it
+-- by the tables of a text, or what rejects it
 abbrev pub mode_by_tables : WordsData → Result TablesData TableError → Result Mode StartError
 mode_by_tables words (Ok tables) = mode_by words tables
 mode_by_tables words (Err e) = Err start.Tables
 
--- by the text of the tables; if the text is refused, there are no tables
+-- by the text of the tables; if the text is rejected, there are no tables
 unfoldable pub mode_of : WordsData → List ℕ → Result Mode StartError
 mode_of words text = mode_by_tables words (tables_of text)

@@ -1,4 +1,4 @@
--- The plain text of a decimal, and the formatter of a run without words.
+-- The plain text of a decimal, and the formatter of a run without arguments.
 use Rattle.std.specs.Prelude.{ℕ, List, None, codes}
 use Rattle.writeable.specs.Events.{text_of}
 use Rattle.icu_decimal_data.specs.DecimalSymbols.{english_symbols}

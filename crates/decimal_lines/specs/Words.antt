@@ -1,4 +1,4 @@
--- The words that the program is started with: TABLES LOCALE NU|- plain|short|long [auto|never|always|min2].
+-- The arguments that the program is started with: TABLES LOCALE NU|- plain|short|long [auto|never|always|min2].
 use Rattle.std.specs.Prelude.{ℕ, List, [], ◌∷◌, Option, Some, None, codes, nat_eq, if◌then◌else◌}
 use Rattle.std.specs.Cmp.Lexicographic.{pointwise}
 use Rattle.icu_provider.specs.Locale.{is_locale}
@@ -33,7 +33,7 @@ system_named word =
     else if is_numbering_system word then Some (Some word)
     else None
 
--- the style of a word
+-- the style of an argument
 unfoldable pub style_named : List ℕ → Option Style
 style_named word =
     if pointwise nat_eq word (codes "plain") then Some Plain
@@ -41,7 +41,7 @@ style_named word =
     else if pointwise nat_eq word (codes "long") then Some Long
     else None
 
--- the grouping strategy of a word
+-- the grouping strategy of an argument
 unfoldable pub strategy_named : List ℕ → Option GroupingStrategy
 strategy_named word =
     if pointwise nat_eq word (codes "auto") then Some Auto
@@ -50,7 +50,7 @@ strategy_named word =
     else if pointwise nat_eq word (codes "min2") then Some Min2
     else None
 
--- the grouping strategy of the last word, which may be absent
+-- the grouping strategy of the last argument, which may be absent
 unfoldable pub grouping_named : List (List ℕ) → Option (Option GroupingStrategy)
 grouping_named [] = Some None
 grouping_named (word ∷ []) = do
@@ -58,7 +58,7 @@ grouping_named (word ∷ []) = do
   Some (Some strategy)
 grouping_named (word ∷ (other ∷ others)) = None
 
--- the first four words, and those after them
+-- the first four arguments, and those after them
 unfoldable pub words_from : List ℕ → List ℕ → List ℕ → List ℕ → List (List ℕ) → Option WordsData
 words_from path locale system style more = do
   locale ← locale_named locale
@@ -67,7 +67,7 @@ words_from path locale system style more = do
   grouping ← grouping_named more
   Some (record { path = path; locale = locale; system = system; style = style; grouping = grouping })
 
--- what the words ask for; none for any other words
+-- what the arguments ask for; none for any other arguments
 unfoldable pub words_of : List (List ℕ) → Option WordsData
 words_of [] = None
 words_of (path ∷ []) = None

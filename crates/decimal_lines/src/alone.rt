@@ -24,7 +24,7 @@ pub enum TextError {
     /// Its nearest compact number is ten to the power 32768 or more.
     #[error("overflow")]
     Overflow,
-    /// An allocation was refused.
+    /// An allocation failed.
     #[error("out of memory")]
     OutOfMemory,
 }
@@ -108,7 +108,9 @@ fn put_front(output: &mut [u8], text: &[u8])
 /// Writes what the mode shows for a text to the front of the output, if it fits. The result is its
 /// length in bytes, whether or not it was written (this project's own).
 ///
-/// The text is a decimal and nothing else: a line feed or a carriage return in it is refused.
+/// The text is a decimal and nothing else: a line feed or a carriage return in it is rejected.
+// promise: The output has the text of the number if it fits.
+// mutations: text_room_told_as_its_length
 #[tactic(auto, unfolding(crate::specs::Alone::events_of))]
 pub fn format_text(
     alloc: Global,
@@ -120,7 +122,7 @@ pub fn format_text(
     ensures ok { IfOk result (λ n.
         HoldsShown (events_of mode.now text.now) output.old output.new n) }
 
-    // The text is refused, or memory is.
+    // The text is rejected, or memory runs out.
     ensures refused { IfErr result (λ error. IsRefusal (events_of mode.now text.now) error) }
     ensures unchanged { OnErr result (output.new ≡ output.old) }
 {

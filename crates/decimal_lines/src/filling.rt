@@ -17,7 +17,7 @@ pub enum FillError {
     /// The answer to the next line has no room behind what is written.
     #[error("the output is too small")]
     TooSmall,
-    /// An allocation was refused.
+    /// An allocation failed.
     #[error("out of memory")]
     OutOfMemory,
 }
@@ -101,8 +101,12 @@ fn put_line(
 /// an error line, and a line feed (this project's own).
 ///
 /// Lines are those of [`run`](crate::run). An output that is too small holds the answers to as many
-/// lines as fit. If an allocation is refused, `OutOfMemory` is reported even if the next answer
+/// lines as fit. If an allocation fails, `OutOfMemory` is reported even if the next answer
 /// wouldn't fit; but a full output is reported as `TooSmall`.
+// promise: If it reports `Ok`, the output is that of the whole input.
+// mutations: filling_all_that_is_left_as_one_line
+// promise: Else the output has whole lines of the input's beginning.
+// mutations: filling_at_the_end_of_the_room
 pub fn format_lines(alloc: Global, mode: &Mode, input: &[u8], output: &mut [u8]) -> Filled
     // The output of the whole input was written.
     ensures ok { OnOk result.outcome
@@ -118,7 +122,7 @@ pub fn format_lines(alloc: Global, mode: &Mode, input: &[u8], output: &mut [u8])
     ensures full { result.outcome ≡ Err FillError.TooSmall
         → HoldsAllThatFit (answer_to mode.now) input.now output.old output.new result.written }
 
-    // If memory is refused, a line is left, and so is some room.
+    // If memory runs out, a line is left, and so is some room.
     ensures memory { result.outcome ≡ Err FillError.OutOfMemory
         → HasRoomLeft (answer_to mode.now) input.now output.old output.new result.written }
 {

@@ -1,4 +1,4 @@
-//! Why a file of tables is refused.
+//! Why a file of tables is rejected.
 
 ghost use Rattle.std.specs.Prelude.{◌≡◌, IfErr, OnOk, Ok};
 ghost use Rattle.icu_tables.specs.Tables.{tables_of};
@@ -9,13 +9,13 @@ use std::alloc::Global;
 use std::str;
 use thiserror::Error;
 
-/// Why a file of tables is refused.
+/// Why a file of tables is rejected.
 #[derive(Clone, Copy, Debug, PartialEq, Eq, Error)]
 pub enum TablesFault {
     /// The file isn't UTF-8.
     #[error("not UTF-8")]
     NotUtf8,
-    /// Its text is refused.
+    /// Its text is rejected.
     #[error("{0}")]
     Refused(TableError),
 }
@@ -34,7 +34,9 @@ fn judge_text(alloc: Global, text: &str) -> Result<(), TablesFault>
 
 /// Whether the bytes of a file of tables are accepted, or why not (this project's own).
 ///
-/// The same files are accepted as by [`Mode::make`](crate::Mode::make), for any words.
+/// The same files are accepted as by [`Mode::make`](crate::Mode::make), for any arguments.
+// promise: Exactly tables in UTF-8 are accepted, others by their fault.
+// mutations: judged_refused_tables_accepted
 #[tactic(auto, using(crate::proofs::Judged::judged))]
 pub fn judge_tables(alloc: Global, file: &[u8]) -> Result<(), TablesFault>
     ensures ok { OnOk result (tables_judged file.now ≡ Ok tt) }

@@ -9,6 +9,7 @@ use icu_decimal::laws::table_is_compact;
 
 /// A text has an answer in each mode whose entries are a compact table; with any entries it has no
 /// other answer.
+// promise: A text has one answer in each mode.
 pub fn texts_have_one_answer()
     ensures exists { AnswerIsAnAnswer }
     ensures unique { AnswerIsUnique }
@@ -34,6 +35,7 @@ pub fn mode_has_table(mode: &Mode)
 /// The output of `run` is one answer for each line of the input and nothing else; the answer to a
 /// decimal is its text in the mode. In a compact mode that is the text of the compact number, of
 /// all magnitudes, that is nearest to the decimal.
+// promise: The output has one answer for each line, and nothing else.
 pub fn each_line_is_answered(mode: &Mode)
     ensures { OutputAnswersEachLine mode.now }
 {
@@ -44,6 +46,7 @@ pub fn each_line_is_answered(mode: &Mode)
 /// every mode the output of both together is the output of the first followed by that of the
 /// second. So an input may be cut behind any line feeds and its pieces run apart, in any order and
 /// on any machines: their outputs, in the order of the pieces, are the output of the whole.
+// promise: Pieces that are cut behind line feeds may be run apart.
 pub fn lines_are_answered_apart()
     ensures two { TwoAreAnsweredApart }
     ensures pieces { PiecesAreAnsweredApart }

@@ -1,4 +1,4 @@
-//! The mode that the words and the file of tables make.
+//! The mode that the arguments and the file of tables make.
 
 ghost use Rattle.std.specs.Prelude.{◌≡◌, Ok, Err, IfOk, IfErr};
 ghost use Rattle.decimal_lines.specs.LineAnswers.{HasTable};
@@ -59,7 +59,7 @@ fn plain_preferences(words: &Words<'_>) -> DecimalFormatterPreferences
     }
 }
 
-/// Why there is no mode if the tables refuse.
+/// Why there is no mode if the tables reject.
 fn start_error(error: DataError) -> StartError
     ensures { result ≡ start_error error.kind }
 {
@@ -146,10 +146,13 @@ impl Mode {
     ghost use Rattle.std.specs.Str.{IsUtf8};
     ghost use Rattle.decimal_lines.specs.Making.{Starts, mode_of};
 
-    /// The mode that the words ask for, by the bytes of the file of tables (this project's own).
+    /// The mode that the arguments ask for, by the bytes of the file of tables (this project's
+    /// own).
     ///
-    /// `Tables` if the file isn't UTF-8 or its text is refused; `NoData` if the tables lack data
-    /// that the locale's formatter needs; `OutOfMemory` if an allocation is refused.
+    /// `Tables` if the file isn't UTF-8 or its text is rejected; `NoData` if the tables lack data
+    /// that the locale's formatter needs; `OutOfMemory` if an allocation fails.
+    // promise: Arguments and tables determine the mode, or the reason.
+    // mutations: make_short_by_the_long_patterns
     pub fn make(alloc: Global, words: &Words<'_>, file: &[u8]) -> Result<Mode, StartError>
         ensures text { IsUtf8 file.now → Starts result (mode_of words.now file.now) }
         ensures no_text { ¬ (IsUtf8 file.now) → result ≡ Err StartError.Tables }

@@ -73,6 +73,8 @@ pub fn mark_shown(alloc: Global, mode: &Mode, decimal: &Decimal) -> Result<Parts
 ///
 /// The text is a decimal and nothing else, as for [`format_text`](crate::format_text). The parts
 /// are those of `icu_decimal`; in a compact number the sign alone has a part.
+// promise: The text has just the events of the number, with parts.
+// mutations: parts_overflow_told_as_no_decimal
 #[tactic(auto, unfolding(crate::specs::Alone::events_of))]
 pub fn format_parts(alloc: Global, mode: &Mode, text: &[u8]) -> Result<PartsText, TextError>
     ensures ok { IfOk result (λ parts. events_of mode.now text.now ≡ Ok parts.events) }

@@ -10,13 +10,13 @@ use writeable::ASCII_DIGITS;
 /// Why there is no formatter.
 #[derive(Clone, Copy, Debug, PartialEq, Eq, Error)]
 pub enum StartError {
-    /// The file of tables isn't UTF-8, or its text is refused.
+    /// The file of tables isn't UTF-8, or its text is rejected.
     #[error("tables refused")]
     Tables,
     /// The tables lack data that the formatter needs.
     #[error("no data")]
     NoData,
-    /// An allocation was refused.
+    /// An allocation failed.
     #[error("out of memory")]
     OutOfMemory,
 }
@@ -36,6 +36,8 @@ impl Mode {
     ghost use Rattle.decimal_lines.specs.Plain.{english};
 
     /// Plain numbers in English.
+    // promise: Without arguments the formatter is the English one.
+    // mutations: another_digit, english_never_groups
     pub fn english(alloc: Global) -> Result<Mode, StartError>
         ensures mode { IfOk result (λ mode. mode ≡ Plain english) }
         ensures memory { IsOkUnless result StartError.OutOfMemory }

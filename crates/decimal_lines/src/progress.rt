@@ -57,8 +57,12 @@ fn stopped(consumed: usize, written: usize, needed: usize, error: FillError) -> 
 /// how much room the next answer needs (this project's own).
 ///
 /// The caller continues behind the consumed bytes, with any output that has room for one answer.
-/// Lines and answers are those of [`run`](crate::run). If an allocation is refused, `OutOfMemory`
+/// Lines and answers are those of [`run`](crate::run). If an allocation fails, `OutOfMemory`
 /// is reported even if the answer wouldn't fit.
+// promise: The output is that of the lines that are consumed.
+// mutations: some_next_line_told_as_consumed
+// promise: With `TooSmall` the next answer has `needed` bytes.
+// mutations: some_needed_without_its_line_feed
 pub fn format_some(alloc: Global, mode: &Mode, input: &[u8], output: &mut [u8]) -> Progress
     // Whatever the outcome, what was written is the output of the consumed bytes.
     ensures holds { AnswersFirst (answer_to mode.now) input.now output.old output.new

@@ -23,7 +23,7 @@ pub enum RunError {
     /// The writer answered an error, or took no byte.
     #[error("writing failed")]
     Write,
-    /// An allocation was refused.
+    /// An allocation failed.
     #[error("out of memory")]
     OutOfMemory,
 }
@@ -117,6 +117,10 @@ fn buffer(alloc: Global, len: usize) -> Result<Vec<u8>, AllocError>
 /// Lines end in a line feed, and one carriage return before it is dropped; the last line may end
 /// without. Each error of the reader is `Read`, and so are 2^64 reads without an end; each error of
 /// the writer is `Write`, and so is a write that takes no byte. Nothing is flushed.
+// promise: If it returns `Ok`, it wrote just the output of the input.
+// mutations: last_line_left_out, two_returns_dropped
+// promise: After an error what was written is a beginning of it.
+// mutations: short_write_taken_for_all
 pub fn run<R: Read, W: Write>(
     alloc: Global,
     mode: &Mode,

@@ -1,4 +1,4 @@
-//! The words that the program is started with.
+//! The arguments that the program is started with.
 
 ghost use Rattle.std.specs.Prelude.{◌≡◌, map};
 ghost use Rattle.decimal_lines.specs.Words.{grouping_named, locale_named, strategy_named, style_named, system_named, words_from, words_of};
@@ -18,7 +18,7 @@ pub enum Style {
     Long,
 }
 
-/// What the words ask for (this project's own).
+/// What the arguments ask for (this project's own).
 #[derive(Debug, Drop)]
 pub struct Words<'a> {
     /// The file of the tables; any text.
@@ -47,7 +47,7 @@ impl<'a> Model for Words<'a> {
     } };
 }
 
-/// The locale of a word.
+/// The locale of an argument.
 #[tactic(auto, unfolding(crate::specs::Words::locale_named))]
 fn locale_named(word: &str) -> Option<DataLocale>
     ensures { result ≡ locale_named word.now }
@@ -58,7 +58,7 @@ fn locale_named(word: &str) -> Option<DataLocale>
     }
 }
 
-/// The numbering system of a word; none for a hyphen.
+/// The numbering system of an argument; none for a hyphen.
 #[tactic(auto, unfolding(crate::specs::Words::system_named))]
 fn system_named(word: &str) -> Option<Option<NumberingSystem>>
     ensures { result ≡ system_named word.now }
@@ -72,7 +72,7 @@ fn system_named(word: &str) -> Option<Option<NumberingSystem>>
     }
 }
 
-/// The style of a word.
+/// The style of an argument.
 #[tactic(auto, unfolding(crate::specs::Words::style_named))]
 fn style_named(word: &str) -> Option<Style>
     ensures { result ≡ style_named word.now }
@@ -85,7 +85,7 @@ fn style_named(word: &str) -> Option<Style>
     }
 }
 
-/// The grouping strategy of a word.
+/// The grouping strategy of an argument.
 #[tactic(auto, unfolding(crate::specs::Words::strategy_named))]
 fn strategy_named(word: &str) -> Option<GroupingStrategy>
     ensures { result ≡ strategy_named word.now }
@@ -99,7 +99,7 @@ fn strategy_named(word: &str) -> Option<GroupingStrategy>
     }
 }
 
-/// The grouping strategy of the last word, which may be absent.
+/// The grouping strategy of the last argument, which may be absent.
 #[tactic(auto, unfolding(crate::specs::Words::grouping_named))]
 fn grouping_named(more: &[&str]) -> Option<Option<GroupingStrategy>>
     ensures { result ≡ grouping_named (map (λ w. w.now) more.now) }
@@ -111,7 +111,7 @@ fn grouping_named(more: &[&str]) -> Option<Option<GroupingStrategy>>
     }
 }
 
-/// What the first four words and the others after them ask for.
+/// What the first four arguments and the others after them ask for.
 #[tactic(auto, unfolding(crate::specs::Words::words_from))]
 fn words_from<'a>(
     path: &'a str,
@@ -132,11 +132,13 @@ fn words_from<'a>(
     })
 }
 
-/// What the words after the program's name ask for: `TABLES LOCALE NU|- plain|short|long`, and
+/// What the arguments after the program's name ask for: `TABLES LOCALE NU|- plain|short|long`, and
 /// where it is given one of `auto`, `never`, `always` and `min2` (this project's own).
 ///
-/// `None` for any other words: a wrong count, also 0; an ill-formed locale or numbering system; an
+/// `None` for any other arguments: a wrong count, also 0; an ill-formed locale or numbering system; an
 /// unknown style or strategy.
+// promise: The arguments determine what is asked for, or nothing is.
+// mutations: words_long_read_as_short, words_min3_accepted
 #[tactic(auto, unfolding(crate::specs::Words::words_of))]
 pub fn parse_words<'a>(words: &[&'a str]) -> Option<Words<'a>>
     ensures { result ≡ words_of (map (λ w. w.now) words.now) }

@@ -1,4 +1,4 @@
-//! Files of tables that are judged without words.
+//! Files of tables that are judged without arguments.
 
 use decimal_lines::{TablesFault, judge_tables};
 use icu_tables::{EntryFault, Key, TableError};
@@ -10,7 +10,7 @@ const ABOVE: &str =
     "{\"symbols\":[],\"digits\":[],\"short\":[{\"locale\":\"en\",\"patterns\":[[3,3,{\"other\":\"{0}K\"}]]},\
 {\"locale\":\"de\",\"patterns\":[[3,4,{\"other\":\"{0}K\"}]]}]}";
 
-/// Files, and what is told of them; the first is large.
+/// Files, and what is reported of them; the first is large.
 const FILES: &[(&str, Result<(), TablesFault>)] = &[
     (SAMPLE, Ok(())),
     ("{\"symbols\":[],\"digits\":[]}", Ok(())),
@@ -38,7 +38,7 @@ const FILES: &[(&str, Result<(), TablesFault>)] = &[
 
 const WANT: Result<(), TablesFault> = Err(TablesFault::Refused(TableError::OutOfMemory));
 
-/// Whether a file is judged so, once more where memory was refused.
+/// Whether a file is judged so, once more where memory ran out.
 fn is_judged(alloc: Global, file: &[u8], want: Result<(), TablesFault>) -> bool {
     let first = judge_tables(alloc, file);
     let last = if first == WANT {
@@ -61,13 +61,13 @@ fn judges_bytes_that_are_no_text(rt: HostRuntime) {
     assert!(rt; is_judged(rt.alloc(), b"{}\xff", Err(TablesFault::NotUtf8)));
 }
 
-/// What is told of a file, as a text.
+/// What is reported of a file, as a text.
 const TOLD: &[(TablesFault, &str)] = &[
     (TablesFault::NotUtf8, "not UTF-8"),
     (TablesFault::Refused(TableError::NotJson), "not JSON"),
 ];
 
-/// Whether a fault is displayed so, once more where memory was refused.
+/// Whether a fault is displayed so, once more where memory ran out.
 fn is_told(alloc: Global, fault: TablesFault, want: &str) -> bool {
     is_told_once(alloc, fault, want) || is_told_once(alloc, fault, want)
 }

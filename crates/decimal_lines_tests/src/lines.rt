@@ -1,5 +1,5 @@
 //! Rows of text against their output. Values live in functions that answer whether they hold; what
-//! was refused memory is asked once more.
+//! failed for memory is made once more.
 
 mod apart;
 mod by_tables;
@@ -36,7 +36,7 @@ impl Seen {
     }
 }
 
-/// The plain mode, made once more where memory was refused.
+/// The plain mode, made once more where memory ran out.
 fn english(alloc: Global) -> Result<Mode, StartError> {
     match Mode::english(alloc) {
         Ok(mode) => Ok(mode),
@@ -66,7 +66,7 @@ fn seen_slowly(
     Seen::after(ended, ended == outcome && writer.held.as_slice() == want)
 }
 
-/// Whether that holds, asked once more where memory was refused.
+/// Whether that holds, asked once more where memory ran out.
 fn runs_slowly(
     alloc: Global,
     mode: &Mode,
@@ -95,7 +95,7 @@ fn ends(
     }
 }
 
-/// Whether the output of an input is this, with so many bytes a call at most.
+/// Whether the output of an input is this, with that many bytes a call at most.
 fn seen_by(alloc: Global, mode: &Mode, bytes: &[u8], at_once: usize, want: &[u8]) -> Seen {
     let Ok(mut written) = Vec::with_capacity(alloc, want.len()) else {
         return Seen::WantsMemory;
@@ -109,7 +109,7 @@ fn seen_by(alloc: Global, mode: &Mode, bytes: &[u8], at_once: usize, want: &[u8]
     Seen::after(ended, ended == Ok(()) && written.as_slice() == want)
 }
 
-/// Whether that holds, asked once more where memory was refused.
+/// Whether that holds, asked once more where memory ran out.
 fn runs_by(alloc: Global, mode: &Mode, bytes: &[u8], at_once: usize, want: &[u8]) -> bool {
     let first = seen_by(alloc, mode, bytes, at_once, want);
     let last = match first {
@@ -167,7 +167,7 @@ fn column_once(alloc: Global, answers: bool) -> Result<Vec<u8>, AllocError> {
     Ok(lines)
 }
 
-/// The same, made once more where memory was refused.
+/// The same, made once more where memory ran out.
 fn column(alloc: Global, answers: bool) -> Result<Vec<u8>, AllocError> {
     match column_once(alloc, answers) {
         Ok(bytes) => Ok(bytes),
@@ -210,7 +210,7 @@ fn cuts_lines_and_returns(rt: HostRuntime) {
     }
 }
 
-/// A line so many times.
+/// A line that many times.
 fn many_once(alloc: Global, line: &[u8], count: usize) -> Result<Vec<u8>, AllocError> {
     let mut lines = Vec::new(alloc);
     for _ in 0..count {
@@ -219,7 +219,7 @@ fn many_once(alloc: Global, line: &[u8], count: usize) -> Result<Vec<u8>, AllocE
     Ok(lines)
 }
 
-/// The same, made once more where memory was refused.
+/// The same, made once more where memory ran out.
 fn many(alloc: Global, line: &[u8], count: usize) -> Result<Vec<u8>, AllocError> {
     match many_once(alloc, line, count) {
         Ok(bytes) => Ok(bytes),
@@ -227,7 +227,7 @@ fn many(alloc: Global, line: &[u8], count: usize) -> Result<Vec<u8>, AllocError>
     }
 }
 
-/// Whether a line is answered so, so many times.
+/// Whether a line is answered so, that many times.
 fn answers_many(alloc: Global, line: &[u8], answer: &[u8], count: usize) -> bool {
     match many(alloc, line, count) {
         Ok(input) => match many(alloc, answer, count) {
@@ -243,7 +243,7 @@ fn cuts_lines_across_blocks(rt: HostRuntime) {
     assert!(rt; answers_many(rt.alloc(), b"-1234567.8\r\n", b"-1,234,567.8\n", 20000));
 }
 
-/// Whether the English run over these bytes, so many a call at most, leaves this.
+/// Whether the English run over these bytes, that many a call at most, leaves this.
 fn answers_by(alloc: Global, bytes: &[u8], at_once: usize, want: &[u8]) -> bool {
     match english(alloc) {
         Ok(mode) => runs_by(alloc, &mode, bytes, at_once, want),
@@ -269,7 +269,7 @@ fn answers_whatever_is_read_at_once(rt: HostRuntime) {
     }
 }
 
-/// Whether a run answers as usual or for want of memory.
+/// Whether a run answers as usual or because memory ran out.
 fn runs_or_wants_memory(alloc: Global, input: &[u8], want: &[u8]) -> bool {
     let mut written = Vec::new(alloc);
     let mut rest = input;
@@ -282,7 +282,7 @@ fn runs_or_wants_memory(alloc: Global, input: &[u8], want: &[u8]) -> bool {
     }
 }
 
-/// Holds whichever one allocation is refused: the answer is the usual one or want of memory.
+/// Holds whichever one allocation fails: the answer is the usual one or out of memory.
 #[test]
 fn runs_again_after_want_of_memory(rt: HostRuntime) {
     for _ in 0..2 {

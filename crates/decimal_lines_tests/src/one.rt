@@ -1,5 +1,6 @@
 //! A single text instead of a line: its characters in rooms of each length, and its parts. Values
-//! live in functions that answer whether they hold; what was refused memory is asked once more.
+//! live in functions that answer whether they hold; a call whose allocation failed is made once
+//! more.
 
 use decimal_lines::{
     Mode, StartError, TextError, Words, format_parts, format_text, mark_shown, parse_words,
@@ -17,7 +18,7 @@ enum Asked {
     Bengali,
 }
 
-/// The mode of these words over the sample tables.
+/// The mode of these arguments over the sample tables.
 fn made(alloc: Global, words: &Words<'_>) -> Option<Mode> {
     match Mode::make(alloc, words, SAMPLE.as_bytes()) {
         Err(StartError::OutOfMemory) => Mode::make(alloc, words, SAMPLE.as_bytes()).ok(),
@@ -25,7 +26,7 @@ fn made(alloc: Global, words: &Words<'_>) -> Option<Mode> {
     }
 }
 
-/// The mode of these words.
+/// The mode of these arguments.
 fn by_words(alloc: Global, words: &[&str]) -> Option<Mode> {
     match parse_words(words) {
         Some(words) => made(alloc, &words),
@@ -63,7 +64,7 @@ const TEXTS: &[(Asked, &[u8], Result<&str, TextError>)] = &[
     (Asked::Bengali, b"x", Err(TextError::NotDecimal)),
 ];
 
-/// The text in a room, asked once more where memory was refused.
+/// The text in a room, asked once more where memory ran out.
 fn text_in(alloc: Global, mode: &Mode, text: &[u8], output: &mut [u8]) -> Result<usize, TextError> {
     match format_text(alloc, mode, text, output) {
         Err(TextError::OutOfMemory) => format_text(alloc, mode, text, output),
@@ -121,7 +122,7 @@ fn shows_one_text(rt: HostRuntime) {
     }
 }
 
-/// How many nines a large text has, and how many bytes in groups of three, or why it is refused.
+/// How many nines a large text has, and how many bytes in groups of three, or why it is rejected.
 const NINES: &[(Asked, usize, Result<usize, TextError>)] = &[
     (Asked::English, 32768, Ok(43690)),
     (Asked::English, 32769, Err(TextError::TooManyDigits)),
@@ -129,7 +130,7 @@ const NINES: &[(Asked, usize, Result<usize, TextError>)] = &[
     (Asked::Short, 32769, Err(TextError::TooManyDigits)),
 ];
 
-/// So many nines, made once more where memory was refused.
+/// That many nines, made once more where memory ran out.
 fn nines(alloc: Global, count: usize) -> Result<Vec<u8>, AllocError> {
     match Vec::from_elem(alloc, b'9', count) {
         Ok(nines) => Ok(nines),
@@ -137,7 +138,7 @@ fn nines(alloc: Global, count: usize) -> Result<Vec<u8>, AllocError> {
     }
 }
 
-/// Whether so many nines have so long a text.
+/// Whether that many nines have so long a text.
 fn is_so_long(alloc: Global, asked: Asked, count: usize, want: Result<usize, TextError>) -> bool {
     match (mode(alloc, asked), nines(alloc, count)) {
         (Some(mode), Ok(text)) => text_in(alloc, &mode, &text, &mut []) == want,
@@ -210,7 +211,7 @@ fn has_parts_once(
     has(alloc, format_parts(alloc, mode, text), row) && has(alloc, marked(alloc, mode, text), row)
 }
 
-/// The same, asked once more where memory was refused.
+/// The same, asked once more where memory ran out.
 fn has_parts(
     alloc: Global,
     asked: Asked,
@@ -235,7 +236,7 @@ fn tells_parts(rt: HostRuntime) {
     }
 }
 
-/// Why a text has no parts, asked once more where memory was refused.
+/// Why a text has no parts, asked once more where memory ran out.
 fn refused(alloc: Global, mode: &Mode, text: &[u8]) -> Option<TextError> {
     match format_parts(alloc, mode, text) {
         Err(TextError::OutOfMemory) => format_parts(alloc, mode, text).err(),
@@ -243,7 +244,7 @@ fn refused(alloc: Global, mode: &Mode, text: &[u8]) -> Option<TextError> {
     }
 }
 
-/// Why the decimal that a text is has none, asked once more where memory was refused.
+/// Why the decimal that a text is has none, asked once more where memory ran out.
 fn refused_decimal(alloc: Global, mode: &Mode, text: &[u8]) -> Option<TextError> {
     match marked(alloc, mode, text) {
         Err(TextError::OutOfMemory) => marked(alloc, mode, text).err(),
@@ -251,7 +252,7 @@ fn refused_decimal(alloc: Global, mode: &Mode, text: &[u8]) -> Option<TextError>
     }
 }
 
-/// Whether so many nines have no parts, and why, and the decimal that they are too.
+/// Whether that many nines have no parts, and why, and the decimal that they are too.
 fn is_refused(alloc: Global, asked: Asked, count: usize, want: TextError) -> bool {
     match (mode(alloc, asked), nines(alloc, count)) {
         (Some(mode), Ok(text)) => {

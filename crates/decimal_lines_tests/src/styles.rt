@@ -20,7 +20,7 @@ fn is_styled_once<T: Display>(alloc: Global, value: &T, want: &str) -> bool {
         && is_text(format!(in alloc; "{value:#}"), want)
 }
 
-/// The same, asked once more where memory was refused.
+/// The same, asked once more where memory ran out.
 fn is_styled<T: Display>(alloc: Global, value: &T, want: &str) -> bool {
     is_styled_once(alloc, value, want) || is_styled_once(alloc, value, want)
 }

@@ -1,9 +1,9 @@
-//! The words of a program, read and refused.
+//! The arguments of a program, read and rejected.
 
 use decimal_lines::{Style, compact_options, parse_words, plain_options};
 use icu_decimal::options::GroupingStrategy;
 
-/// Whether the words of such a locale and system are read, with this style and strategy.
+/// Whether the arguments of such a locale and system are read, with this style and strategy.
 fn reads(
     words: &[&str],
     system: Option<&str>,
@@ -73,7 +73,7 @@ fn reads_strategies(rt: HostRuntime) {
     }
 }
 
-/// Words that ask for nothing.
+/// Arguments that ask for nothing.
 const REFUSED: &[&[&str]] = &[
     &[],
     &[""],
@@ -94,7 +94,7 @@ const REFUSED: &[&[&str]] = &[
     &["tables.json", "en", "-", "short", "min2", "min2"],
 ];
 
-/// Whether the words ask for nothing.
+/// Whether the arguments ask for nothing.
 fn is_refused(words: &[&str]) -> bool {
     parse_words(words).is_none()
 }

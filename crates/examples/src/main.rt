@@ -59,7 +59,7 @@ fn of_icu_pattern(rt: &HostRuntime) -> Option<()> {
 
 fn of_plural_conditions(rt: &HostRuntime) -> Option<()> {
     let byte = first_fault("i = 1 or")?;
-    println!(rt; "refused at byte {byte}").ok()?;
+    println!(rt; "rejected at byte {byte}").ok()?;
     let text = "i = 1 and v = 0";
     if first_fault(text).is_some() {
         return None;
@@ -156,7 +156,7 @@ fn of_icu_tables(rt: &HostRuntime) -> Option<()> {
     println!(rt; "{text}").ok()
 }
 
-/// What tables are refused by: the key, the entry of its list and the fault.
+/// What tables are rejected by: the key, the entry of its list and the fault.
 fn of_refused_tables(rt: &HostRuntime) -> Option<()> {
     let text = "{\"symbols\":[],\"digits\":[],\"rules\":[],\
 \"short\":[{\"locale\":\"en\",\"patterns\":[[3,4,{\"other\":\"{0}K\"}]]}]}";

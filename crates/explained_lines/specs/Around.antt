@@ -5,11 +5,11 @@ use Rattle.fixed_decimal.specs.Size.{finest}
 use Rattle.fixed_decimal.specs.Unsigned.{Unsigned, fraction, integer}
 use Rattle.icu_plurals.specs.Operands.{number_of}
 
--- a number below ten to a power, with so many digits
+-- a number below ten to a power, with that many digits
 abbrev pub filled : ℕ → ℕ → List ℕ
 filled count n = replicate (count - length (decimal n)) 48 ++ decimal n
 
--- a number that counts units of ten to the power -scale, written with so many fraction digits
+-- a number that counts units of ten to the power -scale, written with that many fraction digits
 unfoldable pub fixed : ℕ → ℕ → List ℕ
 fixed scale n = if scale == 0 then decimal n else decimal (n / 10 ^ scale) ++ codes "." ++ filled scale (n % 10 ^ scale)
 
@@ -19,7 +19,7 @@ between_text scale unit n =
     if n % unit == 0 then fixed scale n ++ codes " itself" else fixed scale (n - n % unit) ++ codes " (" ++ fixed scale (n % unit) ++ codes " below), "
     ++ fixed scale (n - n % unit + unit) ++ codes " (" ++ fixed scale (unit - n % unit) ++ codes " above)"
 
--- how many digits stand below the power at a place, where so many stand below power 0
+-- how many digits stand below the power at a place, where that many stand below power 0
 abbrev pub digits_below : ℕ → ℕ → ℕ
 digits_below p scale = p + scale - finest
 

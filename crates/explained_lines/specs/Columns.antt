@@ -8,7 +8,7 @@ use Rattle.unicode_width.specs.Width.{str_width}
 unfoldable pub columns_of : List ℕ → ℕ
 columns_of text = if is_utf8 text then str_width false (chars text) else length text
 
--- the columns that the first so many bytes of a text take
+-- the columns that this many first bytes of a text take
 abbrev pub column_at : List ℕ → ℕ → ℕ
 column_at text bytes = columns_of (take bytes text)
 

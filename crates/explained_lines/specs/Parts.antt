@@ -4,7 +4,7 @@ use Rattle.std.specs.List.{flat_map, list_all}
 use Rattle.writeable.specs.Spans.{Span}
 use Rattle.explained_lines.specs.Columns.{columns_of, column_at, is_turned}
 
--- so many spaces
+-- that many spaces
 abbrev pub spaces : ℕ → List ℕ
 spaces n = replicate n 32
 
@@ -18,7 +18,7 @@ mark_line text s =
 abbrev pub listed_line : List ℕ → Span → List ℕ
 listed_line text s = codes "  " ++ s.value ++ spaces (11 - length s.value) ++ take (s.end - s.start) (drop s.start text) ++ codes "\n"
 
--- whether the line that marks a part isn't wider than so many columns
+-- whether the line that marks a part isn't wider than that many columns
 abbrev pub has_room : ℕ → ℕ → Span → Bool
 has_room columns width s = nat_le (columns + length s.value + 4) width
 

@@ -32,7 +32,7 @@ fn push_decimal(number: u64, out: &mut Vec<u8>) -> Result<(), AllocError>
     out.extend_from_slice(digits.format(number).as_bytes())
 }
 
-/// Appends a number with so many digits.
+/// Appends a number with that many digits.
 fn push_filled(count: usize, number: u64, out: &mut Vec<u8>) -> Result<(), AllocError>
     ensures { OnOk result (out.new.items ≡ out.old.items ++ filled count number) }
 {
@@ -42,7 +42,7 @@ fn push_filled(count: usize, number: u64, out: &mut Vec<u8>) -> Result<(), Alloc
     out.extend_from_slice(digits)
 }
 
-/// Appends a number with so many fraction digits.
+/// Appends a number with that many fraction digits.
 #[tactic(auto, unfolding(crate::specs::Around::fixed))]
 fn push_fixed(scale: usize, number: u64, out: &mut Vec<u8>) -> Result<(), AllocError>
     requires { scale ≤ 18 }
@@ -94,7 +94,7 @@ fn number_in(alloc: Global, before: &[u8], behind: &[u8]) -> Result<u64, AllocEr
     Ok(number(&digits))
 }
 
-/// How many digits stand below a power, where so many stand below power 0.
+/// How many digits stand below a power, where that many stand below power 0.
 fn digits_below(power: i32, scale: usize) -> usize
     requires { scale ≤ 18 }
     ensures { result ≡ digits_below (place power) scale }
@@ -133,6 +133,8 @@ fn push_around_text(
 /// from it, or of the number itself where it is one (this project's own). They are written with the
 /// fraction digits of the number. Numbers of more than eighteen digits have none. Without memory
 /// some bytes of the line may stand there.
+// promise: The two multiples around a number have their distances.
+// mutations: around_distances_exchanged
 #[tactic(auto, unfolding(crate::specs::Around::around_line))]
 pub fn push_around(
     alloc: Global,

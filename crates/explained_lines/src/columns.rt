@@ -16,7 +16,7 @@ pub(crate) fn columns_of(text: &[u8]) -> usize
     }
 }
 
-/// The columns that the first so many bytes of a text take.
+/// The columns that this many first bytes of a text take.
 pub(crate) fn column_at(text: &[u8], bytes: usize) -> usize
     ensures { result ≡ column_at text.now bytes }
 {

@@ -102,7 +102,7 @@ pub fn push_entry(
     Ok(())
 }
 
-/// Appends a literal, with `{0}` behind its first so many bytes.
+/// Appends a literal, with `{0}` behind that many of its first bytes.
 fn push_with_place(
     literal: &[u8],
     place: Option<usize>,
@@ -119,7 +119,7 @@ fn push_with_place(
     out.extend_from_slice(behind)
 }
 
-/// Appends the line of a literal, with `{0}` behind its first so many bytes.
+/// Appends the line of a literal, with `{0}` behind that many of its first bytes.
 #[tactic(auto, unfolding(crate::specs::Facts::placed_line))]
 fn push_placed_line(
     literal: &[u8],

@@ -183,6 +183,8 @@ fn push_operands_and_category(
 /// plural rules (UTS 35 Part 3, Plural Operand Meanings; this project's own). Of the integer digits
 /// the eighteen lowest are seen, behind `...` where another isn't zero. Without memory some bytes
 /// of the line may stand there.
+// promise: Rules and number determine the operands and the category.
+// mutations: operands_w_counts_zeros_at_the_end
 #[tactic(auto, unfolding(crate::specs::Operands::operands_line))]
 pub fn push_operands(
     rules: &PluralRules,

@@ -79,7 +79,7 @@ fn push_part_line(
     }
 }
 
-/// Whether the line that marks a part isn't wider than so many columns.
+/// Whether the line that marks a part isn't wider than that many columns.
 fn has_room(columns: usize, width: usize, part: &(usize, usize, Part)) -> bool
     ensures { result ≡ has_room columns width (span part.now) }
 {
@@ -117,6 +117,8 @@ fn are_marked(width: usize, text: &str, parts: &[(usize, usize, Part)]) -> bool
 /// of a part and its bytes instead. Nothing is coloured. Parts are given by the bytes at which they
 /// start and end, as `PartsText::spans` lists them, in the order of opening. Without memory some
 /// bytes of the lines may stand there.
+// promise: Marks stand under each part's columns, with its name.
+// mutations: parts_columns_by_bytes, parts_marked_past_the_width
 #[tactic(auto, unfolding(crate::specs::Parts::parts_lines))]
 pub fn push_parts(
     width: usize,

@@ -1,4 +1,4 @@
--- A text is a numeral in at most one way, which the digits that it begins with tell.
+-- A text is a numeral in at most one way, which the digits that it begins with determine.
 -- What follows the digits before the point is nothing or the point, which is no digit; so the count of leading digits (std's
 -- `prefix_len`) is the length of the first list, and both lists are functions of the text. Comparing two spellings item by
 -- item would have to rule out that one goes on with a digit where the other has the point.

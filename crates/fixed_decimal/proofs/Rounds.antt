@@ -48,7 +48,7 @@ carried ds kept nines =
     let none : 0 + kept ≡ kept = zero-add kept in
     rw nines (omega (arith, rw none at (weighed-replicate_nine 0 kept), ap (λ n. 10 ^ n) (add-zero kept)))
 
--- The digits ds, of which s stand below power 0 and c do not, are rounded at the place e; s' and n tell the power,
+-- The digits ds, of which s stand below power 0 and c do not, are rounded at the place e; s' and n determine the power,
 -- whose sign decides which of them is 0.
 module _ (ds : List ℕ) (s c kept n s' e : ℕ) (len : s + c ≡ length ds) (fine : s ≤ finest) (fine' : s' ≤ finest) (at_place : e + s' ≡ finest + n)
   where

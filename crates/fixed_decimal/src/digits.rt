@@ -82,7 +82,7 @@ pub fn push_zeros(digits: &mut Digits, count: usize)
     }
 }
 
-/// Writes zeros before and behind the digits; where memory is refused the digits are unchanged.
+/// Writes zeros before and behind the digits; where memory runs out the digits are unchanged.
 pub fn widen(digits: &mut Digits, front: usize, back: usize) -> Result<(), DecimalError>
     requires { small_vec_len digits.old + (front + back) < 2 ^ 32 }
     ensures items { OnOk result (digits.new.items ≡ replicate front 0

@@ -1,11 +1,11 @@
-//! Why a decimal was refused.
+//! Why a decimal was rejected.
 
 ghost use Rattle.std.specs.Prelude.{◌≡◌};
 
 use std::alloc::AllocError;
 use thiserror::Error;
 
-/// Why a decimal was refused.
+/// Why a decimal was rejected.
 #[derive(Clone, Copy, Debug, PartialEq, Eq, Error)]
 pub enum DecimalError {
     /// The text is not in the text form.
@@ -14,7 +14,7 @@ pub enum DecimalError {
     /// A power outside -32768 to 32767 would be needed.
     #[error("too many digits")]
     Limit,
-    /// An allocation was refused.
+    /// An allocation failed.
     #[error("out of memory")]
     OutOfMemory,
 }

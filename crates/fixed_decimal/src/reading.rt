@@ -21,6 +21,12 @@ impl Decimal {
     /// Each written digit widens the range: `0012` goes up to power 3, `1.20` down to -2, and `.5`
     /// has the digits 0 and 5. `Syntax` is determined before `Limit`, and both before memory is
     /// asked for.
+    // promise: The decimal that is read is the one that the text spells.
+    // mutations: try_from_str_minus_dropped
+    // promise: `Syntax` comes exactly where no decimal is spelled.
+    // mutations: try_from_str_no_digits_read
+    // promise: `Limit` comes exactly where the decimal exceeds the limits.
+    // mutations: try_from_str_limit_one_too_low
     pub fn try_from_str(alloc: Global, text: &str) -> Result<Decimal, DecimalError>
         ensures reads { IfOk result (λ d. Reads text.now d.sign d.absolute) }
         ensures valid { IfOk result (λ d. IsUnsigned d.absolute) }

@@ -33,7 +33,7 @@ impl RoundedDigits {
         }
     }
 
-    /// Turns a value's digits into these; where memory is refused they are unchanged.
+    /// Turns a value's digits into these; where memory runs out they are unchanged.
     pub(crate) fn leave(self, digits: &mut Digits) -> Result<(), AllocError>
         requires kept { self.kept ≤ small_vec_len digits.old }
         requires small { self.kept + self.zeros < TOO_MANY_DIGITS }

@@ -15,7 +15,13 @@ impl UnsignedDecimal {
     /// The nearest multiple of ten to the power, the even one of two equally near.
     ///
     /// Where a carry would need power 32768 the answer is `Limit`, before memory is asked for; a
-    /// value that is refused is handed back.
+    /// value that is rejected is handed back.
+    // promise: It is the nearest multiple; of two equally near, the even.
+    // mutations: rounded_halves_go_up, rounded_truncates
+    // promise: `Limit` comes exactly where it reaches 10^32768.
+    // mutations: rounded_limit_at_the_greatest_power
+    // promise: The digits are valid: below ten, and within the limits.
+    // mutations: rounded_carry_left_out
     pub fn rounded(mut self, power: i16) -> Result<Self, (Self, DecimalError)>
         ensures rounded { IfOk result (λ y. IsRounded self power y) }
         ensures valid { MatchResult result (λ y. IsUnsigned y) (λ e. IsUnsigned e.0) }

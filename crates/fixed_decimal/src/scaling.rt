@@ -11,10 +11,14 @@ use crate::digits::{MAX_DIGITS, widen};
 use crate::{DecimalError, UnsignedDecimal};
 
 impl UnsignedDecimal {
-    /// The number times ten to the power: each digit so many powers higher, and the range widened
+    /// The number times ten to the power: each digit that many powers higher, and the range widened
     /// to include 0 (ICU4X `multiplied_pow10`).
     ///
-    /// `Limit` is determined before memory is asked for; a value that is refused is handed back.
+    /// `Limit` is determined before memory is asked for; a value that is rejected is handed back.
+    // promise: Each digit moves; the size is multiplied by the power.
+    // mutations: multiplied_pow10_the_other_way
+    // promise: `Limit` comes exactly where a power would be out of range.
+    // mutations: multiplied_pow10_limit_one_too_low
     pub fn multiplied_pow10(mut self, power: i16) -> Result<Self, (Self, DecimalError)>
         ensures moved { IfOk result (λ y. IsMoved self power y) }
         ensures size { IfOk result (λ y. IsTimesTenTo power (size self) (size y)) }
@@ -30,7 +34,7 @@ impl UnsignedDecimal {
         }
     }
 
-    /// The same in place; a refusal leaves the value unchanged.
+    /// The same in place; an error leaves the value unchanged.
     pub(crate) fn multiply_pow10(&mut self, power: i16) -> Result<(), DecimalError>
         ensures moved { OnOk result (IsMoved self.old power self.new) }
         ensures size { OnOk result (IsTimesTenTo power (size self.old) (size self.new)) }

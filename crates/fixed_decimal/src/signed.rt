@@ -40,6 +40,8 @@ impl Decimal {
 
     /// The digits of a whole number, without leading zeros; `Negative` below zero, else without a
     /// sign.
+    // promise: The decimal has the size and the sign of the integer.
+    // mutations: from_i64_minus_one_without_its_sign
     pub fn from_i64(alloc: Global, value: i64) -> Result<Self, DecimalError>
         ensures sign { IfOk result (λ d.
             MatchBool (int_lt value (pos 0)) (d.sign ≡ Sign.Negative) (d.sign ≡ Sign.None)) }
@@ -58,10 +60,10 @@ impl Decimal {
         Ok(Decimal { sign, absolute })
     }
 
-    /// Multiplies by ten to the power, the sign kept (ICU4X `multiply_pow10`): each digit so many
+    /// Multiplies by ten to the power, the sign kept (ICU4X `multiply_pow10`): each digit that many
     /// powers higher, and the range widened to include 0.
     ///
-    /// `Limit` is determined before memory is asked for; a refusal leaves the value unchanged.
+    /// `Limit` is determined before memory is asked for; an error leaves the value unchanged.
     pub fn multiply_pow10(&mut self, power: i16) -> Result<(), DecimalError>
         ensures moved { OnOk result (IsMoved self.old.absolute power self.new.absolute) }
         ensures size { OnOk result
@@ -79,7 +81,7 @@ impl Decimal {
     /// The nearest multiple of ten to the power, the even one of two equally near, the sign kept.
     ///
     /// Where a carry would need power 32768 the answer is `Limit`, before memory is asked for; a
-    /// value that is refused is handed back.
+    /// value that is rejected is handed back.
     pub fn rounded(self, power: i16) -> Result<Self, (Self, DecimalError)>
         ensures rounded { IfOk result (λ y. IsRounded self.absolute power y.absolute) }
         ensures sign { IfOk result (λ y. y.sign ≡ self.sign) }
@@ -98,6 +100,8 @@ impl Decimal {
     }
 
     /// The same number with the sign that is to be shown (ICU4X `with_sign_display`).
+    // promise: The sign shown is that of the display; the number stays.
+    // mutations: with_sign_display_minus_of_zero_kept
     pub fn with_sign_display(self, display: SignDisplay) -> Self
         ensures sign { result.sign ≡ displayed_sign display (size self.absolute == 0) self.sign }
         ensures absolute { result.absolute ≡ self.absolute }

@@ -16,6 +16,8 @@ impl UnsignedDecimal {
     /// It is one new value, equal to what `rounded` at the power, `multiplied_pow10` by the negated
     /// exponent and `trimmed_end` give one after another. Where a carry would need power 32768 the
     /// answer is `Limit`, before memory is asked for.
+    // promise: Times ten to the exponent it is the rounded number.
+    // mutations: rounded_significand_half_of_the_exponent
     pub fn rounded_significand(
         &self,
         alloc: Global,

@@ -10,6 +10,8 @@ use crate::digits::without_zeros;
 
 impl UnsignedDecimal {
     /// The same number without the zeros at its end that stand below power 0 (ICU4X `trimmed_end`).
+    // promise: No zero is left at the end below power 0; the size stays.
+    // mutations: trimmed_end_last_zero_kept
     pub fn trimmed_end(mut self) -> Self
         ensures trimmed { IsTrimmedEnd self result }
         ensures last { IsTrimmed result }

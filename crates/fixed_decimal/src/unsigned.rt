@@ -49,6 +49,8 @@ impl UnsignedDecimal {
 
     /// The power of the first digit that is not 0, and 0 for zero (ICU4X
     /// `nonzero_magnitude_start`).
+    // promise: It is the power of the first digit other than 0, or 0.
+    // mutations: nonzero_magnitude_start_of_the_written_range
     pub fn nonzero_magnitude_start(&self) -> i16
         ensures power { result ≡ magnitude (size self.now) }
         ensures valid { IsUnsigned self.now }
@@ -62,6 +64,8 @@ impl UnsignedDecimal {
     }
 
     /// The digit at a power, 0 outside the written range (ICU4X `digit_at`).
+    // promise: Each power has its digit, and 0 outside the written range.
+    // mutations: digit_at_one_power_off
     pub fn digit_at(&self, power: i16) -> u8
         ensures digit { result ≡ digit_at self.now power }
         ensures below_ten { result < 10 }
@@ -98,6 +102,8 @@ impl UnsignedDecimal {
     }
 
     /// Whether the number is zero, whatever its written range (ICU4X `is_zero`).
+    // promise: It is true exactly where the size is zero.
+    // mutations: is_zero_by_the_first_digit
     pub fn is_zero(&self) -> bool
         ensures zero { IsTrue result ↔ (size self.now ≡ 0) }
         ensures valid { IsUnsigned self.now }

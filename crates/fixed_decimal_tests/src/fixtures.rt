@@ -1,11 +1,11 @@
-//! Helpers of the tests: they make decimals, and compare numbers with texts. A call that was
-//! refused memory is made once more.
+//! Helpers of the tests: they make decimals, and compare numbers with texts. A call whose
+//! allocation failed is made once more.
 
 use fixed_decimal::{Decimal, DecimalError, Sign, UnsignedDecimal};
 use std::alloc::{AllocError, Global};
 use std::process::Abort;
 
-/// Reads a text, once more where memory was refused.
+/// Reads a text, once more where memory ran out.
 pub(crate) fn read(alloc: Global, text: &str) -> Result<Decimal, DecimalError> {
     match Decimal::try_from_str(alloc, text) {
         Err(DecimalError::OutOfMemory) => Decimal::try_from_str(alloc, text),
@@ -21,7 +21,7 @@ pub(crate) fn number(rt: &impl Abort, alloc: Global, text: &str) -> UnsignedDeci
     }
 }
 
-/// A text of `count` equal bytes, made once more where memory was refused.
+/// A text of `count` equal bytes, made once more where memory ran out.
 pub(crate) fn repeated(alloc: Global, byte: u8, count: usize) -> Result<Vec<u8>, AllocError> {
     match Vec::from_elem(alloc, byte, count) {
         Ok(bytes) => Ok(bytes),

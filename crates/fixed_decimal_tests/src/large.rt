@@ -1,4 +1,4 @@
-//! Decimals with as many digits as there may be: each call that wants memory gives its usual
+//! Decimals with as many digits as there may be: each call that takes memory gives its usual
 //! answer.
 
 use crate::fixtures::read;
@@ -28,7 +28,7 @@ fn ones_once(alloc: Global, integer: usize, fraction: usize) -> Result<Vec<u8>, 
     Ok(text)
 }
 
-/// The same, made once more where memory was refused.
+/// The same, made once more where memory ran out.
 fn ones(alloc: Global, integer: usize, fraction: usize) -> Result<Vec<u8>, AllocError> {
     match ones_once(alloc, integer, fraction) {
         Ok(text) => Ok(text),
@@ -36,7 +36,7 @@ fn ones(alloc: Global, integer: usize, fraction: usize) -> Result<Vec<u8>, Alloc
     }
 }
 
-/// The decimal of such a text, read once more where memory was refused.
+/// The decimal of such a text, read once more where memory ran out.
 fn decimal(alloc: Global, integer: usize, fraction: usize) -> Result<Decimal, DecimalError> {
     let Ok(bytes) = ones(alloc, integer, fraction) else {
         return Err(DecimalError::OutOfMemory);
@@ -111,7 +111,7 @@ fn equals_its_copies(alloc: Global, decimal: &Decimal) -> bool {
     }
 }
 
-/// The same of the decimal with the most digits, asked once more where memory was refused.
+/// The same of the decimal with the most digits, asked once more where memory ran out.
 fn copies(alloc: Global) -> bool {
     match decimal(alloc, MOST, MOST) {
         Ok(decimal) => equals_its_copies(alloc, &decimal) || equals_its_copies(alloc, &decimal),
@@ -124,7 +124,7 @@ fn copies_all_digits(rt: HostRuntime) {
     assert!(rt; copies(rt.alloc()));
 }
 
-/// The number of such a text, rounded; once more where memory was refused.
+/// The number of such a text, rounded; once more where memory ran out.
 fn rounded_ones(
     alloc: Global,
     integer: usize,
@@ -137,7 +137,7 @@ fn rounded_ones(
     }
 }
 
-/// The decimal of such a text, rounded; once more where memory was refused.
+/// The decimal of such a text, rounded; once more where memory ran out.
 fn rounded_signed_ones(
     alloc: Global,
     integer: usize,

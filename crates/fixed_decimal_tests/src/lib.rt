@@ -1,6 +1,6 @@
 //! The tests of fixed_decimal's public calls; the library itself offers nothing. Rows are constant
 //! tables, and values live in functions that answer whether they hold. Each test holds whichever
-//! single allocation fails: a call gives its usual answer or is refused for want of memory, and the
+//! single allocation fails: a call gives its usual answer or reports out of memory, and the
 //! same call then gives its usual answer.
 #![tactic(auto)]
 

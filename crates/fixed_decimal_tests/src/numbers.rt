@@ -113,7 +113,7 @@ fn displays_signs(rt: HostRuntime) {
     }
 }
 
-/// Whether a decimal equals its copy, asked for once more where memory was refused.
+/// Whether a decimal equals its copy, asked for once more where memory ran out.
 fn equals_its_copy(alloc: Global, decimal: &Decimal) -> bool {
     match decimal.copy(alloc) {
         Ok(copy) => copy == *decimal,
@@ -124,7 +124,7 @@ fn equals_its_copy(alloc: Global, decimal: &Decimal) -> bool {
     }
 }
 
-/// Whether the decimals that two texts spell are equal; none where one is refused, or the first
+/// Whether the decimals that two texts spell are equal; none where one is rejected, or the first
 /// differs from its copy.
 fn are_equal(alloc: Global, left: &str, right: &str) -> Option<bool> {
     match (read(alloc, left), read(alloc, right)) {

@@ -7,7 +7,7 @@ use std::ops::RangeInclusive;
 use std::process::Abort;
 use std::str;
 
-/// Rounds a number, once more where memory was refused.
+/// Rounds a number, once more where memory ran out.
 pub(crate) fn rounded(
     number: UnsignedDecimal,
     power: i16,
@@ -98,7 +98,7 @@ fn rounds_at_the_least_power(rt: HostRuntime) {
     assert!(rt; least_stays(&rt, rt.alloc()));
 }
 
-/// Whether a carry past the limit is refused and the number handed back.
+/// Whether a carry past the limit is rejected and the number handed back.
 fn refuses_a_carry(rt: &impl Abort, alloc: Global) -> bool {
     let Ok(nines) = repeated(alloc, b'9', 32768) else {
         return false;
@@ -119,7 +119,7 @@ fn refuses_a_carry_past_the_limit(rt: HostRuntime) {
     assert!(rt; refuses_a_carry(&rt, rt.alloc()));
 }
 
-/// Rounds a decimal, once more where memory was refused.
+/// Rounds a decimal, once more where memory ran out.
 pub(crate) fn rounded_signed(decimal: Decimal, power: i16) -> Result<Decimal, DecimalError> {
     match decimal.rounded(power) {
         Ok(decimal) => Ok(decimal),

@@ -6,7 +6,7 @@ use std::alloc::Global;
 use std::ops::RangeInclusive;
 use std::process::Abort;
 
-/// Multiplies by a power of ten, once more where memory was refused.
+/// Multiplies by a power of ten, once more where memory ran out.
 pub(crate) fn scaled(number: UnsignedDecimal, power: i16) -> Result<UnsignedDecimal, DecimalError> {
     match number.multiplied_pow10(power) {
         Ok(number) => Ok(number),
@@ -59,7 +59,7 @@ fn scales_to_the_ends_of_the_range(rt: HostRuntime) {
     assert!(rt; scales_zero(&rt, rt.alloc(), -32768, &(-32768..=0)));
 }
 
-/// Whether scaling past the limit is refused and the number handed back.
+/// Whether scaling past the limit is rejected and the number handed back.
 fn refuses_to_scale(rt: &impl Abort, alloc: Global, text: &str, power: i16) -> bool {
     match number(rt, alloc, text).multiplied_pow10(power) {
         Err((same, error)) => error == DecimalError::Limit && is_written(&same, text),
@@ -72,8 +72,8 @@ fn refuses_to_scale_past_the_limit(rt: HostRuntime) {
     assert!(rt; refuses_to_scale(&rt, rt.alloc(), "10", 32767));
 }
 
-/// Whether scaling -10 past the limit is refused and leaves it unchanged, and a second scaling
-/// succeeds, made once more where memory was refused.
+/// Whether scaling -10 past the limit is rejected and leaves it unchanged, and a second scaling
+/// succeeds, made once more where memory ran out.
 fn scales_negative(alloc: Global) -> bool {
     let Ok(mut decimal) = read(alloc, "-10") else {
         return false;

@@ -6,7 +6,7 @@ use std::alloc::Global;
 use std::process::Abort;
 use std::str;
 
-/// The significand, asked for once more where memory was refused; `Syntax` where the arguments do
+/// The significand, asked for once more where memory ran out; `Syntax` where the arguments do
 /// not meet what the call requires.
 pub(crate) fn significand(
     alloc: Global,

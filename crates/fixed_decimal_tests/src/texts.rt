@@ -1,4 +1,4 @@
-//! Texts and bytes that are read, and those that are refused.
+//! Texts and bytes that are read, and those that are rejected.
 
 use crate::fixtures::{is_signed, read, repeated};
 use fixed_decimal::{Decimal, DecimalError, Sign};
@@ -35,7 +35,7 @@ fn reads_each_written_digit(rt: HostRuntime) {
     }
 }
 
-/// Reads bytes, once more where memory was refused.
+/// Reads bytes, once more where memory ran out.
 fn read_bytes(alloc: Global, text: &[u8]) -> Result<Decimal, DecimalError> {
     match Decimal::try_from_utf8(alloc, text) {
         Err(DecimalError::OutOfMemory) => Decimal::try_from_utf8(alloc, text),
@@ -64,7 +64,7 @@ fn refuses_bytes_that_are_no_text(rt: HostRuntime) {
     }
 }
 
-/// Why a text is refused, if it is.
+/// Why a text is rejected, if it is.
 fn refusal(alloc: Global, text: &str) -> Option<DecimalError> {
     read(alloc, text).err()
 }
@@ -99,7 +99,7 @@ fn refuses_other_texts(rt: HostRuntime) {
     }
 }
 
-/// Whether a text of nines between two other bytes is read, or refused with this error.
+/// Whether a text of nines between two other bytes is read, or rejected with this error.
 fn is_judged(
     alloc: Global,
     (first, count, last): (u8, usize, u8),

@@ -4,7 +4,7 @@ use crate::fixtures::{is_made, is_signed, is_written};
 use fixed_decimal::{Decimal, DecimalError, Sign, UnsignedDecimal};
 use std::alloc::Global;
 
-/// The decimal of a whole number, asked for once more where memory was refused.
+/// The decimal of a whole number, asked for once more where memory ran out.
 fn from_u64(alloc: Global, value: u64) -> Result<Decimal, DecimalError> {
     match Decimal::from_u64(alloc, value) {
         Err(DecimalError::OutOfMemory) => Decimal::from_u64(alloc, value),

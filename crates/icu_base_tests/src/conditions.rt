@@ -1,4 +1,4 @@
-//! Texts of conditions: where they are refused, and what the others are read as.
+//! Texts of conditions: where they are rejected, and what the others are read as.
 use icu_plurals_conditions::condition::Item::{Range, Value};
 use icu_plurals_conditions::condition::Operand::{I, N, V};
 use icu_plurals_conditions::condition::{Alternative, Item, Operand, Relation};

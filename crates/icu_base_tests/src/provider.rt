@@ -1,4 +1,4 @@
-//! Locales and numbering systems by their texts, identifiers made of them, refusals, and providers
+//! Locales and numbering systems by their texts, identifiers made of them, errors, and providers
 //! that are asked.
 mod errors;
 mod identifiers;

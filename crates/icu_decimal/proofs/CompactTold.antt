@@ -1,4 +1,4 @@
--- What a readable compact text tells.
+-- What a readable compact text determines.
 use Rattle.std.proofs.Common.{◌≡◌, ◌⊎◌, ℕ, refl, sym, ap, ◌∙◌, List, ◌++◌, take, drop, append_assoc, Option, Some, None, IsSome}
 use Rattle.std.proofs.Common.{unwrap_or, inl, inr}
 use Rattle.std.specs.Str.{chars}

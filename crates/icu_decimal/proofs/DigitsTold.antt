@@ -1,4 +1,4 @@
--- A decimal is told by the characters of its digits on both sides of the point.
+-- A decimal is determined by the characters of its digits on both sides of the point.
 use Rattle.std.proofs.Common.{◌≡◌, ◌≢◌, ℕ, ◌<◌, ⊎_elim, arith, refl, sym, ap, ap₂, ◌∙◌, subst, List, [], ◌∷◌, ◌++◌}
 use Rattle.std.proofs.Common.{length, map, slice_index, Contains, length-take, length-drop}
 use Rattle.std.proofs.lemmas.List.{take-append-drop, get_or_default}
@@ -25,7 +25,7 @@ abbrev pub IsOther : DecimalFormat → ℕ → Type 0
 IsOther f c = ¬ (Contains f.digits c)
 
 module _ (f : DecimalFormat) (h : IsReadable f.symbols.strings f.digits) where
-  -- ten different characters tell their digits
+  -- ten different characters determine their digits
   character_tells : (x y : ℕ) → x < 10 → y < 10 → slice_index f.digits x ≡ slice_index f.digits y → x ≡ y
   character_tells x y hx hy e =
       ⊎_elim (λ s. s)
@@ -33,7 +33,7 @@ module _ (f : DecimalFormat) (h : IsReadable f.symbols.strings f.digits) where
       (λ (g : y < x). absurd (h.different y x 0 g (omega (arith, h.ten)) (sym e))))
       (cases_order x y)
 
-  -- characters tell their digits
+  -- characters determine their digits
   pub characters_tell : (xs ys : List ℕ) → Every IsDigit xs → Every IsDigit ys → digit_characters f xs ≡ digit_characters f ys → xs ≡ ys
   characters_tell [] [] hx hy e = refl
   characters_tell [] (y ∷ ys) hx hy e = cc
@@ -82,7 +82,7 @@ module _ (c : Unsigned) (h : IsUnsigned c) where
         some_groups _ x ds (concatenated-digit_groups (x ∷ ds) f.symbols.grouping_sizes (strategy_of f.options)),
       )
 
--- the digits on both sides of the point tell the decimal
+-- the digits on both sides of the point determine the decimal
 pub unsigned_same : (c d : Unsigned) → IsUnsigned c → IsUnsigned d → integer c ≡ integer d → fraction c ≡ fraction d → c ≡ d
 unsigned_same c d hc hd i f =
     let digits : c.digits ≡ d.digits = sym (take-append-drop (integer_count c) c.digits) ∙ ap₂ ◌++◌ i f
@@ -91,7 +91,7 @@ unsigned_same c d hc hd i f =
     let of : List ℕ → ℕ → Unsigned = λ ds s. record { digits = ds; scale = s } in
     ap₂ of digits scale
 
--- the groups' characters tell the digits at power 0 and above
+-- the groups' characters determine the digits at power 0 and above
 pub groups_tell : (f : DecimalFormat) → IsReadable f.symbols.strings f.digits → (c d : Unsigned) → IsUnsigned c → IsUnsigned d
     → concatenated (map (λ g. digit_characters f g) (groups_of f c)) ≡ concatenated (map (λ g. digit_characters f g) (groups_of f d)) →
     integer c ≡ integer d

@@ -83,7 +83,7 @@ module _ (s t : Unsigned) (us : IsUnsigned s) (ut : IsUnsigned t) (same : size s
       go k is (inl none) = absurd (omega (arith, ints))
       go k is (inr some) = some (ap (digit_at t) (low_is k is) ∙ last_digit k is)
 
--- a trimmed decimal is told by its size and its greatest written power
+-- a trimmed decimal is determined by its size and its greatest written power
 pub trimmed_told : (s t : Unsigned) → IsUnsigned s → IsUnsigned t → IsTrimmed s → IsTrimmed t → size s ≡ size t → high s ≡ high t → s ≡ t
 trimmed_told s t us ut ts tt' same top = elim (cases_order s.scale t.scale) [
   | inl even ↦

@@ -19,7 +19,7 @@ use Rattle.icu_decimal.proofs.ChangedEntries.{changed_entry_reached}
 use Rattle.icu_decimal.proofs.CompactCore.{magnitude_rounded, magnitude_within, rounded_from_past_limits, past_limits_from_rounded, exponent_le_magnitude}
 use Rattle.icu_decimal.proofs.CompactCore.{displayed_by_same, displayed_by_other}
 
--- an answer is no refusal
+-- an answer is no error
 pub not_refused : {T : Type 0} {x : T} {e : FormatError} → IsErrOf {T = T} {E = FormatError} (Ok x) e → ⊥
 not_refused refused = absurd (cc)
 

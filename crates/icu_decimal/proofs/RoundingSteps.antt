@@ -52,7 +52,7 @@ module _ (d : Unsigned) (e : ℕ) (power at : ℤ) (top : power ≡ magnitude (s
       place_is_rounding_place : place p ≡ rounding_place e (magnitude_place (size d))
       place_is_rounding_place = ap place same ∙ at_rounding_place
 
-      -- where rounding at the rounding place passes the limits, the call that rounds there refuses
+      -- where rounding at the rounding place passes the limits, the call that rounds there rejects
       pub past_to : RoundsPast (rounding_place e (magnitude_place (size d))) (size d) → RoundsPastLimits d p
       past_to (y, near, large) = (y, subst (λ u. IsRoundedAt u (size d) y) (sym place_is_rounding_place) near, large)
 

@@ -51,7 +51,7 @@ begins_every P [] h = tt
 begins_every P (x ∷ xs) h = h.0
 
 -- where a text is a run of characters of one kind, and then ends or goes on with one of another kind,
--- the run and the rest are told
+-- the run and the rest are determined
 pub split_run : (P Q : ℕ → Type 0) → ((c : ℕ) → P c → Q c → ⊥) → (xs ys us vs : List ℕ) → Every P xs → Every P ys → Begins Q us →
     Begins Q vs → xs ++ us ≡ ys ++ vs → (xs ≡ ys) × (us ≡ vs)
 split_run P Q clash [] [] us vs hx hy hu hv e = (refl, e)
@@ -133,7 +133,7 @@ module _ (D N : ℕ → Type 0) (clash : (c : ℕ) → D c → N c → ⊥) (dec
   no_digit_after : (us ds : List ℕ) (x : ℕ) (ws : List ℕ) → Every N us → Every N ds → D x → us ≡ ds ++ (x ∷ ws) → ⊥
   no_digit_after us ds x ws hu hd hx e = clash x hx (every_after N ds (x ∷ ws) (subst (Every N) e hu)).0
 
-  -- the ending tells the fraction and what stands after the number
+  -- the ending determines the fraction and what stands after the number
   pub ending_tells : (fs gs u v : List ℕ) → Every D fs → Every D gs → Every N u → Every N v → ending fs u ≡ ending gs v →
       (fs ≡ gs) × (u ≡ v)
   ending_tells [] [] u v hf hg hu hv e = (refl, e)
@@ -158,7 +158,7 @@ module _ (D N : ℕ → Type 0) (clash : (c : ℕ) → D c → N c → ⊥) (dec
     after_begins [] fs u hu = ending_begins fs u hu
     after_begins (g ∷ gs) fs u hu = group_none.0
 
-    -- groups behind separators tell their digits and what follows them
+    -- groups behind separators determine their digits and what follows them
     pub after_tells : (gs hs : List (List ℕ)) (fs ks u v : List ℕ) → Runs D gs → Runs D hs → Every D fs → Every D ks → Every N u → Every N v
         → joined_after (s ∷ group) gs ++ ending fs u ≡ joined_after (s ∷ group) hs ++ ending ks v →
         (concatenated gs ≡ concatenated hs) × (ending fs u ≡ ending ks v)
@@ -212,7 +212,7 @@ module _ (D N : ℕ → Type 0) (clash : (c : ℕ) → D c → N c → ⊥) (dec
   joined_begins group ([] ∷ gs) ws h some = absurd h
   joined_begins group ((x ∷ g) ∷ gs) ws h some = h.0
 
-  -- a number's text between two texts without a digit tells its digits and what stands around it
+  -- a number's text between two texts without a digit determines its digits and what stands around it
   pub number_tells : (group : List ℕ) → Every N group → decimal ≢ group → (gs hs : List (List ℕ)) (fs ks p q u v : List ℕ) → Runs D gs →
       Runs D hs → gs ≢ [] → hs ≢ [] → Every D fs → Every D ks → Every N p → Every N q → Every N u → Every N v
       → p ++ ((joined group gs ++ fraction_text decimal fs) ++ u) ≡ q ++ ((joined group hs ++ fraction_text decimal ks) ++ v)

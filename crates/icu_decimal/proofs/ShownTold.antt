@@ -1,4 +1,4 @@
--- What a readable compact text tells of an unpadded decimal.
+-- What a readable compact text determines of an unpadded decimal.
 use Rattle.std.proofs.Common.{◌≡◌, ℕ, suc, ◌*◌, ◌^◌, ◌-ℤ◌, pos, true, false, nat_le, refl, arith, sym, ap, ap₂, ◌∙◌, List, []}
 use Rattle.std.proofs.Common.{◌∷◌, Option, Some, None, if◌then◌else◌, inl}
 use Rattle.std.specs.Int.{int_max}

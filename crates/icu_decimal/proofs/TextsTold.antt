@@ -1,4 +1,4 @@
--- What a readable text tells.
+-- What a readable text determines.
 use Rattle.std.proofs.Common.{◌≡◌, ℕ, sym, ap, ap₂, ◌∙◌, List, ◌++◌, map}
 use Rattle.std.specs.Str.{chars}
 use Rattle.std.proofs.lemmas.Str.{encodes_same}
@@ -21,7 +21,7 @@ pub record AreOthers (f : DecimalFormat) (a : Surroundings) : Type 0 where
 pub are_others : (f : DecimalFormat) (a : Surroundings) → IsFreeOfDigits f.digits a → AreOthers f a
 are_others f a h = record { before = every_of_all (IsOther f) a.before h.before_free; after = every_of_all (IsOther f) a.after h.after_free }
 
--- a number between surroundings tells itself and them
+-- a number between surroundings determines itself and them
 pub unsigned_tells : (f : DecimalFormat) (a b : Surroundings) (c d : Unsigned) → IsReadable f.symbols.strings f.digits → AreOthers f a → AreOthers f b →
     IsUnsigned c → IsUnsigned d
     → a.before ++ (characters (unsigned_events f c) ++ a.after) ≡ b.before ++ (characters (unsigned_events f d) ++ b.after) → (a ≡ b) × (c ≡ d)

@@ -129,7 +129,7 @@ million_events = million_is_one_m.written_as
 same_shown : carried_is_one_m.written.shown ≡ million_is_one_m.written.shown
 same_shown = carried_is_one_m.shown_is ∙ sym million_is_one_m.shown_is
 
--- so the law tells that their characters are the same, and that their texts are
+-- so the law says that their characters are the same, and that their texts are
 pub carry_told : (characters carried_events ≡ characters million_events) × (text_of carried_events ≡ text_of million_events)
 carry_told =
     let first = carried_is_one_m.written in

@@ -69,7 +69,7 @@ affixes_free NoSign = record { before_free = none_of digits [] refl; after_free 
 affixes_free Negative = record { before_free = none_of digits (45 ∷ []) refl; after_free = none_of digits [] refl }
 affixes_free Positive = record { before_free = none_of digits (43 ∷ []) refl; after_free = none_of digits [] refl }
 
--- English affixes tell their sign
+-- English affixes determine their sign
 pub sign_told : (s t : Sign) → affixes texts s ≡ affixes texts t → s ≡ t
 unfolding chars
 sign_told NoSign NoSign e = refl

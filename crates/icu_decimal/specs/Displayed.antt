@@ -9,7 +9,7 @@ use Rattle.fixed_decimal.specs.Unsigned.{Unsigned, IsUnsigned, high}
 use Rattle.icu_decimal_data.specs.CompactTable.{TableEntry, entry_for, exponent_of}
 use Rattle.icu_decimal.specs.CompactNumber.{IsNearestCompact}
 
--- whether two entries of a table, or none, are the same; types rise, so an entry is told by its type
+-- whether two entries of a table, or none, are the same; types rise, so an entry is determined by its type
 abbrev pub are_same_entry : Option TableEntry → Option TableEntry → Bool
 are_same_entry = option_eq (on (λ (e : TableEntry). e.log10_type) nat_eq)
 

@@ -9,7 +9,7 @@ pub record ExponentMismatch : Type 0 where
   pub expected : ℕ
   pub magnitude : ℤ
 
--- the text that tells it (ICU4X `CompactExponentError`)
+-- the text that reports it (ICU4X `CompactExponentError`)
 abbrev pub mismatch_text : ExponentMismatch → List ℕ
 mismatch_text m =
     codes "Expected compact exponent " ++ decimal m.expected ++ codes " for 10^" ++ signed_decimal m.magnitude

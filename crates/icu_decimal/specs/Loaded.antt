@@ -19,7 +19,7 @@ use Rattle.icu_decimal_options.specs.declared.preferences.CompactDecimalFormatte
 abbrev pub Provider : Type 0 → Type 0
 Provider X = Identifier → Result X Refusal
 
--- what is made of an answer, or its refusal
+-- what is made of an answer, or its error
 abbrev pub and_then : {X Y : Type 0} → Result X Refusal → (X → Result Y Refusal) → Result Y Refusal
 and_then (Ok x) next = next x
 and_then (Err refusal) next = Err refusal
@@ -39,7 +39,7 @@ abbrev pub digits_loaded : Provider (List ℕ) → DecimalFormatterPreferences �
 digits_loaded digits prefs symbols =
     preferably digits prefs (record { system = Some symbols.strings.numsys; locale = codes "und" })
 
--- the plain formatter: symbols, then digits, with the options; or the first refusal
+-- the plain formatter: symbols, then digits, with the options; or the first error
 abbrev pub loaded : Provider DecimalSymbols → Provider (List ℕ) → DecimalFormatterPreferences → DecimalFormatterOptions → Result DecimalFormat Refusal
 loaded symbols digits prefs options =
     and_then (symbols_loaded symbols prefs) (λ s.
@@ -47,7 +47,7 @@ loaded symbols digits prefs options =
     Ok (record { symbols = s; digits = d; options = options })))
 
 -- the compact formatter: the plain one, then plural rules by the locale, then patterns by the preferred system in the
--- locale, or else by the locale; or the first refusal
+-- locale, or else by the locale; or the first error
 abbrev pub loaded_compact : Provider DecimalSymbols → Provider (List ℕ) → Provider (List Rule) → Provider (List TableEntry) →
     CompactDecimalFormatterPreferences → CompactDecimalFormatterOptions → Result CompactFormat Refusal
 loaded_compact symbols digits rules patterns prefs options =

@@ -14,7 +14,7 @@ WritesSuch {S} {N} {T} events failures s (Err Overflow) Such text t = t ≡ s
 WritesSuch {S} {N} {T} events failures s (Err OutOfMemory) Such text t = t ≡ s
 WritesSuch {S} {N} {T} events failures s (Err Sink) Such text t = (n : N) × Such n × WritesBeginning events failures s (text n) t
 
--- Such a call keeps the limit of the sink. After `Sink` the sink refused for another reason than its limit, and counts
+-- Such a call keeps the limit of the sink. After `Sink` the sink failed for another reason than its limit, and counts
 -- that; or it is full and some of the text is left.
 abbrev pub KeepsLimitSuch : {S N T : Type 0} → (S → List Event) → (S → Option ℕ) → (S → ℕ) → S → Result T FormatError → (N → Type 0) →
     (N → List Event) → S → Type 0

@@ -47,6 +47,8 @@ pub trait AbstractFormatter: Sealed {
     /// `Overflow` exactly where that is too large. `Sink` only where the sink failed in this call,
     /// and it then holds a beginning of the events besides. After the other errors the sink is
     /// unchanged.
+    // promise: What is shown is written, or the sink holds a beginning.
+    // mutations: interface_compact_number_not_written
     fn write_unsigned<S: PartsWrite>(
         &self,
         alloc: Global,
@@ -81,6 +83,8 @@ pub trait AbstractFormatter: Sealed {
 
     /// Writes what is shown for a number, without a sign, as `write_unsigned` does, and returns its
     /// plural operands, as `plural_operands` does. The number is rounded once.
+    // promise: It writes what is shown, and returns its operands.
+    // mutations: interface_shown_operands_of_the_input
     fn write_shown<S: PartsWrite>(
         &self,
         alloc: Global,
@@ -99,6 +103,8 @@ pub trait AbstractFormatter: Sealed {
     /// number is rounded once, and isn't buffered.
     ///
     /// Its errors, and what the sink then holds, are those of `write_unsigned`.
+    // promise: What is shown is written inside of the frame.
+    // mutations: framed_without_the_frame, framed_digits_of_the_input
     fn write_framed<S: PartsWrite, T: Frame>(
         &self,
         alloc: Global,
@@ -136,14 +142,20 @@ pub trait AbstractFormatter: Sealed {
 
     /// 0 is shown as 0, and no other number is. Any other number is shown as a size from the power
     /// of ten of its magnitude up to the next power of ten, both included.
+    // promise: Just 0 is shown as 0; else the size is near the magnitude.
+    // mutations: rounding_small_numbers_to_whole_ones
     ghost near: { (f : Self) (u : Unsigned) (n : Shown) → shows f u n →
         IsShownNear (size u) (size_shown n) };
 
     /// Of two numbers the one that isn't larger never shows the larger size.
+    // promise: A number that isn't larger never shows the larger size.
+    // mutations: one_after_every_carry
     ghost in_order: { (f : Self) (u v : Unsigned) (n m : Shown) → shows f u n → shows f v m →
         size u ≤ size v → size_shown n ≤ size_shown m };
 
     /// A number whose size is a shown size is shown as that size.
+    // promise: A shown size is shown as itself.
+    // mutations: carry_keeps_the_entry_of_the_input
     ghost again: { (f : Self) (u v : Unsigned) (n m : Shown) → shows f u n → shows f v m →
         size v ≡ size_shown n → size_shown m ≡ size_shown n };
 
@@ -152,6 +164,8 @@ pub trait AbstractFormatter: Sealed {
         size v ≡ size_shown n → overflows f v → overflows f u };
 
     /// A number overflows only where the next power of ten above it is past the limits.
+    // promise: Only numbers at the limit of magnitudes overflow.
+    // mutations: interface_overflow_one_magnitude_early
     ghost overflow_at_the_limit: { (f : Self) (u : Unsigned) → overflows f u →
         IsAtTheLimit (size u) };
 }

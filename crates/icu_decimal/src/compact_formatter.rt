@@ -99,6 +99,12 @@ impl CompactDecimalFormatter {
     ///
     /// `Overflow` exactly where that number is ten to the power 32768 or more, whether or not
     /// memory is found. `Sink` is never reported.
+    // promise: The sign stands around the nearest compact number.
+    // mutations: rounding_left_out, compact_sign_lost
+    // promise: `Overflow` comes exactly where that is 10^32768 or more.
+    // mutations: rounding_overflows_one_digit_early
+    // promise: The value has the sign's affixes, and the entry's pattern.
+    // mutations: compact_affixes_of_the_other_sign
     pub fn format<'l>(
         &'l self,
         alloc: Global,
@@ -165,6 +171,10 @@ impl CompactDecimalFormatter {
     ///
     /// The exponent has to be the table's for the magnitude of the significand plus the exponent.
     /// The magnitude of a significand 0 is 0.
+    // promise: Just the exponent of the magnitude is accepted.
+    // mutations: given_exponent_not_judged
+    // promise: The digits are written as they are given, in the pattern.
+    // mutations: given_pattern_left_out
     pub fn format_with_exponent<'l>(
         &'l self,
         significand: &'l Decimal,
@@ -212,6 +222,8 @@ impl CompactDecimalFormatter {
     /// and the exponent. Numbers without a pattern count too, and so does each pattern of the
     /// table, even one that the plural rules never select. So a formatter that isn't readable may
     /// still have texts that determine their numbers. This takes no memory.
+    // promise: It decides exactly whether compact numbers are readable.
+    // mutations: readable_compact_by_the_table_alone
     pub fn is_readable(&self) -> bool
         ensures { IsTrue result ↔ IsReadableCompact self.now }
     {
@@ -223,6 +235,8 @@ impl CompactDecimalFormatter {
 
     /// The exponent with which numbers of a magnitude are written; 0 where the table has no entry
     /// for the magnitude.
+    // promise: It is the exponent of the magnitude's entry; without one, 0.
+    // mutations: compact_exponent_of_the_next_magnitude
     pub fn compact_exponent_for_magnitude(&self, magnitude: i16) -> u8
         ensures { result ≡ exponent_for self.now.table (place magnitude) }
     {

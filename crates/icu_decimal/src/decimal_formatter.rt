@@ -93,6 +93,8 @@ impl DecimalFormatter {
 
     /// The formatted decimal, which borrows its argument. This takes no memory, and writing it
     /// takes only the sink's.
+    // promise: Formatter and decimal determine what is shown.
+    // mutations: sign_lost, fraction_zero_at_the_end_cut
     pub fn format<'l>(&'l self, value: &'l Decimal) -> FormattedDecimal<'l>
         ensures value { result ≡ record {
           affixes = affixes_for self.now.symbols value.now.sign;
@@ -113,6 +115,8 @@ impl DecimalFormatter {
     /// It does if the ten digits differ and none of them stands in an affix or a separator, if the
     /// decimal separator isn't empty and isn't the grouping separator, and if the pairs of affixes
     /// of minus, plus and no sign differ. Characters are compared, not bytes.
+    // promise: It decides exactly whether plain numbers are readable.
+    // mutations: readable_by_latin_digits
     pub fn is_readable(&self) -> bool
         ensures { IsTrue result ↔ IsReadable self.now.symbols.strings self.now.digits }
     {
@@ -120,6 +124,8 @@ impl DecimalFormatter {
     }
 
     /// The text of the decimal.
+    // promise: The text is that of the decimal's events.
+    // mutations: formatter_text_empty
     pub fn format_to_string(&self, alloc: Global, value: &Decimal) -> Result<String, FormatError>
         ensures text { IfOk result (λ t.
             string_bytes t ≡ text_of (decimal_events self.now value.now.sign value.now.absolute)) }
@@ -173,7 +179,7 @@ impl DecimalFormatter {
         &self.digits
     }
 
-    /// Whether so many digits are grouped.
+    /// Whether that many digits are grouped.
     pub(crate) fn is_grouped(&self, count: usize) -> bool
         ensures { IsTrue result
             ↔ IsTrue

@@ -10,7 +10,7 @@ pub enum FormatError {
     /// The nearest compact number is ten to the power 32768 or more.
     #[error("the compact number is too large")]
     Overflow,
-    /// An allocation was refused.
+    /// An allocation failed.
     #[error("out of memory")]
     OutOfMemory,
     /// The sink could not take the text.
@@ -56,6 +56,8 @@ impl fmt::Display for CompactExponentError {
 
     ghost styled_output = { λ mismatch _. Some (mismatch_text mismatch) };
 
+    // promise: The text has both exponents and the magnitude.
+    // mutations: error_exponents_swapped, error_cut_by_a_width
     fn fmt<W: fmt::Write>(&self, f: &mut fmt::Formatter<W>) -> fmt::Result {
         let CompactExponentError {
             actual,

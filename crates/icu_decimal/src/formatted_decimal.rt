@@ -83,6 +83,8 @@ impl Writeable for FormattedDecimal<'_> {
 
     ghost events = { decimal_shown };
 
+    // promise: Writing the value writes just the events that it shows.
+    // mutations: lent_value_not_written
     fn write_events<K: EventWriter>(&self, out: &mut K) -> Result<(), WriteFault> {
         self.signed.write_events(out)
     }

@@ -119,6 +119,8 @@ impl<T: Writeable> fmt::Display for FormattedSign<'_, T> {
 
     ghost styled_output = { λ f _. Some (text_of (affixed_events f.affixes (T.events f.value))) };
 
+    // promise: Display never pads, whatever width and fill are.
+    // mutations: displayed_as_a_mark_under_a_width
     fn fmt<W: fmt::Write>(&self, f: &mut fmt::Formatter<W>) -> fmt::Result {
         self.write_events(f).map_err(|_| fmt::Error)
     }

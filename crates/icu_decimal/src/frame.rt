@@ -11,7 +11,7 @@ use crate::sealed::Sealed;
 use icu_plurals::{PluralElements, PluralOperands, PluralRules};
 use writeable::{EventWriter, WriteFault, Writeable};
 
-/// A number as a formatter shows it, without its sign: it writes its events, and tells its plural
+/// A number as a formatter shows it, without its sign: it writes its events, and has its plural
 /// operands.
 pub trait ShownNumber: Writeable + Sealed {
     /// The plural operands of the number.

@@ -25,6 +25,7 @@ use writeable::Writeable;
 
 /// The strategies `Auto` and `Always` write the same, and so does no strategy: plain numbers, and
 /// compact ones by `format` and `format_with_exponent`.
+// promise: `Auto`, `Always` and no strategy write the same.
 pub fn auto_and_always_write_alike()
     ensures always { AutoAndAlwaysWriteAlike }
     ensures none { NoneActsAsAuto }
@@ -34,6 +35,7 @@ pub fn auto_and_always_write_alike()
 
 /// If a plain formatter is readable, equal texts mean equal decimals: in sign, range and every
 /// digit. Texts are compared as lists of characters, and as `format_to_string` returns them.
+// promise: If readable, equal plain texts mean equal decimals.
 pub fn text_tells_the_decimal()
     ensures characters { TextTellsTheDecimal }
     ensures texts { EqualTextsTellTheDecimal }
@@ -42,6 +44,7 @@ pub fn text_tells_the_decimal()
 /// If a compact formatter is readable, equal texts mean equal signs, significands and exponents,
 /// whichever of `format` and `format_with_exponent` wrote them. The same holds for the texts that
 /// `format_to_string` returns.
+// promise: If readable, equal compact texts mean equal numbers.
 pub fn compact_text_tells()
     ensures characters { CompactTextTells }
     ensures texts { EqualCompactTextsTell }
@@ -49,6 +52,7 @@ pub fn compact_text_tells()
 
 /// The entries of a formatter's table are a compact table, as `given` of [`shown_again`] asks:
 /// types rise, exponents don't fall, none is above its type and none is more than 15 below it.
+// promise: The entries of a formatter's table are a compact table.
 pub fn table_is_compact(formatter: &CompactDecimalFormatter)
     ensures { IsCompactTable formatter.now.table }
 {
@@ -64,6 +68,7 @@ pub fn equal_signed_values_write_equal_events<T: Writeable + PartialEq>()
 {}
 
 /// Equal formatted numbers and decimals write equal events.
+// promise: Equal formatted numbers write equal events.
 pub fn equal_values_write_equal_events()
     ensures numbers { (a b : _) → IsTrue (⟦<FormattedUnsignedDecimal<'static> as PartialEq>⟧.eq a b)
         → unsigned_shown a ≡ unsigned_shown b }
@@ -85,6 +90,7 @@ fn equal_parts_are_the_same()
 /// By any entries each size has exactly one nearest compact number: the nearest multiple of ten to
 /// the rounding place of the size's own magnitude, the even one of two equally near. And a decimal
 /// determines what is displayed: the size, the entry and the significand.
+// promise: Each size has one nearest compact number.
 pub fn nearest_is_unique()
     ensures nearest { OneCompactNumberIsNearest }
     ensures rounded { NearestIsRounded }
@@ -93,6 +99,7 @@ pub fn nearest_is_unique()
 
 /// Of two sizes the smaller never has the larger nearest compact number. A size other than zero is
 /// shown at least as the power of ten of its magnitude. A compact number is shown as itself.
+// promise: The smaller of two sizes never shows the larger number.
 pub fn smaller_never_shows_larger()
     ensures in_order { NearestKeepsOrder }
     ensures not_lost { MagnitudeIsShown }
@@ -108,6 +115,9 @@ pub fn smaller_never_shows_larger()
 /// If the formatter is readable, two decimals without leading padding are written in the same
 /// characters exactly if their signs and their shown numbers are the same. The same holds for the
 /// texts that `format_to_string` returns.
+// promise: Without padding, what is shown is shown again alike.
+// promise: Significand and exponent that are shown are accepted.
+// promise: If readable, equal texts mean equal signs and shown sizes.
 pub fn shown_again()
     ensures again { (format : CompactFormat) (sign : Sign) (d again : Unsigned) → IsUnpadded d
         → IsUnpadded again → IsShownAgain format sign d again }

@@ -50,8 +50,10 @@ impl DecimalFormatter {
     /// where a locale has no symbols for the preferred system, that system's digits stand with the
     /// locale's own symbols. An unknown numbering system is ignored.
     ///
-    /// The first refusal is reported, with its context; `OutOfMemory` also where an allocation is
-    /// refused.
+    /// The first error is reported, with its context; `OutOfMemory` also where an allocation
+    /// fails.
+    // promise: A formatter is composed of the provider's answers.
+    // mutations: loading_plain_without_its_options
     pub fn try_new_unstable<D: DataProvider<DecimalSymbolsV1> + DataProvider<DecimalDigitsV1>>(
         alloc: Global,
         provider: &D,
@@ -86,8 +88,10 @@ impl CompactDecimalFormatter {
     ///
     /// First the plain formatter is made, as `DecimalFormatter::try_new_unstable` makes it. Then
     /// plural rules are asked for by the locale, and then patterns by the preferred numbering
-    /// system in the locale, if one is preferred, and else by the locale. The first refusal is
-    /// reported, with its context; `OutOfMemory` also where an allocation is refused.
+    /// system in the locale, if one is preferred, and else by the locale. The first error is
+    /// reported, with its context; `OutOfMemory` also where an allocation fails.
+    // promise: Plain numbers, rules and short patterns make a formatter.
+    // mutations: loading_patterns_before_rules
     pub fn try_new_short_unstable<
         D: DataProvider<DecimalCompactShortV1>
             + DataProvider<DecimalSymbolsV1>
@@ -111,6 +115,8 @@ impl CompactDecimalFormatter {
     }
 
     /// The same with the long patterns, as `15 thousand`.
+    // promise: Plain numbers, rules and long patterns make a formatter.
+    // mutations: loading_long_with_the_short_patterns
     pub fn try_new_long_unstable<
         D: DataProvider<DecimalCompactLongV1>
             + DataProvider<DecimalSymbolsV1>

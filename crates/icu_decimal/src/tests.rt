@@ -1,4 +1,4 @@
-//! Private parts: numbers without a sign, and the text of an exponent's refusal. The public calls
+//! Private parts: numbers without a sign, and the text of an exponent's error. The public calls
 //! are tested in `icu_decimal_tests`.
 
 use crate::cow::Cow;
@@ -15,7 +15,7 @@ mod styles;
 
 const LATIN: [char; 10] = ['0', '1', '2', '3', '4', '5', '6', '7', '8', '9'];
 
-/// Reads a text, once more where memory was refused.
+/// Reads a text, once more where memory ran out.
 fn read(rt: &impl Abort, alloc: Global, text: &str) -> Decimal {
     let read = match Decimal::try_from_str(alloc, text) {
         Ok(decimal) => Ok(decimal),
@@ -27,7 +27,7 @@ fn read(rt: &impl Abort, alloc: Global, text: &str) -> Decimal {
     }
 }
 
-/// The English formatter, made once more where memory was refused.
+/// The English formatter, made once more where memory ran out.
 fn english(rt: &impl Abort, alloc: Global) -> DecimalFormatter {
     let made = match DecimalSymbols::new_en_for_testing(alloc) {
         Ok(symbols) => Ok(symbols),
@@ -41,7 +41,7 @@ fn english(rt: &impl Abort, alloc: Global) -> DecimalFormatter {
     }
 }
 
-/// Whether a value is displayed so; asked once more where memory was refused.
+/// Whether a value is displayed so; asked once more where memory ran out.
 fn is_displayed<T: Display>(alloc: Global, value: &T, want: &str) -> bool {
     let text: Result<String, AllocError> = value.to_string(alloc);
     match text {
@@ -73,7 +73,7 @@ fn displays_with_and_without_a_sign(rt: HostRuntime) {
     assert!(rt; displays(&rt, rt.alloc()));
 }
 
-/// The exponent expected, the magnitude, the exponent given, and the text of the refusal.
+/// The exponent expected, the magnitude, the exponent given, and the text of the error.
 const MISMATCHES: [(u8, i32, u8, &str); 4] = [
     (6, 6, 5, "Expected compact exponent 6 for 10^6, got 5"),
     (5, 6, 6, "Expected compact exponent 5 for 10^6, got 6"),

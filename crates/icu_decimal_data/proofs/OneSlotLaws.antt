@@ -1,6 +1,6 @@
 -- A slot that is read is written so, and a slot that is written is read.
 -- Read: the seven bytes are seven variables, so that numbers in them compute, and the kind splits the cases (`taken`): 0 is an absent slot of
--- zeros, 1 and 2 share `present_taken`, which has kind and place as parameters, and above 2 the check refuses. The bytes of a number come
+-- zeros, 1 and 2 share `present_taken`, which has kind and place as parameters, and above 2 the check rejects. The bytes of a number come
 -- back by `low_is` and `high_is` of TableBasics. Written (`slot_again`): by the pattern and its place, `kind_again` puts in the answer of each
 -- test of `slot_step`; that the place lies in the literal, and that the backend knows places, is `IsBackend`.
 use Rattle.std.proofs.Common.{◌≡◌, ℕ, zero, suc, ◌+◌, ◌*◌, ◌/◌, ◌%◌, ◌<◌, ◌≤◌, ◌^◌, Bool, true, false, cond, not}

@@ -20,7 +20,7 @@ use Rattle.icu_decimal_data.specs.TableReading.{whole_len, table_step}
 use Rattle.icu_decimal_data.proofs.TableBasics.{IsBytes, IsBytes-drop, bind_ok, unless_ok, not_false, low_is, high_is, joined_is}
 use Rattle.icu_decimal_data.proofs.RecordLaws.{TakenRecords, records_taken, records_again, length-records}
 
--- so many entries are read
+-- that many entries are read
 pub length-entries : (pool : List ℕ) (n : ℕ) (bytes : List ℕ) → length (entries_in pool n bytes) ≡ n
 length-entries pool zero bytes = refl
 length-entries pool (suc n) bytes = omega (arith, length-entries pool n (drop 58 bytes))

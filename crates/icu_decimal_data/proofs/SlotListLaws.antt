@@ -1,7 +1,7 @@
 -- The slots of a record: what is read is written so, and what is written is read.
 -- The inductions are `slots_taken` (read), over the count of slots, and `slots_again` (written), over the list, each on a slot's law in OneSlotLaws.
 -- The pool stays whole: ranges of it are joined by `range_split`, and `drop sum pool` begins with the literals that are left. The last slot has
--- to be a pattern, which `slots_step` tells by the count and `LastIsPresent` by the list. Elements have fields and not a list: `slots_by_place`
+-- to be a pattern, which `slots_step` has by the count and `LastIsPresent` by the list. Elements have fields and not a list: `slots_by_place`
 -- writes out the eight slots by their places, and `slots_are` and `elements_are` go between list and fields.
 use Rattle.std.proofs.Common.{◌≡◌, ℕ, zero, suc, ◌+◌, ◌-◌, ◌*◌, ◌<◌, ◌≤◌, ◌^◌, Bool, true, false, cond, IsSome, List, []}
 use Rattle.std.proofs.Common.{◌∷◌, ◌++◌, length, take, drop, slice_range, Option, Some, None, Ok, eqb, refl, sym, ap, ◌∙◌, arith, subst}

@@ -1,4 +1,4 @@
--- The premises of the law that a table means what its map means: met by two maps, and broken by another that `new` refuses.
+-- The premises of the law that a table means what its map means: met by two maps, and broken by another that `new` rejects.
 use Rattle.std.proofs.Common.{◌≡◌, ℕ, zero, suc, ◌+◌, ◌<◌, refl, arith, List, [], ◌∷◌, Some, None, ap, sym, ◌∙◌, slice_get, Option}
 use Rattle.std.proofs.Common.{AllPairs, IfSome}
 use Rattle.std.proofs.lemmas.List.Elements.{All-nil, All-cons, All-from_recursion}
@@ -55,8 +55,8 @@ two_alike a b same (suc i) before e p q r =
 mille_is_faithful : IsFaithful None mille
 mille_is_faithful = record { dropped_repeat = two_alike _ _ refl; skipped_alone = All-nil _ }
 
--- Without the refusal of an exponent above its type the law would be false: the significand 1 with exponent 4 stands at
--- the type 4, where the map has `K`, and would pick the word of the type 3.
+-- Without the error of an exponent above its type the law would be false: the significand 1 with exponent 4 stands at
+-- the type 4, where the map has `K`, and would pick the text of the type 3.
 abbrev low : List TableEntry
 low = entry 3 4 with_one ∷ entry 4 4 only ∷ []
 

@@ -91,7 +91,7 @@ abbrev pub ◌>>=◌ : {A B : Type 0} → Result A ℕ → (A → Result B ℕ) 
 (Ok x) >>= f = f x
 (Err e) >>= f = Err e
 
--- goes on where a test does not refuse
+-- goes on where a test does not reject
 abbrev pub unless : Bool → ℕ → Result ℕ ℕ → Result ℕ ℕ
 unless true byte rest = Err byte
 unless false byte rest = rest

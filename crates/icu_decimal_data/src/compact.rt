@@ -80,6 +80,10 @@ impl<P: PatternBackend> CompactPatterns<P> {
     /// rest, the first is kept. A later type is kept unless its patterns equal its predecessor's;
     /// the predecessor's pattern for exactly one is ignored in that comparison. Exponents aren't
     /// compared. The map is dropped, even when an error is returned.
+    // promise: The table has exactly the entries that `kept` keeps.
+    // mutations: new_table_nothing_skipped
+    // promise: A faulty map is rejected by its first fault.
+    // mutations: new_table_exponent_above_its_type
     pub fn new(
         alloc: Global,
         patterns: BTreeMap<u8, (u8, PluralElements<Pattern<P>>)>,
@@ -115,6 +119,8 @@ impl<P: PatternBackend> CompactPatterns<P> {
     }
 
     /// The index of the entry for a magnitude: the last one whose type isn't above the magnitude.
+    // promise: The entry is the last whose type isn't above the magnitude.
+    // mutations: entry_index_own_type_not_reached
     pub fn entry_index(&self, magnitude: i32) -> Option<usize>
         ensures entry { entry_at self.now result ≡ entry_for self.now (place magnitude) }
         ensures next { slice_get self.now (index_after result)
@@ -164,6 +170,8 @@ impl<P: PatternBackend> CompactPatterns<P> {
 
     /// The pattern of an entry for all other numbers, if it has no other pattern. `pick` then
     /// returns it for every number.
+    // promise: A pattern without others is the one that all numbers get.
+    // mutations: sole_pattern_of_the_first_entry
     pub fn sole_pattern(&self, index: usize) -> Option<PatternRef<'_, P>>
         requires { index < length self.now }
         ensures pattern { IfSome (slice_get self.now index) (λ e. option_map text_of_ref result
@@ -178,6 +186,8 @@ impl<P: PatternBackend> CompactPatterns<P> {
     /// The pattern of an entry for a number with these operands: the one for exactly zero or
     /// exactly one, if it is present and the number is exactly that; else the one for the number's
     /// plural category, if it is present; else the one for all other numbers. It takes no memory.
+    // promise: The pattern is picked as `PluralElements::get` picks one.
+    // mutations: pick_of_the_first_entry
     pub fn pick(
         &self,
         index: usize,
@@ -203,6 +213,8 @@ impl<P: PatternBackend> CompactPatterns<P> {
     }
 
     /// The byte string of the table (docs/FORMATS.md). `CompactView::parse` accepts it.
+    // promise: A table is one byte string, which can be packed.
+    // mutations: packed_literals_overlap, as_bytes_of_no_table
     pub fn as_bytes(&self) -> &[u8]
         ensures bytes { result.now ≡ table_bytes self.now }
         ensures packable { IsPackable P.accepted self.now }

@@ -49,6 +49,10 @@ impl<'a, P: PatternBackend> CompactView<'a, P> {
     /// their number; more than 256 entries, at 0; another length than the first four bytes give, at
     /// the smaller of the two; then, record by record and slot by slot, values that can't be; then
     /// literal bytes that no slot uses, at the first of them.
+    // promise: Just the bytes of a table are read, and as that table.
+    // mutations: table_repeated_record, table_longer_than_it_says
+    // promise: Other bytes are rejected at the first damage met.
+    // mutations: table_damage_a_byte_off
     #[tactic(auto, using(crate::proofs::PackedTables::tables))]
     pub fn parse(bytes: &'a [u8]) -> Result<Self, Damaged>
         ensures found { IfOk result (λ v. IsPackable P.accepted (table_shown v)
@@ -68,6 +72,8 @@ impl<'a, P: PatternBackend> CompactView<'a, P> {
 
     /// The entry for a magnitude, found by binary search: the last one whose type isn't above the
     /// magnitude.
+    // promise: The entry is that of the table which is shown.
+    // mutations: search_skips_the_first
     #[tactic(auto, using(crate::proofs::TableSearch::searching))]
     pub fn entry_for_magnitude(&self, magnitude: i16) -> Option<EntryView<'a, P>>
         ensures { option_map entry_shown result
@@ -148,6 +154,8 @@ impl<'a, P: PatternBackend> EntryView<'a, P> {
     /// The pattern for a number with these operands: the one for exactly zero or exactly one, if it
     /// is present and the number is exactly that; else the one for the number's plural category, if
     /// it is present; else the one for all other numbers.
+    // promise: A view picks the pattern that the table picks.
+    // mutations: view_pick_of_the_first_entry
     pub fn pick(&self, operands: &PluralOperands, rules: &PluralRules) -> PatternRef<'a, P>
         ensures { text_of_ref result ≡ selected (entry_shown self.now).elements operands.now
             (category_of rules.now operands.now) }

@@ -15,6 +15,8 @@ use std::alloc::Global;
 /// The identifiers are requested in their order, all but the last silently. The search ends with
 /// the first answer other than `IdentifierNotFound`, or with the last one's answer. Without
 /// identifiers the error is `InvalidRequest`.
+// promise: The first answer other than `IdentifierNotFound` counts.
+// mutations: fallback_skips_every_error, fallback_never_asks_the_last
 pub fn load_with_fallback<M: DataMarker, D: DataProvider<M>>(
     alloc: Global,
     provider: &D,

@@ -19,6 +19,7 @@ use icu_plurals::laws::exactly_is_the_number;
 /// This holds of each map that `CompactPatterns::new` accepts, if each type that repeats the
 /// patterns of its predecessor has the same exponent, and each skipped type has exponent 0 and no
 /// text in its patterns.
+// promise: What is kept means what the whole map means.
 pub fn kept_means_full()
     ensures { KeptMeansFull }
 {
@@ -28,6 +29,7 @@ pub fn kept_means_full()
 
 /// The entries of every table are a compact table: types rise, exponents don't fall, none is above
 /// its type and none is more than 15 below it.
+// promise: Types rise, exponents don't fall, none is above its type.
 pub fn entries_are_a_compact_table<P: PatternBackend>(table: &CompactPatterns<P>)
     ensures { IsCompactTable table.now }
 {
@@ -40,6 +42,7 @@ pub fn equal_tables_are_the_same<P: PatternBackend>()
 {}
 
 /// Two tables are equal exactly if their byte strings are.
+// promise: Tables are equal exactly where their byte strings are.
 pub fn equal_tables_have_equal_bytes<P: PatternBackend>()
     ensures { (a b : List TableEntry) → IsPackable P.accepted a → IsPackable P.accepted b
         → IsTrue (⟦<CompactPatterns<P> as PartialEq>⟧.eq a b) ↔ (table_bytes a ≡ table_bytes b) }
@@ -47,6 +50,7 @@ pub fn equal_tables_have_equal_bytes<P: PatternBackend>()
 
 /// `CompactView::parse` accepts the byte string of a table, which `CompactPatterns::as_bytes`
 /// borrows and `pack` copies, and the view shows the table.
+// promise: The bytes of a table are read again as this table.
 pub fn tables_are_read_again<P: PatternBackend>()
     ensures { (t : List TableEntry) → IsPackable P.accepted t
         → IsOk (table_step P.accepted (table_bytes t)) × (table_in (table_bytes t) ≡ t) }
@@ -54,6 +58,7 @@ pub fn tables_are_read_again<P: PatternBackend>()
 
 /// `CompactPatterns::new` makes every table that `CompactView::parse` accepts, from the map of the
 /// table's own entries.
+// promise: Each table that can be packed is one that `new` makes.
 pub fn packable_tables_are_made()
     ensures { PackableIsMade }
 {}

@@ -1,4 +1,4 @@
-//! Which types a compact table keeps, what refuses a map, and which tables are equal.
+//! Which types a compact table keeps, what rejects a map, and which tables are equal.
 
 use crate::packed::{is_copied_and_packed, read_again};
 use crate::tables::{

@@ -24,7 +24,7 @@ type Answer = Result<u8, DataError>;
 /// Systems whose names are as long as their places.
 const SYSTEMS: [&str; 3] = ["", "a", "ab"];
 
-/// Answers as it is told, one system after another, and keeps what it hears: a digit for each
+/// Answers as it is asked to, one system after another, and keeps what it hears: a digit for each
 /// request, 2 where it is silent, else 1.
 #[derive(Drop)]
 struct Told {

@@ -1,6 +1,6 @@
 //! The tests of the calls of icu_decimal_data, icu_decimal_symbols, icu_decimal_options and
 //! icu_decimal_readable; the library itself offers nothing. They see the contracts of these crates
-//! alone, so that their edits don't wait for the tests.
+//! alone, so that their mutations don't wait for the tests.
 //!
 //! Each test holds whichever single allocation fails: a call gives its usual answer or runs out of
 //! memory, and the same call then gives its usual answer.

@@ -219,7 +219,7 @@ fn remade(alloc: Global, view: View<'_>) -> Result<Table, CompactError> {
     }
 }
 
-/// Whether bytes are refused, or those of the table that their entries make.
+/// Whether bytes are rejected, or those of the table that their entries make.
 fn are_refused_or_remade(alloc: Global, bytes: &[u8]) -> bool {
     match View::parse(bytes) {
         Ok(view) => match remade(alloc, view) {
@@ -252,7 +252,7 @@ fn what_a_view_shows_makes_its_bytes(rt: HostRuntime) {
     }
 }
 
-/// Which of four copies is refused, counted from 2 on; none is 0.
+/// Which of four copies is rejected, counted from 2 on; none is 0.
 fn refused_copy(alloc: Global, table: &Table) -> u64 {
     let mut refused = 0;
     for count in 2..6 {
@@ -263,8 +263,8 @@ fn refused_copy(alloc: Global, table: &Table) -> u64 {
     refused
 }
 
-/// Which call is refused of one that makes the table without entries and four that copy it, counted
-/// from 1 on; none is 0.
+/// Which call is rejected of one that makes the table without entries and four that copy it,
+/// counted from 1 on; none is 0.
 fn refused_call(alloc: Global) -> u64 {
     let made: Result<Table, CompactError> = CompactPatterns::new(alloc, BTreeMap::new(alloc), None);
     match made {
@@ -273,7 +273,7 @@ fn refused_call(alloc: Global) -> u64 {
     }
 }
 
-/// Where the run tells which allocation is refused, it is the call of that number that is refused:
+/// Where the run says which allocation fails, it is the call of that number that is rejected:
 /// so no call asks for a second one.
 #[test]
 fn a_copy_is_one_allocation(rt: HostRuntime) {

@@ -141,7 +141,7 @@ fn makes_bytes(alloc: Global, view: SymbolsView<'_>, bytes: &[u8]) -> bool {
     }
 }
 
-/// Whether bytes are refused, or a view whose pieces are symbols with these bytes.
+/// Whether bytes are rejected, or a view whose pieces are symbols with these bytes.
 fn is_told(alloc: Global, bytes: &[u8]) -> bool {
     match SymbolsView::parse(bytes) {
         Ok(view) => makes_bytes(alloc, view, bytes),
@@ -171,7 +171,7 @@ fn each_byte_set_to_each_value_is_told(rt: HostRuntime) {
     }
 }
 
-/// Which of four copies is refused, counted from 2 on; none is 0.
+/// Which of four copies is rejected, counted from 2 on; none is 0.
 fn refused_copy(alloc: Global, symbols: &DecimalSymbols) -> u64 {
     let mut refused = 0;
     for count in 2..6 {
@@ -182,8 +182,8 @@ fn refused_copy(alloc: Global, symbols: &DecimalSymbols) -> u64 {
     refused
 }
 
-/// Which call is refused of one that makes symbols and four that copy them, counted from 1 on; none
-/// is 0.
+/// Which call is rejected of one that makes symbols and four that copy them, counted from 1 on;
+/// none is 0.
 fn refused_call(alloc: Global) -> u64 {
     match DecimalSymbols::new_en_for_testing(alloc) {
         Ok(symbols) => refused_copy(alloc, &symbols),
@@ -197,7 +197,7 @@ pub(crate) fn refused_allocation(rt: &HostRuntime) -> Option<u64> {
     text.trim().parse().ok()
 }
 
-/// Where the run tells which allocation is refused, it is the call of that number that is refused:
+/// Where the run says which allocation fails, it is the call of that number that is rejected:
 /// so no call asks for a second one.
 #[test]
 fn each_call_is_one_allocation(rt: HostRuntime) {
@@ -227,7 +227,7 @@ const BUILT: [(u64, Texts); 5] = [
     ),
 ];
 
-/// Which of these builds is refused; none is 0.
+/// Which of these builds is rejected; none is 0.
 fn refused_build(alloc: Global) -> u64 {
     let mut refused = 0;
     for &(count, texts) in &BUILT {
@@ -238,7 +238,7 @@ fn refused_build(alloc: Global) -> u64 {
     refused
 }
 
-/// Where the run tells which allocation is refused, it is the build of that number that is refused:
+/// Where the run says which allocation fails, it is the build of that number that is rejected:
 /// so none asks for a second one.
 #[test]
 fn each_build_is_one_allocation(rt: HostRuntime) {

@@ -1,4 +1,4 @@
-//! Symbols: which texts are held and refused, and which symbols are equal.
+//! Symbols: which texts are held and rejected, and which symbols are equal.
 
 use icu_decimal_data::{
     DecimalSymbolStrsBuilder, DecimalSymbols, DecimalSymbolsStrs, GroupingSizes, SymbolsError,
@@ -148,7 +148,7 @@ fn holds_and_gives_back_the_seven_texts(rt: HostRuntime) {
     }
 }
 
-/// Why symbols with a separator of that many bytes are refused, if they are.
+/// Why symbols with a separator of that many bytes are rejected, if they are.
 fn refusal(alloc: Global, len: usize, numsys: &str) -> Option<SymbolsError> {
     let bytes = [b'x'; 300];
     if len > bytes.len() {
@@ -330,7 +330,7 @@ fn builds_alone(alloc: Global) -> bool {
     }
 }
 
-// It calls nothing else, so that each allocation of the builder is refused in some run.
+// It calls nothing else, so that each allocation of the builder fails in some run.
 #[test]
 fn builds_255_bytes(rt: HostRuntime) {
     assert!(rt; builds_alone(rt.alloc()));

@@ -129,7 +129,7 @@ fn a_repeated_pattern_is_told_at_the_type(rt: HostRuntime) {
     assert!(rt; damage::<SinglePlaceholder>(&bytes) == Some(62));
 }
 
-/// Whether bytes are read, or refused by a byte that isn't above their number.
+/// Whether bytes are read, or rejected by a byte that isn't above their number.
 fn is_told_inside(bytes: &[u8]) -> bool {
     match damage::<SinglePlaceholder>(bytes) {
         Some(byte) => byte <= bytes.len(),

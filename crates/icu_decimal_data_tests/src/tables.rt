@@ -242,7 +242,7 @@ fn with_millions(
     }
 }
 
-/// The six types of the long French table: thousands with a word for exactly one, and such
+/// The six types of the long French table: thousands with a text for exactly one, and such
 /// millions; none if memory ran out.
 fn french_map(alloc: Global) -> Option<Map<SinglePlaceholder>> {
     let thousands = map_of(alloc, &FRENCH_THOUSANDS)?;

@@ -13,7 +13,7 @@ use Rattle.icu_decimal_options.specs.Grouping.{secondary_size, least_before, gro
 use Rattle.icu_decimal_options.proofs.Groupings.{IsDue, EndsGroup-cut}
 
 module _ (strategy : GroupingStrategy) (sizes : GroupingSizes) where
-  -- what has to hold for so many digits to be grouped
+  -- what has to hold for that many digits to be grouped
   pub record Groups (count : ℕ) : Type 0 where
     pub ever : groups_ever strategy ≡ true
     pub primary_some : 0 < sizes.primary
@@ -46,7 +46,7 @@ module _ (strategy : GroupingStrategy) (sizes : GroupingSizes) where
     | inr f ↦ rw f.0 (omega (arith, f.1))
   ]
 
-  -- the digit at m, where so many digits are grouped
+  -- the digit at m, where that many digits are grouped
   pub check-grouped : (digits : List ℕ) (m : ℕ) (result : Bool) → is_grouped (length digits) sizes strategy ≡ true → m < length digits →
       (IsTrue result ↔ IsDue sizes.primary (secondary_size sizes) m) → (IsTrue result ↔ EndsGroup (digit_groups digits sizes strategy) m)
   check-grouped digits m result e h due =

@@ -57,7 +57,7 @@ abbrev pub digit_groups : {A : Type 0} → List A → GroupingSizes → Grouping
 digit_groups digits sizes strategy =
     if is_grouped (length digits) sizes strategy then cut sizes.primary (secondary_size sizes) digits else digits ∷ []
 
--- a group other than the last ends with the digit at a magnitude: so many digits stand in the groups after it
+-- a group other than the last ends with the digit at a magnitude: that many digits stand in the groups after it
 pub record EndsGroup {A : Type 0} (groups : List (List A)) (magnitude : ℕ) : Type 0 where
   pub before : List (List A)
   pub group : List A

@@ -11,6 +11,8 @@ use icu_decimal_symbols::GroupingSizes;
 /// magnitude `upper`.
 ///
 /// Above `upper` the answer is that of the group sizes alone; below 0 there are no separators.
+// promise: It is true exactly where a group ends but isn't the last.
+// mutations: groups_last_one_not_separated
 pub fn check(upper: i16, magnitude: i16, strategy: GroupingStrategy, sizes: GroupingSizes) -> bool
     // True exactly where the digit at the magnitude is the last of a group, but not of the last group.
     ensures groups { (digits : List ℕ) (m : ℕ) → pos (length digits) ≡ upper +ℤ pos 1
@@ -44,6 +46,8 @@ fn least_before(strategy: GroupingStrategy, sizes: GroupingSizes) -> usize
 
 /// The greatest number of digits that aren't grouped; more digits are. If digits are never grouped,
 /// this is `usize::MAX`.
+// promise: A count is grouped exactly where it is greater than this.
+// mutations: longest_ungrouped_one_more
 pub fn longest_ungrouped(strategy: GroupingStrategy, sizes: GroupingSizes) -> usize
     ensures { IsLongestUngrouped result sizes strategy }
 {
@@ -66,6 +70,8 @@ fn is_grouped(count: usize, strategy: GroupingStrategy, sizes: GroupingSizes) ->
 
 /// The size of the groups before the last one: the secondary size, or the primary size if that is
 /// 0.
+// promise: The secondary size is the primary one where it is 0.
+// mutations: secondary_size_always_the_primary
 pub fn secondary_size(sizes: GroupingSizes) -> usize
     ensures { result ≡ secondary_size sizes }
 {

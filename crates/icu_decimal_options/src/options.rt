@@ -20,6 +20,8 @@ impl Default for GroupingStrategy {
 
     ghost is_default = { λ strategy. strategy ≡ Auto };
 
+    // promise: By default a strategy is `Auto`.
+    // mutations: options_strategy_default_never
     fn default() -> Self {
         GroupingStrategy::Auto
     }

@@ -34,6 +34,8 @@ impl Default for DecimalFormatterPreferences {
 impl DecimalFormatterPreferences {
     /// The identifier to request data by first: the preferred numbering system in the locale. None
     /// without a preferred system.
+    // promise: Data are asked by the preferred system, if there is one.
+    // mutations: preferences_system_in_their_own_locale
     pub fn nu_id<'a>(&'a self, locale: &'a DataLocale) -> Option<DataIdentifierBorrowed<'a>>
         ensures { option_map identifier_of result
             ≡ preferred_id self.entry.now.numbering_system locale.entry.now }

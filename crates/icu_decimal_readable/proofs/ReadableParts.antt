@@ -34,7 +34,7 @@ both_differ f h same = let e = h Negative Positive (same_pair f.minus_sign_prefi
 parts : (a b : Surroundings) → a ≡ b → (a.before ≡ b.before) × (a.after ≡ b.after)
 parts a b e = (ap (λ (x : Surroundings). x.before) e, ap (λ (x : Surroundings). x.after) e)
 
--- affixes that differ tell their sign
+-- affixes that differ determine their sign
 pub signs_told : (f : SymbolTexts)
     → ((chars f.minus_sign_prefix ≡ chars []) × (chars f.minus_sign_suffix ≡ chars []) → ⊥)
     → ((chars f.plus_sign_prefix ≡ chars []) × (chars f.plus_sign_suffix ≡ chars []) → ⊥)

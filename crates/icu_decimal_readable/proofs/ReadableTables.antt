@@ -128,7 +128,7 @@ pub placed_throughout : (texts : SymbolTexts) (digits : List ℕ) (table : List 
     HoldsThroughout (λ m p. HasPlaceAndNoDigit digits p) table
 placed_throughout texts digits table h = λ by p is. record { placed = h.placed by p is; sides_free = h.sides_free by p is }
 
--- a readable table tells the numbers in each of its patterns
+-- a readable table determines the numbers in each of its patterns
 pub told_throughout : (texts : SymbolTexts) (digits : List ℕ) (table : List TableEntry) → IsReadableTable texts digits table →
     HoldsThroughout (TellsNumbers texts table) table
 told_throughout texts digits table h = λ by p is s to q i t e. h.told s t by to p q is i e
@@ -144,17 +144,17 @@ pub told_of : (texts : SymbolTexts) (table : List TableEntry) (s : Sign) (m : �
     IsToldThroughout texts table s m a → IsToldThroughout texts table s m (sides p)
 told_of texts table s m p a is h = let T : Surroundings → Type 0 = IsToldThroughout texts table s m in subst T is h
 
--- a pattern that tells its numbers is told from every other by what stands around its place
+-- a pattern that determines its numbers differs from every other by what stands around its place
 pub told_by_sides : (texts : SymbolTexts) (table : List TableEntry) (s : Sign) (m : ℕ) (p : PatternText) (a : Surroundings) → a ≡ sides p →
     TellsNumbers texts table m p → IsToldThroughout texts table s m a
 told_by_sides texts table s m p a is h = let T : Surroundings → Type 0 = IsToldThroughout texts table s m in subst T (sym is) (h s)
 
--- that two patterns are told apart is said of what stands around their places
+-- that two patterns are distinguished is said of what stands around their places
 pub told_from_of : (texts : SymbolTexts) (s : Sign) (m : ℕ) (a : Surroundings) (n : ℕ) (q : PatternText) (b : Surroundings) (r : Bool) → b ≡ sides q →
     (IsTrue r ↔ IsToldFrom texts s m a n b) → IsTrue r ↔ IsToldFrom texts s m a n (sides q)
 told_from_of texts s m a n q b r is h = let T : Surroundings → Type 0 = λ x. IsTrue r ↔ IsToldFrom texts s m a n x in subst T is h
 
--- what is told with symbols is told with equal symbols
+-- what is determined with symbols is determined with equal symbols
 pub told_with : (texts given : SymbolTexts) (table : List TableEntry) → given ≡ texts → HoldsThroughout (TellsNumbers given table) table →
     HoldsThroughout (TellsNumbers texts table) table
 told_with texts given table is h = let T : SymbolTexts → Type 0 = λ x. HoldsThroughout (TellsNumbers x table) table in subst T is h
@@ -167,7 +167,7 @@ told_as texts first made meant r is h =
     let T : Number → Type 0 = λ x. IsTrue r ↔ AreTold texts first.sign first.exponent (surroundings_of first.sides) x.sign x.exponent
     (surroundings_of x.sides) in subst T is h
 
--- what is told of a number is told of an equal number
+-- what is determined of a number is determined of an equal number
 pub told_throughout_as : (texts : SymbolTexts) (table : List TableEntry) (made meant : Number) (r : Bool) → made ≡ meant
     → (IsTrue r ↔ IsToldThroughout texts table made.sign made.exponent (surroundings_of made.sides))
     → IsTrue r ↔ IsToldThroughout texts table meant.sign meant.exponent (surroundings_of meant.sides)

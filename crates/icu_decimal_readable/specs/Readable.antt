@@ -32,7 +32,7 @@ abbrev pub SignsDiffer : SymbolTexts → Type 0
 SignsDiffer texts = (s t : Sign) → affixes texts s ≡ affixes texts t → s ≡ t
 
 -- Numbers with these symbols and digits are readable: ten different digits, none of them in an affix or separator; a
--- decimal separator that isn't empty and isn't the grouping separator; and affixes that tell the sign.
+-- decimal separator that isn't empty and isn't the grouping separator; and affixes that determine the sign.
 pub record IsReadable (texts : SymbolTexts) (digits : List ℕ) : Type 0 where
   pub ten : length digits ≡ 10
   pub different : AllPairs (λ c d. c ≢ d) digits

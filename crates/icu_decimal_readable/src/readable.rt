@@ -130,6 +130,8 @@ fn are_readable(texts: &DecimalSymbolStrsBuilder<'_>, digits: &[char; 10]) -> bo
 /// They are readable if the ten digits differ, none of them occurs in an affix or a separator, the
 /// decimal separator isn't empty and differs from the grouping separator, and the pairs of affixes
 /// of minus, plus and no sign differ. Characters are compared, not bytes. It takes no memory.
+// promise: It decides exactly whether numbers are readable.
+// mutations: readable_where_minus_is_empty
 pub fn are_numbers_readable(symbols: &DecimalSymbols, digits: &[char; 10]) -> bool
     ensures { IsTrue result ↔ IsReadable symbols.now.strings digits.now }
 {

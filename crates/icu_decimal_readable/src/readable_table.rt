@@ -305,6 +305,8 @@ impl PatternTest for Told<'_> {
 /// Numbers without an entry, which have no pattern around them, are included, and so is every
 /// pattern of an entry, even one that no language's plural rules pick. Each pattern is compared
 /// with each, so the time grows with the square of the table's size. It takes no memory.
+// promise: It decides exactly whether a table is readable.
+// mutations: readable_by_the_first_entry_alone
 pub fn is_table_readable(
     table: &CompactPatterns<SinglePlaceholder>,
     symbols: &DecimalSymbols,

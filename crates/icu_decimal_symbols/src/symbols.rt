@@ -36,6 +36,12 @@ impl<'data> DecimalSymbolStrsBuilder<'data> {
 
     /// Symbols with copies of these texts. Both errors are checked before memory is allocated, so
     /// they are reported even when no memory is left.
+    // promise: The symbols have the seven texts that are given.
+    // mutations: build_suffix_dropped
+    // promise: `TooLarge` comes exactly where they pass 255 bytes together.
+    // mutations: build_a_byte_less, build_a_byte_more
+    // promise: Else a name that is none is a `BadNumberingSystem`.
+    // mutations: build_system_not_judged
     pub fn build(&self, alloc: Global) -> Result<DecimalSymbolsStrs, SymbolsError>
         ensures made { IfOk result (λ symbols. symbols ≡ texts_given self.now) }
         ensures accepted { IsOk result → IsSymbolTexts (texts_given self.now) }
@@ -85,6 +91,8 @@ impl Model for DecimalSymbolsStrs {
 impl DecimalSymbolsStrs {
     /// The byte string that holds the seven texts: seven lengths, a byte each, then the texts.
     /// `SymbolsView::parse` reads it. It takes no memory.
+    // promise: The bytes are seven lengths and the seven texts.
+    // mutations: as_bytes_without_the_lengths
     #[tactic(auto, using(crate::proofs::SymbolDamage::held_bytes))]
     pub fn as_bytes(&self) -> &[u8]
         ensures packed { result.now ≡ symbol_bytes self.now }

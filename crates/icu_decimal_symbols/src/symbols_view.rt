@@ -42,6 +42,10 @@ impl<'a> SymbolsView<'a> {
     /// lengths have to give the number of bytes; else it is the smaller of the two. Each text has
     /// to be UTF-8, and the last one the name of a numbering system; else it is where the text
     /// begins.
+    // promise: Just the bytes of symbols are read, and as these symbols.
+    // mutations: parse_a_byte_too_many, parse_system_not_judged
+    // promise: Other bytes are rejected by the byte of the first damage.
+    // mutations: parse_damage_a_byte_off
     #[tactic(auto, using(crate::proofs::SymbolDamage::damage))]
     pub fn parse(bytes: &'a [u8]) -> Result<Self, Damaged>
         ensures found { IfOk result (λ v. IsSymbolTexts (texts_shown v)

@@ -1,4 +1,4 @@
--- What two equal compact texts tell.
+-- What two equal compact texts determine.
 use Rattle.std.specs.Prelude.{ℕ}
 use Rattle.icu_decimal.specs.CompactFormat.{CompactFormat}
 use Rattle.icu_decimal.specs.CompactNumber.{IsNearestCompact}

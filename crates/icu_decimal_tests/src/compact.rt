@@ -14,7 +14,7 @@ use std::alloc::Global;
 use std::process::Abort;
 use writeable::{PartsText, Writeable};
 
-/// The compact number, asked for once more where memory was refused.
+/// The compact number, asked for once more where memory ran out.
 pub(crate) fn formatted<'l>(
     alloc: Global,
     formatter: &'l CompactDecimalFormatter,
@@ -238,8 +238,8 @@ fn is_in_a_sink(
     value.write_to_parts(&mut sink).is_ok() && is_annotated(alloc, &sink, text, spans)
 }
 
-/// Whether a decimal is written as this text with these spans; asked once more where memory was
-/// refused.
+/// Whether a decimal is written as this text with these spans; asked once more where memory ran
+/// out.
 pub(crate) fn is_marked(
     alloc: Global,
     formatter: &CompactDecimalFormatter,
@@ -289,7 +289,7 @@ pub(crate) fn refusal<V: Drop>(made: Result<V, FormatError>) -> Option<FormatErr
     }
 }
 
-/// Whether a decimal is refused, since its compact number is too large.
+/// Whether a decimal is rejected, since its compact number is too large.
 pub(crate) fn is_refused(
     alloc: Global,
     formatter: &CompactDecimalFormatter,
@@ -298,7 +298,7 @@ pub(crate) fn is_refused(
     refusal(formatted(alloc, formatter, decimal)) == Some(FormatError::Overflow)
 }
 
-/// Whether so many digits are refused.
+/// Whether that many digits are rejected.
 fn overflows(rt: &impl Abort, alloc: Global) -> bool {
     let formatter = short_english(rt, alloc);
     let largest = nines(rt, alloc, 32768);

@@ -15,7 +15,7 @@ use std::collections::BTreeMap;
 use std::process::Abort;
 use std::str;
 
-/// A text before so many equal bytes and a text behind them.
+/// A text before that many equal bytes and a text behind them.
 fn around(
     alloc: Global,
     before: &[u8],
@@ -31,7 +31,7 @@ fn around(
     Ok(bytes)
 }
 
-/// The same, once more where memory was refused.
+/// The same, once more where memory ran out.
 fn bytes(
     rt: &impl Abort,
     alloc: Global,
@@ -66,7 +66,7 @@ fn is_bytes<W: NumberWriter>(alloc: Global, formatter: &W, decimal: &Decimal, wa
     }
 }
 
-/// Whether a formatter that was made writes a decimal as these bytes, which are so many.
+/// Whether a formatter that was made writes a decimal as these bytes, which are that many.
 fn made_is_bytes<W: NumberWriter + Drop>(
     alloc: Global,
     formatter: W,
@@ -88,7 +88,7 @@ fn writes_one_at_the_least_power(rt: HostRuntime) {
     assert!(rt; writes_the_least(&rt, rt.alloc()));
 }
 
-/// The table without an entry; asked once more where memory was refused.
+/// The table without an entry; asked once more where memory ran out.
 fn empty_table(rt: &impl Abort, alloc: Global) -> CompactPatterns<SinglePlaceholder> {
     let made = match CompactPatterns::new(alloc, BTreeMap::new(alloc), None) {
         Ok(table) => Ok(table),
@@ -97,7 +97,7 @@ fn empty_table(rt: &impl Abort, alloc: Global) -> CompactPatterns<SinglePlacehol
     found(rt, made, "the empty table")
 }
 
-/// Rules without a condition, made once more where memory was refused.
+/// Rules without a condition, made once more where memory ran out.
 fn no_rules(rt: &impl Abort, alloc: Global) -> PluralRules {
     let made = match PluralRules::from_rules(alloc, &[]) {
         Ok(rules) => Ok(rules),
@@ -113,7 +113,7 @@ fn without_patterns(rt: &impl Abort, alloc: Global) -> CompactDecimalFormatter {
     CompactDecimalFormatter::from_parts(plain, rules, empty_table(rt, alloc))
 }
 
-/// So many nines in groups of three.
+/// That many nines in groups of three.
 fn grouped_nines(alloc: Global, count: usize) -> Result<Vec<u8>, AllocError> {
     let mut grouped = Vec::new(alloc);
     for left in (0..count).rev() {
@@ -125,7 +125,7 @@ fn grouped_nines(alloc: Global, count: usize) -> Result<Vec<u8>, AllocError> {
     Ok(grouped)
 }
 
-/// The same, once more where memory was refused.
+/// The same, once more where memory ran out.
 fn nines(rt: &impl Abort, alloc: Global, count: usize) -> Vec<u8> {
     let made = match grouped_nines(alloc, count) {
         Ok(nines) => Ok(nines),

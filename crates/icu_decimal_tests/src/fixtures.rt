@@ -1,5 +1,5 @@
 //! What the tests are made with: decimals, symbols and plain formatters, and whether texts are as
-//! wanted. What was refused memory is asked once more.
+//! wanted. A call whose allocation failed is made once more.
 
 use fixed_decimal::{Decimal, DecimalError};
 use icu_decimal::DecimalFormatter;
@@ -35,7 +35,7 @@ pub(crate) fn found<T: Drop, E: Drop>(rt: &impl Abort, made: Result<T, E>, what:
     }
 }
 
-/// Reads a text, once more where memory was refused.
+/// Reads a text, once more where memory ran out.
 pub(crate) fn read(rt: &impl Abort, alloc: Global, text: &str) -> Decimal {
     let read = match Decimal::try_from_str(alloc, text) {
         Err(DecimalError::OutOfMemory) => Decimal::try_from_str(alloc, text),
@@ -53,7 +53,7 @@ pub(crate) fn scaled(rt: &impl Abort, alloc: Global, text: &str, power: i16) -> 
     decimal
 }
 
-/// A decimal of so many nines.
+/// A decimal of that many nines.
 pub(crate) fn nines(rt: &impl Abort, alloc: Global, count: usize) -> Decimal {
     let made = match Vec::from_elem(alloc, b'9', count) {
         Ok(bytes) => Ok(bytes),
@@ -124,7 +124,7 @@ pub(crate) fn is_displayed<T: Display>(alloc: Global, value: &T, want: &str) -> 
     }
 }
 
-/// The spans of a sink, asked for once more where memory was refused.
+/// The spans of a sink, asked for once more where memory ran out.
 fn spans_of(alloc: Global, sink: &PartsText) -> Result<Vec<(usize, usize, Part)>, OutOfMemory> {
     match sink.spans(alloc) {
         Ok(spans) => Ok(spans),

@@ -67,7 +67,7 @@ fn is_framed_once<F: AbstractFormatter>(
         && is_annotated(alloc, &sink, text, parts)
 }
 
-/// The same, once more where a refused allocation stood in the way.
+/// The same, once more where a failing allocation stood in the way.
 fn is_framed<F: AbstractFormatter>(
     alloc: Global,
     formatter: &F,
@@ -136,7 +136,7 @@ fn a_compact_number_stands_in_its_frame(rt: HostRuntime) {
     }
 }
 
-/// Whether the text of a number in its frame is refused, since its compact number is too large.
+/// Whether the text of a number in its frame is rejected, since its compact number is too large.
 fn is_refused<F: AbstractFormatter + Drop>(alloc: Global, formatter: F, number: Decimal) -> bool {
     let frame = Twice {
         before: "[",
@@ -146,7 +146,7 @@ fn is_refused<F: AbstractFormatter + Drop>(alloc: Global, formatter: F, number: 
     is_text(alloc, &formatter, &number.absolute, &frame, refused)
 }
 
-/// Whether so many nines leave a sink.
+/// Whether that many nines leave a sink.
 fn leaves_the_sink(rt: &impl Abort, alloc: Global, count: usize) -> bool {
     let wanted: Wanted<'_> = (None, Err(FormatError::Overflow), "", &[]);
     made_is_framed(
@@ -157,7 +157,7 @@ fn leaves_the_sink(rt: &impl Abort, alloc: Global, count: usize) -> bool {
     )
 }
 
-/// Whether so many nines have no text.
+/// Whether that many nines have no text.
 fn has_no_text(rt: &impl Abort, alloc: Global, count: usize) -> bool {
     is_refused(alloc, short_english(rt, alloc), nines(rt, alloc, count))
 }
@@ -201,7 +201,7 @@ fn marks(alloc: Global) -> Option<PluralElements<Pattern<SinglePlaceholder>>> {
     }
 }
 
-/// Whether the text of a number in its frame is this, or refused so.
+/// Whether the text of a number in its frame is this, or rejected so.
 fn is_text<F: AbstractFormatter, T: Frame>(
     alloc: Global,
     formatter: &F,
@@ -249,7 +249,7 @@ fn is_marked_once<F: AbstractFormatter>(
     }
 }
 
-/// Whether a formatter that was made marks a number so; asked once more where a refused allocation
+/// Whether a formatter that was made marks a number so; asked once more where a failing allocation
 /// stood in the way.
 fn made_is_marked<F: AbstractFormatter + Drop>(
     alloc: Global,

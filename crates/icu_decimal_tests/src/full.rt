@@ -8,7 +8,8 @@ use crate::writing::made_begins;
 use std::alloc::Global;
 use std::process::Abort;
 
-/// Whether a sink of so many events holds this beginning of 2500 in short English, which has four.
+/// Whether a sink of that many events holds this beginning of 2500 in short English, which has
+/// four.
 fn leaves(rt: &impl Abort, alloc: Global, limit: usize, want: &str) -> bool {
     let formatter = short_english(rt, alloc);
     let decimal = read(rt, alloc, "2500");
@@ -20,7 +21,7 @@ fn leaves(rt: &impl Abort, alloc: Global, limit: usize, want: &str) -> bool {
     )
 }
 
-/// What a sink holds of 2500 after so many events.
+/// What a sink holds of 2500 after that many events.
 const BEGINNINGS: &[&str] = &["", "2", "2.", "2.5", "2.5K", "2.5K"];
 
 #[test]
@@ -30,8 +31,8 @@ fn leaves_a_beginning_of_a_compact_number(rt: HostRuntime) {
     }
 }
 
-/// Whether a sink of so many events holds this beginning of 2.5 with the exponent three, which has
-/// ten.
+/// Whether a sink of that many events holds this beginning of 2.5 with the exponent three, which
+/// has ten.
 fn leaves_given(rt: &impl Abort, alloc: Global, limit: usize, want: &str) -> bool {
     let formatter = short_english(rt, alloc);
     let significand = read(rt, alloc, "2.5");
@@ -39,7 +40,7 @@ fn leaves_given(rt: &impl Abort, alloc: Global, limit: usize, want: &str) -> boo
     made_begins(alloc, given, (limit, 10), want)
 }
 
-/// What a sink with room for so many events holds of 2.5 with the exponent three: each part is
+/// What a sink with room for that many events holds of 2.5 with the exponent three: each part is
 /// opened and closed.
 const GIVEN_BEGINNINGS: &[&str] = &[
     "", "", "2", "2", "2", "2.", "2.", "2.", "2.5", "2.5", "2.5K", "2.5K",

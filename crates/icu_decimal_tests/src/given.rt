@@ -15,7 +15,7 @@ use writeable::{PartsText, Writeable};
 
 /// What the compact formatter does with significands whose exponent is given.
 pub(crate) trait GivenWriter {
-    /// Whether a significand with an exponent, or its refusal, is written so.
+    /// Whether a significand with an exponent, or its error, is written so.
     fn is_given(&self, alloc: Global, significand: &Decimal, exponent: u8, want: &str) -> bool;
 
     /// Whether a significand with an exponent is accepted, and both are written so.
@@ -69,7 +69,7 @@ impl GivenWriter for CompactDecimalFormatter {
     }
 }
 
-/// Whether a formatter that was made writes a significand with an exponent, or its refusal, so.
+/// Whether a formatter that was made writes a significand with an exponent, or its error, so.
 fn made_gives<W: GivenWriter + Drop>(
     alloc: Global,
     formatter: W,
@@ -91,7 +91,7 @@ pub(crate) fn made_accepts<W: GivenWriter + Drop>(
     formatter.is_accepted(alloc, &significand, exponent, want)
 }
 
-/// Whether a text with an exponent, or its refusal, is written so in a language.
+/// Whether a text with an exponent, or its error, is written so in a language.
 fn gives(
     rt: &impl Abort,
     alloc: Global,
@@ -140,7 +140,7 @@ fn writes_given_exponents(rt: HostRuntime) {
     }
 }
 
-/// Whether an exponent past the largest is refused with a number that is told whole.
+/// Whether an exponent past the largest is rejected with a number that is reported whole.
 fn refuses_an_exponent(rt: &impl Abort, alloc: Global) -> bool {
     let power = scaled(rt, alloc, "1", 32767);
     let want = "Expected compact exponent 12 for 10^33022, got 255";
@@ -163,7 +163,7 @@ fn is_in_a_sink(
     value.write_to_parts(&mut sink).is_ok() && is_annotated(alloc, &sink, text, want)
 }
 
-/// The same, once more where memory was refused; and whether it is displayed so without its sign.
+/// The same, once more where memory ran out; and whether it is displayed so without its sign.
 fn is_written(
     alloc: Global,
     value: &FormattedSign<'_, InterpolatedDecimal<'_>>,

@@ -31,7 +31,7 @@ fn writes_once<F: AbstractFormatter>(
         && is_annotated(alloc, &sink, text, parts)
 }
 
-/// The same, once more where a refused allocation stood in the way.
+/// The same, once more where a failing allocation stood in the way.
 fn writes<F: AbstractFormatter>(
     alloc: Global,
     formatter: &F,
@@ -97,7 +97,7 @@ fn a_compact_number_is_written_without_parts(rt: HostRuntime) {
     assert!(rt; is_compact(&rt, rt.alloc(), "-999500", None, wanted));
 }
 
-/// Whether so many nines overflow in compact form, and leave the sink.
+/// Whether that many nines overflow in compact form, and leave the sink.
 fn overflows(rt: &impl Abort, alloc: Global, count: usize) -> bool {
     let number = nines(rt, alloc, count);
     let wanted: Wanted<'_> = (Err(FormatError::Overflow), "", &[]);
@@ -116,8 +116,8 @@ const INTEGER_AND_POINT: &[(usize, usize, Part)] = &[
     (1, 2, parts::DECIMAL),
 ];
 
-/// What a sink with room for so many events holds of 1.5, for each number that is less than all. A
-/// part that isn't closed has no span.
+/// What a sink with room for that many events holds of 1.5, for each number that is less than all.
+/// A part that isn't closed has no span.
 const BEGINNINGS: &[(&str, &[(usize, usize, Part)])] = &[
     ("", &[]),
     ("", &[]),
@@ -155,7 +155,7 @@ fn a_full_sink_holds_a_beginning_of_a_compact_number(rt: HostRuntime) {
     }
 }
 
-/// The operands that any formatter answers, asked for once more where memory was refused.
+/// The operands that any formatter answers, asked for once more where memory ran out.
 pub(crate) fn operands<F: AbstractFormatter>(
     alloc: Global,
     formatter: &F,
@@ -190,7 +190,7 @@ fn compact_operands(
     made_operands(alloc, formatter, read(rt, alloc, number))
 }
 
-/// Whether rules were read that tell the category one of operands.
+/// Whether rules were read that give the category one of operands.
 fn are_of_one(rules: Option<PluralRules>, operands: PluralOperands) -> bool {
     match rules {
         Some(rules) => rules.category_for(operands) == PluralCategory::One,
@@ -198,7 +198,7 @@ fn are_of_one(rules: Option<PluralRules>, operands: PluralOperands) -> bool {
     }
 }
 
-/// Rules of one condition, read once more where memory was refused.
+/// Rules of one condition, read once more where memory ran out.
 fn rules_of_one(alloc: Global, condition: &str) -> Option<PluralRules> {
     match PluralRules::from_rules(alloc, &[(PluralCategory::One, condition)]) {
         Ok(rules) => Some(rules),

@@ -23,7 +23,7 @@ pub(super) type Thousands = (&'static str, &'static str);
 pub(super) trait Kept: Sized + Drop {
     type Row: Copy;
 
-    /// None where memory is wanting.
+    /// None where memory ran out.
     fn made(alloc: Global, row: Self::Row) -> Option<Self>;
 
     fn copied(&self, alloc: Global) -> Result<Self, DataError>
@@ -93,7 +93,7 @@ impl Kept for PluralRules {
 type Elements = PluralElements<Pattern<SinglePlaceholder>>;
 
 /// The patterns of the texts behind one thousand and behind other numbers of thousands; none where
-/// an allocation is refused.
+/// an allocation fails.
 fn elements_of(alloc: Global, one: &str, other: &str) -> Option<Elements> {
     let other = Pattern::try_new(alloc, Some(0), other).ok();
     match other.zip(Pattern::try_new(alloc, Some(0), one).ok()) {
@@ -102,7 +102,7 @@ fn elements_of(alloc: Global, one: &str, other: &str) -> Option<Elements> {
     }
 }
 
-/// The map of thousands with these patterns; none where memory is wanting.
+/// The map of thousands with these patterns; none if out of memory.
 fn map_of(alloc: Global, elements: Elements) -> Option<BTreeMap<u8, (u8, Elements)>> {
     let mut map = BTreeMap::new(alloc);
     match map.insert(3, (3, elements)) {
@@ -111,7 +111,7 @@ fn map_of(alloc: Global, elements: Elements) -> Option<BTreeMap<u8, (u8, Element
     }
 }
 
-/// The table of thousands with these patterns; none where memory is wanting.
+/// The table of thousands with these patterns; none if out of memory.
 fn table_of(alloc: Global, elements: Elements) -> Option<Table> {
     match map_of(alloc, elements) {
         Some(map) => CompactPatterns::new(alloc, map, None).ok(),

@@ -24,9 +24,9 @@ pub(crate) enum Language {
     LongJapanese,
     /// Thousands, millions, and from ten thousand millions on thousands of millions.
     ShortSpanish,
-    /// Words of ten thousand that begin at a hundred thousand.
+    /// Names for ten thousand that begin at a hundred thousand.
     Words,
-    /// Thousands, and from a million on words of a hundred thousand.
+    /// Thousands, and from a million on names for a hundred thousand.
     Lakhs,
     /// Thousands that nothing follows.
     Bare,

@@ -1,4 +1,4 @@
-//! Numbers of as many digits as there may be, plain and compact: each call that wants memory gives
+//! Numbers of as many digits as there may be, plain and compact: each call that takes memory gives
 //! its usual answer.
 
 use crate::fixtures::{ENGLISH, LATIN, english, found, nines, symbols};
@@ -18,7 +18,7 @@ use writeable::PartsText;
 /// How many digits stand before the point, and how many behind it, at most.
 const MOST: usize = 32768;
 
-/// A digit so many times, in groups of three where they are asked for, and a text behind them.
+/// A digit that many times, in groups of three where they are asked for, and a text behind them.
 fn digits_once(
     alloc: Global,
     (digit, count): (u8, usize),
@@ -36,7 +36,7 @@ fn digits_once(
     Ok(text)
 }
 
-/// The same, made once more where memory was refused.
+/// The same, made once more where memory ran out.
 fn digits(
     rt: &impl Abort,
     alloc: Global,
@@ -51,7 +51,7 @@ fn digits(
     found(rt, made, "memory")
 }
 
-/// Reads a decimal out of bytes, once more where memory was refused.
+/// Reads a decimal out of bytes, once more where memory ran out.
 fn decimal(rt: &impl Abort, alloc: Global, bytes: &[u8]) -> Decimal {
     let read = match Decimal::try_from_utf8(alloc, bytes) {
         Err(DecimalError::OutOfMemory) => Decimal::try_from_utf8(alloc, bytes),
@@ -60,7 +60,7 @@ fn decimal(rt: &impl Abort, alloc: Global, bytes: &[u8]) -> Decimal {
     found(rt, read, "a decimal")
 }
 
-/// The number of so many ones.
+/// The number of that many ones.
 fn ones(rt: &impl Abort, alloc: Global, count: usize) -> Decimal {
     let text = digits(rt, alloc, (b'1', count), false, b"");
     decimal(rt, alloc, &text)
@@ -114,7 +114,7 @@ fn writes_all_digits_of_a_plain_number(rt: HostRuntime) {
     assert!(rt; writes_plain(&rt, rt.alloc()));
 }
 
-/// Whether so many ones are written in trillions.
+/// Whether that many ones are written in trillions.
 fn writes_compactly(rt: &impl Abort, alloc: Global, count: usize) -> bool {
     let want = digits(rt, alloc, (b'1', count.saturating_sub(12)), true, b"T");
     is_bytes(
@@ -162,7 +162,7 @@ fn writes_once<F: AbstractFormatter>(
 }
 
 /// Whether a formatter that was made writes a number as these bytes; asked once more where a
-/// refused allocation stood in the way.
+/// failing allocation stood in the way.
 fn made_writes<F: AbstractFormatter + Drop>(
     alloc: Global,
     formatter: F,

@@ -1,6 +1,6 @@
 //! The tests of icu_decimal's public calls; the library itself offers nothing. They see the
-//! contracts of icu_decimal alone, so they are proved beside its edits, which wait for the tests
-//! that stand in icu_decimal.
+//! contracts of icu_decimal alone, so they are proved beside its mutations, which wait for the
+//! tests that stand in icu_decimal.
 #![tactic(auto)]
 
 #[cfg(test)]

@@ -1,4 +1,4 @@
-//! Formatters that are made of a provider's data: which data they take, and which refusal is
+//! Formatters that are made of a provider's data: which data they take, and which error is
 //! reported.
 
 use crate::shelf::{Bare, KEPT_AWAY, Refusals, Shelf, WANT_OF_MEMORY};
@@ -72,7 +72,7 @@ fn compact(
     }
 }
 
-/// The text that was written; want of memory is told as that of a provider without a text.
+/// The text that was written; out of memory is reported as that of a provider without a text.
 fn told(text: Result<String, FormatError>) -> Result<String, DataError> {
     match text {
         Ok(text) => Ok(text),
@@ -141,7 +141,7 @@ fn writes_once(
     }
 }
 
-/// The same, asked once more where memory was wanting.
+/// The same, asked once more where memory ran out.
 fn writes(
     alloc: Global,
     refusals: Refusals,
@@ -278,8 +278,8 @@ const KINDS: &[DataErrorKind] = &[
     DataErrorKind::OutOfMemory,
 ];
 
-/// Whether a refusal of the symbols, of the digits, of the rules and of the patterns is reported
-/// with its text, whatever is refused after it.
+/// Whether an error of the symbols, of the digits, of the rules and of the patterns is reported
+/// with its text, whatever is rejected after it.
 fn is_answered(alloc: Global, style: Style, kind: DataErrorKind, other: DataErrorKind) -> bool {
     let asked = (style, "en", None, None);
     let error = DataError {
@@ -353,7 +353,7 @@ fn is_made_once(alloc: Global, style: Style) -> Result<bool, DataError> {
     }
 }
 
-/// The same, asked once more where memory was wanting.
+/// The same, asked once more where memory ran out.
 fn is_made(alloc: Global, style: Style) -> bool {
     match is_made_once(alloc, style) {
         Err(WANT_OF_MEMORY) => is_made_once(alloc, style) == Ok(true),

@@ -1,4 +1,5 @@
-//! The compact formatters that the tests are made with. What was refused memory is asked once more.
+//! The compact formatters that the tests are made with. A call whose allocation failed is made once
+//! more.
 
 use crate::fixtures::{found, symbols};
 use crate::languages::{Language, Parts, Row, parts_of};
@@ -13,7 +14,7 @@ use std::process::Abort;
 
 type Elements = PluralElements<Pattern<SinglePlaceholder>>;
 
-/// A pattern, asked for once more where memory was refused.
+/// A pattern, asked for once more where memory ran out.
 fn pattern(
     rt: &impl Abort,
     alloc: Global,
@@ -79,7 +80,7 @@ fn is_put(
     map.insert(row.0, (row.1, elements)).is_ok()
 }
 
-/// Puts a row into a map, once more where memory was refused.
+/// Puts a row into a map, once more where memory ran out.
 fn insert(rt: &impl Abort, alloc: Global, map: &mut BTreeMap<u8, (u8, Elements)>, row: Row) {
     if !is_put(rt, alloc, map, row) && !is_put(rt, alloc, map, row) {
         panic!(rt; "memory was refused");
@@ -105,7 +106,7 @@ fn table(
     CompactPatterns::new(alloc, map_of(rt, alloc, parts.rows), zero.as_ref())
 }
 
-/// The table of a language, made once more where memory was refused.
+/// The table of a language, made once more where memory ran out.
 fn patterns(rt: &impl Abort, alloc: Global, parts: &Parts) -> CompactPatterns<SinglePlaceholder> {
     let made = match table(rt, alloc, parts) {
         Ok(table) => Ok(table),
@@ -133,7 +134,7 @@ fn plain(
     DecimalFormatter::from_parts(symbols, *parts.digits, options)
 }
 
-/// The rules of a list, read once more where memory was refused.
+/// The rules of a list, read once more where memory ran out.
 fn rules_of(rt: &impl Abort, alloc: Global, rows: &[(PluralCategory, &str)]) -> PluralRules {
     let read = match PluralRules::from_rules(alloc, rows) {
         Ok(rules) => Ok(rules),

@@ -61,7 +61,7 @@ fn marks_both_affixes_of_a_sign(rt: HostRuntime) {
 /// How many events `-1.5` is.
 const EVENTS: usize = 14;
 
-/// Whether a sink of so many events holds this beginning of `-1.5`.
+/// Whether a sink of that many events holds this beginning of `-1.5`.
 fn leaves(rt: &impl Abort, alloc: Global, limit: usize, want: &str) -> bool {
     let decimal = read(rt, alloc, "-1.5");
     begins(
@@ -106,7 +106,7 @@ fn is_sign_marked<V: Writeable>(alloc: Global, value: &V) -> bool {
     !is_whole && is_annotated(alloc, &sink, "-1", &[(0, 1, parts::MINUS_SIGN)])
 }
 
-/// Whether a sink holds that of `-1.5`; asked once more where memory was refused.
+/// Whether a sink holds that of `-1.5`; asked once more where memory ran out.
 fn marks_the_sign(rt: &impl Abort, alloc: Global) -> bool {
     let decimal = read(rt, alloc, "-1.5");
     let english = english(rt, alloc);

@@ -58,7 +58,7 @@ impl DataProvider<DecimalDigitsV1> for OneLocale {
 }
 
 /// A provider of one locale, whose numbers have points and these separators and sizes of groups;
-/// none where memory is wanting.
+/// none if out of memory.
 fn provider(
     alloc: Global,
     locale: &str,
@@ -92,7 +92,7 @@ fn provider(
     }
 }
 
-/// The text of a number in a provider's locale; none where memory is wanting.
+/// The text of a number in a provider's locale; none if out of memory.
 fn written(
     alloc: Global,
     provider: &OneLocale,
@@ -116,7 +116,7 @@ fn is_text(text: Option<String>, want: &str) -> Option<bool> {
     }
 }
 
-/// Whether a number is written so; none where memory is wanting.
+/// Whether a number is written so; none if out of memory.
 fn is_written_once(
     alloc: Global,
     (locale, separator, sizes): (&str, &str, (u8, u8, u8)),
@@ -130,7 +130,7 @@ fn is_written_once(
     }
 }
 
-/// The same, asked once more where memory was wanting.
+/// The same, asked once more where memory ran out.
 fn is_written(
     alloc: Global,
     locale: (&str, &str, (u8, u8, u8)),
@@ -176,7 +176,7 @@ fn refusal_by(alloc: Global, provider: &OneLocale, locale: &str) -> Option<DataE
     kind_of(DecimalFormatter::try_new_unstable(alloc, provider, prefs, options))
 }
 
-/// The same of a provider of German in Switzerland; none where memory is wanting.
+/// The same of a provider of German in Switzerland; none if out of memory.
 fn refusal(alloc: Global, locale: &str) -> Option<DataErrorKind> {
     match provider(alloc, "de-CH", "’", (3, 3, 1)) {
         Some(provider) => refusal_by(alloc, &provider, locale),
@@ -184,7 +184,7 @@ fn refusal(alloc: Global, locale: &str) -> Option<DataErrorKind> {
     }
 }
 
-/// The same, asked once more where memory was wanting.
+/// The same, asked once more where memory ran out.
 fn is_not_found(alloc: Global, locale: &str) -> bool {
     match refusal(alloc, locale) {
         Some(kind) => kind == DataErrorKind::IdentifierNotFound,

@@ -1,4 +1,4 @@
-//! What a formatted compact number tells: its significand, its exponent and its plural operands; and
+//! What a formatted compact number has: its significand, its exponent and its plural operands; and
 //! the plural category of a number by the rules of a formatter.
 
 use crate::compact::formatted;
@@ -40,7 +40,7 @@ fn has_parts(
     }
 }
 
-/// Whether rules tell these operands a category, and dollars their form.
+/// Whether rules give these operands a category, and dollars their form.
 fn is_told(
     rules: &PluralRules,
     operands: PluralOperands,
@@ -52,7 +52,7 @@ fn is_told(
     rules.category_for(operands) == category && *dollars.get(operands, rules) == form
 }
 
-/// Whether rules tell a million that is shown compactly from one that is not.
+/// Whether rules distinguish a million that is shown compactly from one that is not.
 fn are_told(rules: &PluralRules, shown: Option<PluralOperands>, given: PluralOperands) -> bool {
     match shown {
         Some(shown) => {
@@ -89,7 +89,7 @@ fn tells_the_operands_of_a_compact_number(rt: HostRuntime) {
     assert!(rt; tells_operands(&rt, rt.alloc()));
 }
 
-/// Whether a formatter's rules tell operands this category.
+/// Whether a formatter's rules give operands this category.
 fn is_category(
     formatter: &CompactDecimalFormatter,
     operands: PluralOperands,
@@ -98,7 +98,7 @@ fn is_category(
     formatter.plural_rules().category_for(operands) == category
 }
 
-/// Whether the rules of a language's formatter tell a significand with an exponent this category.
+/// Whether the rules of a language's formatter give a significand with an exponent this category.
 fn has_category(
     rt: &impl Abort,
     alloc: Global,

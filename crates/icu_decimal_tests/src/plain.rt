@@ -191,12 +191,12 @@ fn writes_other_digits_and_separators(rt: HostRuntime) {
     }
 }
 
-/// Whether a text has so many bytes, and so many of them are commas.
+/// Whether a text has that many bytes, and that many of them are commas.
 fn has_commas(text: &str, length: usize, commas: usize) -> bool {
     text.len() == length && text.bytes().filter(|byte| *byte == b',').count() == commas
 }
 
-/// Whether a text was made, and has so many bytes and so many commas.
+/// Whether a text was made, and has that many bytes and that many commas.
 fn is_made_long<E: Drop>(made: Result<String, E>, (length, commas): (usize, usize)) -> bool {
     match made {
         Ok(text) => has_commas(text.as_str(), length, commas),
@@ -204,8 +204,8 @@ fn is_made_long<E: Drop>(made: Result<String, E>, (length, commas): (usize, usiz
     }
 }
 
-/// Whether a formatter's text of a decimal has so many bytes and so many commas; asked once more
-/// where memory was refused.
+/// Whether a formatter's text of a decimal has that many bytes and that many commas; asked once
+/// more where memory ran out.
 fn is_long<W: NumberWriter>(
     alloc: Global,
     formatter: &W,
@@ -239,7 +239,7 @@ fn are_same(
     one.format(&decimal) == other.format(&decimal)
 }
 
-/// A copy, asked for once more where memory was refused.
+/// A copy, asked for once more where memory ran out.
 fn copy_of(alloc: Global, formatter: &DecimalFormatter) -> Option<DecimalFormatter> {
     match formatter.copy(alloc) {
         Ok(copy) => Some(copy),

@@ -1,4 +1,5 @@
-//! Which formatters tell their numbers, and which numbers share a text where one doesn't.
+//! By which formatters texts determine their numbers, and which numbers share a text where one
+//! doesn't.
 
 use crate::fixtures::{ENGLISH, LATIN, read};
 use crate::languages::Language;
@@ -22,7 +23,7 @@ type Numbers = (
 /// Two digits have one character.
 const REPEATED: [char; 10] = ['0', '1', '1', '3', '4', '5', '6', '7', '8', '9'];
 
-/// None where memory is wanting.
+/// None where memory ran out.
 fn formatter(
     alloc: Global,
     ((prefix, suffix), decimal_separator, grouping_separator, digits): Numbers,
@@ -49,7 +50,7 @@ fn formatter(
     }
 }
 
-/// Whether a formatter tells its numbers; none where there is no formatter.
+/// Whether the texts of a formatter determine their numbers; none where there is no formatter.
 fn tells<W: NumberWriter + Drop>(made: Option<W>) -> Option<bool> {
     match made {
         Some(formatter) => Some(formatter.tells_numbers()),
@@ -61,7 +62,7 @@ fn is_readable_once(alloc: Global, numbers: Numbers) -> Option<bool> {
     tells(formatter(alloc, numbers))
 }
 
-/// Whether numbers are readable, asked once more where memory was wanting.
+/// Whether numbers are readable, asked once more where memory ran out.
 fn is_readable(alloc: Global, numbers: Numbers) -> Option<bool> {
     match is_readable_once(alloc, numbers) {
         Some(told) => Some(told),
@@ -106,13 +107,13 @@ fn hidden_numbers(rt: HostRuntime) {
     }
 }
 
-/// The text of a number; none where memory is wanting.
+/// The text of a number; none if out of memory.
 fn text_once(alloc: Global, numbers: Numbers, number: &str) -> Option<String> {
     let decimal = Decimal::try_from_str(alloc, number).ok();
     text_by(alloc, formatter(alloc, numbers), decimal)
 }
 
-/// Whether two numbers share a text; none where memory is wanting.
+/// Whether two numbers share a text; none if out of memory.
 fn share_once(alloc: Global, numbers: Numbers, first: &str, second: &str) -> Option<bool> {
     let text = text_once(alloc, numbers, first);
     match text.zip(text_once(alloc, numbers, second)) {
@@ -121,7 +122,7 @@ fn share_once(alloc: Global, numbers: Numbers, first: &str, second: &str) -> Opt
     }
 }
 
-/// The same, asked once more where memory was wanting.
+/// The same, asked once more where memory ran out.
 fn share(alloc: Global, numbers: Numbers, first: &str, second: &str) -> bool {
     match share_once(alloc, numbers, first, second) {
         Some(told) => told,

@@ -158,13 +158,13 @@ const ENGLISH_TEXTS: Texts = (".", ",", "latn");
 /// A row: a system, a locale, and what is answered by them.
 type Row<T> = (Option<&'static str>, &'static str, Result<T, DataError>);
 
-/// A refusal of the provider's own, with its text.
+/// An error of the provider's own, with its text.
 pub(super) const KEPT_AWAY: DataError = DataError {
     kind: DataErrorKind::Custom,
     context: "kept away",
 };
 
-/// Memory was wanting for what is kept: no refusal of a row, nor one that is asked for, is this
+/// Memory ran out for what is kept: no error of a row, nor one that is asked for, is this
 /// one.
 pub(super) const WANT_OF_MEMORY: DataError = DataError {
     kind: DataErrorKind::OutOfMemory,
@@ -209,7 +209,7 @@ const RULES: &[Row<&[(PluralCategory, &str)]>] = &[
     (Some("arab"), "en", Err(KEPT_AWAY)),
 ];
 
-/// Puts the entry of a row, or a refusal of it, behind others; whether memory was found for it.
+/// Puts the entry of a row, or an error of it, behind others; whether memory was found for it.
 fn is_put<T: Kept>(
     alloc: Global,
     entries: &mut Vec<Entry<T>>,
@@ -224,7 +224,7 @@ fn is_put<T: Kept>(
     !is_wanting(&entry.answer) && entries.push(entry).is_ok()
 }
 
-/// The entries of rows, or refusals of all of them; none where memory is wanting.
+/// The entries of rows, or errors of all of them; none if out of memory.
 fn entries_of<T: Kept>(
     alloc: Global,
     rows: &[Row<T::Row>],
@@ -239,7 +239,7 @@ fn entries_of<T: Kept>(
     Some(entries)
 }
 
-/// What is answered of a row, with a refusal of its own where memory is wanting.
+/// What is answered of a row, with an error of its own where memory ran out.
 fn answer_of<T: Kept>(
     alloc: Global,
     row: &Result<T::Row, DataError>,
@@ -254,7 +254,7 @@ fn answer_of<T: Kept>(
     }
 }
 
-/// Whether an answer is that refusal.
+/// Whether an answer is that error.
 fn is_wanting<T>(answer: &Result<T, DataError>) -> bool {
     match answer {
         Ok(_) => false,
@@ -263,7 +263,7 @@ fn is_wanting<T>(answer: &Result<T, DataError>) -> bool {
 }
 
 impl Shelf {
-    /// The shelf of all rows, with these refusals; none where memory is wanting.
+    /// The shelf of all rows, with these errors; none if out of memory.
     pub(super) fn made(alloc: Global, refusals: Refusals) -> Option<Shelf> {
         let [symbols, digits, rules, patterns] = refusals;
         let plain = entries_of(alloc, SYMBOLS, symbols).zip(entries_of(alloc, DIGITS, digits));
@@ -293,7 +293,7 @@ pub(super) struct Bare {
 }
 
 impl Bare {
-    /// None where memory is wanting.
+    /// None where memory ran out.
     pub(super) fn made(alloc: Global) -> Option<Bare> {
         let symbols = DecimalSymbols::made(alloc, ("", "", "latn"));
         let rules = PluralRules::made(alloc, &[]);

@@ -21,7 +21,7 @@ type Wanted<'a> = (
     Result<&'a str, FormatError>,
 );
 
-/// Whether operands meet the condition that is wanted, or the refusal is the one that is.
+/// Whether operands meet the condition that is wanted, or the error is the one that is.
 fn are_told(
     alloc: Global,
     told: Result<PluralOperands, FormatError>,
@@ -36,7 +36,7 @@ fn are_told(
     }
 }
 
-/// Whether any formatter writes a number so and tells its operands.
+/// Whether any formatter writes a number so and returns its operands.
 fn is_shown_once<F: AbstractFormatter>(
     alloc: Global,
     formatter: &F,
@@ -51,7 +51,7 @@ fn is_shown_once<F: AbstractFormatter>(
     are_told(alloc, told, wanted) && is_annotated(alloc, &sink, text, parts)
 }
 
-/// The same, once more where a refused allocation stood in the way.
+/// The same, once more where a failing allocation stood in the way.
 fn is_shown<F: AbstractFormatter>(
     alloc: Global,
     formatter: &F,
@@ -62,7 +62,7 @@ fn is_shown<F: AbstractFormatter>(
         || is_shown_once(alloc, formatter, number, wanted)
 }
 
-/// Whether a formatter that was made writes a number so and tells its operands.
+/// Whether a formatter that was made writes a number so and returns its operands.
 fn made_is_shown<F: AbstractFormatter + Drop>(
     alloc: Global,
     formatter: F,
@@ -72,7 +72,7 @@ fn made_is_shown<F: AbstractFormatter + Drop>(
     is_shown(alloc, &formatter, &decimal.absolute, wanted)
 }
 
-/// Whether the plain English formatter writes the number of a text so and tells its operands.
+/// Whether the plain English formatter writes the number of a text so and returns its operands.
 fn is_plain(rt: &impl Abort, alloc: Global, text: &str, wanted: Wanted<'_>) -> bool {
     made_is_shown(alloc, english(rt, alloc), read(rt, alloc, text), wanted)
 }
@@ -141,7 +141,7 @@ fn a_compact_formatter_tells_the_number_that_it_writes(rt: HostRuntime) {
     }
 }
 
-/// Whether so many nines overflow, and nothing is written.
+/// Whether that many nines overflow, and nothing is written.
 fn overflows(rt: &impl Abort, alloc: Global, count: usize) -> bool {
     let wanted: Wanted<'_> = (None, "", &[], Err(FormatError::Overflow));
     made_is_shown(

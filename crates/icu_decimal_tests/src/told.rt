@@ -1,4 +1,5 @@
-//! From two equal texts to what they tell: callers of the laws, proved by public clauses alone.
+//! From two equal texts to what they determine: callers of the laws, proved by public clauses
+//! alone.
 
 ghost use Rattle.std.specs.Prelude.{◌≡◌, ◌↔◌, IfSome, IsTrue};
 ghost use Rattle.fixed_decimal.specs.Size.{size};
@@ -18,7 +19,7 @@ use std::alloc::Global;
 use std::process::Abort;
 
 /// Whether two decimals have one text: then they are equal. None if the formatter isn't readable or
-/// memory is refused.
+/// memory runs out.
 fn have_one_text(
     alloc: Global,
     formatter: &DecimalFormatter,
@@ -44,7 +45,7 @@ fn have_one_text(
 }
 
 /// Whether two decimals have one compact text: then they have one sign, and one nearest compact
-/// number. None if the formatter isn't readable, a number is too large or memory is refused.
+/// number. None if the formatter isn't readable, a number is too large or memory runs out.
 fn have_one_compact_text(
     alloc: Global,
     formatter: &CompactDecimalFormatter,
@@ -81,7 +82,7 @@ fn is_unpadded(number: &UnsignedDecimal) -> bool
 
 /// Whether two decimals without leading padding have one compact text: exactly if they have one
 /// sign, and one nearest compact number. None if one has such padding, the formatter isn't
-/// readable, a number is too large or memory is refused.
+/// readable, a number is too large or memory runs out.
 fn show_one_number(
     alloc: Global,
     formatter: &CompactDecimalFormatter,
@@ -116,7 +117,7 @@ const PAIRS: &[(&str, &str, bool, bool)] = &[
     ("1250", "1150", false, true),
 ];
 
-/// What is told of two decimals by their texts, asked once more where memory was refused.
+/// What is concluded of two decimals by their texts, asked once more where memory ran out.
 fn tell_by_texts(
     alloc: Global,
     formatter: &DecimalFormatter,
@@ -129,7 +130,7 @@ fn tell_by_texts(
     }
 }
 
-/// What the plain English formatter tells so of the numbers of two texts.
+/// What the plain English formatter concludes so of the numbers of two texts.
 fn told_plainly(rt: &impl Abort, alloc: Global, one: &str, other: &str) -> Option<bool> {
     let formatter = english(rt, alloc);
     let one = read(rt, alloc, one);
@@ -147,7 +148,7 @@ fn equal_texts_are_of_one_decimal(rt: HostRuntime) {
     }
 }
 
-/// What is told of two decimals by their compact texts, asked once more where memory was refused.
+/// What is concluded of two decimals by their compact texts, asked once more where memory ran out.
 fn tell_by_compact_texts(
     alloc: Global,
     formatter: &CompactDecimalFormatter,
@@ -160,7 +161,7 @@ fn tell_by_compact_texts(
     }
 }
 
-/// What the formatter of short English tells so of the numbers of two texts.
+/// What the formatter of short English concludes so of the numbers of two texts.
 fn told_compactly(rt: &impl Abort, alloc: Global, one: &str, other: &str) -> Option<bool> {
     let formatter = compact(rt, alloc, Language::ShortEnglish, GroupingStrategy::Min2);
     let one = read(rt, alloc, one);
@@ -178,8 +179,8 @@ fn equal_compact_texts_show_one_number(rt: HostRuntime) {
     }
 }
 
-/// What is told of two decimals that may be shown as one number, asked once more where memory was
-/// refused.
+/// What is concluded of two decimals that may be shown as one number, asked once more where memory
+/// ran out.
 fn tell_by_numbers(
     alloc: Global,
     formatter: &CompactDecimalFormatter,
@@ -192,7 +193,7 @@ fn tell_by_numbers(
     }
 }
 
-/// What the formatter of short English tells so of the numbers of two texts.
+/// What the formatter of short English concludes so of the numbers of two texts.
 fn told_by_numbers(rt: &impl Abort, alloc: Global, one: &str, other: &str) -> Option<bool> {
     let formatter = compact(rt, alloc, Language::ShortEnglish, GroupingStrategy::Min2);
     let one = read(rt, alloc, one);
@@ -200,7 +201,7 @@ fn told_by_numbers(rt: &impl Abort, alloc: Global, one: &str, other: &str) -> Op
     tell_by_numbers(alloc, &formatter, &one, &other)
 }
 
-/// What has to be told: nothing of a number with leading padding.
+/// What has to be concluded: nothing of a number with leading padding.
 fn wanted(one: &str, same: bool) -> Option<bool> {
     if one.starts_with('0') {
         None

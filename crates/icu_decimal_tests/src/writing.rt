@@ -61,7 +61,7 @@ impl NumberWriter for CompactDecimalFormatter {
     }
 }
 
-/// Whether a formatter writes a decimal as this text; asked once more where memory was refused.
+/// Whether a formatter writes a decimal as this text; asked once more where memory ran out.
 pub(crate) fn is_text<W: NumberWriter>(
     alloc: Global,
     formatter: &W,
@@ -102,12 +102,12 @@ fn is_in_a_sink<V: Writeable>(alloc: Global, value: &V, text: &str, spans: &[Spa
     value.write_to_parts(&mut sink).is_ok() && is_annotated(alloc, &sink, text, spans)
 }
 
-/// The same, asked once more where memory was refused.
+/// The same, asked once more where memory ran out.
 fn is_marked<V: Writeable>(alloc: Global, value: &V, text: &str, spans: &[Span]) -> bool {
     is_in_a_sink(alloc, value, text, spans) || is_in_a_sink(alloc, value, text, spans)
 }
 
-/// Whether a sink of so many events holds this beginning of a value of so many.
+/// Whether a sink of that many events holds this beginning of a value of that many.
 fn is_beginning<V: Writeable>(
     alloc: Global,
     value: &V,
@@ -119,7 +119,7 @@ fn is_beginning<V: Writeable>(
     is_whole == (limit >= events) && sink.text() == want
 }
 
-/// The same, asked once more where memory was refused.
+/// The same, asked once more where memory ran out.
 pub(crate) fn begins<V: Writeable>(
     alloc: Global,
     value: &V,
@@ -162,7 +162,7 @@ pub(crate) fn made_is_shown<W: NumberWriter + Drop>(
     is_text(alloc, &formatter, &decimal, want) && formatter.has_value(alloc, &decimal, want)
 }
 
-/// The text of a decimal by a formatter; none where one of them wasn't made, or memory is wanting.
+/// The text of a decimal by a formatter; none where one of them wasn't made, or memory ran out.
 pub(crate) fn text_by<W: NumberWriter + Drop>(
     alloc: Global,
     made: Option<W>,

@@ -1,4 +1,4 @@
--- Two formatters of money that are told apart share no text: equal characters would stand between equal surroundings.
+-- Two formatters of money that are distinguished share no text: equal characters would stand between equal surroundings.
 use Rattle.std.proofs.Common.{◌≡◌, sym, subst}
 use Rattle.writeable.specs.Events.{characters}
 use Rattle.icu_decimal.specs.Decimal.{DecimalFormat}

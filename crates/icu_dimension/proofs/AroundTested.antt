@@ -1,4 +1,4 @@
--- What tests of patterns tell of what stands around numbers.
+-- What tests of patterns show of what stands around numbers.
 use Rattle.std.proofs.Common.{◌≡◌, ◌≢◌, ◌↔◌, ℕ, List, IsTrue, Bool, refl, sym, ap, ap₂, subst}
 use Rattle.fixed_decimal.specs.declared.signs.Sign.{Sign}
 use Rattle.fixed_decimal.specs.declared.signs.Sign.TheVariants.{None as NoSign, Negative, Positive}
@@ -32,7 +32,7 @@ same_tested p q s t a is = (
       (record { before_same = ap (λ (x : Surroundings). x.before) e; after_same = ap (λ (x : Surroundings). x.after) e }),
 )
 
--- what is told of patterns that are lent
+-- patterns that are lent
 pub lent_tested : (q : Signed) (t : Sign) (a b : SignedText) (r : Bool) → b ≡ of_sign q t → IsTrue r ↔ HaveSameCharacters a b →
     IsTrue r ↔ HaveSameCharacters a (of_sign q t)
 lent_tested q t a b r is test = (
@@ -48,7 +48,7 @@ signs_tested p s t a b r is are test =
     let same = same_tested p p s t a is in
     (λ e. same.0 (lent.0 e), λ h. lent.1 (same.1 h))
 
--- three surroundings that differ tell their sign
+-- three surroundings that differ determine their sign
 pub sign_told_around : (p : Signed) → money_surroundings p NoSign ≢ money_surroundings p Negative →
     money_surroundings p NoSign ≢ money_surroundings p Positive → money_surroundings p Negative ≢ money_surroundings p Positive → SignsDifferAround p
 sign_told_around p m n b NoSign NoSign e = refl

@@ -1,4 +1,4 @@
--- What stands around a number tells the sign, though symbols may differ: where the symbols have none of the marks and U+00A0
+-- What stands around a number determines the sign, though symbols may differ: where the symbols have none of the marks and U+00A0
 -- is none, the marks around the number are those beside the symbol, and these differ between the signs.
 use Rattle.std.proofs.Common.{◌≡◌, ℕ, ◌-◌, ◌==◌, refl, sym, ap, ap₂, ◌∙◌, Bool, true, false, cond, ◌&&◌, if◌then◌else◌}
 use Rattle.std.proofs.Common.{List, [], ◌∷◌, ◌++◌, length, slice_get, Contains, append-nil}

@@ -1,5 +1,5 @@
--- What a text of money tells in the pattern of a locale, whatever the currency: the characters around the number tell the sign
--- by their marks and then the symbol, and what is told of the number is told as before.
+-- What a text of money determines in the pattern of a locale, whatever the currency: the characters around the number determine the sign
+-- by their marks and then the symbol, and what is determined of the number is determined as before.
 use Rattle.std.proofs.Common.{◌≡◌, ℕ, List, sym, ap, ◌∙◌}
 use Rattle.std.specs.Str.{IsUtf8, chars, encode_utf8_all}
 use Rattle.std.proofs.lemmas.Str.{encodes-chars}
@@ -28,13 +28,13 @@ free_around digits marks p texts currency h k =
     })
     h.pattern_free h.space_no_digit
 
--- in one sign the symbol is told by its places
+-- in one sign the symbol is determined by its places
 pub one_sign_tells_symbol : MoneyTextOfOneSignTellsSymbol
 one_sign_tells_symbol f p texts one other s c d h free others shown ends other_ends hc hd e =
     let told = around_tells f (resolved f.digits p (with_symbol texts one)) (resolved f.digits p (with_symbol texts other)) s s c d h free others hc hd e in
     (told.1, symbol_told f.digits p texts one other s shown ends other_ends told.0)
 
--- in all signs the marks tell the sign first
+-- in all signs the marks determine the sign first
 pub money_tells_symbol : MoneyTextTellsSymbol
 money_tells_symbol f marks p texts one other s t c d h tells k l hc hd e =
     let first = resolved f.digits p (with_symbol texts one) in
@@ -61,7 +61,7 @@ equal_texts_tell_symbol f marks p texts one other s t c d first second h tells k
     (same_characters (plain_amount f p texts one s c) (plain_amount f p texts other t d) first second is are same) in
     (told.0, told.1, same_bytes one other utf8 other_utf8 told.2)
 
--- with one symbol the marks alone tell the sign
+-- with one symbol the marks alone determine the sign
 pub readable_with_symbol : MoneyThatTellsSymbolsIsReadable
 readable_with_symbol f marks p texts currency h tells k = record {
   numbers_readable = h;

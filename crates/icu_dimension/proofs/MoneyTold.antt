@@ -1,5 +1,5 @@
--- What a text of money tells. Its characters are those before the number, those of the number and those after it, so that
--- two of them are told apart as two numbers between surroundings are: where the ten digits stand in no surroundings, the
+-- What a text of money determines. Its characters are those before the number, those of the number and those after it, so that
+-- two of them are distinguished as two numbers between surroundings are: where the ten digits stand in no surroundings, the
 -- first and the last digit of a text are the number's.
 use Rattle.std.proofs.Common.{◌≡◌, refl, sym, ◌∙◌, List, ◌++◌}
 use Rattle.fixed_decimal.specs.declared.signs.Sign.{Sign}

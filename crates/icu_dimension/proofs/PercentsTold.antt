@@ -1,5 +1,5 @@
--- What a text of a percent tells. A hundred times a number is a number like any other, so its text tells it as a text of
--- money does; and it tells the size of the number, since it is exactly a hundred times as large.
+-- What a text of a percent determines. A hundred times a number is a number like any other, so its text determines it as a text of
+-- money does; and it determines the size of the number, since it is exactly a hundred times as large.
 use Rattle.std.proofs.Common.{◌≡◌, ℕ, ◌*◌, ◌<◌, arith, sym, ap, ◌∙◌, true, false, ◌==◌, zero, suc}
 use Rattle.std.proofs.Common.{List, [], ◌∷◌, ◌++◌, drop, slice_index, All, if◌then◌else◌, length-append}
 use Rattle.std.specs.Prelude.{negsuc}

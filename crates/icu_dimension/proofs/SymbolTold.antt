@@ -1,4 +1,4 @@
--- What stands around a number tells the symbol that stands in it. Between equal characters the symbols' places are the same,
+-- What stands around a number determines the symbol that stands in it. Between equal characters the symbols' places are the same,
 -- so that a longer symbol would leave a longer text; and where U+00A0 stands beside one of the symbols alone, the other would
 -- have it at its end.
 use Rattle.std.proofs.Common.{◌≡◌, ◌≢◌, ◌⊎◌, inl, inr, ℕ, zero, suc, ◌+◌, ◌-◌, ◌≤◌, arith, refl, sym, ap, ap₂, ◌∙◌}

@@ -1,4 +1,4 @@
--- English money is readable and tells symbols, by the standard pattern and by that of accounts: instances of the laws of texts
+-- English money is readable and determines symbols, by the standard pattern and by that of accounts: instances of the laws of texts
 -- of money.
 use Rattle.std.proofs.Common.{◌≡◌, ◌≢◌, ℕ, refl, sym, ap, ◌∙◌, arith, inl, Some, None, Contains, All}
 use Rattle.std.proofs.Common.{List, [], ◌∷◌, ◌++◌, length, codes}
@@ -138,7 +138,7 @@ space_no_mark has = none_of marks (160 ∷ []) refl 0 160 (omega arith) has
 symbol_shown : HasSymbolPlace symbol_first
 symbol_shown = inl (0, omega arith, refl)
 
--- ---- what they tell
+-- ---- what they determine
 
 pub dollars_tell_symbols : TellsSymbols digits marks dollar_pattern dollar_texts
 dollars_tell_symbols = record {

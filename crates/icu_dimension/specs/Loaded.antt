@@ -29,7 +29,7 @@ abbrev pub money_symbols : Provider DecimalSymbols → Provider DecimalSymbols �
 money_symbols money plain id = or_else (money id) (plain id)
 
 -- amounts with a symbol: the plain formatter, then the patterns by the preferred system in the locale, or else by the
--- locale, then the symbols by the currency's code in the locale; or the first refusal
+-- locale, then the symbols by the currency's code in the locale; or the first error
 abbrev pub loaded_currency : Provider DecimalSymbols → Provider (List ℕ) → Provider MoneyPatterns → Provider SymbolTexts
     → DecimalFormatterPreferences → List ℕ → CurrencyFormatterOptions → Result (SignedFormat DecimalFormat) Refusal
 loaded_currency symbols digits patterns currencies prefs code options =
@@ -40,7 +40,7 @@ loaded_currency symbols digits patterns currencies prefs code options =
     Ok (record { formatter = f; patterns = money_patterns f.digits p s options }))))
 
 -- percents: the plain formatter, then the patterns by the preferred system in the locale, or else by the locale; or the
--- first refusal
+-- first error
 abbrev pub loaded_percent : Provider DecimalSymbols → Provider (List ℕ) → Provider Signed
     → DecimalFormatterPreferences → DecimalFormatterOptions → Result (SignedFormat DecimalFormat) Refusal
 loaded_percent symbols digits patterns prefs options =
@@ -49,7 +49,7 @@ loaded_percent symbols digits patterns prefs options =
     Ok (record { formatter = f; patterns = p })))
 
 -- what depends on plural categories: the plain formatter, then the rules by the locale, then the data of this name in the
--- locale; or the first refusal
+-- locale; or the first error
 abbrev pub loaded_plural : {X Y : Type 0} → Provider DecimalSymbols → Provider (List ℕ) → Provider (List Rule) → Provider X
     → DecimalFormatterPreferences → List ℕ → DecimalFormatterOptions → (DecimalFormat → List Rule → X → Y) → Result Y Refusal
 loaded_plural symbols digits rules named prefs name options made =
@@ -61,7 +61,7 @@ loaded_plural symbols digits rules named prefs name options made =
 
 -- compact amounts: the formatter of money, with the short symbol and the standard pattern, then the rules by the locale, then
 -- the compact patterns by the preferred system in the locale, or else by the locale, of which tables are made with the symbol
--- and the signs of the formatter of money; or the first refusal
+-- and the signs of the formatter of money; or the first error
 abbrev pub loaded_compact_money : Provider DecimalSymbols → Provider (List ℕ) → Provider MoneyPatterns → Provider SymbolTexts
     → Provider (List Rule) → Provider (List CompactRow) → DecimalFormatterPreferences → List ℕ → DecimalFormatterOptions
     → Result CompactMoney Refusal

@@ -27,7 +27,7 @@ HasNoDigitAround digits patterns = (s : Sign) → IsFreeOfDigits digits (money_s
 abbrev pub SignsDifferAround : Signed → Type 0
 SignsDifferAround patterns = (s t : Sign) → money_surroundings patterns s ≡ money_surroundings patterns t → s ≡ t
 
--- What stands around numbers with these digits is readable: no digit is in it, and it tells the sign.
+-- What stands around numbers with these digits is readable: no digit is in it, and it determines the sign.
 pub record IsReadableAround (digits : List ℕ) (patterns : Signed) : Type 0 where
   pub free : HasNoDigitAround digits patterns
   pub sign_told : SignsDifferAround patterns

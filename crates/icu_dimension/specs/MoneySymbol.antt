@@ -1,4 +1,4 @@
--- Patterns of money, and symbols of currencies, with which a text tells the symbol, too.
+-- Patterns of money, and symbols of currencies, with which a text determines the symbol, too.
 use Rattle.std.specs.Prelude.{◌≡◌, ◌≢◌, ◌⊎◌, ◌==◌, ℕ, List, [], Some, All, Contains, IfSome}
 use Rattle.std.specs.List.{filter, list_any}
 use Rattle.std.specs.Str.{chars}
@@ -18,7 +18,7 @@ with_symbol texts currency = record {
   currency = currency;
 }
 
--- ---- what tells the symbol
+-- ---- what determines the symbol
 
 -- its place stands before the number or after it
 abbrev pub HasSymbolPlace : Affixes → Type 0
@@ -34,7 +34,7 @@ pub record SymbolEndsInNoSpace (currency : List ℕ) : Type 0 where
   pub first_other : first_character currency ≢ Some 160
   pub last_other : last_character currency ≢ Some 160
 
--- ---- what tells the sign, whatever the symbols
+-- ---- what determines the sign, whatever the symbols
 
 -- what stands around numbers if the symbol is empty: signs, and the pattern's own characters
 abbrev pub beside_symbol : List ℕ → PatternText → Texts → Sign → Surroundings
@@ -59,8 +59,8 @@ HasNoMark marks cs = All (λ c. ¬ (Contains marks c)) cs
 
 -- ---- both
 
--- Money in this pattern, with the signs of these texts, tells symbols: each subpattern shows the symbol; marks, as `-`, `+`
--- and `(`, tell the sign, and U+00A0 is none of them; neither the pattern nor a sign has one of the digits.
+-- Money in this pattern, with the signs of these texts, determines symbols: each subpattern shows the symbol; marks, as `-`, `+`
+-- and `(`, determine the sign, and U+00A0 is none of them; neither the pattern nor a sign has one of the digits.
 pub record TellsSymbols (digits marks : List ℕ) (p : PatternText) (texts : Texts) : Type 0 where
   pub shown : ShowsSymbol p
   pub sign_told : MarksTellSign digits marks p texts
@@ -69,7 +69,7 @@ pub record TellsSymbols (digits marks : List ℕ) (p : PatternText) (texts : Tex
   pub signs_free : TextsHaveNoDigit digits (with_symbol texts [])
   pub space_no_digit : ¬ (Contains digits 160)
 
--- It tells this symbol, which has none of the digits, none of the marks, and U+00A0 at neither end.
+-- It determines this symbol, which has none of the digits, none of the marks, and U+00A0 at neither end.
 pub record IsToldSymbol (digits marks currency : List ℕ) : Type 0 where
   pub no_digit : HasNoDigit digits (chars currency)
   pub no_mark : HasNoMark marks (chars currency)

@@ -17,7 +17,7 @@ use Rattle.icu_dimension.specs.MoneyLaws.{plain_money}
 abbrev pub plain_amount : DecimalFormat → PatternText → Texts → List ℕ → Sign → Unsigned → List Event
 plain_amount f p texts currency sign u = plain_money f (resolved f.digits p (with_symbol texts currency)) sign u
 
--- Amounts in two currencies: if money in the pattern tells symbols, and these two, equal characters mean equal sign, range,
+-- Amounts in two currencies: if money in the pattern determines symbols, and these two, equal characters mean equal sign, range,
 -- digits and symbol.
 abbrev pub MoneyTextTellsSymbol : Type 0
 MoneyTextTellsSymbol = (f : DecimalFormat) (marks : List ℕ) (p : PatternText) (texts : Texts) (one other : List ℕ) (s t : Sign) (c d : Unsigned) →
@@ -53,7 +53,7 @@ EqualMoneyTextsOfOneSignTellSymbol = (f : DecimalFormat) (p : PatternText) (text
     → first ≡ text_of (plain_amount f p texts one s c) → second ≡ text_of (plain_amount f p texts other s d) → first ≡ second
     → (c ≡ d) × (one ≡ other)
 
--- Where money tells a symbol, money with that symbol is readable, if its numbers are.
+-- Where money determines a symbol, money with that symbol is readable, if its numbers are.
 abbrev pub MoneyThatTellsSymbolsIsReadable : Type 0
 MoneyThatTellsSymbolsIsReadable = (f : DecimalFormat) (marks : List ℕ) (p : PatternText) (texts : Texts) (currency : List ℕ) →
     IsReadable f.symbols.strings f.digits → TellsSymbols f.digits marks p texts → IsToldSymbol f.digits marks currency

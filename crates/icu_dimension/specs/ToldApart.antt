@@ -1,4 +1,4 @@
--- Two formatters of money with the same numbers and no text in common: each text tells which of the two wrote it.
+-- Two formatters of money with the same numbers and no text in common: each text shows which of the two wrote it.
 use Rattle.std.specs.Prelude.{◌≡◌, ◌≢◌, ℕ, List}
 use Rattle.fixed_decimal.specs.declared.signs.Sign.{Sign}
 use Rattle.fixed_decimal.specs.Unsigned.{Unsigned, IsUnsigned}
@@ -22,7 +22,7 @@ pub record AreToldApart (f g : SignedFormat DecimalFormat) : Type 0 where
   pub other_free : HasNoDigitAround f.formatter.digits g.patterns
   pub differ : DifferAround f.patterns g.patterns
 
--- Where two formatters are told apart, what the one writes never has the characters of what the other writes.
+-- Where two formatters are distinguished, what the one writes never has the characters of what the other writes.
 abbrev pub ToldApartShareNoCharacters : Type 0
 ToldApartShareNoCharacters = (f g : SignedFormat DecimalFormat) (s t : Sign) (c d : Unsigned) → AreToldApart f g → IsUnsigned c → IsUnsigned d
     → characters (plain_money f.formatter f.patterns s c) ≢ characters (plain_money g.formatter g.patterns t d)

@@ -1,4 +1,4 @@
--- What the pattern of a unit writes around a number: its words and symbols in the part of a unit, the white space at the ends
+-- What the pattern of a unit writes around a number: its letters and symbols in the part of a unit, the white space at the ends
 -- of its literals in no part. White space is Unicode's `White_Space`, as in Rust's `str::trim`.
 use Rattle.std.specs.Prelude.{◌≡◌, ℕ, List, [], ◌∷◌, ◌++◌, Option, None, Some, map, length, take, drop, chars, codes, if◌then◌else◌}
 use Rattle.std.specs.Char.{is_whitespace}

@@ -11,7 +11,7 @@ use Rattle.icu_decimal.specs.Decimal.{signed_events}
 use Rattle.icu_decimal.specs.Shown.{Shown, operands_shown, picked}
 use Rattle.icu_dimension.specs.UnitPatterns.{unit_interpolated}
 
--- the pattern that the operands pick, its words in the part of a unit, with the number's events and the sign around them in
+-- the pattern that the operands pick, its letters in the part of a unit, with the number's events and the sign around them in
 -- its place
 abbrev pub units_framed : DecimalSymbols → List Rule → Elements PatternText → Sign → Operands → List Event → List Event
 units_framed symbols rules elements sign operands es =

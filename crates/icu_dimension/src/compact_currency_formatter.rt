@@ -141,6 +141,8 @@ impl CompactCurrencyFormatter {
     /// After `Overflow` and `OutOfMemory` the sink is unchanged. `Sink` only where the sink failed
     /// in this call, and it then holds a beginning of the events besides. `Overflow` exactly where
     /// the compact number is too large.
+    // promise: A compact amount is the nearest of its sign's table.
+    // mutations: compact_money_by_the_table_of_no_sign
     pub fn write<S: PartsWrite>(
         &self,
         alloc: Global,

@@ -64,6 +64,8 @@ impl<F: AbstractFormatter> CurrencyFormatter<F> {
     /// After `Overflow` and `OutOfMemory` the sink is unchanged. `Sink` only where the sink failed
     /// in this call, and it then holds a beginning of the events besides. `Overflow` exactly where
     /// the formatter overflows.
+    // promise: An amount is the shown number in its sign's pattern.
+    // mutations: money_of_any_sign_without_one
     pub fn write<S: PartsWrite>(
         &self,
         alloc: Global,
@@ -88,6 +90,8 @@ impl<F: AbstractFormatter> CurrencyFormatter<F> {
     }
 
     /// The characters that `write` writes, as a text. `Sink` is never reported.
+    // promise: The text is that of the amount's events.
+    // mutations: text_of_nothing
     pub fn write_to_string(&self, alloc: Global, value: &Decimal) -> Result<String, FormatError>
         ensures text { IfOk result (λ t. (n : Shown)
             × F.shows self.now.formatter value.now.absolute n
@@ -115,8 +119,8 @@ impl CurrencyFormatter<DecimalFormatter> {
     ///
     /// It does if the numbers are readable ([`DecimalFormatter::is_readable`]), if none of their
     /// ten digits stands before or after them, and if no two signs have the same characters there.
-    /// So `¤#,##0.00` with `$` is readable; with `$1` it isn't, and by `¤0;¤0` nothing tells the
-    /// minus. Characters are compared, not bytes and not parts. It takes no memory.
+    /// So `¤#,##0.00` with `$` is readable; with `$1` it isn't, and by `¤0;¤0` nothing determines
+    /// the minus. Characters are compared, not bytes and not parts. It takes no memory.
     ///
     /// Where the answer is true, [`laws::money_text_tells`] says that equal texts are of equal
     /// amounts. A caller calls that law, which does nothing, and its own contract may then conclude
@@ -134,18 +138,20 @@ impl CurrencyFormatter<DecimalFormatter> {
     ///
     /// [`DecimalFormatter::is_readable`]: icu_decimal::DecimalFormatter::is_readable
     /// [`laws::money_text_tells`]: crate::laws::money_text_tells
+    // promise: It decides exactly whether money is readable.
+    // mutations: readable_money_plus_taken_for_minus
     pub fn is_readable(&self) -> bool
         ensures { IsTrue result ↔ IsReadableMoney self.now }
     {
         are_readable(&self.formatter, &self.patterns)
     }
 
-    /// Whether each text of either formatter tells which of the two wrote it (this project's own).
+    /// Whether each text of either formatter shows which of the two wrote it (this project's own).
     ///
     /// It does if both write the same readable numbers, by equal symbols, digits and options, if
     /// none of the ten digits stands before or after them, and if what stands around numbers by the
     /// one differs from what stands around numbers by the other, whatever the two signs are. So
-    /// `$` and `US$` in the patterns of one locale are told apart, and `$` isn't from itself.
+    /// `$` and `US$` in the patterns of one locale are distinguished, and `$` isn't from itself.
     /// Characters are compared, not bytes and not parts. It takes no memory.
     ///
     /// Where the answer is true, [`laws::told_apart_share_no_text`] says that no text of the one is
@@ -154,6 +160,8 @@ impl CurrencyFormatter<DecimalFormatter> {
     ///
     /// [`is_readable`]: CurrencyFormatter::is_readable
     /// [`laws::told_apart_share_no_text`]: crate::laws::told_apart_share_no_text
+    // promise: It decides exactly whether `AreToldApart` holds of both.
+    // mutations: told_apart_with_other_digits
     pub fn is_told_apart_from(&self, other: &Self) -> bool
         ensures { IsTrue result ↔ AreToldApart self.now other.now }
     {

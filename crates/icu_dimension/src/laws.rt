@@ -10,6 +10,7 @@ ghost use Rattle.icu_dimension.specs.ToldApart.{ToldApartShareNoCharacters, Told
 ghost use Rattle.icu_dimension.specs.UnitPatterns.{UnitKeepsCharacters};
 
 /// What is shown as a percent is a hundred times as large as the number, exactly.
+// promise: `hundredfold` is exactly a hundred times the number.
 pub fn a_percent_is_a_hundred_times_the_number()
     ensures { HundredfoldIsAHundredTimes }
 {}
@@ -24,11 +25,12 @@ pub fn a_percent_has_no_zero_at_its_front()
 /// numbers, equal texts mean equal digits and range, and the same characters before the number and
 /// after it, if none of the ten digits stands there. None does in the patterns that
 /// `CldrPattern::resolve` makes, if neither the symbol nor a minus, plus or percent sign nor the
-/// pattern's own characters have one, and U+00A0 isn't one. What stands there is told as a whole:
+/// pattern's own characters have one, and U+00A0 isn't one. What stands there counts as a whole:
 /// U+00A0 may stand beside one symbol and be part of another.
-/// [`money_text_tells_the_symbol`] says when the symbol is told, too.
+/// [`money_text_tells_the_symbol`] says when the symbol is determined, too.
 ///
 /// Texts are compared as lists of characters, and as `write_to_string` returns them.
+// promise: If readable, equal texts of money mean equal amounts.
 pub fn money_text_tells()
     ensures characters { MoneyTextTells }
     ensures texts { EqualMoneyTextsTell }
@@ -45,15 +47,17 @@ pub fn money_text_tells()
 /// |---|---|
 /// | each subpattern has the symbol's place | by `0` the symbol |
 /// | no symbol begins or ends with U+00A0 | in `A\u{a0}1` whether it is `A` or `A\u{a0}` |
-/// | marks, as `-`, `+` and `(`, tell the sign if no symbol is written | by `¤0;¤0` the minus |
+/// | marks, as `-`, `+` and `(`, determine the sign if no symbol is written | by `¤0;¤0` the minus |
 /// | no symbol has a mark | in `-$1` whether it is 1 of `-$` or -1 of `$` |
 /// | U+00A0 is no mark, and no digit | by `¤0;¤\u{a0}0` the minus of `CHF\u{a0}1` |
 /// | symbols, signs and pattern have no digit | in `$1\u{a0}234` if 234 of `$1` or 1234 of `$` |
 ///
-/// Between amounts of one sign no marks are asked for. Money that tells its symbol is readable.
+/// Between amounts of one sign no marks are asked for. Money that determines its symbol is
+/// readable.
 ///
 /// Texts are compared as lists of characters, and as `write_to_string` returns them; then the
 /// symbols are equal byte for byte.
+// promise: Under its premises a text determines symbol and amount.
 pub fn money_text_tells_the_symbol()
     ensures characters { MoneyTextTellsSymbol }
     ensures texts { EqualMoneyTextsTellSymbol }
@@ -64,15 +68,17 @@ pub fn money_text_tells_the_symbol()
 
 /// If percents by a plain formatter are readable, as money is, equal texts mean equal signs and
 /// sizes, and a hundred times the numbers in the same range and digits.
+// promise: If readable, equal texts of percents mean equal sizes.
 pub fn percent_text_tells()
     ensures characters { PercentTextTells }
     ensures texts { EqualPercentTextsTell }
 {}
 
-/// If two formatters of money are told apart ([`is_told_apart_from`]), no text of the one is a text
-/// of the other, whatever the amounts are: a text tells which of the two wrote it.
+/// If two formatters of money are distinguished ([`is_told_apart_from`]), no text of the one is a
+/// text of the other, whatever the amounts are: a text shows which of the two wrote it.
 ///
 /// [`is_told_apart_from`]: crate::CurrencyFormatter::is_told_apart_from
+// promise: Formatters of which `AreToldApart` holds share no text.
 pub fn told_apart_share_no_text()
     ensures characters { ToldApartShareNoCharacters }
     ensures texts { ToldApartShareNoText }
@@ -80,6 +86,7 @@ pub fn told_apart_share_no_text()
 
 /// A unit's pattern writes the characters of its literal around a number, white space too: the part
 /// `unit` adds none and leaves none out. So laws of a pattern's characters hold of a unit's.
+// promise: The part of a unit changes no character.
 pub fn the_part_of_a_unit_changes_no_character()
     ensures { UnitKeepsCharacters }
 {}

@@ -150,8 +150,12 @@ impl CurrencyFormatter<DecimalFormatter> {
     /// numbers; but before each request for symbols the provider is asked for symbols of money.
     /// Then patterns are asked for by the preferred numbering system in the locale, if one is
     /// preferred, and else by the locale, and then the symbols by the currency's code in the
-    /// locale. The first refusal is reported, with its context; `OutOfMemory` also where an
-    /// allocation is refused.
+    /// locale. The first error is reported, with its context; `OutOfMemory` also where an
+    /// allocation fails.
+    // promise: A provider's answers determine the formatter of money.
+    // mutations: loading_money_accounting_as_standard
+    // promise: Numbers of money have its symbols, if the provider does.
+    // mutations: loading_money_with_the_symbols_of_numbers
     pub fn try_new_unstable<
         D: DataProvider<CurrencyDecimalSymbolsV1>
             + DataProvider<DecimalSymbolsV1>
@@ -190,8 +194,8 @@ impl LongCurrencyFormatter<DecimalFormatter> {
     ///
     /// First the numbers of money are loaded, as [`CurrencyFormatter::try_new_unstable`] loads
     /// them. Then plural rules are asked for by the locale, and then names by the currency's code
-    /// in the locale. The first refusal is reported, with its context; `OutOfMemory` also where an
-    /// allocation is refused.
+    /// in the locale. The first error is reported, with its context; `OutOfMemory` also where an
+    /// allocation fails.
     pub fn try_new_unstable<
         D: DataProvider<CurrencyDecimalSymbolsV1>
             + DataProvider<DecimalSymbolsV1>
@@ -229,8 +233,8 @@ impl CompactCurrencyFormatter {
     /// with the short symbol and the standard pattern. Then plural rules are asked for by the
     /// locale, and then compact patterns by the preferred numbering system in the locale, if one is
     /// preferred, and else by the locale. The symbol and the signs in them are those of the
-    /// formatter of money ([`CompactRows::resolve`]). The first refusal is reported, with its
-    /// context; `OutOfMemory` also where an allocation is refused.
+    /// formatter of money ([`CompactRows::resolve`]). The first error is reported, with its
+    /// context; `OutOfMemory` also where an allocation fails.
     ///
     /// [`CompactRows::resolve`]: icu_dimension_data::CompactRows::resolve
     pub fn try_new_unstable<
@@ -283,8 +287,10 @@ impl PercentFormatter<DecimalFormatter> {
     ///
     /// First the plain formatter is made, as [`DecimalFormatter::try_new_unstable`] makes it. Then
     /// patterns are asked for by the preferred numbering system in the locale, if one is preferred,
-    /// and else by the locale. The first refusal is reported, with its context; `OutOfMemory` also
-    /// where an allocation is refused.
+    /// and else by the locale. The first error is reported, with its context; `OutOfMemory` also
+    /// where an allocation fails.
+    // promise: Patterns are asked by the preferred system first.
+    // mutations: loading_without_the_preferred_system
     pub fn try_new_unstable<
         D: DataProvider<DecimalSymbolsV1>
             + DataProvider<DecimalDigitsV1>
@@ -312,8 +318,8 @@ impl UnitsFormatter<DecimalFormatter> {
     ///
     /// First the plain formatter is made, as [`DecimalFormatter::try_new_unstable`] makes it. Then
     /// plural rules are asked for by the locale, and then patterns by the unit in the locale. The
-    /// first refusal is reported, with its context; `OutOfMemory` also where an allocation is
-    /// refused.
+    /// first error is reported, with its context; `OutOfMemory` also where an allocation
+    /// fails.
     pub fn try_new_unstable<
         M: DataMarker<DataStruct = PluralElements<Pattern<SinglePlaceholder>>>,
         D: DataProvider<DecimalSymbolsV1>

@@ -71,6 +71,8 @@ impl<F: AbstractFormatter> LongCurrencyFormatter<F> {
     /// After `Overflow` and `OutOfMemory` the sink is unchanged. `Sink` only where the sink failed
     /// in this call, and it then holds a beginning of the events besides. `Overflow` exactly where
     /// the formatter overflows.
+    // promise: The number has the name that its operands pick.
+    // mutations: name_without_its_part, name_before_the_number
     pub fn write<S: PartsWrite>(
         &self,
         alloc: Global,

@@ -61,6 +61,10 @@ impl<F: AbstractFormatter> PercentFormatter<F> {
     /// if the formatter overflows for it. After `Overflow` and `OutOfMemory` the sink is unchanged.
     /// `Sink` only where the sink failed in this call, and it then holds a beginning of the events
     /// besides.
+    // promise: A percent is a hundred times the number, in its pattern.
+    // mutations: percent_of_the_number_itself
+    // promise: `Overflow` comes only where a hundred times it is too large.
+    // mutations: percent_too_large_told_as_want_of_memory
     pub fn write<S: PartsWrite>(
         &self,
         alloc: Global,

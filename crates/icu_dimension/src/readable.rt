@@ -118,8 +118,8 @@ fn are_equal(one: &DecimalFormatter, other: &DecimalFormatter) -> bool
     are_same_options(one.options(), other.options())
 }
 
-/// Whether texts of numbers by one formatter, in its patterns, tell that they aren't by another, in
-/// the other's patterns.
+/// Whether texts of numbers by one formatter, in its patterns, determine that they aren't by
+/// another, in the other's patterns.
 pub(crate) fn are_told_apart(
     one: &DecimalFormatter,
     patterns: &SignedPatterns,

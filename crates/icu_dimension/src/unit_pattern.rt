@@ -47,6 +47,8 @@ fn write_literal<K: EventWriter>(literal: &str, out: &mut K) -> Result<(), Write
 }
 
 /// Writes the pattern of a unit with a value in its place; without a place its literal alone.
+// promise: Literals are in the part `unit`, without their outer spaces.
+// mutations: units_literal_without_its_part, units_space_in_the_part
 pub(crate) fn write_unit<W: Writeable, K: EventWriter>(
     pattern: &Pattern<SinglePlaceholder>,
     value: &W,

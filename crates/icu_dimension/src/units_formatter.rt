@@ -75,13 +75,15 @@ impl<F: AbstractFormatter> UnitsFormatter<F> {
         &self.elements
     }
 
-    /// Writes the number with its unit: the parts of the number and of its sign, and the words of
+    /// Writes the number with its unit: the parts of the number and of its sign, and the letters of
     /// the pattern on each side of them in the part `unit`, without the white space at their ends,
     /// which is in no part. A pattern without a placeholder is written as its literal.
     ///
     /// After `Overflow` and `OutOfMemory` the sink is unchanged. `Sink` only where the sink failed
     /// in this call, and it then holds a beginning of the events besides. `Overflow` exactly where
     /// the formatter overflows.
+    // promise: Sign and number stand in the pattern that operands pick.
+    // mutations: units_sign_around_the_whole
     pub fn write<S: PartsWrite>(
         &self,
         alloc: Global,

@@ -1,4 +1,4 @@
--- The table of a sign: the map of its entries, and how it is answered or refused.
+-- The table of a sign: the map of its entries, and how it is answered or rejected.
 use Rattle.std.proofs.Common.{◌≡◌, ◌<◌, ◌+◌, ℕ, List, [], ◌∷◌, ◌++◌, length, get_or, drop, drop-cons, add-one, append_assoc}
 use Rattle.std.proofs.Common.{◌∙◌, Option, Some, None, Result, Ok, Err, refl, sym, ap, inr, subst, arith, pos}
 use Rattle.std.proofs.Common.{Bool, true, false, ◌&&◌, ◌==◌, map, if◌then◌else◌}
@@ -52,7 +52,7 @@ module _ (rows : List CompactRow) (entries : List TableEntry) where
   refused_by fault None refused other = let same : fault ≡ OutOfMemory = cc in absurd (other same)
   refused_by fault (Some f) refused other = let same : f ≡ fault = cc in rw same refl
 
-  -- and one that isn't is refused as its fault says
+  -- and one that isn't is rejected as its fault says
   pub table_refused : (fault : CompactError) (e : DataError) → e.kind ≡ (compact_refusal fault).kind → e.context.now ≡ (compact_refusal fault).context
       → MatchOption (fault_of None entries) (IsOkUnless {T = List TableEntry} (Err fault) OutOfMemory) (λ g. IsErrOf {T = List TableEntry} (Err fault) g)
       → Answers {X = List TableEntry} (Err e) (table_or_refused rows entries (fault_of None entries))

@@ -31,7 +31,7 @@ entry_for digits texts sign row = record {
   elements = elements_map (pattern_for digits texts sign) row.patterns;
 }
 
--- how a table is refused that `CompactPatterns::new` refuses
+-- how a table is rejected that `CompactPatterns::new` rejects
 abbrev pub compact_refusal : CompactError → Refusal
 compact_refusal compact.ExponentsFall = record { kind = Custom; context = codes "compact exponents fall" }
 compact_refusal compact.ExponentAboveType = record { kind = Custom; context = codes "a compact exponent above its type" }
@@ -39,7 +39,7 @@ compact_refusal compact.TooManyZeros = record { kind = Custom; context = codes "
 compact_refusal compact.TooLarge = record { kind = Custom; context = codes "compact patterns too large" }
 compact_refusal compact.OutOfMemory = record { kind = OutOfMemory; context = [] }
 
--- how a table is refused in which a type has another exponent than its entry: its patterns were those of the type before
+-- how a table is rejected in which a type has another exponent than its entry: its patterns were those of the type before
 abbrev pub repeated_refusal : Refusal
 repeated_refusal = record { kind = Custom; context = codes "compact patterns repeat under another exponent" }
 
@@ -63,12 +63,12 @@ table_for digits texts rows sign =
     let entries = map (entry_for digits texts sign) rows in
     table_or_refused rows entries (fault_of None entries)
 
--- what is made of a table, or its refusal
+-- what is made of a table, or its error
 abbrev pub and_then : {X Y : Type 0} → Result X Refusal → (X → Result Y Refusal) → Result Y Refusal
 and_then (Ok x) next = next x
 and_then (Err refusal) next = Err refusal
 
--- the tables of the three signs, or the first refusal
+-- the tables of the three signs, or the first error
 unfoldable pub tables_for : List ℕ → Texts → List CompactRow → Result CompactCurrencyPatterns Refusal
 tables_for digits texts rows =
     and_then (table_for digits texts rows NoSign) (λ none.

@@ -27,13 +27,17 @@ impl CldrPattern {
     ghost use Rattle.std.specs.Prelude.{◌≡◌, Ok, Err, IfOk, IsOkUnless, MatchResult};
     ghost use Rattle.icu_dimension_data.specs.Reading.{pattern_of};
 
-    /// The pattern of a text. A text that is no pattern is refused by its first fault from left to
+    /// The pattern of a text. A text that is no pattern is rejected by its first fault from left to
     /// right, whether or not memory ran out; `OutOfMemory` is reported of patterns alone.
     ///
     /// A subpattern is what stands around its number part, a run of `#`, `0`, `,` and `.`; a second
     /// one may stand behind `;`. `¤` is the currency symbol, `-` and `+` the signs, `%` the percent
     /// sign; what stands in apostrophes is taken as it is, and two apostrophes are one. Other
-    /// characters of the syntax are refused, so that none is written by mistake.
+    /// characters of the syntax are rejected, so that none is written by mistake.
+    // promise: The pattern is the one that the text spells.
+    // mutations: parse_second_subpattern_left_out
+    // promise: A text that is no pattern is rejected by its first fault.
+    // mutations: parse_unclosed_quote_accepted
     pub fn parse(alloc: Global, text: &str) -> Result<Self, PatternFault>
         ensures read { IfOk result (λ p. pattern_of text.now ≡ Ok p) }
         ensures refused { MatchResult (pattern_of text.now) (λ _.

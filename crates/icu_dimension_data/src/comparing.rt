@@ -133,6 +133,8 @@ impl SignedPattern<'_> {
 
     /// Whether another pattern has the same characters before a number, and the same after it;
     /// parts don't count (this project's own). It takes no memory.
+    // promise: It decides whether both sides have the same characters.
+    // mutations: same_characters_by_their_count
     pub fn has_same_characters(&self, other: &SignedPattern<'_>) -> bool
         ensures { IsTrue result ↔ HaveSameCharacters self.now other.now }
     {

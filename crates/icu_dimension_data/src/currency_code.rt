@@ -53,7 +53,9 @@ fn is_code(bytes: &[u8]) -> bool
 }
 
 impl CurrencyCode {
-    /// The code that a text spells. Small letters are refused.
+    /// The code that a text spells. Small letters are rejected.
+    // promise: Exactly three ASCII capitals are a currency's code.
+    // mutations: code_small_letters_accepted
     pub fn try_from_str(text: &str) -> Result<Self, BadCurrencyCode>
         ensures accepted { IsOk result ↔ IsCurrencyCode text.now }
         ensures code { IfOk result (λ code. code ≡ text.now) }

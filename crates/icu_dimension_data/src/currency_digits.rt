@@ -54,6 +54,8 @@ impl CurrencyDigits {
     }
 
     /// The digits of a currency.
+    // promise: A currency has its entry's digits, or those of all others.
+    // mutations: digits_of_another_currency
     pub fn of(&self, code: CurrencyCode) -> FractionDigits
         ensures { result ≡ digits_of self.now code }
     {
@@ -66,16 +68,18 @@ impl CurrencyDigits {
     }
 }
 
-/// The power of the last of so many fraction digits.
+/// The power of the last of that many fraction digits.
 fn last_power(digits: u8) -> i16
     ensures { result ≡ pos 0 -ℤ pos digits }
 {
     -i16::from(digits)
 }
 
-/// The amount rounded to so many fraction digits, half to even; where it has fewer, zeros are
-/// written behind them. `Limit` and want of memory hand the amount back, as [`Decimal::rounded`]
+/// The amount rounded to that many fraction digits, half to even; where it has fewer, zeros are
+/// written behind them. `Limit` and out of memory hand the amount back, as [`Decimal::rounded`]
 /// does.
+// promise: An amount is rounded to these digits; its sign stays.
+// mutations: rounded_to_one_digit_more
 pub fn rounded_to(amount: Decimal, digits: u8) -> Result<Decimal, (Decimal, DecimalError)>
     ensures rounded { IfOk result (λ y.
         IsRounded amount.absolute (pos 0 -ℤ pos digits) y.absolute) }

@@ -1,4 +1,4 @@
-//! Why patterns are refused.
+//! Why patterns are rejected.
 
 ghost use Rattle.std.specs.Prelude.{◌≡◌};
 ghost use Rattle.icu_dimension_data.specs.declared.error.PatternFault.TheVariants.{OutOfMemory};

@@ -32,6 +32,8 @@ impl SignedPattern<'_> {
 
     /// The pattern with one placeholder, for a number: all that stands around the number, the texts
     /// of signs and symbol too, is its literal, without parts. Compact tables hold such patterns.
+    // promise: The pattern has its two sides as its literal.
+    // mutations: to_pattern_place_at_the_front
     #[tactic(auto, using(crate::proofs::Seams::has_seam))]
     pub fn to_pattern(&self, alloc: Global) -> Result<Pattern<SinglePlaceholder>, PatternError>
         ensures flat { IfOk result (λ p. p ≡ flat self.now) }

@@ -117,6 +117,10 @@ impl CldrPattern {
     /// stands between them, unless the symbol's character on that side is a symbol or a separator:
     /// `CHF 1`, but `$1`. Beside digits whose general category isn't Nd, as those of `hanidec`, no
     /// space is inserted (UTS 35 Part 3, Currencies: currency spacing, `surroundingMatch`).
+    // promise: Each sign has the pattern that `resolved` makes for it.
+    // mutations: resolve_plus_left_as_minus
+    // promise: U+00A0 stands at the symbol exactly where `spaced` has it.
+    // mutations: resolve_space_behind_a_separator
     pub fn resolve(
         &self,
         alloc: Global,

@@ -141,6 +141,8 @@ impl<W: Writeable> Writeable for Surrounded<'_, W> {
 
     ghost events = { λ s. surrounded s.pattern (W.events s.value) };
 
+    // promise: A value stands between the pattern's two sides, with parts.
+    // mutations: interpolate_suffix_before_the_number
     fn write_events<K: EventWriter>(&self, out: &mut K) -> Result<(), WriteFault> {
         let SignedPattern { affixes, texts } = &self.pattern;
         texts.write_tokens(&affixes.before, out)?;

@@ -151,7 +151,7 @@ fn entries_for(
     Ok(entries)
 }
 
-/// How a table is refused that [`CompactPatterns::new`] refuses.
+/// How a table is rejected that [`CompactPatterns::new`] rejects.
 fn compact_refusal(fault: CompactError) -> DataError
     ensures kind { result.kind ≡ (compact_refusal fault).kind }
     ensures context { result.context.now ≡ (compact_refusal fault).context }
@@ -239,6 +239,8 @@ impl CompactRows {
     /// At the type of each row a table has the row's exponent. Rows that make no such table are
     /// rejected as `Custom`, with the reason as its context: a type whose patterns, with these
     /// texts in them, are those of the type before has that one's exponent in a table.
+    // promise: Each sign gets the table that the rows make for it.
+    // mutations: compact_table_of_plus_for_minus
     #[tactic(auto, unfolding(crate::specs::SignedTables::tables_for))]
     pub fn resolve(
         &self,

@@ -70,7 +70,7 @@ fn resolved_once(
     }
 }
 
-/// The same, asked for once more where memory was refused.
+/// The same, asked for once more where memory ran out.
 fn resolved(
     alloc: Global,
     rows: (Row<'_>, Row<'_>),
@@ -223,7 +223,7 @@ fn rows_that_repeat_with_their_symbol_are_rejected(rt: HostRuntime) {
     }
 }
 
-/// So many letters.
+/// That many letters.
 fn letters(alloc: Global, count: usize) -> Result<String, AllocError> {
     let mut text = String::new(alloc);
     for _ in 0..count {
@@ -232,7 +232,7 @@ fn letters(alloc: Global, count: usize) -> Result<String, AllocError> {
     Ok(text)
 }
 
-/// Whether a symbol of so many letters makes tables, or is rejected with this context.
+/// Whether a symbol of that many letters makes tables, or is rejected with this context.
 fn is_judged(alloc: Global, count: usize, want: Option<&'static str>) -> bool {
     let first = letters(alloc, count).ok();
     match first.or(letters(alloc, count).ok()) {

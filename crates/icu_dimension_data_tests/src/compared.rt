@@ -20,19 +20,19 @@ const PAIRS: &[(Around, Around, bool)] = &[
     (("$0", "", Sign::None), ("¤0", "$", Sign::None), true),
     (("x¤0", "$", Sign::None), ("¤0", "x$", Sign::None), true),
     (("¤\u{a0}0", "A", Sign::None), ("¤0", "A", Sign::None), true),
-    // What stands before is told from what stands after.
+    // What stands before differs from what stands after.
     (("¤0", "$", Sign::None), ("0¤", "$", Sign::None), false),
     (("0¤", "$", Sign::None), ("0¤", "€", Sign::None), false),
     (("0", "$", Sign::None), ("0", "€", Sign::None), true),
 ];
 
-/// The patterns of both; none where memory is wanting.
+/// The patterns of both; none if out of memory.
 fn both(alloc: Global, one: Around, other: Around) -> Option<(SignedPatterns, SignedPatterns)> {
     let first = patterns_of(alloc, one.0, &english(one.1));
     first.zip(patterns_of(alloc, other.0, &english(other.1)))
 }
 
-/// Whether two patterns have the same characters; none where memory is wanting.
+/// Whether two patterns have the same characters; none if out of memory.
 fn are_the_same(alloc: Global, one: Around, other: Around) -> Option<bool> {
     match both(alloc, one, other) {
         Some((first, second)) => {
@@ -62,7 +62,7 @@ const LISTED: &[(Around, bool)] = &[
     (("0%", "", Sign::Positive), true),
 ];
 
-/// Whether none of them stands there; none where memory is wanting.
+/// Whether none of them stands there; none if out of memory.
 fn is_free(alloc: Global, (pattern, currency, sign): Around) -> Option<bool> {
     match patterns_of(alloc, pattern, &english(currency)) {
         Some(patterns) => {

@@ -8,7 +8,7 @@ use icu_dimension_data::{
 use std::alloc::Global;
 use writeable::ASCII_DIGITS;
 
-/// A copy, asked for again where memory was wanting.
+/// A copy, asked for again where memory ran out.
 fn pattern_copy(alloc: Global, pattern: &CldrPattern) -> Option<CldrPattern> {
     match pattern.copy(alloc) {
         Ok(copy) => Some(copy),
@@ -91,7 +91,7 @@ fn a_copy_writes_the_same(rt: HostRuntime) {
 /// How many entries are copied.
 const COUNT: usize = 1_000;
 
-/// Digits of so many entries of one code, the first of which has three, and two of all others.
+/// Digits of that many entries of one code, the first of which has three, and two of all others.
 fn digits_of(alloc: Global, code: CurrencyCode) -> Option<CurrencyDigits> {
     let mut entries = Vec::new(alloc);
     for index in 0..COUNT {

@@ -25,7 +25,7 @@ const CODES: [(&str, bool); 14] = [
     ("€", false),
 ];
 
-/// Whether a text is a code, and then its own, or is refused.
+/// Whether a text is a code, and then its own, or is rejected.
 fn is_judged(alloc: Global, text: &str, is_code: bool) -> bool {
     match CurrencyCode::try_from_str(text) {
         Ok(code) => is_code && code.as_str() == text && is_displayed(alloc, &code, text),
@@ -110,7 +110,7 @@ fn has_digits(rt: &impl Abort, digits: &CurrencyDigits) -> bool {
     true
 }
 
-/// The same of the digits of CLDR, asked for once more where memory was wanting.
+/// The same of the digits of CLDR, asked for once more where memory ran out.
 fn have_digits(rt: &impl Abort, alloc: Global) -> bool {
     match entries(rt, alloc) {
         Ok(entries) => has_digits(rt, &CurrencyDigits::new(entries, OTHERS)),
@@ -145,7 +145,7 @@ const ONE: &str =
     0000000000000000000000000000000000000000000000000000000000000000000000000000000000000\
     0000000000000000000000000000000000000000000000000000000000000000000000000000000000000";
 
-/// The decimal of a text, asked for once more where memory was wanting.
+/// The decimal of a text, asked for once more where memory ran out.
 fn decimal_of(rt: &impl Abort, alloc: Global, text: &str) -> Decimal {
     match Decimal::try_from_str(alloc, text) {
         Ok(decimal) => decimal,
@@ -156,7 +156,7 @@ fn decimal_of(rt: &impl Abort, alloc: Global, text: &str) -> Decimal {
     }
 }
 
-/// The amount rounded, asked for once more where memory was wanting.
+/// The amount rounded, asked for once more where memory ran out.
 fn rounded(amount: Decimal, digits: u8) -> Result<Decimal, (Decimal, DecimalError)> {
     match rounded_to(amount, digits) {
         Err((amount, DecimalError::OutOfMemory)) => rounded_to(amount, digits),

@@ -38,7 +38,7 @@ const FAULTS: [(&str, PatternFault); 30] = [
     ("# #1'", PatternFault::TwoNumbers { byte: 2 }),
 ];
 
-/// Whether a text is refused so.
+/// Whether a text is rejected so.
 fn is_refused(alloc: Global, text: &str, fault: PatternFault) -> bool {
     match parsed(alloc, text) {
         Ok(_) => false,

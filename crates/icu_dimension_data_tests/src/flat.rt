@@ -6,7 +6,8 @@ use icu_dimension_data::SignedPattern;
 use icu_pattern::{Pattern, PatternError, SinglePlaceholder};
 use std::alloc::Global;
 
-/// A pattern, a currency's symbol and a sign; how many bytes stand before the number, and all that stands around it.
+/// A pattern, a currency's symbol and a sign; how many bytes stand before the number, and all that
+/// stands around it.
 struct Row {
     pattern: &'static str,
     currency: &'static str,
@@ -15,7 +16,8 @@ struct Row {
     literal: &'static str,
 }
 
-/// Short patterns of money, as CLDR writes them: English, German, Dutch, Japanese, a symbol that ends in a letter.
+/// Short patterns of money, as CLDR writes them: English, German, Dutch, Japanese, a symbol that
+/// ends in a letter.
 const ROWS: [Row; 9] = [
     Row {
         pattern: "¤0M",
@@ -82,7 +84,7 @@ const ROWS: [Row; 9] = [
     },
 ];
 
-/// The pattern with one place, asked for again where memory was wanting.
+/// The pattern with one place, asked for again where memory ran out.
 pub(crate) fn flattened(
     alloc: Global,
     pattern: &SignedPattern<'_>,

@@ -8,7 +8,7 @@ use std::alloc::{AllocError, Global};
 
 const COUNT: usize = 20_000;
 
-/// So many letters, with a text before them and one after them.
+/// That many letters, with a text before them and one after them.
 fn letters(alloc: Global, before: &str, after: &str) -> Result<String, AllocError> {
     let mut text = String::from_str(alloc, before)?;
     for _ in 0..COUNT {
@@ -18,7 +18,7 @@ fn letters(alloc: Global, before: &str, after: &str) -> Result<String, AllocErro
     Ok(text)
 }
 
-/// The same, asked for once more where memory was refused.
+/// The same, asked for once more where memory ran out.
 fn long_text(alloc: Global, before: &str, after: &str) -> Result<String, AllocError> {
     match letters(alloc, before, after) {
         Ok(text) => Ok(text),
@@ -98,7 +98,7 @@ fn long_patterns_and_symbols_are_written(rt: HostRuntime) {
 /// The most digits at power 0 and above, and the most below it.
 const MOST: usize = 32_768;
 
-/// The text of a number of so many ones before the point, and so many behind it.
+/// The text of a number with these counts of ones before and behind the point.
 fn ones_text(alloc: Global, whole: usize, fraction: usize) -> Result<Vec<u8>, AllocError> {
     let mut text = Vec::from_elem(alloc, b'1', whole)?;
     text.push(b'.')?;
@@ -115,7 +115,7 @@ fn ones(alloc: Global, whole: usize, fraction: usize) -> Option<Decimal> {
     }
 }
 
-/// Whether ones before and behind the point, rounded to so many fraction digits, have so many.
+/// Whether ones before and behind the point, rounded to that many fraction digits, have that many.
 fn is_rounded(alloc: Global, whole: usize, fraction: usize, digits: u8) -> bool {
     match ones(alloc, whole, fraction).zip(ones(alloc, whole, usize::from(digits))) {
         Some((amount, want)) => match rounded_to(amount, digits) {

@@ -37,7 +37,7 @@ fn texts<'a>(long: (Place, &'a str)) -> AffixTexts<'a> {
     }
 }
 
-/// So many times one character.
+/// One character that many times.
 fn repeated(alloc: Global, character: char) -> Result<String, AllocError> {
     let mut text = String::new(alloc);
     for _ in 0..COUNT {
@@ -55,7 +55,7 @@ fn joined(alloc: Global, texts: &[&str]) -> Result<String, AllocError> {
     Ok(all)
 }
 
-/// The pattern, with so many places for digits where its number part is the long one.
+/// The pattern, with that many places for digits where its number part is the long one.
 fn pattern_text<'a>(
     alloc: Global,
     long: (Place, &'a str),
@@ -184,7 +184,7 @@ fn tells(
     }
 }
 
-/// Whether 12 is written so with a long text, or memory was wanting.
+/// Whether 12 is written so with a long text, or memory ran out.
 fn holds_with(alloc: Global, long: (Place, &str), pattern: &str, calls: Calls, sign: Sign) -> bool {
     match wanted(alloc, long, sign) {
         Ok(want) => tells(alloc, (pattern, &texts(long)), calls, sign, &want),

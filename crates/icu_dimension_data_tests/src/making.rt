@@ -1,4 +1,4 @@
-//! Patterns that are asked for again where memory was wanting, and what they write.
+//! Patterns that are asked for again where memory ran out, and what they write.
 
 use icu_dimension_data::{AffixTexts, CldrPattern, PatternFault, SignedPatterns};
 use std::alloc::{AllocError, Global};
@@ -15,7 +15,7 @@ pub(crate) fn english(currency: &'static str) -> AffixTexts<'static> {
     }
 }
 
-/// What is answered for a text, asked for again where memory was wanting.
+/// What is answered for a text, asked for again where memory ran out.
 pub(crate) fn parsed(alloc: Global, text: &str) -> Result<CldrPattern, PatternFault> {
     match CldrPattern::parse(alloc, text) {
         Err(PatternFault::OutOfMemory) => CldrPattern::parse(alloc, text),
@@ -23,7 +23,7 @@ pub(crate) fn parsed(alloc: Global, text: &str) -> Result<CldrPattern, PatternFa
     }
 }
 
-/// The patterns of the signs, asked for again where memory was wanting.
+/// The patterns of the signs, asked for again where memory ran out.
 fn resolved(
     alloc: Global,
     pattern: &CldrPattern,
@@ -58,12 +58,13 @@ fn is_made(made: Result<String, AllocError>, want: &str) -> bool {
     }
 }
 
-/// Whether a value is displayed so, asked once more where memory was wanting.
+/// Whether a value is displayed so, asked once more where memory ran out.
 pub(crate) fn is_displayed<T: fmt::Display>(alloc: Global, value: &T, want: &str) -> bool {
     is_made(format!(in alloc; "{value}"), want) || is_made(format!(in alloc; "{value}"), want)
 }
 
-/// Whether a value is displayed so, unpadded, under a width and a fill; asked once more where memory was wanting.
+/// Whether a value is displayed so, unpadded, under a width and a fill; asked once more where
+/// memory ran out.
 pub(crate) fn is_displayed_unpadded<T: fmt::Display>(alloc: Global, value: &T, want: &str) -> bool {
     is_made(format!(in alloc; "{value:*^80}"), want)
         || is_made(format!(in alloc; "{value:*^80}"), want)

@@ -7,7 +7,7 @@ use icu_dimension_data::parts::{CURRENCY, MINUS_SIGN, PERCENT_SIGN, PLUS_SIGN, U
 use std::alloc::Global;
 use writeable::{OutOfMemory, Part, PartsText, WriteFault, Writeable};
 
-/// Whether a sink holds this text with these spans; asked once more where memory was wanting.
+/// Whether a sink holds this text with these spans; asked once more where memory ran out.
 fn is_annotated(
     alloc: Global,
     sink: &PartsText,
@@ -39,8 +39,8 @@ fn write_text(
         .write_to_parts(sink)
 }
 
-/// Whether a text in a pattern leaves this text with these spans in a sink; asked once more where a growth was
-/// refused.
+/// Whether a text in a pattern leaves this text with these spans in a sink; asked once more where a
+/// growth was rejected.
 fn writes_parts(
     alloc: Global,
     patterns: &SignedPatterns,
@@ -141,7 +141,7 @@ fn write_percent(
         .write_to_parts(sink)
 }
 
-/// Whether a value that has parts keeps them; asked once more where a growth was refused.
+/// Whether a value that has parts keeps them; asked once more where a growth failed.
 fn keeps_its_parts(alloc: Global, money: &SignedPatterns, percent: &SignedPatterns) -> bool {
     let mut sink = PartsText::new(alloc);
     if write_percent(money, percent, &mut sink).is_err() {
@@ -182,8 +182,8 @@ fn parts_have_their_names(rt: HostRuntime) {
     }
 }
 
-/// Whether a sink with this limit holds this text, and failed where the limit is less than all nine events: open, a
-/// character, close, open, a character, close, two characters, a character.
+/// Whether a sink with this limit holds this text, and failed where the limit is less than all nine
+/// events: open, a character, close, open, a character, close, two characters, a character.
 fn stops_in(alloc: Global, patterns: &SignedPatterns, limit: usize, text: &str) -> bool {
     let mut sink = PartsText::with_limit(alloc, limit);
     let mut written = write_text(patterns, Sign::Negative, "12)", &mut sink);

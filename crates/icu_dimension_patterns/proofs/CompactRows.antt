@@ -25,7 +25,7 @@ module _ (place : Place) (front : List CompactRow) (before : ℕ) (e : GivenEntr
       rw h (regroup front row (compact_rows_of place row.exponent es)) in
       sym one ∙ so_far
 
-  -- a row that is refused refuses all
+  -- a row that is rejected rejects all
   pub rows_fail : (fault : TableError) → Fails fault (compact_row_of place before e) → with_front front (compact_rows_of place before (e ∷ es)) ≡ total
       → Fails fault total
   unfolding compact_rows_of

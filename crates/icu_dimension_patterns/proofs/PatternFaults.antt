@@ -33,7 +33,7 @@ refused : (place : Place) (text : List ℕ) (fault : PatternFault) → Answers f
 unfolding number_pattern_of
 refused place text fault h other = ap (pattern_or_refused place) (told fault (pattern_of text) h other)
 
--- a fault is that of the pattern, but for want of memory
+-- a fault is that of the pattern, but because memory ran out
 pub pattern_failed : (place : Place) (text : List ℕ) (fault : PatternFault) → Answers fault (pattern_of text)
     → Fails {Y = PatternText} (pattern_refusal place fault) (number_pattern_of place text)
 pattern_failed place text (NoNumber byte) h = refused place text (NoNumber byte) h (λ same. absurd cc)

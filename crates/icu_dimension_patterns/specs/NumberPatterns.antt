@@ -9,7 +9,7 @@ use Rattle.icu_table_entries.specs.declared.error.Place.{Place}
 use Rattle.icu_table_entries.specs.declared.error.TableError.{TableError}
 use Rattle.icu_table_entries.specs.declared.error.TableError.TheVariants.{Entry, OutOfMemory}
 
--- how an entry is refused for the first fault of a pattern
+-- how an entry is rejected for the first fault of a pattern
 abbrev pub pattern_refusal : Place → PatternFault → TableError
 pattern_refusal place (pattern.NoNumber byte) = Entry place.key place.index (NoNumber byte)
 pattern_refusal place (pattern.TwoNumbers byte) = Entry place.key place.index (TwoNumbers byte)
@@ -18,7 +18,7 @@ pattern_refusal place (pattern.ThirdSubpattern byte) = Entry place.key place.ind
 pattern_refusal place (pattern.Reserved byte) = Entry place.key place.index (ReservedCharacter byte)
 pattern_refusal place pattern.OutOfMemory = OutOfMemory
 
--- the pattern that was read, or the refusal of the entry
+-- the pattern that was read, or the error of the entry
 abbrev pub pattern_or_refused : Place → Result PatternText PatternFault → Result PatternText TableError
 pattern_or_refused place (Ok pattern) = Ok pattern
 pattern_or_refused place (Err fault) = Err (pattern_refusal place fault)

@@ -1,4 +1,4 @@
--- Texts of signs: none of them is empty, so that a number with a sign is told from one without.
+-- Texts of signs: none of them is empty, so that a number with a sign differs from one without.
 use Rattle.std.specs.Prelude.{ℕ, List, [], ◌∷◌, Result, Ok}
 use Rattle.icu_table_entries.specs.Named.{refused}
 use Rattle.icu_table_entries.specs.declared.error.EntryFault.TheVariants.{EmptyText}

@@ -131,6 +131,8 @@ impl EntryKind for CurrencyCompactEntry {
 
     ghost serves = { is_of };
 
+    // promise: Texts that are repeated with a new exponent are rejected.
+    // mutations: repeated_texts_let_through
     #[tactic(auto, unfolding(crate::specs::CurrencyCompact::currency_compact_at))]
     fn from_entry(alloc: Global, place: Place, value: &Value) -> Result<Self::Entry, TableError> {
         let value = object_in(value, place.key)?;

@@ -48,6 +48,8 @@ fn mark_in_each(mark: char, characters: &[char]) -> bool
 }
 
 /// The pattern of a text that has the symbol's place in each subpattern.
+// promise: A pattern of money without its `¤` is rejected.
+// mutations: place_of_the_symbol_not_asked_for
 #[tactic(auto, unfolding(crate::specs::MoneyPattern::money_pattern_of))]
 pub fn money_pattern_of(alloc: Global, place: Place, text: &str) -> Result<CldrPattern, TableError>
     ensures { Gives (λ x. x) result (money_pattern_of place text.now) }

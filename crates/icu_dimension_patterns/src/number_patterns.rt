@@ -8,7 +8,7 @@ use icu_dimension_data::{CldrPattern, PatternFault};
 use icu_table_entries::{EntryFault, Place, TableError};
 use std::alloc::Global;
 
-/// How an entry is refused for the first fault of a pattern.
+/// How an entry is rejected for the first fault of a pattern.
 fn pattern_refusal(place: Place, fault: PatternFault) -> TableError
     ensures { result ≡ pattern_refusal place fault }
 {

@@ -18,6 +18,8 @@ pub fn judge_sign(place: Place, name: Key, text: &str) -> Result<&str, TableErro
 }
 
 /// The same, with memory of its own.
+// promise: An empty text of a sign is rejected by its name.
+// mutations: empty_sign_let_through
 pub fn sign_text_of(
     alloc: Global,
     place: Place,

@@ -25,7 +25,7 @@ code_or_default place text = if pointwise nat_eq text (codes "DEFAULT") then Ok 
   code ← currency_code_of place text
   Ok (Some code))
 
--- so many fraction digits, at most 15
+-- that many fraction digits, at most 15
 unfoldable pub fraction_digits_of : Place → ℕ → Result ℕ TableError
 fraction_digits_of place n = if nat_lt 15 n then refused place TooManyDigits else Ok n
 

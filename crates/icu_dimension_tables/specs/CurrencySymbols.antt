@@ -35,7 +35,7 @@ currency_row_at place d = do
   code ← currency_code_of place code
   Ok (record { code = code; symbols = record { short = short; narrow = narrow }; names = names })
 
--- each row in turn; a fault of one is told of the entry
+-- each row in turn; a fault of one is reported as the entry's
 abbrev pub currency_rows_at : Place → List Data → Result (List CurrencyRow) TableError
 currency_rows_at place ds = entries_at (λ _. currency_row_at place) Symbols 0 ds
 

@@ -51,7 +51,7 @@ places_in text =
     option_and_then (λ sides. places_beside sides (split_at name_mark sides.0) (split_at name_mark sides.1)) (sides_of amount_mark text)
     else None
 
--- the places, or the refusal of the entry
+-- the places, or the error of the entry
 abbrev pub places_or_refused : Place → Option NamePlaces → Result NamePlaces TableError
 places_or_refused place None = refused place BadNamePlaces
 places_or_refused place (Some places) = Ok places

@@ -46,7 +46,7 @@ fn code_or_default(place: Place, text: &str) -> Result<Option<CurrencyCode>, Tab
     Ok(Some(currency_code_of(place, text)?))
 }
 
-/// So many fraction digits, if they are 15 at most.
+/// That many fraction digits, if they are 15 at most.
 #[tactic(auto, unfolding(crate::specs::CurrencyDigits::fraction_digits_of))]
 fn fraction_digits_of(place: Place, digits: u8) -> Result<u8, TableError>
     ensures { Gives (λ x. x) result (fraction_digits_of place digits) }

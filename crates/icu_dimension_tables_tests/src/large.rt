@@ -34,7 +34,7 @@ const UNIT: Repeated = (
     "\"}}]}",
 );
 
-/// The document with the part so many times, and a text at its end.
+/// The document with the part that many times, and a text at its end.
 fn repeated_once(
     alloc: Global,
     (before, part, behind): Repeated,
@@ -51,7 +51,7 @@ fn repeated_once(
     Ok(bytes)
 }
 
-/// The same, made once more where memory was refused.
+/// The same, made once more where memory ran out.
 fn repeated(
     alloc: Global,
     around: Repeated,
@@ -64,7 +64,7 @@ fn repeated(
     }
 }
 
-/// Whether a large document is refused so, or not at all.
+/// Whether a large document is rejected so, or not at all.
 fn is_judged(
     alloc: Global,
     around: Repeated,
@@ -78,7 +78,7 @@ fn is_judged(
     }
 }
 
-/// A document, how often its part stands there, what stands behind, and why it is refused.
+/// A document, how often its part stands there, what stands behind, and why it is rejected.
 const LARGE: &[(Repeated, usize, &str, Option<TableError>)] = &[
     (DIGITS, 1000, "", None),
     (

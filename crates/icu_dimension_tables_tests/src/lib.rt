@@ -16,6 +16,12 @@ mod large_data;
 #[cfg(test)]
 mod large_document;
 #[cfg(test)]
+mod large_entries;
+#[cfg(test)]
 mod names;
+#[cfg(test)]
+mod refused_compact;
+#[cfg(test)]
+mod refused_names;
 #[cfg(test)]
 mod written;

@@ -56,7 +56,7 @@ fn text_of(alloc: Global, text: &str, locale: &str, code: &str, amount: &str) ->
     formatter.write_to_string(alloc, &amount).ok()
 }
 
-/// Whether an amount is written so; it is asked once more where memory was wanting.
+/// Whether an amount is written so; it is asked once more where memory ran out.
 fn is_written(alloc: Global, locale: &str, code: &str, amount: &str, want: &str) -> bool {
     let first = match text_of(alloc, NAMES, locale, code, amount) {
         Some(text) => text.as_str() == want,

@@ -141,7 +141,7 @@ fn text_of(
     }
 }
 
-/// Whether a number is written so; it is asked once more where memory was wanting.
+/// Whether a number is written so; it is asked once more where memory ran out.
 fn is_written(
     alloc: Global,
     text: &str,

@@ -1,4 +1,4 @@
--- What two equal texts of money tell.
+-- What two equal texts of money determine.
 use Rattle.std.specs.Prelude.{◌≡◌, ℕ, List}
 use Rattle.std.specs.Str.{IsUtf8}
 use Rattle.fixed_decimal.specs.declared.signs.Sign.{Sign}
@@ -14,7 +14,7 @@ use Rattle.icu_dimension.specs.MoneySymbol.{IsToldSymbol, TellsSymbols, with_sym
 abbrev pub money_of : DecimalFormat → PatternText → Texts → List ℕ → SignedFormat DecimalFormat
 money_of f p texts currency = record { formatter = f; patterns = resolved f.digits p (with_symbol texts currency) }
 
--- readable numbers, a pattern that tells symbols, and two symbols that are told
+-- readable numbers, a pattern that determines symbols, and two symbols that are determined
 pub record TellsBoth (f : DecimalFormat) (marks : List ℕ) (p : PatternText) (texts : Texts) (one other : List ℕ) : Type 0 where
   pub readable : IsReadable f.symbols.strings f.digits
   pub tells : TellsSymbols f.digits marks p texts
@@ -23,7 +23,7 @@ pub record TellsBoth (f : DecimalFormat) (marks : List ℕ) (p : PatternText) (t
   pub one_text : IsUtf8 one
   pub other_text : IsUtf8 other
 
--- two amounts have one sign, range, digits and symbol, whichever symbols these are, if both are told
+-- two amounts have one sign, range, digits and symbol, whichever symbols these are, if both are determined
 abbrev pub AreOneAmount : SignedFormat DecimalFormat → SignedFormat DecimalFormat → Sign → Sign → Unsigned → Unsigned → Type 0
 AreOneAmount first second s t c d =
     (f : DecimalFormat) (marks : List ℕ) (p : PatternText) (texts : Texts) (one other : List ℕ) → TellsBoth f marks p texts one other

@@ -18,7 +18,7 @@ const DOLLARS: Money = (ENGLISH, "¤#0", "$", 0);
 
 const PERCENT: Percent = (ENGLISH, "#0%");
 
-/// A text, so many ones, and a text behind them.
+/// A text, that many ones, and a text behind them.
 fn with_ones(
     alloc: Global,
     (before, behind): (&str, &str),

@@ -15,7 +15,7 @@ const DOLLARS: Money = (ENGLISH, "¤#0", "$", 0);
 
 const PERCENT: Percent = (ENGLISH, "#0%");
 
-/// So many ones in groups of three, with a text before them and one behind them.
+/// That many ones in groups of three, with a text before them and one behind them.
 pub(crate) fn grouped(
     alloc: Global,
     before: &str,
@@ -33,7 +33,7 @@ pub(crate) fn grouped(
     Ok(text)
 }
 
-/// The number of so many ones.
+/// The number of that many ones.
 fn ones(alloc: Global, count: usize) -> Option<Decimal> {
     match Vec::from_elem(alloc, b'1', count) {
         Ok(digits) => Decimal::try_from_utf8(alloc, &digits).ok(),
@@ -41,7 +41,7 @@ fn ones(alloc: Global, count: usize) -> Option<Decimal> {
     }
 }
 
-/// Whether so many ones are written as this text.
+/// Whether that many ones are written as this text.
 fn are_ones<W: NumberWriter>(alloc: Global, formatter: &W, count: usize, text: &[u8]) -> bool {
     match ones(alloc, count) {
         Some(number) => {
@@ -52,7 +52,7 @@ fn are_ones<W: NumberWriter>(alloc: Global, formatter: &W, count: usize, text: &
     }
 }
 
-/// Whether a formatter was made, and so many ones are written so.
+/// Whether a formatter was made, and that many ones are written so.
 fn writes_ones<W: NumberWriter + Drop>(
     alloc: Global,
     made: Option<W>,
@@ -109,7 +109,7 @@ fn is_too_large<W: NumberWriter + Drop>(
     }
 }
 
-/// Whether a hundred times so many ones is too large, and the sink is as it was.
+/// Whether a hundred times that many ones is too large, and the sink is as it was.
 fn overflows(alloc: Global, count: usize) -> bool {
     is_too_large(alloc, percent_of(alloc, PERCENT), ones(alloc, count))
 }

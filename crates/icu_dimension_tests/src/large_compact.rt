@@ -1,4 +1,5 @@
-//! Compact money by large tables: an entry for each type, each with a longer text behind the number than the last.
+//! Compact money by large tables: an entry for each type, each with a longer text behind the number
+//! than the last.
 
 use crate::making::{ENGLISH, decimal, patterns, plain};
 use crate::writing::made_is_text;
@@ -16,7 +17,7 @@ const FIRST: u8 = 3;
 
 const LAST: u8 = 255;
 
-/// A text and so many letters behind it.
+/// A text and that many letters behind it.
 fn lettered(alloc: Global, before: &str, count: u8) -> Result<String, AllocError> {
     let mut text = String::from_str(alloc, before)?;
     for _ in 0..count {
@@ -25,7 +26,8 @@ fn lettered(alloc: Global, before: &str, count: u8) -> Result<String, AllocError
     Ok(text)
 }
 
-/// The pattern of a type: a number, a text before it, and as many letters behind it as the type is high.
+/// The pattern of a type: a number, a text before it, and as many letters behind it as the type is
+/// high.
 fn pattern_of(alloc: Global, before: &str, log10_type: u8) -> Option<Pattern<SinglePlaceholder>> {
     match lettered(alloc, before, log10_type) {
         Ok(literal) => Pattern::try_new(alloc, Some(before.len()), &literal).ok(),

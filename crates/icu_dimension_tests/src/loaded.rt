@@ -40,7 +40,7 @@ pub(crate) struct Asked {
     pub(crate) code: &'static str,
 }
 
-/// Memory was wanting.
+/// Memory ran out.
 const WANTING: DataError = DataError {
     kind: DataErrorKind::OutOfMemory,
     context: "",
@@ -74,7 +74,7 @@ fn options(asked: Asked) -> CurrencyFormatterOptions {
     options
 }
 
-/// The answer, or want of memory.
+/// The answer, or out of memory.
 fn told(text: Result<String, FormatError>) -> Result<String, DataError> {
     match text {
         Ok(text) => Ok(text),
@@ -217,7 +217,7 @@ fn writes_once(
     }
 }
 
-/// The same, asked once more where memory was wanting.
+/// The same, asked once more where memory ran out.
 pub(crate) fn writes(
     alloc: Global,
     rows: Rows,

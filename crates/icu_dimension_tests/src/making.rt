@@ -1,4 +1,4 @@
-//! Formatters of numbers and what stands around them. None is answered where memory is wanting.
+//! Formatters of numbers and what stands around them. None is answered where memory ran out.
 
 use fixed_decimal::Decimal;
 use icu_decimal::options::{CompactDecimalFormatterOptions, DecimalFormatterOptions};

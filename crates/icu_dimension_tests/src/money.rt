@@ -61,7 +61,7 @@ pub(crate) fn money_of(
     }
 }
 
-/// The amount of a text, rounded to so many digits.
+/// The amount of a text, rounded to that many digits.
 fn rounded(alloc: Global, amount: &str, digits: u8) -> Option<Decimal> {
     match decimal(alloc, amount) {
         Some(amount) => rounded_to(amount, digits).ok(),
@@ -69,7 +69,7 @@ fn rounded(alloc: Global, amount: &str, digits: u8) -> Option<Decimal> {
     }
 }
 
-/// Whether a formatter was made, and an amount, rounded to so many digits, is written so.
+/// Whether a formatter was made, and an amount, rounded to that many digits, is written so.
 fn made_writes_rounded<W: NumberWriter + Drop>(
     alloc: Global,
     made: Option<W>,
@@ -95,7 +95,7 @@ fn is_amount(
     made_writes_rounded(alloc, money_of(alloc, money), rounded, text, parts)
 }
 
-/// The same, asked once more where a refused allocation stood in the way.
+/// The same, asked once more where a failing allocation stood in the way.
 fn is_amount_written(
     alloc: Global,
     money: Money,

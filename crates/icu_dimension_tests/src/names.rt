@@ -56,7 +56,7 @@ pub(crate) fn behind(between: &'static str, name: &'static str) -> NameTexts<'st
     }
 }
 
-/// What stands around one, if it is told from others, and around all other numbers.
+/// What stands around one, if it differs from others, and around all other numbers.
 fn names_of(currency: Currency) -> (Option<NameTexts<'static>>, NameTexts<'static>) {
     match currency {
         Currency::EnglishDollars => (Some(behind(" ", "US dollar")), behind(" ", "US dollars")),

@@ -1,5 +1,6 @@
-//! Which formatters of money and of percents tell their numbers, and which are told apart; and
-//! callers that conclude from equal texts to equal amounts, proved by public clauses alone.
+//! By which formatters of money and of percents texts determine their numbers, and which are
+//! distinguished; and callers that conclude from equal texts to equal amounts, proved by public
+//! clauses alone.
 
 ghost use Rattle.std.specs.Prelude.{◌≡◌, IfSome, IsTrue};
 
@@ -15,7 +16,7 @@ use std::alloc::Global;
 use writeable::ASCII_DIGITS;
 
 /// Whether two amounts have one text: then they are equal. None if the formatter isn't readable or
-/// memory is refused.
+/// memory runs out.
 fn have_one_text(
     alloc: Global,
     money: &CurrencyFormatter<DecimalFormatter>,
@@ -41,7 +42,7 @@ fn have_one_text(
 }
 
 /// Whether amounts by two formatters have one text, which they never have. None if the formatters
-/// aren't told apart or memory is refused.
+/// aren't distinguished or memory runs out.
 fn share_a_text(
     alloc: Global,
     money: &CurrencyFormatter<DecimalFormatter>,
@@ -104,7 +105,7 @@ const HIDDEN: &[Money] = &[
     (ONE_SEPARATOR, "¤#,##0.00", "$", 2),
 ];
 
-/// Whether money is readable; none where memory is wanting.
+/// Whether money is readable; none if out of memory.
 fn is_money_readable(alloc: Global, money: Money) -> Option<bool> {
     match money_of(alloc, money) {
         Some(formatter) => Some(formatter.is_readable()),
@@ -112,7 +113,7 @@ fn is_money_readable(alloc: Global, money: Money) -> Option<bool> {
     }
 }
 
-/// Whether money answers so, asked once more where memory was wanting.
+/// Whether money answers so, asked once more where memory ran out.
 fn answers(alloc: Global, money: Money, readable: bool) -> bool {
     match is_money_readable(alloc, money) {
         Some(told) => told == readable,
@@ -143,7 +144,7 @@ const PERCENTS: &[(Percent, bool)] = &[
     ((ONE_SEPARATOR, "#,##0%"), false),
 ];
 
-/// Whether percents are readable; none where memory is wanting.
+/// Whether percents are readable; none if out of memory.
 fn are_percents_readable(alloc: Global, percent: Percent) -> Option<bool> {
     match percent_of(alloc, percent) {
         Some(formatter) => Some(formatter.is_readable()),
@@ -151,7 +152,7 @@ fn are_percents_readable(alloc: Global, percent: Percent) -> Option<bool> {
     }
 }
 
-/// The same, asked once more where memory was wanting.
+/// The same, asked once more where memory ran out.
 fn are_percents_told(alloc: Global, percent: Percent) -> Option<bool> {
     match are_percents_readable(alloc, percent) {
         Some(told) => Some(told),
@@ -166,11 +167,11 @@ fn readable_percents(rt: HostRuntime) {
     }
 }
 
-/// Two kinds of money, and whether each text tells of which it is.
+/// Two kinds of money, and whether each text shows which it is.
 const PAIRS: &[(Money, Money, bool)] = &[
     (DOLLARS, (ENGLISH, "¤#,##0.00", "US$", 2), true),
     (DOLLARS, DOLLARS, false),
-    // The texts tell the symbol, though not the sign.
+    // The texts determine the symbol, though not the sign.
     ((ENGLISH, "¤0;¤0", "$", 2), (ENGLISH, "¤0;¤0", "€", 2), true),
     // -1 of the one has the text of 1 of the other.
     (DOLLARS, (ENGLISH, "¤#,##0.00", "-$", 2), false),
@@ -191,7 +192,7 @@ const PAIRS: &[(Money, Money, bool)] = &[
     ),
 ];
 
-/// Whether two formatters are told apart; none where there aren't two.
+/// Whether two formatters are distinguished; none where there aren't two.
 fn are_told_apart(
     one: Option<CurrencyFormatter<DecimalFormatter>>,
     other: Option<CurrencyFormatter<DecimalFormatter>>,
@@ -202,12 +203,12 @@ fn are_told_apart(
     }
 }
 
-/// Whether two kinds of money are told apart; none where memory is wanting.
+/// Whether two kinds of money are distinguished; none if out of memory.
 fn is_money_told_apart(alloc: Global, one: Money, other: Money) -> Option<bool> {
     are_told_apart(money_of(alloc, one), money_of(alloc, other))
 }
 
-/// Whether two kinds of money answer so, asked once more where memory was wanting.
+/// Whether two kinds of money answer so, asked once more where memory ran out.
 fn answer_together(alloc: Global, one: Money, other: Money, apart: bool) -> bool {
     match is_money_told_apart(alloc, one, other) {
         Some(told) => told == apart,
@@ -233,7 +234,7 @@ type Writing = ([char; 10], Option<GroupingStrategy>);
 
 const PLAIN: Writing = (ASCII_DIGITS, None);
 
-/// How the numbers of two kinds of money are written, and whether these are told apart.
+/// How the numbers of two kinds of money are written, and whether these are distinguished.
 const WRITINGS: &[(Writing, Writing, bool)] = &[
     (PLAIN, PLAIN, true),
     (PLAIN, (ARABIC, None), false),
@@ -241,7 +242,7 @@ const WRITINGS: &[(Writing, Writing, bool)] = &[
     (PLAIN, (ASCII_DIGITS, Some(GroupingStrategy::Never)), false),
 ];
 
-/// Money in English with such numbers; none where memory is wanting.
+/// Money in English with such numbers; none if out of memory.
 fn written_so(
     alloc: Global,
     (digits, grouping_strategy): Writing,
@@ -258,12 +259,12 @@ fn written_so(
     }
 }
 
-/// Whether dollars and euros with such numbers are told apart; none where memory is wanting.
+/// Whether dollars and euros with such numbers are distinguished; none if out of memory.
 fn are_written_apart(alloc: Global, one: Writing, other: Writing) -> Option<bool> {
     are_told_apart(written_so(alloc, one, "$"), written_so(alloc, other, "€"))
 }
 
-/// Whether they answer so, asked once more where memory was wanting.
+/// Whether they answer so, asked once more where memory ran out.
 fn write_apart(alloc: Global, one: Writing, other: Writing, apart: bool) -> bool {
     match are_written_apart(alloc, one, other) {
         Some(told) => told == apart,
@@ -286,7 +287,7 @@ const AMOUNTS: &[(Money, &str, &str, Option<bool>)] = &[
     ((ENGLISH, "¤0;¤0", "$", 2), "1", "1", None),
 ];
 
-/// Whether two amounts have one text; none where memory is wanting, too.
+/// Whether two amounts have one text; none if out of memory, too.
 fn is_one_text(alloc: Global, money: Money, one: &str, other: &str) -> Option<bool> {
     match money_of(alloc, money).zip(decimal(alloc, one).zip(decimal(alloc, other))) {
         Some((money, (one, other))) => have_one_text(alloc, &money, &one, &other),
@@ -309,13 +310,13 @@ fn equal_texts_of_readable_money_are_of_one_amount(rt: HostRuntime) {
     }
 }
 
-/// Two kinds of money, and whether they are told apart by the texts of 1 of each.
+/// Two kinds of money, and whether they are distinguished by the texts of 1 of each.
 const TOLD: &[(Money, Money, Option<bool>)] = &[
     (DOLLARS, (ENGLISH, "¤#,##0.00", "US$", 2), Some(false)),
     (DOLLARS, DOLLARS, None),
 ];
 
-/// Whether 1 of each has one text; none where memory is wanting, too.
+/// Whether 1 of each has one text; none if out of memory, too.
 fn is_a_text_shared(alloc: Global, one: Money, other: Money) -> Option<bool> {
     let amount = decimal(alloc, "1");
     match money_of(alloc, one).zip(money_of(alloc, other).zip(amount)) {

@@ -1,4 +1,4 @@
-//! Which refusal of a provider is reported, for which systems it is asked, and the digits of
+//! Which error of a provider is reported, for which systems it is asked, and the digits of
 //! currencies that it has.
 
 use crate::loaded::{Asked, Made, writes};
@@ -9,7 +9,7 @@ use icu_dimension_data::{CurrencyCode, FractionDigits};
 use icu_provider::{DataError, DataErrorKind};
 use std::alloc::Global;
 
-/// What is refused, and what isn't found.
+/// What is rejected, and what isn't found.
 #[derive(Clone, Copy)]
 enum Lacking {
     Symbols,
@@ -58,7 +58,7 @@ const NOT_FOUND: DataError = DataError {
     context: "",
 };
 
-/// A formatter, what is lacking, and the refusal.
+/// A formatter, what is lacking, and the error.
 const REFUSED: &[(Made, Lacking, DataError)] = &[
     (Made::Standard, Lacking::Symbols, KEPT_AWAY),
     (Made::Standard, Lacking::Patterns, KEPT_AWAY),
@@ -149,7 +149,7 @@ fn digits_of(alloc: Global, code: CurrencyCode) -> Option<FractionDigits> {
     }
 }
 
-/// Whether the digits that are loaded are two for euros, asked once more where memory was wanting.
+/// Whether the digits that are loaded are two for euros, asked once more where memory ran out.
 fn are_two(alloc: Global) -> bool {
     let two = Some(FractionDigits {
         standard: 2,

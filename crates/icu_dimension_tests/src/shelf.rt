@@ -21,7 +21,7 @@ use icu_provider::{DataError, DataErrorKind, DataIdentifierBorrowed, DataProvide
 use std::alloc::Global;
 use writeable::ASCII_DIGITS;
 
-/// Which kinds of data are refused.
+/// Which kinds of data are rejected.
 #[derive(Clone, Copy)]
 pub(crate) struct Refused {
     pub(crate) symbols: bool,
@@ -32,13 +32,13 @@ pub(crate) struct Refused {
     pub(crate) error: DataError,
 }
 
-/// How data are refused.
+/// How data are rejected.
 pub(crate) const KEPT_AWAY: DataError = DataError {
     kind: DataErrorKind::Custom,
     context: "kept away",
 };
 
-/// Nothing is refused.
+/// Nothing is rejected.
 pub(crate) const NOTHING: Refused = Refused {
     symbols: false,
     patterns: false,

@@ -74,8 +74,8 @@ fn ends_so(alloc: Global, kind: Kind, limit: usize, text: &str, all: usize) -> b
     }
 }
 
-/// The texts in sinks with room for so many events: a part is opened, its characters follow, and it
-/// is closed. In the formatter's own numbers an empty affix of a sign has a part too.
+/// The texts in sinks with room for that many events: a part is opened, its characters follow, and
+/// it is closed. In the formatter's own numbers an empty affix of a sign has a part too.
 const BEGINNINGS: &[(Kind, &[&str])] = &[
     (
         Kind::Money,

@@ -83,7 +83,7 @@ impl Shelf {
         }
     }
 
-    /// The shelf of rows, with what is refused; none where memory is wanting.
+    /// The shelf of rows, with what is rejected; none if out of memory.
     pub(crate) fn made(alloc: Global, rows: Rows, refused: Refused) -> Option<Shelf> {
         let texts = spelled(alloc, &rows).zip(parsed(alloc, &rows));
         let percent = patterns(alloc, rows.numbers, rows.percent, "");

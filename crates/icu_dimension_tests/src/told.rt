@@ -1,5 +1,5 @@
-//! From two equal texts of money to what they tell: a caller of the law, proved by public clauses
-//! alone.
+//! From two equal texts of money to what they determine: a caller of the law, proved by public
+//! clauses alone.
 
 ghost use Rattle.std.specs.Prelude.{IfSome, IsTrue};
 ghost use Rattle.icu_dimension_tests.specs.OneAmount.{AreOneAmount};
@@ -12,7 +12,7 @@ use icu_dimension::CurrencyFormatter;
 use icu_dimension::laws::money_text_tells_the_symbol;
 use std::alloc::Global;
 
-/// Whether two amounts have one text: then they are one amount. None if memory is refused.
+/// Whether two amounts have one text: then they are one amount. None if memory runs out.
 fn have_one_text(
     alloc: Global,
     money: &CurrencyFormatter<DecimalFormatter>,
@@ -96,7 +96,7 @@ const UNTOLD: &[((Numbers, &str), Amount, Amount)] = &[
     ((SPACED, "¤#,##0"), ("$1", "234"), ("$", "1234")),
 ];
 
-/// Whether two amounts have one text, asked once more where memory was refused.
+/// Whether two amounts have one text, asked once more where memory ran out.
 fn share_a_text(
     alloc: Global,
     pattern: (Numbers, &'static str),

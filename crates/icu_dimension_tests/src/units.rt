@@ -38,11 +38,11 @@ pub(crate) enum Unit {
     PolishKilometres,
     EweMonths,
     ArabicDays,
-    /// Words on both sides of the number.
+    /// Letters on both sides of the number.
     JapaneseSpeed,
-    /// A word that stands beside the number.
+    /// A letter that stands beside the number.
     Celsius,
-    /// Two words, and white space at both ends of the literal.
+    /// Two names, and white space at both ends of the literal.
     LightYears,
     /// White space alone.
     Wordless,
@@ -152,8 +152,8 @@ fn the_sign_stands_beside_the_number(rt: HostRuntime) {
     }
 }
 
-/// Numbers with all their parts: white space at the ends of a literal is in none (as ICU and ECMA-402
-/// cut it).
+/// Numbers with all their parts: white space at the ends of a literal is in none (as ICU and
+/// ECMA-402 cut it).
 const MARKED: &[(Unit, &str, &str, &[(usize, usize, Part)])] = &[
     (
         Unit::EweMonths,

@@ -22,7 +22,7 @@ is_boundary-passed text k h =
           ]
     ]
 
--- a `bool` that tells whether a text may be cut at byte k equals the test
+-- a `bool` that determines whether a text may be cut at byte k equals the test
 pub is_boundary_of : (text : List ℕ) (k : ℕ) (b : Bool) → (IsTrue b ↔ IsCharBoundary text k) → b ≡ is_boundary text k
 is_boundary_of text k true h = sym (is_boundary-passed text k (h.0 refl))
 is_boundary_of text k false h = elim (cases_Bool (is_boundary text k)) [ inl t ↦ h.1 (IsCharBoundary-tested text k t) ∙ sym t | inr f ↦ sym f ]

@@ -17,6 +17,7 @@ pub trait PatternBackend: Eq {
         ensures { result ≡ accepted (record { placeholder = placeholder; literal = literal.now }) };
 
     /// An accepted placeholder is where a character of the literal begins, or at the literal's end.
+    // promise: An accepted place is where a character begins, or the end.
     ghost fits: { (p : PatternText) → IsTrue (accepted p) → PlaceholderFits p };
 
     /// Where any pattern with a placeholder is accepted, the placeholder alone is accepted too.
@@ -41,6 +42,8 @@ impl PatternBackend for SinglePlaceholder {
 
     /// Accepts no placeholder, or one where a character of the literal begins or at the literal's
     /// end.
+    // promise: Exactly a place where a character begins, or the end, fits.
+    // mutations: accepts_a_place_inside_a_character
     #[tactic(auto, using(crate::proofs::Boundaries::is_boundary_of))]
     fn accepts(placeholder: Option<usize>, literal: &str) -> bool
         ensures accepted { result

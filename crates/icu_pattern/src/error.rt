@@ -1,4 +1,4 @@
-//! Why patterns are refused.
+//! Why patterns are rejected.
 
 ghost use Rattle.std.specs.Prelude.{◌≡◌};
 ghost use Rattle.icu_pattern.specs.declared.error.PatternError.TheVariants.{OutOfMemory};

@@ -54,6 +54,8 @@ impl<P: PatternBackend, W: Writeable> Writeable for Interpolated<'_, P, W> {
 
     ghost events = { λ i. interpolated i.pattern (W.events i.value) };
 
+    // promise: The value's events stand in the literal, at the place.
+    // mutations: filled_prefix_after_the_value, filled_value_left_out
     fn write_events<K: EventWriter>(&self, out: &mut K) -> Result<(), WriteFault> {
         let literal = self.pattern.literal();
         let Some(placeholder) = self.pattern.place() else {

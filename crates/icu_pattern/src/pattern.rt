@@ -37,6 +37,8 @@ impl<P: PatternBackend> Pattern<P> {
     ghost use Rattle.icu_pattern.specs.Refs.{text_of_ref};
 
     /// The pattern with this placeholder and this literal.
+    // promise: `BadPlace` comes exactly where the backend rejects it.
+    // mutations: try_new_place_not_judged
     pub fn try_new(
         alloc: Global,
         placeholder: Option<usize>,
@@ -90,6 +92,8 @@ impl Pattern<SinglePlaceholder> {
     ghost use Rattle.icu_pattern.specs.Patterns.{placeholder_alone, interpolated};
 
     /// The pattern that is a placeholder alone: it writes a value as it is. It takes no memory.
+    // promise: The place alone writes every value as it is.
+    // mutations: pass_through_nothing
     #[tactic(auto, using(crate::proofs::Boundaries::interpolated_alone))]
     pub fn pass_through(alloc: Global) -> Self
         ensures alone { result ≡ placeholder_alone }
@@ -109,6 +113,8 @@ impl<P: PatternBackend> PartialEq for Pattern<P> {
     ghost use Rattle.icu_pattern.specs.Patterns.{same_pattern};
     ghost use Rattle.icu_pattern.specs.Backends.{same_pattern_equiv};
 
+    // promise: Patterns are equal exactly where place and literal are.
+    // mutations: eq_by_literal
     ghost eq = { same_pattern };
 
     ghost laws = { partial_equiv_from_equiv same_pattern_equiv };
@@ -157,6 +163,8 @@ impl<'a, P: PatternBackend> PatternRef<'a, P> {
     ghost use Rattle.icu_pattern.specs.Refs.{text_of_ref};
 
     /// The pattern with this placeholder in a borrowed literal. It takes no memory.
+    // promise: Nothing but a bad place keeps a literal from being lent.
+    // mutations: lent_place_not_judged, lent_any_place_refused
     pub fn try_new(placeholder: Option<usize>, literal: &'a str) -> Result<Self, PatternError>
         ensures given { IfOk result (λ p.
             text_of_ref p ≡ record { placeholder = placeholder; literal = literal.now }) }

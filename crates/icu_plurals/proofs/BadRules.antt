@@ -112,7 +112,7 @@ abbrev byte_in : RulesError → ℕ
 byte_in (BadRule r b) = b
 byte_in OutOfMemory = 0
 
--- a refusal for a rule, exactly
+-- an error for a rule, exactly
 pub refused_for_rule : {T : Type 0} (gs : List GivenRule) (x y : ℕ) → bad_rule_from 0 gs ≡ Some (x, y) → (rule byte : ℕ) →
     IsErrOf (wrong {T = T} (bad_rule x y)) (bad_rule rule byte) ↔ IsFirstBadRule gs rule byte
 refused_for_rule {T} gs x y h rule byte = (there, back)
@@ -130,12 +130,12 @@ refused_for_rule {T} gs x y h rule byte = (there, back)
         let same : some (x, y) ≡ some (rule, byte) = sym h ∙ bad_is_found gs rule byte k in
         ap (λ n. wrong (bad_rule n y)) (ap first same) ∙ ap (λ n. wrong (bad_rule rule n)) (ap second same)
 
--- where no rule is bad, no answer is a refusal for a rule
+-- where no rule is bad, no answer is an error for a rule
 pub not_refused : {T : Type 0} (gs : List GivenRule) (r : Result T RulesError) → bad_rule_from 0 gs ≡ None →
     ((rule byte : ℕ) → r ≡ Err (BadRule rule byte) → ⊥) → (rule byte : ℕ) → IsErrOf r (BadRule rule byte) ↔ IsFirstBadRule gs rule byte
 not_refused gs r h k rule byte = (λ e. absurd (k rule byte e), λ b. absurd (none_is (sym h ∙ bad_is_found gs rule byte b)))
 
--- want of memory is no refusal for a rule
+-- out of memory is no error for a rule
 pub memory_is_no_rule : {T : Type 0} (r : Result T RulesError) → IsOkUnless r OutOfMemory → (rule byte : ℕ) → r ≡ Err (BadRule rule byte) → ⊥
 memory_is_no_rule (Ok x) h rule byte e = absurd cc
 memory_is_no_rule (Err f) h rule byte e = absurd cc

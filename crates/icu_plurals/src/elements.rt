@@ -166,6 +166,8 @@ impl<T> PluralElements<T> {
 
     /// The value for all other numbers, where no other slot has a value. `get` then returns it for
     /// every number.
+    // promise: A value without others is answered, and all numbers get it.
+    // mutations: sole_few_not_seen
     pub fn sole(&self) -> Option<&T>
         ensures value { option_copied result ≡ sole_value self.now }
         ensures only { IfSome result (λ value. self.now ≡ only_other value.now) }
@@ -191,6 +193,8 @@ impl<T> PluralElements<T> {
     /// is present and the number is exactly that, written without fraction digits or an exponent;
     /// else the one for the number's plural category, if it is present; else the one for all other
     /// numbers. It takes no memory.
+    // promise: An explicit value comes first, then that of the category.
+    // mutations: get_by_the_category_other
     pub fn get(&self, operands: PluralOperands, rules: &PluralRules) -> &T
         ensures { result.now ≡ selected self.now operands (category_of rules.now operands) }
     {

@@ -15,12 +15,14 @@ pub fn turned_ranges_are_empty()
 {}
 
 /// The integer digits after the point is moved are those of the number times ten to the exponent.
+// promise: Moving the point multiplies by the power of ten.
 #[tactic(auto, using(crate::proofs::MovedPoint::moving_the_point_multiplies))]
 pub fn moving_the_point_multiplies()
     ensures { MovingThePointMultiplies }
 {}
 
 /// A number that is exactly n by its operands is the number n.
+// promise: A number that is exactly n by its operands is n.
 #[tactic(auto, using(crate::proofs::MovedPoint::exactly_is_the_number))]
 pub fn exactly_is_the_number()
     ensures { ExactlyIsTheNumber }
@@ -28,6 +30,7 @@ pub fn exactly_is_the_number()
 
 /// The slot that is selected by which slots are present holds the selected value. It is stated for
 /// values that are texts.
+// promise: The slot of a number holds the value that `get` answers.
 #[tactic(auto, using(crate::proofs::SelectedSlots::selected_slot_holds))]
 pub fn the_selected_slot_holds_the_selected_value()
     ensures { SelectedSlotHoldsTheSelected }

@@ -39,6 +39,8 @@ impl Default for PluralRulesPreferences {
 impl PluralRules {
     /// The cardinal rules that the provider has for the locale. The provider is asked once, without
     /// a numbering system and not silently.
+    // promise: The rules, or the error, are the provider's by the locale.
+    // mutations: cardinal_rules_asked_by_a_system
     pub fn try_new_cardinal_unstable<D: DataProvider<PluralsCardinalV1>>(
         alloc: Global,
         provider: &D,

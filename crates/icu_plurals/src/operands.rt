@@ -59,6 +59,8 @@ impl PluralOperands {
     /// moved `exponent` places to the right (ICU4X `from_significand_and_exponent`). The exponent
     /// is UTS 35's operand c. Leading zeros don't matter, and fraction digits after the eighteenth
     /// are ignored.
+    // promise: Operands are those of the number, its point moved.
+    // mutations: operands_exponent_lost, operands_higher_digit_not_noticed
     pub fn from_significand_and_exponent(significand: &UnsignedDecimal, exponent: u8) -> Self
         ensures { result ≡ operands_of significand.now exponent }
     {

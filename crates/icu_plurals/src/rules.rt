@@ -98,6 +98,10 @@ impl PluralRules {
     /// 3 (Plural rules syntax); the samples after it, from `@` on, are ignored. All texts are
     /// checked in order, from left to right, before memory is allocated, so a bad rule is reported
     /// even when no memory is left.
+    // promise: Rules have the given categories, and the spelled conditions.
+    // mutations: from_rules_categories_lost
+    // promise: `BadRule` has the first bad rule, and its fault's byte.
+    // mutations: from_rules_bad_rule_told_as_the_first
     pub fn from_rules(alloc: Global, rules: &[(PluralCategory, &str)]) -> Result<Self, RulesError>
         ensures read { IfOk result (λ r. AllZip IsReadFrom (given_rules rules.now) r) }
         ensures refused { (rule byte : ℕ) → IsErrOf result (RulesError.BadRule rule byte)
@@ -111,6 +115,8 @@ impl PluralRules {
 
     /// The category of a number with these operands: that of the first rule whose condition holds,
     /// or `Other` if none does. It takes no memory.
+    // promise: The first rule that holds decides; else it is `Other`.
+    // mutations: category_for_first_rule_skipped, holds_or_before_and
     pub fn category_for(&self, operands: PluralOperands) -> PluralCategory
         ensures category { result ≡ category_of self.now operands }
     {
@@ -120,6 +126,8 @@ impl PluralRules {
     /// The slot whose value `PluralElements::get` returns for a number with these operands, if
     /// exactly the slots in `present` have a value. Slots are counted from 0, as in
     /// `PluralElements::slot`. It takes no memory.
+    // promise: The slots that are present determine that of a number.
+    // mutations: slot_for_always_the_last, slot_for_two_is_few
     #[tactic(auto, using(crate::proofs::SelectedSlots::selected_slot_small))]
     pub fn slot_for(&self, operands: &PluralOperands, present: &[bool; 8]) -> u8
         requires { slice_index_or present.now 7 false ≡ true }

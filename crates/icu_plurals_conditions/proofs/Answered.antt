@@ -1,12 +1,12 @@
--- Values that are there or not, and what is read or refused, spelled without their implicit arguments.
+-- Values that are there or not, and what is read or rejected, spelled without their implicit arguments.
 use Rattle.std.proofs.Common.{◌≡◌, ℕ, Option, Some, None, Result, Ok, Err}
 use Rattle.icu_plurals_conditions.specs.Grammar.{Condition}
 
--- something, with its type told
+-- something, with its type given
 abbrev pub some : {A : Type 0} → A → Option A
 some s = Some s
 
--- none, with its type told
+-- none, with its type given
 abbrev pub none : {A : Type 0} → Option A
 none = None
 
@@ -14,7 +14,7 @@ none = None
 abbrev pub done : Condition → Result Condition ℕ
 done c = Ok c
 
--- a text that is refused at a byte
+-- a text that is rejected at a byte
 abbrev pub fault : ℕ → Result Condition ℕ
 fault b = Err b
 

@@ -71,7 +71,7 @@ text_is_read text c h = spelled_is_read (length (part_of text)) (text_tokens tex
 pub condition_is_unique : (text : List ℕ) (c d : Condition) → IsTextOf text c → IsTextOf text d → c ≡ d
 condition_is_unique text c d h k = ok_is c d (sym (text_is_read text c h) ∙ text_is_read text d k)
 
--- a refusal is the first fault
+-- an error is the first fault
 pub refused_is_fault : (text : List ℕ) (b : ℕ) → condition_of text ≡ Err b → IsTextFault text b
 unfolding condition_of
 refused_is_fault text b e = first_fault (length (part_of text)) (text_tokens text) b e

@@ -2,7 +2,7 @@
 -- The definition `written_from` goes from the end of a text: `onto` puts each byte onto what the bytes after it spell. The lexer counts from the front
 -- (`prefix_len`). The inductions over the text lead from one to the other: a run of n + 1 bytes is one byte put onto a run of n (`word_run`,
 -- `digits_run`), and where the next byte isn't of the class the run ends. For that no word and no digits may begin just behind the byte
--- (`NoRun`). The next byte alone doesn't tell, since it may be a space, which is nothing; so it is shown that what follows begins at its own
+-- (`NoRun`). The next byte alone isn't enough, since it may be a space, which is nothing; so it is shown that what follows begins at its own
 -- place or later (`From`, `written_starts`). Case splits on tests have them as variables first (`onto_from`, `onto_no_word`, `pair_no`).
 use Rattle.std.proofs.Common.{◌≡◌, ℕ, suc, ◌+◌, ◌<◌, ◌≤◌, ◌==◌, ◌&&◌, Bool, true, false, cond, List, [], ◌∷◌, take, drop}
 use Rattle.std.proofs.Common.{refl, ap, subst, ◌∙◌, arith}

@@ -22,7 +22,7 @@ use Rattle.icu_plurals_conditions.proofs.Answered.{none, none_is, done, fault}
 abbrev pub read_on : ℕ → Drafted → Placed → List Placed → Progress → Option Progress → Result Condition ℕ
 read_on end d t ts g o = elim o as (λ _. Result Condition ℕ) [ None ↦ Err t.0 | Some next ↦ reading_from end next (with_token g t.1 d) ts ]
 
--- a token that can't stand there is refused
+-- a token that can't stand there is rejected
 pub stuck : (end : ℕ) (g : Progress) (d : Drafted) (t : Placed) (ts : List Placed) → next_progress g t.1 ≡ None →
     reading_from end g d (t ∷ ts) ≡ Err t.0
 unfolding reading_from

@@ -1,6 +1,6 @@
 -- Reading a condition token by token: which tokens may follow, what was read so far, and the place of the first token that
 -- may not follow. It is proved to agree with the grammar: what is read is spelled by the text, what is spelled is read, and
--- a refusal is the first fault.
+-- an error is the first fault.
 use Rattle.std.specs.Prelude.{◌==◌, ℕ, List, [], ◌∷◌, Bool, true, false, Option, Some, None, Result, Ok, Err, length, if◌then◌else◌}
 use Rattle.icu_plurals_conditions.specs.declared.lexer.Token.{Token}
 use Rattle.icu_plurals_conditions.specs.declared.lexer.Token.TheVariants.{Letter, And, Or, Number, Percent, Equals, NotEquals, Comma, Dots}
@@ -87,7 +87,7 @@ reading end ts = reading_from end Nothing empty_draft ts
 unfoldable pub condition_of : List ℕ → Result Condition ℕ
 condition_of text = reading (length (part_of text)) (text_tokens text)
 
--- where a refused text has its first fault
+-- where a rejected text has its first fault
 abbrev pub fault_byte : Result Condition ℕ → Option ℕ
 fault_byte (Ok c) = None
 fault_byte (Err byte) = Some byte

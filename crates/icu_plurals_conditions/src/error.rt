@@ -1,4 +1,4 @@
-//! Why plural rules are refused.
+//! Why plural rules are rejected.
 ghost use Rattle.std.specs.Prelude.{◌≡◌};
 ghost use Rattle.icu_plurals_conditions.specs.declared.error.RulesError.TheVariants.{OutOfMemory};
 

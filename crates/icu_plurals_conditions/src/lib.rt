@@ -1,9 +1,9 @@
 //! Conditions of plural rules (UTS 35 Part 3, Plural rules syntax): their texts, read into small
-//! values or refused at the first fault.
+//! values or rejected at the first fault.
 //!
 //! ```
 //! let byte = first_fault("i = 1 or")?;
-//! println!(rt; "refused at byte {byte}").ok()?;
+//! println!(rt; "rejected at byte {byte}").ok()?;
 //! let text = "i = 1 and v = 0";
 //! if first_fault(text).is_some() {
 //!     return None;
@@ -12,7 +12,7 @@
 //! println!(rt; "alternatives: {}", condition.alternatives.len()).ok()
 //! ```
 //!
-//! prints `refused at byte 8` and `alternatives: 1`.
+//! prints `rejected at byte 8` and `alternatives: 1`.
 #![tactic(auto)]
 
 pub mod condition;

@@ -33,6 +33,8 @@ fn stop_in(text: &str) -> Option<usize>
 }
 
 /// The byte offset of the first fault of a text; none if the text spells a condition.
+// promise: The byte is that of the first fault, if the text has one.
+// mutations: first_fault_told_behind_the_token
 pub fn first_fault(text: &str) -> Option<usize>
     ensures found { result ≡ fault_byte (condition_of text.now) }
     ensures fault { IfSome result (λ byte. IsTextFault text.now byte) }
@@ -42,6 +44,8 @@ pub fn first_fault(text: &str) -> Option<usize>
 }
 
 /// The condition that a text spells. The text must have no fault.
+// promise: The condition is the one that the text spells.
+// mutations: read_condition_range_end_dropped
 pub fn read_condition(alloc: Global, text: &str) -> Result<Condition, RulesError>
     requires { fault_byte (condition_of text.now) ≡ None }
     ensures read { IfOk result (λ c. condition_of text.now ≡ Ok (condition_in c)) }

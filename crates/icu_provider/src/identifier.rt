@@ -47,6 +47,8 @@ impl<'a> DataIdentifierBorrowed<'a> {
     }
 
     /// Any text as the numbering system, and a locale.
+    // promise: The identifier has the numbering system and the locale.
+    // mutations: identifier_of_both_without_the_system
     pub fn for_marker_attributes_and_locale(system: &'a str, locale: &'a DataLocale) -> Self
         ensures { identifier_of result ≡ record {
           system = Some system.entry.now;

@@ -59,6 +59,8 @@ fn is_locale_text(bytes: &[u8]) -> bool
 
 impl DataLocale {
     /// The locale of this text.
+    // promise: Exactly 1 to 63 ASCII letters, digits, hyphens are accepted.
+    // mutations: locale_sixty_four_letters_accepted
     pub fn try_from_str(text: &str) -> Result<Self, BadLocale>
         ensures accepted { IsOk result ↔ IsLocale text.now }
         ensures text { IfOk result (λ locale. locale ≡ text.now) }

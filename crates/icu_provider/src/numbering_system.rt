@@ -57,6 +57,8 @@ fn is_name(bytes: &[u8]) -> bool
 
 impl NumberingSystem {
     /// The numbering system of this name.
+    // promise: Exactly 3 to 8 ASCII small letters or digits are accepted.
+    // mutations: numbering_system_two_letters_accepted
     pub fn try_from_str(text: &str) -> Result<Self, BadNumberingSystem>
         ensures accepted { IsOk result ↔ IsNumberingSystem text.now }
         ensures name { IfOk result (λ system. system ≡ text.now) }

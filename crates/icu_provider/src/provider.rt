@@ -24,6 +24,7 @@ pub trait DataProvider<M: DataMarker> {
 
     /// The data for the identifier of the request, or the error with its text. If memory runs out,
     /// the error is `OutOfMemory` without a text.
+    // promise: Provider and identifier determine the data or the error.
     fn load(&self, alloc: Global, request: &DataRequest<'_>) -> Result<M::DataStruct, DataError>
         ensures { Answers result (answer self.now (identifier_of request.now.id)) };
 }

@@ -49,7 +49,7 @@ module _ {A : Type 0} (read : Place → Data → Result A TableError) (key : Key
       rw h (regroup front x (entries_at read key (i + 1) ds)) in
       sym one ∙ so_far
 
-  -- an entry that is refused refuses the list
+  -- an entry that is rejected rejects the list
   pub fails : (e : TableError) (front : List A) (i : ℕ) (d : Data) (ds : List Data) (total : Result (List A) TableError) →
       Fails e (read (record { key = key; index = i }) d)
       → with_front front (entries_at read key i (d ∷ ds)) ≡ total → Fails e total

@@ -5,7 +5,7 @@ use Rattle.icu_provider.specs.Identifier.{Identifier}
 use Rattle.icu_provider.specs.declared.error.DataErrorKind.TheVariants.{IdentifierNotFound, MarkerNotFound}
 use Rattle.icu_table_entries.specs.Named.{NamedEntry, first_filed}
 
--- what was found, or the refusal
+-- what was found, or the error
 abbrev pub or_not_found : {A : Type 0} → Option A → Result A Refusal
 or_not_found None = refused IdentifierNotFound
 or_not_found (Some x) = Ok x

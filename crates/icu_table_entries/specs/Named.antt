@@ -16,7 +16,7 @@ pub record NamedEntry (A : Type 0) : Type 0 where
   pub identifier : Identifier
   pub content : A
 
--- the entry at a place is refused
+-- the entry at a place is rejected
 abbrev pub refused : {A : Type 0} → Place → EntryFault → Result A TableError
 refused place fault = Err (Entry place.key place.index fault)
 

@@ -11,7 +11,7 @@ use Rattle.icu_table_entries.specs.declared.error.Place.{Place}
 use Rattle.icu_table_entries.specs.declared.error.TableError.{TableError}
 use Rattle.icu_table_entries.specs.declared.error.TableError.TheVariants.{NotJson, Float, Missing, WrongKind, Entry, OutOfMemory}
 
--- goes on with what was read, unless it was refused
+-- goes on with what was read, unless it was rejected
 infixl 10 ◌>>=◌
 abbrev pub ◌>>=◌ : {A B : Type 0} → Result A TableError → (A → Result B TableError) → Result B TableError
 (Ok x) >>= f = f x
@@ -31,7 +31,7 @@ abbrev pub Gives : {X Y : Type 0} → (X → Y) → Result X TableError → Resu
 Gives view (Ok x) read = read ≡ Ok (view x)
 Gives view (Err e) read = Fails e read
 
--- what was found, or this refusal
+-- what was found, or this error
 abbrev pub ok_or : {A : Type 0} → Option A → TableError → Result A TableError
 ok_or None e = Err e
 ok_or (Some x) e = Ok x

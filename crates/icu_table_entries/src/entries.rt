@@ -34,6 +34,8 @@ pub trait EntryKind {
 }
 
 /// Each entry in turn.
+// promise: Entries are read in order; the first fault has its index.
+// mutations: refusal_without_its_index
 pub fn entries<T: EntryKind>(
     alloc: Global,
     key: Key,

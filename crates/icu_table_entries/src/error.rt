@@ -1,4 +1,4 @@
-//! Why tables are refused.
+//! Why tables are rejected.
 
 ghost use Rattle.std.specs.Prelude.{◌≡◌, Err};
 ghost use Rattle.icu_table_entries.specs.Keys.{name_of};
@@ -55,6 +55,8 @@ pub enum Key {
 
 impl Key {
     /// The key as the document spells it.
+    // promise: Each key is spelled as stated.
+    // mutations: group_key_misspelt
     pub fn name(self) -> &'static str
         ensures { result.now ≡ name_of self }
     {
@@ -111,7 +113,7 @@ impl fmt::Display for Key {
     }
 }
 
-/// Why an entry is refused, once all its fields have the right kinds.
+/// Why an entry is rejected, once all its fields have the right kinds.
 #[derive(Clone, Copy, Debug, PartialEq, Eq, Error)]
 pub enum EntryFault {
     /// The locale isn't 1 to 63 ASCII letters, digits and hyphens.
@@ -227,14 +229,14 @@ pub enum TableError {
     /// A value under the key, or a member of a list under it, has another kind, count or range.
     #[error("`{0}` has the wrong kind")]
     WrongKind(Key),
-    /// An entry of a list of the document was refused.
+    /// An entry of a list of the document was rejected.
     #[error("entry {index} of `{key}`: {fault}")]
     Entry {
         /// The key of the list.
         key: Key,
         /// The index of the entry in its list.
         index: usize,
-        /// Why it was refused.
+        /// Why it was rejected.
         fault: EntryFault,
     },
     /// Memory ran out.
@@ -266,7 +268,7 @@ pub struct Place {
 }
 
 impl Place {
-    /// The refusal of the entry for a fault.
+    /// The error of the entry for a fault.
     pub fn refusal(self, fault: EntryFault) -> TableError
         ensures { result ≡ Entry self.key self.index fault }
     {

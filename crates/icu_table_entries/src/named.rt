@@ -114,6 +114,8 @@ impl<T> Model for NamedEntry<T> {
 }
 
 /// The data of the first entry with an identifier.
+// promise: The first entry with the identifier is found.
+// mutations: another_entry_answers
 #[tactic(auto, unfolding(crate::specs::Named::first_filed))]
 pub fn first_filed<'a, T>(
     entries: &'a [NamedEntry<T>],

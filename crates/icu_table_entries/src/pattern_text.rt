@@ -58,7 +58,9 @@ fn around(
     fitting(alloc, Some(before.len()), literal.as_str())
 }
 
-/// The pattern of a text; refused if it has more than one placeholder.
+/// The pattern of a text; rejected if it has more than one placeholder.
+// promise: A text with two places is rejected.
+// mutations: second_place_let_through
 #[tactic(auto, unfolding(crate::specs::Spelling::pattern_of))]
 pub fn pattern_of(
     alloc: Global,

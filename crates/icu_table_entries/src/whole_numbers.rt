@@ -47,6 +47,8 @@ fn members_have_float(members: &Map<String, Value>) -> bool
 }
 
 /// The value of a JSON text whose numbers are all 64-bit whole numbers.
+// promise: JSON is read, but for numbers that aren't 64-bit integers.
+// mutations: float_let_through, memory_told_as_not_json
 #[tactic(auto, unfolding(crate::specs::Reading::value_of))]
 pub fn value_of(alloc: Global, text: &str) -> Result<Value, TableError>
     ensures { Gives view result (value_of text.now) }

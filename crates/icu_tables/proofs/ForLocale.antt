@@ -105,7 +105,7 @@ module _ {A : Type 0} (read : Place → Data → Result A TableError) (serves : 
 
 -- ---- members
 
--- texts that a test tells apart
+-- texts that a test distinguishes
 pub apart : (a b : List ℕ) → pointwise nat_eq a b ≡ false → a ≡ b → ⊥
 apart a b tells same = true≢false (sym (nat_list_eq_equiv.refl a) ∙ ap (λ x. pointwise nat_eq a x) same ∙ tells)
 

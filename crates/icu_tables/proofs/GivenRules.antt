@@ -44,7 +44,7 @@ bad_from place k (g ∷ gs) (suc rule) byte bad before found h =
     ∙ ap (λ x. rule_then place k g (Ok before.0.0) x) rest
     ∙ ap (λ x. refused place (BadRule x byte)) m
 
--- the first rule that isn't in the grammar is told
+-- the first rule that isn't in the grammar is reported
 pub first_bad : (place : Place) (gs : List GivenRule) (rule byte : ℕ) → IsFirstBadRule gs rule byte →
     rules_from place 0 gs ≡ refused place (BadRule rule byte)
 first_bad place gs rule byte h =

@@ -95,7 +95,7 @@ made_goes_on place front e es v total h so_far =
     rw h (regroup front (entry_with e v) (entries_of place es)) in
     sym one ∙ so_far
 
--- an entry that is refused refuses all
+-- an entry that is rejected rejects all
 pub made_fails : (fault : TableError) (place : Place) (front : List TableEntry) (e : GivenEntry) (es : List GivenEntry)
     (total : Result (List TableEntry) TableError)
     → Fails fault (patterns_of place e.texts) → with_front front (entries_of place (e ∷ es)) ≡ total → Fails fault total

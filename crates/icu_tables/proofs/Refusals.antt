@@ -31,7 +31,7 @@ module _ (place : Place) (zero : Option PatternElements) (entries : List TableEn
   refused_by fault None refused other = let same : fault ≡ OutOfMemory = cc in absurd (other same)
   refused_by fault (Some f) refused other = let same : f ≡ fault = cc in ap (compact_refusal place) same
 
-  -- a table is refused as the object says, but for want of memory
+  -- a table is rejected as the object says, but because memory ran out
   pub table_refused : (fault : CompactError)
       → MatchOption (fault_of zero entries) (IsOkUnless {T = List TableEntry} (Err fault) OutOfMemory) (λ f. IsErrOf {T = List TableEntry} (Err fault) f)
       → (fault ≡ OutOfMemory → ⊥) → table_of_entries place zero entries ≡ compact_refusal place fault

@@ -18,7 +18,7 @@ entries_go_on front before d ds x total h so_far =
     rw h (regroup front x (given_entries_in (Some x.log10_type) ds)) in
     sym one ∙ so_far
 
--- an entry that is refused refuses the list
+-- an entry that is rejected rejects the list
 pub entries_fail : (e : TableError) (front : List GivenEntry) (before : Option ℕ) (d : Data) (ds : List Data) (total : Result (List GivenEntry) TableError)
     → Fails e (given_entry_in before d) → with_front front (given_entries_in before (d ∷ ds)) ≡ total → Fails e total
 unfolding given_entries_in

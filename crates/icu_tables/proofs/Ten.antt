@@ -17,7 +17,7 @@ ten_taken key text xs ys e h =
     let n : length (chars text) ≡ 10 = rw (← e) h.long in
     let k : eqb (length (chars text)) 10 ≡ true = rw n refl in rw (k, h.same, e) refl
 
--- another count than ten is refused
+-- another count than ten is rejected
 pub ten_refused : (key : Key) (text xs : List ℕ) → xs ≡ chars text → (length xs ≡ 10 → ⊥) → ten_in key text ≡ Err (WrongKind key)
 unfolding ten_in
 ten_refused key text xs e h = let k : eqb (length (chars text)) 10 ≡ false = not_ten (length (chars text)) (rw e at h) in rw k refl

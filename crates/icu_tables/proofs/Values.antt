@@ -25,6 +25,6 @@ pub tables_by_value : (text : List ℕ) → tables_of text ≡ (value_of text >>
 unfolding tables_of value_of
 tables_by_value text = of_value (read text)
 
--- where the value is refused, the tables are
+-- where the value is rejected, the tables are
 pub value_refused : (e : TableError) (text : List ℕ) → Fails e (value_of text) → Fails e (tables_of text)
 value_refused e text h = rw (tables_by_value text) (failed e (value_of text) tables_at h)

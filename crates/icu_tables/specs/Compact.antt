@@ -72,7 +72,7 @@ entries_of place (e ∷ es) = do
   rest ← entries_of place es
   Ok (record { log10_type = e.log10_type; exponent = e.exponent; elements = elements } ∷ rest)
 
--- how a table is refused that `CompactPatterns::new` refuses
+-- how a table is rejected that `CompactPatterns::new` rejects
 abbrev pub compact_refusal : {A : Type 0} → Place → CompactError → Result A TableError
 compact_refusal place compact.ExponentsFall = refused place ExponentsFall
 compact_refusal place compact.ExponentAboveType = refused place ExponentAboveType
@@ -85,7 +85,7 @@ abbrev pub kept_or_refused : Place → Option PatternElements → List TableEntr
 kept_or_refused place zero entries None = Ok (kept zero entries)
 kept_or_refused place zero entries (Some fault) = compact_refusal place fault
 
--- the table of entries, or its refusal
+-- the table of entries, or its error
 unfoldable pub table_of_entries : Place → Option PatternElements → List TableEntry → Result (List TableEntry) TableError
 table_of_entries place zero entries = kept_or_refused place zero entries (fault_of zero entries)
 

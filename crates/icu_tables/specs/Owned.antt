@@ -10,7 +10,7 @@ use Rattle.serde_json.specs.Written.{has_float, items_have_float, members_have_f
 abbrev pub IsValue : ℕ → List Token → Data → List Token → Type 0
 IsValue depth ts d rest = (converted of_json (json.value depth ts) ≡ Some (d, rest)) × (has_float d ≡ false)
 
--- so many items at most up to the bracket that closes their list, and what stands behind it
+-- that many items at most up to the bracket that closes their list, and what stands behind it
 abbrev pub AreItemsWithin : ℕ → ℕ → List Token → Items → List Token → Type 0
 AreItemsWithin most depth ts ds rest =
     (converted of_items (json.items (json.value depth) most ts) ≡ Some (ds, rest)) × (items_have_float ds ≡ false)
@@ -19,7 +19,7 @@ AreItemsWithin most depth ts ds rest =
 abbrev pub AreItems : ℕ → List Token → Items → List Token → Type 0
 AreItems depth ts ds rest = AreItemsWithin (length ts) depth ts ds rest
 
--- so many members at most up to the brace that closes their object, put to others
+-- that many members at most up to the brace that closes their object, put to others
 abbrev pub members_onto : ℕ → ℕ → List Token → Members → Option (Members × List Token)
 members_onto most depth ts before = converted (λ ms. of_members ms before) (json.members (json.value depth) most ts)
 

@@ -213,6 +213,8 @@ impl EntryKind for CompactEntry {
 /// whole number; `WrongKind` of the document, if the value is no object; wrong kinds in the object;
 /// faults of its patterns; faults of the table, which [`CompactPatterns::new`] finds. The last two
 /// are reported for entry 0 of the document.
+// promise: The value determines a compact table, or its first fault.
+// mutations: float_in_a_table_let_through
 #[tactic(auto, unfolding(crate::specs::Compact::compact_in))]
 pub fn compact_from_value(
     alloc: Global,

@@ -159,7 +159,7 @@ fn document(alloc: Global, locale: &DataLocale, text: &str) -> Result<Found, Unr
     Ok(found)
 }
 
-/// The tables of a text, if nothing in it is refused or rare.
+/// The tables of a text, if nothing in it is rejected or rare.
 fn tables(alloc: Global, locale: &DataLocale, text: &str) -> Result<Tables, Unread>
     ensures { IfOk result (λ t. IsFor locale.now t (tables_of text.now)) }
 {
@@ -182,10 +182,14 @@ impl Tables {
     /// The tables of a JSON text for one locale, or the first fault of the text (this project's
     /// own).
     ///
-    /// The whole text is judged, as by [`Tables::from_json`]: the same texts are refused, for the
+    /// The whole text is judged, as by [`Tables::from_json`]: the same texts are rejected, for the
     /// same faults. For each identifier of the locale the tables answer what those of the whole
     /// text answer, and for digits in any locale. What they answer in other locales isn't
     /// specified: unless the text has something rare, entries of other locales aren't kept.
+    // promise: Its tables answer for the locale as all tables do.
+    // mutations: for_locale_keeps_the_others
+    // promise: The same texts are rejected, by the same first fault.
+    // mutations: for_locale_refuses_what_is_rare
     pub fn from_json_for_locale(
         alloc: Global,
         text: &str,

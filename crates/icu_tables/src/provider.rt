@@ -88,6 +88,8 @@ impl DataProvider<DecimalSymbolsV1> for Tables {
 
     /// A copy of the first entry of `symbols` with the identifier's locale and numbering system, or
     /// none.
+    // promise: Symbols are those of the first entry that matches.
+    // mutations: another_entry_answers
     fn load(&self, alloc: Global, request: &DataRequest<'_>) -> Result<DecimalSymbols, DataError> {
         load_filed(alloc, &self.symbols, &request.id)
     }
@@ -130,6 +132,8 @@ impl DataProvider<DecimalCompactShortV1> for Tables {
 
     /// A copy of the first entry of `short` with the identifier's locale and numbering system, or
     /// none.
+    // promise: Without the key each identifier gets `MarkerNotFound`.
+    // mutations: absent_key_told_as_no_entry, short_answered_by_long
     fn load(
         &self,
         alloc: Global,

@@ -65,11 +65,13 @@ fn tables_at(alloc: Global, value: &Value) -> Result<Tables, TableError>
 impl Tables {
     /// The tables of a JSON text, or its first fault.
     ///
-    /// A text that isn't JSON is refused first, then a value that has a number anywhere that isn't
+    /// A text that isn't JSON is rejected first, then a value that has a number anywhere that isn't
     /// a 64-bit whole number. Then keys are judged in the order `symbols`, `digits`, `rules`,
     /// `short`, `long`, and each list entry by entry. In an entry the kinds of all fields are
     /// judged before their contents. Unknown keys are ignored, and of equal keys the last one
     /// counts.
+    // promise: The text determines the tables, or the first fault.
+    // mutations: locale_judged_before_kinds
     pub fn from_json(alloc: Global, text: &str) -> Result<Tables, TableError>
         ensures { Gives (λ x. x) result (tables_of text.now) }
     {

@@ -17,7 +17,7 @@ use std::alloc::{AllocError, AllocFailed, Global};
 pub enum Unread {
     /// Memory ran out.
     OutOfMemory,
-    /// It has something rare or refused: the caller reads it as a whole.
+    /// It has something rare or rejected: the caller reads it as a whole.
     Other,
 }
 

@@ -118,7 +118,7 @@ fn answer_once(
     }
 }
 
-/// The same, asked once more where memory was wanting.
+/// The same, asked once more where memory ran out.
 pub(crate) fn answer(
     alloc: Global,
     text: &str,
@@ -133,7 +133,7 @@ pub(crate) fn answer(
     }
 }
 
-/// Refusals of the tables, which have no context.
+/// Errors of the tables, which have no context.
 const MISSING: Result<char, DataError> = Err(DataError {
     kind: DataErrorKind::IdentifierNotFound,
     context: "",

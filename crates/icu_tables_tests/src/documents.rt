@@ -1,10 +1,10 @@
-//! Documents that are refused, and values that make tables.
+//! Documents that are rejected, and values that make tables.
 
 use icu_tables::{EntryFault, Key, TableError, Tables, compact_from_value};
 use serde_json::Value;
 use std::alloc::Global;
 
-/// Why a text is refused; none where it isn't.
+/// Why a text is rejected; none where it isn't.
 fn refusal_once(alloc: Global, text: &str) -> Option<TableError> {
     match Tables::from_json(alloc, text) {
         Ok(_) => None,
@@ -12,7 +12,7 @@ fn refusal_once(alloc: Global, text: &str) -> Option<TableError> {
     }
 }
 
-/// The same, asked once more where memory was wanting.
+/// The same, asked once more where memory ran out.
 pub(crate) fn refusal(alloc: Global, text: &str) -> Option<TableError> {
     match refusal_once(alloc, text) {
         Some(TableError::OutOfMemory) => refusal_once(alloc, text),
@@ -183,7 +183,7 @@ const KEYS: &[(Key, &str)] = &[
     (Key::ExplicitOne, "explicit_one"),
 ];
 
-/// Whether a key is named and displayed so; the text is made once more where memory was refused.
+/// Whether a key is named and displayed so; the text is made once more where memory ran out.
 fn is_named(alloc: Global, key: Key, want: &str) -> bool {
     let is_displayed = match key.to_string(alloc) {
         Ok(text) => text.as_str() == want,
@@ -213,7 +213,7 @@ fn entries_once(alloc: Global, text: &str) -> Result<usize, TableError> {
     }
 }
 
-/// The same, asked once more where memory was wanting.
+/// The same, asked once more where memory ran out.
 pub(crate) fn entries(alloc: Global, text: &str) -> Result<usize, TableError> {
     match entries_once(alloc, text) {
         Err(TableError::OutOfMemory) => entries_once(alloc, text),

@@ -1,4 +1,4 @@
-//! Tables that are read for one locale: what they answer, and which texts are refused.
+//! Tables that are read for one locale: what they answer, and which texts are rejected.
 
 use crate::answers::{Asked, told_for};
 use crate::documents::REFUSED;
@@ -12,7 +12,7 @@ fn tables(alloc: Global, text: &str, locale: &str) -> Result<Tables, TableError>
     Tables::from_json_for_locale(alloc, text, &locale)
 }
 
-/// What is told of an answer of these tables, by their locale and a system or none.
+/// What is asked of an answer of these tables, by their locale and a system or none.
 fn answer_once(
     alloc: Global,
     text: &str,
@@ -25,7 +25,7 @@ fn answer_once(
     }
 }
 
-/// The same, asked once more where memory was wanting.
+/// The same, asked once more where memory ran out.
 pub(crate) fn answer(
     alloc: Global,
     text: &str,
@@ -82,7 +82,7 @@ fn the_locale_is_answered_as_by_all_tables(rt: HostRuntime) {
     }
 }
 
-/// Why a text is refused for a locale; none where it isn't.
+/// Why a text is rejected for a locale; none where it isn't.
 fn refusal_once(alloc: Global, text: &str) -> Option<TableError> {
     match tables(alloc, text, "en") {
         Ok(_) => None,
@@ -90,7 +90,7 @@ fn refusal_once(alloc: Global, text: &str) -> Option<TableError> {
     }
 }
 
-/// The same, asked once more where memory was wanting.
+/// The same, asked once more where memory ran out.
 fn refusal(alloc: Global, text: &str) -> Option<TableError> {
     match refusal_once(alloc, text) {
         Some(TableError::OutOfMemory) => refusal_once(alloc, text),

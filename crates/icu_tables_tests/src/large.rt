@@ -7,7 +7,7 @@ use icu_tables::{EntryFault, Key, TableError};
 use std::alloc::{AllocError, Global};
 use std::str;
 
-/// A text, the same letter so many times, and a text.
+/// A text, the same letter that many times, and a text.
 fn around_once(
     alloc: Global,
     before: &str,
@@ -23,7 +23,7 @@ fn around_once(
     Ok(bytes)
 }
 
-/// The same, made once more where memory was refused.
+/// The same, made once more where memory ran out.
 fn around(
     alloc: Global,
     (before, behind): (&str, &str),
@@ -55,7 +55,7 @@ const SYMBOLS: Around = (
     "\",\"numsys\":\"latn\",\"sizes\":[3,3,1]}],\"digits\":[]}",
 );
 
-/// Whether what is asked of a document with so many letters is answered by a character.
+/// Whether what is asked of a document with that many letters is answered by a character.
 fn answers_letters(alloc: Global, asked: Asked, given: Around, letters: usize, want: char) -> bool {
     match around(alloc, given, letters) {
         Ok(bytes) => {
@@ -83,7 +83,7 @@ fn as_many_bytes_as_there_may_be_are_kept(rt: HostRuntime) {
     }
 }
 
-/// Whether a document with so many letters is refused so.
+/// Whether a document with that many letters is rejected so.
 fn refuses_letters(alloc: Global, given: Around, letters: usize, want: TableError) -> bool {
     match around(alloc, given, letters) {
         Ok(bytes) => {
@@ -94,7 +94,7 @@ fn refuses_letters(alloc: Global, given: Around, letters: usize, want: TableErro
     }
 }
 
-/// A document, its letters, and the entry that is refused, with its fault.
+/// A document, its letters, and the entry that is rejected, with its fault.
 const TOO_LARGE: &[(Around, usize, Key, EntryFault)] = &[
     (SHORT, 65536, Key::Short, EntryFault::PatternsTooLarge),
     (LONG, 65536, Key::Long, EntryFault::PatternsTooLarge),
@@ -132,7 +132,7 @@ fn push_number(text: &mut Vec<u8>, number: usize) -> Result<(), AllocError> {
 /// list.
 type List = (&'static str, &'static str, &'static str, &'static str);
 
-/// Puts a list of so many entries behind a text.
+/// Puts a list of that many entries behind a text.
 fn push_list(text: &mut Vec<u8>, list: &List, count: usize) -> Result<(), AllocError> {
     text.extend_from_slice(list.0.as_bytes())?;
     for number in 0..count {
@@ -146,7 +146,7 @@ fn push_list(text: &mut Vec<u8>, list: &List, count: usize) -> Result<(), AllocE
     text.extend_from_slice(list.3.as_bytes())
 }
 
-/// The text of lists with so many entries each.
+/// The text of lists with that many entries each.
 fn lists_once(alloc: Global, lists: &[List], count: usize) -> Result<Vec<u8>, AllocError> {
     let mut text = Vec::new(alloc);
     for list in lists {
@@ -155,7 +155,7 @@ fn lists_once(alloc: Global, lists: &[List], count: usize) -> Result<Vec<u8>, Al
     Ok(text)
 }
 
-/// The same, made once more where memory was refused.
+/// The same, made once more where memory ran out.
 fn lists(alloc: Global, given: &[List], count: usize) -> Result<Vec<u8>, AllocError> {
     match lists_once(alloc, given, count) {
         Ok(text) => Ok(text),
@@ -264,7 +264,7 @@ fn types_once(alloc: Global) -> Result<Vec<u8>, AllocError> {
     Ok(text)
 }
 
-/// The same, made once more where memory was refused.
+/// The same, made once more where memory ran out.
 fn types(alloc: Global) -> Result<Vec<u8>, AllocError> {
     match types_once(alloc) {
         Ok(text) => Ok(text),
@@ -272,7 +272,7 @@ fn types(alloc: Global) -> Result<Vec<u8>, AllocError> {
     }
 }
 
-/// Whether the table of every type keeps so many.
+/// Whether the table of every type keeps that many.
 fn keeps_types(alloc: Global, count: usize) -> bool {
     match types(alloc) {
         Ok(bytes) => {

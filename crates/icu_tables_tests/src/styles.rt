@@ -21,7 +21,7 @@ fn is_styled_once<T: Display>(alloc: Global, value: &T, want: &str) -> bool {
         && is_text(format!(in alloc; "{value:#}"), want)
 }
 
-/// The same, asked once more where memory was refused.
+/// The same, asked once more where memory ran out.
 fn is_styled<T: Display>(alloc: Global, value: &T, want: &str) -> bool {
     is_styled_once(alloc, value, want) || is_styled_once(alloc, value, want)
 }
@@ -95,7 +95,7 @@ fn displays_errors_under_every_style(rt: HostRuntime) {
     }
 }
 
-/// A refusal that has all parts.
+/// An error that has all parts.
 const REFUSED: TableError = TableError::Entry {
     key: Key::Rules,
     index: 3,

@@ -61,6 +61,10 @@ impl<F: AbstractFormatter> UnitFormatter<F> {
     /// `OutOfMemory` the sink is unchanged. `Sink` only where the sink failed in this call, and it
     /// then holds a beginning of the events besides. `Overflow` exactly where the formatter
     /// overflows.
+    // promise: The sign stands around the pattern that operands pick.
+    // mutations: plural_of_the_input, sign_inside_the_pattern
+    // promise: Of units `Overflow` comes exactly where the number's does.
+    // mutations: overflow_called_memory
     pub fn write<S: PartsWrite>(
         &self,
         alloc: Global,

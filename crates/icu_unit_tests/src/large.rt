@@ -6,7 +6,7 @@ use fixed_decimal::Decimal;
 use std::alloc::{AllocError, Global};
 use std::str;
 
-/// The same digit so many times, made once more where memory was refused.
+/// The same digit that many times, made once more where memory ran out.
 fn digits(alloc: Global, digit: u8, count: usize) -> Result<Vec<u8>, AllocError> {
     match Vec::from_elem(alloc, digit, count) {
         Ok(digits) => Ok(digits),
@@ -14,7 +14,7 @@ fn digits(alloc: Global, digit: u8, count: usize) -> Result<Vec<u8>, AllocError>
     }
 }
 
-/// The number of so many equal digits, read once more where memory was refused.
+/// The number of that many equal digits, read once more where memory ran out.
 fn number(alloc: Global, digit: u8, count: usize) -> Option<Decimal> {
     match digits(alloc, digit, count) {
         Ok(digits) => match Decimal::try_from_utf8(alloc, &digits) {
@@ -25,7 +25,7 @@ fn number(alloc: Global, digit: u8, count: usize) -> Option<Decimal> {
     }
 }
 
-/// So many equal digits in groups of three, and a text behind them.
+/// That many equal digits in groups of three, and a text behind them.
 fn grouped_once(
     alloc: Global,
     (digit, count): (u8, usize),
@@ -42,7 +42,7 @@ fn grouped_once(
     Ok(grouped)
 }
 
-/// The same, made once more where memory was refused.
+/// The same, made once more where memory ran out.
 fn grouped(alloc: Global, shown: (u8, usize), behind: &str) -> Result<Vec<u8>, AllocError> {
     match grouped_once(alloc, shown, behind) {
         Ok(text) => Ok(text),
@@ -50,8 +50,8 @@ fn grouped(alloc: Global, shown: (u8, usize), behind: &str) -> Result<Vec<u8>, A
     }
 }
 
-/// Whether a unit writes a number of so many equal digits as these digits in groups, and this text
-/// behind them.
+/// Whether a unit writes a number of that many equal digits as these digits in groups, and this
+/// text behind them.
 fn writes_grouped(
     alloc: Global,
     unit: Unit,

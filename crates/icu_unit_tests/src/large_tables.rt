@@ -65,7 +65,7 @@ fn document_once(alloc: Global) -> Result<Vec<u8>, AllocError> {
     Ok(text)
 }
 
-/// The document, made once more where memory was refused.
+/// The document, made once more where memory ran out.
 fn document(alloc: Global) -> Result<Vec<u8>, AllocError> {
     match document_once(alloc) {
         Ok(text) => Ok(text),
@@ -73,7 +73,7 @@ fn document(alloc: Global) -> Result<Vec<u8>, AllocError> {
     }
 }
 
-/// The tables of the document, read once more where memory was refused.
+/// The tables of the document, read once more where memory ran out.
 fn tables(alloc: Global) -> Option<Tables> {
     match document(alloc) {
         Ok(bytes) => {
@@ -101,7 +101,7 @@ fn writes_once(alloc: Global, tables: &Tables, style: Style, number: &str, want:
     }
 }
 
-/// The same, once more where a refused allocation stood in the way.
+/// The same, once more where a failing allocation stood in the way.
 fn writes(alloc: Global, style: Style, number: &str, want: &str) -> bool {
     match tables(alloc) {
         Some(tables) => {
@@ -149,7 +149,7 @@ fn writes_plain_once(alloc: Global, tables: &Tables) -> bool {
     }
 }
 
-/// The same, once more where a refused allocation stood in the way.
+/// The same, once more where a failing allocation stood in the way.
 fn writes_plain(alloc: Global) -> bool {
     match tables(alloc) {
         Some(tables) => writes_plain_once(alloc, &tables) || writes_plain_once(alloc, &tables),

@@ -11,7 +11,7 @@ use sample_tables::SAMPLE;
 use std::alloc::Global;
 use std::fmt::Display;
 
-/// Words for ten thousand from a hundred thousand on, for a hundred thousand from a million on, and
+/// Names for ten thousand from a hundred thousand on, for a hundred thousand from a million on, and
 /// for thousands of millions from ten thousand millions on.
 const CARRYING: &str = "{\"symbols\":[\
 {\"locale\":\"words\",\"minus\":[\"-\",\"\"],\"plus\":[\"+\",\"\"],\"decimal\":\".\",\"group\":\",\",\"numsys\":\"latn\",\"sizes\":[3,3,1]},\
@@ -35,7 +35,7 @@ pub(crate) enum Style {
 /// A style and a locale.
 pub(crate) type Asked = (Style, &'static str);
 
-/// The compact formatter of a style by tables; none where memory is wanting.
+/// The compact formatter of a style by tables; none if out of memory.
 pub(crate) fn compact_by(
     alloc: Global,
     tables: &Tables,
@@ -55,7 +55,7 @@ pub(crate) fn compact_by(
     made.ok()
 }
 
-/// The compact formatter that is asked for; none where memory is wanting.
+/// The compact formatter that is asked for; none if out of memory.
 pub(crate) fn compact(alloc: Global, asked: Asked) -> Option<CompactDecimalFormatter> {
     let document = match asked.0 {
         Style::Carrying => CARRYING,
@@ -67,7 +67,7 @@ pub(crate) fn compact(alloc: Global, asked: Asked) -> Option<CompactDecimalForma
     }
 }
 
-/// The plain formatter of a locale by tables; none where memory is wanting.
+/// The plain formatter of a locale by tables; none if out of memory.
 pub(crate) fn plain_by(alloc: Global, tables: &Tables, locale: &str) -> Option<DecimalFormatter> {
     let prefs = DecimalFormatterPreferences {
         locale_preferences: DataLocale::try_from_str(locale).unwrap_or_default(),
@@ -96,7 +96,7 @@ fn writes_once(alloc: Global, asked: Asked, number: &str, want: &str) -> bool {
     }
 }
 
-/// The same, once more where a refused allocation stood in the way.
+/// The same, once more where a failing allocation stood in the way.
 fn writes(alloc: Global, asked: Asked, number: &str, want: &str) -> bool {
     writes_once(alloc, asked, number, want) || writes_once(alloc, asked, number, want)
 }
@@ -109,7 +109,7 @@ fn is_displayed<T: Display>(alloc: Global, value: &T, want: &str) -> bool {
     }
 }
 
-/// Whether a significand with an exponent, or its refusal, is written so.
+/// Whether a significand with an exponent, or its error, is written so.
 fn is_given(
     alloc: Global,
     formatter: &CompactDecimalFormatter,
@@ -132,7 +132,7 @@ fn gives_once(alloc: Global, asked: Asked, given: (&str, u8), wanted: (bool, &st
     }
 }
 
-/// The same, once more where a refused allocation stood in the way.
+/// The same, once more where a failing allocation stood in the way.
 fn gives(alloc: Global, asked: Asked, given: (&str, u8), wanted: (bool, &str)) -> bool {
     gives_once(alloc, asked, given, wanted) || gives_once(alloc, asked, given, wanted)
 }
@@ -184,7 +184,7 @@ fn a_carry_takes_what_stands_at_the_magnitude_reached(rt: HostRuntime) {
 }
 
 /// A significand, an exponent, whether both are accepted, and what is written of them or of the
-/// refusal.
+/// error.
 const GIVEN: &[(Asked, &str, u8, bool, &str)] = &[
     (SHORT_ENGLISH, "999", 3, true, "999K"),
     (SHORT_ENGLISH, "0", 3, true, "0K"),
@@ -236,7 +236,7 @@ fn a_significand_needs_the_exponent_of_its_magnitude(rt: HostRuntime) {
     }
 }
 
-/// The exponent of a magnitude; asked once more where a refused allocation stood in the way.
+/// The exponent of a magnitude; asked once more where a failing allocation stood in the way.
 fn exponent_at(alloc: Global, asked: Asked, magnitude: i16) -> Option<u8> {
     match compact(alloc, asked) {
         Some(formatter) => Some(formatter.compact_exponent_for_magnitude(magnitude)),

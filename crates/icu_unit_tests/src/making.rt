@@ -1,4 +1,4 @@
-//! Units over the formatters that the tests are made with. None where memory is refused.
+//! Units over the formatters that the tests are made with. None where memory runs out.
 
 use icu_decimal::options::{CompactDecimalFormatterOptions, DecimalFormatterOptions};
 use icu_decimal::preferences::{CompactDecimalFormatterPreferences, DecimalFormatterPreferences};

@@ -32,7 +32,7 @@ fn marks_plain_once(
     }
 }
 
-/// The same, once more where a refused allocation stood in the way.
+/// The same, once more where a failing allocation stood in the way.
 fn marks_plain(alloc: Global, locale: &str, shown: Shown, want: Marked) -> bool {
     marks_plain_once(alloc, locale, shown, want) || marks_plain_once(alloc, locale, shown, want)
 }
@@ -125,7 +125,7 @@ fn marks_once(alloc: Global, asked: Asked, (number, display): Shown, want: Marke
     }
 }
 
-/// The same, once more where a refused allocation stood in the way.
+/// The same, once more where a failing allocation stood in the way.
 fn marks(alloc: Global, asked: Asked, shown: Shown, want: Marked) -> bool {
     marks_once(alloc, asked, shown, want) || marks_once(alloc, asked, shown, want)
 }
@@ -176,7 +176,7 @@ fn marks_given_once(alloc: Global, want: Marked) -> bool {
     }
 }
 
-/// The same, once more where a refused allocation stood in the way.
+/// The same, once more where a failing allocation stood in the way.
 fn marks_given(alloc: Global, want: Marked) -> bool {
     marks_given_once(alloc, want) || marks_given_once(alloc, want)
 }

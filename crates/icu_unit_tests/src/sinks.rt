@@ -8,8 +8,8 @@ use writeable::Part;
 
 const MINUS: &[(usize, usize, Part)] = &[(0, 1, MINUS_SIGN)];
 
-/// The text of -1.5 metres in sinks with room for so many events, for each number that is less than
-/// all. A part that isn't closed has no span.
+/// The text of -1.5 metres in sinks with room for that many events, for each number that is less
+/// than all. A part that isn't closed has no span.
 const PLAIN_BEGINNINGS: &[(&str, &[(usize, usize, Part)])] = &[
     ("", &[]),
     ("", &[]),
@@ -39,7 +39,7 @@ fn a_full_sink_holds_a_beginning(rt: HostRuntime) {
     }
 }
 
-/// The text of 1000 metres, shortened, after so many events.
+/// The text of 1000 metres, shortened, after that many events.
 const SHORT_BEGINNINGS: &[&str] = &[
     "", "1", "1K", "1K ", "1K m", "1K me", "1K met", "1K mete", "1K meter",
 ];

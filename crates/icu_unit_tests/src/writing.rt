@@ -1,5 +1,5 @@
-//! What units are written into, and whether that is as wanted. What was refused memory is asked
-//! once more.
+//! What units are written into, and whether that is as wanted. A call whose allocation failed is
+//! made once more.
 
 use crate::making::{Language, Name, compact, plain};
 use fixed_decimal::Decimal;
@@ -75,7 +75,7 @@ fn is_written_by(
     }
 }
 
-/// Whether a unit writes a decimal so; once more where a refused allocation stood in the way.
+/// Whether a unit writes a decimal so; once more where a failing allocation stood in the way.
 pub(crate) fn writes_decimal(
     alloc: Global,
     unit: Unit,

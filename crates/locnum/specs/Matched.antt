@@ -1,34 +1,31 @@
--- What the options of the command line are, by what `clap` found among the words.
-use Rattle.std.specs.Prelude.{◌≡◌, List, ℕ, Bool, true, false, Option, Some, None, option_map, codes}
-use Rattle.clap.specs.Matches.{first_value, found_of, one_text}
-use Rattle.clap.specs.declared.parser.matches.ArgMatches.{ArgMatches}
-use Rattle.locnum_options.specs.Given.{GivenData}
+-- Which options are given, by what `clap` found among the arguments.
+use Rattle.std.specs.Prelude.{ℕ, List, [], ◌∷◌, Option, Some, None, map, codes, nat_eq, if◌then◌else◌}
+use Rattle.std.specs.Cmp.Lexicographic.{pointwise}
+use Rattle.std.specs.Borrow.{Bor}
+use Rattle.clap.specs.Matches.{first_value}
+use Rattle.clap.specs.declared.parser.matches.Found.{Found}
+use Rattle.locnum.specs.declared.options.OptionEntry.{OptionEntry}
+use Rattle.locnum.specs.declared.options.Takes.{Takes}
+use Rattle.locnum.specs.declared.options.Takes.TheVariants.{Nothing, Text, Perhaps}
 
--- an option without a text is given where its value reads `true`, and isn't where there is none or it reads `false`
-pub record IsFlag (matches : ArgMatches) (name : List ℕ) (flag : Bool) : Type 0 where
-  pub absent : (one_text (found_of matches) name ≡ None) → (flag ≡ false)
-  pub set : (one_text (found_of matches) name ≡ Some (codes "true")) → (flag ≡ true)
-  pub unset : (one_text (found_of matches) name ≡ Some (codes "false")) → (flag ≡ false)
+-- names and texts of options in memory, as lists of bytes
+abbrev pub seen : List (Bor (List ℕ) × Bor (List ℕ)) → List (List ℕ × List ℕ)
+seen pairs = map (λ p. (p.0.now, p.1.now)) pairs
 
--- each option with a text is the first text that was found under its own name, and each one without a text is as found
-pub record IsGiven (matches : ArgMatches) (given : GivenData) : Type 0 where
-  pub locale : given.locale ≡ first_value (found_of matches) (codes "locale")
-  pub system : given.system ≡ first_value (found_of matches) (codes "system")
-  pub style : given.style ≡ first_value (found_of matches) (codes "style")
-  pub grouping : given.grouping ≡ first_value (found_of matches) (codes "grouping")
-  pub fraction : given.fraction ≡ first_value (found_of matches) (codes "fraction")
-  pub sign : given.sign ≡ first_value (found_of matches) (codes "sign")
-  pub currency : given.currency ≡ first_value (found_of matches) (codes "currency")
-  pub width : given.width ≡ first_value (found_of matches) (codes "width")
-  pub accounting : IsFlag matches (codes "accounting") given.accounting
-  pub cash : IsFlag matches (codes "cash") given.cash
-  pub percent : IsFlag matches (codes "percent") given.percent
-  pub unit : option_map (λ s. s.now) given.unit ≡ first_value (found_of matches) (codes "unit")
-  pub csv : IsFlag matches (codes "csv") given.csv
-  pub delimiter : given.delimiter ≡ first_value (found_of matches) (codes "delimiter")
-  pub field : given.field ≡ first_value (found_of matches) (codes "field")
-  pub header : given.header ≡ first_value (found_of matches) (codes "header")
-  pub padding : given.padding ≡ first_value (found_of matches) (codes "padding")
-  pub invalid : given.invalid ≡ first_value (found_of matches) (codes "invalid")
-  pub zero_terminated : IsFlag matches (codes "zero-terminated") given.zero_terminated
-  pub explain : IsFlag matches (codes "explain") given.explain
+-- the text of an option by the first that was found: one without a text is given where its value reads `true`
+unfoldable pub value_of : Takes → Option (List ℕ) → Option (List ℕ)
+value_of takes None = None
+value_of Nothing (Some text) = if pointwise nat_eq text (codes "true") then Some text else None
+value_of (Text name) (Some text) = Some text
+value_of (Perhaps name missing) (Some text) = Some text
+
+-- a name with its text in front of others, if there is a text
+abbrev pub onto_given : List ℕ → Option (List ℕ) → List (List ℕ × List ℕ) → List (List ℕ × List ℕ)
+onto_given name None given = given
+onto_given name (Some text) given = (name, text) ∷ given
+
+-- the names of the entries of a table that are given, each with the first text that was found under its own name
+unfoldable pub given_among : Found → List OptionEntry → List (List ℕ × List ℕ)
+given_among found [] = []
+given_among found (entry ∷ entries) =
+    onto_given entry.name.now (value_of entry.takes (first_value found entry.name.now)) (given_among found entries)

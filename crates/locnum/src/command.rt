@@ -1,176 +1,126 @@
 //! The command line.
 
-ghost use Rattle.locnum.specs.Matched.{IsGiven};
+ghost use Rattle.std.specs.Prelude.{◌≡◌, ◌++◌, [], IfOk, OnOk, option_map};
+ghost use Rattle.clap.specs.Matches.{first_value, found_of};
+ghost use Rattle.locnum.specs.Matched.{given_among, onto_given, seen, value_of};
 
+use crate::options::{OPTIONS, OptionEntry, PROGRAM, Takes};
 use clap::{Arg, ArgAction, ArgMatches, Command};
-use locnum_options::Given;
 use std::alloc::{AllocError, Global};
 
-/// An option with a text: its name, its letter, the name of its text, and what it does.
-const TEXTS: [(&str, Option<char>, &str, &str); 14] = [
-    (
-        "tables",
-        Some('t'),
-        "FILE",
-        "tables of locales; without them English alone",
-    ),
-    (
-        "locale",
-        Some('l'),
-        "LOCALE",
-        "the locale, such as de or pt-BR; en without it",
-    ),
-    ("system", None, "NU", "the numbering system, such as latn"),
-    (
-        "style",
-        None,
-        "STYLE",
-        "plain, short or long numbers; plain or short amounts",
-    ),
-    (
-        "grouping",
-        None,
-        "WHEN",
-        "separators: auto, never, always or min2",
-    ),
-    ("fraction", None, "N|MIN..MAX", "how many fraction digits"),
-    (
-        "sign",
-        None,
-        "WHEN",
-        "auto, always, never, except-zero or negative",
-    ),
-    (
-        "currency",
-        None,
-        "CODE",
-        "amounts of a currency, such as EUR",
-    ),
-    (
-        "width",
-        None,
-        "WIDTH",
-        "short or narrow symbols, or name; long, short or narrow units",
-    ),
-    (
-        "unit",
-        None,
-        "NAME",
-        "numbers with a unit of the tables, such as kilometer",
-    ),
-    (
-        "delimiter",
-        Some('d'),
-        "C",
-        "the byte between fields, instead of blanks",
-    ),
-    (
-        "field",
-        None,
-        "LIST",
-        "the fields that are numbers, as 2, 2-4, 1,3- or -; 1 without it",
-    ),
-    (
-        "padding",
-        None,
-        "N",
-        "numbers take N columns at least, behind spaces, or before them with -N",
-    ),
-    (
-        "invalid",
-        None,
-        "MODE",
-        "texts that are no numbers: abort, fail, warn or ignore",
-    ),
-];
-
-/// An option without a text: its name, its letter, and what it does.
-const FLAGS: [(&str, Option<char>, &str); 6] = [
-    ("accounting", None, "amounts as in accounts, as ($1.00)"),
-    ("cash", None, "amounts with the fraction digits of cash"),
-    ("percent", None, "numbers as percents, 0.5 as 50%"),
-    (
-        "csv",
-        None,
-        "lines are records of CSV, with a comma between fields unless -d says another byte",
-    ),
-    (
-        "zero-terminated",
-        Some('z'),
-        "lines end in NUL instead of a line feed",
-    ),
-    (
-        "explain",
-        None,
-        "each number with its parts, and why it is written so",
-    ),
-];
-
-/// An option by the parts that all options have.
-fn option<'a>(alloc: Global, name: &'a str, letter: Option<char>, help: &'a str) -> Arg<'a> {
-    let option = Arg::new(alloc, name).long(name).help(help);
-    match letter {
+/// An option of the table as `clap` has it.
+fn option<'a>(alloc: Global, entry: &OptionEntry) -> Arg<'a> {
+    let option = Arg::new(alloc, entry.name)
+        .long(entry.name)
+        .help(entry.help)
+        .help_heading(entry.heading);
+    let option = match entry.letter {
         Some(letter) => option.short(letter),
         None => option,
+    };
+    match entry.takes {
+        Takes::Nothing => option.action(ArgAction::SetTrue),
+        Takes::Text(value) => option
+            .value_name(value)
+            .action(ArgAction::Set)
+            .allow_hyphen_values(true),
+        Takes::Perhaps(value, missing) => option
+            .value_name(value)
+            .num_args(0..=1)
+            .default_missing_value(missing)
+            .require_equals(true),
     }
+}
+
+/// An option that has the program print something, and end.
+fn printing<'a>(
+    alloc: Global,
+    name: &'a str,
+    letter: char,
+    action: ArgAction,
+    help: &'a str,
+) -> Arg<'a> {
+    Arg::new(alloc, name)
+        .long(name)
+        .short(letter)
+        .action(action)
+        .help(help)
+        .help_heading(PROGRAM)
 }
 
 /// The command with all its options.
 pub(crate) fn command<'a>(alloc: Global) -> Result<Command<'a>, AllocError> {
     let mut command = Command::new(alloc, "locnum")
         .version("0.1.0")
-        .about("Writes numbers in the form of a locale");
-    for &(name, letter, value, help) in &TEXTS {
-        let text = option(alloc, name, letter, help)
-            .value_name(value)
-            .action(ArgAction::Set)
-            .allow_hyphen_values(true);
-        command = command.arg(text)?;
+        .about("Writes numbers in the form of a locale")
+        .infer_long_args(true)
+        .disable_help_flag(true)
+        .disable_version_flag(true);
+    for entry in &OPTIONS {
+        command = command.arg(option(alloc, entry))?;
     }
-    for &(name, letter, help) in &FLAGS {
-        let flag = option(alloc, name, letter, help).action(ArgAction::SetTrue);
-        command = command.arg(flag)?;
-    }
-    let lines = "so many lines in front go through as they are; 1 without N";
-    let header = option(alloc, "header", None, lines)
-        .value_name("N")
-        .num_args(0..=1)
-        .default_missing_value("1")
-        .require_equals(true);
-    command = command.arg(header)?;
+    let help = printing(alloc, "help", 'h', ArgAction::Help, "this text");
+    let version = printing(alloc, "version", 'V', ArgAction::Version, "the version");
     let numbers = Arg::new(alloc, "number")
         .value_name("NUMBER")
         .help("numbers; without them standard input is read")
         .action(ArgAction::Append)
         .num_args(0..)
         .allow_negative_numbers(true);
-    command.arg(numbers)
+    command.arg(help)?.arg(version)?.arg(numbers)
 }
 
-/// What the words give.
-pub(crate) fn given<'a>(matches: &ArgMatches<'a>) -> Given<'a>
-    ensures { IsGiven matches.now result }
+/// The text of an option, if it is given; an option without a text has one all the same.
+#[tactic(auto, unfolding(crate::specs::Matched::value_of))]
+fn value_of<'a>(matches: &ArgMatches<'a>, entry: &OptionEntry) -> Option<&'a str>
+    ensures { option_map (λ t. t.now) result
+        ≡ value_of entry.now.takes (first_value (found_of matches.now) entry.now.name.now) }
 {
-    Given {
-        locale: matches.get_str("locale"),
-        system: matches.get_str("system"),
-        style: matches.get_str("style"),
-        grouping: matches.get_str("grouping"),
-        fraction: matches.get_str("fraction"),
-        sign: matches.get_str("sign"),
-        currency: matches.get_str("currency"),
-        width: matches.get_str("width"),
-        accounting: matches.get_flag("accounting"),
-        cash: matches.get_flag("cash"),
-        percent: matches.get_flag("percent"),
-        unit: matches.get_str("unit"),
-        csv: matches.get_flag("csv"),
-        delimiter: matches.get_str("delimiter"),
-        field: matches.get_str("field"),
-        header: matches.get_str("header"),
-        padding: matches.get_str("padding"),
-        invalid: matches.get_str("invalid"),
-        zero_terminated: matches.get_flag("zero-terminated"),
-        explain: matches.get_flag("explain"),
+    let text = matches.get_str(entry.name)?;
+    match entry.takes {
+        Takes::Nothing if text != "true" => None,
+        _ => Some(text),
     }
+}
+
+/// Takes in an option, if it is given.
+fn push_given<'a>(
+    matches: &ArgMatches<'a>,
+    entry: &OptionEntry,
+    given: &mut Vec<(&'a str, &'a str)>,
+) -> Result<(), AllocError>
+    ensures { OnOk result (seen given.new.items ≡ seen given.old.items
+        ++ onto_given entry.now.name.now
+        (value_of entry.now.takes (first_value (found_of matches.now) entry.now.name.now)) []) }
+{
+    if let Some(text) = value_of(matches, entry) {
+        given.push((entry.name, text))?;
+    }
+    Ok(())
+}
+
+/// The options of a table that are given, with their texts.
+// promise: The options are those that `clap` found, in table order.
+// mutations: flag_given_where_it_is_false
+fn given_among<'a>(
+    alloc: Global,
+    entries: &[OptionEntry],
+    matches: &ArgMatches<'a>,
+) -> Result<Vec<(&'a str, &'a str)>, AllocError>
+    ensures { IfOk result (λ given. seen given.items
+        ≡ given_among (found_of matches.now) entries.now) }
+{
+    let mut given = Vec::new(alloc);
+    for entry in entries {
+        push_given(matches, entry, &mut given)?;
+    }
+    Ok(given)
+}
+
+/// The options that are given, with their texts.
+pub(crate) fn given<'a>(
+    alloc: Global,
+    matches: &ArgMatches<'a>,
+) -> Result<Vec<(&'a str, &'a str)>, AllocError> {
+    given_among(alloc, &OPTIONS, matches)
 }

@@ -1,12 +1,12 @@
-//! Numbers in words or in lines of standard input, explained.
+//! Numbers in arguments or in lines of standard input, explained.
 
-use crate::{Failure, joined};
+use crate::streams::Streams;
+use crate::words::{joined, nothing};
 use clap::ArgMatches;
-use locnum_explain::{explain_line, explain_lines};
+use locnum_explain::{DigitsBy, Settings, explain_line, explain_lines};
 use locnum_forms::Form;
-use locnum_lines::{Refusals, Report};
-use locnum_options::Options;
-use std::io::{BufRead, BufReader, ErrorKind, Write};
+use locnum_lines::{Refusals, Report, RunError, Source, behind_mark};
+use std::io::{BufRead, BufReader, ErrorKind, Stdin, Write};
 use std::{env, io};
 
 /// How many columns a line has at most where the environment doesn't say it.
@@ -23,73 +23,158 @@ fn columns(rt: &HostRuntime) -> usize {
     }
 }
 
+/// How explanations are written.
+#[derive(Clone, Copy)]
+pub(crate) struct Explainer<'a, 'b> {
+    /// The width of lines, and what says how many digits are written.
+    pub(crate) settings: Settings<'a>,
+    /// The form of numbers.
+    pub(crate) form: &'b Form,
+    /// Whether the run stops at a text that is rejected.
+    pub(crate) stops: bool,
+}
+
 /// Writes bytes to standard output.
-fn put(rt: &HostRuntime, bytes: &[u8]) -> Result<(), Failure> {
-    match rt.stdout().write_all(bytes) {
+pub(crate) fn put(streams: &mut Streams, bytes: &[u8]) -> Result<(), RunError> {
+    match streams.output.write_all(bytes) {
         Ok(()) => Ok(()),
-        Err(_) => Err(Failure::Streams),
+        Err(_) => Err(RunError::Write),
     }
 }
 
-/// What happened where a text was refused or none was.
-fn reported(stops: bool, is_refused: bool) -> Report {
+/// What happened where a text was rejected or none was.
+pub(crate) fn reported(rt: &HostRuntime, stops: bool, is_refused: bool) -> Report {
     Report {
         is_refused,
         is_stopped: stops && is_refused,
+        ..nothing(rt.alloc())
     }
 }
 
-/// Explains the numbers among the words.
+/// What says how many fraction digits are written.
+fn digits_by<'a>(matches: &ArgMatches<'a>) -> DigitsBy<'a> {
+    match (matches.get_str("fraction"), matches.get_str("currency")) {
+        (Some(text), _) => DigitsBy::Fraction(text),
+        (None, Some(code)) => DigitsBy::Currency(code),
+        (None, None) => DigitsBy::Given,
+    }
+}
+
+/// How the explanations of an input are written.
+pub(crate) fn explainer_for<'a, 'b>(
+    rt: &HostRuntime,
+    matches: &ArgMatches<'a>,
+    refusals: Refusals,
+    form: &'b Form,
+) -> Explainer<'a, 'b> {
+    Explainer {
+        settings: Settings {
+            width: columns(rt),
+            digits: digits_by(matches),
+        },
+        form,
+        stops: refusals == Refusals::Abort,
+    }
+}
+
+/// Explains the numbers among the arguments.
 fn explain_words(
     rt: &HostRuntime,
-    stops: bool,
-    form: &Form,
+    streams: &mut Streams,
+    explainer: &Explainer<'_, '_>,
     words: &[&str],
-) -> Result<Report, Failure> {
+) -> Result<Report, RunError> {
+    let Explainer {
+        settings,
+        form,
+        stops,
+    } = explainer;
     let mut out = Vec::new(rt.alloc());
-    let is_refused = explain_lines(rt.alloc(), columns(rt), stops, form, words, &mut out)?;
-    put(rt, &out)?;
-    Ok(reported(stops, is_refused))
+    let explained = explain_lines(rt.alloc(), settings, *stops, form, words, &mut out);
+    let Ok(is_refused) = explained else {
+        return Err(RunError::OutOfMemory);
+    };
+    put(streams, &out)?;
+    Ok(reported(rt, *stops, is_refused))
 }
 
 /// Explains the number of a line.
 fn explain_read(
     rt: &HostRuntime,
-    width: usize,
-    stops: bool,
-    form: &Form,
+    streams: &mut Streams,
+    explainer: &Explainer<'_, '_>,
     line: &[u8],
-) -> Result<Report, Failure> {
+) -> Result<Report, RunError> {
+    let Explainer {
+        settings,
+        form,
+        stops,
+    } = explainer;
     let mut out = Vec::new(rt.alloc());
-    let is_refused = explain_line(rt.alloc(), width, form, line, &mut out)?;
-    put(rt, &out)?;
-    Ok(reported(stops, is_refused))
+    let Ok(is_refused) = explain_line(rt.alloc(), settings, form, line, &mut out) else {
+        return Err(RunError::OutOfMemory);
+    };
+    put(streams, &out)?;
+    Ok(reported(rt, *stops, is_refused))
 }
 
 /// Why reading failed.
-fn failure_of_reading(error: &io::Error) -> Failure {
+fn failure_of_reading(error: &io::Error) -> RunError {
     match error.kind() {
-        ErrorKind::OutOfMemory => Failure::OutOfMemory,
-        _ => Failure::Streams,
+        ErrorKind::OutOfMemory => RunError::OutOfMemory,
+        _ => RunError::Read,
     }
 }
 
-/// Explains the numbers of the lines of standard input.
-fn explain_input(rt: &HostRuntime, stops: bool, form: &Form) -> Result<Report, Failure> {
-    let Ok(mut reader) = BufReader::new(rt.alloc(), rt.stdin()) else {
-        return Err(Failure::OutOfMemory);
-    };
-    let width = columns(rt);
-    let mut line = Vec::new(rt.alloc());
-    let mut report = reported(stops, false);
-    for _ in 0..u64::MAX {
-        line.clear();
-        match reader.read_until(b'\n', &mut line) {
-            Ok(0) => return Ok(report),
-            Ok(_) => {}
-            Err(error) => return Err(failure_of_reading(&error)),
+/// The reader of standard input.
+pub(crate) fn reader(rt: &HostRuntime) -> Result<BufReader<Stdin>, RunError> {
+    match BufReader::new(rt.alloc(), rt.stdin()) {
+        Ok(reader) => Ok(reader),
+        Err(_) => Err(RunError::OutOfMemory),
+    }
+}
+
+/// Reads a line behind the bytes that are there; how many bytes it has, with its end.
+pub(crate) fn read_line(
+    streams: &mut Streams,
+    reader: &mut BufReader<Stdin>,
+    end: u8,
+    bytes: &mut Vec<u8>,
+) -> Result<usize, RunError> {
+    match reader.read_until(end, bytes) {
+        Ok(count) => Ok(count),
+        Err(error) => {
+            streams.input.fail(error);
+            Err(failure_of_reading(&error))
         }
-        let ran = explain_read(rt, width, stops, form, &line)?;
+    }
+}
+
+/// Explains the numbers of the lines of standard input, in front of which a byte order mark may
+/// stand.
+fn explain_input(
+    rt: &HostRuntime,
+    streams: &mut Streams,
+    explainer: &Explainer<'_, '_>,
+) -> Result<Report, RunError> {
+    let mut reader = reader(rt)?;
+    let mut line = Vec::new(rt.alloc());
+    let mut report = nothing(rt.alloc());
+    for index in 0..u64::MAX {
+        line.clear();
+        if read_line(streams, &mut reader, b'\n', &mut line)? == 0 {
+            return Ok(report);
+        }
+        let text = if index == 0 {
+            behind_mark(Source::Lines, &line)
+        } else {
+            line.as_slice()
+        };
+        // a byte order mark alone is no line
+        if text.is_empty() {
+            return Ok(report);
+        }
+        let ran = explain_read(rt, streams, explainer, text)?;
         report = joined(report, ran);
         if report.is_stopped {
             return Ok(report);
@@ -98,16 +183,18 @@ fn explain_input(rt: &HostRuntime, stops: bool, form: &Form) -> Result<Report, F
     Ok(report)
 }
 
-/// Explains the numbers among the words, or else those of standard input, in this form.
+/// Explains the numbers among the arguments, or else those of standard input, each line of which is
+/// one, behind the line that says what they go by.
 pub(crate) fn explain_given(
     rt: &HostRuntime,
-    matches: &ArgMatches<'_>,
-    options: &Options<'_>,
-    form: &Form,
-) -> Result<Report, Failure> {
-    let stops = options.lines.refusals == Refusals::Abort;
-    match matches.get_strs("number") {
-        Some(words) => explain_words(rt, stops, form, words),
-        None => explain_input(rt, stops, form),
+    streams: &mut Streams,
+    explainer: &Explainer<'_, '_>,
+    heading: &[u8],
+    numbers: Option<&[&str]>,
+) -> Result<Report, RunError> {
+    put(streams, heading)?;
+    match numbers {
+        Some(words) => explain_words(rt, streams, explainer, words),
+        None => explain_input(rt, streams, explainer),
     }
 }

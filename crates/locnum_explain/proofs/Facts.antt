@@ -1,4 +1,4 @@
--- What is told of a compact number besides its text and its magnitude.
+-- What is said of a compact number besides its text and its magnitude.
 use Rattle.std.proofs.Common.{◌≡◌, ℕ, Bool, true, false, List, [], ◌++◌, refl, sym, ap, ◌∙◌, append_assoc, arith, pos}
 use Rattle.std.specs.Prelude.{is_some, nat_le, if◌then◌else◌}
 use Rattle.std.proofs.lemmas.Bool.Decides.{nat_tests}
@@ -16,7 +16,7 @@ use Rattle.locnum_explain.specs.Compact.{compact_facts, displayed_lines, entry_l
 use Rattle.locnum_explain.proofs.Entries.{displayed-given}
 
 module _ (format : CompactFormat) (d : Unsigned) where
-  -- nothing is told where the nearest compact number is past the limits
+  -- nothing is said where the nearest compact number is past the limits
   pub facts-past : ShowsPastLimits format.table (size d) → compact_facts format d ≡ []
   unfolding compact_facts
   facts-past past = go (nat_le (ten_to (pos 32768)) (nearest_number format.table (size d))) refl
@@ -54,7 +54,7 @@ module _ (format : CompactFormat) (d : Unsigned) where
       regroup a b c = simp append_assoc
 
 module _ (f : CompactMoney) (sign : Sign) (d : Unsigned) where
-  -- no pattern is told where the nearest compact number is past the limits
+  -- no pattern is shown where the nearest compact number is past the limits
   pub frame-past : ShowsPastLimits (formatter_of f sign).table (size d) → frame_line f sign d ≡ []
   unfolding frame_line
   frame-past past = go (is_past (formatter_of f sign).table d) refl

@@ -1,4 +1,4 @@
--- What is told of a compact number besides its text and its magnitude.
+-- What an explanation says of a compact number besides its text and its magnitude.
 use Rattle.std.specs.Prelude.{ℕ, Bool, is_some, nat_le, List, [], ◌++◌, if◌then◌else◌, pos}
 use Rattle.fixed_decimal.specs.declared.signs.Sign.{Sign}
 use Rattle.fixed_decimal.specs.Size.{magnitude_place, size, ten_to}
@@ -51,6 +51,6 @@ unfoldable pub frame_line : CompactMoney → Sign → Unsigned → List ℕ
 frame_line f sign d =
     if is_past (formatter_of f sign).table d then [] else frame_for f.patterns sign (has_entry (formatter_of f sign) d)
 
--- what is told of a compact amount: by the compact formatter of its sign, and the pattern of money
+-- what is said of a compact amount: by the compact formatter of its sign, and the pattern of money
 abbrev pub amount_facts : CompactMoney → Sign → Unsigned → List ℕ
 amount_facts f sign d = compact_facts (formatter_of f sign) d ++ frame_line f sign d

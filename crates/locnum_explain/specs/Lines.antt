@@ -1,9 +1,10 @@
--- The explanation of a text by a form: one definition of a width, of the form, and of the text.
-use Rattle.std.specs.Prelude.{ℕ, ◌||◌, ◌==◌, nat_lt, List, [], ◌++◌, map, Result, Ok, Err, codes, if◌then◌else◌}
+-- The explanation of a text by a form: one definition of settings, of the form, and of the text.
+use Rattle.std.specs.Prelude.{ℕ, List, [], ◌++◌, Result, Ok, Err, codes}
 use Rattle.writeable.specs.Events.{Event, text_of}
 use Rattle.writeable.specs.Spans.{spans}
 use Rattle.fixed_decimal.specs.declared.signs.Sign.{Sign}
 use Rattle.fixed_decimal.specs.Unsigned.{Unsigned}
+use Rattle.decimal_lines.specs.Alone.{decimal_read}
 use Rattle.decimal_lines.specs.declared.alone.TextError.{TextError}
 use Rattle.decimal_lines.specs.declared.alone.TextError.TheVariants.{NotDecimal, TooManyDigits, Overflow, OutOfMemory}
 use Rattle.decimal_lines.specs.declared.mode.Mode.TheVariants.{Plain, Compact}
@@ -14,12 +15,13 @@ use Rattle.locnum_forms.specs.Decimals.{decimal_written}
 use Rattle.locnum_forms.specs.Forms.{FormData, form_events}
 use Rattle.locnum_forms.specs.declared.form.Formatter.{Formatter}
 use Rattle.locnum_forms.specs.declared.form.Formatter.TheVariants.{Numbers, Money, MoneyNamed, MoneyShort, Percent, Units}
+use Rattle.locnum_notes.specs.Reported.{reported}
+use Rattle.locnum_explain.specs.declared.settings.DigitsBy.{DigitsBy}
+use Rattle.locnum_explain.specs.declared.settings.Settings.{Settings}
+use Rattle.locnum_explain.specs.Rounding.{rounding_lines}
 use Rattle.locnum_explain.specs.Compact.{amount_facts, compact_facts}
+use Rattle.locnum_explain.specs.Marks.{marks_of}
 use Rattle.locnum_explain.specs.Patterns.{name_line, signed_line, unit_line}
-
--- a byte as it is shown: a control character as a question mark
-abbrev pub printable : ℕ → ℕ
-printable byte = if nat_lt byte 32 || byte == 127 then 63 else byte
 
 -- why a text isn't explained further
 abbrev pub refusal_line : TextError → List ℕ
@@ -28,11 +30,11 @@ refusal_line TooManyDigits = codes "  too many digits\n"
 refusal_line Overflow = codes "  overflow\n"
 refusal_line OutOfMemory = codes "  out of memory\n"
 
--- the text of events, with its parts
-abbrev pub marked_lines : ℕ → List Event → List ℕ
-marked_lines width events = parts_lines width (text_of events) (spans events)
+-- the text of events, with the parts of others, which have the same characters
+abbrev pub marked_lines : ℕ → List Event → List Event → List ℕ
+marked_lines width events marks = parts_lines width (text_of events) (spans marks)
 
--- What is told of a decimal besides its magnitude: of a compact number what it is displayed by, of a number with a name or a unit its
+-- What is said of a decimal besides its magnitude: of a compact number what it is displayed by, of a number with a name or a unit its
 -- operands, and of all but numbers in full the pattern.
 abbrev pub detail_lines : Formatter → Sign → Unsigned → List ℕ
 detail_lines (Numbers (Plain format)) sign d = []
@@ -43,20 +45,22 @@ detail_lines (MoneyShort format) sign d = amount_facts format sign d
 detail_lines (Percent format) sign d = signed_line format.patterns sign
 detail_lines (Units format) sign d = operands_line format.rules d ++ unit_line format.rules format.elements d
 
--- what is told of the decimal that is written: its magnitude first
-abbrev pub fact_lines : Formatter → Result (Sign × Unsigned) TextError → List ℕ
-fact_lines formatter (Ok (sign, d)) = magnitude_line d ++ detail_lines formatter sign d
-fact_lines formatter (Err error) = []
+-- what is said of the decimal that is written, as the text was read: that it was rounded, its magnitude, and so on
+abbrev pub fact_lines : DigitsBy → Formatter → List ℕ → Result (Sign × Unsigned) TextError → Result (Sign × Unsigned) TextError → List ℕ
+fact_lines by formatter text read (Ok (sign, d)) = rounding_lines by text read sign d ++ magnitude_line d ++ detail_lines formatter sign d
+fact_lines by formatter text read (Err error) = []
 
--- what is written with its parts, and such facts behind it; or why nothing is written
-abbrev pub outcome_lines : ℕ → List ℕ → Result (List Event) TextError → List ℕ
-outcome_lines width facts (Ok events) = marked_lines width events ++ facts
-outcome_lines width facts (Err error) = refusal_line error
+-- what is written, with its parts, and what is said of the decimal that is written
+abbrev pub written_lines : Settings → FormData → List ℕ → List Event → List ℕ
+written_lines settings form text events =
+    marked_lines settings.width events (marks_of form.formatter events (decimal_written form text))
+    ++ fact_lines settings.digits form.formatter text (decimal_read text) (decimal_written form text)
 
--- the lines of a text: the events are those that the form writes for it
-unfoldable pub text_lines : ℕ → FormData → List ℕ → List ℕ
-text_lines width form text = outcome_lines width (fact_lines form.formatter (decimal_written form text)) (form_events form text)
+-- the text and what is written of it; or the text as notes show it, and why nothing is written
+abbrev pub outcome_lines : Settings → FormData → List ℕ → Result (List Event) TextError → List ℕ
+outcome_lines settings form text (Ok events) = text ++ codes "\n" ++ written_lines settings form text events
+outcome_lines settings form text (Err error) = reported text ++ codes "\n" ++ refusal_line error
 
--- the explanation of a text: the text itself, and its lines
-unfoldable pub form_explanation : ℕ → FormData → List ℕ → List ℕ
-form_explanation width form text = map printable text ++ codes "\n" ++ text_lines width form text
+-- the explanation of a text: the events are those that the form writes for it
+unfoldable pub form_explanation : Settings → FormData → List ℕ → List ℕ
+form_explanation settings form text = outcome_lines settings form text (form_events form text)

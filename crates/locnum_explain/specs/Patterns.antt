@@ -1,4 +1,4 @@
--- The patterns in which numbers stand, as they are told: what they write around `{0}`.
+-- The patterns in which numbers stand, as they are shown: what they write around `{0}`.
 use Rattle.std.specs.Prelude.{ℕ, List, ◌++◌, codes}
 use Rattle.writeable.specs.Events.{Event, text_events, text_of}
 use Rattle.fixed_decimal.specs.declared.signs.Sign.{Sign}

@@ -1,4 +1,4 @@
-//! What is told of compact numbers besides their texts and their magnitudes.
+//! What is said of compact numbers besides their texts and their magnitudes.
 
 ghost use Rattle.std.specs.Prelude.{◌≡◌, ◌++◌, OnOk};
 ghost use Rattle.fixed_decimal.specs.Size.{place};
@@ -103,7 +103,7 @@ fn push_showable(
     push_around(alloc, round_power(exponent, magnitude), value, out)
 }
 
-/// Appends what is told of a compact number: the two values around it that are shown, and the
+/// Appends what is said of a compact number: the two values around it that are shown, and the
 /// entry, the operands, the category and the pattern by which it is displayed; nothing where its
 /// nearest compact number is ten to the power 32768 or more.
 pub(crate) fn push_compact(
@@ -165,8 +165,10 @@ fn push_frame(
     }
 }
 
-/// Appends what is told of a compact amount: that of its compact number, by the formatter of its
+/// Appends what is said of a compact amount: that of its compact number, by the formatter of its
 /// sign, and the pattern of money in which it stands, if it stands in one.
+// promise: A compact amount has the patterns of its own sign.
+// mutations: amount_by_the_patterns_without_a_sign
 pub(crate) fn push_amount(
     alloc: Global,
     money: &CompactCurrencyFormatter,

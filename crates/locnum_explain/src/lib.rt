@@ -1,11 +1,15 @@
-//! Explanations of how the text of a number is written, for whoever edits tables.
+//! Explanations of how the text of a number is written, for people who write tables.
 #![tactic(auto)]
 
 mod compact;
 mod explaining;
 pub mod laws;
+mod marking;
 mod patterns;
+mod rounding;
+mod settings;
 mod texts;
 
 pub use explaining::explain;
-pub use texts::{explain_line, explain_lines};
+pub use settings::{DigitsBy, Settings};
+pub use texts::{explain_at, explain_line, explain_lines};

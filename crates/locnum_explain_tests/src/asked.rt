@@ -1,12 +1,12 @@
-//! Explanations that rows ask for, by the tables of a text. What was refused memory is asked once
-//! more.
+//! Explanations that rows ask for, by the tables of a text. A call whose allocation failed is made
+//! once more.
 
 use fixed_decimal::SignDisplay;
 use icu_dimension::options::{CurrencySign, Width};
 use icu_dimension_data::CurrencyCode;
 use icu_provider::DataLocale;
-use locnum_explain::{explain, explain_line, explain_lines};
-use locnum_forms::{Form, Kind, UnitWidth, Wanted};
+use locnum_explain::{DigitsBy, Settings, explain, explain_at, explain_line, explain_lines};
+use locnum_forms::{Form, FractionRange, Kind, UnitWidth, Wanted};
 use std::alloc::{AllocError, Global};
 
 /// Numbers, money, percents and units of some locales (CLDR 46).
@@ -38,17 +38,21 @@ pub(crate) enum Style {
     Amount,
     Percent,
     Unit,
+    /// Numbers or percents, with one fraction digit at most.
+    Tenths(bool),
 }
 
 /// What is written, a locale, and how many columns a line has at most.
 pub(crate) type Asked = (Style, &'static str, usize);
 
-/// What is explained: a text, that of a line, or those of lines, up to one that is refused or all.
+/// What is explained: a text, that of a line, those of lines, up to one that is rejected or all, or
+/// one at a place.
 #[derive(Clone, Copy, Debug)]
 pub(crate) enum Given<'a> {
     Text(&'a [u8]),
     Line(&'a [u8]),
     Lines(bool, &'a [&'a str]),
+    At(&'a [u8], &'a [u8]),
 }
 
 /// The kind of a style in a currency.
@@ -73,6 +77,16 @@ fn kind(style: Style, code: CurrencyCode) -> Kind<'static> {
             name: "kilometer",
             width: UnitWidth::Long,
         },
+        Style::Tenths(false) => Kind::Plain,
+        Style::Tenths(true) => Kind::Percent,
+    }
+}
+
+/// The fraction digits of a style.
+fn fraction(style: Style) -> Option<FractionRange> {
+    match style {
+        Style::Tenths(_) => Some(FractionRange { least: 0, most: 1 }),
+        _ => None,
     }
 }
 
@@ -82,32 +96,43 @@ fn wanted((style, locale, _): Asked, sign: SignDisplay, code: CurrencyCode) -> W
         locale: DataLocale::try_from_str(locale).unwrap_or_default(),
         system: None,
         grouping: None,
-        fraction: None,
+        fraction: fraction(style),
         sign,
         kind: kind(style, code),
     }
 }
 
+/// How it is explained.
+fn settings((style, _, width): Asked) -> Settings<'static> {
+    let digits = match style {
+        Style::Money | Style::Named => DigitsBy::Currency("USD"),
+        Style::Tenths(_) => DigitsBy::Fraction("0..1"),
+        _ => DigitsBy::Given,
+    };
+    Settings { width, digits }
+}
+
 /// Appends what is asked for.
 fn push(
     alloc: Global,
-    width: usize,
+    settings: &Settings<'_>,
     form: &Form,
     given: Given<'_>,
     out: &mut Vec<u8>,
 ) -> Result<bool, AllocError> {
     match given {
-        Given::Text(text) => explain(alloc, width, form, text, out),
-        Given::Line(line) => explain_line(alloc, width, form, line, out),
-        Given::Lines(stops, lines) => explain_lines(alloc, width, stops, form, lines, out),
+        Given::Text(text) => explain(alloc, settings, form, text, out),
+        Given::Line(line) => explain_line(alloc, settings, form, line, out),
+        Given::Lines(stops, lines) => explain_lines(alloc, settings, stops, form, lines, out),
+        Given::At(place, text) => explain_at(alloc, settings, form, place, text, out),
     }
 }
 
-/// Whether these lines stand behind a byte, and whether a text is refused; `None` where memory ran
+/// Whether these lines stand behind a byte, and whether a text is rejected; `None` where memory ran
 /// out.
 fn is_appended(
     alloc: Global,
-    width: usize,
+    settings: &Settings<'_>,
     form: &Form,
     given: Given<'_>,
     (want, refused): (&[u8], bool),
@@ -116,7 +141,7 @@ fn is_appended(
     if out.push(b'>').is_err() {
         return None;
     }
-    let Ok(told) = push(alloc, width, form, given, &mut out) else {
+    let Ok(told) = push(alloc, settings, form, given, &mut out) else {
         return None;
     };
     match out.split_first() {
@@ -128,17 +153,17 @@ fn is_appended(
 /// The same in a form; `None` where memory ran out.
 fn is_explained_by(
     alloc: Global,
-    (wanted, width): (&Wanted<'_>, usize),
+    (wanted, settings): (&Wanted<'_>, &Settings<'_>),
     given: Given<'_>,
     row: (&[u8], bool),
 ) -> Option<bool> {
     match Form::make(alloc, wanted, TABLES.as_bytes()) {
-        Ok(form) => is_appended(alloc, width, &form, given, row),
+        Ok(form) => is_appended(alloc, settings, &form, given, row),
         Err(_) => None,
     }
 }
 
-/// Whether this is the explanation with such signs, and whether a text is refused.
+/// Whether this is the explanation with such signs, and whether a text is rejected.
 fn is_explained_with(
     alloc: Global,
     asked: Asked,
@@ -150,10 +175,10 @@ fn is_explained_with(
         return false;
     };
     let wanted = wanted(asked, sign, code);
-    let settings = (&wanted, asked.2);
-    match is_explained_by(alloc, settings, given, row) {
+    let settings = settings(asked);
+    match is_explained_by(alloc, (&wanted, &settings), given, row) {
         Some(is_explained) => is_explained,
-        None => is_explained_by(alloc, settings, given, row) == Some(true),
+        None => is_explained_by(alloc, (&wanted, &settings), given, row) == Some(true),
     }
 }
 
@@ -167,7 +192,7 @@ pub(crate) fn is_explained_as(
     is_explained_with(alloc, asked, SignDisplay::Auto, given, row)
 }
 
-/// Whether a text that isn't refused has this explanation with such signs.
+/// Whether a text that isn't rejected has this explanation with such signs.
 pub(crate) fn is_signed(
     alloc: Global,
     asked: Asked,
@@ -184,7 +209,7 @@ pub(crate) fn is_explained(alloc: Global, asked: Asked, text: &str, want: &str) 
     is_signed(alloc, asked, SignDisplay::Auto, text, want)
 }
 
-/// Whether a text is refused with this explanation.
+/// Whether a text is rejected with this explanation.
 pub(crate) fn is_refused(alloc: Global, asked: Asked, text: &str, want: &str) -> bool {
     let given = Given::Text(text.as_bytes());
     is_explained_as(alloc, asked, given, (want.as_bytes(), true))

@@ -13,7 +13,7 @@ const PERCENT: Asked = (Style::Percent, "en", 80);
 
 const UNIT: Asked = (Style::Unit, "en", 80);
 
-/// So many bytes, and a text behind them.
+/// That many bytes, and a text behind them.
 fn repeated(alloc: Global, byte: u8, count: usize, behind: &[u8]) -> Result<Vec<u8>, AllocError> {
     let mut text = Vec::new(alloc);
     for _ in 0..count {
@@ -31,19 +31,24 @@ fn text_of(alloc: Global, byte: u8, count: usize, behind: &[u8]) -> Result<Vec<u
     }
 }
 
-/// Whether so many nines have an explanation that is these lines behind their text, and whether they
-/// are refused.
+/// How many nines stand in front of an explanation: all, or the first of those that are rejected.
+fn count_shown(count: usize, refused: bool) -> usize {
+    if refused { 28 } else { count }
+}
+
+/// Whether that many nines have an explanation that is these lines behind their text, or behind the
+/// first of them, and whether they are rejected.
 fn ends_in(alloc: Global, asked: Asked, count: usize, (lines, refused): (&[u8], bool)) -> bool {
     let Ok(text) = text_of(alloc, b'9', count, b"") else {
         return false;
     };
-    let Ok(want) = text_of(alloc, b'9', count, lines) else {
+    let Ok(want) = text_of(alloc, b'9', count_shown(count, refused), lines) else {
         return false;
     };
     is_explained_as(alloc, asked, Given::Text(&text), (&want, refused))
 }
 
-/// What writes, how many nines, the lines behind their text, and whether they are refused.
+/// What writes, how many nines, the lines behind their text, and whether they are rejected.
 const NINES: &[(Asked, usize, &str, bool)] = &[
     (
         PLAIN,
@@ -54,13 +59,13 @@ const NINES: &[(Asked, usize, &str, bool)] = &[
     (
         SHORT,
         24,
-        "\n  1,000,000,000,000,000,000M\n  magnitude  23\n  around     more than 18 digits\n  entry      type 6, exponent 6\n  operands   i=...0 v=0 w=0 f=0 t=0 c=0 -> other\n  pattern    {0}M\n",
+        "\n  1,000,000,000,000,000,000M\n  ^^^^^^^^^^^^^^^^^^^^^^^^^   integer\n   ^                          group\n       ^                      group\n           ^                  group\n               ^              group\n                   ^          group\n                       ^      group\n  magnitude  23\n  around     more than 18 digits\n  entry      type 6, exponent 6\n  operands   i=...0 v=0 w=0 f=0 t=0 c=0 -> other\n  pattern    {0}M\n",
         false,
     ),
     (
         AMOUNT,
         24,
-        "\n  $1,000,000,000,000,000,000M\n  magnitude  23\n  around     more than 18 digits\n  entry      type 6, exponent 6\n  operands   i=...0 v=0 w=0 f=0 t=0 c=0 -> other\n  pattern    ${0}M\n",
+        "\n  $1,000,000,000,000,000,000M\n   ^^^^^^^^^^^^^^^^^^^^^^^^^   integer\n    ^                          group\n        ^                      group\n            ^                  group\n                ^              group\n                    ^          group\n                        ^      group\n  magnitude  23\n  around     more than 18 digits\n  entry      type 6, exponent 6\n  operands   i=...0 v=0 w=0 f=0 t=0 c=0 -> other\n  pattern    ${0}M\n",
         false,
     ),
     (
@@ -69,11 +74,36 @@ const NINES: &[(Asked, usize, &str, bool)] = &[
         "\n  9,999,999,999,999,999,999 kilometers\n  ^^^^^^^^^^^^^^^^^^^^^^^^^             integer\n   ^                                    group\n       ^                                group\n           ^                            group\n               ^                        group\n                   ^                    group\n                       ^                group\n                            ^^^^^^^^^^  unit\n  magnitude  18\n  operands   i=...999999999999999999 v=0 w=0 f=0 t=0 c=0 -> other\n  pattern    {0} kilometers\n",
         false,
     ),
-    (SHORT, 32768, "\n  overflow\n", true),
-    (AMOUNT, 32768, "\n  overflow\n", true),
-    (PERCENT, 32768, "\n  overflow\n", true),
-    (SHORT, 32769, "\n  too many digits\n", true),
-    (PLAIN, 32769, "\n  too many digits\n", true),
+    (
+        SHORT,
+        32768,
+        "..9999999999999999999999999999 (32768 characters)\n  overflow\n",
+        true,
+    ),
+    (
+        AMOUNT,
+        32768,
+        "..9999999999999999999999999999 (32768 characters)\n  overflow\n",
+        true,
+    ),
+    (
+        PERCENT,
+        32768,
+        "..9999999999999999999999999999 (32768 characters)\n  overflow\n",
+        true,
+    ),
+    (
+        SHORT,
+        32769,
+        "..9999999999999999999999999999 (32769 characters)\n  too many digits\n",
+        true,
+    ),
+    (
+        PLAIN,
+        32769,
+        "..9999999999999999999999999999 (32769 characters)\n  too many digits\n",
+        true,
+    ),
 ];
 
 #[test]

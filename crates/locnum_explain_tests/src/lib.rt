@@ -1,5 +1,5 @@
-//! The tests of the public calls of locnum_explain and explained_lines; the library itself offers
-//! nothing. What was refused memory is asked once more.
+//! The tests of the public calls of locnum_explain, explained_lines and locnum_notes; the library
+//! itself offers nothing. A call whose allocation failed is made once more.
 #![tactic(auto)]
 
 #[cfg(test)]
@@ -14,5 +14,7 @@ mod patterns;
 mod pieces;
 #[cfg(test)]
 mod plain;
+#[cfg(test)]
+mod reported;
 #[cfg(test)]
 mod texts;

@@ -1,5 +1,5 @@
-//! Numbers in full, explained: parts under wide characters, in little room, and where a terminal may
-//! turn the text around; signs; texts that are refused.
+//! Numbers in full, explained: parts under wide characters, in little room, and where a terminal
+//! may turn the text around; signs; texts that are rejected.
 
 use crate::asked::{Asked, Style, is_explained, is_refused, is_signed};
 use fixed_decimal::SignDisplay;
@@ -56,10 +56,15 @@ fn numbers_in_full_are_explained(rt: HostRuntime) {
     }
 }
 
-/// A text that is refused, and its explanation.
+/// A text that is rejected, and its explanation.
 const REFUSED: &[(&str, &str)] = &[
     ("x", "x\n  not a decimal\n"),
-    ("", "\n  not a decimal\n"),
+    ("", "(empty)\n  not a decimal\n"),
+    ("\u{202e}1\u{85}", "?1?\n  not a decimal\n"),
+    (
+        "123456789 123456789 123456789 123456789 123456789 123456789 1",
+        "123456789 123456789 12345678..456789 123456789 123456789 1 (61 characters)\n  not a decimal\n",
+    ),
     ("1e3", "1e3\n  not a decimal\n"),
     ("1\n2\u{7f}", "1?2?\n  not a decimal\n"),
 ];

@@ -1,5 +1,5 @@
--- Rounded to just so many fraction digits, then without zeros at the end, then with zeros again: this is what `with_fraction` computes.
--- A rounded number is nearest, and the computed one too, so their sizes are equal. A number is told by its size and its counts of digits
+-- Rounded to just that many fraction digits, then without zeros at the end, then with zeros again: this is what `with_fraction` computes.
+-- A rounded number is nearest, and the computed one too, so their sizes are equal. A number is determined by its size and its counts of digits
 -- (`number-told`), and a trimmed one has as few below power 0 as its size needs (`decimal-told` of decimal_lines).
 use Rattle.std.proofs.Common.{◌≡◌, ℕ, ◌+◌, ◌-◌, ◌*◌, ◌%◌, ◌^◌, ◌<◌, ◌≤◌, max, Bool, true, false, List, inl, inr, refl}
 use Rattle.std.proofs.Common.{sym, ap, ap₂, ◌∙◌, subst, arith, mul_assoc, ℤ, pos, negsuc, ◌-ℤ◌}
@@ -70,7 +70,7 @@ module _ (d : Unsigned) (p : ℤ) (n : ℕ) (is : p ≡ pos 0 -ℤ pos n) (small
   pub cut-past : RoundsPastLimits d p → ten_to (pos 32768) ≤ nearest_size n (size d)
   cut-past (y, near, large) = subst (λ (z : ℕ). ten_to (pos 32768) ≤ z) (size-told y near) large
 
--- a number is told by its size and its counts of digits
+-- a number is determined by its size and its counts of digits
 number-told : (u : Unsigned) → IsUnsigned u → number_of (integer_count u) u.scale (size u) ≡ u
 number-told u is =
     let e : ℕ = finest - u.scale in
@@ -160,7 +160,7 @@ module _ (least most : ℕ) (d : Unsigned) where
     not-past : t.scale < least → ten_to (pos 32768) ≤ nearest_size least (size t) → ⊥
     not-past few large = cut.within (subst (λ (z : ℕ). ten_to (pos 32768) ≤ z) (itself few ∙ size_told) large)
 
-    -- so it can't be refused but for want of memory
+    -- so it can't be rejected but because memory ran out
     pub padded-refused : (error : TextError) → t.scale < least → IsCutRefusal least t error → IsRefusal (with_fraction least most d) error
     padded-refused error few (inl memory) = inl memory
     padded-refused error few (inr (over, large)) = absurd (not-past few large)

@@ -1,4 +1,4 @@
--- Tables for the locale that is wanted make the same form as all tables, and a text that is refused makes none.
+-- Tables for the locale that is wanted make the same form as all tables, and a text that is rejected makes none.
 use Rattle.std.proofs.Common.{◌≡◌, ℕ, Bool, List, Some, None, Result, Ok, refl, sym, ap, ◌∙◌}
 use Rattle.icu_provider.specs.Answer.{Refusal, Refuses}
 use Rattle.icu_provider.specs.Identifier.{Identifier}
@@ -104,7 +104,7 @@ with_both-for locale text kept dimension load (all, read, answers) other same =
     ∙ ap (λ (r : Result DimensionData TableError). read_then r (λ d. started (load all d))) other
     ∙ ap started (sym (same all answers))
 
--- a refused text makes nothing
+-- a rejected text makes nothing
 pub fails-stops : {X : Type 0} (e : TableError) (read : Result X TableError) (next : X → Result FormData StartError) → Fails e read
     → Stops (table_error e) (read_then read next)
 fails-stops table.NotJson read next is = ap (λ r. read_then r next) is
@@ -114,7 +114,7 @@ fails-stops (table.WrongKind key) read next is = ap (λ r. read_then r next) is
 fails-stops (table.Entry key index fault) read next is = ap (λ r. read_then r next) is
 fails-stops table.OutOfMemory read next is = tt
 
--- the second tables of a text that are refused
+-- the second tables of a text that are rejected
 pub both-stops : (locale text : List ℕ) (kept : TablesData) (e : TableError) (load : TablesData → DimensionData → Result FormData Refusal)
     → IsFor locale kept (tables_of text) → Fails e (dimension_tables_of text) → Stops (table_error e) (with_both text load)
 both-stops locale text kept e load (all, read, answers) is =
@@ -122,7 +122,7 @@ both-stops locale text kept e load (all, read, answers) is =
     rw (ap (λ (r : Result TablesData TableError). read_then r next) read)
     (fails-stops e (dimension_tables_of text) (λ d. started (load all d)) is)
 
--- why there is no form if the tables refuse
+-- why there is no form if the tables reject
 pub refuses-stops : (kind : DataErrorKind) (context : List ℕ) (answer : Result FormData Refusal) → Refuses kind context answer
     → Stops (start_error kind) (started answer)
 refuses-stops refusal.IdentifierNotFound context answer is = ap started is

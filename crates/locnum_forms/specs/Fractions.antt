@@ -7,7 +7,7 @@ use Rattle.decimal_lines.specs.declared.alone.TextError.{TextError}
 use Rattle.decimal_lines.specs.declared.alone.TextError.TheVariants.{Overflow}
 use Rattle.locnum_forms.specs.declared.wanted.FractionRange.{FractionRange}
 
--- the number of a size with so many digits at power 0 and above, and so many below
+-- the number of a size with that many digits at power 0 and above, and that many below
 abbrev pub number_of : ℕ → ℕ → ℕ → Unsigned
 number_of before after x = record { digits = digits_from x (finest - after) (before + after); scale = after }
 
@@ -20,13 +20,13 @@ nearest_size n x = rounded_units (10 ^ (finest - n)) x * 10 ^ (finest - n)
 abbrev pub number_shown : ℕ → Unsigned → ℕ → Unsigned
 number_shown least d y = number_of (max (integer_count d) (count_up_to (magnitude y))) (max least (scale_of y)) y
 
--- d rounded half to even to at most so many fraction digits, and with at least so many; `Overflow` where that is ten to the
+-- d rounded half to even to at most that many fraction digits, and with at least that many; `Overflow` where that is ten to the
 -- power 32768 or more
 unfoldable pub with_fraction : ℕ → ℕ → Unsigned → Result Unsigned TextError
 with_fraction least most d =
     if nat_le (ten_to (pos 32768)) (nearest_size most (size d)) then Err Overflow else Ok (number_shown least d (nearest_size most (size d)))
 
--- d with fraction digits in a range, where one is given, counted from behind so many others
+-- d with fraction digits in a range, where one is given, counted from behind that many others
 abbrev pub in_range : ℕ → Option FractionRange → Unsigned → Result Unsigned TextError
 in_range moved None d = Ok d
 in_range moved (Some range) d = with_fraction (range.least + moved) (range.most + moved) d

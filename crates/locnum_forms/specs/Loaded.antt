@@ -1,4 +1,4 @@
--- The form of what tables answer, in the order in which they are asked, or the first refusal.
+-- The form of what tables answer, in the order in which they are asked, or the first error.
 use Rattle.std.specs.Prelude.{ℕ, List, Bool, Option, Some, None, Result, Ok, codes, if◌then◌else◌}
 use Rattle.icu_pattern.specs.Patterns.{PatternText}
 use Rattle.icu_plurals.specs.Elements.{Elements}
@@ -84,7 +84,7 @@ short_loaded wanted tables = compact_loaded wanted tables tables.short
 unfoldable pub long_loaded : WantedData → TablesData → Result FormData Refusal
 long_loaded wanted tables = compact_loaded wanted tables tables.long
 
--- so many fraction digits
+-- that many fraction digits
 abbrev pub exactly : ℕ → FractionRange
 exactly n = record { least = n; most = n }
 

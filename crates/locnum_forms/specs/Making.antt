@@ -27,7 +27,7 @@ abbrev pub Starts : {X : Type 0} → Result X StartError → Result X StartError
 Starts (Ok x) made = made ≡ Ok x
 Starts (Err e) made = Stops e made
 
--- why there is no form if the tables refuse
+-- why there is no form if the tables reject
 abbrev pub start_error : DataErrorKind → StartError
 start_error refusal.IdentifierNotFound = start.NoData
 start_error refusal.MarkerNotFound = start.NoData
@@ -35,7 +35,7 @@ start_error refusal.InvalidRequest = start.NoData
 start_error refusal.Custom = start.NoData
 start_error refusal.OutOfMemory = start.OutOfMemory
 
--- why there is no form if a text is refused
+-- why there is no form if a text is rejected
 abbrev pub table_error : TableError → StartError
 table_error table.NotJson = start.Refused table.NotJson
 table_error table.Float = start.Refused table.Float
@@ -49,7 +49,7 @@ abbrev pub started : {X : Type 0} → Result X Refusal → Result X StartError
 started (Ok x) = Ok x
 started (Err refusal) = Err (start_error refusal.kind)
 
--- what is made of tables that were read, or what refuses them
+-- what is made of tables that were read, or what rejects them
 abbrev pub read_then : {X Y : Type 0} → Result X TableError → (X → Result Y StartError) → Result Y StartError
 read_then (Ok x) next = next x
 read_then (Err e) next = Err (start.Refused e)

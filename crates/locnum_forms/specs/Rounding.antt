@@ -1,4 +1,4 @@
--- One rounding to just so many fraction digits, as `specs/Fractions.antt` computes it.
+-- One rounding to just that many fraction digits, as `specs/Fractions.antt` computes it.
 use Rattle.std.specs.Prelude.{◌≡◌, ℕ, ◌≤◌, ◌⊎◌, max, pos}
 use Rattle.fixed_decimal.specs.Size.{magnitude, size, ten_to}
 use Rattle.fixed_decimal.specs.Unsigned.{Unsigned, IsUnsigned, integer_count}

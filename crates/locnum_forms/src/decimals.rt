@@ -24,6 +24,8 @@ impl Form {
     ///
     /// Of a percent it is the number, and not its hundredfold. Compact numbers and compact amounts
     /// are rounded by what writes them, and not here.
+    // promise: It is the decimal that is written, rounded, with its sign.
+    // mutations: decimal_with_its_own_sign
     #[tactic(auto, unfolding(crate::specs::Decimals::decimal_written))]
     pub fn decimal(&self, alloc: Global, text: &[u8]) -> Result<Decimal, TextError>
         ensures ok { IfOk result (λ d.

@@ -9,13 +9,13 @@ pub enum StartError {
     /// The file of tables isn't UTF-8.
     #[error("not UTF-8")]
     NotUtf8,
-    /// Its text is refused.
+    /// Its text is rejected.
     #[error("{0}")]
     Refused(TableError),
     /// The tables lack data that the form needs.
     #[error("no data")]
     NoData,
-    /// An allocation was refused.
+    /// An allocation failed.
     #[error("out of memory")]
     OutOfMemory,
 }

@@ -12,14 +12,14 @@ use crate::wanted::FractionRange;
 use decimal_lines::TextError;
 use fixed_decimal::{Decimal, DecimalError};
 
-/// The power of the last of so many fraction digits.
+/// The power of the last of that many fraction digits.
 fn last_power(digits: u8, moved: u8) -> i16
     ensures { result ≡ pos 0 -ℤ pos (digits + moved) }
 {
     -(i16::from(digits) + i16::from(moved))
 }
 
-/// The decimal rounded to just so many fraction digits, half to even.
+/// The decimal rounded to just that many fraction digits, half to even.
 fn cut(decimal: Decimal, digits: u8, moved: u8) -> Result<Decimal, TextError>
     ensures ok { IfOk result (λ d. IsCut (digits + moved) decimal.absolute d.absolute) }
     ensures sign { IfOk result (λ d. d.sign ≡ decimal.sign) }
@@ -48,7 +48,7 @@ fn trimmed(decimal: Decimal) -> Decimal
     }
 }
 
-/// Whether the decimal has fewer fraction digits than so many.
+/// Whether the decimal has fewer fraction digits than that many.
 fn is_short_of(decimal: &Decimal, digits: u8, moved: u8) -> bool
     ensures short { MatchBool result (decimal.now.absolute.scale < digits + moved)
         (digits + moved ≤ decimal.now.absolute.scale) }
@@ -56,7 +56,7 @@ fn is_short_of(decimal: &Decimal, digits: u8, moved: u8) -> bool
     decimal.absolute.fraction().len() < usize::from(digits) + usize::from(moved)
 }
 
-/// The decimal with fraction digits in the range, counted from behind so many others.
+/// The decimal with fraction digits in the range, counted from behind that many others.
 fn with_fraction(decimal: Decimal, range: FractionRange, moved: u8) -> Result<Decimal, TextError>
     ensures ok { IfOk result (λ d.
         with_fraction (range.least + moved) (range.most + moved) decimal.absolute
@@ -72,7 +72,7 @@ fn with_fraction(decimal: Decimal, range: FractionRange, moved: u8) -> Result<De
     Ok(trimmed)
 }
 
-/// The decimal with fraction digits in the range, where there is one, counted from behind so many
+/// The decimal with fraction digits in the range, where there is one, counted from behind that many
 /// others.
 pub(crate) fn in_range(
     decimal: Decimal,

@@ -101,7 +101,7 @@ pub(crate) fn load_long(
     })
 }
 
-/// So many fraction digits.
+/// That many fraction digits.
 fn exactly(digits: u8) -> FractionRange
     ensures { result ≡ exactly digits }
 {

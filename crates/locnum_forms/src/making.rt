@@ -26,7 +26,7 @@ use icu_tables::{TableError, Tables};
 use std::alloc::Global;
 use std::str;
 
-/// Why there is no form if the tables refuse.
+/// Why there is no form if the tables reject.
 fn start_error(error: DataError) -> StartError
     ensures { result ≡ start_error error.kind }
 {
@@ -36,7 +36,7 @@ fn start_error(error: DataError) -> StartError
     }
 }
 
-/// Why there is no form if the text is refused.
+/// Why there is no form if the text is rejected.
 fn table_error(error: TableError) -> StartError
     ensures { result ≡ table_error error }
 {
@@ -219,7 +219,9 @@ impl Form {
     ///
     /// `NotUtf8` if the file isn't UTF-8; `Refused` with the first fault of its text, of the tables
     /// of numbers first, and then, for money, percents and units, of theirs; `NoData` if the tables
-    /// lack data that the form needs; `OutOfMemory` if an allocation is refused.
+    /// lack data that the form needs; `OutOfMemory` if an allocation fails.
+    // promise: Options and tables determine the form, or why there is none.
+    // mutations: money_digits_of_cash_exchanged
     pub fn make(alloc: Global, wanted: &Wanted<'_>, file: &[u8]) -> Result<Form, StartError>
         ensures text { IsUtf8 file.now → Starts result (form_of wanted.now file.now) }
         ensures no_text { ¬ (IsUtf8 file.now) → result ≡ Err StartError.NotUtf8 }

@@ -149,7 +149,9 @@ impl Form {
     /// What the form writes for a text, with the byte offsets of its parts (this project's own):
     /// those of `icu_decimal` and `icu_dimension`; in a compact number the sign alone has a part.
     ///
-    /// It is refused as by [`push`](Form::push).
+    /// It is rejected as by [`push`](Form::push).
+    // promise: The text with parts has the events that `push` writes.
+    // mutations: marked_sign_decided_before_rounding
     #[tactic(auto, unfolding(crate::specs::Forms::form_events))]
     pub fn mark(&self, alloc: Global, text: &[u8]) -> Result<PartsText, TextError>
         ensures ok { IfOk result (λ t. form_events self.now text.now ≡ Ok t.events) }

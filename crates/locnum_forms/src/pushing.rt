@@ -250,6 +250,8 @@ impl Form {
     /// its sign is decided, so that a number that is rounded to zero has none where zero has none.
     /// `Overflow` where the rounded number, the nearest compact number or a hundred times the
     /// number is too large. Without memory some bytes of what is written may stand there.
+    // promise: The buffer grows by just what the form writes of the text.
+    // mutations: sign_decided_before_rounding, compact_money_in_full
     #[tactic(auto, unfolding(crate::specs::Forms::form_events))]
     pub fn push(&self, alloc: Global, text: &[u8], out: &mut Vec<u8>) -> Result<(), TextError>
         ensures ok { OnOk result (AppendsShown (form_events self.now text.now) out.old.items

@@ -9,7 +9,7 @@ use std::marker::Model;
 
 /// How many fraction digits are written (this project's own).
 ///
-/// A number is rounded half to even to at most so many, and zeros are written behind it where it
+/// A number is rounded half to even to at most that many, and zeros are written behind it where it
 /// has fewer than the least. Where the least is more than the most, that many are written, the last
 /// of them zeros.
 #[derive(Clone, Copy, Debug, PartialEq, Eq)]

@@ -1,5 +1,5 @@
 //! Forms that rows ask for, by the tables of a text, and what they write. Values live in functions
-//! that answer whether they hold; what was refused memory is asked once more.
+//! that answer whether they hold; a call whose allocation failed is made once more.
 
 use crate::compact::COMPACT;
 use crate::parts::{Span, has_parts, is_decimal, is_marked, is_of};
@@ -193,7 +193,7 @@ fn wanted(options: &Options) -> Option<Wanted<'static>> {
     })
 }
 
-/// What the form appends, asked once more where memory was refused.
+/// What the form appends, asked once more where memory ran out.
 fn pushed(alloc: Global, form: &Form, text: &[u8], out: &mut Vec<u8>) -> Result<(), TextError> {
     match form.push(alloc, text, out) {
         Err(TextError::OutOfMemory) => {
@@ -204,7 +204,7 @@ fn pushed(alloc: Global, form: &Form, text: &[u8], out: &mut Vec<u8>) -> Result<
     }
 }
 
-/// Whether the form writes the text so, or refuses it so.
+/// Whether the form writes the text so, or rejects it so.
 fn is_pushed(alloc: Global, form: &Form, text: &str, want: Result<&str, TextError>) -> bool {
     let mut out = Vec::new(alloc);
     match (pushed(alloc, form, text.as_bytes(), &mut out), want) {
@@ -214,7 +214,7 @@ fn is_pushed(alloc: Global, form: &Form, text: &str, want: Result<&str, TextErro
     }
 }
 
-/// Whether the form writes so many bytes of the text, or refuses it so.
+/// Whether the form writes that many bytes of the text, or rejects it so.
 fn is_so_many(alloc: Global, form: &Form, text: &[u8], want: Result<usize, TextError>) -> bool {
     let mut out = Vec::new(alloc);
     match (pushed(alloc, form, text, &mut out), want) {
@@ -229,15 +229,15 @@ fn is_so_many(alloc: Global, form: &Form, text: &[u8], want: Result<usize, TextE
 pub(crate) enum Question<'a> {
     /// Whether there is one.
     Made,
-    /// Whether it writes the text so, or refuses it so.
+    /// Whether it writes the text so, or rejects it so.
     Writes(&'a str, Result<&'a str, TextError>),
-    /// Whether it writes so many bytes of the text, or refuses it so.
+    /// Whether it writes that many bytes of the text, or rejects it so.
     WritesSoMany(&'a [u8], Result<usize, TextError>),
-    /// Whether it writes the text so with these parts, or refuses it so.
+    /// Whether it writes the text so with these parts, or rejects it so.
     Marks(&'a str, Result<(&'a str, &'a [Span]), TextError>),
-    /// Whether it writes the text with so many parts, or refuses it so.
+    /// Whether it writes the text with that many parts, or rejects it so.
     MarksSoMany(&'a [u8], Result<usize, TextError>),
-    /// Whether it has this decimal for the text, or refuses it so.
+    /// Whether it has this decimal for the text, or rejects it so.
     Decimal(&'a [u8], Result<(Sign, &'a [u8], &'a [u8]), TextError>),
     /// Whether what writes is of the kind that a letter names.
     Kind(char),
@@ -273,7 +273,7 @@ fn asked_once(
     }
 }
 
-/// The same, asked once more where memory was refused.
+/// The same, asked once more where memory ran out.
 pub(crate) fn ask(
     alloc: Global,
     options: &Options,
@@ -286,7 +286,7 @@ pub(crate) fn ask(
     }
 }
 
-/// Whether a text is written so by the tables, or refused so.
+/// Whether a text is written so by the tables, or rejected so.
 pub(crate) fn is_written(
     alloc: Global,
     options: &Options,

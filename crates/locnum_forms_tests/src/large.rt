@@ -62,7 +62,7 @@ const NINES: &[(
     ),
 ];
 
-/// So many nines, a point and so many others.
+/// That many nines, a point and that many others.
 fn nines(alloc: Global, (before, after): (usize, usize)) -> Result<Vec<u8>, AllocError> {
     let mut text = Vec::from_elem(alloc, b'9', before)?;
     if after > 0 {
@@ -72,7 +72,7 @@ fn nines(alloc: Global, (before, after): (usize, usize)) -> Result<Vec<u8>, Allo
     Ok(text)
 }
 
-/// The same, made once more where memory was refused.
+/// The same, made once more where memory ran out.
 fn some_nines(alloc: Global, counts: (usize, usize)) -> Result<Vec<u8>, AllocError> {
     match nines(alloc, counts) {
         Ok(text) => Ok(text),
@@ -80,7 +80,7 @@ fn some_nines(alloc: Global, counts: (usize, usize)) -> Result<Vec<u8>, AllocErr
     }
 }
 
-/// Whether so many bytes are written of so many nines.
+/// Whether that many bytes are written of that many nines.
 fn is_so_long(
     alloc: Global,
     options: &Options,

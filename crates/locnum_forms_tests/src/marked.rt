@@ -115,7 +115,7 @@ fn texts_have_the_parts_of_what_is_written(rt: HostRuntime) {
     }
 }
 
-/// So many nines.
+/// That many nines.
 fn nines(alloc: Global, count: usize) -> Result<Vec<u8>, AllocError> {
     match Vec::from_elem(alloc, b'9', count) {
         Ok(text) => Ok(text),
@@ -123,7 +123,7 @@ fn nines(alloc: Global, count: usize) -> Result<Vec<u8>, AllocError> {
     }
 }
 
-/// Whether so many nines are written with so many parts.
+/// Whether that many nines are written with that many parts.
 fn has_parts(alloc: Global, asked: Asked, count: usize, want: Result<usize, TextError>) -> bool {
     let Ok(text) = nines(alloc, count) else {
         return false;

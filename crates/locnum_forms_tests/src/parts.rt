@@ -1,5 +1,5 @@
-//! Whether a form has such parts, such a decimal, or such a formatter. What was refused memory is asked
-//! once more.
+//! Whether a form has such parts, such a decimal, or such a formatter. A call whose allocation
+//! failed is made once more.
 
 use decimal_lines::Mode;
 use fixed_decimal::{Decimal, Sign};
@@ -7,7 +7,7 @@ use locnum_forms::{Form, Formatter, TextError};
 use std::alloc::Global;
 use writeable::{Part, PartsText};
 
-/// What the form marks, asked once more where memory was refused.
+/// What the form marks, asked once more where memory ran out.
 fn marked(alloc: Global, form: &Form, text: &[u8]) -> Result<PartsText, TextError> {
     match form.mark(alloc, text) {
         Err(TextError::OutOfMemory) => form.mark(alloc, text),
@@ -15,7 +15,7 @@ fn marked(alloc: Global, form: &Form, text: &[u8]) -> Result<PartsText, TextErro
     }
 }
 
-/// The parts of a text, asked once more where memory was refused.
+/// The parts of a text, asked once more where memory ran out.
 fn spans(alloc: Global, text: &PartsText) -> Option<Vec<(usize, usize, Part)>> {
     match text.spans(alloc) {
         Ok(spans) => Some(spans),
@@ -43,7 +43,7 @@ fn is_with_parts(alloc: Global, text: &PartsText, want: &str, parts: &[Span]) ->
     }
 }
 
-/// Whether the form writes the text so with these parts, or refuses it so.
+/// Whether the form writes the text so with these parts, or rejects it so.
 pub(crate) fn is_marked(
     alloc: Global,
     form: &Form,
@@ -57,7 +57,7 @@ pub(crate) fn is_marked(
     }
 }
 
-/// Whether the form writes the text with so many parts, or refuses it so.
+/// Whether the form writes the text with that many parts, or rejects it so.
 pub(crate) fn has_parts(
     alloc: Global,
     form: &Form,
@@ -74,7 +74,7 @@ pub(crate) fn has_parts(
     }
 }
 
-/// The decimal of the form, asked once more where memory was refused.
+/// The decimal of the form, asked once more where memory ran out.
 fn decimal_of(alloc: Global, form: &Form, text: &[u8]) -> Result<Decimal, TextError> {
     match form.decimal(alloc, text) {
         Err(TextError::OutOfMemory) => form.decimal(alloc, text),
@@ -82,7 +82,7 @@ fn decimal_of(alloc: Global, form: &Form, text: &[u8]) -> Result<Decimal, TextEr
     }
 }
 
-/// Whether the form has this decimal for the text, or refuses it so.
+/// Whether the form has this decimal for the text, or rejects it so.
 pub(crate) fn is_decimal(
     alloc: Global,
     form: &Form,

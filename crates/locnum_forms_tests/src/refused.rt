@@ -166,7 +166,7 @@ fn files_that_are_no_text_are_refused(rt: HostRuntime) {
     }
 }
 
-/// Tables of numbers, without others and with others that would be refused.
+/// Tables of numbers, without others and with others that would be rejected.
 const MADE: &[&str] = &[NUMBERS, NO_PATTERN];
 
 #[test]

@@ -20,7 +20,7 @@ fn is_styled_once(alloc: Global, value: &StartError, want: &str) -> bool {
         && is_text(format!(in alloc; "{value:#}"), want)
 }
 
-/// The same, asked once more where memory was refused.
+/// The same, asked once more where memory ran out.
 fn is_styled(alloc: Global, value: &StartError, want: &str) -> bool {
     is_styled_once(alloc, value, want) || is_styled_once(alloc, value, want)
 }

@@ -1,17 +1,19 @@
 -- What a record, a part of a record and many records feed.
-use Rattle.std.proofs.Common.{◌≡◌, ℕ, ◌+◌, ◌-◌, true, false, List, [], ◌∷◌, ◌++◌, length, length-append, refl, sym}
+use Rattle.std.proofs.Common.{◌≡◌, ℕ, true, false, List, [], ◌∷◌, ◌++◌, refl, sym}
 use Rattle.std.proofs.Common.{ap, ◌∙◌, append_assoc}
 use Rattle.std.proofs.lemmas.Bool.{false≢true}
 use Rattle.std.proofs.lemmas.List.{append-nil}
 use Rattle.locnum_forms.specs.Forms.{FormData}
-use Rattle.locnum_lines.specs.Gathered.{Adds, Feeds, GatheredData, lines_of}
+use Rattle.locnum_lines.specs.Gathered.{Adds, Feeds, GatheredData}
 use Rattle.locnum_lines.specs.Ran.{joined}
 use Rattle.locnum_lines.specs.RecordRuns.{record_ran, records_ran}
-use Rattle.locnum_lines.specs.Records.{IsPart, is_open, lines_in, records_of}
+use Rattle.locnum_lines.specs.Records.{IsPart, is_open, records_of}
 use Rattle.locnum_lines.specs.Settings.{SettingsData}
+use Rattle.locnum_lines.specs.Stage.{stage_after, stage_behind}
 use Rattle.locnum_lines.specs.declared.cutting.Place.TheVariants.{Front}
 use Rattle.locnum_lines.proofs.Adding.{Adds-end, Adds-joined, Adds-start, then_runs-on}
-use Rattle.locnum_lines.proofs.Feeding.{lines_of-append, lines_of-none, lines_of-one, record-ended, records_ran-append, records_ran-none, records_ran-one}
+use Rattle.locnum_lines.proofs.Feeding.{record-ended, records_ran-append, records_ran-none, records_ran-one, stage_behind-append, stage_behind-none}
+use Rattle.locnum_lines.proofs.Feeding.{stage_behind-one}
 
 module _ (settings : SettingsData) (form : FormData) where
   -- more of a record, held back
@@ -23,7 +25,7 @@ module _ (settings : SettingsData) (form : FormData) where
     left = held ++ more;
     are_whole = λ rest. refl;
     parts = refl;
-    adds = rw (records_ran-none settings form g.header g.lines, lines_of-none settings.end) (Adds-start g going);
+    adds = rw (records_ran-none settings form g.stage, stage_behind-none settings g.stage) (Adds-start g going);
     is_held = λ on. refl;
     is_part = λ on. h;
   }
@@ -37,7 +39,7 @@ module _ (settings : SettingsData) (form : FormData) where
     left = held;
     are_whole = λ rest. refl;
     parts = append-nil held;
-    adds = rw (records_ran-none settings form g.header g.lines, lines_of-none settings.end) (Adds-start g going);
+    adds = rw (records_ran-none settings form g.stage, stage_behind-none settings g.stage) (Adds-start g going);
     is_held = λ on. refl;
     is_part = λ on. h;
   }
@@ -45,7 +47,7 @@ module _ (settings : SettingsData) (form : FormData) where
   -- the rest of a record and its end
   pub Feeds-record : (old new : GatheredData) (held more : List ℕ) → IsPart settings.delimiter settings.end Front (held ++ more) →
       is_open settings.delimiter (held ++ more) ≡ false →
-      Adds old new (record_ran settings form old.header old.lines (held ++ more)) 1 (lines_in settings.end (held ++ more)) →
+      Adds old new (record_ran settings form old.stage (held ++ more)) (stage_after settings old.stage (held ++ more)) →
       Feeds settings form old new held (more ++ settings.end ∷ []) []
   Feeds-record old new held more h closed adds =
       let line = held ++ more in
@@ -56,8 +58,8 @@ module _ (settings : SettingsData) (form : FormData) where
         are_whole = λ rest. ap (records_of settings.delimiter settings.end) (append_assoc line (settings.end ∷ []) rest)
             ∙ record-ended settings.delimiter settings.end Front line rest h closed;
         parts = sym (append_assoc held more (settings.end ∷ [])) ∙ sym (append-nil (line ++ settings.end ∷ []));
-        adds = rw (records_ran-one settings form line old.header old.lines, lines_of-one settings.end line)
-            (Adds-end old new (record_ran settings form old.header old.lines line) 1 (lines_in settings.end line) adds);
+        adds = rw (records_ran-one settings form line old.stage, stage_behind-one settings old.stage line)
+            (Adds-end old new (record_ran settings form old.stage line) (stage_after settings old.stage line) adds);
         is_held = λ on. refl;
         is_part = λ on. tt;
       }
@@ -66,17 +68,14 @@ module _ (settings : SettingsData) (form : FormData) where
   pub Feeds-then : (old mid new : GatheredData) (p a p1 b p2 : List ℕ) → mid.is_stopped ≡ false → Feeds settings form old mid p a p1 →
       Feeds settings form mid new p1 b p2 → Feeds settings form old new p (a ++ b) p2
   Feeds-then old mid new p a p1 b p2 on f s =
-      let first = records_ran settings form old.header old.lines f.records in
-      let second = records_ran settings form mid.header mid.lines s.records in
+      let first = records_ran settings form old.stage f.records in
+      let second = records_ran settings form mid.stage s.records in
       let going : first.is_stopped ≡ false = sym f.adds.is_stopped ∙ on in
-      let header : mid.header ≡ old.header - length f.records = f.adds.header on in
-      let lines : mid.lines ≡ old.lines + lines_of settings.end f.records = f.adds.lines on in
-      let ran : records_ran settings form old.header old.lines (f.records ++ s.records) ≡ joined first second = rw (
-        records_ran-append settings form f.records s.records old.header old.lines,
-        then_runs-on first (records_ran settings form (old.header - length f.records) (old.lines + lines_of settings.end f.records) s.records) going,
-        header,
-        lines,
-      ) refl in
+      let stage : mid.stage ≡ stage_behind settings old.stage f.records = f.adds.stage on in
+      let ran : records_ran settings form old.stage (f.records ++ s.records) ≡ joined first second =
+      records_ran-append settings form f.records s.records old.stage
+      ∙ then_runs-on first (records_ran settings form (stage_behind settings old.stage f.records) s.records) going
+      ∙ ap (λ k. joined first (records_ran settings form k s.records)) (sym stage) in
       record {
         records = f.records ++ s.records;
         whole = f.whole ++ s.whole;
@@ -87,9 +86,9 @@ module _ (settings : SettingsData) (form : FormData) where
         parts = sym (append_assoc p a b) ∙ ap (λ (k : List ℕ). k ++ b) f.parts ∙ append_assoc f.whole f.left b
             ∙ ap (λ (k : List ℕ). f.whole ++ (k ++ b)) (sym (f.is_held on)) ∙ ap (λ (k : List ℕ). f.whole ++ k) s.parts
             ∙ sym (append_assoc f.whole s.whole s.left);
-        adds = rw (ran, length-append f.records s.records, lines_of-append settings.end f.records s.records)
-            (Adds-joined old mid new first second (length f.records) (length s.records) (lines_of settings.end f.records)
-            (lines_of settings.end s.records) f.adds going s.adds);
+        adds = rw (ran, stage_behind-append settings f.records s.records old.stage, ← stage)
+            (Adds-joined old mid new first second (stage_behind settings old.stage f.records) (stage_behind settings mid.stage s.records)
+            f.adds going s.adds);
         is_held = s.is_held;
         is_part = s.is_part;
       }

@@ -1,7 +1,7 @@
 -- What records and parts of records add to what was gathered.
 -- A part of a record that ends now is the first record of all that comes (`record-ended`), and what runs for some records and
 -- others runs one behind the other (`records_ran-append`), unless the run stops.
-use Rattle.std.proofs.Common.{◌≡◌, ℕ, suc, ◌+◌, ◌-◌, ◌<◌, Bool, get_or, take, drop, length-take, true, false, eqb}
+use Rattle.std.proofs.Common.{◌≡◌, ℕ, suc, ◌+◌, ◌<◌, Bool, get_or, take, drop, length-take, true, false, eqb}
 use Rattle.std.proofs.Common.{arith, length, List, [], ◌∷◌, ◌++◌, refl, sym, ap, ◌∙◌, append_assoc}
 use Rattle.std.specs.Prelude.{◌&&◌}
 use Rattle.std.proofs.lemmas.Bool.{eqb-true}
@@ -11,12 +11,12 @@ use Rattle.memchr.specs.Find.{NoneBefore, Nowhere, Passes, is_byte}
 use Rattle.decimal_lines.specs.Lines.{onto_first}
 use Rattle.locnum_forms.specs.Forms.{FormData}
 use Rattle.locnum_lines.specs.Fields.{is_quoted}
-use Rattle.locnum_lines.specs.Gathered.{lines_of}
 use Rattle.locnum_lines.specs.Ran.{then_runs, writes}
 use Rattle.locnum_lines.specs.RecordRuns.{next_ran, open_ran, record_ran, records_ran}
-use Rattle.locnum_lines.specs.Records.{IsPart, IsPartLine, in_front, is_open, last_begun, lines_in, place_after, place_behind, records_from}
+use Rattle.locnum_lines.specs.Records.{IsPart, IsPartLine, in_front, is_open, last_begun, place_after, place_behind, records_from}
 use Rattle.locnum_lines.specs.Settings.{SettingsData}
-use Rattle.locnum_lines.proofs.Adding.{then_runs-assoc}
+use Rattle.locnum_lines.specs.Stage.{Stage, stage_after, stage_behind}
+use Rattle.locnum_lines.proofs.Adding.{joined-none, then_runs-assoc}
 use Rattle.locnum_lines.specs.declared.cutting.Place.{Place}
 use Rattle.locnum_lines.specs.declared.cutting.Place.TheVariants.{Front}
 use Rattle.locnum_lines.specs.declared.settings.Delimiter.{Delimiter}
@@ -113,59 +113,53 @@ module _ (end : ℕ) where
       whole ∙ ap (λ (l : List ℕ). take n hay ++ l) tail ∙ sym (append_assoc (take n hay) (end ∷ []) (drop (n + 1) hay))
       ∙ ap (λ (l : List ℕ). (take n hay ++ end ∷ []) ++ l) (ap (drop 1) (sym tail))
 
--- the lines of some records and others
-pub lines_of-append : (end : ℕ) (ls ms : List (List ℕ)) → lines_of end (ls ++ ms) ≡ lines_of end ls + lines_of end ms
-unfolding lines_of
-lines_of-append end [] ms = omega arith
-lines_of-append end (l ∷ ls) ms = omega (arith, lines_of-append end ls ms)
+module _ (settings : SettingsData) where
+  -- how far a run is behind no record, behind one, and behind some and others
+  pub stage_behind-none : (stage : Stage) → stage_behind settings stage [] ≡ stage
+  unfolding stage_behind
+  stage_behind-none stage = refl
 
--- those of one
-pub lines_of-one : (end : ℕ) (line : List ℕ) → lines_of end (line ∷ []) ≡ lines_in end line
-unfolding lines_of
-lines_of-one end line = omega arith
+  pub stage_behind-one : (stage : Stage) (line : List ℕ) → stage_behind settings stage (line ∷ []) ≡ stage_after settings stage line
+  unfolding stage_behind
+  stage_behind-one stage line = refl
 
--- those of none
-pub lines_of-none : (end : ℕ) → lines_of end [] ≡ 0
-unfolding lines_of
-lines_of-none end = refl
+  pub stage_behind-append : (ls ms : List (List ℕ)) (stage : Stage) →
+      stage_behind settings stage (ls ++ ms) ≡ stage_behind settings (stage_behind settings stage ls) ms
+  unfolding stage_behind
+  stage_behind-append [] ms stage = refl
+  stage_behind-append (l ∷ ls) ms stage = stage_behind-append ls ms (stage_after settings stage l)
 
 module _ (settings : SettingsData) (form : FormData) where
   -- records and then others: those run too, unless the run has stopped
-  pub records_ran-append : (ls ms : List (List ℕ)) (left lines : ℕ) → records_ran settings form left lines (ls ++ ms)
-      ≡ then_runs (records_ran settings form left lines ls)
-      (records_ran settings form (left - length ls) (lines + lines_of settings.end ls) ms)
-  unfolding records_ran lines_of
-  records_ran-append [] ms left lines =
-      let e : left - 0 ≡ left = omega arith in
-      let f : lines + 0 ≡ lines = omega arith in
-      rw (e, f) refl
-  records_ran-append (l ∷ ls) ms left lines =
-      let e : (left - 1) - length ls ≡ left - suc (length ls) = omega arith in
-      let f : (lines + lines_in settings.end l) + lines_of settings.end ls ≡ lines + (lines_in settings.end l + lines_of settings.end ls) = omega arith in
-      ap (then_runs (record_ran settings form left lines l)) (records_ran-append ls ms (left - 1) (lines + lines_in settings.end l))
-      ∙ rw (e, f) (then_runs-assoc (record_ran settings form left lines l) (records_ran settings form (left - 1) (lines + lines_in settings.end l) ls)
-      (records_ran settings form (left - suc (length ls)) (lines + (lines_in settings.end l + lines_of settings.end ls)) ms))
+  pub records_ran-append : (ls ms : List (List ℕ)) (stage : Stage) → records_ran settings form stage (ls ++ ms)
+      ≡ then_runs (records_ran settings form stage ls) (records_ran settings form (stage_behind settings stage ls) ms)
+  unfolding records_ran stage_behind
+  records_ran-append [] ms stage = sym (joined-none (records_ran settings form stage ms))
+  records_ran-append (l ∷ ls) ms stage =
+      ap (then_runs (record_ran settings form stage l)) (records_ran-append ls ms (stage_after settings stage l))
+      ∙ then_runs-assoc (record_ran settings form stage l) (records_ran settings form (stage_after settings stage l) ls)
+      (records_ran settings form (stage_behind settings (stage_after settings stage l) ls) ms)
 
   -- one record
-  pub records_ran-one : (line : List ℕ) (left lines : ℕ) →
-      records_ran settings form left lines (line ∷ []) ≡ then_runs (record_ran settings form left lines line) (writes [])
+  pub records_ran-one : (line : List ℕ) (stage : Stage) →
+      records_ran settings form stage (line ∷ []) ≡ then_runs (record_ran settings form stage line) (writes [])
   unfolding records_ran
-  records_ran-one line left lines = refl
+  records_ran-one line stage = refl
 
   -- no record
-  pub records_ran-none : (left lines : ℕ) → records_ran settings form left lines [] ≡ writes []
+  pub records_ran-none : (stage : Stage) → records_ran settings form stage [] ≡ writes []
   unfolding records_ran
-  records_ran-none left lines = refl
+  records_ran-none stage = refl
 
   -- a record whose quotes end
-  pub record_ran-closed : (left lines : ℕ) (line : List ℕ) → is_open settings.delimiter line ≡ false →
-      record_ran settings form left lines line ≡ next_ran settings form settings.end left line
+  pub record_ran-closed : (stage : Stage) (line : List ℕ) → is_open settings.delimiter line ≡ false →
+      record_ran settings form stage line ≡ next_ran settings form stage settings.end line
   unfolding record_ran
-  record_ran-closed left lines line closed = rw closed refl
+  record_ran-closed stage line closed = rw closed refl
 
   -- and one whose quotes don't
-  pub record_ran-open : (left lines : ℕ) (line : List ℕ) → is_open settings.delimiter line ≡ true → record_ran settings form left lines line
-      ≡ open_ran settings form left (last_begun settings.delimiter settings.end Front (lines + 1) (lines + 1) line)
+  pub record_ran-open : (stage : Stage) (line : List ℕ) → is_open settings.delimiter line ≡ true → record_ran settings form stage line
+      ≡ open_ran settings form stage (last_begun settings.delimiter settings.end Front (stage.lines + 1) (stage.lines + 1) line)
       (in_front settings.delimiter Front line)
   unfolding record_ran
-  record_ran-open left lines line open' = rw open' refl
+  record_ran-open stage line open' = rw open' refl

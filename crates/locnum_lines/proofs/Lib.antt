@@ -6,6 +6,7 @@ pub mod Numbers
 pub mod Chosen
 pub mod FirstField
 pub mod Goes
+pub mod Naming
 pub mod Passing
 pub mod Feeding
 pub mod Skips
@@ -13,3 +14,6 @@ pub mod LinePlaces
 pub mod Fed
 pub mod Runs
 pub mod OneField
+pub mod Marked
+pub mod Near
+pub mod Found

@@ -16,7 +16,7 @@ pub record IsFirstPlace (test : ℕ → Bool) (hay : List ℕ) (i j n : ℕ) (ot
   pub are_behind : others ≡ places_between test hay (n + 1) j
 
 module _ (test : ℕ → Bool) (hay : List ℕ) where
-  -- the first of some places among so many, and where there is none
+  -- the first of some places among that many, and where there is none
   first-from : (i m n : ℕ) (others : List ℕ) → places_from test hay i m ≡ n ∷ others → IsFirstPlace test hay i (i + m) n others
   unfolding places_from
   first-from i zero n others e = absurd cc

@@ -1,5 +1,5 @@
 -- A text that is shown as a number is a whole field without blanks, unless a byte of numbers ends fields.
-use Rattle.std.proofs.Common.{◌≡◌, ℕ, suc, Bool, true, false, List, [], ◌∷◌, ◌++◌, length}
+use Rattle.std.proofs.Common.{◌≡◌, ◌≤◌, ℕ, suc, Bool, true, false, List, [], ◌∷◌, ◌++◌, length, take, drop}
 use Rattle.std.proofs.Common.{Option, Some, None, refl, sym, ap, ◌∙◌, arith}
 use Rattle.std.specs.Prelude.{◌&&◌, ◌==◌, Result, Ok, Err, if◌then◌else◌}
 use Rattle.std.specs.Char.{is_ascii_digit}
@@ -17,14 +17,18 @@ use Rattle.fixed_decimal.specs.Reading.{Digits, after_integer, digit_before, lea
 use Rattle.fixed_decimal.specs.Unsigned.{Unsigned}
 use Rattle.locnum_lines.specs.Fields.{Cut, blanks_before, content_length, cut, ends_field, field_length, is_blank, is_blank_behind}
 use Rattle.locnum_lines.specs.Fields.{is_plain, next_place, with_byte}
-use Rattle.locnum_lines.specs.FieldRuns.{blanks_kept, chosen_ran, field_ran}
+use Rattle.locnum_lines.specs.FieldRuns.{blanks_kept, chosen_ran, field_ran, held_by}
 use Rattle.locnum_lines.specs.Gathered.{Adds, GatheredData, GoesOn}
 use Rattle.locnum_lines.specs.Padding.{padded}
+use Rattle.locnum_lines.specs.Ran.{first_of}
 use Rattle.locnum_lines.specs.Settings.{SettingsData, is_chosen}
+use Rattle.locnum_lines.specs.Stage.{fields_of}
 use Rattle.locnum_lines.specs.Whole.{LeavesNumbers, is_of_numbers}
 use Rattle.locnum_lines.proofs.Goes.{goes-last}
-use Rattle.locnum_lines.proofs.Numbers.{field-picked, number-shown, parts-chosen}
+use Rattle.locnum_lines.proofs.Numbers.{field-picked, number-shown, parts-chosen, width}
+use Rattle.locnum_lines.specs.Widths.{width_by}
 use Rattle.locnum_lines.specs.declared.cutting.Place.TheVariants.{Front}
+use Rattle.locnum_lines.specs.declared.padding.Width.{Width}
 use Rattle.locnum_lines.specs.declared.cutting.Place.{Place}
 use Rattle.locnum_lines.specs.declared.settings.Delimiter.{Delimiter}
 use Rattle.locnum_lines.specs.declared.settings.Delimiter.TheVariants.{Blanks, Byte, Csv}
@@ -161,26 +165,57 @@ shown-of form text events e = go (decimal_read text) refl e
     go (Ok read) r f = decimal-of text read r
     go (Err error) r f = absurd cc
 
--- the rest of a record that is shown as a number is its last field
+-- a text that takes the width of its field, behind no blanks
+filled : (w : Option Width) (text : List ℕ) → padded w text ≡ text → blanks_kept w [] ++ padded w text ≡ text
+filled None text e = refl
+filled (Some w) text e = e
+
+-- the rest of a record that is shown as a number, which takes the width of its field, is its last field
 pub whole-goes : (settings : SettingsData) (form : FormData) (index : ℕ) (line : List ℕ) (old new : GatheredData) →
-    LeavesNumbers settings.delimiter → settings.padding ≡ None → is_chosen settings.fields index ≡ true → old.is_stopped ≡ false →
-    (events : List Event) → form_events form line ≡ Ok events → new ≡ record old { output = old.output ++ text_of events } →
+    LeavesNumbers settings.delimiter → is_chosen (fields_of settings old.stage) index ≡ true → index ≤ old.most_fields →
+    old.is_stopped ≡ false → (events : List Event) → form_events form line ≡ Ok events →
+    padded (width_by settings.delimiter settings.padding index [] line) (text_of events) ≡ text_of events →
+    new ≡ record old { output = old.output ++ text_of events; holding = first_of old.holding (held_by settings.delimiter (text_of events)) } →
     GoesOn settings form index old new line None
-whole-goes settings form index line old new leaves no_padding chosen going events shown written =
+whole-goes settings form index line old new leaves chosen counted going events shown stands written =
     let of_numbers = shown-of form line events shown in
     let is : length line ≡ field_length settings.delimiter Front line = sym (whole-field settings.delimiter Front line leaves of_numbers) in
     let field : Cut = record { before = []; number = line; behind = [] } in
     let all : new ≡ record new { output = new.output ++ [] } =
     ap (λ (k : List ℕ). record new { output = k }) (sym (append-nil new.output)) in
-    let first : new ≡ record old { output = old.output ++ (blanks_kept settings.padding [] ++ padded settings.padding (text_of events)) } =
-    rw no_padding written in
-    let adds = parts-chosen settings form old new line [] line [] (cut-whole line of_numbers)
-    (number-shown settings form field old new new events going shown first all) in
-    let picked : Adds old new (field_ran settings form index line) 0 0 = pick settings.delimiter leaves refl adds in
+    let first : new ≡ record old {
+      output = old.output ++ (blanks_kept (width settings form old.stage index field) []
+          ++ padded (width settings form old.stage index field) (text_of events));
+      holding = first_of old.holding (held_by settings.delimiter (text_of events));
+    } =
+    rw (filled (width_by settings.delimiter settings.padding index [] line) (text_of events) stands) written in
+    let adds = parts-chosen settings form old.stage old.stage index old new line [] line [] (cut-whole line of_numbers)
+    (number-shown settings form old.stage index field old new new events going shown first all) in
+    let picked : Adds old new (field_ran settings form old.stage index line) old.stage = pick settings.delimiter leaves refl adds in
     goes-last settings form index line (length line) is old new (rw (take-length line) picked) (ap (λ g. g.is_stopped) written ∙ going) refl
   where
     pick : (delimiter : Delimiter) → LeavesNumbers delimiter → settings.delimiter ≡ delimiter →
-        Adds old new (chosen_ran settings form (cut line)) 0 0 → Adds old new (field_ran settings form index line) 0 0
-    pick Blanks l e a = field-picked settings form index line chosen Blanks e old new a
-    pick (Byte delimiter) l e a = field-picked settings form index line chosen (Byte delimiter) e old new a
+        Adds old new (chosen_ran settings form old.stage index (cut line)) old.stage →
+        Adds old new (field_ran settings form old.stage index line) old.stage
+    pick Blanks l e a = field-picked settings form old.stage old.stage index line chosen Blanks e old new counted a
+    pick (Byte delimiter) l e a = field-picked settings form old.stage old.stage index line chosen (Byte delimiter) e old new counted a
     pick (Csv delimiter) l e a = absurd l
+
+-- what was written behind others is forgotten, where blanks end fields
+pub forgotten : (old : GatheredData) (text : List ℕ) →
+    record old { output = take (length old.output) (old.output ++ text); holding = first_of old.holding [] } ≡ old
+forgotten old text =
+    rw (take-front old.output text, first_of-nothing old.holding) refl
+  where
+    take-front : (xs ys : List ℕ) → take (length xs) (xs ++ ys) ≡ xs
+    take-front [] ys = refl
+    take-front (x ∷ xs) ys = ap (λ (k : List ℕ). x ∷ k) (take-front xs ys)
+
+    first_of-nothing : (xs : List ℕ) → first_of xs [] ≡ xs
+    first_of-nothing [] = refl
+    first_of-nothing (x ∷ xs) = refl
+
+-- what stands behind others
+pub behind-front : (xs ys : List ℕ) → drop (length xs) (xs ++ ys) ≡ ys
+behind-front [] ys = refl
+behind-front (x ∷ xs) ys = behind-front xs ys

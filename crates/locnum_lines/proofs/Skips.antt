@@ -106,7 +106,7 @@ place-quoted delimiter AfterQuote bytes in_quotes part = absurd (false≢true in
 place-quoted delimiter Quoted [] in_quotes part = refl
 place-quoted delimiter Quoted (b ∷ bs) in_quotes part = rw part.0 (place-quoted delimiter Quoted bs refl part.1)
 
--- and outside of quotes the last of them tells the place behind them
+-- and outside of quotes the last of them determines the place behind them
 place-next : (delimiter : ℕ) (place : Place) (b : ℕ) → is_quoted place ≡ false → (b == 34) ≡ false →
     place_after (Csv delimiter) place b ≡ (if b == delimiter then Front else Plain)
 place-next delimiter Front b out h = rw h refl

@@ -5,13 +5,13 @@ use Rattle.locnum_lines.specs.declared.cutting.Place.TheVariants.{Front, Plain, 
 use Rattle.locnum_lines.specs.declared.settings.Delimiter.{Delimiter}
 use Rattle.locnum_lines.specs.declared.settings.Delimiter.TheVariants.{Blanks, Byte, Csv}
 
--- a space or a tab
+-- a space, a tab or a line feed, which stands in records where another byte ends lines
 abbrev pub is_blank : ℕ → Bool
-is_blank b = b == 32 || b == 9
+is_blank b = b == 32 || b == 9 || b == 10
 
 -- one of them, or a carriage return
 abbrev pub is_blank_behind : ℕ → Bool
-is_blank_behind b = b == 32 || b == 9 || b == 13
+is_blank_behind b = b == 32 || b == 9 || b == 10 || b == 13
 
 -- in a field, outside of quotes
 abbrev pub is_plain : Place → Bool

@@ -8,7 +8,7 @@ use Rattle.locnum_lines.specs.declared.settings.Delimiter.TheVariants.{Blanks, B
 abbrev pub is_of_numbers : ℕ → Bool
 is_of_numbers b = is_ascii_digit b || b == 46 || b == 45 || b == 43
 
--- no byte of a number ends a field, and a number stands in a field as it is
+-- no byte of a number ends a field, and a number stands in its field as it is
 abbrev pub LeavesNumbers : Delimiter → Type 0
 LeavesNumbers Blanks = Unit {0}
 LeavesNumbers (Byte delimiter) = is_of_numbers delimiter ≡ false

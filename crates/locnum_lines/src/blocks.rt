@@ -3,7 +3,8 @@
 ghost use Rattle.std.specs.Prelude.{◌≡◌, ◌++◌, ◌∷◌, [], OnOk, false};
 ghost use Rattle.locnum_lines.specs.Gathered.{Adds, Feeds};
 ghost use Rattle.locnum_lines.specs.RecordRuns.{record_ran};
-ghost use Rattle.locnum_lines.specs.Records.{IsPart, IsPartLine, is_open, lines_in, place_behind};
+ghost use Rattle.locnum_lines.specs.Records.{IsPart, IsPartLine, is_open, place_behind};
+ghost use Rattle.locnum_lines.specs.Stage.{stage_after};
 ghost use Rattle.locnum_lines.specs.declared.cutting.Place.TheVariants.{Front};
 
 use crate::cutting::Place;
@@ -28,9 +29,8 @@ fn end_held(
     requires going { gathered.old.is_stopped ≡ false }
     requires closed { is_open settings.now.delimiter (held.old.items ++ rest.now) ≡ false }
     ensures ran { OnOk result (Adds gathered.old gathered.new
-        (record_ran settings.now form.now gathered.old.header gathered.old.lines
-        (held.old.items ++ rest.now))
-        1 (lines_in settings.now.end (held.old.items ++ rest.now))) }
+        (record_ran settings.now form.now gathered.old.stage (held.old.items ++ rest.now))
+        (stage_after settings.now gathered.old.stage (held.old.items ++ rest.now))) }
     ensures none_held { OnOk result (held.new.items ≡ []) }
 {
     held.extend_from_slice(rest)?;
@@ -53,9 +53,8 @@ fn end_record(
     requires closed { is_open settings.now.delimiter (held.old.items ++ rest.now) ≡ false }
     requires rest_part { IsPartLine settings.now.end rest.now }
     ensures ran { OnOk result (Adds gathered.old gathered.new
-        (record_ran settings.now form.now gathered.old.header gathered.old.lines
-        (held.old.items ++ rest.now))
-        1 (lines_in settings.now.end (held.old.items ++ rest.now))) }
+        (record_ran settings.now form.now gathered.old.stage (held.old.items ++ rest.now))
+        (stage_after settings.now gathered.old.stage (held.old.items ++ rest.now))) }
     ensures none_held { OnOk result (held.new.items ≡ []) }
 {
     if held.is_empty() {

@@ -7,7 +7,7 @@ ghost use Rattle.locnum_lines.specs.declared.cutting.Place.TheVariants.{Front, P
 ghost use Rattle.locnum_lines.specs.declared.settings.Delimiter.TheVariants.{Blanks, Byte, Csv};
 
 use crate::settings::Delimiter;
-use memchr::{memchr, memchr2};
+use memchr::{memchr, memchr3};
 
 /// Where in a field a byte stands, by the bytes in front of it.
 #[derive(Clone, Copy, Debug, PartialEq, Eq)]
@@ -22,18 +22,18 @@ pub(crate) enum Place {
     AfterQuote,
 }
 
-/// Whether a byte is a space or a tab.
+/// Whether a byte is a space, a tab or a line feed.
 fn is_blank(byte: u8) -> bool
     ensures { result ≡ is_blank byte }
 {
-    byte == b' ' || byte == b'\t'
+    byte == b' ' || byte == b'\t' || byte == b'\n'
 }
 
 /// Whether a byte is a blank or a carriage return.
 fn is_blank_behind(byte: u8) -> bool
     ensures { result ≡ is_blank_behind byte }
 {
-    byte == b' ' || byte == b'\t' || byte == b'\r'
+    byte == b' ' || byte == b'\t' || byte == b'\n' || byte == b'\r'
 }
 
 /// Whether a place is in a field, outside of quotes.
@@ -93,7 +93,7 @@ pub(crate) fn csv_place(place: Place, byte: u8) -> Place
 
 /// How many bytes are in front of the first one like this; all of them where there is none.
 #[inline(never)]
-fn bytes_before(byte: u8, text: &[u8]) -> usize
+pub(crate) fn bytes_before(byte: u8, text: &[u8]) -> usize
     ensures { result ≡ field_length (Byte byte) Front text.now }
 {
     match memchr(byte, text) {
@@ -107,7 +107,7 @@ fn bytes_before(byte: u8, text: &[u8]) -> usize
 fn word_length(text: &[u8]) -> usize
     ensures { result ≡ field_length Blanks Plain text.now }
 {
-    match memchr2(b' ', b'\t', text) {
+    match memchr3(b' ', b'\t', b'\n', text) {
         Some(n) => n,
         None => text.len(),
     }

@@ -3,18 +3,27 @@
 #![tactic(auto)]
 
 mod blocks;
+mod columns;
 mod csv;
 mod cutting;
 mod field;
+mod finding;
+mod front;
 mod gathered;
+mod holding;
 mod line;
+mod names;
+mod nearest;
 mod note;
 mod padding;
 mod records;
 mod running;
 mod settings;
 mod whole;
+mod writing;
 
+pub use finding::{FoundNumber, NumberFinder, RecordPlace};
+pub use front::behind_mark;
 pub use padding::{Alignment, Padding};
 pub use running::{Report, RunError, run};
-pub use settings::{Delimiter, FieldRange, LineSettings, Refusals};
+pub use settings::{Delimiter, FieldRange, LineSettings, Refusals, Source};

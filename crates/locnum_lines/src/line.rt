@@ -1,27 +1,29 @@
 //! One line, or record of CSV.
 
-ghost use Rattle.std.specs.Prelude.{◌≡◌, ◌+◌, ◌≤◌, OnOk, IfOk, length, option_map, false, true};
+ghost use Rattle.std.specs.Prelude.{◌≡◌, ◌<◌, ◌≤◌, ◌++◌, ◌∷◌, [], OnOk, IfOk, length, option_map, false, true};
 ghost use Rattle.locnum_lines.specs.FieldRuns.{fields_ran};
 ghost use Rattle.locnum_lines.specs.Fields.{fields_from};
 ghost use Rattle.locnum_lines.specs.Gathered.{Adds, GoesOn};
 ghost use Rattle.locnum_lines.specs.Passed.{IsPassed};
+ghost use Rattle.locnum_lines.specs.Ran.{joined, writes};
 ghost use Rattle.locnum_lines.specs.Records.{in_front, is_open, last_begun, lines_in, place_behind};
 ghost use Rattle.locnum_lines.specs.declared.cutting.Place.TheVariants.{Front};
-ghost use Rattle.locnum_lines.specs.RecordRuns.{next_ran, open_ran, record_ran, unended_ran};
+ghost use Rattle.locnum_lines.specs.RecordRuns.{named_ran, next_ran, open_ran, record_ran, unended_ran};
 ghost use Rattle.locnum_lines.specs.Settings.{is_chosen};
+ghost use Rattle.locnum_lines.specs.Stage.{fields_of, header_passed, stage_after};
 
 use crate::cutting::{Place, field_length, is_quoted};
 use crate::field::push_field;
 use crate::gathered::Gathered;
 use crate::note::push_unended_note;
 use crate::records::{last_begun, last_end, lines_in};
-use crate::settings::{LineSettings, is_chosen};
+use crate::settings::LineSettings;
 use crate::whole::push_whole;
 use locnum_forms::Form;
 use std::alloc::{AllocError, Global};
 
-/// So many bytes of a line and the one behind them, as they are. The result is the rest behind that
-/// byte, unless there is none.
+/// That many bytes of a line and the one behind them, as they are. The result is the rest behind
+/// that byte, unless there is none.
 fn pass_through<'a>(
     line: &'a [u8],
     count: usize,
@@ -52,7 +54,8 @@ fn push_next<'a>(
     gathered: &mut Gathered,
 ) -> Result<Option<&'a [u8]>, AllocError>
     requires going { gathered.old.is_stopped ≡ false }
-    requires chosen { is_chosen settings.now.fields index ≡ true }
+    requires chosen { is_chosen (fields_of settings.now gathered.old.stage) index ≡ true }
+    requires counted { index ≤ gathered.old.most_fields }
     ensures { IfOk result (λ rest. GoesOn settings.now form.now index
         gathered.old gathered.new line.now (option_map (λ s. s.now) rest)) }
 {
@@ -69,8 +72,33 @@ fn push_next<'a>(
     Ok(Some(rest))
 }
 
-/// The first field of the rest of a record, whose number this is, and the byte behind it. The result
-/// is the rest behind that byte, unless there is none or the run stops.
+/// The first field of the rest of a record, whose number this is and which is counted, and the byte
+/// behind it. The result is the rest behind that byte, unless there is none or the run stops.
+fn push_counted<'a>(
+    alloc: Global,
+    settings: &LineSettings,
+    form: &Form,
+    index: usize,
+    line: &'a [u8],
+    gathered: &mut Gathered,
+) -> Result<Option<&'a [u8]>, AllocError>
+    requires going { gathered.old.is_stopped ≡ false }
+    requires counted { index ≤ gathered.old.most_fields }
+    ensures { IfOk result (λ rest. GoesOn settings.now form.now index
+        gathered.old gathered.new line.now (option_map (λ s. s.now) rest)) }
+{
+    if !gathered.chooses(settings, index) {
+        let length = field_length(settings.delimiter, line);
+        return pass_through(line, length, gathered);
+    }
+    if push_whole(alloc, settings, form, index, line, gathered)? {
+        return Ok(None);
+    }
+    push_next(alloc, settings, form, index, line, gathered)
+}
+
+/// The first field of the rest of a record, whose number this is, and the byte behind it. The
+/// result is the rest behind that byte, unless there is none or the run stops.
 fn push_first<'a>(
     alloc: Global,
     settings: &LineSettings,
@@ -83,14 +111,8 @@ fn push_first<'a>(
     ensures { IfOk result (λ rest. GoesOn settings.now form.now index
         gathered.old gathered.new line.now (option_map (λ s. s.now) rest)) }
 {
-    if !is_chosen(&settings.fields, index) {
-        let length = field_length(settings.delimiter, line);
-        return pass_through(line, length, gathered);
-    }
-    if push_whole(alloc, settings, form, index, line, gathered)? {
-        return Ok(None);
-    }
-    push_next(alloc, settings, form, index, line, gathered)
+    gathered.count(index);
+    push_counted(alloc, settings, form, index, line, gathered)
 }
 
 /// The fields of a record.
@@ -103,8 +125,8 @@ fn push_fields(
 ) -> Result<(), AllocError>
     requires { gathered.old.is_stopped ≡ false }
     ensures { OnOk result (Adds gathered.old gathered.new
-        (fields_ran settings.now form.now 1
-        (fields_from settings.now.delimiter Front line.now)) 0 0) }
+        (fields_ran settings.now form.now gathered.old.stage 1
+        (fields_from settings.now.delimiter Front line.now)) gathered.old.stage) }
 {
     let mut next = Some(line);
     let mut index: usize = 1;
@@ -118,8 +140,28 @@ fn push_fields(
     Ok(())
 }
 
-/// A record and the byte behind it, in front of which as many records of the header are left as were
-/// gathered.
+/// A record of the header and the byte behind it.
+fn push_header(
+    alloc: Global,
+    settings: &LineSettings,
+    last: u8,
+    line: &[u8],
+    gathered: &mut Gathered,
+) -> Result<(), AllocError>
+    requires going { gathered.old.is_stopped ≡ false }
+    requires some { 0 < gathered.old.stage.left }
+    ensures { OnOk result (Adds gathered.old gathered.new
+        (joined (writes (line.now ++ last ∷ []))
+        (named_ran settings.now gathered.old.stage line.now))
+        (header_passed settings.now gathered.old.stage line.now)) }
+{
+    gathered.write(line)?;
+    gathered.push(last)?;
+    gathered.pass_header(alloc, settings, line)
+}
+
+/// A record and the byte behind it, in front of which as many records of the header are left as
+/// were gathered.
 fn push_line(
     alloc: Global,
     settings: &LineSettings,
@@ -130,12 +172,11 @@ fn push_line(
 ) -> Result<(), AllocError>
     requires { gathered.old.is_stopped ≡ false }
     ensures { OnOk result (Adds gathered.old gathered.new
-        (next_ran settings.now form.now last gathered.old.header line.now) 1 0) }
+        (next_ran settings.now form.now gathered.old.stage last line.now)
+        (header_passed settings.now gathered.old.stage line.now)) }
 {
     if gathered.header > 0 {
-        gathered.header -= 1;
-        gathered.write(line)?;
-        return gathered.push(last);
+        return push_header(alloc, settings, last, line, gathered);
     }
     push_fields(alloc, settings, form, line, gathered)?;
     if gathered.is_stopped {
@@ -144,7 +185,7 @@ fn push_line(
     gathered.push(last)
 }
 
-/// A record of so many lines whose quotes end, behind as many lines as were gathered.
+/// A record of that many lines whose quotes end, behind as many lines as were gathered.
 pub(crate) fn push_record(
     alloc: Global,
     settings: &LineSettings,
@@ -157,16 +198,16 @@ pub(crate) fn push_record(
     requires closed { is_open settings.now.delimiter line.now ≡ false }
     requires count { lines ≡ lines_in settings.now.end line.now }
     ensures { OnOk result (Adds gathered.old gathered.new
-        (record_ran settings.now form.now gathered.old.header gathered.old.lines line.now)
-        1 (lines_in settings.now.end line.now)) }
+        (record_ran settings.now form.now gathered.old.stage line.now)
+        (stage_after settings.now gathered.old.stage line.now)) }
 {
     push_line(alloc, settings, form, settings.end, line, gathered)?;
     gathered.pass(lines)
 }
 
 /// Tells of quotes that don't end, which begin in this line.
-fn stop(line: u64, gathered: &mut Gathered) -> Result<(), AllocError>
-    ensures { OnOk result (Adds gathered.old gathered.new (unended_ran line) 0 0) }
+pub(crate) fn stop(line: u64, gathered: &mut Gathered) -> Result<(), AllocError>
+    ensures { OnOk result (Adds gathered.old gathered.new (unended_ran line) gathered.old.stage) }
 {
     gathered.is_stopped = true;
     push_unended_note(line, &mut gathered.notes)
@@ -183,8 +224,9 @@ fn push_open(
 ) -> Result<(), AllocError>
     requires { gathered.old.is_stopped ≡ false }
     ensures { OnOk result (Adds gathered.old gathered.new
-        (open_ran settings.now form.now gathered.old.header begun
-        (in_front settings.now.delimiter Front line.now)) 1 0) }
+        (open_ran settings.now form.now gathered.old.stage begun
+        (in_front settings.now.delimiter Front line.now))
+        (header_passed settings.now gathered.old.stage line.now)) }
 {
     let Some(n) = last_end(settings.delimiter, line) else {
         return stop(begun, gathered);
@@ -209,8 +251,8 @@ pub(crate) fn push_last(
     requires going { gathered.old.is_stopped ≡ false }
     requires place_is { place ≡ place_behind settings.now.delimiter Front line.now }
     ensures { OnOk result (Adds gathered.old gathered.new
-        (record_ran settings.now form.now gathered.old.header gathered.old.lines line.now)
-        1 (lines_in settings.now.end line.now)) }
+        (record_ran settings.now form.now gathered.old.stage line.now)
+        (stage_after settings.now gathered.old.stage line.now)) }
 {
     let lines = lines_in(settings.end, line);
     if !is_quoted(place) {

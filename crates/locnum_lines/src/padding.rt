@@ -1,8 +1,10 @@
 //! Numbers that are filled up with spaces to a width.
 
-ghost use Rattle.std.specs.Prelude.{◌≡◌};
+ghost use Rattle.std.specs.Prelude.{◌≡◌, ◌+◌, ◌^◌, ◌<◌, length, option_map};
 ghost use Rattle.locnum_lines.specs.Padding.{columns_of};
+ghost use Rattle.locnum_lines.specs.Widths.{own_width, padding_width, width_by};
 
+use crate::settings::{Delimiter, LineSettings};
 use std::str;
 use unicode_width::UnicodeWidthStr;
 
@@ -23,6 +25,60 @@ pub struct Padding {
     pub columns: u16,
     /// Where the number stands in them.
     pub alignment: Alignment,
+}
+
+/// How many columns one number takes at least.
+#[derive(Clone, Copy, Debug, PartialEq, Eq)]
+pub(crate) struct Width {
+    /// As many at least.
+    pub(crate) columns: usize,
+    /// Where the number stands in them.
+    pub(crate) alignment: Alignment,
+}
+
+/// The width that all numbers have, if they have one.
+pub(crate) fn padding_width(padding: Option<Padding>) -> Option<Width>
+    ensures { result ≡ option_map padding_width padding }
+{
+    let padding = padding?;
+    Some(Width {
+        columns: usize::from(padding.columns),
+        alignment: padding.alignment,
+    })
+}
+
+/// The width that a field of this number has, which blanks end.
+fn own_width(index: usize, before: &[u8], number: &[u8]) -> Option<Width>
+    requires { length before.now + length number.now < 2 ^ 64 }
+    ensures { result ≡ own_width index before.now number.now }
+{
+    if index <= 1 && before.is_empty() {
+        return None;
+    }
+    Some(Width {
+        columns: before.len() + number.len(),
+        alignment: Alignment::Right,
+    })
+}
+
+/// The width of a number in a field of this number, behind the blanks in front of it.
+pub(crate) fn width_by(
+    settings: &LineSettings,
+    index: usize,
+    before: &[u8],
+    number: &[u8],
+) -> Option<Width>
+    requires { length before.now + length number.now < 2 ^ 64 }
+    ensures { result
+        ≡ width_by settings.now.delimiter settings.now.padding index before.now number.now }
+{
+    let None = settings.padding else {
+        return padding_width(settings.padding);
+    };
+    match settings.delimiter {
+        Delimiter::Blanks => own_width(index, before, number),
+        Delimiter::Byte(_) | Delimiter::Csv(_) => None,
+    }
 }
 
 /// The columns that a text takes; of bytes that aren't UTF-8, their count.

@@ -1,16 +1,17 @@
 //! From a reader to a writer.
 
 ghost use Rattle.std.specs.Prelude.{◌≡◌, ◌<◌, [], Some, false, OnErr, OnOk, IfOk, IfSome, length, vec_len};
-ghost use Rattle.std.specs.Io.KnownBytes.{Appends};
+ghost use Rattle.std.specs.Io.KnownBytes.{Appends, prepend_known};
 ghost use Rattle.decimal_lines.specs.Written.{AppendsBeginning};
 ghost use Rattle.locnum_lines.specs.Gathered.{GatheredData};
-ghost use Rattle.locnum_lines.specs.RecordRuns.{input_ran, records_ran};
+ghost use Rattle.locnum_lines.specs.RecordRuns.{input_ran, records_ran, rest_ran};
 ghost use Rattle.locnum_lines.specs.Records.{IsPart, place_behind, records_of};
 ghost use Rattle.locnum_lines.specs.Reported.{Begins, Ends, Finishes};
 ghost use Rattle.locnum_lines.specs.declared.cutting.Place.TheVariants.{Front};
 
 use crate::blocks::take_block;
 use crate::cutting::Place;
+use crate::front::{mark_length, read_front, read_more};
 use crate::gathered::Gathered;
 use crate::line::push_last;
 use crate::settings::LineSettings;
@@ -18,6 +19,7 @@ use decimal_lines::write_piece;
 use locnum_forms::Form;
 use std::alloc::{AllocError, Global};
 use std::io::{Read, Write};
+use std::marker::Model;
 use thiserror::Error;
 
 /// Why a run ended early.
@@ -29,33 +31,55 @@ pub enum RunError {
     /// A writer answered an error, or took no byte.
     #[error("writing failed")]
     Write,
-    /// An allocation was refused.
+    /// An allocation failed.
     #[error("out of memory")]
     OutOfMemory,
 }
 
 /// What happened in a run.
-#[derive(Clone, Copy, Debug, PartialEq, Eq)]
+#[derive(Debug, Drop)]
 pub struct Report {
-    /// Whether a text was refused.
+    /// Whether a text was rejected.
     pub is_refused: bool,
     /// Whether the run stopped there, or at a record of CSV whose quotes don't end.
     pub is_stopped: bool,
+    /// The greatest number of fields that a record behind the header had; of one in which the run
+    /// stopped, those up to there.
+    pub most_fields: usize,
+    /// The first written number that holds the delimiter; empty: none does.
+    pub holding: Vec<u8>,
+}
+
+impl Model for Report {
+    ghost use Rattle.locnum_lines.specs.Reported.{ReportData};
+
+    ghost Value = { ReportData };
+
+    ghost view = { λ r. record {
+      is_refused = r.is_refused;
+      is_stopped = r.is_stopped;
+      most_fields = r.most_fields;
+      holding = r.holding.items;
+    } };
 }
 
 /// How many bytes are read at once.
 const BLOCK_LEN: usize = 65536;
 
 /// What the run so far reports.
-fn reported(gathered: &Gathered) -> Report
+fn reported(gathered: Gathered) -> Report
     ensures { result ≡ record {
-      is_refused = gathered.now.is_refused;
-      is_stopped = gathered.now.is_stopped;
+      is_refused = gathered.is_refused;
+      is_stopped = gathered.is_stopped;
+      most_fields = gathered.most_fields;
+      holding = gathered.holding;
     } }
 {
     Report {
         is_refused: gathered.is_refused,
         is_stopped: gathered.is_stopped,
+        most_fields: gathered.most_fields,
+        holding: gathered.holding,
     }
 }
 
@@ -92,22 +116,22 @@ fn finish<W: Write, N: Write>(
     form: &Form,
     held: &[u8],
     place: Place,
-    gathered: &mut Gathered,
+    mut gathered: Gathered,
     writer: &mut W,
     notes: &mut N,
 ) -> Result<Report, RunError>
-    requires going { gathered.old.is_stopped ≡ false }
-    requires no_output { gathered.old.output ≡ [] }
-    requires no_notes { gathered.old.notes ≡ [] }
+    requires going { gathered.is_stopped ≡ false }
+    requires no_output { gathered.output ≡ [] }
+    requires no_notes { gathered.notes ≡ [] }
     requires part { IsPart settings.now.delimiter settings.now.end Front held.now }
     requires place_is { place ≡ place_behind settings.now.delimiter Front held.now }
     ensures ok { IfOk result (λ report. Finishes
-        (records_ran settings.now form.now gathered.old.header gathered.old.lines
+        (records_ran settings.now form.now gathered.stage
         (records_of settings.now.delimiter settings.now.end held.now))
-        gathered.old.is_refused (W.contents writer.old) (W.contents writer.new)
+        gathered (W.contents writer.old) (W.contents writer.new)
         (N.contents notes.old) (N.contents notes.new) report) }
     ensures err { OnErr result (Begins
-        (records_ran settings.now form.now gathered.old.header gathered.old.lines
+        (records_ran settings.now form.now gathered.stage
         (records_of settings.now.delimiter settings.now.end held.now))
         (W.contents writer.old) (W.contents writer.new)
         (N.contents notes.old) (N.contents notes.new)) }
@@ -115,14 +139,14 @@ fn finish<W: Write, N: Write>(
     if held.is_empty() {
         return Ok(reported(gathered));
     }
-    let Ok(()) = push_last(alloc, settings, form, held, place, gathered) else {
+    let Ok(()) = push_last(alloc, settings, form, held, place, &mut gathered) else {
         return Err(RunError::OutOfMemory);
     };
-    flush(gathered, writer, notes)?;
+    flush(&mut gathered, writer, notes)?;
     Ok(reported(gathered))
 }
 
-/// Reads all lines by this buffer.
+/// Runs the bytes that were read behind a byte order mark, and all that the reader has.
 fn run_by<R: Read, W: Write, N: Write>(
     alloc: Global,
     settings: &LineSettings,
@@ -130,15 +154,18 @@ fn run_by<R: Read, W: Write, N: Write>(
     reader: &mut R,
     writer: &mut W,
     notes: &mut N,
+    mut rest: &[u8],
     block: &mut [u8],
 ) -> Result<Report, RunError>
     requires { 0 < length block.old }
-    ensures ok { IfOk result (λ report. IfSome (R.remaining reader.old) (λ input. Ends
-        (input_ran settings.now form.now input)
+    ensures ok { IfOk result (λ report. IfSome
+        (prepend_known rest.now (R.remaining reader.old)) (λ input. Ends
+        (rest_ran settings.now form.now input)
         (W.contents writer.old) (W.contents writer.new)
         (N.contents notes.old) (N.contents notes.new) report (R.remaining reader.new))) }
-    ensures err { OnErr result (IfSome (R.remaining reader.old) (λ input. Begins
-        (input_ran settings.now form.now input)
+    ensures err { OnErr result (IfSome
+        (prepend_known rest.now (R.remaining reader.old)) (λ input. Begins
+        (rest_ran settings.now form.now input)
         (W.contents writer.old) (W.contents writer.new)
         (N.contents notes.old) (N.contents notes.new))) }
 {
@@ -146,20 +173,9 @@ fn run_by<R: Read, W: Write, N: Write>(
     let mut place = Place::Front;
     let mut gathered = Gathered::new(alloc, settings.header);
     for _ in 0..=u64::MAX {
-        let Ok(n) = reader.read(block) else {
-            return Err(RunError::Read);
-        };
+        let n = read_more(&mut rest, reader, block)?;
         if n == 0 {
-            return finish(
-                alloc,
-                settings,
-                form,
-                &held,
-                place,
-                &mut gathered,
-                writer,
-                notes,
-            );
+            return finish(alloc, settings, form, &held, place, gathered, writer, notes);
         }
         let block = &block[..n];
         let taken = take_block(
@@ -176,7 +192,7 @@ fn run_by<R: Read, W: Write, N: Write>(
         };
         flush(&mut gathered, writer, notes)?;
         if gathered.is_stopped {
-            return Ok(reported(&gathered));
+            return Ok(reported(gathered));
         }
     }
     Err(RunError::Read)
@@ -189,12 +205,18 @@ fn buffer(alloc: Global, len: usize) -> Result<Vec<u8>, AllocError>
     Vec::from_elem(alloc, 0u8, len)
 }
 
-/// Reads all lines, or records of CSV; writes each with its chosen numbers in this form, and tells
-/// which texts are refused (this project's own, after GNU `numfmt`).
+/// Reads all lines, or records of CSV; writes each with its chosen numbers in this form, and
+/// reports which texts are rejected (this project's own, after GNU `numfmt`).
 ///
-/// The last line may end without its byte, and is written with it. Each error of the reader is
+/// A byte order mark in front of lines goes through as it is and belongs to no field. The last line
+/// may end without its byte, and is written with it. Each error of the reader is
 /// `Read`, and so are 2^64 reads without an end; each error of a writer is `Write`, and so is a
 /// write that takes no byte. Nothing is flushed.
+// promise: After `Ok` each writer has just the output, or the notes.
+// mutations: header_one_line_short, output_told_as_notes
+// promise: After an error each writer has a beginning.
+// promise: The report says whether a text was rejected, or it stopped.
+// mutations: abort_goes_on
 pub fn run<R: Read, W: Write, N: Write>(
     alloc: Global,
     settings: &LineSettings,
@@ -204,7 +226,7 @@ pub fn run<R: Read, W: Write, N: Write>(
     notes: &mut N,
 ) -> Result<Report, RunError>
     // The output and the notes of the whole input were written, and all of it read, unless the run
-    // stopped at a text that was refused or at quotes that don't end;
+    // stopped at a text that was rejected or at quotes that don't end;
     ensures ok { IfOk result (λ report. IfSome (R.remaining reader.old) (λ input. Ends
         (input_ran settings.now form.now input)
         (W.contents writer.old) (W.contents writer.new)
@@ -219,6 +241,11 @@ pub fn run<R: Read, W: Write, N: Write>(
     let Ok(mut block) = buffer(alloc, BLOCK_LEN) else {
         return Err(RunError::OutOfMemory);
     };
+    let front = read_front(alloc, reader)?;
+    let (mark, rest) = front.split_at(mark_length(settings.source, &front));
+    let Ok(()) = write_piece(writer, mark) else {
+        return Err(RunError::Write);
+    };
     run_by(
         alloc,
         settings,
@@ -226,6 +253,7 @@ pub fn run<R: Read, W: Write, N: Write>(
         reader,
         writer,
         notes,
+        rest,
         block.as_mut_slice(),
     )
 }

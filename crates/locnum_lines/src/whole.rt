@@ -1,13 +1,20 @@
 //! A record whose last field is a number and nothing else.
 
-ghost use Rattle.std.specs.Prelude.{◌≡◌, ◌++◌, ◌⊎◌, Ok, None, List, IfOk, MatchBool, false, true};
+ghost use Rattle.std.specs.Prelude.{◌≡◌, ◌≤◌, ◌++◌, ◌⊎◌, [], Ok, None, List, IfOk, MatchBool, false, true};
 ghost use Rattle.locnum_forms.specs.Forms.{form_events};
+ghost use Rattle.locnum_lines.specs.FieldRuns.{held_by};
 ghost use Rattle.locnum_lines.specs.Gathered.{GoesOn};
+ghost use Rattle.locnum_lines.specs.Padding.{padded};
+ghost use Rattle.locnum_lines.specs.Ran.{first_of};
 ghost use Rattle.locnum_lines.specs.Settings.{is_chosen};
+ghost use Rattle.locnum_lines.specs.Stage.{fields_of};
 ghost use Rattle.locnum_lines.specs.Whole.{LeavesNumbers, is_of_numbers};
+ghost use Rattle.locnum_lines.specs.Widths.{width_by};
+ghost use Rattle.locnum_lines.specs.declared.settings.Delimiter.TheVariants.{Blanks};
 ghost use Rattle.writeable.specs.Events.{Event, text_of};
 
 use crate::gathered::Gathered;
+use crate::padding::columns_of;
 use crate::settings::{Delimiter, LineSettings};
 use locnum_forms::{Form, TextError};
 use std::alloc::{AllocError, Global};
@@ -19,8 +26,8 @@ fn is_of_numbers(byte: u8) -> bool
     byte.is_ascii_digit() || byte == b'.' || byte == b'-' || byte == b'+'
 }
 
-/// Whether a field that begins with a number doesn't end in it, and what is written for it stands
-/// there as it is.
+/// Whether a field that begins with a number doesn't end in it, and numbers have no columns of their
+/// own.
 fn leaves_numbers(settings: &LineSettings) -> bool
     ensures padding { result ≡ true → settings.now.padding ≡ None }
     ensures delimiter { result ≡ true → LeavesNumbers settings.now.delimiter }
@@ -35,9 +42,23 @@ fn leaves_numbers(settings: &LineSettings) -> bool
     }
 }
 
-/// A text as it is shown, if it is a number that isn't refused.
+/// Whether a number that is shown so takes the width of its field, in which it stands alone, so that
+/// no spaces stand in front of it.
+fn fills_field(delimiter: Delimiter, index: usize, number: &[u8], shown: &[u8]) -> bool
+    ensures fills { result ≡ true
+        → padded (width_by delimiter None index [] number.now) shown.now ≡ shown.now }
+    ensures blanks { result ≡ false → delimiter ≡ Blanks }
+{
+    match delimiter {
+        Delimiter::Blanks => index <= 1 || columns_of(shown) >= number.len(),
+        Delimiter::Byte(_) | Delimiter::Csv(_) => true,
+    }
+}
+
+/// A text as it is shown, if it is a number that isn't rejected.
 fn push_number(
     alloc: Global,
+    delimiter: Delimiter,
     form: &Form,
     text: &[u8],
     gathered: &mut Gathered,
@@ -46,10 +67,11 @@ fn push_number(
         ((events : List Event) × (form_events form.now text.now ≡ Ok events)
         × (gathered.new ≡ record gathered.old {
           output = gathered.old.output ++ text_of events;
+          holding = first_of gathered.old.holding (held_by delimiter (text_of events));
         }))
         (gathered.new ≡ gathered.old)) }
 {
-    match form.push(alloc, text, &mut gathered.output) {
+    match gathered.write_number(alloc, delimiter, form, text) {
         Ok(()) => Ok(true),
         Err(TextError::OutOfMemory) => Err(AllocError),
         Err(TextError::NotDecimal | TextError::TooManyDigits | TextError::Overflow) => Ok(false),
@@ -67,7 +89,8 @@ pub(crate) fn push_whole(
     gathered: &mut Gathered,
 ) -> Result<bool, AllocError>
     requires going { gathered.old.is_stopped ≡ false }
-    requires chosen { is_chosen settings.now.fields index ≡ true }
+    requires chosen { is_chosen (fields_of settings.now gathered.old.stage) index ≡ true }
+    requires counted { index ≤ gathered.old.most_fields }
     ensures { IfOk result (λ is_number. MatchBool is_number
         (GoesOn settings.now form.now index gathered.old gathered.new line.now None)
         (gathered.new ≡ gathered.old)) }
@@ -78,7 +101,13 @@ pub(crate) fn push_whole(
     if !gathered.takes_try() {
         return Ok(false);
     }
-    if !push_number(alloc, form, line, gathered)? {
+    let start = gathered.written();
+    if !push_number(alloc, settings.delimiter, form, line, gathered)? {
+        return Ok(false);
+    }
+    let shown = gathered.written_behind(start);
+    if !fills_field(settings.delimiter, index, line, shown) {
+        gathered.forget_behind(start);
         return Ok(false);
     }
     gathered.renew_tries();

@@ -45,7 +45,7 @@ const SHOWN: &[Shown] = &[
 ];
 
 /// How records are cut, an input, its output, its notes, and whether the run stopped; a text was
-/// refused where there are notes of one.
+/// rejected where there are notes of one.
 type Told = (Cut, &'static str, &'static str, &'static str, bool);
 
 const REFUSED: &[Told] = &[
@@ -53,28 +53,28 @@ const REFUSED: &[Told] = &[
         FIRST,
         "7\n\"x\",8\n",
         "7\n",
-        "locnum: x: not a decimal\n",
+        "locnum: line 2, field 1: x: not a decimal\n",
         true,
     ),
     (
         SECOND,
         "a,\" \"\"x \"\r\n",
         "a,\" \"\"x \"\r\n",
-        "locnum: \"x: not a decimal\n",
+        "locnum: line 1, field 2: \"x: not a decimal\n",
         false,
     ),
     (
         ALL,
         "\"1,5\", \"7\",\"8\n\"\"\",1\"\"\n9\n",
         "\"1,5\", \"7\",\"8\n\"\"\",1\"\"\n9\n",
-        "locnum: 1,5: not a decimal\nlocnum: \"7\": not a decimal\nlocnum: 8?\": not a decimal\nlocnum: 1\"\": not a decimal\n",
+        "locnum: line 1, field 1: 1,5: not a decimal\nlocnum: line 1, field 2: \"7\": not a decimal\nlocnum: line 1, field 3: 8?\": not a decimal\nlocnum: line 1, field 4: 1\"\": not a decimal\n",
         false,
     ),
     (
         (COMMA, &[(1, 1)], 0, b'\n', Refusals::Warn),
         ",\n",
         ",\n",
-        "locnum: : not a decimal\n",
+        "locnum: line 1, field 1: (empty): not a decimal\n",
         false,
     ),
     (
@@ -117,7 +117,7 @@ const OPEN: &[Told] = &[
     ),
 ];
 
-/// Whether an input leaves this, read so many bytes at once.
+/// Whether an input leaves this, read that many bytes at once.
 fn leaves(rt: &HostRuntime, cut: Cut, input: &str, left: Left<'_>, at_once: usize) -> bool {
     runs(
         rt.alloc(),

@@ -41,7 +41,7 @@ const GOOD: [(usize, &str, &str); 5] = [
     (3, "", ""),
     (4, "5 a\n", ""),
     (5, "5 a\n", ""),
-    (6, "5 a\nx\n", "locnum: x: not a decimal\n"),
+    (6, "5 a\nx\n", "locnum: line 2, field 1: x: not a decimal\n"),
 ];
 
 #[test]

@@ -21,7 +21,7 @@ const CSV: Cut = (
     Refusals::Abort,
 );
 
-/// A text so many times, with an end behind it.
+/// A text that many times, with an end behind it.
 fn repeated(alloc: Global, text: &str, count: usize, end: &str) -> Result<Vec<u8>, AllocError> {
     let mut whole = Vec::with_capacity(alloc, text.len().saturating_mul(count))?;
     for _ in 0..count {

@@ -4,7 +4,7 @@ use crate::running::{Cut, Left, ended, runs};
 use crate::slow::Full;
 use locnum_lines::{Delimiter, Refusals};
 
-/// Settings, an input, its output, its notes, whether a text was refused, and whether the run
+/// Settings, an input, its output, its notes, whether a text was rejected, and whether the run
 /// stopped.
 type Row = (Cut, &'static str, &'static str, &'static str, bool, bool);
 
@@ -31,11 +31,11 @@ const NUMBERS: [Row; 13] = [
         false,
         false,
     ),
-    (BLANKS, "  1234 5678\n", "  1,234 5678\n", "", false, false),
+    (BLANKS, "  1234 5678\n", " 1,234 5678\n", "", false, false),
     (BLANKS, "1234\r\n", "1,234\r\n", "", false, false),
     (BLANKS, "1234 \t x\n", "1,234 \t x\n", "", false, false),
     (SECOND, "a 1234 b\n", "a 1,234 b\n", "", false, false),
-    (SECOND, "a\t \t1234\n", "a\t \t1,234\n", "", false, false),
+    (SECOND, "a\t \t1234\n", "a\t 1,234\n", "", false, false),
     (SECOND, "1234\n", "1234\n", "", false, false),
     (
         COMMAS,
@@ -71,14 +71,17 @@ const NUMBERS: [Row; 13] = [
     ),
 ];
 
-const NOT_A_DECIMAL: &str = "locnum: x: not a decimal\n";
+/// Notes of a text in the first field of the first or the second line.
+const FIRST_REFUSED: &str = "locnum: line 1, field 1: x: not a decimal\n";
+
+const SECOND_REFUSED: &str = "locnum: line 2, field 1: x: not a decimal\n";
 
 const REFUSED: [Row; 10] = [
     (
         (Delimiter::Blanks, &[(1, 1)], 0, b'\n', Refusals::Abort),
         "1234\nx\n5678\n",
         "1,234\n",
-        NOT_A_DECIMAL,
+        SECOND_REFUSED,
         true,
         true,
     ),
@@ -86,7 +89,7 @@ const REFUSED: [Row; 10] = [
         (Delimiter::Blanks, &[(1, 1)], 0, b'\n', Refusals::Fail),
         "1234\nx\n5678\n",
         "1,234\nx\n5,678\n",
-        NOT_A_DECIMAL,
+        SECOND_REFUSED,
         true,
         false,
     ),
@@ -94,7 +97,7 @@ const REFUSED: [Row; 10] = [
         (Delimiter::Blanks, &[(1, 1)], 0, b'\n', Refusals::Warn),
         "x\n5678",
         "x\n5,678\n",
-        NOT_A_DECIMAL,
+        FIRST_REFUSED,
         true,
         false,
     ),
@@ -110,7 +113,7 @@ const REFUSED: [Row; 10] = [
         (Delimiter::Blanks, &[(1, 2)], 0, b'\n', Refusals::Abort),
         "1234  x y\n",
         "1,234  ",
-        NOT_A_DECIMAL,
+        "locnum: line 1, field 2: x: not a decimal\n",
         true,
         true,
     ),
@@ -118,7 +121,7 @@ const REFUSED: [Row; 10] = [
         (Delimiter::Byte(b';'), &[(1, 9)], 0, b'\n', Refusals::Fail),
         "x;1;x\n",
         "x;1;x\n",
-        "locnum: x: not a decimal\nlocnum: x: not a decimal\n",
+        "locnum: line 1, field 1: x: not a decimal\nlocnum: line 1, field 3: x: not a decimal\n",
         true,
         false,
     ),
@@ -126,7 +129,7 @@ const REFUSED: [Row; 10] = [
         (Delimiter::Blanks, &[(1, 1)], 0, b'\n', Refusals::Fail),
         "\n",
         "\n",
-        "locnum: : not a decimal\n",
+        "locnum: line 1, field 1: (empty): not a decimal\n",
         true,
         false,
     ),
@@ -134,7 +137,7 @@ const REFUSED: [Row; 10] = [
         (Delimiter::Blanks, &[(1, 1)], 0, b'\n', Refusals::Fail),
         "a\u{1b}b\n",
         "a\u{1b}b\n",
-        "locnum: a?b: not a decimal\n",
+        "locnum: line 1, field 1: a?b: not a decimal\n",
         true,
         false,
     ),
@@ -142,7 +145,7 @@ const REFUSED: [Row; 10] = [
         (Delimiter::Blanks, &[(1, 1)], 1, b'\n', Refusals::Abort),
         "x\nx",
         "x\n",
-        NOT_A_DECIMAL,
+        "locnum: line 2, field 1 (x): x: not a decimal\n",
         true,
         true,
     ),
@@ -162,7 +165,7 @@ const REFUSED: [Row; 10] = [
     ),
 ];
 
-/// Whether a row holds, read so many bytes at once.
+/// Whether a row holds, read that many bytes at once.
 fn holds(rt: &HostRuntime, row: &Row, at_once: usize) -> bool {
     let &(cut, input, output, notes, is_refused, is_stopped) = row;
     let left = Left {

@@ -3,7 +3,7 @@
 use std::io;
 use std::io::{ErrorKind, Read, Write};
 
-/// Gives so many bytes a call at most, and after `good` bytes an error, if there are more.
+/// Gives that many bytes a call at most, and after `good` bytes an error, if there are more.
 #[derive(Drop)]
 pub(crate) struct SlowReader<'a> {
     pub(crate) bytes: &'a [u8],

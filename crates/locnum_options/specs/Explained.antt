@@ -1,15 +1,21 @@
--- Whether explanations are asked for, which have no lines that are cut into fields.
-use Rattle.std.specs.Prelude.{Bool, ◌&&◌, ◌||◌, Result, Ok, Err, if◌then◌else◌}
-use Rattle.std.specs.Option.{is_some}
-use Rattle.locnum_options.specs.Given.{GivenData}
+-- What is explained, if explanations are asked for.
+use Rattle.std.specs.Prelude.{Bool, codes, ◌||◌, Result, Ok, Err, if◌then◌else◌}
+use Rattle.locnum_options.specs.Given.{flag_of}
+use Rattle.locnum_options.specs.declared.explained.Explain.{Explain}
+use Rattle.locnum_options.specs.declared.explained.Explain.TheVariants.{Nothing, Lines, Fields}
+use Rattle.locnum_options.specs.declared.given.Given.{Given}
 use Rattle.locnum_options.specs.declared.fault.OptionFault.{OptionFault}
 use Rattle.locnum_options.specs.declared.fault.OptionFault.TheVariants as fault
 
--- an option is given that says how lines are cut, or how wide numbers are in them
-unfoldable pub is_lined : GivenData → Bool
+-- an option is given that says how lines are cut
+unfoldable pub is_lined : Given → Bool
 is_lined given =
-    given.csv || is_some given.delimiter || is_some given.field || is_some given.header || is_some given.padding || given.zero_terminated
+    flag_of given (codes "csv") || flag_of given (codes "delimiter") || flag_of given (codes "field") || flag_of given (codes "header")
+    || flag_of given (codes "zero-terminated")
 
--- whether explanations are asked for; not with such an option
-unfoldable pub explain_given : GivenData → Result Bool OptionFault
-explain_given given = if given.explain && is_lined given then Err fault.Explained else Ok given.explain
+-- the fields of lines where such an option is given, else whole lines; explanations have no padding
+unfoldable pub explain_given : Given → Result Explain OptionFault
+explain_given given =
+    if flag_of given (codes "explain")
+    then (if flag_of given (codes "padding") then Err fault.Explained else (if is_lined given then Ok Fields else Ok Lines))
+    else Ok Nothing

@@ -1,26 +1,24 @@
--- What a command line gives.
-use Rattle.std.specs.Prelude.{ℕ, Bool, List, Option}
+-- What a command line gives: texts by the names of options.
+use Rattle.std.specs.Prelude.{ℕ, Bool, List, [], ◌∷◌, Option, Some, None, option_map, nat_eq, if◌then◌else◌}
+use Rattle.std.specs.Option.{is_some}
 use Rattle.std.specs.Borrow.{Bor}
+use Rattle.std.specs.Cmp.Lexicographic.{pointwise}
+use Rattle.locnum_options.specs.declared.given.Given.{Given}
 
--- the texts of the options that are given, and which options without a text are
-pub record GivenData : Type 0 where
-  pub locale : Option (List ℕ)
-  pub system : Option (List ℕ)
-  pub style : Option (List ℕ)
-  pub grouping : Option (List ℕ)
-  pub fraction : Option (List ℕ)
-  pub sign : Option (List ℕ)
-  pub currency : Option (List ℕ)
-  pub width : Option (List ℕ)
-  pub accounting : Bool
-  pub cash : Bool
-  pub percent : Bool
-  pub unit : Option (Bor (List ℕ))
-  pub csv : Bool
-  pub delimiter : Option (List ℕ)
-  pub field : Option (List ℕ)
-  pub header : Option (List ℕ)
-  pub padding : Option (List ℕ)
-  pub invalid : Option (List ℕ)
-  pub zero_terminated : Bool
-  pub explain : Bool
+-- the text of the first option of this name
+unfoldable pub found_among : List ℕ → List (Bor (List ℕ) × Bor (List ℕ)) → Option (Bor (List ℕ))
+found_among name [] = None
+found_among name (option ∷ options) =
+    if pointwise nat_eq option.0.now name then Some option.1 else found_among name options
+
+-- the text that is given under a name, in place
+unfoldable pub look_up : Given → List ℕ → Option (Bor (List ℕ))
+look_up given name = found_among name given.options.now
+
+-- the text that is given under a name
+abbrev pub text_of : Given → List ℕ → Option (List ℕ)
+text_of given name = option_map (λ text. text.now) (look_up given name)
+
+-- whether an option of this name is given
+abbrev pub flag_of : Given → List ℕ → Bool
+flag_of given name = is_some (look_up given name)

@@ -13,7 +13,8 @@ use Rattle.locnum_forms.specs.declared.wanted.Kind.{Kind}
 use Rattle.locnum_forms.specs.declared.wanted.Kind.TheVariants.{Plain, Short, Long, Money, MoneyNamed, MoneyShort, Percent, Unit}
 use Rattle.locnum_forms.specs.declared.wanted.UnitWidth.{UnitWidth}
 use Rattle.locnum_forms.specs.declared.wanted.UnitWidth.TheVariants as unit
-use Rattle.locnum_options.specs.Given.{GivenData}
+use Rattle.locnum_options.specs.Given.{flag_of, look_up, text_of}
+use Rattle.locnum_options.specs.declared.given.Given.{Given}
 use Rattle.locnum_options.specs.declared.fault.OptionFault.{OptionFault}
 use Rattle.locnum_options.specs.declared.fault.OptionFault.TheVariants as fault
 
@@ -58,11 +59,11 @@ unfoldable pub sign_of : Bool → CurrencySign
 sign_of accounting = if accounting then Accounting else Standard
 
 -- amounts of money with the symbol of the currency
-unfoldable pub money_given : List ℕ → GivenData → Result Kind OptionFault
+unfoldable pub money_given : List ℕ → Given → Result Kind OptionFault
 money_given text given = do
   code ← currency_named text
-  width ← money_width given.width
-  Ok (Money code width (sign_of given.accounting) given.cash)
+  width ← money_width (text_of given (codes "width"))
+  Ok (Money code width (sign_of (flag_of given (codes "accounting"))) (flag_of given (codes "cash")))
 
 -- the names of currencies are asked for
 unfoldable pub is_name : Option (List ℕ) → Bool
@@ -70,14 +71,14 @@ is_name None = false
 is_name (Some word) = pointwise nat_eq word (codes "name")
 
 -- amounts of money with the name of the currency, for which there is no accounting pattern
-unfoldable pub named_given : List ℕ → GivenData → Result Kind OptionFault
+unfoldable pub named_given : List ℕ → Given → Result Kind OptionFault
 named_given text given = do
   code ← currency_named text
-  if given.accounting then Err fault.Accounting else Ok (MoneyNamed code given.cash)
+  if flag_of given (codes "accounting") then Err fault.Accounting else Ok (MoneyNamed code (flag_of given (codes "cash")))
 
 -- amounts of a currency in full, with its name or its symbol
-unfoldable pub amount_given : List ℕ → GivenData → Result Kind OptionFault
-amount_given text given = if is_name given.width then named_given text given else money_given text given
+unfoldable pub amount_given : List ℕ → Given → Result Kind OptionFault
+amount_given text given = if is_name (text_of given (codes "width")) then named_given text given else money_given text given
 
 -- whether amounts are compact; in full by default. There are no long compact amounts
 unfoldable pub is_compact : Option (List ℕ) → Result Bool OptionFault
@@ -94,45 +95,46 @@ is_short None = true
 is_short (Some word) = pointwise nat_eq word (codes "short")
 
 -- compact amounts, which have the standard pattern, digits of their own, and the short symbol
-unfoldable pub compact_given : List ℕ → GivenData → Result Kind OptionFault
+unfoldable pub compact_given : List ℕ → Given → Result Kind OptionFault
 compact_given text given = do
   code ← currency_named text
-  if given.accounting || given.cash || not (is_short given.width) then Err fault.ShortMoney else Ok (MoneyShort code)
+  if flag_of given (codes "accounting") || flag_of given (codes "cash") || not (is_short (text_of given (codes "width")))
+      then Err fault.ShortMoney else Ok (MoneyShort code)
 
 -- amounts of a currency, compact or in full
-unfoldable pub currency_given : List ℕ → GivenData → Result Kind OptionFault
+unfoldable pub currency_given : List ℕ → Given → Result Kind OptionFault
 currency_given text given = do
-  compact ← is_compact given.style
+  compact ← is_compact (text_of given (codes "style"))
   if compact then compact_given text given else amount_given text given
 
 -- numbers with a unit
-unfoldable pub unit_given : Bor (List ℕ) → GivenData → Result Kind OptionFault
+unfoldable pub unit_given : Bor (List ℕ) → Given → Result Kind OptionFault
 unit_given name given = do
-  width ← unit_width given.width
+  width ← unit_width (text_of given (codes "width"))
   Ok (Unit name width)
 
 -- more than one of the four is asked for, but for a style of amounts
-unfoldable pub is_together : GivenData → Bool
+unfoldable pub is_together : Given → Bool
 is_together given =
-    (is_some given.style && (given.percent || is_some given.unit))
-    || (is_some given.currency && (given.percent || is_some given.unit))
-    || (given.percent && is_some given.unit)
+    (flag_of given (codes "style") && (flag_of given (codes "percent") || flag_of given (codes "unit")))
+    || (flag_of given (codes "currency") && (flag_of given (codes "percent") || flag_of given (codes "unit")))
+    || (flag_of given (codes "percent") && flag_of given (codes "unit"))
 
 -- an option of money without a currency, or a width without a currency or a unit
-unfoldable pub is_alone : GivenData → Bool
+unfoldable pub is_alone : Given → Bool
 is_alone given =
-    is_none given.currency
-    && (given.accounting || given.cash || (is_some given.width && is_none given.unit))
+    not (flag_of given (codes "currency"))
+    && (flag_of given (codes "accounting") || flag_of given (codes "cash") || (flag_of given (codes "width") && not (flag_of given (codes "unit"))))
 
 -- the kind by the currency, else the unit, else whether percents are asked for and the style
-abbrev pub kind_by : Option (List ℕ) → Option (Bor (List ℕ)) → GivenData → Result Kind OptionFault
+abbrev pub kind_by : Option (List ℕ) → Option (Bor (List ℕ)) → Given → Result Kind OptionFault
 kind_by (Some code) unit given = currency_given code given
 kind_by None (Some name) given = unit_given name given
-kind_by None None given = if given.percent then Ok Percent else style_given given.style
+kind_by None None given = if flag_of given (codes "percent") then Ok Percent else style_given (text_of given (codes "style"))
 
 -- the kind that is asked for
-unfoldable pub kind_given : GivenData → Result Kind OptionFault
+unfoldable pub kind_given : Given → Result Kind OptionFault
 kind_given given =
     if is_together given then Err fault.Together
     else if is_alone given then Err fault.Alone
-    else kind_by given.currency given.unit given
+    else kind_by (text_of given (codes "currency")) (look_up given (codes "unit")) given

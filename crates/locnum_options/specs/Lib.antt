@@ -3,6 +3,8 @@ pub mod Fields
 pub mod Fraction
 pub mod Given
 pub mod Kinds
+pub mod Locale
+pub mod Names
 pub mod Padding
 pub mod Options
 pub mod Texts

@@ -1,26 +1,29 @@
 -- What the options ask for.
-use Rattle.std.specs.Prelude.{◌≡◌, ℕ, Bool, ◌⊎◌, List, [], ◌∷◌, Option, Some, None, Result, Ok, Err, if◌then◌else◌}
+use Rattle.std.specs.Prelude.{◌≡◌, ℕ, Bool, ◌⊎◌, List, [], ◌∷◌, Option, Some, None, Result, Ok, Err, codes, if◌then◌else◌}
 use Rattle.locnum_forms.specs.Wanted.{WantedData}
 use Rattle.locnum_forms.specs.declared.wanted.FractionRange.{FractionRange}
 use Rattle.locnum_lines.specs.Settings.{SettingsData}
 use Rattle.locnum_lines.specs.declared.padding.Padding.{Padding}
-use Rattle.locnum_lines.specs.declared.settings.FieldRange.{FieldRange}
+use Rattle.locnum_lines.specs.declared.settings.Source.TheVariants.{Lines}
 use Rattle.locnum_options.specs.Explained.{explain_given}
-use Rattle.locnum_options.specs.Fields.{fields_named}
+use Rattle.locnum_options.specs.Fields.{place_named}
 use Rattle.locnum_options.specs.Fraction.{fraction_named}
-use Rattle.locnum_options.specs.Given.{GivenData}
+use Rattle.locnum_options.specs.Given.{flag_of, text_of}
+use Rattle.locnum_options.specs.declared.explained.Explain.{Explain}
+use Rattle.locnum_options.specs.declared.given.Given.{Given}
 use Rattle.locnum_options.specs.Kinds.{◌>>=◌, kind_given}
+use Rattle.locnum_options.specs.Locale.{locale_given}
+use Rattle.locnum_options.specs.Names.{chosen_given}
 use Rattle.locnum_options.specs.Padding.{padding_named}
-use Rattle.locnum_options.specs.Texts.{number_named}
-use Rattle.locnum_options.specs.Words.{ok_or, locale_given, system_given, grouping_given, sign_given, field_end_given, refusals_given}
+use Rattle.locnum_options.specs.Words.{ok_or, system_given, grouping_given, sign_given, field_end_given, refusals_given}
 use Rattle.locnum_options.specs.declared.fault.OptionFault.{OptionFault}
 use Rattle.locnum_options.specs.declared.fault.OptionFault.TheVariants as fault
 
--- the form of numbers, the fields of lines, and whether numbers are explained instead
+-- the form of numbers, the fields of lines, and what is explained instead
 pub record OptionsData : Type 0 where
   pub wanted : WantedData
   pub lines : SettingsData
-  pub explain : Bool
+  pub explain : Explain
 
 -- The result of a call, seen by view, is this; `OutOfMemory` may be reported in place of any result.
 abbrev pub Gives : {X Y : Type 0} → (X → Y) → Result X OptionFault → Result Y OptionFault → Type 0
@@ -34,15 +37,10 @@ fraction_given (Some text) = do
   range ← ok_or (fraction_named text) fault.Fraction
   Ok (Some range)
 
--- the fields that are numbers; the first one by default
-unfoldable pub fields_given : Option (List ℕ) → Result (List FieldRange) OptionFault
-fields_given None = Ok (record { first = 1; last = 1 } ∷ [])
-fields_given (Some text) = ok_or (fields_named text) fault.Fields
-
--- how many lines are a header; none by default
+-- how many lines are a header, one at least; none by default
 unfoldable pub header_given : Option (List ℕ) → Result ℕ OptionFault
 header_given None = Ok 0
-header_given (Some text) = ok_or (number_named text) fault.Header
+header_given (Some text) = ok_or (place_named text) fault.Header
 
 -- how wide numbers are at least; as wide as they are by default
 unfoldable pub padding_given : Option (List ℕ) → Result (Option Padding) OptionFault
@@ -56,29 +54,31 @@ unfoldable pub end_of : Bool → ℕ
 end_of zero_terminated = if zero_terminated then 0 else 10
 
 -- what the options ask for, or the first fault
-unfoldable pub options_of : GivenData → Result OptionsData OptionFault
+unfoldable pub options_of : Given → Result OptionsData OptionFault
 options_of given = do
-  locale ← locale_given given.locale
-  system ← system_given given.system
-  grouping ← grouping_given given.grouping
-  fraction ← fraction_given given.fraction
-  sign ← sign_given given.sign
+  locale ← locale_given given
+  system ← system_given (text_of given (codes "system"))
+  grouping ← grouping_given (text_of given (codes "grouping"))
+  fraction ← fraction_given (text_of given (codes "fraction"))
+  sign ← sign_given (text_of given (codes "sign"))
   kind ← kind_given given
   explain ← explain_given given
   delimiter ← field_end_given given
-  fields ← fields_given given.field
-  header ← header_given given.header
-  padding ← padding_given given.padding
-  refusals ← refusals_given given.invalid
+  chosen ← chosen_given given
+  header ← header_given (text_of given (codes "header"))
+  padding ← padding_given (text_of given (codes "padding"))
+  refusals ← refusals_given (text_of given (codes "invalid"))
   Ok (record {
     wanted = record { locale = locale; system = system; grouping = grouping; fraction = fraction; sign = sign; kind = kind };
     lines = record {
       delimiter = delimiter;
-      fields = fields;
+      fields = chosen.fields;
+      names = chosen.names;
       header = header;
-      end = end_of given.zero_terminated;
+      end = end_of (flag_of given (codes "zero-terminated"));
       refusals = refusals;
       padding = padding;
+      source = Lines;
     };
     explain = explain;
   })

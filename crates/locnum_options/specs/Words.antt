@@ -1,7 +1,6 @@
--- Words of options, and what holds where an option isn't given.
+-- Values of options, and what holds where an option isn't given.
 use Rattle.std.specs.Prelude.{ℕ, Bool, ◌||◌, ◌==◌, List, [], ◌∷◌, Option, Some, None, Result, Ok, Err, codes, nat_eq, if◌then◌else◌}
 use Rattle.std.specs.Cmp.Lexicographic.{pointwise}
-use Rattle.icu_provider.specs.Locale.{is_locale}
 use Rattle.icu_provider.specs.NumberingSystem.{is_numbering_system}
 use Rattle.icu_decimal.specs.declared.options.GroupingStrategy.{GroupingStrategy}
 use Rattle.icu_decimal.specs.declared.options.GroupingStrategy.TheVariants as grouping
@@ -11,7 +10,8 @@ use Rattle.locnum_lines.specs.declared.settings.Delimiter.{Delimiter}
 use Rattle.locnum_lines.specs.declared.settings.Delimiter.TheVariants.{Blanks, Byte, Csv}
 use Rattle.locnum_lines.specs.declared.settings.Refusals.{Refusals}
 use Rattle.locnum_lines.specs.declared.settings.Refusals.TheVariants as refusals
-use Rattle.locnum_options.specs.Given.{GivenData}
+use Rattle.locnum_options.specs.Given.{flag_of, text_of}
+use Rattle.locnum_options.specs.declared.given.Given.{Given}
 use Rattle.locnum_options.specs.Kinds.{◌>>=◌}
 use Rattle.locnum_options.specs.declared.fault.OptionFault.{OptionFault}
 use Rattle.locnum_options.specs.declared.fault.OptionFault.TheVariants as fault
@@ -20,15 +20,6 @@ use Rattle.locnum_options.specs.declared.fault.OptionFault.TheVariants as fault
 abbrev pub ok_or : {A : Type 0} → Option A → OptionFault → Result A OptionFault
 ok_or None fault = Err fault
 ok_or (Some x) fault = Ok x
-
--- the locale of a text
-unfoldable pub locale_named : List ℕ → Result (List ℕ) OptionFault
-locale_named text = if is_locale text then Ok text else Err fault.Locale
-
--- the locale; `en` by default
-unfoldable pub locale_given : Option (List ℕ) → Result (List ℕ) OptionFault
-locale_given None = Ok (codes "en")
-locale_given (Some text) = locale_named text
 
 -- the numbering system; none by default
 unfoldable pub system_given : Option (List ℕ) → Result (Option (List ℕ)) OptionFault
@@ -56,12 +47,23 @@ sign_given (Some word) =
     else if pointwise nat_eq word (codes "negative") then Ok sign.Negative
     else Err fault.Sign
 
+-- the byte that a text is
+abbrev pub only_byte : List ℕ → Result ℕ OptionFault
+only_byte [] = Err fault.Delimiter
+only_byte (byte ∷ []) = Ok byte
+only_byte (byte ∷ (other ∷ others)) = Err fault.Delimiter
+
+-- the byte of a text: a tab of `tab` and `\t`, or the byte that it is
+unfoldable pub byte_named : List ℕ → Result ℕ OptionFault
+byte_named text =
+    if pointwise nat_eq text (codes "tab") || pointwise nat_eq text (92 ∷ (116 ∷ [])) then Ok 9 else only_byte text
+
 -- the byte between fields; none by default
 unfoldable pub delimiter_given : Option (List ℕ) → Result (Option ℕ) OptionFault
 delimiter_given None = Ok None
-delimiter_given (Some []) = Err fault.Delimiter
-delimiter_given (Some (byte ∷ [])) = Ok (Some byte)
-delimiter_given (Some (byte ∷ (other ∷ others))) = Err fault.Delimiter
+delimiter_given (Some text) = do
+  byte ← byte_named text
+  Ok (Some byte)
 
 -- a quote, a line feed or a carriage return
 abbrev pub is_csv_mark : ℕ → Bool
@@ -78,12 +80,12 @@ plain_given None = Blanks
 plain_given (Some byte) = Byte byte
 
 -- what ends a field; CSV has lines that end in a line feed
-unfoldable pub field_end_given : GivenData → Result Delimiter OptionFault
+unfoldable pub field_end_given : Given → Result Delimiter OptionFault
 field_end_given given = do
-  byte ← delimiter_given given.delimiter
-  if given.csv then (if given.zero_terminated then Err fault.CsvZero else csv_given byte) else Ok (plain_given byte)
+  byte ← delimiter_given (text_of given (codes "delimiter"))
+  if flag_of given (codes "csv") then (if flag_of given (codes "zero-terminated") then Err fault.CsvZero else csv_given byte) else Ok (plain_given byte)
 
--- what becomes of texts that are refused; `abort` by default
+-- what becomes of texts that are rejected; `abort` by default
 unfoldable pub refusals_given : Option (List ℕ) → Result Refusals OptionFault
 refusals_given None = Ok refusals.Abort
 refusals_given (Some word) =

@@ -1,4 +1,4 @@
-//! Why options are refused.
+//! Why options are rejected.
 
 ghost use Rattle.std.specs.Prelude.{◌≡◌};
 ghost use Rattle.locnum_options.specs.declared.fault.OptionFault.TheVariants.{OutOfMemory};
@@ -6,7 +6,7 @@ ghost use Rattle.locnum_options.specs.declared.fault.OptionFault.TheVariants.{Ou
 use std::alloc::{AllocError, AllocFailed};
 use thiserror::Error;
 
-/// Why options are refused.
+/// Why options are rejected.
 #[derive(Clone, Copy, Debug, PartialEq, Eq, Error)]
 pub enum OptionFault {
     /// The text isn't a locale.
@@ -49,11 +49,11 @@ pub enum OptionFault {
     /// An option of money without a currency, or a width without something that has one.
     #[error("--accounting and --cash want --currency, and --width wants --currency or --unit")]
     Alone,
-    /// Explanations are asked for with an option of lines and fields, which they don't have.
-    #[error("--explain: not with --csv, -d, --field, --header, --padding or -z")]
+    /// Explanations are asked for with a padding, which they don't have.
+    #[error("--explain: not with --padding")]
     Explained,
     /// The text isn't one byte.
-    #[error("--delimiter: not a single byte")]
+    #[error("--delimiter: neither a single byte nor tab")]
     Delimiter,
     /// CSV is asked for with a delimiter that it has another use for.
     #[error("--csv: --delimiter is neither a quote, a line feed nor a carriage return")]
@@ -61,19 +61,22 @@ pub enum OptionFault {
     /// CSV is asked for with lines that end in NUL.
     #[error("--csv: not with --zero-terminated")]
     CsvZero,
-    /// The text isn't a list of fields.
-    #[error("--field: not a list of N, N-, N-M, -M or -, from 1 on")]
+    /// The text is neither a list of ranges nor one of names.
+    #[error("--field: neither a list of N, N-, N-M, -M or -, from 1 on, nor one of names")]
     Fields,
+    /// Fields are chosen by the names of a header that isn't asked for.
+    #[error("--field: names are those of a header, which --header asks for")]
+    Names,
     /// The text isn't a count of lines.
-    #[error("--header: not a count of lines")]
+    #[error("--header: not a count of lines, from 1 on")]
     Header,
     /// The text isn't a count of columns.
     #[error("--padding: neither N nor -N, from 1 to 65535")]
     Padding,
-    /// The text doesn't say what becomes of texts that are refused.
+    /// The text doesn't say what becomes of texts that are rejected.
     #[error("--invalid: neither abort, fail, warn nor ignore")]
     Invalid,
-    /// An allocation was refused.
+    /// An allocation failed.
     #[error("out of memory")]
     OutOfMemory,
 }

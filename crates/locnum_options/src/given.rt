@@ -1,79 +1,48 @@
 //! What a command line gives.
 
-use std::marker::Model;
+ghost use Rattle.std.specs.Prelude.{◌≡◌};
+ghost use Rattle.locnum_options.specs.Given.{flag_of, look_up};
 
-/// The texts of the options that are given, and which options without a text are (this project's
+/// The variables of the environment that name its locale, as far as they are set (this project's
 /// own).
-#[derive(Debug, Drop)]
-pub struct Given<'a> {
-    /// `--locale`.
-    pub locale: Option<&'a str>,
-    /// `--system`.
-    pub system: Option<&'a str>,
-    /// `--style`.
-    pub style: Option<&'a str>,
-    /// `--grouping`.
-    pub grouping: Option<&'a str>,
-    /// `--fraction`.
-    pub fraction: Option<&'a str>,
-    /// `--sign`.
-    pub sign: Option<&'a str>,
-    /// `--currency`.
-    pub currency: Option<&'a str>,
-    /// `--width`.
-    pub width: Option<&'a str>,
-    /// `--accounting`.
-    pub accounting: bool,
-    /// `--cash`.
-    pub cash: bool,
-    /// `--percent`.
-    pub percent: bool,
-    /// `--unit`.
-    pub unit: Option<&'a str>,
-    /// `--csv`.
-    pub csv: bool,
-    /// `--delimiter`.
-    pub delimiter: Option<&'a str>,
-    /// `--field`.
-    pub field: Option<&'a str>,
-    /// `--header`.
-    pub header: Option<&'a str>,
-    /// `--padding`.
-    pub padding: Option<&'a str>,
-    /// `--invalid`.
-    pub invalid: Option<&'a str>,
-    /// `--zero-terminated`.
-    pub zero_terminated: bool,
-    /// `--explain`.
-    pub explain: bool,
+#[derive(Clone, Copy, Debug)]
+pub struct Environment<'a> {
+    /// `LC_ALL`, which is taken before the others.
+    pub all: Option<&'a str>,
+    /// `LC_NUMERIC`, which is taken before `LANG`.
+    pub numeric: Option<&'a str>,
+    /// `LANG`.
+    pub language: Option<&'a str>,
 }
 
-impl<'a> Model for Given<'a> {
-    ghost use Rattle.std.specs.Prelude.{option_map};
-    ghost use Rattle.locnum_options.specs.Given.{GivenData};
+/// The options that a command line gives: each with its name and its text, which is empty where the
+/// option has none (this project's own).
+#[derive(Clone, Copy, Debug)]
+pub struct Given<'a> {
+    /// The names and the texts, in any order; of several of one name the first counts.
+    pub options: &'a [(&'a str, &'a str)],
+    /// What the environment says.
+    pub environment: Environment<'a>,
+}
 
-    ghost Value = { GivenData };
+impl<'a> Given<'a> {
+    /// The text of the option of this name, if it is given.
+    #[tactic(auto, unfolding(crate::specs::Given::look_up, crate::specs::Given::found_among))]
+    pub fn text(&self, name: &str) -> Option<&'a str>
+        ensures { result ≡ look_up self.now name.now }
+    {
+        for (option, text) in self.options {
+            if *option == name {
+                return Some(*text);
+            }
+        }
+        None
+    }
 
-    ghost view = { λ g. record {
-      locale = option_map (λ s. s.now) g.locale;
-      system = option_map (λ s. s.now) g.system;
-      style = option_map (λ s. s.now) g.style;
-      grouping = option_map (λ s. s.now) g.grouping;
-      fraction = option_map (λ s. s.now) g.fraction;
-      sign = option_map (λ s. s.now) g.sign;
-      currency = option_map (λ s. s.now) g.currency;
-      width = option_map (λ s. s.now) g.width;
-      accounting = g.accounting;
-      cash = g.cash;
-      percent = g.percent;
-      unit = g.unit;
-      csv = g.csv;
-      delimiter = option_map (λ s. s.now) g.delimiter;
-      field = option_map (λ s. s.now) g.field;
-      header = option_map (λ s. s.now) g.header;
-      padding = option_map (λ s. s.now) g.padding;
-      invalid = option_map (λ s. s.now) g.invalid;
-      zero_terminated = g.zero_terminated;
-      explain = g.explain;
-    } };
+    /// Whether the option of this name is given.
+    pub fn flag(&self, name: &str) -> bool
+        ensures { result ≡ flag_of self.now name.now }
+    {
+        self.text(name).is_some()
+    }
 }

@@ -82,9 +82,9 @@ fn money_given<'a>(text: &str, given: &Given) -> Result<Kind<'a>, OptionFault>
 {
     Ok(Kind::Money {
         code: currency_named(text)?,
-        width: money_width(given.width)?,
-        sign: sign_of(given.accounting),
-        is_cash: given.cash,
+        width: money_width(given.text("width"))?,
+        sign: sign_of(given.flag("accounting")),
+        is_cash: given.flag("cash"),
     })
 }
 
@@ -106,10 +106,10 @@ fn named_given<'a>(text: &str, given: &Given) -> Result<Kind<'a>, OptionFault>
     ensures { result ≡ named_given text.now given.now }
 {
     let code = currency_named(text)?;
-    if given.accounting {
+    if given.flag("accounting") {
         return Err(OptionFault::Accounting);
     }
-    let is_cash = given.cash;
+    let is_cash = given.flag("cash");
     Ok(Kind::MoneyNamed { code, is_cash })
 }
 
@@ -118,7 +118,7 @@ fn named_given<'a>(text: &str, given: &Given) -> Result<Kind<'a>, OptionFault>
 fn amount_given<'a>(text: &str, given: &Given) -> Result<Kind<'a>, OptionFault>
     ensures { result ≡ amount_given text.now given.now }
 {
-    if is_name(given.width) {
+    if is_name(given.text("width")) {
         named_given(text, given)
     } else {
         money_given(text, given)
@@ -157,7 +157,7 @@ fn compact_given<'a>(text: &str, given: &Given) -> Result<Kind<'a>, OptionFault>
     ensures { result ≡ compact_given text.now given.now }
 {
     let code = currency_named(text)?;
-    if given.accounting || given.cash || !is_short(given.width) {
+    if given.flag("accounting") || given.flag("cash") || !is_short(given.text("width")) {
         return Err(OptionFault::ShortMoney);
     }
     Ok(Kind::MoneyShort { code })
@@ -168,7 +168,7 @@ fn compact_given<'a>(text: &str, given: &Given) -> Result<Kind<'a>, OptionFault>
 fn currency_given<'a>(text: &str, given: &Given) -> Result<Kind<'a>, OptionFault>
     ensures { result ≡ currency_given text.now given.now }
 {
-    if is_compact(given.style)? {
+    if is_compact(given.text("style"))? {
         compact_given(text, given)
     } else {
         amount_given(text, given)
@@ -180,7 +180,7 @@ fn currency_given<'a>(text: &str, given: &Given) -> Result<Kind<'a>, OptionFault
 fn unit_given<'a>(name: &'a str, given: &Given) -> Result<Kind<'a>, OptionFault>
     ensures { result ≡ unit_given name.entry given.now }
 {
-    let width = unit_width(given.width)?;
+    let width = unit_width(given.text("width"))?;
     Ok(Kind::Unit { name, width })
 }
 
@@ -189,10 +189,10 @@ fn unit_given<'a>(name: &'a str, given: &Given) -> Result<Kind<'a>, OptionFault>
 fn is_together(given: &Given) -> bool
     ensures { result ≡ is_together given.now }
 {
-    let unit = given.unit.is_some();
-    (given.style.is_some() && (given.percent || unit))
-        || (given.currency.is_some() && (given.percent || unit))
-        || (given.percent && unit)
+    let unit = given.flag("unit");
+    (given.flag("style") && (given.flag("percent") || unit))
+        || (given.flag("currency") && (given.flag("percent") || unit))
+        || (given.flag("percent") && unit)
 }
 
 /// Whether an option of money stands without a currency, or a width without a currency or a unit.
@@ -200,8 +200,10 @@ fn is_together(given: &Given) -> bool
 fn is_alone(given: &Given) -> bool
     ensures { result ≡ is_alone given.now }
 {
-    given.currency.is_none()
-        && (given.accounting || given.cash || (given.width.is_some() && given.unit.is_none()))
+    !given.flag("currency")
+        && (given.flag("accounting")
+            || given.flag("cash")
+            || (given.flag("width") && !given.flag("unit")))
 }
 
 /// The kind that is asked for.
@@ -215,14 +217,14 @@ pub(crate) fn kind_given<'a>(given: &Given<'a>) -> Result<Kind<'a>, OptionFault>
     if is_alone(given) {
         return Err(OptionFault::Alone);
     }
-    if let Some(code) = given.currency {
+    if let Some(code) = given.text("currency") {
         return currency_given(code, given);
     }
-    if let Some(name) = given.unit {
+    if let Some(name) = given.text("unit") {
         return unit_given(name, given);
     }
-    if given.percent {
+    if given.flag("percent") {
         return Ok(Kind::Percent);
     }
-    style_given(given.style)
+    style_given(given.text("style"))
 }

@@ -8,11 +8,14 @@ mod fields;
 mod fraction;
 mod given;
 mod kinds;
+mod locale;
+mod names;
 mod options;
 mod padding;
 mod texts;
 mod words;
 
+pub use explained::Explain;
 pub use fault::OptionFault;
-pub use given::Given;
+pub use given::{Environment, Given};
 pub use options::{Options, parse_options};

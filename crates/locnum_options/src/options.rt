@@ -1,21 +1,20 @@
 //! What the options ask for.
 
-ghost use Rattle.std.specs.Prelude.{◌≡◌, None, option_map};
-ghost use Rattle.locnum_options.specs.Options.{Gives, end_of, fields_given, fraction_given, header_given, options_of, padding_given};
+ghost use Rattle.std.specs.Prelude.{◌≡◌, option_map};
+ghost use Rattle.locnum_options.specs.Options.{Gives, end_of, fraction_given, header_given, options_of, padding_given};
 
-use crate::explained::explain_given;
+use crate::explained::{Explain, explain_given};
 use crate::fault::OptionFault;
-use crate::fields::fields_named;
+use crate::fields::place_named;
 use crate::fraction::fraction_named;
 use crate::given::Given;
 use crate::kinds::kind_given;
+use crate::locale::locale_given;
+use crate::names::{Chosen, chosen_given};
 use crate::padding::padding_named;
-use crate::texts::number_named;
-use crate::words::{
-    field_end_given, grouping_given, locale_given, refusals_given, sign_given, system_given,
-};
+use crate::words::{field_end_given, grouping_given, refusals_given, sign_given, system_given};
 use locnum_forms::{FractionRange, Wanted};
-use locnum_lines::{FieldRange, LineSettings, Padding};
+use locnum_lines::{LineSettings, Padding, Source};
 use std::alloc::Global;
 use std::marker::Model;
 
@@ -26,8 +25,8 @@ pub struct Options<'a> {
     pub wanted: Wanted<'a>,
     /// How lines are cut, and what becomes of them.
     pub lines: LineSettings,
-    /// Whether numbers are explained, one a line, and lines aren't cut.
-    pub explain: bool,
+    /// What is explained instead, if anything is.
+    pub explain: Explain,
 }
 
 impl<'a> Model for Options<'a> {
@@ -56,25 +55,6 @@ fn fraction_given(text: Option<&str>) -> Result<Option<FractionRange>, OptionFau
     }
 }
 
-/// The first field alone.
-#[tactic(auto, unfolding(crate::specs::Options::fields_given))]
-fn first_field(alloc: Global) -> Result<Vec<FieldRange>, OptionFault>
-    ensures { Gives (λ v. v.items) result (fields_given None) }
-{
-    Ok(vec![in alloc; FieldRange { first: 1, last: 1 }]?)
-}
-
-/// The fields that are numbers; the first one by default.
-#[tactic(auto, unfolding(crate::specs::Options::fields_given))]
-fn fields_given(alloc: Global, text: Option<&str>) -> Result<Vec<FieldRange>, OptionFault>
-    ensures { Gives (λ v. v.items) result (fields_given (option_map (λ t. t.now) text.entry)) }
-{
-    match text {
-        None => first_field(alloc),
-        Some(text) => fields_named(alloc, text),
-    }
-}
-
 /// How many lines are a header; none by default.
 #[tactic(auto, unfolding(crate::specs::Options::header_given))]
 fn header_given(text: Option<&str>) -> Result<u64, OptionFault>
@@ -83,7 +63,7 @@ fn header_given(text: Option<&str>) -> Result<u64, OptionFault>
     let Some(text) = text else {
         return Ok(0);
     };
-    match number_named(text) {
+    match place_named(text) {
         Some(number) => Ok(number as u64),
         None => Err(OptionFault::Header),
     }
@@ -114,25 +94,27 @@ fn end_of(zero_terminated: bool) -> u8
 /// What the options ask for, or the first fault (this project's own).
 ///
 /// `OutOfMemory` may be reported in place of any result.
+// promise: The arguments determine what is asked for, or the fault.
+// mutations: options_header_judged_after_invalid
 #[tactic(auto, unfolding(crate::specs::Options::options_of))]
 pub fn parse_options<'a>(alloc: Global, given: &Given<'a>) -> Result<Options<'a>, OptionFault>
     ensures { Gives (λ x. x) result (options_of given.now) }
 {
-    let locale = locale_given(given.locale)?;
-    let system = system_given(given.system)?;
-    let grouping = grouping_given(given.grouping)?;
-    let fraction = fraction_given(given.fraction)?;
-    let sign = sign_given(given.sign)?;
+    let locale = locale_given(alloc, given)?;
+    let system = system_given(given.text("system"))?;
+    let grouping = grouping_given(given.text("grouping"))?;
+    let fraction = fraction_given(given.text("fraction"))?;
+    let sign = sign_given(given.text("sign"))?;
     let kind = match kind_given(given) {
         Ok(kind) => kind,
         Err(fault) => return Err(fault),
     };
     let explain = explain_given(given)?;
     let delimiter = field_end_given(given)?;
-    let fields = fields_given(alloc, given.field)?;
-    let header = header_given(given.header)?;
-    let padding = padding_given(given.padding)?;
-    let refusals = refusals_given(given.invalid)?;
+    let Chosen { fields, names } = chosen_given(alloc, given)?;
+    let header = header_given(given.text("header"))?;
+    let padding = padding_given(given.text("padding"))?;
+    let refusals = refusals_given(given.text("invalid"))?;
     Ok(Options {
         wanted: Wanted {
             locale,
@@ -145,10 +127,12 @@ pub fn parse_options<'a>(alloc: Global, given: &Given<'a>) -> Result<Options<'a>
         lines: LineSettings {
             delimiter,
             fields,
+            names,
             header,
-            end: end_of(given.zero_terminated),
+            end: end_of(given.flag("zero-terminated")),
             refusals,
             padding,
+            source: Source::Lines,
         },
         explain,
     })

@@ -1,36 +1,14 @@
-//! Words of options, and what holds where an option isn't given.
+//! Values of options, and what holds where an option isn't given.
 
 ghost use Rattle.std.specs.Prelude.{◌≡◌, option_map};
-ghost use Rattle.locnum_options.specs.Words.{csv_given, delimiter_given, field_end_given, grouping_given, is_csv_mark, locale_given, locale_named, plain_given, refusals_given, sign_given, system_given};
+ghost use Rattle.locnum_options.specs.Words.{byte_named, csv_given, delimiter_given, field_end_given, grouping_given, is_csv_mark, plain_given, refusals_given, sign_given, system_given};
 
 use crate::fault::OptionFault;
 use crate::given::Given;
 use fixed_decimal::SignDisplay;
 use icu_decimal::options::GroupingStrategy;
-use icu_provider::{DataLocale, NumberingSystem};
+use icu_provider::NumberingSystem;
 use locnum_lines::{Delimiter, Refusals};
-
-/// The locale of a text.
-#[tactic(auto, unfolding(crate::specs::Words::locale_named))]
-fn locale_named(text: &str) -> Result<DataLocale, OptionFault>
-    ensures { result ≡ locale_named text.now }
-{
-    match DataLocale::try_from_str(text) {
-        Ok(locale) => Ok(locale),
-        Err(_) => Err(OptionFault::Locale),
-    }
-}
-
-/// The locale; `en` by default.
-#[tactic(auto, using(crate::proofs::English::english_named), unfolding(crate::specs::Words::locale_given))]
-pub(crate) fn locale_given(text: Option<&str>) -> Result<DataLocale, OptionFault>
-    ensures { result ≡ locale_given (option_map (λ t. t.now) text.entry) }
-{
-    match text {
-        None => locale_named("en"),
-        Some(text) => locale_named(text),
-    }
-}
 
 /// The numbering system; none by default.
 #[tactic(auto, unfolding(crate::specs::Words::system_given))]
@@ -81,6 +59,20 @@ pub(crate) fn sign_given(word: Option<&str>) -> Result<SignDisplay, OptionFault>
     }
 }
 
+/// The byte of a text: a tab of `tab` and `\\t`, or the byte that it is.
+#[tactic(auto, unfolding(crate::specs::Words::byte_named))]
+fn byte_named(text: &str) -> Result<u8, OptionFault>
+    ensures { result ≡ byte_named text.now }
+{
+    if text == "tab" || text == "\\t" {
+        return Ok(b'\t');
+    }
+    match text.as_bytes() {
+        [byte] => Ok(*byte),
+        _ => Err(OptionFault::Delimiter),
+    }
+}
+
 /// The byte between fields; none by default.
 #[tactic(auto, unfolding(crate::specs::Words::delimiter_given))]
 fn delimiter_given(text: Option<&str>) -> Result<Option<u8>, OptionFault>
@@ -89,10 +81,7 @@ fn delimiter_given(text: Option<&str>) -> Result<Option<u8>, OptionFault>
     let Some(text) = text else {
         return Ok(None);
     };
-    match text.as_bytes() {
-        [byte] => Ok(Some(*byte)),
-        _ => Err(OptionFault::Delimiter),
-    }
+    Ok(Some(byte_named(text)?))
 }
 
 /// Whether a byte is a quote, a line feed or a carriage return.
@@ -132,17 +121,17 @@ fn plain_given(byte: Option<u8>) -> Delimiter
 pub(crate) fn field_end_given(given: &Given) -> Result<Delimiter, OptionFault>
     ensures { result ≡ field_end_given given.now }
 {
-    let byte = delimiter_given(given.delimiter)?;
-    if !given.csv {
+    let byte = delimiter_given(given.text("delimiter"))?;
+    if !given.flag("csv") {
         return Ok(plain_given(byte));
     }
-    if given.zero_terminated {
+    if given.flag("zero-terminated") {
         return Err(OptionFault::CsvZero);
     }
     csv_given(byte)
 }
 
-/// What becomes of texts that are refused; `abort` by default.
+/// What becomes of texts that are rejected; `abort` by default.
 #[tactic(auto, unfolding(crate::specs::Words::refusals_given))]
 pub(crate) fn refusals_given(word: Option<&str>) -> Result<Refusals, OptionFault>
     ensures { result ≡ refusals_given (option_map (λ t. t.now) word.entry) }

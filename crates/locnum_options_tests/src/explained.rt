@@ -1,23 +1,25 @@
-//! Whether explanations are asked for.
+//! What is explained.
 
 use crate::reading::{Word, options_of};
+use locnum_options::Explain;
 use std::alloc::Global;
 
-/// Whether the words are accepted, and ask for explanations or don't.
-fn asks(alloc: Global, words: &[Word], is_explained: bool) -> bool {
+/// Whether the arguments are accepted, and ask for these explanations.
+fn asks(alloc: Global, words: &[Word], explain: Explain) -> bool {
     match options_of(alloc, words) {
-        Ok(options) => options.explain == is_explained,
+        Ok(options) => options.explain == explain,
         Err(_) => false,
     }
 }
 
-/// Words, and whether they ask for explanations.
-const ASKED: &[(&[Word], bool)] = &[
-    (&[], false),
-    (&[("field", "2"), ("csv", "")], false),
-    (&[("explain", "")], true),
-    (&[("explain", ""), ("style", "short")], true),
-    (&[("explain", ""), ("invalid", "fail")], true),
+/// Arguments, and what they ask to be explained.
+const ASKED: &[(&[Word], Explain)] = &[
+    (&[], Explain::Nothing),
+    (&[("field", "2"), ("csv", "")], Explain::Nothing),
+    (&[("padding", "12")], Explain::Nothing),
+    (&[("explain", "")], Explain::Lines),
+    (&[("explain", ""), ("style", "short")], Explain::Lines),
+    (&[("explain", ""), ("invalid", "fail")], Explain::Lines),
     (
         &[
             ("explain", ""),
@@ -30,15 +32,31 @@ const ASKED: &[(&[Word], bool)] = &[
             ("width", "name"),
             ("cash", ""),
         ],
-        true,
+        Explain::Lines,
     ),
-    (&[("explain", ""), ("percent", "")], true),
-    (&[("explain", ""), ("unit", "meter")], true),
+    (&[("explain", ""), ("percent", "")], Explain::Lines),
+    (&[("explain", ""), ("unit", "meter")], Explain::Lines),
+    (&[("explain", ""), ("csv", "")], Explain::Fields),
+    (&[("explain", ""), ("delimiter", ";")], Explain::Fields),
+    (&[("explain", ""), ("field", "2")], Explain::Fields),
+    (&[("explain", ""), ("header", "1")], Explain::Fields),
+    (&[("explain", ""), ("zero-terminated", "")], Explain::Fields),
+    (
+        &[
+            ("explain", ""),
+            ("csv", ""),
+            ("delimiter", ";"),
+            ("field", "net,gross"),
+            ("header", "2"),
+            ("invalid", "warn"),
+        ],
+        Explain::Fields,
+    ),
 ];
 
 #[test]
-fn reads_whether_numbers_are_explained(rt: HostRuntime) {
-    for &(words, is_explained) in ASKED {
-        assert!(rt; asks(rt.alloc(), words, is_explained), "{words:?}");
+fn reads_what_is_explained(rt: HostRuntime) {
+    for &(words, explain) in ASKED {
+        assert!(rt; asks(rt.alloc(), words, explain), "{words:?}");
     }
 }

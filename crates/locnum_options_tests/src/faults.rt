@@ -1,10 +1,10 @@
-//! Options that are refused, and which fault is told.
+//! Options that are rejected, and which fault is reported.
 
 use crate::reading::{Word, options_of};
 use locnum_options::OptionFault;
 use std::alloc::Global;
 
-/// Whether the words are refused for this fault.
+/// Whether the arguments are rejected for this fault.
 fn is_refused(alloc: Global, words: &[Word], fault: OptionFault) -> bool {
     match options_of(alloc, words) {
         Ok(_) => false,
@@ -12,10 +12,12 @@ fn is_refused(alloc: Global, words: &[Word], fault: OptionFault) -> bool {
     }
 }
 
-/// Words, and why they are refused.
+/// Arguments, and why they are rejected.
 const REFUSED: &[(&[Word], OptionFault)] = &[
     (&[("locale", "")], OptionFault::Locale),
-    (&[("locale", "de_DE")], OptionFault::Locale),
+    (&[("locale", ".UTF-8")], OptionFault::Locale),
+    (&[("locale", "d e")], OptionFault::Locale),
+    (&[("locale", "d\u{e9}")], OptionFault::Locale),
     (&[("system", "-")], OptionFault::System),
     (&[("system", "no")], OptionFault::System),
     (&[("grouping", "min3")], OptionFault::Grouping),
@@ -171,23 +173,16 @@ const REFUSED_OF_LINES: &[(&[Word], OptionFault)] = &[
         &[("csv", ""), ("zero-terminated", "")],
         OptionFault::CsvZero,
     ),
-    (&[("explain", ""), ("csv", "")], OptionFault::Explained),
-    (
-        &[("explain", ""), ("delimiter", ";")],
-        OptionFault::Explained,
-    ),
-    (&[("explain", ""), ("field", "2")], OptionFault::Explained),
-    (&[("explain", ""), ("header", "1")], OptionFault::Explained),
     (
         &[("explain", ""), ("padding", "12")],
         OptionFault::Explained,
     ),
     (
-        &[("explain", ""), ("zero-terminated", "")],
+        &[("explain", ""), ("field", "0"), ("padding", "12")],
         OptionFault::Explained,
     ),
     (&[("explain", ""), ("style", "wide")], OptionFault::Style),
-    (&[("explain", ""), ("field", "0")], OptionFault::Explained),
+    (&[("explain", ""), ("field", "0")], OptionFault::Fields),
     (
         &[("explain", ""), ("invalid", "stop")],
         OptionFault::Invalid,
@@ -203,7 +198,12 @@ const REFUSED_OF_LINES: &[(&[Word], OptionFault)] = &[
     (&[("field", "--")], OptionFault::Fields),
     (&[("field", "1, 2")], OptionFault::Fields),
     (&[("field", "18446744073709551616")], OptionFault::Fields),
+    (&[("field", "1,net")], OptionFault::Fields),
+    (&[("header", "1"), ("field", "net,")], OptionFault::Fields),
+    (&[("field", "net")], OptionFault::Names),
+    (&[("field", "net,gross")], OptionFault::Names),
     (&[("header", "")], OptionFault::Header),
+    (&[("header", "0")], OptionFault::Header),
     (&[("header", "-1")], OptionFault::Header),
     (&[("header", "18446744073709551616")], OptionFault::Header),
     (&[("invalid", "stop")], OptionFault::Invalid),
@@ -242,7 +242,7 @@ fn refuses_two_kinds_at_once(rt: HostRuntime) {
     }
 }
 
-/// Words that are refused, in the order in which they are judged.
+/// Arguments that are rejected, in the order in which they are judged.
 const IN_ORDER: &[(Word, OptionFault)] = &[
     (("locale", ""), OptionFault::Locale),
     (("system", ""), OptionFault::System),
@@ -313,9 +313,18 @@ const DISPLAYED: &[(OptionFault, &str)] = &[
         OptionFault::Together,
         "--percent and --unit: not together, nor with --style or --currency",
     ),
+    (OptionFault::Explained, "--explain: not with --padding"),
     (
-        OptionFault::Explained,
-        "--explain: not with --csv, -d, --field, --header, --padding or -z",
+        OptionFault::Fields,
+        "--field: neither a list of N, N-, N-M, -M or -, from 1 on, nor one of names",
+    ),
+    (
+        OptionFault::Names,
+        "--field: names are those of a header, which --header asks for",
+    ),
+    (
+        OptionFault::Header,
+        "--header: not a count of lines, from 1 on",
     ),
     (OptionFault::OutOfMemory, "out of memory"),
 ];

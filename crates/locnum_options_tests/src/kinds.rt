@@ -54,7 +54,7 @@ fn is_asked(kind: Kind, asked: Asked) -> bool {
     }
 }
 
-/// Whether the words ask for this kind.
+/// Whether the arguments ask for this kind.
 fn asks(alloc: Global, words: &[Word], asked: Asked) -> bool {
     match options_of(alloc, words) {
         Ok(options) => is_asked(options.wanted.kind, asked),

@@ -1,7 +1,8 @@
-//! Delimiters, fields, headers, ends of lines, columns, and what becomes of texts that are refused.
+//! Delimiters, fields, headers, ends of lines, columns, and what becomes of texts that are
+//! rejected.
 
 use crate::reading::{Word, options_of};
-use locnum_lines::{Alignment, Delimiter, LineSettings, Padding, Refusals};
+use locnum_lines::{Alignment, Delimiter, LineSettings, Padding, Refusals, Source};
 use std::alloc::Global;
 
 /// How lines are cut.
@@ -9,6 +10,7 @@ use std::alloc::Global;
 struct Asked {
     delimiter: Delimiter,
     fields: &'static [(usize, usize)],
+    names: &'static [&'static str],
     header: u64,
     end: u8,
     refusals: Refusals,
@@ -19,6 +21,7 @@ struct Asked {
 const DEFAULTS: Asked = Asked {
     delimiter: Delimiter::Blanks,
     fields: &[(1, 1)],
+    names: &[],
     header: 0,
     end: b'\n',
     refusals: Refusals::Abort,
@@ -31,13 +34,20 @@ fn is_asked(lines: &LineSettings, asked: &Asked) -> bool {
         && lines.fields.len() == asked.fields.len()
         && lines.fields.iter().zip(asked.fields).all(|(range, ends)| range.first == ends.0
             && range.last == ends.1)
+        && lines.names.len() == asked.names.len()
+        && lines
+            .names
+            .iter()
+            .zip(asked.names)
+            .all(|(name, text)| name.as_str() == *text)
+        && lines.source == Source::Lines
         && lines.header == asked.header
         && lines.end == asked.end
         && lines.refusals == asked.refusals
         && lines.padding == asked.padding
 }
 
-/// Whether the words ask for this.
+/// Whether the arguments ask for this.
 fn asks(alloc: Global, words: &[Word], asked: &Asked) -> bool {
     match options_of(alloc, words) {
         Ok(options) => is_asked(&options.lines, asked),
@@ -75,7 +85,14 @@ fn reads_fields(rt: HostRuntime) {
     }
 }
 
-const DELIMITERS: &[(&str, u8)] = &[(",", b','), ("\t", b'\t'), (" ", b' ')];
+const DELIMITERS: &[(&str, u8)] = &[
+    (",", b','),
+    ("\t", b'\t'),
+    (" ", b' '),
+    ("tab", b'\t'),
+    ("\\t", b'\t'),
+    ("t", b't'),
+];
 
 #[test]
 fn reads_delimiters(rt: HostRuntime) {
@@ -88,7 +105,7 @@ fn reads_delimiters(rt: HostRuntime) {
     }
 }
 
-/// Words with `--csv`, and the byte between fields.
+/// Arguments with `--csv`, and the byte between fields.
 const RECORDS: &[(&[Word], u8)] = &[
     (&[("csv", "")], b','),
     (&[("csv", ""), ("delimiter", ";")], b';'),
@@ -107,7 +124,32 @@ fn reads_csv(rt: HostRuntime) {
     }
 }
 
-const HEADERS: &[(&str, u64)] = &[("0", 0), ("1", 1), ("18446744073709551615", u64::MAX)];
+/// Lists of names of columns.
+const NAMES: &[(&str, &[&str])] = &[
+    ("net", &["net"]),
+    ("net,gross", &["net", "gross"]),
+    ("Netto 2024,a-b", &["Netto 2024", "a-b"]),
+    ("+1", &["+1"]),
+    ("\u{20ac}, x", &["\u{20ac}", " x"]),
+];
+
+#[test]
+fn reads_names_of_columns(rt: HostRuntime) {
+    for (text, names) in NAMES {
+        let asked = Asked {
+            fields: &[],
+            names,
+            header: 2,
+            ..DEFAULTS
+        };
+        assert!(rt;
+            asks(rt.alloc(), &[("field", text), ("header", "2")], &asked),
+            "{text}"
+        );
+    }
+}
+
+const HEADERS: &[(&str, u64)] = &[("1", 1), ("007", 7), ("18446744073709551615", u64::MAX)];
 
 #[test]
 fn reads_headers(rt: HostRuntime) {

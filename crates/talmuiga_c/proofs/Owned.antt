@@ -1,4 +1,4 @@
--- What a caller is told of a mode that it hands over: nothing.
+-- What a caller learns of a mode that it hands over: nothing.
 use Rattle.talmuiga_c.proofs.Steps.{◌≡◌, ℕ, List, [], ◌∷◌, refl, sym, yes, stay_dropped, full_share, Val, block_ptr, lies_at, fat}
 use Rattle.talmuiga_c.proofs.Steps.{fsep, ‵, ◌$◌, ◌∵◌, !, qed, done, move, use1, fsplit, fjoin, fpick, fpack, rewrite, peeks, shows}
 use Rattle.talmuiga_c.proofs.Steps.{owned}
@@ -28,11 +28,11 @@ use Rattle.decimal_lines.proofs.mode.Mode.TheLaws.{the_loose}
 use Rattle.decimal_lines.specs.declared.mode.Mode.{Mode}
 use Rattle.decimal_lines.specs.contracts.mode.Mode.{the_row, the_type}
 
--- a mode that is handed over has nothing to tell its caller
+-- a mode that is handed over has nothing that its caller learns
 pub mode-Mute : Mute (the_row.exit yes)
 mode-Mute = enum-Mute the_type no ((Mute-flat (λ x w. refl) (λ x. tt), tt), ((Mute-flat (λ x w. refl) (λ x. tt), tt), tt))
 
--- and so it is of each parameter that is let go, where its type has nothing to tell
+-- and so it is of each parameter that is let go, where nothing is learnt by its type
 pub told-nothing : {M : Type 1} {𝓤 : Ura M} (𝓛 : Logic 𝓤) (n : ℕ) (s : Slot n) (k : Kept) → ((κs : Lfts n) → Mute ((s.row κs).exit k))
     → Goes 𝓛 n s k (stay_dropped s k)
 told-nothing {M = M} {𝓤 = 𝓤} 𝓛 n s k mute κs x f vs ok = via 𝓤 (sem 𝓛 (left ((s.row κs).exit k) x f))

@@ -16,7 +16,7 @@ use Rattle.talmuiga_c.specs.Handle.{empty}
 use Rattle.talmuiga_c.specs.Kept.{OpensIn}
 use Rattle.talmuiga_c.proofs.Texts.{is_no_text}
 
--- want of memory before the first line
+-- out of memory before the first line
 pub unstarted : (mode : Mode) (input old : List ℕ) → IsFormatted mode input old old 0 out_of_memory
 unstarted mode input old = record {
   whole = λ e. absurd (omega arith);
@@ -44,7 +44,7 @@ module _ (words : WordsData) (tables : List ℕ) where
       go true e = text (IsUtf8-from_is_utf8 tables e)
       go false e = sym (no_text (is_no_text tables e))
 
-  -- and a refusal, unless it is for want of memory
+  -- and an error, unless it is because memory ran out
   asked-refused : (error : StartError) → (IsUtf8 tables → mode_of words tables ≡ Err error) → (¬ (IsUtf8 tables)
       → ◌≡◌ {A = Result Mode StartError} (Err error) (Err start.Tables)) → mode_asked words tables ≡ Err error
   unfolding mode_asked

@@ -11,12 +11,12 @@ use Rattle.decimal_lines.specs.declared.mode.StartError.TheVariants.{Tables}
 unfoldable pub text_in : List ℕ → Option (List ℕ)
 text_in bytes = if is_utf8 bytes then Some bytes else None
 
--- the words of four texts; there is no word for a file, and none for an empty strategy
+-- the arguments of four texts; there is no argument for a file, and none for an empty strategy
 abbrev pub words_in : List ℕ → List ℕ → List ℕ → List ℕ → Option WordsData
 words_in locale system style [] = words_of ([] ∷ locale ∷ system ∷ style ∷ [])
 words_in locale system style (b ∷ bs) = words_of ([] ∷ locale ∷ system ∷ style ∷ (b ∷ bs) ∷ [])
 
--- what they ask for; none for words of another form
+-- what they ask for; none for arguments of another form
 unfoldable pub words_asked : List ℕ → List ℕ → List ℕ → List ℕ → Option WordsData
 words_asked locale system style grouping = do
   locale ← text_in locale
@@ -25,6 +25,6 @@ words_asked locale system style grouping = do
   grouping ← text_in grouping
   words_in locale system style grouping
 
--- the mode that the words make of tables; tables that aren't UTF-8 are refused
+-- the mode that the arguments make of tables; tables that aren't UTF-8 are rejected
 unfoldable pub mode_asked : WordsData → List ℕ → Result Mode StartError
 mode_asked words tables = if is_utf8 tables then mode_of words tables else Err Tables

@@ -34,8 +34,8 @@ status_of start.Tables = tables_refused
 status_of start.NoData = no_data
 status_of start.OutOfMemory = out_of_memory
 
--- Done, all of the output is there; else the output of whole lines at the input's beginning, for want of memory, or since
--- the whole and the next line's is longer than there is room. Want of memory is told before the first line, or where a line
+-- Done, all of the output is there; else the output of whole lines at the input's beginning, because memory ran out, or since
+-- the whole and the next line's is longer than there is room. Out of memory is reported before the first line, or where a line
 -- and some room are left.
 pub record IsFormatted (mode : Mode) (input old new : List ℕ) (written status : ℕ) : Type 0 where
   pub whole : status ≡ done → IsFilled old new (output_of (answer_to mode) input) written
@@ -50,12 +50,12 @@ pub record IsUntouched (old new : List ℕ) (written : ℕ) : Type 0 where
   pub same : new ≡ old
   pub none : written ≡ 0
 
--- by the mode that is asked for: it formats, or there is none; want of memory may come wherever there is none
+-- by the mode that is asked for: it formats, or there is none; out of memory may come wherever there is none
 abbrev pub EndsIn : Result Mode StartError → List ℕ → List ℕ → List ℕ → ℕ → ℕ → Type 0
 EndsIn (Ok mode) input old new written status = IsFormatted mode input old new written status
 EndsIn (Err error) input old new written status = IsUntouched old new written × ((status ≡ status_of error) ⊎ (status ≡ out_of_memory))
 
--- by the words; others are refused, and nothing else comes in place of it
+-- by the arguments; others are rejected, and nothing else comes in place of it
 abbrev pub Ends : Option WordsData → List ℕ → List ℕ → List ℕ → List ℕ → ℕ → ℕ → Type 0
 Ends None tables input old new written status = IsUntouched old new written × (status ≡ words_refused)
 Ends (Some words) tables input old new written status = EndsIn (mode_asked words tables) input old new written status

@@ -5,14 +5,14 @@ use Rattle.decimal_lines.specs.Judging.{tables_judged}
 use Rattle.decimal_lines.specs.declared.judging.TablesFault.{TablesFault}
 use Rattle.talmuiga_c.specs.Endings.{IsUntouched, done, out_of_memory, tables_refused}
 
--- the tables are refused, and an output holds a text of n bytes at its front if it fits; which words these are isn't said here
+-- the tables are rejected, and an output holds a text of n bytes at its front if it fits; which text it is isn't said here
 pub record IsFaultTold (tables old new : List ℕ) (n : ℕ) : Type 0 where
   pub fault : TablesFault
   pub text : List ℕ
   pub judged : tables_judged tables ≡ Err fault
   pub holds : HoldsIfRoom old new text n
 
--- tables are accepted or refused, and only of a refusal something is told; want of memory may come in place of both
+-- tables are accepted or rejected, and only of an error something is written; out of memory may come in place of both
 pub record IsJudged (tables old new : List ℕ) (n status : ℕ) : Type 0 where
   pub accepted : status ≡ done → tables_judged tables ≡ Ok tt
   pub refused : status ≡ tables_refused → IsFaultTold tables old new n

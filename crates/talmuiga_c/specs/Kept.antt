@@ -34,13 +34,13 @@ abbrev pub OpensIn : Result Mode StartError → Option (Option Mode) → ℕ →
 OpensIn (Ok mode) held status = ((held ≡ holding mode) × (status ≡ done)) ⊎ ((held ≡ empty) × (status ≡ out_of_memory))
 OpensIn (Err error) held status = (held ≡ empty) × ((status ≡ status_of error) ⊎ (status ≡ out_of_memory))
 
--- by the words; others are refused, and nothing else comes in place of it
+-- by the arguments; others are rejected, and nothing else comes in place of it
 abbrev pub Opens : Option WordsData → List ℕ → Option (Option Mode) → ℕ → Type 0
 Opens None tables held status = (held ≡ empty) × (status ≡ words_refused)
 Opens (Some words) tables held status = OpensIn (mode_asked words tables) held status
 
 -- How far an input is answered: what is written is the output of what is consumed. Done, that is all of it; else a line is
--- left, for want of memory, or since there is no room for its answer, whose length is told.
+-- left, because memory ran out, or since there is no room for its answer, whose length is returned.
 pub record IsAnsweredSoFar (mode : Mode) (input old new : List ℕ) (consumed written needed status : ℕ) : Type 0 where
   pub holds : AnswersFirst (answer_to mode) input old new consumed written
   pub whole : status ≡ done → consumed ≡ length input
@@ -49,13 +49,13 @@ pub record IsAnsweredSoFar (mode : Mode) (input old new : List ℕ) (consumed wr
   pub unneeded : ¬ (status ≡ output_too_small) → needed ≡ 0
   pub known : (status ≡ done) ⊎ ((status ≡ out_of_memory) ⊎ (status ≡ output_too_small))
 
--- a text is shown: its length is told, and it is written where it has room
+-- a text is shown: its length is returned, and it is written where it has room
 pub record IsWritten (mode : Mode) (text old new : List ℕ) (n status : ℕ) : Type 0 where
   pub holds : HoldsShown (events_of mode text) old new n
   pub fits : n ≤ length old → status ≡ done
   pub too_long : length old < n → status ≡ output_too_small
 
--- a text isn't shown; want of memory may come whatever there is to show
+-- a text isn't shown; out of memory may come whatever there is to show
 pub record IsRefused (mode : Mode) (text old new : List ℕ) (n status : ℕ) : Type 0 where
   pub same : new ≡ old
   pub none : n ≡ 0

@@ -37,7 +37,7 @@ abbrev pub HoldsParts : Result (List Event) TextError → List Span → List Spa
 HoldsParts (Ok events) old new n = HoldsSpans old new (map numbered (writeable.spans events)) n
 HoldsParts (Err error) old new n = ⊥
 
--- a text is shown with its parts: how long it is and how many these are is told, and each is written where it has room
+-- a text is shown with its parts: how long it is and how many these are is returned, and each is written where it has room
 pub record IsWrittenInParts (mode : Mode) (text old new : List ℕ) (n : ℕ) (old_spans new_spans : List Span) (m status : ℕ) : Type 0 where
   pub holds : HoldsShown (events_of mode text) old new n
   pub parts : HoldsParts (events_of mode text) old_spans new_spans m

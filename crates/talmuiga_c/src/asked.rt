@@ -1,4 +1,4 @@
-//! Words as C hands them over.
+//! Arguments as C hands them over.
 
 ghost use Rattle.std.specs.Prelude.{◌≡◌, option_map};
 ghost use Rattle.talmuiga_c.specs.Asked.{text_in, words_asked, words_in};
@@ -17,7 +17,7 @@ fn text_in(bytes: &[u8]) -> Option<&str>
     }
 }
 
-/// The words of four texts, the last of which may be empty.
+/// The arguments of four texts, the last of which may be empty.
 fn words_in<'a>(
     locale: &'a str,
     system: &'a str,
@@ -36,7 +36,7 @@ fn words_in<'a>(
 /// What four texts ask for: a locale, a numbering system or a hyphen, a style and a strategy or
 /// nothing.
 ///
-/// `None` where one isn't UTF-8, or is no such word.
+/// `None` where one isn't UTF-8, or is no such argument.
 #[tactic(auto, unfolding(crate::specs::Asked::words_asked))]
 pub fn words_asked<'a>(
     locale: &'a [u8],

@@ -27,7 +27,7 @@ pub fn format_by(
     }
 }
 
-/// Formats all lines in the mode that the words make of the tables.
+/// Formats all lines in the mode that the arguments make of the tables.
 pub fn format_asked(
     alloc: Global,
     words: &Words<'_>,

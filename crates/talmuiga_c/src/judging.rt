@@ -1,4 +1,4 @@
-//! Why tables are refused, in words.
+//! Why tables are rejected, as a text.
 
 ghost use Rattle.talmuiga_c.specs.Faults.{IsJudged};
 
@@ -8,7 +8,7 @@ use decimal_lines::{TablesFault, judge_tables};
 use icu_tables::TableError;
 use std::alloc::Global;
 
-/// Judges the bytes of a file of tables, and writes why they are refused, if that fits; sets the
+/// Judges the bytes of a file of tables, and writes why they are rejected, if that fits; sets the
 /// length of the text, which is 0 where there is none.
 pub fn judge_in_words(alloc: Global, tables: &[u8], output: &mut [u8], length: &mut usize) -> u32
     ensures { IsJudged tables.now output.old output.new length.new result }

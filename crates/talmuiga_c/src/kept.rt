@@ -22,7 +22,7 @@ pub struct Reached {
     pub needed: usize,
 }
 
-/// Opens a formatter in the mode that the words make of the tables.
+/// Opens a formatter in the mode that the arguments make of the tables.
 pub fn open_asked(alloc: Global, words: &Words<'_>, tables: &[u8], formatter: &mut Formatter) -> u32
     requires empty { formatter.old.held ≡ empty }
     ensures opens { OpensIn (mode_asked words.now tables.now) formatter.new.held result }

@@ -37,6 +37,8 @@ use std::alloc::Global;
 use std::mem;
 
 /// Formats all lines of the input in plain English.
+// promise: In plain English it writes the output, or whole lines of it.
+// mutations: output_too_small_told_as_done
 #[unsafe(no_mangle)]
 pub extern "C" fn talmuiga_format_english_sized(
     alloc: Global,
@@ -55,8 +57,10 @@ pub extern "C" fn talmuiga_format_english_sized(
     }
 }
 
-/// Formats all lines of the input by tables, as the words of `decfmt` ask for; an empty strategy is
-/// none.
+/// Formats all lines of the input by tables, as the arguments of `decfmt` ask for; an empty
+/// strategy is none.
+// promise: Arguments and tables determine mode, output and status.
+// mutations: asked_no_data_told_as_refused_tables
 #[unsafe(no_mangle)]
 pub extern "C" fn talmuiga_format_lines_sized(
     alloc: Global,
@@ -107,7 +111,9 @@ pub extern "C" fn talmuiga_formatter_open_english_sized(
     }
 }
 
-/// Opens a formatter by tables, as the words of `decfmt` ask for; an empty strategy is none.
+/// Opens a formatter by tables, as the arguments of `decfmt` ask for; an empty strategy is none.
+// promise: Arguments and tables open the formatter of their mode.
+// mutations: kept_words_refused_told_as_no_data
 #[unsafe(no_mangle)]
 pub extern "C" fn talmuiga_formatter_open_sized(
     alloc: Global,
@@ -129,6 +135,8 @@ pub extern "C" fn talmuiga_formatter_open_sized(
 }
 
 /// Formats as many lines of the input as fit.
+// promise: It says how many bytes are answered, and what comes next.
+// mutations: kept_written_told_as_consumed, kept_needed_left_out
 #[unsafe(no_mangle)]
 pub extern "C" fn talmuiga_formatter_format_sized(
     alloc: Global,
@@ -150,6 +158,8 @@ pub extern "C" fn talmuiga_formatter_format_sized(
 }
 
 /// Formats one number, if its text fits, and sets the length of the text.
+// promise: One number has its text if it fits, and its length.
+// mutations: kept_no_text_with_a_length
 #[unsafe(no_mangle)]
 pub extern "C" fn talmuiga_formatter_one_sized(
     alloc: Global,
@@ -169,8 +179,10 @@ pub extern "C" fn talmuiga_formatter_one_sized(
     status
 }
 
-/// Formats one number and tells the parts of its text, each where it has room, and sets the length
-/// of the text and the count of its parts.
+/// Formats one number and returns the parts of its text, each where it has room, and sets the
+/// length of the text and the count of its parts.
+// promise: One number has its text and its parts, if they fit.
+// mutations: parts_group_told_as_integer, parts_end_told_as_start
 #[unsafe(no_mangle)]
 pub extern "C" fn talmuiga_formatter_parts_sized(
     alloc: Global,
@@ -194,6 +206,8 @@ pub extern "C" fn talmuiga_formatter_parts_sized(
 }
 
 /// Closes a formatter that is open; its room is room again.
+// promise: The room of a closed formatter is free again.
+// mutations: kept_closed_with_its_mode_inside
 #[unsafe(no_mangle)]
 pub extern "C" fn talmuiga_formatter_close_sized(formatter: &mut Formatter)
     ghost mode: { Mode }
@@ -203,7 +217,9 @@ pub extern "C" fn talmuiga_formatter_close_sized(formatter: &mut Formatter)
     let _mode = formatter.take();
 }
 
-/// Judges tables, and tells in words why they are refused.
+/// Judges tables, and says in a text why they are rejected.
+// promise: Tables are accepted, or rejected with a text.
+// mutations: fault_refused_tables_told_as_accepted
 #[unsafe(no_mangle)]
 pub extern "C" fn talmuiga_tables_fault_sized(
     alloc: Global,

@@ -104,7 +104,7 @@ fn marked(
     }
 }
 
-/// Formats one text in a mode, and tells its parts; the text and the parts are written where each
+/// Formats one text in a mode, and returns its parts; the text and the parts are written where each
 /// has room.
 pub fn format_parts_in(
     alloc: Global,

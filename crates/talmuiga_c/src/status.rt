@@ -9,13 +9,13 @@ use decimal_lines::{StartError, TextError};
 /// The whole output is written.
 pub const DONE: u32 = 0;
 
-/// Memory was refused.
+/// Memory ran out.
 pub const OUT_OF_MEMORY: u32 = 1;
 
-/// The words have another form.
+/// The arguments have another form.
 pub const WORDS_REFUSED: u32 = 2;
 
-/// The tables aren't UTF-8, or their text is refused.
+/// The tables aren't UTF-8, or their text is rejected.
 pub const TABLES_REFUSED: u32 = 3;
 
 /// The tables lack data that a formatter of the locale needs.

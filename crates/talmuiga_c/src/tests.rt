@@ -1,5 +1,5 @@
 //! Statuses and outputs of the exports. Values live in functions that answer whether they hold;
-//! what was refused memory is asked once more.
+//! A call whose allocation failed is made once more.
 
 use crate::judging::judge_in_words;
 use crate::kept::{Reached, format_lines_in, format_one_in};
@@ -32,7 +32,7 @@ const ENGLISH: [(usize, u32, usize); 5] = [
     (16, DONE, 9),
 ];
 
-/// Whether English lines end so in a room; asked once more where memory was refused.
+/// Whether English lines end so in a room; asked once more where memory ran out.
 fn ends_in_english(alloc: Global, room: usize, status: u32, count: usize) -> bool {
     let mut output = [b'x'; 16];
     let mut written = 99;
@@ -73,7 +73,7 @@ const ASKED: [(&[u8], &[u8], &[u8], &[u8], u32, &str); 8] = [
     (TABLES, b"en", b"plain", b"\xff", WORDS_REFUSED, ""),
 ];
 
-/// Whether lines end so by tables; asked once more where memory was refused.
+/// Whether lines end so by tables; asked once more where memory ran out.
 fn ends(
     alloc: Global,
     tables: &[u8],
@@ -137,7 +137,7 @@ const REACHED: [(&[u8], usize, u32, [usize; 3]); 5] = [
     (b"1e3\n", 9, OUTPUT_TOO_SMALL, [0, 0, 21]),
 ];
 
-/// Whether English lines come so far in a room; asked once more where memory was refused.
+/// Whether English lines come so far in a room; asked once more where memory ran out.
 fn reaches(alloc: Global, row: (&[u8], usize, u32, [usize; 3])) -> bool {
     let (lines, room, status, [consumed, written, needed]) = row;
     let Ok(mode) = Mode::english(alloc) else {
@@ -181,7 +181,7 @@ const ONE: [(&[u8], usize, u32, usize, &[u8]); 5] = [
     (b"5\n", 4, NOT_DECIMAL, 0, b"xxxx"),
 ];
 
-/// Whether a text is shown so in English; asked once more where memory was refused.
+/// Whether a text is shown so in English; asked once more where memory ran out.
 fn shows(alloc: Global, row: (&[u8], usize, u32, usize, &[u8])) -> bool {
     let (text, room, status, length, want) = row;
     let Ok(mode) = Mode::english(alloc) else {
@@ -264,7 +264,7 @@ fn are_rows(spans: &[Span], rows: &[Row]) -> bool {
     is_same
 }
 
-/// Whether a text is shown so with its parts in English; asked once more where memory was refused.
+/// Whether a text is shown so with its parts in English; asked once more where memory ran out.
 fn shows_parts(
     alloc: Global,
     (text, rooms, status, [length, count], want, rows): (
@@ -324,7 +324,7 @@ const JUDGED: [(&[u8], usize, u32, usize, &[u8]); 6] = [
     ),
 ];
 
-/// Whether tables are judged so; asked once more where memory was refused.
+/// Whether tables are judged so; asked once more where memory ran out.
 fn is_judged(alloc: Global, row: (&[u8], usize, u32, usize, &[u8])) -> bool {
     let (tables, room, status, length, want) = row;
     let mut output = [b'x'; 40];

@@ -3,7 +3,7 @@ use Rattle.std.specs.Prelude.{◌≡◌, ◌≤◌, ℕ, List, length, Option, S
 use Rattle.writeable.specs.Events.{Event}
 
 -- what a `PartsText` holds: its events, how often it has failed, how many events it may hold, and how many of its failures
--- were refused growths
+-- were growths that failed
 pub record Annotated : Type 0 where
   pub events : List Event
   pub failures : ℕ

@@ -37,7 +37,7 @@ pub record EndsFull {S : Type 0} (events : S → List Event) (limit : S → Opti
   pub full : limit t ≡ Some (length (events t))
   pub unwritten : length (events t) < length (events s) + length es
 
--- A call that is to write es keeps the limit of the sink. Where it fails, it was refused for another reason than the limit,
+-- A call that is to write es keeps the limit of the sink. Where it fails, it failed for another reason than the limit,
 -- and that is counted; or the sink is full with something of es left.
 pub record KeepsLimit {S : Type 0} (events : S → List Event) (limit : S → Option ℕ) (refusals : S → ℕ) (s : S) (r : Result (Unit {0}) WriteFault)
     (es : List Event) (t : S) : Type 0 where

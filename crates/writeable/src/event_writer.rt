@@ -43,6 +43,8 @@ pub trait EventWriter {
     }
 
     /// Writes the separator of a grouping, as a part of its own where the grouping names one.
+    // promise: The given separator stands between groups, in its part.
+    // mutations: groups_always_by_a_comma
     fn separator(&mut self, grouping: &Grouping<'_>) -> Result<(), WriteFault>
         ensures { wrote self.old result (separator_events grouping.now) self.new }
     {
@@ -53,6 +55,8 @@ pub trait EventWriter {
     }
 
     /// Writes digits in groups, with the separator between two.
+    // promise: Digits are written in groups of the given sizes.
+    // mutations: groups_all_of_the_primary_size
     fn groups(
         &mut self,
         digits: &[u8],
@@ -87,6 +91,8 @@ pub trait EventWriter {
 
     /// Writes digits in groups by the characters '0' to '9'. A writer may use that each of them is
     /// one byte.
+    // promise: Groups of digits are written by the characters `0` to `9`.
+    // mutations: ascii_groups_default_of_other_digits
     fn ascii_groups(&mut self, digits: &[u8], grouping: &Grouping<'_>) -> Result<(), WriteFault>
         requires primary { 0 < grouping.now.primary }
         requires secondary { 0 < grouping.now.secondary }
@@ -106,6 +112,8 @@ pub trait EventWriter {
         ensures { wrote self.old result (Close ∷ []) self.new };
 
     /// Writes a text as a part of its own.
+    // promise: The text is written as a part of its own.
+    // mutations: part_without_its_text
     fn part(&mut self, part: Part, text: &str) -> Result<(), WriteFault>
         ensures { wrote self.old result (Open part.category.now part.value.now
             ∷ (text_events text.now ++ Close ∷ [])) self.new }

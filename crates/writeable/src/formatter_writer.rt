@@ -19,6 +19,8 @@ impl<W: fmt::Write> EventWriter for fmt::Formatter<W> {
 
     ghost stop = { λ a b e r es fs. Displays-stop W.write_str_gives a b e r es fs };
 
+    // promise: Where Display succeeds, it wrote just the characters.
+    // mutations: display_text_left_out
     #[tactic(auto, using(crate::proofs::EventLemmas::text_steps))]
     fn text(&mut self, text: &str) -> Result<(), WriteFault> {
         self.write_str(text).map_err(|_| WriteFault)

@@ -2,6 +2,7 @@
 ghost use Rattle.writeable.specs.Laws.{JoinedTextsJoinTheirEvents, EventsTellTheText, JoinedEventsJoinTheirTexts, PartsHaveNoText, ClosedEventsKeepTheirSpans};
 
 /// Writing a text in two pieces writes the same events as writing it whole.
+// promise: The events of a joined text are those of its two texts.
 #[tactic(auto, using(crate::proofs::LawLemmas::law_steps))]
 pub fn joined_texts_join_their_events()
     ensures { JoinedTextsJoinTheirEvents }
@@ -27,6 +28,7 @@ pub fn parts_have_no_text()
 
 /// What closes its parts has the same spans wherever it is written, and moves the spans of what
 /// follows.
+// promise: Closed events keep their spans in front of others.
 #[tactic(auto, using(crate::proofs::LawLemmas::law_steps))]
 pub fn closed_events_keep_their_spans()
     ensures { ClosedEventsKeepTheirSpans }

@@ -23,7 +23,7 @@ enum Mark {
 
 /// A sink that keeps all its events, up to a limit if it has one.
 ///
-/// Only a refused growth and the limit make it fail.
+/// Only a growth that fails and the limit make it fail.
 #[derive(Drop)]
 pub struct PartsText {
     text: String,
@@ -75,6 +75,8 @@ impl PartsText {
     }
 
     /// The characters that the sink holds.
+    // promise: The text has the characters of the events, without parts.
+    // mutations: text_answered_empty
     #[tactic(auto, using(crate::proofs::MarkLemmas::mark_steps))]
     pub fn text(&self) -> &str
         ensures text { result.now ≡ text_of self.now.events }
@@ -84,7 +86,7 @@ impl PartsText {
         self.text.as_str()
     }
 
-    /// Whether a growth has been refused to the sink. Where none has, a fault left it full.
+    /// Whether a growth of the sink has failed. Where none has, a fault left it full.
     pub fn growth_refused(&self) -> bool
         ensures { IsTrue result ↔ (0 < self.now.refusals) }
     {
@@ -97,6 +99,10 @@ impl PartsText {
     ///
     /// One pass over the marks from the last to the first, with a stack of the closes whose opening
     /// is still to come.
+    // promise: Each part has its span, from its open to its own close.
+    // mutations: spans_end_at_the_wrong_close
+    // promise: Spans stand in the order of opening, without empty ones.
+    // mutations: spans_in_the_order_of_closing
     pub fn spans(&self, alloc: Global) -> Result<Vec<(usize, usize, Part)>, OutOfMemory>
         ensures { IfOk result (λ v. map span v.items ≡ spans self.now.events) }
     {
@@ -123,7 +129,7 @@ impl PartsText {
         WriteFault
     }
 
-    /// Counts a failure for want of memory.
+    /// Counts a failure because memory ran out.
     fn fault_of_memory(&mut self) -> WriteFault
         ensures { self.new ≡ record self.old {
           failures = one_more_failure self.old.failures;
@@ -178,6 +184,8 @@ impl PartsWrite for PartsText {
 
     ghost refusals = { λ s. s.refusals };
 
+    // promise: It never holds more events than its limit.
+    // mutations: sink_room_never_runs_out
     fn write_str(&mut self, text: &str) -> Result<(), WriteFault>
         ensures writes { Writes (λ s. s.events) (λ s. s.failures) self.old result
             (text_events text.now) self.new }

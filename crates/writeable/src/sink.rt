@@ -27,7 +27,7 @@ pub struct WriteFault;
 /// events; or it answers a fault, appends a beginning of them and counts one more failure. So a
 /// fault is answered only if the sink failed in that very call, and what a sink holds after a fault
 /// is a beginning of what was to be written. A sink may have a limit of events, which no call
-/// changes; a failure that isn't counted as a refusal leaves it full.
+/// changes; a failure that isn't counted as an error leaves it full.
 pub trait PartsWrite {
     /// The events that the sink holds.
     ghost events: { Self → List Event };
@@ -42,6 +42,10 @@ pub trait PartsWrite {
     ghost refusals: { Self → ℕ };
 
     /// Appends the characters of a text. An empty text adds no event.
+    // promise: A sink takes the text, or fails and holds a beginning.
+    // mutations: sink_text_dropped
+    // promise: A sink with a limit fails only if it is full or counts why.
+    // mutations: sink_refused_growth_forgotten
     fn write_str(&mut self, text: &str) -> Result<(), WriteFault>
         ensures writes { Writes events failures self.old result (text_events text.now) self.new }
         ensures limited { KeepsLimit events limit refusals self.old result

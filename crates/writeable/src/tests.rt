@@ -51,7 +51,7 @@ fn write_marked(sink: &mut PartsText, marked: &str) -> Result<(), WriteFault> {
     Ok(())
 }
 
-/// The marked text in a new sink, and what the last call answered. Where a growth was refused it is
+/// The marked text in a new sink, and what the last call answered. Where a growth failed it is
 /// written again.
 fn sink_with(
     alloc: Global,
@@ -74,7 +74,7 @@ fn new_sink(alloc: Global, limit: Option<usize>) -> PartsText {
     }
 }
 
-/// Whether a sink holds this text with these spans; asked once more where memory was wanting.
+/// Whether a sink holds this text with these spans; asked once more where memory ran out.
 fn is_annotated(
     alloc: Global,
     sink: &PartsText,

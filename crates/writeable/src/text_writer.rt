@@ -26,6 +26,8 @@ impl EventWriter for String {
         self.append_text(text)
     }
 
+    // promise: The character stands behind the text that was there.
+    // mutations: string_character_doubled
     fn character(&mut self, character: char) -> Result<(), WriteFault> {
         push_character(self, character)
     }

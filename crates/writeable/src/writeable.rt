@@ -30,6 +30,8 @@ pub trait Writeable {
     }
 
     /// Writes the value with its parts (ICU4X, `write_to_parts`).
+    // promise: A sink gets all events of the value, or a beginning.
+    // mutations: write_to_parts_left_out, text_fault_without_failure
     final fn write_to_parts<S: PartsWrite>(&self, sink: &mut S) -> Result<(), WriteFault>
         ensures writes { Writes S.events S.failures sink.old result (events self.now) sink.new }
         ensures limited { KeepsLimit S.events S.limit S.refusals sink.old result
@@ -54,7 +56,7 @@ pub trait Writeable {
         result
     }
 
-    /// The characters as a text. A `String` refuses only for want of memory; no clause says when
+    /// The characters as a text. A `String` fails only where memory runs out; no clause says when
     /// the call fails.
     final fn write_to_string(&self, alloc: Global) -> Result<String, WriteFault>
         ensures { IfOk result (λ t. string_bytes t ≡ text_of (events self.now)) }

@@ -9,7 +9,7 @@ A `Formatter` reads its tables once, when it is made, and threads may share it.
 from __future__ import annotations
 
 from decimal import MAX_EMAX, MAX_PREC, MIN_EMIN, ROUND_HALF_EVEN, Context, Decimal, InvalidOperation
-from typing import Iterable, List, Optional, Tuple, Union
+from typing import Iterable, List, Optional, Tuple, Union, cast
 
 from . import _library
 
@@ -146,7 +146,7 @@ class Formatter:
     def format(self, number: Number) -> str:
         """The text of one number; `NotFormatted` where it has none."""
         shown = _library.one(self._opened, self._text(number))
-        if type(shown) is int:
+        if isinstance(shown, int):
             raise not_formatted(0, self._text(number), shown)
         return shown
 
@@ -158,7 +158,7 @@ class Formatter:
         number the sign alone has a part. `NotFormatted` where the number has no text.
         """
         shown = _library.parts(self._opened, self._text(number))
-        if type(shown) is int:
+        if isinstance(shown, int):
             raise not_formatted(0, self._text(number), shown)
         text, spans = shown
         return text, [(begin, end, PARTS.get(part, "other")) for begin, end, part in spans]
@@ -176,8 +176,9 @@ class Formatter:
         answers = _library.many(self._opened, texts)
         if int in set(map(type, answers)):
             for index, answer in enumerate(answers):
-                if type(answer) is int:
+                if isinstance(answer, int):
                     if mark is None or answer == OUT_OF_MEMORY:
                         raise not_formatted(index, texts[index], answer)
                     answers[index] = mark
-        return answers
+        # no status is left among them
+        return cast(List[str], answers)

@@ -1,4 +1,4 @@
-//! Lines by the words of a program and the bytes of its tables, from reading both on: short and
+//! Lines by the arguments of a program and the bytes of its tables, from reading both on: short and
 //! long numbers, and plain ones in other numbering systems.
 
 use super::runs_by;
@@ -6,7 +6,7 @@ use decimal_lines::{Mode, StartError, Words, parse_words};
 use sample_tables::SAMPLE;
 use std::alloc::{AllocError, Global};
 
-/// The mode of these words and tables, made once more where memory was refused.
+/// The mode of these arguments and tables, made once more where memory ran out.
 fn made(alloc: Global, words: &Words<'_>, file: &[u8]) -> Result<Mode, StartError> {
     match Mode::make(alloc, words, file) {
         Err(StartError::OutOfMemory) => Mode::make(alloc, words, file),
@@ -14,7 +14,7 @@ fn made(alloc: Global, words: &Words<'_>, file: &[u8]) -> Result<Mode, StartErro
     }
 }
 
-/// Whether the output of an input by what these words ask for and this file is this.
+/// Whether the output of an input by what these arguments ask for and this file is this.
 fn answers_asked(
     alloc: Global,
     words: &Words<'_>,
@@ -27,7 +27,7 @@ fn answers_asked(
     }
 }
 
-/// The same by the words.
+/// The same by the arguments.
 fn answers(alloc: Global, words: &[&str], file: &[u8], row: (&str, &str)) -> bool {
     match parse_words(words) {
         Some(words) => answers_asked(alloc, &words, file, row),
@@ -38,10 +38,10 @@ fn answers(alloc: Global, words: &[&str], file: &[u8], row: (&str, &str)) -> boo
 /// A number of sixteen digits and one of seventeen.
 const TEN_TO_15_AND_16: &str = "1000000000000000\n10000000000000000\n";
 
-/// Words for short numbers in English.
+/// Arguments for short numbers in English.
 const SHORT: &[&str] = &["tables.json", "en", "-", "short"];
 
-/// Words, lines and their answers.
+/// Arguments, lines and their answers.
 const ANSWERED: &[(&[&str], &str, &str)] = &[
     (
         SHORT,
@@ -130,7 +130,7 @@ fn answers_by_words_and_tables(rt: HostRuntime) {
     }
 }
 
-/// The tables behind a text of so many letters under a key that is ignored.
+/// The tables behind a text of that many letters under a key that is ignored.
 fn behind_letters_once(alloc: Global, count: usize) -> Result<Vec<u8>, AllocError> {
     let mut file = Vec::new(alloc);
     file.extend_from_slice(b"{\"ignored\":\"")?;
@@ -145,7 +145,7 @@ fn behind_letters_once(alloc: Global, count: usize) -> Result<Vec<u8>, AllocErro
     Ok(file)
 }
 
-/// The same, made once more where memory was refused.
+/// The same, made once more where memory ran out.
 fn behind_letters(alloc: Global, count: usize) -> Result<Vec<u8>, AllocError> {
     match behind_letters_once(alloc, count) {
         Ok(file) => Ok(file),
@@ -153,7 +153,7 @@ fn behind_letters(alloc: Global, count: usize) -> Result<Vec<u8>, AllocError> {
     }
 }
 
-/// Whether a file with so many letters before its tables answers so.
+/// Whether a file with that many letters before its tables answers so.
 fn answers_behind_letters(alloc: Global, count: usize, words: &[&str], row: (&str, &str)) -> bool {
     match behind_letters(alloc, count) {
         Ok(file) => answers(alloc, words, &file, row),
@@ -166,7 +166,7 @@ fn answers_by_a_large_file(rt: HostRuntime) {
     assert!(rt; answers_behind_letters(rt.alloc(), 200000, SHORT, ("1650\n", "1.6K\n")));
 }
 
-/// Whether a mode of what these words ask for and this file is refused so.
+/// Whether a mode of what these arguments ask for and this file is rejected so.
 fn refuses_asked(alloc: Global, words: &Words<'_>, file: &[u8], want: StartError) -> bool {
     match made(alloc, words, file) {
         Ok(_) => false,
@@ -174,7 +174,7 @@ fn refuses_asked(alloc: Global, words: &Words<'_>, file: &[u8], want: StartError
     }
 }
 
-/// The same by the words.
+/// The same by the arguments.
 fn refuses(alloc: Global, words: &[&str], file: &[u8], want: StartError) -> bool {
     match parse_words(words) {
         Some(words) => refuses_asked(alloc, &words, file, want),
@@ -182,7 +182,7 @@ fn refuses(alloc: Global, words: &[&str], file: &[u8], want: StartError) -> bool
     }
 }
 
-/// Words whose locale has no symbols in the tables, no short patterns, or no rules.
+/// Arguments whose locale has no symbols in the tables, no short patterns, or no rules.
 const WITHOUT_DATA: &[&[&str]] = &[
     &["tables.json", "xx", "-", "plain"],
     &["tables.json", "fr", "-", "short"],

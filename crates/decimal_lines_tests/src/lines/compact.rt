@@ -26,7 +26,7 @@ fn is_put_once(alloc: Global, map: &mut BTreeMap<u8, (u8, Elements)>, row: (u8, 
     }
 }
 
-/// The map of the rows, each put once more where memory was refused; if it is refused again, some
+/// The map of the rows, each put once more where memory ran out; if it is rejected again, some
 /// are left out.
 fn map(alloc: Global) -> BTreeMap<u8, (u8, Elements)> {
     let mut map = BTreeMap::new(alloc);
@@ -38,7 +38,7 @@ fn map(alloc: Global) -> BTreeMap<u8, (u8, Elements)> {
     map
 }
 
-/// The table of the rows, made once more where memory was refused.
+/// The table of the rows, made once more where memory ran out.
 fn table(alloc: Global) -> Option<CompactPatterns<SinglePlaceholder>> {
     match CompactPatterns::new(alloc, map(alloc), None) {
         Ok(table) => Some(table),
@@ -46,7 +46,7 @@ fn table(alloc: Global) -> Option<CompactPatterns<SinglePlaceholder>> {
     }
 }
 
-/// Plural rules without a condition, made once more where memory was refused.
+/// Plural rules without a condition, made once more where memory ran out.
 fn rules(alloc: Global) -> Option<PluralRules> {
     match PluralRules::from_rules(alloc, &[]) {
         Ok(rules) => Some(rules),
@@ -122,7 +122,7 @@ fn answers_in_compact_form(rt: HostRuntime) {
     }
 }
 
-/// Whether so many nines, and behind them another byte, are answered so.
+/// Whether that many nines, and behind them another byte, are answered so.
 fn answers_nines(alloc: Global, count: usize, last: u8, want: &[u8]) -> bool {
     match nines(alloc, count, last) {
         Ok(input) => answers(alloc, &input, want),
@@ -137,7 +137,7 @@ fn refuses_numbers_past_the_limits(rt: HostRuntime) {
     assert!(rt; answers_nines(rt.alloc(), 32768, b'x', b"error: not a decimal\n"));
 }
 
-/// Whether a run over three numbers, of which so many bytes can be read, into a writer with this
+/// Whether a run over three numbers, of which that many bytes can be read, into a writer with this
 /// room ends so and leaves this there.
 fn ends(
     alloc: Global,
@@ -194,7 +194,7 @@ fn keeps_whole_lines_where_reading_fails(rt: HostRuntime) {
     }
 }
 
-/// Whether a line so many times is answered so.
+/// Whether a line that many times is answered so.
 fn answers_many(alloc: Global, line: &[u8], answer: &[u8], count: usize) -> bool {
     match (many(alloc, line, count), many(alloc, answer, count)) {
         (Ok(input), Ok(want)) => answers(alloc, &input, &want),
@@ -207,7 +207,7 @@ fn cuts_lines_across_blocks(rt: HostRuntime) {
     assert!(rt; answers_many(rt.alloc(), b"-1234567.8\r\n", b"-1.2M\n", 20000));
 }
 
-/// So many ones, in groups of three where they are asked for, and a text behind them.
+/// That many ones, in groups of three where they are asked for, and a text behind them.
 fn ones_once(
     alloc: Global,
     count: usize,
@@ -225,7 +225,7 @@ fn ones_once(
     Ok(ones)
 }
 
-/// The same, made once more where memory was refused.
+/// The same, made once more where memory ran out.
 fn ones(alloc: Global, count: usize, grouped: bool, behind: &[u8]) -> Result<Vec<u8>, AllocError> {
     match ones_once(alloc, count, grouped, behind) {
         Ok(ones) => Ok(ones),

@@ -21,7 +21,7 @@ const ROOMS: &[(usize, usize, Option<FillError>)] = &[
     (12, 10, None),
 ];
 
-/// Fills the room with the answers; again where memory was refused.
+/// Fills the room with the answers; again where memory ran out.
 fn fill(alloc: Global, input: &[u8], output: &mut [u8]) -> Option<Filled> {
     let Ok(mode) = english(alloc) else {
         return None;
@@ -33,7 +33,7 @@ fn fill(alloc: Global, input: &[u8], output: &mut [u8]) -> Option<Filled> {
     }
 }
 
-/// Whether an output with this room holds so many bytes of the answers, and behind them what it
+/// Whether an output with this room holds that many bytes of the answers, and behind them what it
 /// held before.
 fn fills(alloc: Global, room: usize, written: usize, cause: Option<FillError>) -> bool {
     let mut output = [b'x'; 16];
@@ -74,7 +74,7 @@ fn fills_no_room_with_no_lines(rt: HostRuntime) {
     assert!(rt; fills_nothing(rt.alloc()));
 }
 
-/// So many bytes of room, made once more where memory was refused.
+/// That many bytes of room, made once more where memory ran out.
 fn room_of(alloc: Global, count: usize) -> Result<Vec<u8>, AllocError> {
     match Vec::from_elem(alloc, b'x', count) {
         Ok(room) => Ok(room),
@@ -95,7 +95,7 @@ fn fills_all(alloc: Global, input: &[u8], want: &[u8]) -> bool {
     }
 }
 
-/// Whether a line so many times is answered so in room for all answers.
+/// Whether a line that many times is answered so in room for all answers.
 fn fills_with_many(alloc: Global, line: &[u8], answer: &[u8], count: usize) -> bool {
     match (many(alloc, line, count), many(alloc, answer, count)) {
         (Ok(input), Ok(want)) => fills_all(alloc, &input, &want),

@@ -10,7 +10,7 @@ fn nines_once(alloc: Global, count: usize, last: u8) -> Result<Vec<u8>, AllocErr
     Ok(nines)
 }
 
-/// The same, made once more where memory was refused.
+/// The same, made once more where memory ran out.
 pub(super) fn nines(alloc: Global, count: usize, last: u8) -> Result<Vec<u8>, AllocError> {
     match nines_once(alloc, count, last) {
         Ok(bytes) => Ok(bytes),
@@ -18,7 +18,7 @@ pub(super) fn nines(alloc: Global, count: usize, last: u8) -> Result<Vec<u8>, Al
     }
 }
 
-/// Whether so many nines, and behind them another byte, are answered so.
+/// Whether that many nines, and behind them another byte, are answered so.
 fn answers_nines(alloc: Global, count: usize, last: u8, want: &[u8]) -> bool {
     match nines(alloc, count, last) {
         Ok(input) => answers(alloc, &input, want),
@@ -26,7 +26,7 @@ fn answers_nines(alloc: Global, count: usize, last: u8, want: &[u8]) -> bool {
     }
 }
 
-/// So many nines in groups of three, and a text behind them.
+/// That many nines in groups of three, and a text behind them.
 fn grouped_once(alloc: Global, count: usize, behind: &[u8]) -> Result<Vec<u8>, AllocError> {
     let mut grouped = Vec::new(alloc);
     for left in (0..count).rev() {
@@ -39,7 +39,7 @@ fn grouped_once(alloc: Global, count: usize, behind: &[u8]) -> Result<Vec<u8>, A
     Ok(grouped)
 }
 
-/// The same, made once more where memory was refused.
+/// The same, made once more where memory ran out.
 fn grouped(alloc: Global, count: usize, behind: &[u8]) -> Result<Vec<u8>, AllocError> {
     match grouped_once(alloc, count, behind) {
         Ok(bytes) => Ok(bytes),
@@ -55,7 +55,7 @@ fn answers_longest(alloc: Global) -> bool {
     }
 }
 
-/// So many nines, a point and as many sevens: a line longer than a block.
+/// That many nines, a point and as many sevens: a line longer than a block.
 fn both_once(alloc: Global, count: usize, is_answer: bool) -> Result<Vec<u8>, AllocError> {
     let mut fraction = Vec::from_elem(alloc, b'7', count)?;
     fraction.push(b'\n')?;
@@ -68,7 +68,7 @@ fn both_once(alloc: Global, count: usize, is_answer: bool) -> Result<Vec<u8>, Al
     Ok(line)
 }
 
-/// The same, made once more where memory was refused.
+/// The same, made once more where memory ran out.
 fn both(alloc: Global, count: usize, is_answer: bool) -> Result<Vec<u8>, AllocError> {
     match both_once(alloc, count, is_answer) {
         Ok(line) => Ok(line),

@@ -24,7 +24,7 @@ const ROOMS: &[(usize, usize, usize, usize)] = &[
     (12, 9, 10, 0),
 ];
 
-/// How far the room takes the input; again where memory was refused.
+/// How far the room takes the input; again where memory ran out.
 fn progress(alloc: Global, input: &[u8], output: &mut [u8]) -> Option<Progress> {
     let Ok(mode) = english(alloc) else {
         return None;
@@ -85,7 +85,7 @@ const CONSUMED: usize = 144000;
 
 const NEEDED: usize = 13;
 
-/// Room for the first answers, made once more where memory was refused.
+/// Room for the first answers, made once more where memory ran out.
 fn room(alloc: Global) -> Result<Vec<u8>, AllocError> {
     match Vec::from_elem(alloc, b'x', ROOM) {
         Ok(room) => Ok(room),

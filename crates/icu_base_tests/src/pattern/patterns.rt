@@ -34,7 +34,7 @@ const LITERALS: [Literal; 4] = [
     },
 ];
 
-/// Whether the backend accepts a place in a literal or refuses it, as its test says.
+/// Whether the backend accepts a place in a literal or rejects it, as its test says.
 fn judges<P: PatternBackend>(
     alloc: Global,
     place: Option<usize>,
@@ -47,7 +47,7 @@ fn judges<P: PatternBackend>(
     }
 }
 
-/// Whether the backend accepts a place in a literal that is borrowed or refuses it, as its test
+/// Whether the backend accepts a place in a literal that is borrowed or rejects it, as its test
 /// says.
 fn judges_lent<P: PatternBackend>(place: Option<usize>, literal: &str, is_accepted: bool) -> bool {
     match PatternRef::<P>::try_new(place, literal) {

@@ -3,7 +3,7 @@ use icu_plurals::{PluralCategory, PluralElements};
 use std::alloc::Global;
 use std::process::Abort;
 
-/// Elements whose values tell their slots: 1 to 8 in the order of the slots.
+/// Elements whose values determine their slots: 1 to 8 in the order of the slots.
 fn all_slots() -> PluralElements<u8> {
     PluralElements::new(8)
         .with_explicit_zero_value(Some(1))

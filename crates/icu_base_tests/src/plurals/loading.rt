@@ -10,7 +10,7 @@ use std::alloc::Global;
 use std::cell::Cell;
 use std::process::Abort;
 
-/// Has rules for French alone, asked without a numbering system; refuses all others by its error.
+/// Has rules for French alone, asked without a numbering system; rejects all others by its error.
 /// It counts how often it is asked, and how often it isn't asked to be silent.
 #[derive(Drop)]
 struct FrenchRules {
@@ -39,7 +39,7 @@ impl DataProvider<PluralsCardinalV1> for FrenchRules {
     }
 }
 
-/// How all but French is refused.
+/// How all but French is rejected.
 const NOT_FRENCH: DataError = DataError {
     kind: DataErrorKind::IdentifierNotFound,
     context: "not French",
@@ -88,7 +88,7 @@ fn gives(
     }
 }
 
-/// A rule that takes few allocations, so that each one that copies it is refused in some run.
+/// A rule that takes few allocations, so that each one that copies it is rejected in some run.
 const ALWAYS_TWO: &[(PluralCategory, &str)] = &[(PluralCategory::Two, "")];
 
 /// Rules, a number and its category.
@@ -106,7 +106,7 @@ fn answers_the_rules_of_the_provider(rt: HostRuntime) {
     }
 }
 
-/// Whether a locale is refused by the provider's own error, kind and context.
+/// Whether a locale is rejected by the provider's own error, kind and context.
 fn is_refused(
     rt: &impl Abort,
     alloc: Global,

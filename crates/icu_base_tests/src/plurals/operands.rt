@@ -1,4 +1,4 @@
-//! The operands of numbers, told by conditions that list their values.
+//! The operands of numbers, found by conditions that list their values.
 
 use super::plural::{decimal_of, holds, rules_of};
 use fixed_decimal::Decimal;
@@ -167,7 +167,7 @@ fn eighteen_fraction_digits_are_seen(rt: HostRuntime) {
 
 /// Numbers with more than eighteen integer digits: no list has i, and by a modulus of 10^18 - 1 it
 /// is what its eighteen lowest digits are, or 0 where these are all nines, which the modulus of
-/// 10^17 tells from all zeros.
+/// 10^17 distinguishes from all zeros.
 const LARGE: &[(&str, u8, &str)] = &[
     ("1000000000000000000", 0, ALL_ZEROS),
     (

@@ -1,4 +1,4 @@
-//! Texts of conditions: which are refused and where, and what the others mean.
+//! Texts of conditions: which are rejected and where, and what the others mean.
 use super::plural::{category_by, judged, operands_of, rules_of};
 use icu_plurals::PluralCategory::{Few, Many, One, Other, Two, Zero};
 use icu_plurals::{PluralCategory, PluralRules, RulesError};
@@ -31,7 +31,7 @@ const REFUSED: &[(&str, usize)] = &[
     (" \tn", 3),
 ];
 
-/// Whether rules are refused at this rule and byte.
+/// Whether rules are rejected at this rule and byte.
 fn is_refused(alloc: Global, rules: &[(PluralCategory, &str)], rule: usize, byte: usize) -> bool {
     match judged(alloc, rules) {
         Ok(_) => false,

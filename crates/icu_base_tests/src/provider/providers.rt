@@ -43,7 +43,7 @@ fn answer<M: DataMarker, D: DataProvider<M>>(
     provider.load(alloc, &DataRequest { id, silent: false })
 }
 
-/// The length of a locale, or the kind of the refusal.
+/// The length of a locale, or the kind of the error.
 fn length_of(alloc: Global, system: Option<&str>, locale: &str) -> Result<usize, DataErrorKind> {
     let locale = DataLocale::try_from_str(locale).unwrap_or_default();
     let id = match system {

@@ -34,8 +34,8 @@ fn is_uncut<T: Display>(alloc: Global, value: &T, want: &str) -> bool {
         && is_text(format!(in alloc; "{value:*>80.1}"), want)
 }
 
-/// Whether a value is displayed so under each of these options; asked once more where memory was
-/// refused.
+/// Whether a value is displayed so under each of these options; asked once more where memory ran
+/// out.
 fn is_styled<T: Display>(alloc: Global, value: &T, want: &str) -> bool {
     (is_unpadded(alloc, value, want) || is_unpadded(alloc, value, want))
         && (is_uncut(alloc, value, want) || is_uncut(alloc, value, want))

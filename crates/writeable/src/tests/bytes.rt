@@ -46,7 +46,7 @@ fn write_parts<K: EventWriter>(
     out.part(INTEGER, " ok")
 }
 
-/// Whether a buffer of bytes gets this text; asked once more where memory was wanting.
+/// Whether a buffer of bytes gets this text; asked once more where memory ran out.
 fn is_in_bytes(alloc: Global, digits: &[u8], characters: Option<&[char; 10]>, text: &str) -> bool
     requires { All (λ d. d < 10) digits.now }
 {
@@ -60,7 +60,7 @@ fn is_in_bytes(alloc: Global, digits: &[u8], characters: Option<&[char; 10]>, te
     out.as_slice() == text.as_bytes()
 }
 
-/// Whether a text gets this text; asked once more where memory was wanting.
+/// Whether a text gets this text; asked once more where memory ran out.
 fn is_in_a_text(alloc: Global, digits: &[u8], characters: Option<&[char; 10]>, text: &str) -> bool
     requires { All (λ d. d < 10) digits.now }
 {

@@ -10,7 +10,7 @@ use std::alloc::Global;
 /// English -1.5 with its parts: fourteen events.
 const MINUS_ONE_POINT_FIVE: &str = "{-)(1)<.)/5){)";
 
-/// The text after so many events, for each number from none to one more than all.
+/// The text after that many events, for each number from none to one more than all.
 const BEGINNINGS: [&str; 16] = [
     "", "", "-", "-", "-", "-1", "-1", "-1", "-1.", "-1.", "-1.", "-1.5", "-1.5", "-1.5", "-1.5",
     "-1.5",
@@ -45,7 +45,7 @@ fn leaves_out_the_empty_suffix(rt: HostRuntime) {
     assert!(rt; has_spans(rt.alloc(), &spans));
 }
 
-/// A sink with a limit takes just the first events of a value, unless a growth was refused to it:
+/// A sink with a limit takes just the first events of a value, unless a growth failed to it:
 /// that is what its contract says, of every value.
 fn first_events<T: Writeable>(alloc: Global, value: &T, limit: usize) -> PartsText
     ensures { result.refusals ≡ 0 → result.events ≡ take limit (T.events value.now) }
@@ -56,7 +56,7 @@ fn first_events<T: Writeable>(alloc: Global, value: &T, limit: usize) -> PartsTe
     sink
 }
 
-/// Whether a text is cut after its first characters; asked once more where a growth was refused.
+/// Whether a text is cut after its first characters; asked once more where a growth failed.
 fn is_cut(alloc: Global, text: &str, limit: usize, front: &str) -> bool {
     let sink = first_events(alloc, &text, limit);
     if sink.growth_refused() {
@@ -84,7 +84,7 @@ const FRONTS: [&str; 5] = [
     "a\u{f1}\u{20ac}\u{1f600}",
 ];
 
-/// Whether a full sink refuses all but an empty text.
+/// Whether a full sink rejects all but an empty text.
 fn is_full(sink: &mut PartsText) -> bool {
     sink.write_str("") == Ok(())
         && sink.write_str("b") == Err(WriteFault)
@@ -94,7 +94,7 @@ fn is_full(sink: &mut PartsText) -> bool {
 }
 
 /// Whether a sink takes the characters that fit and is full then; asked once more where a growth
-/// was refused.
+/// failed.
 fn keeps(alloc: Global, limit: usize, front: &str) -> bool {
     let mut sink = PartsText::with_limit(alloc, limit);
     let mut written = sink.write_str(FRONTS[4]);

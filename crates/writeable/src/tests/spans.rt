@@ -86,7 +86,7 @@ fn spans_in_the_order_of_opening(rt: HostRuntime) {
     }
 }
 
-/// A digit and a separator in parts of their own, so many times.
+/// A digit and a separator in parts of their own, that many times.
 fn many_parts_once(alloc: Global, count: usize) -> Result<Vec<u8>, AllocError> {
     let mut marked = Vec::new(alloc);
     for _ in 0..count {
@@ -95,7 +95,7 @@ fn many_parts_once(alloc: Global, count: usize) -> Result<Vec<u8>, AllocError> {
     Ok(marked)
 }
 
-/// The same, made once more where memory was refused.
+/// The same, made once more where memory ran out.
 fn many_parts(alloc: Global, count: usize) -> Result<Vec<u8>, AllocError> {
     match many_parts_once(alloc, count) {
         Ok(marked) => Ok(marked),
@@ -111,7 +111,7 @@ fn are_by_turns(spans: &[(usize, usize, Part)]) -> bool {
     })
 }
 
-/// Whether a sink has so many such spans, asked once more where memory was wanting.
+/// Whether a sink has that many such spans, asked once more where memory ran out.
 fn has_parts_by_turns(alloc: Global, sink: &PartsText, count: usize) -> bool {
     match sink.spans(alloc) {
         Ok(spans) => spans.len() == count && are_by_turns(spans.as_slice()),
@@ -122,7 +122,7 @@ fn has_parts_by_turns(alloc: Global, sink: &PartsText, count: usize) -> bool {
     }
 }
 
-/// Whether so many pairs of parts are told.
+/// Whether that many pairs of parts are listed.
 fn tells_many(alloc: Global, count: usize) -> bool {
     match many_parts(alloc, count) {
         Ok(marked) => {

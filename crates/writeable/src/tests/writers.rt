@@ -25,7 +25,7 @@ fn first_digits(count: usize) -> &'static [u8]
     DIGITS.split_at(count.min(DIGITS.len())).0
 }
 
-/// Writes the digits. Groups of no digits are refused.
+/// Writes the digits. Groups of no digits are rejected.
 fn write<K: EventWriter>(out: &mut K, shown: &Shown<'_>) -> Result<(), WriteFault> {
     let digits = first_digits(shown.count);
     match (shown.grouping, shown.characters) {
@@ -105,7 +105,7 @@ fn is_in_parts(alloc: Global, shown: &Shown<'_>, want: &PartsText) -> bool {
 }
 
 /// Whether each writer gets this text, in which brackets show the parts; asked once more where
-/// memory was refused.
+/// memory ran out.
 pub(super) fn is_written(alloc: Global, shown: &Shown<'_>, marked: &str) -> bool {
     let (_, want) = sink_with(alloc, None, marked);
     let text = want.text();

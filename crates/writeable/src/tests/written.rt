@@ -43,8 +43,8 @@ impl fmt::Display for Grouped<'_> {
     }
 }
 
-/// Whether a value leaves this text with these spans in a sink; asked once more where a growth was
-/// refused.
+/// Whether a value leaves this text with these spans in a sink; asked once more where a growth
+/// failed.
 fn writes_parts<T: Writeable>(
     alloc: Global,
     value: &T,
@@ -61,8 +61,8 @@ fn writes_parts<T: Writeable>(
     is_annotated(alloc, &sink, text, want)
 }
 
-/// Whether a value leaves this text without spans in a sink; asked once more where a growth was
-/// refused.
+/// Whether a value leaves this text without spans in a sink; asked once more where a growth
+/// failed.
 fn writes_characters<T: Writeable>(alloc: Global, value: &T, text: &str) -> bool {
     let mut sink = PartsText::new(alloc);
     if value.write_to(&mut sink).is_err() {
@@ -111,7 +111,7 @@ fn is_styled<T: fmt::Display>(alloc: Global, value: &T, want: &str) -> bool {
         && is_made(format!(in alloc; "{value:#}"), want)
 }
 
-/// The same, asked once more where memory was wanting.
+/// The same, asked once more where memory ran out.
 fn is_displayed_unpadded<T: fmt::Display>(alloc: Global, value: &T, want: &str) -> bool {
     is_styled(alloc, value, want) || is_styled(alloc, value, want)
 }
@@ -150,7 +150,7 @@ fn writes_a_text_in_each_way(rt: HostRuntime) {
     }
 }
 
-/// So many letters, made once more where memory was refused.
+/// That many letters, made once more where memory ran out.
 fn letters(alloc: Global, count: usize) -> Result<Vec<u8>, AllocError> {
     match Vec::from_elem(alloc, b'x', count) {
         Ok(letters) => Ok(letters),
@@ -158,7 +158,7 @@ fn letters(alloc: Global, count: usize) -> Result<Vec<u8>, AllocError> {
     }
 }
 
-/// Whether a text of so many letters is written in each way, alone and in a part.
+/// Whether a text of that many letters is written in each way, alone and in a part.
 fn writes_letters(alloc: Global, count: usize) -> bool {
     match letters(alloc, count) {
         Ok(letters) => {

@@ -3,7 +3,7 @@ use Rattle.icu_dimension.proofs.MoneySymbolTold.{one_sign_tells_symbol, readable
 use Rattle.icu_dimension.proofs.WorkedMoney.{accounts_pattern_read, dollars_are_no_francs, dollars_tell_symbols}
 use Rattle.icu_dimension.proofs.laws.money_text_tells_the_symbol.Goals as goal
 
--- beside it stand patterns that tell symbols, as they are read, and two currencies that are told apart
+-- beside it stand patterns that determine symbols, as they are read, and two currencies that are distinguished
 pub returns : goal.returns
 returns c =
     let standard = dollars_tell_symbols in

@@ -1,4 +1,4 @@
-use Rattle.std.proofs.Common.{map, sym}
+use Rattle.std.proofs.Common.{map}
 use Rattle.icu_dimension_data.specs.Given.{texts_given}
 use Rattle.icu_dimension_data.specs.SignedTables.{entry_for, table_for}
 use Rattle.icu_dimension_data.proofs.SignedTables.{table_made, table_refused}

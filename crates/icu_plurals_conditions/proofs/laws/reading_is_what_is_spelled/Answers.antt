@@ -5,7 +5,7 @@ use Rattle.icu_plurals_conditions.proofs.Answered.{some, fault, some_is, none_is
 use Rattle.icu_plurals_conditions.proofs.Judged.{read_is_text, text_is_read, refused_is_fault, fault_is_found}
 use Rattle.icu_plurals_conditions.proofs.laws.reading_is_what_is_spelled.Goals as goal
 
--- a text is refused at its first fault
+-- a text is rejected at its first fault
 fault_is_refused : (text : List ℕ) (b : ℕ) → IsTextFault text b → condition_of text ≡ Err b
 fault_is_refused text b p = by (condition_of text) refl (fault_is_found text b p)
   where

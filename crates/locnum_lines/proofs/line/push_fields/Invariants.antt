@@ -12,7 +12,7 @@ left None = 0
 left (Some bytes) = suc (length bytes)
 
 abbrev pub invariant-loop-next : goal.invariant-loop-next
-invariant-loop-next l = InLine l.settings l.form (fields_ran l.settings l.form 1 (fields_from l.settings.delimiter Front l.line))
+invariant-loop-next l = InLine l.settings l.form (fields_ran l.settings l.form l.fn.gathered.stage 1 (fields_from l.settings.delimiter Front l.line))
     l.fn.gathered l.gathered l.index (option_map (λ s. s.now) l.next)
 
 abbrev pub decreases-loop-next : goal.decreases-loop-next

@@ -2,6 +2,7 @@ use Rattle.std.proofs.Common.{ℕ, ◌+◌, ap, ◌∙◌, subst}
 use Rattle.std.proofs.lemmas.Result.{on_ok_weaker}
 use Rattle.locnum_lines.specs.Gathered.{Adds}
 use Rattle.locnum_lines.specs.RecordRuns.{next_ran}
+use Rattle.locnum_lines.specs.Stage.{header_passed}
 use Rattle.locnum_lines.proofs.Adding.{Adds-lines}
 use Rattle.locnum_lines.proofs.Feeding.{record_ran-closed}
 use Rattle.locnum_lines.proofs.line.push_record.Goals as goal
@@ -9,8 +10,9 @@ use Rattle.locnum_lines.proofs.line.push_record.Goals as goal
 pub returns : goal.returns
 returns c =
     let mid = c.push_line.new.gathered in
-    let adds = subst (λ (k : ℕ). Adds c.args.gathered.now mid (next_ran c.args.settings.now c.args.form.now k c.args.gathered.now.header
-    c.args.line.now) 1 0) (ap (λ s. s.end) c.settings.view_is) c.in_ok-push_line.ensures in
-    on_ok_weaker c.pass.result (λ e. rw (record_ran-closed c.args.settings.now c.args.form.now c.args.gathered.now.header c.args.gathered.now.lines
-    c.args.line.now c.requires.closed) (Adds-lines c.args.gathered.now mid c.pass.new.self _ 1 _ adds
-    (e ∙ ap (λ k. record mid { lines = mid.lines + k }) c.requires.count))) c.pass.ensures
+    let adds = subst (λ (k : ℕ). Adds c.args.gathered.now mid (next_ran c.args.settings.now c.args.form.now c.args.gathered.now.stage k
+    c.args.line.now) (header_passed c.args.settings.now c.args.gathered.now.stage c.args.line.now))
+    (ap (λ s. s.end) c.settings.view_is) c.in_ok-push_line.ensures in
+    on_ok_weaker c.pass.result (λ e. rw (record_ran-closed c.args.settings.now c.args.form.now c.args.gathered.now.stage
+    c.args.line.now c.requires.closed) (Adds-lines c.args.gathered.now mid c.pass.new.self _ _ _ adds
+    (e ∙ ap (λ k. record mid { stage = record mid.stage { lines = mid.stage.lines + k } }) c.requires.count))) c.pass.ensures

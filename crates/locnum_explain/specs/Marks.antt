@@ -1,0 +1,47 @@
+-- The parts that are marked in an explanation. In compact numbers all parts of the number are marked, where the text itself has but
+-- that of the sign.
+use Rattle.std.specs.Prelude.{List, Result, Ok, Err, if◌then◌else◌}
+use Rattle.fixed_decimal.specs.Size.{size}
+use Rattle.fixed_decimal.specs.Unsigned.{Unsigned}
+use Rattle.fixed_decimal.specs.declared.signs.Sign.{Sign}
+use Rattle.fixed_decimal.specs.declared.signs.Sign.TheVariants.{None as NoSign}
+use Rattle.writeable.specs.Events.{Event}
+use Rattle.icu_decimal.specs.CompactFormat.{CompactFormat, FormattedCompact, given_events, significand_of}
+use Rattle.icu_dimension.specs.CompactMoney.{CompactMoney, formatter_of}
+use Rattle.icu_dimension.specs.Money.{sign_framed}
+use Rattle.decimal_lines.specs.Computed.{nearest_number}
+use Rattle.decimal_lines.specs.declared.alone.TextError.{TextError}
+use Rattle.decimal_lines.specs.declared.mode.Mode.TheVariants.{Plain, Compact}
+use Rattle.locnum_forms.specs.CompactMoney.{compacted}
+use Rattle.locnum_forms.specs.declared.form.Formatter.{Formatter}
+use Rattle.locnum_forms.specs.declared.form.Formatter.TheVariants.{Numbers, Money, MoneyNamed, MoneyShort, Percent, Units}
+use Rattle.locnum_explain.specs.Compact.{has_entry}
+
+-- a compact number as `format_with_exponent` writes its significand and its exponent, with the number's parts
+abbrev pub given_marks : CompactFormat → Sign → FormattedCompact → List Event
+given_marks format sign number = given_events format sign (significand_of number) number.exponent
+
+-- that of the compact number nearest to d
+abbrev pub number_marks : CompactFormat → Sign → Unsigned → List Event
+number_marks format sign d = given_marks format sign (compacted format d (nearest_number format.table (size d)))
+
+-- that of an amount, whose sign stands in the patterns: in the pattern of money where no entry displays it
+abbrev pub amount_marks : CompactMoney → Sign → Unsigned → List Event
+amount_marks f sign d =
+    if has_entry (formatter_of f sign) d then number_marks (formatter_of f sign) NoSign d
+    else sign_framed f.patterns sign (number_marks (formatter_of f sign) NoSign d)
+
+-- The events whose parts are marked of a decimal that is written, by those that the form writes: these events themselves but for
+-- compact numbers.
+abbrev pub marks_by : Formatter → List Event → Sign → Unsigned → List Event
+marks_by (Numbers (Plain format)) events sign d = events
+marks_by (Numbers (Compact format)) events sign d = number_marks format sign d
+marks_by (Money format) events sign d = events
+marks_by (MoneyNamed format) events sign d = events
+marks_by (MoneyShort format) events sign d = amount_marks format sign d
+marks_by (Percent format) events sign d = events
+marks_by (Units format) events sign d = events
+
+abbrev pub marks_of : Formatter → List Event → Result (Sign × Unsigned) TextError → List Event
+marks_of formatter events (Ok (sign, d)) = marks_by formatter events sign d
+marks_of formatter events (Err error) = events

@@ -1,0 +1,141 @@
+//! Written numbers, columns and fields of CSV.
+
+use crate::csv::{push_quoted, wants_quotes};
+use crate::gathered::Gathered;
+use crate::holding::hold;
+use crate::padding::{Alignment, Width, columns_of};
+use crate::settings::Delimiter;
+use locnum_forms::{Form, TextError};
+use std::alloc::{AllocError, Global};
+
+impl Gathered {
+    ghost use Rattle.std.specs.Prelude.{◌≡◌, ◌≢◌, ◌++◌, List, IfErr, Ok, OnOk, Some};
+    ghost use Rattle.decimal_lines.specs.Alone.{IsRefusal};
+    ghost use Rattle.locnum_forms.specs.Forms.{form_events};
+    ghost use Rattle.locnum_lines.specs.Csv.{as_field};
+    ghost use Rattle.locnum_lines.specs.FieldRuns.{held_by};
+    ghost use Rattle.locnum_lines.specs.Padding.{padded, spaces};
+    ghost use Rattle.locnum_lines.specs.Ran.{first_of};
+    ghost use Rattle.locnum_lines.specs.declared.settings.Delimiter.TheVariants.{Byte};
+    ghost use Rattle.writeable.specs.Events.{Event, text_of};
+
+    /// A number as it is shown, in fields that this byte ends.
+    fn write_between(
+        &mut self,
+        alloc: Global,
+        delimiter: u8,
+        form: &Form,
+        number: &[u8],
+    ) -> Result<(), TextError>
+        ensures ok { OnOk result ((events : List Event)
+            × (form_events form.now number.now ≡ Ok events)
+            × (self.new ≡ record self.old {
+              output = self.old.output ++ text_of events;
+              holding = first_of self.old.holding (held_by (Byte delimiter) (text_of events));
+            })) }
+        ensures refused { IfErr result (IsRefusal (form_events form.now number.now)) }
+        ensures unchanged { IfErr result (λ error. error ≢ TextError.OutOfMemory
+            → self.new ≡ self.old) }
+    {
+        let start = self.output.len();
+        form.push(alloc, number, &mut self.output)?;
+        let Ok(()) = hold(
+            Delimiter::Byte(delimiter),
+            &self.output[start..],
+            &mut self.holding,
+        ) else {
+            return Err(TextError::OutOfMemory);
+        };
+        Ok(())
+    }
+
+    /// A number as it is shown.
+    pub(crate) fn write_number(
+        &mut self,
+        alloc: Global,
+        delimiter: Delimiter,
+        form: &Form,
+        number: &[u8],
+    ) -> Result<(), TextError>
+        ensures ok { OnOk result ((events : List Event)
+            × (form_events form.now number.now ≡ Ok events)
+            × (self.new ≡ record self.old {
+              output = self.old.output ++ text_of events;
+              holding = first_of self.old.holding (held_by delimiter (text_of events));
+            })) }
+        ensures refused { IfErr result (IsRefusal (form_events form.now number.now)) }
+        ensures unchanged { IfErr result (λ error. error ≢ TextError.OutOfMemory
+            → self.new ≡ self.old) }
+    {
+        match delimiter {
+            Delimiter::Blanks | Delimiter::Csv(_) => form.push(alloc, number, &mut self.output),
+            Delimiter::Byte(byte) => self.write_between(alloc, byte, form, number),
+        }
+    }
+
+    /// A text of the output as a field of CSV that was in quotes or not.
+    pub(crate) fn write_field(
+        &mut self,
+        delimiter: u8,
+        end: u8,
+        was_quoted: bool,
+        text: &[u8],
+    ) -> Result<(), AllocError>
+        ensures { OnOk result (self.new ≡ record self.old {
+          output = self.old.output ++ as_field delimiter end was_quoted text.now;
+        }) }
+    {
+        if was_quoted || wants_quotes(delimiter, end, text) {
+            return push_quoted(text, &mut self.output);
+        }
+        self.write(text)
+    }
+
+    /// That many spaces of the output.
+    fn write_spaces(&mut self, count: usize) -> Result<(), AllocError>
+        ensures { OnOk result
+            (self.new ≡ record self.old { output = self.old.output ++ spaces count }) }
+    {
+        let Some(length) = self.output.len().checked_add(count) else {
+            return Err(AllocError);
+        };
+        self.output.resize(length, b' ')
+    }
+
+    /// A text in columns of this width.
+    // promise: Padding counts the columns of a terminal, not bytes.
+    // mutations: padding_by_bytes
+    fn write_padded(&mut self, width: Width, text: &[u8]) -> Result<(), AllocError>
+        ensures { OnOk result (self.new ≡ record self.old {
+          output = self.old.output ++ padded (Some width) text.now;
+        }) }
+    {
+        let missing = width.columns.saturating_sub(columns_of(text));
+        match width.alignment {
+            Alignment::Left => {
+                self.write(text)?;
+                self.write_spaces(missing)
+            }
+            Alignment::Right => {
+                self.write_spaces(missing)?;
+                self.write(text)
+            }
+        }
+    }
+
+    /// A number that is shown so, in columns of this width.
+    pub(crate) fn write_columns(
+        &mut self,
+        delimiter: Delimiter,
+        width: Width,
+        number: &[u8],
+    ) -> Result<(), AllocError>
+        ensures { OnOk result (self.new ≡ record self.old {
+          output = self.old.output ++ padded (Some width) number.now;
+          holding = first_of self.old.holding (held_by delimiter number.now);
+        }) }
+    {
+        hold(delimiter, number, &mut self.holding)?;
+        self.write_padded(width, number)
+    }
+}

@@ -1,0 +1,278 @@
+"""The settings that locnum's options ask for, or the first fault in them: the page of locnum_options."""
+import re
+from collections.abc import Callable, Sequence
+from dataclasses import dataclass
+
+from hostile_models.locnum_arguments import COMMAND, HELP, VERSION, Ended, Given
+from hostile_models.numbers import STRATEGIES
+
+SIGNS = ["auto", "always", "never", "except-zero", "negative"]
+MODES = ["abort", "fail", "warn", "ignore"]
+# What cuts lines: beside --explain the chosen fields are explained.
+OF_LINES = ["csv", "delimiter", "field", "header", "zero-terminated"]
+TABS = {"tab": "\t", "\\t": "\t"}
+PLAIN, MONEY, PERCENT, OTHER = "plain", "money", "percents", "another kind"
+
+
+@dataclass(frozen=True)
+class Money:
+    """The symbol of a currency, and the fraction digits of its amounts."""
+
+    symbol: str
+    digits: int
+
+
+CURRENCIES = {"USD": Money("$", 2), "EUR": Money("€", 2), "GBP": Money("£", 2), "JPY": Money("¥", 0)}
+FAULTS = {
+    "locale": "--locale: not a locale",
+    "list": "--list: locales, systems, currencies or units",
+    "system": "--system: not the name of a numbering system",
+    "grouping": "--grouping: neither auto, never, always nor min2",
+    "fraction": "--fraction: neither N nor MIN..MAX, each at most 255",
+    "sign": "--sign: neither auto, always, never, except-zero nor negative",
+    "together": "--percent and --unit: not together, nor with --style or --currency",
+    "alone": "--accounting and --cash want --currency, and --width wants --currency or --unit",
+    "currency": "--currency: not three capital letters",
+    "accounting": "--accounting: not with --width name",
+    "long money": "--style long: not with --currency",
+    "short money": "--style short: not with --accounting, --cash or a --width but short",
+    "width": "--width: short, narrow or name for money; long, short or narrow for units",
+    "style": "--style: neither plain, short nor long",
+    "explained": "--explain: not with --padding",
+    "delimiter": "--delimiter: neither a single byte nor tab",
+    "csv with zero": "--csv: not with --zero-terminated",
+    "csv with a mark": "--csv: --delimiter is neither a quote, a line feed nor a carriage return",
+    "field": "--field: neither a list of N, N-, N-M, -M or -, from 1 on, nor one of names",
+    "names": "--field: names are those of a header, which --header asks for",
+    "names of arguments": "--field: names are those of a header, and arguments have none",
+    "header": "--header: not a count of lines, from 1 on",
+    "padding": "--padding: neither N nor -N, from 1 to 65535",
+    "invalid": "--invalid: neither abort, fail, warn nor ignore",
+    "locale without data": "no locale de without a file of tables (-t); the program has en-US, en\n"
+                           "locnum: to make one: tools/cldr_to_tables.py core.zip de -o de.json",
+    "long locale without data": f"no locale {'x' * 28}..{'x' * 28} (63 characters) without a file of tables (-t); "
+                                "the program has en, en-US\n"
+                                f"locnum: to make one: tools/cldr_to_tables.py core.zip {'x' * 63} -o {'x' * 63}.json",
+    "system without data": "en has no numbering system arab; the tables have latn",
+    "currency without data": "en has no currency CHF; the tables have EUR, GBP, JPY, USD\n"
+                             "locnum: to make one: tools/cldr_to_tables.py core.zip en --currencies CHF -o en.json",
+}
+# Faults of whose note the beginning is known.
+FILE, UNIT = "a file that can't be read", "a unit without data"
+NO_TEXT = "words that aren't text"
+ENDINGS = [*FAULTS, FILE, UNIT, COMMAND, HELP, VERSION, NO_TEXT, "status 0", "status 2"]
+
+
+@dataclass(frozen=True)
+class Range:
+    """A range of numbers, both ends in it."""
+
+    first: int
+    last: int
+
+
+@dataclass(frozen=True)
+class Settings:
+    """What is asked for: of numbers, of lines, and of what becomes of invalid texts."""
+
+    kind: str
+    currency: str | None
+    accounting: bool
+    grouping: str
+    fraction: Range | None
+    fraction_text: str
+    sign: str
+    delimiter: bytes | None
+    fields: Sequence[Range]
+    names: Sequence[bytes]
+    header: int
+    end: bytes
+    mode: str
+    columns: int | None
+    csv: bool
+    explain: bool
+    explains_fields: bool
+    heading: bytes
+
+    @property
+    def comma(self) -> bytes:
+        """What stands between the fields of CSV."""
+        return self.delimiter or b","
+
+
+def number_named(text: str) -> int | None:
+    """A number of digits alone, below 2 to the power 64."""
+    return int(text) if re.fullmatch("[0-9]+", text) and int(text) < 2**64 else None
+
+
+def range_of(first: int | None, last: int | None, lowest: int, highest: int) -> Range | None:
+    """The range between two numbers in order and within these bounds, or None."""
+    if first is None or last is None or not lowest <= first <= last <= highest:
+        return None
+    return Range(first, last)
+
+
+def fraction_named(text: str) -> Range | None:
+    """The least and the greatest count of fraction digits, or None."""
+    first, dots, last = text.partition("..")
+    return range_of(number_named(first), number_named(last if dots else first), 0, 255)
+
+
+def fields_named(text: str) -> Range | None:
+    """The first and the last field of a range, or None."""
+    first, dash, last = text.partition("-")
+    begin = number_named(first) if first or not dash else 1
+    end = number_named(last) if last else 2**64 - 1 if dash else number_named(first)
+    return range_of(begin, end, 1, 2**64 - 1)
+
+
+def columns_named(text: str) -> int | None:
+    """The columns of a text, below 0 where the number stands before its spaces, or None."""
+    count = number_named(text.removeprefix("-"))
+    return (-count if text.startswith("-") else count) if count and count <= 65535 else None
+
+
+def delimiter_named(given: Given) -> str | None:
+    """The delimiter that is asked for: a comma by default for CSV."""
+    text = given.get("delimiter", "," if "csv" in given else None)
+    return TABS.get(text, text) if text else text
+
+
+def locale_named(text: str) -> str:
+    """A locale in the form of BCP 47; that of an environment without variables is English."""
+    if text == "env":
+        return "en"
+    tags = re.split("[-_]", re.split("[.@]", text)[0])
+    cased = [tags[0].lower()]
+    for tag in tags[1:]:
+        length = 0 if any(len(each) == 1 for each in cased) else len(tag)
+        cased.append(tag.upper() if length == 2 else tag.title() if length == 4 else tag.lower())
+    return "-".join(cased)
+
+
+def kind_of_money(given: Given, style: str) -> str:
+    """The kind where a currency is asked for."""
+    if style not in ("plain", "short"):
+        raise Ended("long money" if style == "long" else "style")
+    if not re.fullmatch("[A-Z]{3}", given["currency"]):
+        raise Ended("currency")
+    width = given.get("width", "short")
+    if style == "short":
+        if "accounting" in given or "cash" in given or width != "short":
+            raise Ended("short money")
+        return OTHER
+    if "accounting" in given and width == "name":
+        raise Ended("accounting")
+    if width not in ("short", "narrow", "name"):
+        raise Ended("width")
+    return OTHER if width == "name" else MONEY
+
+
+def kind_of(given: Given) -> str:
+    """Which kind of numbers is asked for."""
+    if sum(name in given for name in ("percent", "unit")) > ("style" not in given and "currency" not in given):
+        raise Ended("together")
+    if "currency" not in given and ("accounting" in given or "cash" in given or "width" in given and "unit" not in given):
+        raise Ended("alone")
+    style = given.get("style", "plain")
+    if "currency" in given:
+        return kind_of_money(given, style)
+    if given.get("width", "short") not in ("short", "narrow", "long"):
+        raise Ended("width")
+    if style not in ("plain", "short", "long"):
+        raise Ended("style")
+    return OTHER if "unit" in given or style != "plain" else PERCENT if "percent" in given else PLAIN
+
+
+def digits_of(given: Given) -> Range | None:
+    """The range of fraction digits that is asked for, or that of the currency."""
+    if "fraction" in given:
+        return fraction_named(given["fraction"])
+    if "currency" not in given:
+        return None
+    digits = CURRENCIES[given["currency"]].digits
+    return Range(digits, digits)
+
+
+def data_of(given: Given) -> str:
+    """The options that ask tools/cldr_to_tables.py for the data of what is wanted."""
+    currency = f" --currencies {given['currency']}" if "currency" in given else ""
+    unit = f" --units {given['unit'] or '(empty)'}" if "unit" in given else ""
+    return currency or unit or (" --percents" if "percent" in given else "")
+
+
+def judge_data(given: Given) -> None:
+    """Whether the program has the data without a file of tables."""
+    if "tables" in given:
+        raise Ended(FILE)
+    if "list" in given:
+        raise Ended("list")
+    locale = locale_named(given.get("locale", "en"))
+    if locale not in ("en", "en-US"):
+        raise Ended("locale without data" if locale == "de" else "long locale without data")
+    if "unit" in given:
+        raise Ended(UNIT)
+    if given.get("currency", "USD") not in CURRENCIES:
+        raise Ended("currency without data")
+    if given.get("system", "latn") != "latn":
+        raise Ended("system without data")
+
+
+def wanted(given: Given, name: str, is_good: Callable[[str], object]) -> None:
+    """An option that is given has a text that is good."""
+    if name in given and not is_good(given[name]):
+        raise Ended(name)
+
+
+def names_of(given: Given) -> list[str]:
+    """The names of the columns that are asked for; none where fields are chosen by number."""
+    parts = given.get("field", "1").split(",")
+    return [] if any(re.fullmatch("[0-9-]*", part) for part in parts) else parts
+
+
+def judge_lines(given: Given) -> None:
+    """Whether the options that have to do with lines and their fields are in order."""
+    if "explain" in given and "padding" in given:
+        raise Ended("explained")
+    wanted(given, "delimiter", lambda text: len(text.encode()) == 1 or text in TABS)
+    if "csv" in given and "zero-terminated" in given:
+        raise Ended("csv with zero")
+    if "csv" in given and given.get("delimiter", ",") in ('"', "\n", "\r"):
+        raise Ended("csv with a mark")
+    names = names_of(given)
+    wanted(given, "field", lambda text: names or all(fields_named(part) for part in text.split(",")))
+    if names and "header" not in given:
+        raise Ended("names")
+    wanted(given, "header", number_named)
+    wanted(given, "padding", columns_named)
+    wanted(given, "invalid", lambda text: text in MODES)
+
+
+def heading_of(given: Given) -> bytes:
+    """The line in front of explanations: what they go by."""
+    key = "percents" if "percent" in given else given.get("style", "plain").replace("plain", "symbols")
+    if "currency" in given:
+        key = "currency_compact" if key == "short" else "currencies"
+    return f"the tables in the program: locale {locale_named(given.get('locale', 'en'))}, {key}\n".encode()
+
+
+def settings_of(given: Given, has_numbers: bool) -> Settings:
+    """The settings, beside numbers among the arguments or not, or the first fault in the order of the definition."""
+    wanted(given, "locale", lambda text: re.fullmatch("[A-Za-z0-9-]{1,63}", locale_named(text)))
+    wanted(given, "system", lambda text: re.fullmatch("[a-z0-9]{3,8}", text))
+    wanted(given, "grouping", lambda text: text in STRATEGIES)
+    wanted(given, "fraction", fraction_named)
+    wanted(given, "sign", lambda text: text in SIGNS)
+    kind = kind_of(given)
+    judge_lines(given)
+    if names_of(given) and has_numbers:
+        raise Ended("names of arguments")
+    judge_data(given)
+    delimiter = delimiter_named(given)
+    fields = [fields_named(part) for part in given.get("field", "1").split(",")]
+    return Settings(
+        kind, given.get("currency"), "accounting" in given, given.get("grouping", "auto"), digits_of(given),
+        given.get("fraction", ""), given.get("sign", "auto"), delimiter.encode() if delimiter else None,
+        [each for each in fields if each], [name.encode() for name in names_of(given)], int(given.get("header", "0")), b"\0" if "zero-terminated" in given else b"\n",
+        given.get("invalid", "abort"), columns_named(given.get("padding", "")), "csv" in given, "explain" in given,
+        any(name in given for name in OF_LINES), heading_of(given))

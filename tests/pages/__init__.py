@@ -1,0 +1,1 @@
+"""The judges of pages, which tests/docs.py runs."""
