@@ -23,15 +23,11 @@ use icu_plurals::PluralOperands;
 use std::alloc::Global;
 use writeable::{PartsWrite, Writeable};
 
-/// A formatter of numbers, plain or compact, on which formatters of units, currencies or ranges
-/// stand (ICU4X `AbstractFormatter`).
+/// What formatters of units and currencies write numbers by (ICU4X `AbstractFormatter`).
 ///
 /// Each number determines what is shown for it: a significand times ten to an exponent, and the
-/// events that are written. These contracts hold for every formatter, so a caller that is generic
-/// in the formatter needs no others.
-///
-/// The laws say which number may be shown. They compare sizes, which count units smaller than any
-/// power of a decimal.
+/// events that are written. A caller that is generic in the formatter needs no other contracts.
+/// The laws compare sizes, which count units smaller than any power of a decimal.
 pub trait AbstractFormatter: Sealed {
     /// What is shown for a number: `shows f u n` if the formatter `f` shows `n` for the number `u`.
     ghost shows: { Self → Unsigned → Shown → Type 0 };
@@ -42,11 +38,9 @@ pub trait AbstractFormatter: Sealed {
     /// The symbols that hold the affixes of a sign.
     ghost symbols: { Self → DecimalSymbols };
 
-    /// Writes what is shown for a number, without a sign.
-    ///
-    /// `Overflow` exactly where that is too large. `Sink` only where the sink failed in this call,
-    /// and it then holds a beginning of the events besides. After the other errors the sink is
-    /// unchanged.
+    /// Writes what is shown for a number, without a sign. `Overflow` exactly where that is too
+    /// large. `Sink` only where the sink failed in this call; it then holds a beginning of the
+    /// events. After the other errors it is unchanged.
     // promise: What is shown is written, or the sink holds a beginning.
     // mutations: interface_compact_number_not_written
     fn write_unsigned<S: PartsWrite>(
@@ -68,9 +62,8 @@ pub trait AbstractFormatter: Sealed {
           value = value;
         } };
 
-    /// The plural operands of what is shown for a number.
-    ///
-    /// `Overflow` exactly where that is too large; `Sink` is never reported.
+    /// The plural operands of what is shown for a number. `Overflow` exactly where that is too
+    /// large; `Sink` is never reported.
     fn plural_operands(
         &self,
         alloc: Global,
@@ -81,8 +74,7 @@ pub trait AbstractFormatter: Sealed {
         ensures overflow { IsErrOf result FormatError.Overflow ↔ overflows self.now value.now }
         ensures no_sink { IfErr result (λ e. e ≢ FormatError.Sink) };
 
-    /// Writes what is shown for a number, without a sign, as `write_unsigned` does, and returns its
-    /// plural operands, as `plural_operands` does. The number is rounded once.
+    /// Does what `write_unsigned` and `plural_operands` do, but rounds the number once.
     // promise: It writes what is shown, and returns its operands.
     // mutations: interface_shown_operands_of_the_input
     fn write_shown<S: PartsWrite>(
@@ -100,9 +92,7 @@ pub trait AbstractFormatter: Sealed {
         ensures overflow { IsErrOf result FormatError.Overflow ↔ overflows self.now value.now };
 
     /// Writes what is shown for a number in a frame, which may ask for its plural operands. The
-    /// number is rounded once, and isn't buffered.
-    ///
-    /// Its errors, and what the sink then holds, are those of `write_unsigned`.
+    /// number is rounded once, and isn't buffered. Errors are those of `write_unsigned`.
     // promise: What is shown is written inside of the frame.
     // mutations: framed_without_the_frame, framed_digits_of_the_input
     fn write_framed<S: PartsWrite, T: Frame>(
@@ -118,9 +108,8 @@ pub trait AbstractFormatter: Sealed {
             (shows self.now value.now) (framed_shown (T.framed frame.now)) sink.new }
         ensures overflow { IsErrOf result FormatError.Overflow ↔ overflows self.now value.now };
 
-    /// The text of what is shown for a number in a frame: its characters, without parts.
-    ///
-    /// `Overflow` exactly where what is shown is too large; `Sink` is never reported.
+    /// The characters of what is shown for a number in a frame, without parts. `Overflow` exactly
+    /// where that is too large; `Sink` is never reported.
     fn framed_to_string<T: Frame>(
         &self,
         alloc: Global,
@@ -170,6 +159,7 @@ pub trait AbstractFormatter: Sealed {
         IsAtTheLimit (size u) };
 }
 
+/// Numbers are shown as they are given. Only `framed_to_string` takes memory besides the sink's.
 impl AbstractFormatter for DecimalFormatter {
     ghost use Rattle.std.specs.Prelude.{◌≡◌, ◌≢◌, ◌↔◌, Ok, IfOk, IfErr, IsErrOf};
     ghost use Rattle.std.proofs.Common.{◌∙◌, sym};
@@ -200,7 +190,6 @@ impl AbstractFormatter for DecimalFormatter {
 
     ghost overflow_at_the_limit = { λ f u past. absurd past };
 
-    /// It takes only the sink's memory, and its only error is `Sink`.
     fn write_unsigned<S: PartsWrite>(
         &self,
         alloc: Global,
@@ -228,7 +217,6 @@ impl AbstractFormatter for DecimalFormatter {
         self.format_sign(sign, value)
     }
 
-    /// The operands of the number as it is given; this takes no memory.
     fn plural_operands(
         &self,
         alloc: Global,
@@ -244,7 +232,6 @@ impl AbstractFormatter for DecimalFormatter {
         Ok(PluralOperands::from_significand_and_exponent(value, 0))
     }
 
-    /// It takes only the sink's memory, and its only error is `Sink`.
     fn write_shown<S: PartsWrite>(
         &self,
         alloc: Global,
@@ -265,7 +252,6 @@ impl AbstractFormatter for DecimalFormatter {
         self.plural_operands(alloc, value)
     }
 
-    /// It takes only the sink's memory, and its only error is `Sink`.
     fn write_framed<S: PartsWrite, T: Frame>(
         &self,
         alloc: Global,
@@ -291,7 +277,6 @@ impl AbstractFormatter for DecimalFormatter {
         }
     }
 
-    /// Its only error is `OutOfMemory`.
     fn framed_to_string<T: Frame>(
         &self,
         alloc: Global,
