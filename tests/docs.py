@@ -32,6 +32,7 @@ it; --map the files of specs/ and proofs/, with what each says and who uses it. 
 - crates.txt has each crate under a heading, crates/README.md has each behind those that it uses, and the page of each crate says in a line `Tests: ..` where its tests stand.
 - No page has a word of the last column of CONTRIBUTING.md's table of terms, outside of code.
 - No line of specs/ and proofs/ is longer than 160 bytes, and none of a clause than 100 characters.
+- No source of a crate has more than 400 lines.
 - The whole file that docs/FORMATS.md begins with is read by both programs.
 - Each command that README.md and the page of tour show behind `$` gives the output below it, also on a terminal at which
   nobody types; those of README.md and docs/BUILDING.md that build the program and run it have their input from a pipe or a
@@ -76,6 +77,7 @@ def judge_all(is_writing: bool) -> int:
     sources.judge_english()
     sources.judge_signs()
     sources.judge_widths()
+    sources.judge_lengths()
     sources.judge_languages()
     shown.judge_file()
     shown.judge_commands()

@@ -123,6 +123,14 @@ def judge_widths() -> None:
         judge(not wide, f"crates/{crate}: {len(wide)} lines are too wide:", "; ".join(wide[:5]))
 
 
+def judge_lengths() -> None:
+    """Sources that have more lines than a file is to have."""
+    for crate in edits.USES:
+        counts = {path: len(read(path).splitlines()) for path in found(f"crates/{crate}/src/**/*.rt")}
+        long = [f"{path}: {count}" for path, count in counts.items() if count > 400]
+        judge(not long, f"crates/{crate}: sources have more than 400 lines:", "; ".join(long))
+
+
 def elements_of(exactly_one: str | None, one: str | None, other: str) -> dict[str, str]:
     """The elements of a row of icu_decimal_tests, as tables have them."""
     elements = {"explicit_one": exactly_one, "one": one and "{0}" + one, "other": "{0}" + other}
