@@ -13,6 +13,7 @@ it; --map the files of specs/ and proofs/, with what each says and who uses it. 
   heading, and the page has 450 lines at most, of 500 characters each apart from quotes.
 - docs/EDITS.md counts the must-fail mutations of each crate, and docs/MAP.md the files of specs/ and proofs/: both pages are
   made from these files, and each such file has a comment at its head.
+- The table of docs/TESTING.md that lists the files of rows is made from the comments at their heads.
 - Each path in a code span of a page is one of the repository's.
 - Each block of Rust code of README.md, docs/LIBRARY.md and of the pages of icu_provider and tour stands so in a source of the crates; the
   example at the head of each library stands in the program crates/examples.
@@ -26,9 +27,9 @@ it; --map the files of specs/ and proofs/, with what each says and who uses it. 
   letter, whether it takes a text or a file, and the words among which it chooses, and no other; so the table of its page
   has their names. That of bash is run: it offers just these options, words and files. Those of zsh and fish are read. The
   manual page has the statuses and examples of the page too.
-- The text in crates/sample_tables is that of tables/sample.json, byte for byte, and that in crates/locnum that of
-  tables/english.json; the languages of icu_decimal_tests, whose
-  tables are maps in code, have the patterns and plural rules of that file.
+- The sample tables that rows name and the text in crates/sample_tables are tables/sample.json, byte for byte, and the text in
+  crates/locnum is that of tables/english.json. The languages of icu_decimal_tests, whose tables are maps in code, have the
+  patterns and plural rules of the sample tables.
 - crates.txt has each crate under a heading, crates/README.md has each behind those that it uses, and the page of each crate says in a line `Tests: ..` where its tests stand.
 - No page has a word of the last column of CONTRIBUTING.md's table of terms, outside of code.
 - No line of specs/ and proofs/ is longer than 160 bytes, and none of a clause than 100 characters.
@@ -44,7 +45,7 @@ it; --map the files of specs/ and proofs/, with what each says and who uses it. 
 The last line is 'N passed, M failed', one for each page's links, each page that is made, each block and example, each place
 of the version, each picture, the packages, the toolchain, each status, word and example of the manual pages, each option of
 a completion and each question to that of bash, the text of the tables, the headings, each crate's page, the widths of each
-crate, each language, each command, twice, each one that builds unproved, those by a release, and each row. Without `man` a line
+crate, each command, twice, each one that builds unproved, those by a release, and each row. Without `man` a line
 'skipped: docs: WHY' stands for the manual pages.
 """
 import os
@@ -53,7 +54,7 @@ from collections.abc import Sequence
 
 sys.dont_write_bytecode = True
 
-from pages import links, made, manuals, promises, shown, sources, terms  # noqa: E402
+from pages import links, made, manuals, promises, rows, shown, sources, terms  # noqa: E402
 from pages.judging import ROOT, counts, read  # noqa: E402
 
 
@@ -62,6 +63,7 @@ def judge_all(is_writing: bool) -> int:
     made.judge_page("docs/EDITS.md", made.edits_page(), is_writing)
     made.judge_page("docs/MAP.md", made.map_page(), is_writing)
     made.judge_page(promises.PAGE, promises.page_made(read(promises.PAGE)), is_writing)
+    made.judge_page(rows.PAGE, rows.page_made(read(rows.PAGE)), is_writing)
     promises.judge_lengths(read(promises.PAGE))
     links.judge_links()
     links.judge_paths()
@@ -74,11 +76,12 @@ def judge_all(is_writing: bool) -> int:
     manuals.judge_manual()
     manuals.judge_options()
     sources.judge_sample()
+    sources.judge_sample_text()
+    sources.judge_languages()
     sources.judge_english()
     sources.judge_signs()
     sources.judge_widths()
     sources.judge_lengths()
-    sources.judge_languages()
     shown.judge_file()
     shown.judge_commands()
     shown.judge_first_commands()

@@ -7,6 +7,8 @@ A mutation is a file of lines `file: PATH`, `old: TEXT`, `new: TEXT`, as `rt` re
                                 crate, as in `rounding::rounds_up`, and CLAUSE the name of the goal. A goal with a written
                                 answer in proofs/ is no evidence, since an answer that no longer fits fails too.
     shown: CRATE TEST           this test of the crate has to fail on the edited program, unproved (`rt try --test`).
+    shown: PROGRAM FILE ROW     this row of crates/PROGRAM/data/FILE has to be printed by the program of rows on the edited
+                                sources, unproved (`rt try`). ROW is the call with its arguments, as they stand once in FILE.
 
 Each mutation of the inner set, must-fail/, has one of the two at least. One of the outer set, edits/, that has none is
 rejected at some goal, as `rt ci` sees those of the inner set rejected. A control, edits/controls/, changes no meaning:
@@ -66,14 +68,14 @@ class Pair(NamedTuple):
 
 @dataclasses.dataclass
 class Edit:
-    """What the file of an edit says; `refused` and `shown` have the words of each such line."""
+    """What the file of an edit says; `refused` has the words of each such line, `shown` each crate with what it runs."""
 
     crate: str
     circle: str
     path: str
     pairs: list[Pair] = dataclasses.field(default_factory=list)
     refused: list[tuple[str, ...]] = dataclasses.field(default_factory=list)
-    shown: list[tuple[str, ...]] = dataclasses.field(default_factory=list)
+    shown: list[tuple[str, str]] = dataclasses.field(default_factory=list)
     fragile: str = ""
 
     @property
@@ -102,8 +104,11 @@ def read_edit(crate: str, circle: str, path: str) -> Edit:
             old = text
         elif key == "new":
             edit.pairs.append(Pair(file, old, text))
-        elif key in ("refused", "shown"):
-            getattr(edit, key).append(tuple(text.split()))
+        elif key == "refused":
+            edit.refused.append(tuple(text.split()))
+        elif key == "shown":
+            crate_of_tests, _, test = text.strip().partition(" ")
+            edit.shown.append((crate_of_tests, test))
         elif key == "fragile":
             edit.fragile = text
     return edit
@@ -192,18 +197,57 @@ def add_contracts(into: Hash, crate: str, *circles: str) -> None:
     into.update("".join(f"{text}\n" for text in texts).encode())
 
 
+def add_rows(into: Hash, rows: Sequence[tuple[str, str]]) -> None:
+    """Adds rows of programs to a hash, and the documents that rows may name; no other row, so that it can be added freely."""
+    add(into, [path for program in sorted({program for program, _ in rows}) for path in documents_of(program)])
+    for program, row in rows:
+        into.update(f"{program} {[line for _, line in lines_of_row(program, row)]}\n".encode())
+
+
+def add_edits(into: Hash, crate: str, circle: str, seen_by: str) -> None:
+    """Adds the edits of a circle to a hash: for the prover without the tests and rows that they name, for these without goals."""
+    other = "shown:" if seen_by == BY_PROVER else "refused:"
+    for edit in edits_of(crate, circle):
+        if seen_by == BY_PROVER or edit.shown:
+            lines = [line for line in read(edit.path).splitlines() if not line.startswith(other)]
+            into.update("\n".join([os.path.relpath(edit.path, ROOT), *lines, ""]).encode())
+
+
 def hash_of(crate: str, circle: str, seen_by: str, logic: str) -> str:
     """The hash of all on which it rests that a circle of a crate's edits is seen so. Tests run without proofs."""
     into = hashlib.sha256(f"{logic}\n".encode())
     parts = PARTS if seen_by == BY_PROVER else ("src", "specs")
-    add(into, files_of(*[f"crates/{crate}/{part}" for part in parts], f"crates/{crate}/{circle}"))
+    add(into, files_of(*[f"crates/{crate}/{part}" for part in parts]))
+    add_edits(into, crate, circle, seen_by)
     add_contracts(into, crate, circle)
     if seen_by == BY_TESTS:
-        tests = {tests for edit in edits_of(crate, circle) for tests, _ in edit.shown}
-        add(into, files_of(*[f"crates/{name}/src" for name in sorted(tests)]))
+        shown = sorted({shown for edit in edits_of(crate, circle) for shown in edit.shown})
+        add(into, files_of(*sorted({f"crates/{tests}/src" for tests, _ in shown})))
+        add_rows(into, [(tests, test) for tests, test in shown if is_of_rows(tests)])
     elif has_controls(crate, circle):
         add(into, [os.path.relpath(edit.path, ROOT) for edit in edits_of(crate, CONTROLS)])
     return into.hexdigest()
+
+
+# Rows
+
+def is_of_rows(crate: str) -> bool:
+    """Whether a crate is a program of rows."""
+    return os.path.exists(os.path.join(ROOT, "crates", crate, "args")) and "rows" in USES.get(crate, [])
+
+
+def documents_of(program: str) -> list[str]:
+    """The files of data that the rows of a program name."""
+    words = read(os.path.join(ROOT, "crates", program, "args")).splitlines()
+    return [f"crates/{program}/data/{word}" for word in words if not word.endswith(".rows")]
+
+
+def lines_of_row(program: str, row: str) -> list[tuple[int, str]]:
+    """The lines of `FILE ROW` in the file's data, each with its number: the call and the arguments, up to the answer."""
+    file, _, text = row.partition(" ")
+    path = os.path.join(ROOT, "crates", program, "data", file)
+    lines = read(path).split("\n") if os.path.exists(path) else []
+    return [(number, line) for number, line in enumerate(lines, 1) if f"{line} ".startswith(f"{text} = ")]
 
 
 # Checks
@@ -256,7 +300,8 @@ def add_room(into: Hash, room: str, *parts: str) -> None:
     """Adds the files of a changed copy of a crate to a hash."""
     for path in sorted(path for part in parts for path in glob.glob(f"{part}/**", root_dir=room, recursive=True)):
         if os.path.isfile(os.path.join(room, path)):
-            into.update(f"{path}\n{read(os.path.join(room, path))}\n".encode())
+            with open(os.path.join(room, path), "rb") as file:
+                into.update(f"{path}\n".encode() + file.read() + b"\n")
 
 
 def check(edit: Edit, kit: str, contracts_below: Hash, kept: str) -> str:
@@ -307,8 +352,8 @@ def why_not_by(edit: Edit, said: str, function: str, clause: str) -> str | None:
 
 # Tests
 
-def failed_tests(edit: Edit, tests: str) -> tuple[set[str], str | None]:
-    """The tests of a crate that fail on the edited program, unproved, or what kept them from running."""
+def said_on_edited(edit: Edit, tests: str, *words: str) -> str:
+    """What `rt try` with some words says in a crate whose tests or rows run on the edited program."""
     with tempfile.TemporaryDirectory(prefix="rt-edit-") as room:
         for file in ("crates.txt", "HANDLES"):
             shutil.copy(os.path.join(ROOT, file), room)
@@ -316,21 +361,46 @@ def failed_tests(edit: Edit, tests: str) -> tuple[set[str], str | None]:
             copy_crate(name, os.path.join(room, "crates", name))
         why = apply(edit, os.path.join(room, "crates", edit.crate))
         if why:
-            return set(), why
-        key = hashlib.sha256(f"tests of {tests}\n".encode())
+            return f"unread: {why}"
+        if is_of_rows(tests):
+            shutil.copytree(os.path.join(ROOT, "crates", tests, "data"), os.path.join(room, "crates", tests, "data"))
+        key = hashlib.sha256(f"tests of {tests} {words}\n".encode())
         for name in [*below(tests), tests]:
-            add_room(key, os.path.join(room, "crates", name), "src", "specs")
-        said = once(edit.crate, key, lambda: ran(["rt", "try", "--test"], os.path.join(room, "crates", tests)))
+            add_room(key, os.path.join(room, "crates", name), "src", "specs", "data")
+        # the interpreter, which `rt try` asks first, has an answer for hardly any of these programs: one step of it is enough
+        return once(edit.crate, key, lambda: ran(["rt", "try", "--steps", "1", *words], os.path.join(room, "crates", tests)))
+
+
+def why_no_test(edit: Edit, tests: str, test: str) -> str | None:
+    """Why a test of a crate doesn't show an edit, or nothing."""
+    said = said_on_edited(edit, tests, "--test")
     failed = set(re.findall(r"^test (\S+) \.\.\. FAILED", said, flags=re.M))
-    is_run = re.search(r"^test result: ", said, flags=re.M)
-    return failed, None if is_run else f"the tests didn't run: {said[:200]}"
+    if not re.search(r"^test result: ", said, flags=re.M):
+        return f"the tests didn't run: {said[:200]}"
+    if test in failed:
+        return None
+    return f"{test} of {tests} doesn't fail on the edited program; these do: {', '.join(sorted(failed)) or 'none'}"
+
+
+def why_no_row(edit: Edit, program: str, row: str) -> str | None:
+    """Why a row of a program doesn't show an edit, or nothing."""
+    lines = lines_of_row(program, row)
+    if len(lines) != 1:
+        return f"{row} stands {len(lines)} times in the rows of {program}, and not once"
+    file = row.partition(" ")[0]
+    documents = [os.path.relpath(path, f"crates/{program}") for path in documents_of(program)]
+    said = said_on_edited(edit, program, "--", *documents, f"data/{file}")
+    # where the program faults behind the row, `rt try` shows the end of its output behind bars
+    printed = [int(number) for number in re.findall(rf"^(?:\| )?{re.escape(file)}:(\d+): ", said, flags=re.M)]
+    if lines[0][0] in printed:
+        return None
+    if not re.search(r"^run=ended status=0", said, flags=re.M):
+        return f"the rows didn't run: {said[:200]}"
+    return f"{row} of {program} is as before on the edited program; these lines aren't: {printed or 'none'}"
 
 
 def why_not_shown(edit: Edit, tests: str, test: str) -> str | None:
-    failed, why = failed_tests(edit, tests)
-    if why or test in failed:
-        return why
-    return f"{test} of {tests} doesn't fail on the edited program; these do: {', '.join(sorted(failed)) or 'none'}"
+    return (why_no_row if is_of_rows(tests) else why_no_test)(edit, tests, test)
 
 
 # Verdicts
@@ -353,7 +423,7 @@ def faults_by_prover(edit: Edit, said: str) -> list[str]:
 
 def faults_by_tests(edit: Edit) -> list[str]:
     """Why an edit isn't what its circle asks for, by the tests that it names."""
-    found = [why_not_shown(edit, *words) if len(words) == 2 else f"shown: {words}" for words in edit.shown]
+    found = [why_not_shown(edit, *words) for words in edit.shown]
     return [why for why in found if why]
 
 

@@ -19,8 +19,9 @@ VISIBILITY = re.compile(r"\bpub (?:\( (?:crate|super) \) )?")
 
 
 def said_in(path: str) -> list[str]:
-    """The lines of a file; of a source, a definition or a proof without those of comments."""
-    comment = {".rt": "//", ".antt": "--"}.get(os.path.splitext(path)[1])
+    """The lines of a file; of a source, a definition or a proof without those of comments, of an edit without those that name
+    the tests and rows that show it."""
+    comment = {".rt": "//", ".antt": "--", ".edit": "shown:"}.get(os.path.splitext(path)[1])
     with open(path, encoding="utf-8") as file:
         return [line for line in file.read().splitlines() if not comment or not line.lstrip(" ").startswith(comment)]
 

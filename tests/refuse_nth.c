@@ -1,5 +1,5 @@
-/* Loaded before the C library: the REFUSED-th call of malloc or realloc finds no memory, and leaves the file MARK. The file
- * CALLS is made, empty, when this library is loaded, and has the number of calls when the process has ended. */
+/* Loaded before the C library: the REFUSED-th call of malloc or realloc finds no memory, and leaves the file MARK. With EVERY
+ * each EVERY-th call behind it finds none either. The file CALLS is made, empty, when this library is loaded, and has the number of calls when the process has ended. */
 #define _GNU_SOURCE
 #include <dlfcn.h>
 #include <errno.h>
@@ -10,18 +10,21 @@
 
 static void *(*usual_malloc)(size_t);
 static void *(*usual_realloc)(void *, size_t);
-static long calls, refused;
+static long calls, refused, every;
 
 static void find_usual(void) {
     const char *number = getenv("REFUSED");
     refused = number ? atol(number) : 0;
+    const char *period = getenv("EVERY");
+    every = period ? atol(period) : 0;
     *(void **)&usual_realloc = dlsym(RTLD_NEXT, "realloc");
     *(void **)&usual_malloc = dlsym(RTLD_NEXT, "malloc");
 }
 
 static int is_refused(void) {
     if (!usual_malloc) find_usual();
-    if (++calls != refused) return 0;
+    calls++;
+    if (calls != refused && (every <= 0 || calls < refused || (calls - refused) % every != 0)) return 0;
     const char *mark = getenv("MARK");
     if (mark) close(open(mark, O_CREAT | O_WRONLY, 0600));
     errno = ENOMEM;

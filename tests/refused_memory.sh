@@ -1,24 +1,28 @@
 #!/bin/bash
 # Lets each allocation fail in turn: the first, the second, and so on until a run in which none failed; in each test of
-# each crate, as `rt test` or `rt ci` built it, and in the program over the sample tables in its three styles, and without
-# arguments. A test holds whichever fails: the call answers as usual or reports that it is out of memory, and answers as usual
+# each crate, as `rt test` or `rt ci` built it, in each program of rows, a file of rows at a time, and in the program over the
+# sample tables in its three styles, and without arguments. A program of rows makes a call once more where it was out of
+# memory, so that its output is as usual; there, in one run, each 100,000th allocation fails. A test holds whichever fails: the call answers as usual or reports that it is out of memory, and answers as usual
 # when it is called again. The program ends with status 1 and 'error: out of memory', and what it wrote is a beginning of
 # its usual output; or it writes its usual output, as where the standard library asks once more.
 # In each run the library that lets them fail has to be there: it leaves how many calls of malloc and realloc it saw. In a
 # test that takes no memory these are none; but the tests of a crate together make calls that fail, and the program of the
 # tests lists just as many as the sources have.
 # usage: tests/refused_memory.sh [--write] [-s STEP] [CRATE|program ..], by default every crate and the program
-# With -s STEP of the allocations past the hundredth of a test only one in STEP fails.
+# With -s STEP of the allocations past the hundredth of a test only one in STEP fails, and of those of a file of rows one in ten
+# times STEP.
 # With --write the numbers of docs/TESTING.md become those of this run: the program's where it was swept, and those of the
 # crates where all were. It goes with no STEP, and writes nothing where a case failed.
-# The last line is 'N passed, M failed', one for each test, each style and each crate. Without a C compiler nothing
+# The last line is 'N passed, M failed', one for each test, each file, each style and each crate. Without a C compiler nothing
 # fails, and a line 'skipped: refused_memory: WHY' says so. CC is the compiler with its words, by default cc.
 source "$(dirname "$0")/usage.sh"
 takes 1000 --write -s -- "$@"
 set -u
 cd "$(dirname "$0")/.." || exit 1
 root=$PWD
-step=1 is_writing=
+step=1 is_writing='' every=0
+# how many allocations lie between two that fail in one run of a program of rows: more than any row takes
+between=100000
 if [ "${1:-}" = --write ]; then
     is_writing=yes
     shift
@@ -43,7 +47,7 @@ failing() {
     shift
     rm -f "$folder/mark" "$folder/calls" "$folder/refused_allocation"
     [ "$number" -gt 5 ] || echo "$number" >"$folder/refused_allocation"
-    (cd "$folder" && exec timeout 60 env REFUSED="$number" MARK=mark CALLS=calls LD_PRELOAD=./refuse.so "$@") >"$folder/out" 2>"$folder/err"
+    (cd "$folder" && exec timeout 60 env REFUSED="$number" EVERY="$every" MARK=mark CALLS=calls LD_PRELOAD=./refuse.so "$@") >"$folder/out" 2>"$folder/err"
 }
 
 # has_failed N: leaves in $calls how many calls the library saw in the run, and in $why what is wrong if it wasn't there, or
@@ -72,15 +76,26 @@ sweep() {
         "$holds" "$status" || why="${why:+$why, }status $status: $(tail -n 2 "$folder/err" "$folder/out" | tail -c 300)"
         [ -z "$why" ] || faults+="where allocation $number fails: $why"$'\n'
         [ -e "$folder/mark" ] || break
+        [ "$every" = 0 ] || [ "$number" -le "$every" ] || break
         failures=$((failures + 1))
         number=$((number + (number < 100 ? 1 : step)))
     done
     judge "$*" same '' "$faults"
 }
 
+# is_of_rows CRATE: whether it is a program of rows.
+is_of_rows() {
+    [ -e "crates/$1/args" ] && grep -q '\.rows$' "crates/$1/args"
+}
+
 # The test holds.
 test_holds() {
     [ "$1" = 0 ]
+}
+
+# The program of rows answers as usual.
+rows_hold() {
+    [ "$1" = 0 ] && cmp -s "$folder/out" "$folder/usual"
 }
 
 # The program answers as usual, or where an allocation failed reports it behind a beginning of its usual output.
@@ -119,6 +134,28 @@ sweep_crate() {
     echo "$1: $tests tests, $seen calls, $total allocations refused"
     judge "$1: $tests tests are listed, $wanted stand in its sources, $seen calls, $total refused" \
         is_whole "$tests" "$wanted" "$seen" "$total"
+}
+
+# The files of rows of a program, each by itself.
+sweep_rows() {
+    local program=$root/crates/$1/out/$1 data=$root/crates/$1/data file files=0 seen=0 total=0
+    local -a documents
+    if [ ! -x "$program" ]; then
+        judge "$1: it isn't built: 'rt run' in crates/$1 builds it" false
+        return
+    fi
+    : >"$folder/input"
+    mapfile -t documents < <(grep -v '\.rows$' "crates/$1/args" | sed "s|^|$data/|")
+    every=$between
+    [ "$step" = 1 ] || step=$((step * 10))
+    while read -r file; do
+        "$program" "${documents[@]}" "$data/$file" >"$folder/usual" 2>"$folder/err"
+        sweep rows_hold "$program" "${documents[@]}" "$data/$file"
+        files=$((files + 1)) seen=$((seen + calls)) total=$((total + failures))
+    done < <(grep '\.rows$' "crates/$1/args")
+    every=0
+    echo "$1: $files files of rows, $seen calls, $total allocations refused"
+    judge "$1: $files files of rows, $seen calls, $total runs" is_whole "$files" "$files" "$seen" "$total"
 }
 
 # The program over lines of each kind.
@@ -167,21 +204,22 @@ def number(digits):
 with open(page, encoding="utf-8") as file:
     text = file.read()
 styles = re.findall(r"^decfmt (.*): (\d+) calls, (\d+) allocations refused, (\d+) times out of memory$", printed, flags=re.M)
-crates = re.findall(r"^(\w+): (\d+) tests, \d+ calls, (\d+) allocations refused$", printed, flags=re.M)
+crates = re.findall(r"^(\w+): (\d+) (?:tests|files of rows), \d+ calls, (\d+) allocations refused$", printed, flags=re.M)
 if styles:
-    each = ", ".join(f"{f'`{words}`' if words else 'without words'} {number(refused)}" for words, _, refused, _ in styles)
+    each = ", ".join(f"{f'`{words}`' if words else 'without arguments'} {number(refused)}" for words, _, refused, _ in styles)
     text = replace(text, "program", each)
     usual = [str(int(refused) - int(reported)) for _, _, refused, reported in styles]
     text = replace(text, "usual", f"{', '.join(usual[:-1])} and {usual[-1]}")
 if not names:
     rows = [*crates, ("decfmt", str(len(styles)), str(sum(int(refused) for _, _, refused, _ in styles)))]
     tests, refused = (sum(int(row[at]) for row in crates) for at in (1, 2))
-    lines = [f"Last whole sweep, {time.strftime('%d %B %Y').lstrip('0')}; of `decfmt` the lists of words in place of tests:", ""]
-    lines += ["| crate | tests | allocations refused |", "|---|---|---|"]
+    lines = [f"The last whole sweep was on {time.strftime('%d %B %Y').lstrip('0')}. For a program of rows the table has its files, and how",
+             "many runs of them had failing allocations; for `decfmt` it has the lists of arguments.", ""]
+    lines += ["| crate | tests or files | allocations that failed |", "|---|---|---|"]
     lines += [f"| `{name}` | {number(count)} | {number(total)} |" for name, count, total in rows]
-    lines += [f"| tests together | {number(tests)} | {number(refused)} |"]
+    lines += [f"| together | {number(tests)} | {number(refused)} |"]
     text = replace(text, "crates", "\n" + "\n".join(lines) + "\n")
-    text = replace(text, "together", f"[{number(refused)} allocations of {number(tests)} tests](#failing-allocations)")
+    text = replace(text, "together", f"[{number(refused)} of {number(tests)} tests and files](#failing-allocations)")
 with open(page, "w", encoding="utf-8") as file:
     file.write(text)
 PYTHON
@@ -196,7 +234,7 @@ fi
 if [ $# = 0 ]; then
     for crate in crates/*/; do
         crate=$(basename "$crate")
-        grep -rqs '^ *#\[test\]' "crates/$crate/src" && set -- "$@" "$crate"
+        is_of_rows "$crate" || grep -rqs '^ *#\[test\]' "crates/$crate/src" && set -- "$@" "$crate"
     done
     set -- "$@" program
 fi
@@ -216,6 +254,8 @@ if [ $# -gt 1 ]; then
     done
 elif [ "$1" = program ]; then
     sweep_program
+elif is_of_rows "$1"; then
+    sweep_rows "$1"
 else
     sweep_crate "$1"
 fi

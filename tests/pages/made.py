@@ -11,7 +11,7 @@ def guard(edit: edits.Edit) -> str:
     if edit.circle == edits.CONTROLS:
         return f"fragile: {edit.fragile}" if edit.fragile else "proved"
     goals = [f"`{clause}` of `{function}`" for function, clause in edit.refused]
-    tests = [f"test `{test}` of `{crate}`" for crate, test in edit.shown]
+    tests = [f"{'row' if edits.is_of_rows(crate) else 'test'} `{test}` of `{crate}`" for crate, test in edit.shown]
     return ", ".join(goals + tests) or "a goal with a written answer"
 
 
@@ -37,7 +37,8 @@ def edits_page() -> str:
         "# Must-fail mutations",
         "",
         "A mutation changes one meaning of a call, mostly in one place, and has to be rejected. Its file `NAME.edit` names the wrong",
-        "behaviour, the change, and what rejects it: a goal that the prover leaves open, or a test that fails on the changed program.",
+        "behaviour, the change, and what rejects it: a goal that the prover leaves open, or a test or a row that fails on the changed",
+        "program.",
         "A goal with a written answer also fails where the answer no longer fits, so it is no evidence by itself.",
         "",
         "- The **inner set**, in `must-fail/`, guards the main promise: every run of CI tries it, and `rt must-fail NAME` tries that of",
@@ -49,7 +50,7 @@ def edits_page() -> str:
         "`tests/edits.sh NAME` tries all of a crate. `tests/docs.py --mutations NAME` lists them, each with what rejects it.",
         "`tests/docs.py --write` makes this page.",
         "",
-        "| crate | inner set | outer set | a goal is named | a test is named | controls |",
+        "| crate | inner set | outer set | a goal is named | a test or a row is named | controls |",
         "|---|---|---|---|---|---|",
     ]
     totals = [0] * 5

@@ -1,4 +1,4 @@
-"""What stands in two places: the version, texts of tables, languages, packages; crates.txt with its pages; widths of lines."""
+"""What stands in two places: the version, texts of tables, packages; crates.txt with its pages; widths of lines."""
 import json
 import os
 import re
@@ -11,6 +11,8 @@ from pages.judging import PROGRAM, ROOT, found, judge, output_of, read
 sys.path.insert(0, os.path.join(ROOT, "tools"))
 import pictures  # noqa: E402
 
+# The folders in which rows name the sample tables.
+SAMPLES = ("crates/rows_reports/data",)
 # The languages of icu_decimal_tests that are in tables/sample.json: style, locale, and the name of their plural rules.
 LANGUAGES = {
     "SHORT_ENGLISH": ("short", "en", "ENGLISH_RULES"),
@@ -68,6 +70,13 @@ def read_exactly(path: str) -> str:
 
 
 def judge_sample() -> None:
+    """The sample tables that rows name have the bytes of the file."""
+    for folder in SAMPLES:
+        same = read_exactly(f"{folder}/sample.json") == read_exactly("tables/sample.json")
+        judge(same, f"{folder}/sample.json: isn't tables/sample.json")
+
+
+def judge_sample_text() -> None:
     """The constant that tests read has the bytes of the file."""
     source = read_exactly("crates/sample_tables/src/lib.rt")
     literal = re.search(r'^pub const SAMPLE: &str = "((?:[^"\\]|\\["\\])*)";$', source, flags=re.M)
@@ -96,7 +105,7 @@ def judge_signs() -> None:
     judge(sorted(listed) == sorted(crates), "crates/README.md: other crates:", ", ".join(sorted(set(listed) ^ set(crates))))
     early = [name for at, name in enumerate(listed) if set(edits.USES.get(name, [])) & set(listed[at:])]
     judge(not early, "crates/README.md: in front of what they use:", ", ".join(early))
-    tests = [name for name in crates if name.endswith("_tests")]
+    tests = [name for name in crates if name.endswith("_tests") or name.startswith(("rows_", "test_"))]
     judge(all(crates[name] == "Tests." for name in tests), "crates.txt: a crate of tests stands under another heading")
     for name in crates:
         page = f"crates/{name}/README.md"

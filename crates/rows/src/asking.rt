@@ -1,0 +1,65 @@
+//! What calls answer, and what becomes of rows.
+
+use crate::documents::Documents;
+use crate::escapes::escaped;
+use crate::reading::Row;
+use std::alloc::{AllocError, Global};
+
+/// The calls that rows name. A program of rows implements it.
+pub trait Calls {
+    /// What a call answers for these arguments, as rows spell it; `None` if there is no such call,
+    /// or if the arguments aren't what it takes. A call that reports that it is out of memory
+    /// answers `Err`.
+    fn answer(
+        &self,
+        alloc: Global,
+        documents: &Documents,
+        call: &str,
+        arguments: &[String],
+    ) -> Result<Option<String>, AllocError>;
+}
+
+/// What a row came to.
+#[derive(Debug, Drop)]
+pub(crate) enum Outcome {
+    /// The answer is the one that is wanted.
+    Right,
+    /// Another answer.
+    Wrong(String),
+    /// There is no such call, or the arguments aren't what it takes.
+    Unreadable,
+    /// The call was out of memory twice.
+    OutOfMemory,
+}
+
+/// What a row comes to. A call that is out of memory is asked once more.
+pub(crate) fn asked(
+    alloc: Global,
+    calls: &impl Calls,
+    documents: &Documents,
+    row: &Row,
+) -> Outcome {
+    let answer = match calls.answer(alloc, documents, row.call.as_str(), &row.arguments) {
+        Ok(answer) => Ok(answer),
+        Err(_) => calls.answer(alloc, documents, row.call.as_str(), &row.arguments),
+    };
+    match answer {
+        Ok(Some(answer)) if answer == row.wanted => Outcome::Right,
+        Ok(Some(answer)) => Outcome::Wrong(answer),
+        Ok(None) => Outcome::Unreadable,
+        Err(_) => Outcome::OutOfMemory,
+    }
+}
+
+/// What is printed below a row that isn't right.
+pub(crate) fn told(alloc: Global, outcome: &Outcome) -> Result<Option<String>, AllocError> {
+    match outcome {
+        Outcome::Right => Ok(None),
+        Outcome::Wrong(answer) => Ok(Some(escaped(alloc, answer.as_str())?)),
+        Outcome::Unreadable => Ok(Some(String::from_str(
+            alloc,
+            "there is no such call with such arguments",
+        )?)),
+        Outcome::OutOfMemory => Ok(Some(String::from_str(alloc, "out of memory, twice")?)),
+    }
+}

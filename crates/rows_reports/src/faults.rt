@@ -1,0 +1,96 @@
+//! Errors, as rows spell them.
+
+use crate::Answer;
+use decimal_lines::{TablesFault, TextError};
+use icu_tables::TableError;
+use locnum_forms::StartError;
+use locnum_options::OptionFault;
+use std::alloc::{AllocError, Global};
+
+/// The names of an error of tables, of the key and of the fault.
+fn refused(alloc: Global, error: TableError) -> Answer {
+    match error {
+        TableError::OutOfMemory => Err(AllocError),
+        TableError::Missing(key) => Ok(Some(format!(in alloc; "Missing {key:?}")?)),
+        TableError::WrongKind(key) => Ok(Some(format!(in alloc; "WrongKind {key:?}")?)),
+        TableError::Entry { key, index, fault } => Ok(Some(format!(in alloc;
+            "Entry {key:?} {index} {fault:?}"
+        )?)),
+        TableError::NotJson | TableError::Float => Ok(Some(format!(in alloc; "{error:?}")?)),
+    }
+}
+
+/// Why there is no form.
+pub(crate) fn no_form(alloc: Global, error: StartError) -> Answer {
+    match error {
+        StartError::OutOfMemory => Err(AllocError),
+        StartError::Refused(error) => refused(alloc, error),
+        StartError::NotUtf8 | StartError::NoData => Ok(Some(format!(in alloc; "{error:?}")?)),
+    }
+}
+
+/// Why tables are rejected.
+pub(crate) fn no_tables(alloc: Global, fault: TablesFault) -> Answer {
+    match fault {
+        TablesFault::Refused(error) => refused(alloc, error),
+        TablesFault::NotUtf8 => Ok(Some(format!(in alloc; "{fault:?}")?)),
+    }
+}
+
+/// Why a text isn't written.
+pub(crate) fn not_written(alloc: Global, error: TextError) -> Answer {
+    match error {
+        TextError::OutOfMemory => Err(AllocError),
+        _ => Ok(Some(format!(in alloc; "{error:?}")?)),
+    }
+}
+
+/// Why options are rejected.
+pub(crate) fn no_options(alloc: Global, fault: OptionFault) -> Answer {
+    match fault {
+        OptionFault::OutOfMemory => Err(AllocError),
+        _ => Ok(Some(format!(in alloc; "{fault:?}")?)),
+    }
+}
+
+/// The fault of options of a name.
+fn option_fault(name: &str) -> Option<OptionFault> {
+    match name {
+        "Locale" => Some(OptionFault::Locale),
+        "System" => Some(OptionFault::System),
+        "Accounting" => Some(OptionFault::Accounting),
+        "LongMoney" => Some(OptionFault::LongMoney),
+        "ShortMoney" => Some(OptionFault::ShortMoney),
+        "Together" => Some(OptionFault::Together),
+        "Explained" => Some(OptionFault::Explained),
+        "Fields" => Some(OptionFault::Fields),
+        "Names" => Some(OptionFault::Names),
+        "Header" => Some(OptionFault::Header),
+        "OutOfMemory" => Some(OptionFault::OutOfMemory),
+        _ => None,
+    }
+}
+
+/// The fault of tables of a name.
+fn tables_fault(name: &str) -> Option<TablesFault> {
+    match name {
+        "NotUtf8" => Some(TablesFault::NotUtf8),
+        "NotJson" => Some(TablesFault::Refused(TableError::NotJson)),
+        _ => None,
+    }
+}
+
+/// The text of a fault of options, or of tables.
+pub(crate) fn displayed(alloc: Global, kind: &str, name: &str) -> Answer {
+    match kind {
+        "OptionFault" => match option_fault(name) {
+            Some(fault) => Ok(Some(format!(in alloc; "{fault}")?)),
+            None => Ok(None),
+        },
+        "TablesFault" => match tables_fault(name) {
+            Some(fault) => Ok(Some(format!(in alloc; "{fault}")?)),
+            None => Ok(None),
+        },
+        _ => Ok(None),
+    }
+}

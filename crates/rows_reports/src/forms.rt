@@ -1,0 +1,202 @@
+//! Calls of `locnum_forms`, and what needs a form.
+
+use crate::bytes::{bytes_of, text_of};
+use crate::explanations::{Explained, explanation};
+use crate::faults::{no_form, not_written};
+use crate::lines::{ran, reported};
+use crate::options::{parsed, settings_of};
+use crate::words::{Pair, file_of, given, options_of};
+use crate::{Answer, lines, parts, records};
+use decimal_lines::Mode;
+use fixed_decimal::{Decimal, Sign};
+use locnum_forms::{Form, Formatter, Wanted};
+use locnum_lines::LineSettings;
+use rows::Documents;
+use std::alloc::{AllocError, Global};
+
+/// What is asked of a form.
+#[derive(Clone, Copy)]
+pub(crate) enum Question<'a> {
+    /// Whether there is one.
+    Made,
+    /// What it writes for a text.
+    Pushed(&'a str),
+    /// The same with its parts.
+    Marked(&'a str),
+    /// The decimal that it writes for a text.
+    Decimal(&'a str),
+    /// What writes.
+    Formatter,
+    /// What a run over an input leaves.
+    Run(&'a str),
+    /// What the report of a run says.
+    Report(&'a str),
+    /// An explanation.
+    Explained(Explained<'a>),
+}
+
+/// What `Form::push` answers; in front of an error stands what was written anyway.
+fn pushed(alloc: Global, form: &Form, text: &[u8]) -> Answer {
+    let mut out = Vec::new(alloc);
+    match form.push(alloc, text, &mut out) {
+        Ok(()) => Ok(Some(text_of(alloc, &out)?)),
+        Err(error) if out.is_empty() => not_written(alloc, error),
+        Err(_) => Ok(Some(text_of(alloc, &out)?)),
+    }
+}
+
+/// What `Form::mark` answers.
+fn marked(alloc: Global, form: &Form, text: &[u8]) -> Answer {
+    match form.mark(alloc, text) {
+        Ok(text) => Ok(Some(parts::spelled(alloc, &text)?)),
+        Err(error) => not_written(alloc, error),
+    }
+}
+
+/// Appends digits.
+fn push_digits(digits: &[u8], text: &mut String) -> Result<(), AllocError> {
+    for digit in digits {
+        text.push((b'0' + *digit % 10) as char)?;
+    }
+    Ok(())
+}
+
+/// A decimal as its sign, its digits and its point.
+fn decimal_text(alloc: Global, decimal: &Decimal) -> Result<String, AllocError> {
+    let mut text = String::new(alloc);
+    match decimal.sign {
+        Sign::None => {}
+        Sign::Negative => text.push('-')?,
+        Sign::Positive => text.push('+')?,
+    }
+    push_digits(decimal.absolute.integer(), &mut text)?;
+    let fraction = decimal.absolute.fraction();
+    if !fraction.is_empty() {
+        text.push('.')?;
+        push_digits(fraction, &mut text)?;
+    }
+    Ok(text)
+}
+
+/// What `Form::decimal` answers.
+fn decimal_of(alloc: Global, form: &Form, text: &[u8]) -> Answer {
+    match form.decimal(alloc, text) {
+        Ok(decimal) => Ok(Some(decimal_text(alloc, &decimal)?)),
+        Err(error) => not_written(alloc, error),
+    }
+}
+
+/// The name of a formatter.
+fn formatter_name(formatter: &Formatter) -> &'static str {
+    match formatter {
+        Formatter::Numbers(Mode::Plain(_)) => "Numbers Plain",
+        Formatter::Numbers(Mode::Compact(_)) => "Numbers Compact",
+        Formatter::Money(_) => "Money",
+        Formatter::MoneyNamed(_) => "MoneyNamed",
+        Formatter::MoneyShort(_) => "MoneyShort",
+        Formatter::Percent(_) => "Percent",
+        Formatter::Units(_) => "Units",
+    }
+}
+
+/// What a form answers.
+fn answer_of<'a>(
+    alloc: Global,
+    form: &Form,
+    (options, lines): (&'a [Pair<'a>], &LineSettings),
+    question: Question<'_>,
+) -> Answer {
+    match question {
+        Question::Made => Ok(Some(String::from_str(alloc, "made")?)),
+        Question::Pushed(text) => pushed(alloc, form, &bytes_of(alloc, text)?),
+        Question::Marked(text) => marked(alloc, form, &bytes_of(alloc, text)?),
+        Question::Decimal(text) => decimal_of(alloc, form, &bytes_of(alloc, text)?),
+        Question::Formatter => Ok(Some(String::from_str(alloc, formatter_name(form.formatter()))?)),
+        Question::Run(input) => ran(alloc, form, lines, &bytes_of(alloc, input)?),
+        Question::Report(input) => reported(alloc, form, lines, &bytes_of(alloc, input)?),
+        Question::Explained(asked) => explanation(alloc, form, &given(options), asked),
+    }
+}
+
+/// What the form of a file answers. No other function has a form of its own, since all that it may
+/// hold is gone through where it is given back.
+fn by_form<'a>(
+    alloc: Global,
+    wanted: &Wanted<'_>,
+    file: &[u8],
+    asked: (&'a [Pair<'a>], &LineSettings),
+    question: Question<'_>,
+) -> Answer {
+    match Form::make(alloc, wanted, file) {
+        Ok(form) => answer_of(alloc, &form, asked, question),
+        Err(error) => no_form(alloc, error),
+    }
+}
+
+/// What the form of a file and of options answers.
+fn by_options<'a>(
+    alloc: Global,
+    options: &'a [Pair<'a>],
+    file: &[u8],
+    question: Question<'_>,
+) -> Answer {
+    match settings_of(alloc, options)? {
+        Some(settings) => {
+            let asked = (options, &settings.lines);
+            by_form(alloc, &settings.wanted, file, asked, question)
+        }
+        None => Ok(None),
+    }
+}
+
+/// The same for the file of a word.
+fn by_file<'a>(
+    alloc: Global,
+    documents: &Documents,
+    options: &'a [Pair<'a>],
+    word: &str,
+    question: Question<'_>,
+) -> Answer {
+    match file_of(alloc, documents, word)? {
+        Some(file) => by_options(alloc, options, &file, question),
+        None => Ok(None),
+    }
+}
+
+/// What a call asks of a form by these words.
+fn question_of<'a>(call: &str, words: &'a [String]) -> Option<Question<'a>> {
+    match (call, words) {
+        ("make", []) => Some(Question::Made),
+        ("push", [text]) => Some(Question::Pushed(text.as_str())),
+        ("mark", [text]) => Some(Question::Marked(text.as_str())),
+        ("decimal", [text]) => Some(Question::Decimal(text.as_str())),
+        ("formatter", []) => Some(Question::Formatter),
+        ("run", [input]) => Some(Question::Run(input.as_str())),
+        ("report", [input]) => Some(Question::Report(input.as_str())),
+        _ => Some(Question::Explained(Explained::of(call, words)?)),
+    }
+}
+
+/// What a call answers whose arguments end in options.
+pub(crate) fn answer(
+    alloc: Global,
+    documents: &Documents,
+    call: &str,
+    words: &[String],
+    options: &[String],
+) -> Answer {
+    let Some(options) = options_of(alloc, options)? else {
+        return Ok(None);
+    };
+    match call {
+        "parse_options" => parsed(alloc, words, &options),
+        "find" | "is_open" | "behind_mark" => records::answer(alloc, call, words, &options),
+        _ => match words.split_first() {
+            Some((file, words)) => match question_of(call, words) {
+                Some(question) => by_file(alloc, documents, &options, file.as_str(), question),
+                None => Ok(None),
+            },
+            None => Ok(None),
+        },
+    }
+}

@@ -1,0 +1,46 @@
+//! Rows of options, forms, lines and explanations.
+#![tactic(auto)]
+
+mod bytes;
+mod explanations;
+mod faults;
+mod forms;
+mod lines;
+mod modes;
+mod options;
+mod parts;
+mod pieces;
+mod records;
+mod rooms;
+mod slow;
+mod words;
+
+use rows::{Calls, Documents};
+use std::alloc::{AllocError, Global};
+use std::io;
+
+/// What a call answers, if there is such a call with such arguments.
+pub(crate) type Answer = Result<Option<String>, AllocError>;
+
+/// The calls of the crates that make reports, and of those that `locnum` stands on.
+struct Reports;
+
+impl Calls for Reports {
+    fn answer(
+        &self,
+        alloc: Global,
+        documents: &Documents,
+        call: &str,
+        arguments: &[String],
+    ) -> Result<Option<String>, AllocError> {
+        let (given, options) = words::cut_at_options(arguments);
+        match forms::answer(alloc, documents, call, given, options)? {
+            Some(answer) => Ok(Some(answer)),
+            None => modes::answer(alloc, documents, call, arguments),
+        }
+    }
+}
+
+fn main(rt: HostRuntime) -> io::Result<()> {
+    rows::run(&rt, &Reports)
+}

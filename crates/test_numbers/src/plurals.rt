@@ -1,0 +1,3 @@
+//! Rules from a provider.
+mod loading;
+mod plural;

@@ -1,0 +1,4 @@
+//! Lines with numbers in their fields.
+
+mod failing;
+mod running;
