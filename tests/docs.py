@@ -15,7 +15,7 @@ it; --map the files of specs/ and proofs/, with what each says and who uses it. 
   made from these files, and each such file has a comment at its head.
 - The table of docs/TESTING.md that lists the files of rows is made from the comments at their heads.
 - Each path in a code span of a page is one of the repository's.
-- Each block of Rust code of README.md, docs/LIBRARY.md and of the pages of icu_provider and tour stands so in a source of the crates; the
+- Each block of Rust code of README.md, docs/LIBRARY.md and of the pages of icu_provider and examples stands so in a source of the crates; the
   example at the head of each library stands in the program crates/examples.
 - The version of include/talmuiga.h, of the Python package and of docs/talmuiga.3 is that of VERSION, and CHANGELOG.md begins
   with it.
@@ -27,20 +27,19 @@ it; --map the files of specs/ and proofs/, with what each says and who uses it. 
   letter, whether it takes a text or a file, and the words among which it chooses, and no other; so the table of its page
   has their names. That of bash is run: it offers just these options, words and files. Those of zsh and fish are read. The
   manual page has the statuses and examples of the page too.
-- The sample tables that rows name and the text in crates/sample_tables are tables/sample.json, byte for byte, and the text in
-  crates/locnum is that of tables/english.json. The languages of icu_decimal_tests, whose tables are maps in code, have the
-  patterns and plural rules of the sample tables.
+- The sample tables that rows name are tables/sample.json, byte for byte, and the text in crates/locnum is that of
+  tables/english.json.
 - crates.txt has each crate under a heading, crates/README.md has each behind those that it uses, and the page of each crate says in a line `Tests: ..` where its tests stand.
 - No page has a word of the last column of CONTRIBUTING.md's table of terms, outside of code.
 - No line of specs/ and proofs/ is longer than 160 bytes, and none of a clause than 100 characters.
 - No source of a crate has more than 400 lines.
 - The whole file that docs/FORMATS.md begins with is read by both programs.
-- Each command that README.md and the page of tour show behind `$` gives the output below it, also on a terminal at which
+- Each command that README.md and the page of examples show behind `$` gives the output below it, also on a terminal at which
   nobody types; those of README.md and docs/BUILDING.md that build the program and run it have their input from a pipe or a
   file. Their commands that build a program unproved write what stands below each, that of README stands in front of all
   others, and README's commands by a release of CLDR, where Debian's package of it is there, write what README quotes. Each row of README's
   table of locales is what the program writes. This needs crates/decfmt/out/decfmt, crates/locnum/out/locnum and
-  crates/tour/out/tour, as `rt run` and `rt ci` build them.
+  crates/examples/out/examples, as `rt run` and `rt ci` build them.
 
 The last line is 'N passed, M failed', one for each page's links, each page that is made, each block and example, each place
 of the version, each picture, the packages, the toolchain, each status, word and example of the manual pages, each option of
@@ -76,8 +75,6 @@ def judge_all(is_writing: bool) -> int:
     manuals.judge_manual()
     manuals.judge_options()
     sources.judge_sample()
-    sources.judge_sample_text()
-    sources.judge_languages()
     sources.judge_english()
     sources.judge_signs()
     sources.judge_widths()

@@ -9,8 +9,10 @@ A mutation is a file of lines `file: PATH`, `old: TEXT`, `new: TEXT`, as `rt` re
     shown: CRATE TEST           this test of the crate has to fail on the edited program, unproved (`rt try --test`).
     shown: PROGRAM FILE ROW     this row of crates/PROGRAM/data/FILE has to be printed by the program of rows on the edited
                                 sources, unproved (`rt try`). ROW is the call with its arguments, as they stand once in FILE.
+    unpromised: WHY             no contract speaks of what the edit changes, so that the crate is still proved; a test or a row
+                                shows it.
 
-Each mutation of the inner set, must-fail/, has one of the two at least. One of the outer set, edits/, that has none is
+Each mutation of the inner set, must-fail/, has one of the first two at least. One of the outer set, edits/, that has none is
 rejected at some goal, as `rt ci` sees those of the inner set rejected. A control, edits/controls/, changes no meaning:
 it has to be proved, or says by a line `fragile: WHY` that the written answers don't survive it.
 
@@ -43,6 +45,10 @@ BY_PROVER, BY_TESTS = "", "/shown"
 PLACE = re.compile(r"(note: )?\S+:\d+:\d+:")
 MISSING_NAME = re.compile(r"(\./)?proofs/.*(has no field|is not in scope|has no `|was not admitted)")
 UNREAD = re.compile(r"(\./)?(src|specs)/\S+:\d+:\d+: error(\[\S+\])?: (?!`)")
+# What isn't seen by the prover when it tries an edit.
+NO_PART = re.compile(rf"/{CONTROLS}/|/src/tests(?:\.rt$|/)")
+# What a source uses of its crate.
+USED = re.compile(r"\bcrate::((?:\w+::)*\w+)")
 OPEN_GOAL = re.compile(r"note: (?:\./)?src/(\S+)\.rt:\d+:\d+: it is not proved that .*?\(`([^`]+)`\)")
 
 
@@ -77,6 +83,7 @@ class Edit:
     refused: list[tuple[str, ...]] = dataclasses.field(default_factory=list)
     shown: list[tuple[str, str]] = dataclasses.field(default_factory=list)
     fragile: str = ""
+    unpromised: str = ""
 
     @property
     def name(self) -> str:
@@ -111,6 +118,8 @@ def read_edit(crate: str, circle: str, path: str) -> Edit:
             edit.shown.append((crate_of_tests, test))
         elif key == "fragile":
             edit.fragile = text
+        elif key == "unpromised":
+            edit.unpromised = text
     return edit
 
 
@@ -177,9 +186,9 @@ def words_of_check(crate: str, kit: str) -> list[str]:
 # Hashes
 
 def files_of(*folders: str) -> list[str]:
-    """The files below some folders of the repository, in the order of their paths, without the controls."""
+    """The files below some folders of the repository, in the order of their paths, without the controls and a crate's own tests."""
     found = [path for folder in folders for path in glob.glob(f"{folder}/**", root_dir=ROOT, recursive=True)]
-    return sorted(path for path in found if os.path.isfile(os.path.join(ROOT, path)) and f"/{CONTROLS}/" not in path)
+    return sorted(path for path in found if os.path.isfile(os.path.join(ROOT, path)) and not NO_PART.search(path))
 
 
 def add(into: Hash, paths: Iterable[str]) -> None:
@@ -197,11 +206,26 @@ def add_contracts(into: Hash, crate: str, *circles: str) -> None:
     into.update("".join(f"{text}\n" for text in texts).encode())
 
 
-def add_rows(into: Hash, rows: Sequence[tuple[str, str]]) -> None:
-    """Adds rows of programs to a hash, and the documents that rows may name; no other row, so that it can be added freely."""
-    add(into, [path for program in sorted({program for program, _ in rows}) for path in documents_of(program)])
-    for program, row in rows:
-        into.update(f"{program} {[line for _, line in lines_of_row(program, row)]}\n".encode())
+def add_row(into: Hash, program: str, row: str) -> None:
+    """Adds a row of a program to a hash, and the documents that it names; no other row, so that it can be added freely, and not
+    the program, which tests/rows.py tries."""
+    words = set(row.split())
+    add(into, [path for path in documents_of(program) if os.path.basename(path) in words])
+    into.update(f"{program} {[line for _, line in lines_of_row(program, row)]}\n".encode())
+
+
+def sources_of_test(crate: str, test: str) -> list[str]:
+    """The sources that stand on a test's path in its crate, and those of the crate that they use."""
+    found: set[str] = set()
+    waiting = [test.split("::")[:-1]]
+    while waiting:
+        names = waiting.pop()
+        for last in range(1, len(names) + 1):
+            path = f"crates/{crate}/src/{'/'.join(names[:last])}.rt"
+            if path not in found and os.path.exists(os.path.join(ROOT, path)):
+                found.add(path)
+                waiting += [used.split("::") for used in USED.findall(read(os.path.join(ROOT, path)))]
+    return sorted(found)
 
 
 def add_edits(into: Hash, crate: str, circle: str, seen_by: str) -> None:
@@ -221,9 +245,11 @@ def hash_of(crate: str, circle: str, seen_by: str, logic: str) -> str:
     add_edits(into, crate, circle, seen_by)
     add_contracts(into, crate, circle)
     if seen_by == BY_TESTS:
-        shown = sorted({shown for edit in edits_of(crate, circle) for shown in edit.shown})
-        add(into, files_of(*sorted({f"crates/{tests}/src" for tests, _ in shown})))
-        add_rows(into, [(tests, test) for tests, test in shown if is_of_rows(tests)])
+        for tests, test in sorted({shown for edit in edits_of(crate, circle) for shown in edit.shown}):
+            if is_of_rows(tests):
+                add_row(into, tests, test)
+            else:
+                add(into, sources_of_test(tests, test))
     elif has_controls(crate, circle):
         add(into, [os.path.relpath(edit.path, ROOT) for edit in edits_of(crate, CONTROLS)])
     return into.hexdigest()
@@ -414,6 +440,9 @@ def faults_by_prover(edit: Edit, said: str) -> list[str]:
         if is_proved == bool(edit.fragile):
             return [f"it is {'proved' if is_proved else 'not proved'}, and has {'a' if edit.fragile else 'no'} line 'fragile:'"]
         return []
+    if edit.unpromised:
+        is_as_told = said.endswith("\n0") and bool(edit.shown) and not edit.refused
+        return [] if is_as_told else ["it is refused, or no test and no row shows it, and it has a line 'unpromised:'"]
     found = [why_not_refused(said)]
     if edit.circle == INNER and not (edit.refused or edit.shown):
         found.append("it names neither a clause that refuses it nor a test that shows it")

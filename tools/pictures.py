@@ -234,9 +234,9 @@ def crates_picture() -> str:
             drawn.append(arrow_head(x[lower], to_y, x[lower] - x[upper], to_y - from_y))
     for bend in (node for node in x if not isinstance(node, str)):
         drawn.append(line(x[bend], y[bend], x[bend], y[bend] + height, GREY, 1.3))
-    kinds = {"decfmt": "#dbeafe", "talmuiga_c": "#dbeafe", "tour": "#dbeafe", "examples": "#dbeafe"}
+    kinds = {"decfmt": "#dbeafe", "talmuiga_c": "#dbeafe", "examples": "#dbeafe"}
     for name in uses:
-        fill = "#f3f4f6" if name.endswith("_tests") or name.startswith(("rows", "test_", "sample_tables")) else kinds.get(name, "#dcfce7")
+        fill = "#f3f4f6" if name.startswith(("rows", "test_")) else kinds.get(name, "#dcfce7")
         drawn.append(box(x[name] - width[name] / 2, y[name], width[name], height, fill))
         drawn.append(text(x[name], y[name] + 20, name, size, "middle", family=MONO))
     base = 16 + len(rows) * step

@@ -7,7 +7,7 @@ from collections.abc import Iterator
 
 from pages.judging import PROGRAM, REPORTS, found, judge, output_of, read, typed
 
-SHOWING = ["README.md", "docs/LIBRARY.md", "crates/icu_provider/README.md", "crates/tour/README.md"]
+SHOWING = ["README.md", "docs/LIBRARY.md", "crates/icu_provider/README.md", "crates/examples/README.md"]
 BUILDING = ["README.md", "docs/BUILDING.md"]
 # Where Debian's package unicode-cldr-core has a release of CLDR.
 RELEASE = "/usr/share/unicode/cldr"

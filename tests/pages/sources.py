@@ -1,5 +1,4 @@
 """What stands in two places: the version, texts of tables, packages; crates.txt with its pages; widths of lines."""
-import json
 import os
 import re
 import subprocess
@@ -12,15 +11,7 @@ sys.path.insert(0, os.path.join(ROOT, "tools"))
 import pictures  # noqa: E402
 
 # The folders in which rows name the sample tables.
-SAMPLES = ("crates/rows_reports/data",)
-# The languages of icu_decimal_tests that are in tables/sample.json: style, locale, and the name of their plural rules.
-LANGUAGES = {
-    "SHORT_ENGLISH": ("short", "en", "ENGLISH_RULES"),
-    "LONG_ENGLISH": ("long", "en", "ENGLISH_RULES"),
-    "LONG_FRENCH": ("long", "fr", "FRENCH_RULES"),
-    "LONG_BANGLA": ("long", "bn", None),
-    "LONG_JAPANESE": ("long", "ja", None),
-}
+SAMPLES = ("crates/rows_formats/data", "crates/rows_reports/data")
 
 
 def judge_version() -> None:
@@ -76,14 +67,6 @@ def judge_sample() -> None:
         judge(same, f"{folder}/sample.json: isn't tables/sample.json")
 
 
-def judge_sample_text() -> None:
-    """The constant that tests read has the bytes of the file."""
-    source = read_exactly("crates/sample_tables/src/lib.rt")
-    literal = re.search(r'^pub const SAMPLE: &str = "((?:[^"\\]|\\["\\])*)";$', source, flags=re.M)
-    text = re.sub(r"\\(.)", r"\1", literal.group(1)) if literal else None
-    judge(text == read_exactly("tables/sample.json"), "crates/sample_tables: isn't the text of tables/sample.json")
-
-
 def judge_english() -> None:
     """The constant of the program locnum has the bytes of the file."""
     literal = re.search(r'= "((?:[^"\\]|\\["\\])*)";$', read_exactly("crates/locnum/src/english.rt"), flags=re.M)
@@ -105,7 +88,7 @@ def judge_signs() -> None:
     judge(sorted(listed) == sorted(crates), "crates/README.md: other crates:", ", ".join(sorted(set(listed) ^ set(crates))))
     early = [name for at, name in enumerate(listed) if set(edits.USES.get(name, [])) & set(listed[at:])]
     judge(not early, "crates/README.md: in front of what they use:", ", ".join(early))
-    tests = [name for name in crates if name.endswith("_tests") or name.startswith(("rows_", "test_"))]
+    tests = [name for name in crates if name.startswith(("rows_", "test_"))]
     judge(all(crates[name] == "Tests." for name in tests), "crates.txt: a crate of tests stands under another heading")
     for name in crates:
         page = f"crates/{name}/README.md"
@@ -138,26 +121,3 @@ def judge_lengths() -> None:
         counts = {path: len(read(path).splitlines()) for path in found(f"crates/{crate}/src/**/*.rt")}
         long = [f"{path}: {count}" for path, count in counts.items() if count > 400]
         judge(not long, f"crates/{crate}: sources have more than 400 lines:", "; ".join(long))
-
-
-def elements_of(exactly_one: str | None, one: str | None, other: str) -> dict[str, str]:
-    """The elements of a row of icu_decimal_tests, as tables have them."""
-    elements = {"explicit_one": exactly_one, "one": one and "{0}" + one, "other": "{0}" + other}
-    return {name: text for name, text in elements.items() if text is not None}
-
-
-def judge_languages() -> None:
-    """The languages of icu_decimal_tests, whose tables are maps in code, say what tables/sample.json says of them."""
-    text = read("crates/icu_decimal_tests/src/languages.rt")
-    sample = json.loads(read("tables/sample.json"))
-    optional = r'(?:None|Some\("([^"]*)"\))'
-    for name, (style, locale, rules) in LANGUAGES.items():
-        constant = re.findall(rf"const {name}_ROWS: .*?= &\[(.*?)^\];", text, flags=re.M | re.S)[0]
-        rows = re.findall(rf'\((\d+), (\d+), {optional}, {optional}, "([^"]*)"\)', constant)
-        told = [[int(row[0]), int(row[1]), elements_of(row[2] or None, row[3] or None, row[4])] for row in rows]
-        constant = re.findall(rf"const {rules}: .*?= &\[(.*?)\];", text, flags=re.S)[0] if rules else ""
-        conditions = re.findall(r'PluralCategory::(\w+),\s*"([^"]*)"', constant)
-        wanted = [entry["patterns"] for entry in sample[style] if entry["locale"] == locale]
-        wanted += [[tuple(rule) for rule in entry["rules"]] for entry in sample["rules"] if entry["locale"] == locale]
-        given = [told, [(category.lower(), condition) for category, condition in conditions]]
-        judge(given == wanted, f"crates/icu_decimal_tests: {name}: isn't what tables/sample.json has")

@@ -1,5 +1,7 @@
-//! The examples of the libraries' first pages, one function for each library.
+//! A tour of the libraries, and the examples of their first pages, one function for each library.
 #![tactic(auto)]
+
+mod tour;
 
 use decimal_lines::{Mode, format_lines};
 use fixed_decimal::{Decimal, Sign};
@@ -231,8 +233,9 @@ fn of_decimal_lines(rt: &HostRuntime) -> Option<()> {
     print!(rt; "{text}").ok()
 }
 
-/// All examples; none where memory or standard output is wanting.
+/// The tour and all examples; none where memory or standard output is wanting.
 fn print_all(rt: &HostRuntime) -> Option<()> {
+    tour::print_all(rt)?;
     of_fixed_decimal(rt)?;
     of_writeable(rt)?;
     of_icu_pattern(rt)?;

@@ -30,8 +30,6 @@ mod loading;
 pub mod parts;
 pub mod provider;
 mod sealed;
-#[cfg(test)]
-mod tests;
 
 /// What a formatter takes.
 pub mod input {

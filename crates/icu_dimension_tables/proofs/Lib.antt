@@ -1,2 +1,5 @@
+pub mod PatternFaults
+pub mod CompactRows
+pub mod Repeated
 pub mod Splits
 pub mod Filed

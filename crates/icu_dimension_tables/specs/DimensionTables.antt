@@ -5,7 +5,7 @@ use Rattle.icu_decimal_data.specs.declared.decimal_symbols.DecimalSymbols.{Decim
 use Rattle.icu_dimension.specs.CurrencyData.{MoneyPatterns}
 use Rattle.icu_dimension_data.specs.Digits.{Digits}
 use Rattle.icu_dimension_data.specs.Resolved.{Signed}
-use Rattle.icu_dimension_patterns.specs.CurrencyCompact.{currency_compact_at}
+use Rattle.icu_dimension_tables.specs.CurrencyCompact.{currency_compact_at}
 use Rattle.icu_dimension_tables.specs.CurrencyDigits.{currency_digits_under}
 use Rattle.icu_dimension_tables.specs.CurrencySymbols.{LocaleCurrencies, currency_symbols_at}
 use Rattle.icu_dimension_tables.specs.Money.{currencies_at, patterns_filed, places_filed}

@@ -1,3 +1,8 @@
+pub mod NumberPatterns
+pub mod ByCategory
+pub mod MoneyPattern
+pub mod CurrencyCompact
+pub mod SignTexts
 pub mod NamePlaces
 pub mod CurrencyDigits
 pub mod Percents

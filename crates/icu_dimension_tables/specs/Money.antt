@@ -2,9 +2,9 @@
 use Rattle.std.specs.Prelude.{ℕ, List, Option, Some, None, Result, Ok, map}
 use Rattle.serde_json.specs.Data.{Data}
 use Rattle.icu_dimension.specs.CurrencyData.{MoneyPatterns}
-use Rattle.icu_dimension_patterns.specs.ByCategory.{elements_read}
-use Rattle.icu_dimension_patterns.specs.SignTexts.{sign_text_of}
-use Rattle.icu_dimension_patterns.specs.MoneyPattern.{money_pattern_of}
+use Rattle.icu_dimension_tables.specs.ByCategory.{elements_read}
+use Rattle.icu_dimension_tables.specs.SignTexts.{sign_text_of}
+use Rattle.icu_dimension_tables.specs.MoneyPattern.{money_pattern_of}
 use Rattle.icu_dimension_tables.specs.NamePlaces.{NamePlaces, name_places_of}
 use Rattle.icu_plurals.specs.Elements.{Elements}
 use Rattle.icu_table_entries.specs.CategoryTexts.{category_texts_in}

@@ -2,8 +2,8 @@
 use Rattle.std.specs.Prelude.{Result, Ok, codes}
 use Rattle.serde_json.specs.Data.{Data}
 use Rattle.icu_dimension_data.specs.Resolved.{Signed, Texts, resolved}
-use Rattle.icu_dimension_patterns.specs.MoneyPattern.{percent_pattern_of}
-use Rattle.icu_dimension_patterns.specs.SignTexts.{sign_text_of}
+use Rattle.icu_dimension_tables.specs.MoneyPattern.{percent_pattern_of}
+use Rattle.icu_dimension_tables.specs.SignTexts.{sign_text_of}
 use Rattle.writeable.specs.Events.{ascii_characters}
 use Rattle.icu_table_entries.specs.Named.{NamedEntry, identifier_from}
 use Rattle.icu_table_entries.specs.Reading.{◌>>=◌, object_in, optional_at, text_at, text_in}

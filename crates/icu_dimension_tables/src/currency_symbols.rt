@@ -7,11 +7,11 @@ ghost use Rattle.icu_table_entries.specs.Reading.{Gives};
 ghost use Rattle.icu_dimension_tables.specs.CurrencySymbols.{currency_row_at, currency_rows_at, row_filed, row_in, row_of_code, rows_of_locale};
 ghost use Rattle.icu_provider.specs.Identifier.{identifier_of};
 
+use crate::by_category::texts_in;
 use crate::currency_digits::currency_code_of;
 use crate::currency_names::{CurrencyName, names_given};
 use icu_dimension::provider::CurrencySymbols;
 use icu_dimension_data::CurrencyCode;
-use icu_dimension_patterns::by_category::texts_in;
 use icu_plurals::PluralElements;
 use icu_provider::{DataError, DataErrorKind, DataIdentifierBorrowed, DataLocale};
 use icu_table_entries::entries::EntryKind;

@@ -1,14 +1,19 @@
 //! The data of formatters of money, percents and units, read from JSON.
 #![tactic(auto)]
 
+mod by_category;
 mod copying;
+mod currency_compact;
 mod currency_digits;
 mod currency_names;
 mod currency_symbols;
 mod money;
+mod money_pattern;
 mod name_places;
+mod number_patterns;
 mod percents;
 mod provider;
+mod sign_texts;
 mod tables;
 mod units;
 

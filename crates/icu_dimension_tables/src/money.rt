@@ -8,12 +8,12 @@ ghost use Rattle.icu_table_entries.specs.Named.{first_filed};
 ghost use Rattle.icu_table_entries.specs.Reading.{Gives};
 ghost use Rattle.icu_dimension_tables.specs.Money.{money_patterns_of, money_texts_at, patterns_filed, places_filed, places_of};
 
+use crate::by_category::elements_read;
+use crate::money_pattern::money_pattern_of;
 use crate::name_places::{NamePattern, NamePlaces};
+use crate::sign_texts::sign_text_of;
 use icu_dimension::provider::CurrencyPatterns;
 use icu_dimension_data::CldrPattern;
-use icu_dimension_patterns::by_category::elements_read;
-use icu_dimension_patterns::money_pattern::money_pattern_of;
-use icu_dimension_patterns::sign_texts::sign_text_of;
 use icu_plurals::PluralElements;
 use icu_provider::{DataError, DataErrorKind, DataIdentifierBorrowed, DataLocale};
 use icu_table_entries::entries::EntryKind;

@@ -4,7 +4,7 @@ ghost use Rattle.std.specs.Prelude.{◌≡◌, ◌<◌, IfOk, option_map, length
 ghost use Rattle.icu_table_entries.specs.Reading.{Gives};
 ghost use Rattle.icu_dimension_tables.specs.NamePlaces.{name_places_of, places_in, sides_of, split_at};
 
-use icu_dimension_patterns::by_category::TextKind;
+use crate::by_category::TextKind;
 use icu_table_entries::{EntryFault, Place, TableError};
 use std::alloc::{AllocError, Global};
 use std::marker::Model;

@@ -5,9 +5,9 @@ ghost use Rattle.icu_dimension_data.specs.Given.{texts_given};
 ghost use Rattle.icu_table_entries.specs.Reading.{Gives};
 ghost use Rattle.icu_dimension_tables.specs.Percents.{percent_texts_at, percent_texts_of};
 
+use crate::money_pattern::percent_pattern_of;
+use crate::sign_texts::judge_sign;
 use icu_dimension_data::{AffixTexts, SignedPatterns};
-use icu_dimension_patterns::money_pattern::percent_pattern_of;
-use icu_dimension_patterns::sign_texts::judge_sign;
 use icu_provider::DataLocale;
 use icu_table_entries::entries::EntryKind;
 use icu_table_entries::fields::{object_in, optional_text_at, text_at};

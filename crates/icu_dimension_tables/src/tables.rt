@@ -4,6 +4,7 @@ ghost use Rattle.serde_json.specs.View.{view};
 ghost use Rattle.icu_table_entries.specs.Reading.{Gives};
 ghost use Rattle.icu_dimension_tables.specs.DimensionTables.{dimension_tables_at, dimension_tables_of};
 
+use crate::currency_compact::CurrencyCompactEntry;
 use crate::currency_digits::currency_digits_under;
 use crate::currency_symbols::{CurrencySymbolsEntry, LocaleCurrencies};
 use crate::money::{CurrenciesEntry, LocaleMoney};
@@ -11,7 +12,6 @@ use crate::percents::PercentsEntry;
 use crate::units::{UnitEntry, UnitPatterns};
 use icu_decimal_data::DecimalSymbols;
 use icu_dimension_data::{CompactRows, CurrencyDigits, SignedPatterns};
-use icu_dimension_patterns::currency_compact::CurrencyCompactEntry;
 use icu_table_entries::entries::optional_entries;
 use icu_table_entries::fields::object_in;
 use icu_table_entries::named::NamedEntry;

@@ -6,8 +6,7 @@ use crate::held::{
 use crate::near::push_nearest;
 use icu_dimension_data::CurrencyCode;
 use icu_provider::NumberingSystem;
-use locnum_forms::{Kind, UnitWidth, Wanted};
-use locnum_notes::push_reported;
+use locnum_forms::{Kind, UnitWidth, Wanted, push_reported};
 use serde_json::Value;
 use std::alloc::{AllocError, Global};
 

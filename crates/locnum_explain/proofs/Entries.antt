@@ -23,9 +23,9 @@ use Rattle.icu_decimal.proofs.DisplayedOnce.{displayed_is_one}
 use Rattle.icu_decimal.proofs.PowerPlaces.{place_is}
 use Rattle.decimal_lines.proofs.Displaying.{number-displayed}
 use Rattle.decimal_lines.specs.Computed.{nearest_number, significand_shown}
-use Rattle.explained_lines.specs.Around.{around_line}
-use Rattle.explained_lines.specs.Facts.{entry_line, pattern_line}
-use Rattle.explained_lines.specs.Operands.{operands_line}
+use Rattle.locnum_explain.specs.Around.{around_line}
+use Rattle.locnum_explain.specs.Facts.{entry_line, pattern_line}
+use Rattle.locnum_explain.specs.Operands.{operands_line}
 use Rattle.locnum_explain.specs.Compact.{displayed_lines, entry_lines, showable_line}
 
 -- the pattern of an entry that there is

@@ -1,6 +1,9 @@
+pub mod EntryTexts
+pub mod WholeNumbers
+pub mod Below
 pub mod Entries
 pub mod Between
-pub mod Facts
+pub mod CompactFacts
 pub mod Lines
 pub mod Appended
 pub mod Marks

@@ -10,9 +10,9 @@ use Rattle.icu_dimension_data.specs.Resolved.{Signed}
 use Rattle.icu_dimension.specs.CompactMoney.{CompactMoney, entry_shown, formatter_of}
 use Rattle.decimal_lines.specs.Computed.{nearest_number, significand_shown}
 use Rattle.locnum_forms.specs.CompactMoney.{compacted}
-use Rattle.explained_lines.specs.Around.{around_line}
-use Rattle.explained_lines.specs.Facts.{entry_line, pattern_line}
-use Rattle.explained_lines.specs.Operands.{operands_line}
+use Rattle.locnum_explain.specs.Around.{around_line}
+use Rattle.locnum_explain.specs.Facts.{entry_line, pattern_line}
+use Rattle.locnum_explain.specs.Operands.{operands_line}
 use Rattle.locnum_explain.specs.Patterns.{signed_line}
 
 -- the entry of a table for the magnitude at a place, and the operands, the category and the pattern of a significand

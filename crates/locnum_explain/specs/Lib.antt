@@ -1,3 +1,8 @@
+pub mod Columns
+pub mod Parts
+pub mod Facts
+pub mod Operands
+pub mod Around
 pub mod Compact
 pub mod Lines
 pub mod Marks

@@ -8,16 +8,16 @@ use Rattle.decimal_lines.specs.Alone.{decimal_read}
 use Rattle.decimal_lines.specs.declared.alone.TextError.{TextError}
 use Rattle.decimal_lines.specs.declared.alone.TextError.TheVariants.{NotDecimal, TooManyDigits, Overflow, OutOfMemory}
 use Rattle.decimal_lines.specs.declared.mode.Mode.TheVariants.{Plain, Compact}
-use Rattle.explained_lines.specs.Facts.{magnitude_line}
-use Rattle.explained_lines.specs.Operands.{operands_line}
-use Rattle.explained_lines.specs.Parts.{parts_lines}
 use Rattle.locnum_forms.specs.Decimals.{decimal_written}
 use Rattle.locnum_forms.specs.Forms.{FormData, form_events}
 use Rattle.locnum_forms.specs.declared.form.Formatter.{Formatter}
 use Rattle.locnum_forms.specs.declared.form.Formatter.TheVariants.{Numbers, Money, MoneyNamed, MoneyShort, Percent, Units}
-use Rattle.locnum_notes.specs.Reported.{reported}
+use Rattle.locnum_forms.specs.Reported.{reported}
 use Rattle.locnum_explain.specs.declared.settings.DigitsBy.{DigitsBy}
 use Rattle.locnum_explain.specs.declared.settings.Settings.{Settings}
+use Rattle.locnum_explain.specs.Facts.{magnitude_line}
+use Rattle.locnum_explain.specs.Operands.{operands_line}
+use Rattle.locnum_explain.specs.Parts.{parts_lines}
 use Rattle.locnum_explain.specs.Rounding.{rounding_lines}
 use Rattle.locnum_explain.specs.Compact.{amount_facts, compact_facts}
 use Rattle.locnum_explain.specs.Marks.{marks_of}

@@ -6,11 +6,13 @@ ghost use Rattle.fixed_decimal.specs.Unsigned.{IsUnsigned};
 ghost use Rattle.icu_decimal_data.specs.CompactTable.{IsCompactTable, IsIndex, entry_at};
 ghost use Rattle.icu_decimal.specs.CompactFormat.{magnitude_with, pattern_of, significand_of};
 ghost use Rattle.icu_decimal.specs.CompactNumber.{rounding_place};
-ghost use Rattle.explained_lines.specs.Facts.{pattern_line};
+ghost use Rattle.locnum_explain.specs.Facts.{pattern_line};
 ghost use Rattle.locnum_explain.specs.Compact.{amount_facts, compact_facts, entry_lines, frame_for, frame_line, showable_line};
 
+use crate::around::push_around;
+use crate::facts::{push_entry, push_pattern};
+use crate::operands::push_operands;
 use crate::patterns::push_signed;
-use explained_lines::{push_around, push_entry, push_operands, push_pattern};
 use fixed_decimal::{Decimal, Sign, UnsignedDecimal};
 use icu_decimal::error::FormatError;
 use icu_decimal::{CompactDecimalFormatter, FormattedUnsignedCompactDecimal};
@@ -21,7 +23,7 @@ use std::alloc::{AllocError, Global};
 
 /// Appends the line of the pattern of an entry for a significand; of the number alone without an
 /// entry.
-#[tactic(auto, unfolding(explained_lines::specs::Facts::pattern_line, explained_lines::specs::Facts::placed_line))]
+#[tactic(auto, unfolding(crate::specs::Facts::pattern_line, crate::specs::Facts::placed_line))]
 fn push_pattern_at(
     formatter: &CompactDecimalFormatter,
     index: Option<usize>,

@@ -9,17 +9,17 @@ ghost use Rattle.locnum_forms.specs.declared.form.Formatter.TheVariants.{MoneyNa
 ghost use Rattle.locnum_explain.specs.Lines.{detail_lines, fact_lines, form_explanation, refusal_line, written_lines};
 
 use crate::compact::{push_amount, push_compact};
+use crate::facts::push_magnitude;
 use crate::marking::{push_marked, push_spans};
+use crate::operands::push_operands;
 use crate::patterns::{push_name, push_signed, push_unit};
 use crate::rounding::push_rounding;
 use crate::settings::{DigitsBy, Settings};
 use decimal_lines::Mode;
-use explained_lines::{push_magnitude, push_operands};
 use fixed_decimal::Decimal;
 use icu_decimal::DecimalFormatter;
 use icu_dimension::{LongCurrencyFormatter, UnitsFormatter};
-use locnum_forms::{Form, Formatter, TextError};
-use locnum_notes::push_reported;
+use locnum_forms::{Form, Formatter, TextError, push_reported};
 use std::alloc::{AllocError, Global};
 use writeable::PartsText;
 
@@ -148,7 +148,7 @@ fn push_written(
 /// compact amount below the first entry of the table has two patterns, `{0}` and that of money.
 ///
 /// A text that is rejected stands as notes show it, and has a line that says why instead. Lines of
-/// parts take as many columns as the settings say at most, as `explained_lines` says. Without
+/// parts take as many columns as the settings say at most, as `push_parts` says. Without
 /// memory some bytes of it may stand there.
 // promise: Settings, form and text determine the explanation.
 // mutations: around_by_the_magnitude_alone

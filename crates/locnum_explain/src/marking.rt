@@ -7,8 +7,8 @@ ghost use Rattle.icu_dimension_data.specs.Surrounding.{surrounded};
 ghost use Rattle.locnum_explain.specs.Lines.{marked_lines};
 ghost use Rattle.locnum_explain.specs.Marks.{amount_marks, marks_by, number_marks};
 
+use crate::parts::push_parts;
 use decimal_lines::Mode;
-use explained_lines::push_parts;
 use fixed_decimal::{Decimal, Sign};
 use icu_decimal::{CompactDecimalFormatter, FormattedUnsignedCompactDecimal};
 use icu_dimension::CompactCurrencyFormatter;

@@ -11,7 +11,7 @@ use crate::settings::DigitsBy;
 use decimal_lines::{TextError, read_decimal};
 use fixed_decimal::{Decimal, Sign, UnsignedDecimal};
 use itoa::Buffer;
-use locnum_notes::push_reported;
+use locnum_forms::push_reported;
 use std::alloc::{AllocError, Global};
 
 /// Appends a sign.

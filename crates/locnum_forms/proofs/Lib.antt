@@ -3,3 +3,4 @@ pub mod Cutting
 pub mod Pushed
 pub mod Served
 pub mod Marked
+pub mod ShownTexts

@@ -6,3 +6,5 @@ pub mod Forms
 pub mod Loaded
 pub mod Making
 pub mod Decimals
+pub mod Characters
+pub mod Reported

@@ -1,7 +1,9 @@
 //! From the text of a number to the bytes that are written: a form of a locale for numbers, money,
-//! percents or units, with its fraction digits and its signs.
+//! percents or units, with its fraction digits and its signs. `push_reported` shows texts of the
+//! input in notes and explanations.
 #![tactic(auto)]
 
+mod characters;
 mod decimals;
 mod error;
 mod form;
@@ -10,10 +12,12 @@ mod loading;
 mod making;
 mod marking;
 mod pushing;
+mod reported;
 mod tables;
 mod wanted;
 
 pub use decimal_lines::TextError;
 pub use error::StartError;
 pub use form::{Form, Formatter};
+pub use reported::push_reported;
 pub use wanted::{FractionRange, Kind, UnitWidth, Wanted};

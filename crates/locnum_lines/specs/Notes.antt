@@ -3,7 +3,7 @@ use Rattle.std.specs.Prelude.{ℕ, ◌+◌, ◌-◌, List, [], ◌∷◌, ◌++�
 use Rattle.std.specs.List.{flat_map, slice_get}
 use Rattle.decimal_lines.specs.declared.alone.TextError.{TextError}
 use Rattle.decimal_lines.specs.declared.alone.TextError.TheVariants.{NotDecimal, TooManyDigits, Overflow, OutOfMemory}
-use Rattle.locnum_notes.specs.Reported.{reported}
+use Rattle.locnum_forms.specs.Reported.{reported}
 use Rattle.locnum_lines.specs.Nearest.{nearest}
 use Rattle.locnum_lines.specs.declared.settings.Source.{Source}
 use Rattle.locnum_lines.specs.declared.settings.Source.TheVariants.{Lines, Word}

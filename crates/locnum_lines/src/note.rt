@@ -9,8 +9,7 @@ ghost use Rattle.locnum_lines.specs.declared.settings.Source.TheVariants.{Lines}
 use crate::nearest::nearest;
 use crate::settings::Source;
 use itoa::Buffer;
-use locnum_forms::TextError;
-use locnum_notes::push_reported;
+use locnum_forms::{TextError, push_reported};
 use std::alloc::{AllocError, Global};
 
 /// Why a text is rejected.

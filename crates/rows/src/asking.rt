@@ -1,5 +1,9 @@
 //! What calls answer, and what becomes of rows.
 
+ghost use Rattle.std.specs.Prelude.{◌≡◌, ◌↔◌, Some, option_map};
+ghost use Rattle.std.specs.String.{string_bytes};
+ghost use Rattle.rows.specs.declared.asking.Outcome.TheVariants.{Right};
+
 use crate::documents::Documents;
 use crate::escapes::escaped;
 use crate::reading::Row;
@@ -32,6 +36,19 @@ pub(crate) enum Outcome {
     OutOfMemory,
 }
 
+/// What a row comes to that wants this text, by the answer of its call.
+// promise: A row is right exactly if its call answers what it wants.
+// mutations: any_answer_right, no_answer_taken_as_right
+fn judged(answer: Option<String>, wanted: &str) -> Outcome
+    ensures right { result ≡ Right ↔ (option_map string_bytes answer ≡ Some wanted.now) }
+{
+    match answer {
+        Some(answer) if answer.as_str() == wanted => Outcome::Right,
+        Some(answer) => Outcome::Wrong(answer),
+        None => Outcome::Unreadable,
+    }
+}
+
 /// What a row comes to. A call that is out of memory is asked once more.
 pub(crate) fn asked(
     alloc: Global,
@@ -44,9 +61,7 @@ pub(crate) fn asked(
         Err(_) => calls.answer(alloc, documents, row.call.as_str(), &row.arguments),
     };
     match answer {
-        Ok(Some(answer)) if answer == row.wanted => Outcome::Right,
-        Ok(Some(answer)) => Outcome::Wrong(answer),
-        Ok(None) => Outcome::Unreadable,
+        Ok(answer) => judged(answer, row.wanted.as_str()),
         Err(_) => Outcome::OutOfMemory,
     }
 }

@@ -16,11 +16,13 @@ mod asking;
 mod counting;
 mod documents;
 mod escapes;
+mod readers;
 mod reading;
 mod running;
 
 pub use asking::Calls;
 pub use documents::{Document, Documents};
 pub use escapes::{decoded, escaped};
+pub use readers::SlowReader;
 pub use reading::Row;
 pub use running::run;

@@ -110,7 +110,7 @@ pub(crate) fn spelled(alloc: Global, bytes: &[u8]) -> Result<String, AllocError>
             is_inside = false;
         } else {
             text.push(if is_inside { ' ' } else { '<' })?;
-            let digits = format!(in alloc; "{byte:02X}")?;
+            let digits = format!(in alloc; "{byte:02x}")?;
             text.push_str(digits.as_str())?;
             is_inside = true;
         }

@@ -2,9 +2,10 @@
 
 use crate::Answer;
 use crate::bytes::text_of;
-use crate::slow::{SlowReader, at_once};
+use crate::counts::at_once;
 use locnum_forms::Form;
 use locnum_lines::{LineSettings, Report, RunError, run};
+use rows::SlowReader;
 use std::alloc::{AllocError, Global};
 
 /// What a run leaves: its output, whether a text was rejected, whether it stopped, and its notes.
@@ -31,7 +32,11 @@ fn ran_by(
     bytes: &[u8],
     at_once: usize,
 ) -> Result<String, AllocError> {
-    let mut reader = SlowReader { bytes, at_once };
+    let mut reader = SlowReader {
+        bytes,
+        good: usize::MAX,
+        at_once,
+    };
     let mut output = Vec::new(alloc);
     let mut notes = Vec::new(alloc);
     match run(alloc, settings, form, &mut reader, &mut output, &mut notes) {

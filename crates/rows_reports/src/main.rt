@@ -2,6 +2,7 @@
 #![tactic(auto)]
 
 mod bytes;
+mod counts;
 mod explanations;
 mod faults;
 mod forms;
@@ -12,7 +13,6 @@ mod parts;
 mod pieces;
 mod records;
 mod rooms;
-mod slow;
 mod words;
 
 use rows::{Calls, Documents};

@@ -1,9 +1,9 @@
 //! Calls of `decimal_lines`.
 
 use crate::bytes::{bytes_of, text_of};
+use crate::counts::at_once;
 use crate::faults::{displayed, no_tables, not_written};
 use crate::rooms::{Filling, filled};
-use crate::slow::{SlowReader, at_once};
 use crate::words::{file_of, texts_of};
 use crate::{Answer, parts, pieces};
 use decimal_lines::{
@@ -11,7 +11,7 @@ use decimal_lines::{
     parse_words, plain_options, read_decimal, run,
 };
 use icu_decimal::options::GroupingStrategy;
-use rows::Documents;
+use rows::{Documents, SlowReader};
 use std::alloc::{AllocError, Global};
 
 /// What `parse_words` answers.
@@ -91,7 +91,11 @@ enum Question<'a> {
 
 /// What a run leaves over an input of which that many bytes are read at once.
 fn ran_by(alloc: Global, mode: &Mode, bytes: &[u8], at_once: usize) -> Result<String, AllocError> {
-    let mut reader = SlowReader { bytes, at_once };
+    let mut reader = SlowReader {
+        bytes,
+        good: usize::MAX,
+        at_once,
+    };
     let mut output = Vec::new(alloc);
     match run(alloc, mode, &mut reader, &mut output) {
         Ok(()) => text_of(alloc, &output),

@@ -1,15 +1,15 @@
-//! Calls of `explained_lines` and `locnum_notes`.
+//! Calls of `locnum_explain` for lines of explanations, and of `locnum_forms` for texts in notes.
 
 use crate::Answer;
 use crate::bytes::{appended, bytes_of};
-use explained_lines::{
-    push_around, push_entry, push_magnitude, push_operands, push_parts, push_pattern,
-};
 use fixed_decimal::{Decimal, DecimalError};
 use icu_decimal::provider::CompactPatterns;
 use icu_pattern::{PatternRef, SinglePlaceholder};
 use icu_plurals::{PluralCategory, PluralRules};
-use locnum_notes::push_reported;
+use locnum_explain::{
+    push_around, push_entry, push_magnitude, push_operands, push_parts, push_pattern,
+};
+use locnum_forms::push_reported;
 use std::alloc::{AllocError, Global};
 use std::collections::BTreeMap;
 use writeable::Part;

@@ -1,7 +1,7 @@
 use Rattle.std.proofs.Common.{List, ℕ, ◌++◌, refl, sym, ap, ◌∙◌}
 use Rattle.std.proofs.lemmas.List.{append-nil}
 use Rattle.std.proofs.lemmas.Result.{on_ok_weaker}
-use Rattle.locnum_explain.proofs.Facts.{facts-appended, facts-past}
+use Rattle.locnum_explain.proofs.CompactFacts.{facts-appended, facts-past}
 use Rattle.locnum_explain.proofs.compact.push_compact.Goals as goal
 
 pub returns-in_ok-push_showable-in-Ok : goal.returns-in_ok-push_showable-in-Ok

@@ -1,7 +1,7 @@
 use Rattle.std.proofs.Common.{◌≡◌, rules, to_z, of_z, w32, ap, ◌∙◌, ℤ, ◌++◌}
 use Rattle.icu_decimal_data.specs.CompactTable.{entry_at, entry_for}
 use Rattle.fixed_decimal.specs.Size.{place}
-use Rattle.explained_lines.specs.Facts.{entry_line}
+use Rattle.locnum_explain.specs.Facts.{entry_line}
 use Rattle.std.proofs.lemmas.Result.{on_ok_weaker}
 use Rattle.locnum_explain.proofs.Entries.{entry_lines-appended}
 use Rattle.locnum_explain.proofs.compact.push_entry_lines.Goals as goal

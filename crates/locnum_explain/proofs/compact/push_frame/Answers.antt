@@ -6,7 +6,7 @@ use Rattle.icu_dimension_data.specs.Resolved.{Signed}
 use Rattle.locnum_explain.specs.Compact.{frame_for}
 use Rattle.std.proofs.lemmas.List.{append-nil}
 use Rattle.std.proofs.lemmas.Result.{on_ok_weaker}
-use Rattle.locnum_explain.proofs.Facts.{frame-past, frame-within}
+use Rattle.locnum_explain.proofs.CompactFacts.{frame-past, frame-within}
 use Rattle.locnum_explain.proofs.compact.push_frame.Goals as goal
 
 pub returns-in-Ok : goal.returns-in-Ok

@@ -1,7 +1,7 @@
 use Rattle.std.proofs.Common.{◌++◌, ap, ◌∙◌}
 use Rattle.icu_pattern.specs.Patterns.{PatternText}
 use Rattle.icu_pattern.specs.Refs.{text_of_ref}
-use Rattle.explained_lines.specs.Facts.{pattern_line}
+use Rattle.locnum_explain.specs.Facts.{pattern_line}
 use Rattle.std.proofs.lemmas.Result.{on_ok_weaker}
 use Rattle.locnum_explain.proofs.Entries.{pattern-picked}
 use Rattle.locnum_explain.proofs.compact.push_pattern_at.Goals as goal

@@ -2,7 +2,7 @@ use Rattle.std.proofs.Common.{◌≡◌, List, ℕ, ℤ, ◌++◌, ap, ◌∙◌
 use Rattle.fixed_decimal.specs.Size.{place}
 use Rattle.icu_decimal_data.specs.CompactTable.{exponent_for}
 use Rattle.icu_decimal.specs.CompactNumber.{rounding_place}
-use Rattle.explained_lines.specs.Around.{around_line}
+use Rattle.locnum_explain.specs.Around.{around_line}
 use Rattle.std.proofs.lemmas.Result.{on_ok_weaker}
 use Rattle.locnum_explain.proofs.Entries.{showable-at}
 use Rattle.locnum_explain.proofs.compact.push_showable.Goals as goal

@@ -1,7 +1,0 @@
-use Rattle.explained_lines.proofs.Entries.{entry_text-at}
-use Rattle.explained_lines.proofs.facts.push_entry_at.Goals as goal
-
-pub returns : goal.returns
-returns c =
-    rw (← entry_text-at c.args.table.now c.args.index c.requires, ← c.log10_type.ensures, ← c.exponent.ensures)
-    c.push_type_and_exponent.ensures

@@ -1,3 +1,0 @@
-pub mod PatternFaults
-pub mod CompactRows
-pub mod Repeated

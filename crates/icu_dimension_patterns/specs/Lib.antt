@@ -1,5 +1,0 @@
-pub mod NumberPatterns
-pub mod ByCategory
-pub mod MoneyPattern
-pub mod CurrencyCompact
-pub mod SignTexts

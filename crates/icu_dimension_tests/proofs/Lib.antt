@@ -1,2 +1,0 @@
-pub mod OneAmount
-pub mod PlainText

@@ -1,0 +1,197 @@
+//! Calls of codes and digits of currencies, of errors of patterns and of parts.
+//!
+//! Digits are spelled `DEFAULT 2 2; JPY 0 0`: those of all other currencies, and then of each code
+//! the digits and the digits in cash.
+
+use crate::dimension_faults::{Fault, said, yes_or_no};
+use crate::dimension_making::decimal;
+use crate::money::code_of;
+use fixed_decimal::{Decimal, Sign};
+use icu_dimension_data::parts::{CURRENCY, MINUS_SIGN, PERCENT_SIGN, PLUS_SIGN, UNIT};
+use icu_dimension_data::{
+    BadCurrencyCode, CurrencyCode, CurrencyDigits, CurrencyEntry, FractionDigits, PatternFault,
+};
+use std::alloc::Global;
+use writeable::Part;
+
+/// The code that a text is read as, and as it is displayed if that is another text.
+fn try_from_str(alloc: Global, text: &str) -> Result<String, Fault> {
+    match CurrencyCode::try_from_str(text) {
+        Ok(code) => {
+            let shown = format!(in alloc; "{code}")?;
+            if shown.as_str() == code.as_str() {
+                Ok(shown)
+            } else {
+                Ok(format!(in alloc; "{}, but displayed {shown}", code.as_str())?)
+            }
+        }
+        Err(BadCurrencyCode) => said(alloc, "BadCurrencyCode"),
+    }
+}
+
+/// Whether two codes are equal.
+fn eq(alloc: Global, one: &str, other: &str) -> Result<String, Fault> {
+    match code_of(one).zip(code_of(other)) {
+        Some((one, other)) => yes_or_no(alloc, one == other),
+        None => Err(Fault::Unreadable),
+    }
+}
+
+/// The digits of `STANDARD CASH`.
+fn digits_of(text: &str) -> Option<FractionDigits> {
+    let (standard, cash) = text.split_once(' ')?;
+    Some(FractionDigits {
+        standard: standard.parse().ok()?,
+        cash: cash.parse().ok()?,
+    })
+}
+
+/// The entry of `CODE STANDARD CASH`.
+fn entry_of(text: &str) -> Option<CurrencyEntry> {
+    let (code, digits) = text.split_once(' ')?;
+    match code_of(code).zip(digits_of(digits)) {
+        Some((code, digits)) => Some(CurrencyEntry { code, digits }),
+        None => None,
+    }
+}
+
+/// Puts the entry that a text spells behind others.
+fn push_entry(entries: &mut Vec<CurrencyEntry>, text: &str) -> Result<(), Fault> {
+    match entry_of(text) {
+        Some(entry) => match entries.push(entry) {
+            Ok(()) => Ok(()),
+            Err(_) => Err(Fault::OutOfMemory),
+        },
+        None => Err(Fault::Unreadable),
+    }
+}
+
+/// The digits that a word spells.
+fn all_digits(alloc: Global, word: &str) -> Result<CurrencyDigits, Fault> {
+    let mut parts = word.split("; ");
+    let others = parts.next().unwrap_or_default().strip_prefix("DEFAULT ");
+    let others = digits_of(others.unwrap_or_default()).ok_or(Fault::Unreadable)?;
+    let mut entries = Vec::new(alloc);
+    for part in parts {
+        push_entry(&mut entries, part)?;
+    }
+    Ok(CurrencyDigits::new(entries, others))
+}
+
+/// What digits answer for a code.
+fn by_digits(alloc: Global, word: &str, code: &str) -> Result<String, Fault> {
+    let digits = all_digits(alloc, word)?;
+    of(alloc, &digits, code)
+}
+
+/// The digits of a code, and those that a copy has if they are others.
+fn of(alloc: Global, digits: &CurrencyDigits, code: &str) -> Result<String, Fault> {
+    let Some(code) = code_of(code) else {
+        return Err(Fault::Unreadable);
+    };
+    let found = digits.of(code);
+    let copied = digits.copy(alloc)?.of(code);
+    if found == copied {
+        Ok(format!(in alloc; "{} {}", found.standard, found.cash)?)
+    } else {
+        said(alloc, "others by a copy")
+    }
+}
+
+/// Appends digits, each a number from 0 to 9.
+fn push_digits(text: &mut String, digits: &[u8]) -> Result<(), Fault> {
+    for digit in digits {
+        let digit = char::from_digit(u32::from(*digit), 10).unwrap_or('?');
+        text.push(digit)?;
+    }
+    Ok(())
+}
+
+/// An amount as it is spelled.
+fn amount_text(alloc: Global, amount: &Decimal) -> Result<String, Fault> {
+    let mut text = String::new(alloc);
+    match amount.sign {
+        Sign::Negative => text.push('-')?,
+        Sign::Positive => text.push('+')?,
+        Sign::None => {}
+    }
+    push_digits(&mut text, amount.absolute.integer())?;
+    let fraction = amount.absolute.fraction();
+    if !fraction.is_empty() {
+        text.push('.')?;
+    }
+    push_digits(&mut text, fraction)?;
+    Ok(text)
+}
+
+/// An amount rounded to that many digits.
+fn rounded_to(alloc: Global, word: &str) -> Result<String, Fault> {
+    let amount = decimal(alloc, word)?;
+    amount_text(alloc, &amount)
+}
+
+/// The fault of a name and a byte.
+fn fault_of(name: &str, byte: usize) -> Option<PatternFault> {
+    match name {
+        "NoNumber" => Some(PatternFault::NoNumber { byte }),
+        "TwoNumbers" => Some(PatternFault::TwoNumbers { byte }),
+        "UnclosedQuote" => Some(PatternFault::UnclosedQuote { byte }),
+        "ThirdSubpattern" => Some(PatternFault::ThirdSubpattern { byte }),
+        "Reserved" => Some(PatternFault::Reserved { byte }),
+        "OutOfMemory" => Some(PatternFault::OutOfMemory),
+        _ => None,
+    }
+}
+
+/// How a fault is displayed.
+fn displayed(alloc: Global, name: &str, byte: &str) -> Result<String, Fault> {
+    match fault_of(name, byte.parse().unwrap_or_default()) {
+        Some(fault) => Ok(format!(in alloc; "{fault}")?),
+        None => Err(Fault::Unreadable),
+    }
+}
+
+/// How the error of codes is displayed.
+fn bad_code(alloc: Global) -> Result<String, Fault> {
+    Ok(format!(in alloc; "{}", BadCurrencyCode)?)
+}
+
+/// The part of a name.
+fn part_of(name: &str) -> Option<Part> {
+    match name {
+        "MINUS_SIGN" => Some(MINUS_SIGN),
+        "PLUS_SIGN" => Some(PLUS_SIGN),
+        "CURRENCY" => Some(CURRENCY),
+        "PERCENT_SIGN" => Some(PERCENT_SIGN),
+        "UNIT" => Some(UNIT),
+        _ => None,
+    }
+}
+
+/// The category and the value of a part.
+fn part_text(alloc: Global, name: &str) -> Result<String, Fault> {
+    match part_of(name) {
+        Some(part) => Ok(format!(in alloc; "{} {}", part.category, part.value)?),
+        None => Err(Fault::Unreadable),
+    }
+}
+
+/// What a call of codes and digits answers.
+pub(crate) fn answer(
+    alloc: Global,
+    kind: &str,
+    call: &str,
+    arguments: &[String],
+) -> Result<String, Fault> {
+    match (kind, call, arguments) {
+        ("CurrencyCode", "try_from_str", [text]) => try_from_str(alloc, text),
+        ("CurrencyCode", "eq", [one, other]) => eq(alloc, one, other),
+        ("CurrencyDigits", "of", [digits, code]) => by_digits(alloc, digits, code),
+        ("", "rounded_to", [word]) => rounded_to(alloc, word),
+        ("PatternFault", "display", [name, byte]) => displayed(alloc, name, byte),
+        ("PatternFault", "display", [name]) => displayed(alloc, name, ""),
+        ("BadCurrencyCode", "display", []) => bad_code(alloc),
+        ("", "parts", [name]) => part_text(alloc, name),
+        _ => Err(Fault::Unreadable),
+    }
+}

@@ -1,0 +1,257 @@
+//! What compact formatters answer.
+
+use super::asked::decimal_of;
+use super::making::{Place, Question};
+use super::shown;
+use super::spelled::{held_of, name_of, no_number, said, value, with_text, yes_or_no};
+use crate::Answer;
+use fixed_decimal::{Decimal, UnsignedDecimal};
+use icu_decimal::{CompactDecimalFormatter, FormattedUnsignedCompactDecimal};
+use icu_plurals::PluralOperands;
+use std::alloc::{AllocError, Global};
+
+/// What `format` gives of a decimal.
+fn value_of(
+    alloc: Global,
+    formatter: &CompactDecimalFormatter,
+    decimal: &Decimal,
+    limit: Option<usize>,
+) -> Answer {
+    match formatter.format(alloc, decimal) {
+        Ok(formatted) => value(alloc, &formatted, limit),
+        Err(error) => no_number(alloc, error),
+    }
+}
+
+/// The same, compared with the text of a decimal.
+fn of_decimal(
+    alloc: Global,
+    formatter: &CompactDecimalFormatter,
+    decimal: &Decimal,
+    limit: Option<usize>,
+) -> Answer {
+    let answer = value_of(alloc, formatter, decimal, limit);
+    with_text(
+        alloc,
+        answer,
+        formatter.format_to_string(alloc, decimal),
+        limit,
+    )
+}
+
+fn format(
+    alloc: Global,
+    place: Place<'_>,
+    formatter: &CompactDecimalFormatter,
+    number: &str,
+) -> Answer {
+    match decimal_of(alloc, number, place.asked.sign)? {
+        Some(decimal) => of_decimal(alloc, formatter, &decimal, place.asked.limit),
+        None => Ok(None),
+    }
+}
+
+/// Appends digits.
+fn push_digits(digits: &[u8], text: &mut String) -> Result<(), AllocError> {
+    for digit in digits {
+        text.push((b'0' + *digit % 10) as char)?;
+    }
+    Ok(())
+}
+
+/// A number as its digits and its point.
+fn digits_of(alloc: Global, number: &UnsignedDecimal) -> Result<String, AllocError> {
+    let mut text = String::new(alloc);
+    push_digits(number.integer(), &mut text)?;
+    let fraction = number.fraction();
+    if !fraction.is_empty() {
+        text.push('.')?;
+        push_digits(fraction, &mut text)?;
+    }
+    Ok(text)
+}
+
+/// The significand and the exponent of a compact number.
+fn parts_of(alloc: Global, number: &FormattedUnsignedCompactDecimal<'_>) -> Answer {
+    let significand = digits_of(alloc, number.significand())?;
+    let exponent = number.exponent();
+    Ok(Some(format!(in alloc; "{significand} exponent {exponent}")?))
+}
+
+/// What is asked of a compact number: its parts, or a condition of its operands.
+fn of_value(
+    alloc: Global,
+    value: &FormattedUnsignedCompactDecimal<'_>,
+    condition: Option<&str>,
+) -> Answer {
+    match condition {
+        Some(condition) => said(alloc, held_of(alloc, condition, value.plural_operands())?),
+        None => parts_of(alloc, value),
+    }
+}
+
+/// The same of the compact number of a decimal.
+fn number_of(
+    alloc: Global,
+    formatter: &CompactDecimalFormatter,
+    decimal: &Decimal,
+    condition: Option<&str>,
+) -> Answer {
+    match formatter.format(alloc, decimal) {
+        Ok(formatted) => of_value(alloc, formatted.value(), condition),
+        Err(error) => no_number(alloc, error),
+    }
+}
+
+/// The same of the number that a text spells.
+fn number(
+    alloc: Global,
+    place: Place<'_>,
+    formatter: &CompactDecimalFormatter,
+    number: &str,
+    condition: Option<&str>,
+) -> Answer {
+    match decimal_of(alloc, number, place.asked.sign)? {
+        Some(decimal) => number_of(alloc, formatter, &decimal, condition),
+        None => Ok(None),
+    }
+}
+
+/// What `format_with_exponent` gives of a significand.
+fn given_of(
+    alloc: Global,
+    formatter: &CompactDecimalFormatter,
+    significand: &Decimal,
+    exponent: u8,
+    limit: Option<usize>,
+) -> Answer {
+    match formatter.format_with_exponent(significand, exponent) {
+        Ok(formatted) => value(alloc, &formatted, limit),
+        Err(error) => Ok(Some(error.to_string(alloc)?)),
+    }
+}
+
+fn format_with_exponent(
+    alloc: Global,
+    place: Place<'_>,
+    formatter: &CompactDecimalFormatter,
+    significand: &str,
+    exponent: &str,
+) -> Answer {
+    let Ok(exponent) = exponent.parse() else {
+        return Ok(None);
+    };
+    match decimal_of(alloc, significand, place.asked.sign)? {
+        Some(decimal) => given_of(alloc, formatter, &decimal, exponent, place.asked.limit),
+        None => Ok(None),
+    }
+}
+
+/// The category of a significand with an exponent by the formatter's own rules.
+fn plural_rules(
+    alloc: Global,
+    place: Place<'_>,
+    formatter: &CompactDecimalFormatter,
+    significand: &str,
+    exponent: &str,
+) -> Answer {
+    let Ok(exponent) = exponent.parse() else {
+        return Ok(None);
+    };
+    match decimal_of(alloc, significand, place.asked.sign)? {
+        Some(decimal) => {
+            let operands = PluralOperands::from_significand_and_exponent(
+                &decimal.absolute,
+                exponent,
+            );
+            said(
+                alloc,
+                name_of(formatter.plural_rules().category_for(operands)),
+            )
+        }
+        None => Ok(None),
+    }
+}
+
+/// The type and the exponent of the entry of a magnitude in the formatter's table.
+fn patterns(alloc: Global, formatter: &CompactDecimalFormatter, magnitude: &str) -> Answer {
+    let Ok(magnitude) = magnitude.parse() else {
+        return Ok(None);
+    };
+    let table = formatter.patterns();
+    match table.entry_index(magnitude) {
+        Some(index) => Ok(Some(format!(in alloc;
+            "type {} exponent {}",
+            table.log10_type(index),
+            table.exponent(index)
+        )?)),
+        None => said(alloc, "none"),
+    }
+}
+
+fn exponent_at(alloc: Global, formatter: &CompactDecimalFormatter, magnitude: &str) -> Answer {
+    let Ok(magnitude) = magnitude.parse() else {
+        return Ok(None);
+    };
+    let exponent = formatter.compact_exponent_for_magnitude(magnitude);
+    Ok(Some(format!(in alloc; "{exponent}")?))
+}
+
+/// What a compact formatter answers of its table, its rules and given exponents.
+fn answer_of_parts(
+    alloc: Global,
+    place: Place<'_>,
+    formatter: &CompactDecimalFormatter,
+    (call, words): Question<'_>,
+) -> Answer {
+    match (call, words) {
+        ("compact_exponent_for_magnitude", [magnitude]) => {
+            exponent_at(alloc, formatter, magnitude.as_str())
+        }
+        ("patterns", [magnitude]) => patterns(alloc, formatter, magnitude.as_str()),
+        ("plural_rules", [significand, exponent]) => {
+            plural_rules(
+                alloc,
+                place,
+                formatter,
+                significand.as_str(),
+                exponent.as_str(),
+            )
+        }
+        ("format_with_exponent", [significand, exponent]) => {
+            format_with_exponent(
+                alloc,
+                place,
+                formatter,
+                significand.as_str(),
+                exponent.as_str(),
+            )
+        }
+        _ => shown::answer(alloc, place, formatter, (call, words)),
+    }
+}
+
+/// What a compact formatter answers.
+pub(crate) fn answer(
+    alloc: Global,
+    place: Place<'_>,
+    formatter: &CompactDecimalFormatter,
+    (call, words): Question<'_>,
+) -> Answer {
+    match (call, words) {
+        ("try_new_unstable", []) => said(alloc, "made"),
+        ("is_readable", []) => said(alloc, yes_or_no(formatter.is_readable())),
+        ("format", [text]) => format(alloc, place, formatter, text.as_str()),
+        ("significand", [text]) => number(alloc, place, formatter, text.as_str(), None),
+        ("operands_of_value", [text, condition]) => {
+            number(
+                alloc,
+                place,
+                formatter,
+                text.as_str(),
+                Some(condition.as_str()),
+            )
+        }
+        _ => answer_of_parts(alloc, place, formatter, (call, words)),
+    }
+}

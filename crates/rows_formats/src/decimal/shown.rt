@@ -1,0 +1,151 @@
+//! What every formatter answers through `AbstractFormatter`.
+
+use super::asked::decimal_of;
+use super::frames;
+use super::making::{Place, Question, rules_of};
+use super::spelled::{
+    held_of, name_of, no_data, no_number, said, sink_of, value, with_condition, written,
+};
+use crate::Answer;
+use fixed_decimal::{Decimal, Sign, UnsignedDecimal};
+use icu_decimal::AbstractFormatter;
+use icu_plurals::PluralOperands;
+use std::alloc::Global;
+
+/// What `write_unsigned` leaves in a sink.
+fn write_unsigned<F: AbstractFormatter>(
+    alloc: Global,
+    formatter: &F,
+    number: &UnsignedDecimal,
+    limit: Option<usize>,
+) -> Answer {
+    let mut sink = sink_of(alloc, limit);
+    let answer = formatter.write_unsigned(alloc, number, &mut sink);
+    written(alloc, &sink, answer)
+}
+
+/// What `write_shown` leaves in a sink, and whether a condition holds of the operands that it
+/// returns.
+fn write_shown<F: AbstractFormatter>(
+    alloc: Global,
+    formatter: &F,
+    number: &UnsignedDecimal,
+    limit: Option<usize>,
+    condition: &str,
+) -> Answer {
+    let mut sink = sink_of(alloc, limit);
+    match formatter.write_shown(alloc, number, &mut sink) {
+        Ok(operands) => {
+            let held = held_of(alloc, condition, operands)?;
+            with_condition(alloc, written(alloc, &sink, Ok(())), held)
+        }
+        Err(error) => written(alloc, &sink, Err(error)),
+    }
+}
+
+/// Whether a condition holds of the operands that `plural_operands` returns.
+fn plural_operands<F: AbstractFormatter>(
+    alloc: Global,
+    formatter: &F,
+    number: &UnsignedDecimal,
+    condition: &str,
+) -> Answer {
+    match formatter.plural_operands(alloc, number) {
+        Ok(operands) => said(alloc, held_of(alloc, condition, operands)?),
+        Err(error) => no_number(alloc, error),
+    }
+}
+
+/// The category of operands by the rules of the locale.
+fn category_of(alloc: Global, place: Place<'_>, operands: PluralOperands) -> Answer {
+    match rules_of(alloc, place) {
+        Ok(rules) => said(alloc, name_of(rules.category_for(operands))),
+        Err(error) => no_data(alloc, error),
+    }
+}
+
+/// The category of a number as it is shown, by the rules of the locale.
+fn category<F: AbstractFormatter>(
+    alloc: Global,
+    place: Place<'_>,
+    formatter: &F,
+    number: &UnsignedDecimal,
+) -> Answer {
+    match formatter.plural_operands(alloc, number) {
+        Ok(operands) => category_of(alloc, place, operands),
+        Err(error) => no_number(alloc, error),
+    }
+}
+
+/// What is asked of a number.
+fn of_number<F: AbstractFormatter>(
+    alloc: Global,
+    place: Place<'_>,
+    formatter: &F,
+    number: &UnsignedDecimal,
+    (call, words): Question<'_>,
+) -> Answer {
+    let limit = place.asked.limit;
+    match (call, words) {
+        ("write_unsigned", []) => write_unsigned(alloc, formatter, number, limit),
+        ("write_shown", [condition]) => {
+            write_shown(alloc, formatter, number, limit, condition.as_str())
+        }
+        ("plural_operands", [condition]) => {
+            plural_operands(alloc, formatter, number, condition.as_str())
+        }
+        ("category", []) => category(alloc, place, formatter, number),
+        ("write_framed", []) => frames::write_framed(alloc, formatter, number, limit),
+        ("framed_to_string", []) => frames::framed_to_string(alloc, formatter, number),
+        ("framed_to_string", [condition]) => {
+            frames::picked(alloc, formatter, number, condition.as_str())
+        }
+        _ => Ok(None),
+    }
+}
+
+/// What a text is with the affixes of a sign around it.
+fn format_sign<F: AbstractFormatter>(
+    alloc: Global,
+    formatter: &F,
+    text: &str,
+    sign: &str,
+) -> Answer {
+    let sign = match sign {
+        "Negative" => Sign::Negative,
+        "Positive" => Sign::Positive,
+        _ => Sign::None,
+    };
+    value(alloc, &formatter.format_sign(text, sign), None)
+}
+
+/// What is asked of the number of the first word.
+fn of_first<F: AbstractFormatter>(
+    alloc: Global,
+    place: Place<'_>,
+    formatter: &F,
+    (call, words): Question<'_>,
+) -> Answer {
+    match words.split_first() {
+        Some((number, words)) => match decimal_of(alloc, number.as_str(), place.asked.sign)? {
+            Some(decimal) => of_number(alloc, place, formatter, &decimal.absolute, (call, words)),
+            None => Ok(None),
+        },
+        None => Ok(None),
+    }
+}
+
+/// What a formatter answers.
+pub(crate) fn answer<F: AbstractFormatter>(
+    alloc: Global,
+    place: Place<'_>,
+    formatter: &F,
+    (call, words): Question<'_>,
+) -> Answer {
+    match (call, words) {
+        ("format_sign", [text, sign]) => {
+            format_sign(alloc, formatter, text.as_str(), sign.as_str())
+        }
+        _ => of_first(alloc, place, formatter, (call, words)),
+    }
+}

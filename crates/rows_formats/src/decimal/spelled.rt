@@ -1,0 +1,188 @@
+//! What was written, and errors, as rows spell them.
+
+use crate::Answer;
+use icu_decimal::error::FormatError;
+use icu_plurals::{PluralCategory, PluralOperands, PluralRules, RulesError};
+use icu_provider::{DataError, DataErrorKind};
+use std::alloc::{AllocError, Global};
+use std::fmt::Display;
+use writeable::{PartsText, Writeable};
+
+/// How many parts are listed at most.
+const MOST_LISTED: usize = 20;
+
+/// An answer of fixed words.
+pub(crate) fn said(alloc: Global, words: &str) -> Answer {
+    Ok(Some(String::from_str(alloc, words)?))
+}
+
+/// `yes` or `no`.
+pub(crate) fn yes_or_no(is_so: bool) -> &'static str {
+    if is_so { "yes" } else { "no" }
+}
+
+/// The name of a category.
+pub(crate) fn name_of(category: PluralCategory) -> &'static str {
+    match category {
+        PluralCategory::Zero => "zero",
+        PluralCategory::One => "one",
+        PluralCategory::Two => "two",
+        PluralCategory::Few => "few",
+        PluralCategory::Many => "many",
+        PluralCategory::Other => "other",
+    }
+}
+
+/// A sink that takes this many events, or any number of them.
+pub(crate) fn sink_of(alloc: Global, limit: Option<usize>) -> PartsText {
+    match limit {
+        Some(limit) => PartsText::with_limit(alloc, limit),
+        None => PartsText::new(alloc),
+    }
+}
+
+/// Behind `before`, the text of a sink, and its parts in the order in which they open, each with
+/// the bytes at which it starts and ends; of more than twenty their count.
+fn held(alloc: Global, before: &str, sink: &PartsText) -> Result<String, AllocError> {
+    let Ok(spans) = sink.spans(alloc) else {
+        return Err(AllocError);
+    };
+    let mut spelled = format!(in alloc; "{before}{} |", sink.text())?;
+    if spans.len() > MOST_LISTED {
+        spelled.push_str(format!(in alloc; " {} parts", spans.len())?.as_str())?;
+        return Ok(spelled);
+    }
+    for (start, end, part) in &spans {
+        let value = part.value;
+        spelled.push_str(format!(in alloc; " {value} {start}-{end}")?.as_str())?;
+    }
+    Ok(spelled)
+}
+
+/// What a sink holds after a call; in front of it stands why the call failed.
+pub(crate) fn written(alloc: Global, sink: &PartsText, answer: Result<(), FormatError>) -> Answer {
+    match answer {
+        Ok(()) => Ok(Some(held(alloc, "", sink)?)),
+        Err(FormatError::Overflow) => Ok(Some(held(alloc, "Overflow: ", sink)?)),
+        Err(FormatError::OutOfMemory) => Err(AllocError),
+        Err(FormatError::Sink) if sink.growth_refused() => Err(AllocError),
+        Err(FormatError::Sink) => Ok(Some(held(alloc, "Sink: ", sink)?)),
+    }
+}
+
+/// What a value leaves in a sink.
+fn in_a_sink<V: Writeable>(alloc: Global, value: &V, limit: Option<usize>) -> Answer {
+    let mut sink = sink_of(alloc, limit);
+    let answer = match value.write_to_parts(&mut sink) {
+        Ok(()) => Ok(()),
+        Err(_) => Err(FormatError::Sink),
+    };
+    written(alloc, &sink, answer)
+}
+
+/// Whether a spelled text begins with this text.
+fn is_of(spelled: &str, text: &str) -> bool {
+    match spelled.strip_prefix(text) {
+        Some(rest) => rest.starts_with(" |"),
+        None => false,
+    }
+}
+
+/// An answer, and behind it a text that isn't the answer's, with the name of what gave it.
+fn with_other(alloc: Global, answer: Answer, name: &str, text: &str) -> Answer {
+    match answer? {
+        Some(spelled) if is_of(spelled.as_str(), text) => Ok(Some(spelled)),
+        Some(spelled) => Ok(Some(format!(in alloc; "{spelled} | {name} {text}")?)),
+        None => Ok(None),
+    }
+}
+
+/// What a value leaves in a sink. If the sink has no limit, the value is displayed too, and what
+/// differs stands behind it.
+pub(crate) fn value<V: Writeable + Display>(
+    alloc: Global,
+    value: &V,
+    limit: Option<usize>,
+) -> Answer {
+    let answer = in_a_sink(alloc, value, limit);
+    if limit.is_some() {
+        return answer;
+    }
+    let displayed = value.to_string(alloc)?;
+    with_other(alloc, answer, "displayed", displayed.as_str())
+}
+
+/// The name of an error of a number.
+pub(crate) fn no_number(alloc: Global, error: FormatError) -> Answer {
+    match error {
+        FormatError::OutOfMemory => Err(AllocError),
+        FormatError::Overflow => said(alloc, "Overflow"),
+        FormatError::Sink => said(alloc, "Sink"),
+    }
+}
+
+/// A text, or the name of why there is none.
+pub(crate) fn text(alloc: Global, text: Result<String, FormatError>) -> Answer {
+    match text {
+        Ok(text) => Ok(Some(text)),
+        Err(error) => no_number(alloc, error),
+    }
+}
+
+/// An answer, and behind it the text of `format_to_string` if it is another one. If the sink has a
+/// limit, the text isn't compared.
+pub(crate) fn with_text(
+    alloc: Global,
+    answer: Answer,
+    text: Result<String, FormatError>,
+    limit: Option<usize>,
+) -> Answer {
+    match text {
+        Ok(_) if limit.is_some() => answer,
+        Ok(text) => with_other(alloc, answer, "format_to_string", text.as_str()),
+        Err(FormatError::OutOfMemory) => Err(AllocError),
+        Err(FormatError::Overflow) => same_error(alloc, answer, "Overflow"),
+        Err(FormatError::Sink) => same_error(alloc, answer, "Sink"),
+    }
+}
+
+/// An answer that is an error's name, and else the name behind it.
+fn same_error(alloc: Global, answer: Answer, name: &str) -> Answer {
+    match answer? {
+        Some(spelled) if spelled.as_str() == name => Ok(Some(spelled)),
+        Some(spelled) => Ok(Some(format!(in alloc; "{spelled} | format_to_string {name}")?)),
+        None => Ok(None),
+    }
+}
+
+/// The name of an error of a provider.
+pub(crate) fn no_data(alloc: Global, error: DataError) -> Answer {
+    match error.kind {
+        DataErrorKind::OutOfMemory => Err(AllocError),
+        DataErrorKind::IdentifierNotFound => said(alloc, "IdentifierNotFound"),
+        DataErrorKind::MarkerNotFound => said(alloc, "MarkerNotFound"),
+        DataErrorKind::InvalidRequest => said(alloc, "InvalidRequest"),
+        DataErrorKind::Custom => said(alloc, "Custom"),
+    }
+}
+
+/// Whether a condition of plural rules holds of operands; `no condition` if it is none.
+pub(crate) fn held_of(
+    alloc: Global,
+    condition: &str,
+    operands: PluralOperands,
+) -> Result<&'static str, AllocError> {
+    match PluralRules::from_rules(alloc, &[(PluralCategory::One, condition)]) {
+        Ok(rules) => Ok(yes_or_no(rules.category_for(operands) == PluralCategory::One)),
+        Err(RulesError::OutOfMemory) => Err(AllocError),
+        Err(_) => Ok("no condition"),
+    }
+}
+
+/// An answer, and behind it whether a condition holds.
+pub(crate) fn with_condition(alloc: Global, answer: Answer, held: &str) -> Answer {
+    match answer? {
+        Some(spelled) => Ok(Some(format!(in alloc; "{spelled} | {held}")?)),
+        None => Ok(None),
+    }
+}

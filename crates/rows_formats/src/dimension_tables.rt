@@ -1,0 +1,151 @@
+//! Calls of `DimensionTables`.
+
+use crate::dimension_faults::{Fault, said};
+use crate::dimension_loading::document;
+use crate::money::code_of;
+use icu_dimension::provider::{
+    CurrencyCompactShortV1, CurrencyDecimalSymbolsV1, CurrencyDigitsV1, CurrencyNamesV1,
+    CurrencyPatternsV1, CurrencySymbolsV1, PercentPatternsV1, UnitsLongV1, UnitsNarrowV1,
+    UnitsShortV1, load_currency_digits,
+};
+use icu_dimension_tables::DimensionTables;
+use icu_provider::{DataError, DataIdentifierBorrowed, DataLocale, DataProvider, DataRequest};
+use rows::Documents;
+use std::alloc::Global;
+
+/// Why an answer is rejected, if it is.
+fn refusal<T: Drop>(answer: Result<T, DataError>) -> Result<(), DataError> {
+    match answer {
+        Ok(_) => Ok(()),
+        Err(error) => Err(error),
+    }
+}
+
+/// How money of a marker is answered.
+fn of_money(
+    alloc: Global,
+    tables: &DimensionTables,
+    marker: &str,
+    request: &DataRequest<'_>,
+) -> Option<Result<(), DataError>> {
+    match marker {
+        "CurrencyPatternsV1" => Some(refusal(<DimensionTables as DataProvider<
+            CurrencyPatternsV1,
+        >>::load(tables, alloc, request))),
+        "CurrencySymbolsV1" => Some(refusal(<DimensionTables as DataProvider<
+            CurrencySymbolsV1,
+        >>::load(tables, alloc, request))),
+        "CurrencyNamesV1" => Some(refusal(<DimensionTables as DataProvider<CurrencyNamesV1>>::load(
+            tables, alloc, request,
+        ))),
+        "CurrencyDecimalSymbolsV1" => Some(refusal(<DimensionTables as DataProvider<
+            CurrencyDecimalSymbolsV1,
+        >>::load(tables, alloc, request))),
+        "CurrencyCompactShortV1" => Some(refusal(<DimensionTables as DataProvider<
+            CurrencyCompactShortV1,
+        >>::load(tables, alloc, request))),
+        _ => None,
+    }
+}
+
+/// How digits, percents or units of a marker are answered.
+fn of_others(
+    alloc: Global,
+    tables: &DimensionTables,
+    marker: &str,
+    request: &DataRequest<'_>,
+) -> Option<Result<(), DataError>> {
+    match marker {
+        "CurrencyDigitsV1" => Some(refusal(<DimensionTables as DataProvider<
+            CurrencyDigitsV1,
+        >>::load(tables, alloc, request))),
+        "PercentPatternsV1" => Some(refusal(<DimensionTables as DataProvider<
+            PercentPatternsV1,
+        >>::load(tables, alloc, request))),
+        "UnitsLongV1" => Some(refusal(<DimensionTables as DataProvider<UnitsLongV1>>::load(
+            tables, alloc, request,
+        ))),
+        "UnitsShortV1" => Some(refusal(<DimensionTables as DataProvider<UnitsShortV1>>::load(
+            tables, alloc, request,
+        ))),
+        "UnitsNarrowV1" => Some(refusal(<DimensionTables as DataProvider<UnitsNarrowV1>>::load(
+            tables, alloc, request,
+        ))),
+        _ => None,
+    }
+}
+
+/// How a request for data of a marker is answered.
+fn found(
+    alloc: Global,
+    tables: &DimensionTables,
+    marker: &str,
+    request: &DataRequest<'_>,
+) -> Result<String, Fault> {
+    let answered = match of_money(alloc, tables, marker, request) {
+        Some(answered) => answered,
+        None => match of_others(alloc, tables, marker, request) {
+            Some(answered) => answered,
+            None => return Err(Fault::Unreadable),
+        },
+    };
+    answered?;
+    said(alloc, "found")
+}
+
+/// How tables answer by a locale and a name, or without a name.
+fn load(
+    alloc: Global,
+    tables: &DimensionTables,
+    marker: &str,
+    (locale, name): (&str, &str),
+) -> Result<String, Fault> {
+    let locale = DataLocale::try_from_str(locale).unwrap_or_default();
+    let id = if name.is_empty() {
+        DataIdentifierBorrowed::for_locale(&locale)
+    } else {
+        DataIdentifierBorrowed::for_marker_attributes_and_locale(name, &locale)
+    };
+    found(alloc, tables, marker, &DataRequest { id, silent: false })
+}
+
+/// The digits of a currency, and its digits in cash.
+fn digits(alloc: Global, tables: &DimensionTables, code: &str) -> Result<String, Fault> {
+    let Some(code) = code_of(code) else {
+        return Err(Fault::Unreadable);
+    };
+    let digits = load_currency_digits(alloc, tables)?;
+    let digits = digits.of(code);
+    Ok(format!(in alloc; "{} {}", digits.standard, digits.cash)?)
+}
+
+/// What tables answer.
+fn of_tables(
+    alloc: Global,
+    tables: &DimensionTables,
+    call: &str,
+    words: &[String],
+) -> Result<String, Fault> {
+    match (call, words) {
+        ("from_json", []) => said(alloc, "accepted"),
+        ("load", [marker, locale]) => load(alloc, tables, marker, (locale, "")),
+        ("load", [marker, locale, name]) => load(alloc, tables, marker, (locale, name)),
+        ("load_currency_digits", [code]) => digits(alloc, tables, code),
+        _ => Err(Fault::Unreadable),
+    }
+}
+
+/// What a call of tables answers, whose first argument is a document.
+pub(crate) fn answer(
+    alloc: Global,
+    documents: &Documents,
+    call: &str,
+    arguments: &[String],
+) -> Result<String, Fault> {
+    let Some((word, words)) = arguments.split_first() else {
+        return Err(Fault::Unreadable);
+    };
+    let text = document(alloc, documents, word)?;
+    let tables = DimensionTables::from_json(alloc, text.as_str())?;
+    of_tables(alloc, &tables, call, words)
+}

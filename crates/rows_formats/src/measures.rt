@@ -1,0 +1,139 @@
+//! Calls of `UnitsFormatter`.
+
+use crate::amounts::asked;
+use crate::dimension_faults::Fault;
+use crate::dimension_loading::{Asked, Both};
+use crate::dimension_making::{decimal, numbers_of, pattern_of, plain, rules_of, with_value};
+use crate::surrounding::{PLACE, operands_of};
+use icu_decimal::DecimalFormatter;
+use icu_dimension::UnitsFormatter;
+use icu_dimension::provider::{UnitsLongV1, UnitsNarrowV1, UnitsShortV1};
+use icu_pattern::{Pattern, SinglePlaceholder};
+use icu_plurals::PluralElements;
+use icu_provider::DataError;
+use rows::Documents;
+use std::alloc::Global;
+use writeable::Writeable;
+
+/// The patterns that a word spells.
+fn elements_of(
+    alloc: Global,
+    word: &str,
+) -> Result<PluralElements<Pattern<SinglePlaceholder>>, Fault> {
+    let mut parts = word.split("; ");
+    let other = parts.next().unwrap_or_default().strip_prefix("other ");
+    let mut elements = PluralElements::new(pattern_of(alloc, other.unwrap_or_default())?);
+    for part in parts {
+        let (slot, text) = part.split_once(' ').unwrap_or_default();
+        let pattern = pattern_of(alloc, text)?;
+        elements = match with_value(elements, slot, pattern) {
+            Some(elements) => elements,
+            None => return Err(Fault::Unreadable),
+        };
+    }
+    Ok(elements)
+}
+
+/// Numbers with a unit of these patterns.
+fn made(
+    alloc: Global,
+    (numbers, rules, patterns): (&str, &str, &str),
+) -> Result<UnitsFormatter<DecimalFormatter>, Fault> {
+    let numbers = numbers_of(numbers).ok_or(Fault::Unreadable)?;
+    let elements = elements_of(alloc, patterns)?;
+    let rules = rules_of(alloc, rules)?;
+    Ok(UnitsFormatter::new(plain(alloc, numbers)?, rules, elements))
+}
+
+/// Numbers with a unit in a width by tables.
+fn loaded(
+    alloc: Global,
+    both: &Both,
+    asked: Asked<'_>,
+    (width, unit): (&str, &str),
+) -> Result<UnitsFormatter<DecimalFormatter>, DataError> {
+    let options = asked.numbers();
+    let prefs = asked.preferences();
+    match width {
+        "short" => UnitsFormatter::try_new_unstable::<UnitsShortV1, Both>(
+            alloc, both, prefs, unit, options,
+        ),
+        "narrow" => UnitsFormatter::try_new_unstable::<UnitsNarrowV1, Both>(
+            alloc, both, prefs, unit, options,
+        ),
+        _ => {
+            UnitsFormatter::try_new_unstable::<UnitsLongV1, Both>(alloc, both, prefs, unit, options)
+        }
+    }
+}
+
+/// What numbers with a unit by tables answer.
+fn of_loaded(
+    alloc: Global,
+    documents: &Documents,
+    (document, locale): (&str, &str),
+    unit: (&str, &str),
+    number: &str,
+) -> Result<String, Fault> {
+    let both = Both::of(alloc, documents, document)?;
+    let formatter = loaded(alloc, &both, Asked::of(locale), unit)?;
+    asked(alloc, &formatter, "try_new_unstable", number)
+}
+
+/// The pattern that is lent for a number.
+fn lent(
+    alloc: Global,
+    formatter: &UnitsFormatter<DecimalFormatter>,
+    number: &str,
+) -> Result<String, Fault> {
+    let number = decimal(alloc, number)?;
+    let operands = operands_of(&number);
+    let pattern = formatter.elements().get(operands, formatter.plural_rules());
+    Ok(pattern.interpolate(PLACE).write_to_string(alloc)?)
+}
+
+/// What numbers with a unit answer.
+fn of_made(
+    alloc: Global,
+    formatter: &UnitsFormatter<DecimalFormatter>,
+    call: &str,
+    number: &str,
+) -> Result<String, Fault> {
+    match call {
+        "elements" => lent(alloc, formatter, number),
+        _ => asked(alloc, formatter, call, number),
+    }
+}
+
+/// What numbers with a unit that are made of parts answer.
+fn by_parts(
+    alloc: Global,
+    parts: (&str, &str, &str),
+    call: &str,
+    number: &str,
+) -> Result<String, Fault> {
+    let formatter = made(alloc, parts)?;
+    of_made(alloc, &formatter, call, number)
+}
+
+/// What a call of numbers with a unit answers.
+pub(crate) fn answer(
+    alloc: Global,
+    documents: &Documents,
+    call: &str,
+    arguments: &[String],
+) -> Result<String, Fault> {
+    match (call, arguments) {
+        ("try_new_unstable", [document, locale, width, unit, number]) => of_loaded(
+            alloc,
+            documents,
+            (document, locale),
+            (width, unit),
+            number,
+        ),
+        (_, [numbers, rules, patterns, number]) => {
+            by_parts(alloc, (numbers, rules, patterns), call, number)
+        }
+        _ => Err(Fault::Unreadable),
+    }
+}

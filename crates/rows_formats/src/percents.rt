@@ -1,0 +1,86 @@
+//! Calls of `PercentFormatter`.
+
+use crate::amounts::asked;
+use crate::dimension_faults::{Fault, yes_or_no};
+use crate::dimension_loading::{Asked, Both};
+use crate::dimension_making::{numbers_of, patterns, plain};
+use crate::surrounding::surrounding;
+use icu_decimal::DecimalFormatter;
+use icu_dimension::PercentFormatter;
+use rows::Documents;
+use std::alloc::Global;
+
+/// Percents of these numbers in a pattern.
+fn made(
+    alloc: Global,
+    numbers: &str,
+    pattern: &str,
+) -> Result<PercentFormatter<DecimalFormatter>, Fault> {
+    let numbers = numbers_of(numbers).ok_or(Fault::Unreadable)?;
+    let patterns = patterns(alloc, numbers, pattern, "")?;
+    Ok(PercentFormatter::new(plain(alloc, numbers)?, patterns))
+}
+
+/// Percents by tables.
+fn loaded(
+    alloc: Global,
+    both: &Both,
+    asked: Asked<'_>,
+) -> Result<PercentFormatter<DecimalFormatter>, Fault> {
+    let options = asked.numbers();
+    Ok(PercentFormatter::try_new_unstable(alloc, both, asked.preferences(), options)?)
+}
+
+/// What percents that were made answer.
+fn of_made(
+    alloc: Global,
+    formatter: &PercentFormatter<DecimalFormatter>,
+    call: &str,
+    word: &str,
+) -> Result<String, Fault> {
+    match call {
+        "patterns" => surrounding(alloc, formatter.patterns(), word),
+        "is_readable" => yes_or_no(alloc, formatter.is_readable()),
+        _ => asked(alloc, formatter, call, word),
+    }
+}
+
+/// What percents by tables answer.
+fn of_loaded(
+    alloc: Global,
+    documents: &Documents,
+    (document, locale): (&str, &str),
+    number: &str,
+) -> Result<String, Fault> {
+    let both = Both::of(alloc, documents, document)?;
+    let formatter = loaded(alloc, &both, Asked::of(locale))?;
+    asked(alloc, &formatter, "try_new_unstable", number)
+}
+
+/// What percents of these numbers in a pattern answer.
+fn by_parts(
+    alloc: Global,
+    numbers: &str,
+    pattern: &str,
+    (call, word): (&str, &str),
+) -> Result<String, Fault> {
+    let formatter = made(alloc, numbers, pattern)?;
+    of_made(alloc, &formatter, call, word)
+}
+
+/// What a call of percents answers.
+pub(crate) fn answer(
+    alloc: Global,
+    documents: &Documents,
+    call: &str,
+    arguments: &[String],
+) -> Result<String, Fault> {
+    match (call, arguments) {
+        ("try_new_unstable", [document, locale, number]) => {
+            of_loaded(alloc, documents, (document, locale), number)
+        }
+        ("is_readable", [numbers, pattern]) => by_parts(alloc, numbers, pattern, (call, "")),
+        (_, [numbers, pattern, word]) => by_parts(alloc, numbers, pattern, (call, word)),
+        _ => Err(Fault::Unreadable),
+    }
+}

@@ -1,0 +1,201 @@
+//! Calls of `icu_unit`. Their arguments are those of a formatter, a number, and the texts that stand
+//! behind numbers of the categories one and many and behind all other numbers; `none` stands for
+//! none.
+
+use crate::Answer;
+use crate::decimal::asked::{Asked, asked_of, decimal_of, text_of};
+use crate::decimal::making::{Place, plain_of, rules_of};
+use crate::decimal::spelled::{no_data, sink_of, written};
+use fixed_decimal::Decimal;
+use icu_decimal::{AbstractFormatter, CompactDecimalFormatter};
+use icu_pattern::{Pattern, SinglePlaceholder};
+use icu_plurals::{PluralElements, PluralRules};
+use icu_tables::{TableError, Tables};
+use icu_unit::UnitFormatter;
+use rows::Documents;
+use std::alloc::{AllocError, Global};
+
+/// A number, and the texts of its unit.
+#[derive(Clone, Copy)]
+struct Amount<'a> {
+    number: &'a str,
+    one: &'a str,
+    many: &'a str,
+    other: &'a str,
+}
+
+/// The patterns of a unit.
+type Elements = PluralElements<Pattern<SinglePlaceholder>>;
+
+/// The pattern of a text behind a number.
+fn behind_number(
+    alloc: Global,
+    text: &str,
+) -> Result<Option<Pattern<SinglePlaceholder>>, AllocError> {
+    if text == "none" {
+        return Ok(None);
+    }
+    match Pattern::try_new(alloc, Some(0), text) {
+        Ok(pattern) => Ok(Some(pattern)),
+        Err(_) => Err(AllocError),
+    }
+}
+
+/// The patterns of the texts of a unit. They are joined at the end, since all eight are gone through
+/// where the joined ones are given back.
+fn elements_of(alloc: Global, amount: Amount<'_>) -> Result<Option<Elements>, AllocError> {
+    let other = behind_number(alloc, amount.other)?;
+    let one = behind_number(alloc, amount.one)?;
+    let many = behind_number(alloc, amount.many)?;
+    match other {
+        Some(other) => Ok(Some(
+            PluralElements::new(other)
+                .with_one_value(one)
+                .with_many_value(many),
+        )),
+        None => Ok(None),
+    }
+}
+
+/// What a unit leaves in a sink.
+fn write<F: AbstractFormatter>(
+    alloc: Global,
+    unit: &UnitFormatter<F>,
+    decimal: &Decimal,
+    limit: Option<usize>,
+) -> Answer {
+    let mut sink = sink_of(alloc, limit);
+    let answer = unit.write(alloc, decimal, &mut sink);
+    written(alloc, &sink, answer)
+}
+
+/// The same of the number that a text spells.
+fn write_number<F: AbstractFormatter>(
+    alloc: Global,
+    unit: &UnitFormatter<F>,
+    asked: &Asked<'_>,
+    number: &str,
+) -> Answer {
+    match decimal_of(alloc, number, asked.sign)? {
+        Some(decimal) => write(alloc, unit, &decimal, asked.limit),
+        None => Ok(None),
+    }
+}
+
+/// What a unit over a formatter and with rules writes.
+fn with_rules<F: AbstractFormatter + Drop>(
+    alloc: Global,
+    asked: &Asked<'_>,
+    (formatter, rules): (F, PluralRules),
+    amount: Amount<'_>,
+) -> Answer {
+    match elements_of(alloc, amount)? {
+        Some(elements) => {
+            let unit = UnitFormatter::new(formatter, rules, elements);
+            write_number(alloc, &unit, asked, amount.number)
+        }
+        None => Ok(None),
+    }
+}
+
+/// What a unit over a formatter writes.
+fn over<F: AbstractFormatter + Drop>(
+    alloc: Global,
+    place: Place<'_>,
+    formatter: F,
+    amount: Amount<'_>,
+) -> Answer {
+    match rules_of(alloc, place) {
+        Ok(rules) => with_rules(alloc, place.asked, (formatter, rules), amount),
+        Err(error) => no_data(alloc, error),
+    }
+}
+
+fn of_plain(alloc: Global, place: Place<'_>, amount: Amount<'_>) -> Answer {
+    match plain_of(alloc, place) {
+        Ok(formatter) => over(alloc, place, formatter, amount),
+        Err(error) => no_data(alloc, error),
+    }
+}
+
+fn of_short(alloc: Global, place: Place<'_>, amount: Amount<'_>) -> Answer {
+    match CompactDecimalFormatter::try_new_short_unstable(
+        alloc,
+        place.tables,
+        place.asked.preferences(),
+        place.asked.compact_options(),
+    ) {
+        Ok(formatter) => over(alloc, place, formatter, amount),
+        Err(error) => no_data(alloc, error),
+    }
+}
+
+fn of_long(alloc: Global, place: Place<'_>, amount: Amount<'_>) -> Answer {
+    match CompactDecimalFormatter::try_new_long_unstable(
+        alloc,
+        place.tables,
+        place.asked.preferences(),
+        place.asked.compact_options(),
+    ) {
+        Ok(formatter) => over(alloc, place, formatter, amount),
+        Err(error) => no_data(alloc, error),
+    }
+}
+
+/// What a unit by tables writes.
+fn by_tables(alloc: Global, place: Place<'_>, amount: Amount<'_>) -> Answer {
+    match place.asked.style {
+        "plain" => of_plain(alloc, place, amount),
+        "short" => of_short(alloc, place, amount),
+        "long" => of_long(alloc, place, amount),
+        _ => Ok(None),
+    }
+}
+
+/// What a unit by the tables of a text writes.
+fn by_text(alloc: Global, text: &str, asked: &Asked<'_>, amount: Amount<'_>) -> Answer {
+    match Tables::from_json(alloc, text) {
+        Ok(tables) => by_tables(
+            alloc,
+            Place {
+                tables: &tables,
+                asked,
+            },
+            amount,
+        ),
+        Err(TableError::OutOfMemory) => Err(AllocError),
+        Err(_) => Ok(None),
+    }
+}
+
+/// What a unit by a file writes.
+fn by_words(alloc: Global, documents: &Documents, asked: &Asked<'_>, words: &[String]) -> Answer {
+    match (text_of(documents, asked.file), words) {
+        (Some(text), [number, one, many, other]) => {
+            let amount = Amount {
+                number: number.as_str(),
+                one: one.as_str(),
+                many: many.as_str(),
+                other: other.as_str(),
+            };
+            by_text(alloc, text, asked, amount)
+        }
+        _ => Ok(None),
+    }
+}
+
+/// What a call of units answers.
+pub(crate) fn answer(
+    alloc: Global,
+    documents: &Documents,
+    call: &str,
+    arguments: &[String],
+) -> Answer {
+    if call != "UnitFormatter::write" {
+        return Ok(None);
+    }
+    match asked_of(arguments) {
+        Some((asked, words)) => by_words(alloc, documents, &asked, words),
+        None => Ok(None),
+    }
+}

@@ -1,0 +1,3 @@
+pub mod OneAmount
+pub mod OneSize
+pub mod PlainText

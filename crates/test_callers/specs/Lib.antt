@@ -1,0 +1,2 @@
+pub mod OneAmount
+pub mod OneSize

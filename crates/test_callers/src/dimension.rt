@@ -1,0 +1,8 @@
+//! Tests of money, percents and units.
+
+mod instances;
+mod making;
+mod readable;
+mod refusing;
+mod told;
+mod withheld;
