@@ -78,7 +78,7 @@ fn print_amount(
 }
 
 /// Writes what the page shows; none where memory or standard output is wanting.
-pub fn print_all(rt: &HostRuntime) -> Option<()> {
+pub(crate) fn print_all(rt: &HostRuntime) -> Option<()> {
     print_plain(rt, "-987654.321")?;
     let formatter = short_english(rt.alloc())?;
     for number in ["999500", "15127", "-13132", "0.2222"] {
