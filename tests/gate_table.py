@@ -2,8 +2,8 @@
 """Runs CI and prints, after its own output, a table of what each crate cost: functions proved, tests, mutations, and
 the processor minutes of each. Counts are read from CI's output, minutes from the prover's processes on the processors
 that this script is bound to, so that taskset tells a run from others beside it. Below it stand
-the minutes from begin to end, the longest chain of tasks that wait for one another, what the same tasks take on four
-processors that do nothing else, and how much of this machine's processors its host gave to others meanwhile.
+the minutes from begin to end, the longest chain of tasks that wait for one another, what the same tasks take on two and
+on four processors that do nothing else, and how much of this machine's processors its host gave to others meanwhile.
 
 usage: tests/gate_table.py [COMMAND ARGUMENT..], by default .ci/run
 """
@@ -116,7 +116,7 @@ def chain_of(waits: dict[Task, list[Task]], minutes: dict[Task, float]) -> tuple
     return max((chain(it) for it in waits), default=none)
 
 
-def scheduled(waits: dict[Task, list[Task]], minutes: dict[Task, float], processors: int = 4) -> float:
+def scheduled(waits: dict[Task, list[Task]], minutes: dict[Task, float], processors: int) -> float:
     """The minutes that the tasks take with one task a processor, those with the longest chain behind them first."""
     behind: dict[Task, float] = {}
 
@@ -182,7 +182,8 @@ def main() -> int:
     shares = shares_of(waits, minutes, counts)
     length, chain = chain_of(waits, shares)
     print(f"longest chain {length:.0f} minutes: " + ", ".join(" ".join(map(str, it)) for it in chain))
-    print(f"the same tasks on four free processors {scheduled(waits, shares):.0f} minutes")
+    two, four = scheduled(waits, shares, 2), scheduled(waits, shares, 4)
+    print(f"the same tasks on two free processors {two:.0f} minutes, on four {four:.0f}")
     worked, lost = (b - a for a, b in zip(before, host()))
     print(f"this machine worked {worked:.0f} processor minutes; its host gave {lost:.0f} more to others")
     return status

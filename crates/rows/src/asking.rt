@@ -1,8 +1,8 @@
 //! What calls answer, and what becomes of rows.
 
-ghost use Rattle.std.specs.Prelude.{◌≡◌, ◌↔◌, Some, option_map};
+ghost use Rattle.std.specs.Prelude.{◌≡◌, ◌↔◌, None, Some, option_map};
 ghost use Rattle.std.specs.String.{string_bytes};
-ghost use Rattle.rows.specs.declared.asking.Outcome.TheVariants.{Right};
+ghost use Rattle.rows.specs.declared.asking.Outcome.TheVariants.{Right, Unreadable, Wrong};
 
 use crate::documents::Documents;
 use crate::escapes::escaped;
@@ -36,11 +36,13 @@ pub(crate) enum Outcome {
     OutOfMemory,
 }
 
-/// What a row comes to that wants this text, by the answer of its call.
+/// What a row comes to that wants this text, by the answer of its call. A wrong answer is kept.
 // promise: A row is right exactly if its call answers what it wants.
-// mutations: any_answer_right, no_answer_taken_as_right
+// mutations: any_answer_right, answer_lost
 fn judged(answer: Option<String>, wanted: &str) -> Outcome
     ensures right { result ≡ Right ↔ (option_map string_bytes answer ≡ Some wanted.now) }
+    ensures wrong { (text : _) → result ≡ Wrong text → answer ≡ Some text }
+    ensures unreadable { result ≡ Unreadable ↔ (answer ≡ None) }
 {
     match answer {
         Some(answer) if answer.as_str() == wanted => Outcome::Right,

@@ -5,7 +5,7 @@
 
 pub(crate) mod asked;
 mod compact;
-mod frames;
+pub(crate) mod frames;
 pub(crate) mod making;
 mod plain;
 mod shown;

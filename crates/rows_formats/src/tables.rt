@@ -2,28 +2,37 @@
 
 use crate::Answer;
 use crate::decimal::asked::text_of;
-use crate::decimal::spelled::{name_of, no_data, said};
+use crate::decimal::spelled::{followed, name_of, no_data, said};
 use fixed_decimal::Decimal;
 use icu_decimal_data::{
-    CompactPatterns, DecimalCompactLongV1, DecimalCompactShortV1, DecimalDigitsV1, DecimalSymbolsV1,
+    CompactPatterns, DecimalCompactLongV1, DecimalCompactShortV1, DecimalDigitsV1, DecimalSymbols,
+    DecimalSymbolsV1,
 };
 use icu_pattern::SinglePlaceholder;
 use icu_plurals::{PluralOperands, PluralRules, PluralsCardinalV1};
 use icu_provider::{DataIdentifierBorrowed, DataLocale, DataProvider, DataRequest};
-use icu_tables::{Key, TableError, Tables, compact_from_value};
+use icu_tables::{EntryFault, Key, TableError, Tables, compact_from_value};
 use rows::Documents;
 use serde_json::Value;
 use std::alloc::{AllocError, Global};
+
+/// The names of an error and of its key.
+fn of_key(alloc: Global, name: &str, key: Key) -> Answer {
+    Ok(Some(format!(in alloc; "{name} {key:?}")?))
+}
+
+/// The names of the key and of the fault of an entry.
+fn of_entry(alloc: Global, key: Key, index: usize, fault: EntryFault) -> Answer {
+    Ok(Some(format!(in alloc; "Entry {key:?} {index} {fault:?}")?))
+}
 
 /// The names of an error of tables, of the key and of the fault.
 pub(crate) fn refused(alloc: Global, error: TableError) -> Answer {
     match error {
         TableError::OutOfMemory => Err(AllocError),
-        TableError::Missing(key) => Ok(Some(format!(in alloc; "Missing {key:?}")?)),
-        TableError::WrongKind(key) => Ok(Some(format!(in alloc; "WrongKind {key:?}")?)),
-        TableError::Entry { key, index, fault } => Ok(Some(format!(in alloc;
-            "Entry {key:?} {index} {fault:?}"
-        )?)),
+        TableError::Missing(key) => of_key(alloc, "Missing", key),
+        TableError::WrongKind(key) => of_key(alloc, "WrongKind", key),
+        TableError::Entry { key, index, fault } => of_entry(alloc, key, index, fault),
         TableError::NotJson => said(alloc, "NotJson"),
         TableError::Float => said(alloc, "Float"),
     }
@@ -34,7 +43,7 @@ fn joined(alloc: Global, all: String, alone: &str) -> Answer {
     if all.as_str() == alone {
         Ok(Some(all))
     } else {
-        Ok(Some(format!(in alloc; "{all} | for the locale {alone}")?))
+        followed(alloc, all.as_str(), "for the locale", alone)
     }
 }
 
@@ -63,9 +72,12 @@ fn read_alone(alloc: Global, text: &str, locale: &DataLocale) -> Answer {
 }
 
 /// Whether a document is read as tables, and for English alone, or why it isn't.
-fn from_json(alloc: Global, documents: &Documents, document: &str) -> Answer {
+fn from_json(alloc: Global, documents: &Documents, arguments: &[String]) -> Answer {
+    let [document] = arguments else {
+        return Ok(None);
+    };
     let locale = DataLocale::try_from_str("en").unwrap_or_default();
-    match text_of(documents, document) {
+    match text_of(documents, document.as_str()) {
         Some(text) => one_of(
             alloc,
             read_all(alloc, text),
@@ -76,27 +88,35 @@ fn from_json(alloc: Global, documents: &Documents, document: &str) -> Answer {
 }
 
 /// The decimal separator and the grouping separator of symbols.
+fn separators_of(alloc: Global, symbols: &DecimalSymbols) -> Answer {
+    Ok(Some(format!(in alloc;
+        "{} {}",
+        symbols.decimal_separator(),
+        symbols.grouping_separator()
+    )?))
+}
+
+/// The separators of the symbols.
 fn symbols(alloc: Global, tables: &Tables, request: &DataRequest<'_>) -> Answer {
     match <Tables as DataProvider<DecimalSymbolsV1>>::load(tables, alloc, request) {
-        Ok(symbols) => Ok(Some(format!(in alloc;
-            "{} {}",
-            symbols.decimal_separator(),
-            symbols.grouping_separator()
-        )?)),
+        Ok(symbols) => separators_of(alloc, &symbols),
         Err(error) => no_data(alloc, error),
     }
+}
+
+/// The text of characters.
+fn text_of_characters(alloc: Global, characters: &[char]) -> Answer {
+    let mut text = String::new(alloc);
+    for character in characters {
+        text.push(*character)?;
+    }
+    Ok(Some(text))
 }
 
 /// The digits.
 fn digits(alloc: Global, tables: &Tables, request: &DataRequest<'_>) -> Answer {
     match <Tables as DataProvider<DecimalDigitsV1>>::load(tables, alloc, request) {
-        Ok(digits) => {
-            let mut text = String::new(alloc);
-            for digit in &digits {
-                text.push(*digit)?;
-            }
-            Ok(Some(text))
-        }
+        Ok(digits) => text_of_characters(alloc, &digits),
         Err(error) => no_data(alloc, error),
     }
 }
@@ -197,6 +217,21 @@ fn load(alloc: Global, text: &str, marker: &str, locale: &DataLocale, system: &s
     )
 }
 
+/// What the tables answer that the words of a row ask for: a marker, a document, a locale and a
+/// numbering system.
+fn load_by_words(alloc: Global, documents: &Documents, arguments: &[String]) -> Answer {
+    let [marker, document, locale, system] = arguments else {
+        return Ok(None);
+    };
+    let Some(text) = text_of(documents, document.as_str()) else {
+        return Ok(None);
+    };
+    match DataLocale::try_from_str(locale.as_str()) {
+        Ok(locale) => load(alloc, text, marker.as_str(), &locale, system.as_str()),
+        Err(_) => Ok(None),
+    }
+}
+
 /// How many entries the table of a value has, or why it has none.
 fn table_of(alloc: Global, value: &Value) -> Answer {
     match compact_from_value(alloc, value) {
@@ -213,6 +248,17 @@ fn compact(alloc: Global, text: &str) -> Answer {
     }
 }
 
+/// The same of the value of a document.
+fn compact_from_document(alloc: Global, documents: &Documents, arguments: &[String]) -> Answer {
+    let [document] = arguments else {
+        return Ok(None);
+    };
+    match text_of(documents, document.as_str()) {
+        Some(text) => compact(alloc, text),
+        None => Ok(None),
+    }
+}
+
 /// The name of a key, and behind it the key as it is displayed if that is something else.
 fn name(alloc: Global, key: Key) -> Answer {
     let displayed = key.to_string(alloc)?;
@@ -220,7 +266,7 @@ fn name(alloc: Global, key: Key) -> Answer {
     if displayed.as_str() == name {
         Ok(Some(displayed))
     } else {
-        Ok(Some(format!(in alloc; "{name} | displayed {displayed}")?))
+        followed(alloc, name, "displayed", displayed.as_str())
     }
 }
 
@@ -235,6 +281,17 @@ fn key_of(variant: &str) -> Option<Key> {
     }
 }
 
+/// The name of the key of a variant.
+fn name_by_variant(alloc: Global, arguments: &[String]) -> Answer {
+    let [variant] = arguments else {
+        return Ok(None);
+    };
+    match key_of(variant.as_str()) {
+        Some(key) => name(alloc, key),
+        None => Ok(None),
+    }
+}
+
 /// What a call of tables answers.
 pub(crate) fn answer(
     alloc: Global,
@@ -242,25 +299,11 @@ pub(crate) fn answer(
     call: &str,
     arguments: &[String],
 ) -> Answer {
-    match (call, arguments) {
-        ("from_json", [document]) => from_json(alloc, documents, document.as_str()),
-        ("load", [marker, document, locale, system]) => match (
-            text_of(documents, document.as_str()),
-            DataLocale::try_from_str(locale.as_str()),
-        ) {
-            (Some(text), Ok(locale)) => {
-                load(alloc, text, marker.as_str(), &locale, system.as_str())
-            }
-            _ => Ok(None),
-        },
-        ("compact_from_value", [document]) => match text_of(documents, document.as_str()) {
-            Some(text) => compact(alloc, text),
-            None => Ok(None),
-        },
-        ("name", [variant]) => match key_of(variant.as_str()) {
-            Some(key) => name(alloc, key),
-            None => Ok(None),
-        },
+    match call {
+        "from_json" => from_json(alloc, documents, arguments),
+        "load" => load_by_words(alloc, documents, arguments),
+        "compact_from_value" => compact_from_document(alloc, documents, arguments),
+        "name" => name_by_variant(alloc, arguments),
         _ => Ok(None),
     }
 }

@@ -4,6 +4,7 @@
 
 use crate::Answer;
 use crate::decimal::asked::{Asked, asked_of, decimal_of, text_of};
+use crate::decimal::frames::behind_number;
 use crate::decimal::making::{Place, plain_of, rules_of};
 use crate::decimal::spelled::{no_data, sink_of, written};
 use fixed_decimal::Decimal;
@@ -27,26 +28,20 @@ struct Amount<'a> {
 /// The patterns of a unit.
 type Elements = PluralElements<Pattern<SinglePlaceholder>>;
 
-/// The pattern of a text behind a number.
-fn behind_number(
-    alloc: Global,
-    text: &str,
-) -> Result<Option<Pattern<SinglePlaceholder>>, AllocError> {
-    if text == "none" {
-        return Ok(None);
-    }
-    match Pattern::try_new(alloc, Some(0), text) {
-        Ok(pattern) => Ok(Some(pattern)),
-        Err(_) => Err(AllocError),
+/// The pattern of a text behind a number, unless there is none.
+fn pattern_of(alloc: Global, text: &str) -> Result<Option<Pattern<SinglePlaceholder>>, AllocError> {
+    match text {
+        "none" => Ok(None),
+        _ => Ok(Some(behind_number(alloc, text)?)),
     }
 }
 
 /// The patterns of the texts of a unit. They are joined at the end, since all eight are gone through
 /// where the joined ones are given back.
 fn elements_of(alloc: Global, amount: Amount<'_>) -> Result<Option<Elements>, AllocError> {
-    let other = behind_number(alloc, amount.other)?;
-    let one = behind_number(alloc, amount.one)?;
-    let many = behind_number(alloc, amount.many)?;
+    let other = pattern_of(alloc, amount.other)?;
+    let one = pattern_of(alloc, amount.one)?;
+    let many = pattern_of(alloc, amount.many)?;
     match other {
         Some(other) => Ok(Some(
             PluralElements::new(other)

@@ -275,25 +275,29 @@ fn answer_of_tables(
     call: &str,
     arguments: &[String],
 ) -> Result<Option<String>, Unmade> {
-    match (call, arguments) {
-        ("CompactPatterns::new", [text, zero]) => new(alloc, documents, text, zero),
-        ("CompactPatterns::new_without_place", [text]) => {
-            new_without_place(alloc, documents, text)
+    match arguments {
+        [text] => match call {
+            "CompactPatterns::new_without_place" => new_without_place(alloc, documents, text),
+            "byte_count" => byte_count(alloc, documents, text),
+            "is_table_readable" => readable(alloc, documents, text),
+            _ => Ok(None),
+        },
+        [text, other] => match call {
+            "CompactPatterns::new" => new(alloc, documents, text, other),
+            "CompactPatterns::copy" => copy(alloc, documents, text, other),
+            "CompactPatterns::eq" => eq(alloc, documents, text, other),
+            "CompactPatterns::as_bytes" => table_bytes(alloc, documents, false, text, other),
+            "pack" => table_bytes(alloc, documents, true, text, other),
+            "entry_index" => entry_index(alloc, documents, text, other),
+            "sole_pattern" => sole_pattern(alloc, documents, text, other),
+            _ => Ok(None),
+        },
+        [text, index, at] if call == "CompactPatterns::slot" => {
+            slot(alloc, documents, text, (index, at))
         }
-        ("CompactPatterns::copy", [text, zero]) => copy(alloc, documents, text, zero),
-        ("CompactPatterns::eq", [one, other]) => eq(alloc, documents, one, other),
-        ("CompactPatterns::as_bytes", [text, zero]) => {
-            table_bytes(alloc, documents, false, text, zero)
-        }
-        ("pack", [text, zero]) => table_bytes(alloc, documents, true, text, zero),
-        ("byte_count", [text]) => byte_count(alloc, documents, text),
-        ("entry_index", [text, magnitude]) => entry_index(alloc, documents, text, magnitude),
-        ("CompactPatterns::slot", [text, index, at]) => slot(alloc, documents, text, (index, at)),
-        ("sole_pattern", [text, index]) => sole_pattern(alloc, documents, text, index),
-        ("pick", [text, index, rules, number]) => {
+        [text, index, rules, number] if call == "pick" => {
             pick(alloc, documents, text, (index, rules, number))
         }
-        ("is_table_readable", [text]) => readable(alloc, documents, text),
         _ => Ok(None),
     }
 }

@@ -43,22 +43,29 @@ fn pattern<P: PatternBackend>(alloc: Global, text: &str) -> Result<Pattern<P>, U
     }
 }
 
+/// Elements with the pattern of a name and a text.
+fn with_part<P: PatternBackend>(
+    alloc: Global,
+    elements: Elements<P>,
+    part: &str,
+) -> Result<Elements<P>, Unmade> {
+    let (name, text) = part.split_once(' ').ok_or(Unmade::Unreadable)?;
+    let value = pattern(alloc, text)?;
+    with_value(elements, name, Some(value)).ok_or(Unmade::Unreadable)
+}
+
+/// Elements with the pattern for all other numbers alone.
+fn with_other<P: PatternBackend>(alloc: Global, part: &str) -> Result<Elements<P>, Unmade> {
+    let text = part.strip_prefix("other ").ok_or(Unmade::Unreadable)?;
+    Ok(PluralElements::new(pattern(alloc, text)?))
+}
+
 /// The patterns that a text spells.
 fn elements_of<P: PatternBackend>(alloc: Global, text: &str) -> Result<Elements<P>, Unmade> {
     let mut parts = text.split(", ");
-    let Some(other) = parts.next().unwrap_or_default().strip_prefix("other ") else {
-        return Err(Unmade::Unreadable);
-    };
-    let mut elements = PluralElements::new(pattern(alloc, other)?);
+    let mut elements = with_other(alloc, parts.next().unwrap_or_default())?;
     for part in parts {
-        let Some((name, text)) = part.split_once(' ') else {
-            return Err(Unmade::Unreadable);
-        };
-        let value = pattern(alloc, text)?;
-        elements = match with_value(elements, name, Some(value)) {
-            Some(elements) => elements,
-            None => return Err(Unmade::Unreadable),
-        };
+        elements = with_part(alloc, elements, part)?;
     }
     Ok(elements)
 }

@@ -323,23 +323,29 @@ fn answer_of_digits(
     call: &str,
     arguments: &[String],
 ) -> Result<Option<String>, DecimalError> {
-    match (call, arguments) {
-        ("Decimal::copy", [text]) => copy(alloc, text),
-        ("Decimal::eq", [left, right]) => eq(alloc, left, right),
-        ("UnsignedDecimal::copy", [text]) => copy_number(alloc, text),
-        ("digits", [text]) => digits(alloc, text),
-        ("digit_at", [text, power]) => digit_at(alloc, text, power),
-        ("nonzero_magnitude_start", [text]) => magnitude(alloc, text),
-        ("is_zero", [text]) => is_zero(alloc, text),
-        ("trimmed_end", [text]) => trimmed_end(alloc, text),
-        ("with_sign_display", [text, display]) => with_sign_display(alloc, text, display),
-        ("rounded", [text, power]) => rounded(alloc, text, power),
-        ("UnsignedDecimal::rounded", [text, power]) => rounded_number(alloc, text, power),
-        ("rounded_significand", [text, power, exponent]) => {
+    match arguments {
+        [text, powers @ ..] if call == "multiply_pow10" => multiply_pow10(alloc, text, powers),
+        [text] => match call {
+            "Decimal::copy" => copy(alloc, text),
+            "UnsignedDecimal::copy" => copy_number(alloc, text),
+            "digits" => digits(alloc, text),
+            "nonzero_magnitude_start" => magnitude(alloc, text),
+            "is_zero" => is_zero(alloc, text),
+            "trimmed_end" => trimmed_end(alloc, text),
+            _ => Ok(None),
+        },
+        [text, other] => match call {
+            "Decimal::eq" => eq(alloc, text, other),
+            "digit_at" => digit_at(alloc, text, other),
+            "with_sign_display" => with_sign_display(alloc, text, other),
+            "rounded" => rounded(alloc, text, other),
+            "UnsignedDecimal::rounded" => rounded_number(alloc, text, other),
+            "multiplied_pow10" => multiplied_pow10(alloc, text, other),
+            _ => Ok(None),
+        },
+        [text, power, exponent] if call == "rounded_significand" => {
             rounded_significand(alloc, text, power, exponent)
         }
-        ("multiplied_pow10", [text, power]) => multiplied_pow10(alloc, text, power),
-        ("multiply_pow10", [text, powers @ ..]) => multiply_pow10(alloc, text, powers),
         _ => Ok(None),
     }
 }
@@ -350,13 +356,16 @@ pub(crate) fn answer(
     call: &str,
     arguments: &[String],
 ) -> Result<Option<String>, AllocError> {
-    match (call, arguments) {
-        ("Decimal::try_from_str", [text]) => made(alloc, Decimal::try_from_str(alloc, text)),
-        ("try_from_utf8", [text, more @ ..]) => try_from_utf8(alloc, text, more),
-        ("from_u64", [value]) => from_u64(alloc, value),
-        ("from_i64", [value]) => from_i64(alloc, value),
-        ("UnsignedDecimal::from_u64", [value]) => unsigned_from_u64(alloc, value),
-        ("one", []) => made_number(alloc, UnsignedDecimal::one(alloc)),
+    match arguments {
+        [] if call == "one" => made_number(alloc, UnsignedDecimal::one(alloc)),
+        [text, more @ ..] if call == "try_from_utf8" => try_from_utf8(alloc, text, more),
+        [text] => match call {
+            "Decimal::try_from_str" => made(alloc, Decimal::try_from_str(alloc, text)),
+            "from_u64" => from_u64(alloc, text),
+            "from_i64" => from_i64(alloc, text),
+            "UnsignedDecimal::from_u64" => unsigned_from_u64(alloc, text),
+            _ => told(alloc, answer_of_digits(alloc, call, arguments)),
+        },
         _ => told(alloc, answer_of_digits(alloc, call, arguments)),
     }
 }

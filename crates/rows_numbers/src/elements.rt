@@ -108,14 +108,18 @@ pub(crate) fn answer(
     call: &str,
     arguments: &[String],
 ) -> Result<Option<String>, AllocError> {
-    match (call, arguments) {
-        ("PluralElements::slot", [text]) => slots(alloc, text),
-        ("sole", [text]) => sole(alloc, text),
-        ("PluralElements::eq", [one, other]) => eq(alloc, one, other),
-        ("equal_without_explicit_one", [one, other]) => {
-            equal_without_explicit_one(alloc, one, other)
-        }
-        ("PluralElements::get", [text, rules, number, exponent]) => {
+    match arguments {
+        [text] => match call {
+            "PluralElements::slot" => slots(alloc, text),
+            "sole" => sole(alloc, text),
+            _ => Ok(None),
+        },
+        [one, other] => match call {
+            "PluralElements::eq" => eq(alloc, one, other),
+            "equal_without_explicit_one" => equal_without_explicit_one(alloc, one, other),
+            _ => Ok(None),
+        },
+        [text, rules, number, exponent] if call == "PluralElements::get" => {
             get(alloc, documents, text, (rules, number, exponent))
         }
         _ => Ok(None),

@@ -190,35 +190,46 @@ fn preferences_eq(
     }
 }
 
-/// What a call of preferences answers.
-fn answer_of_preferences(
+/// Plain preferences made of compact ones, as they are spelled.
+fn plain_preferences_from(
     alloc: Global,
-    call: &str,
-    arguments: &[String],
+    locale: &str,
+    system: &str,
 ) -> Result<Option<String>, AllocError> {
-    match (call, arguments) {
-        ("nu_id", [system, locale]) => nu_id(alloc, system, locale),
-        ("DecimalFormatterPreferences::from", [locale, system]) => {
-            match preferences(locale, system) {
-                Some(compact) => plain_preferred(
-                    alloc,
-                    &DecimalFormatterPreferences::from(&compact),
-                ),
-                None => Ok(None),
-            }
+    match preferences(locale, system) {
+        Some(compact) => plain_preferred(alloc, &DecimalFormatterPreferences::from(&compact)),
+        None => Ok(None),
+    }
+}
+
+/// The locale of preferences of plural rules made of compact ones.
+fn plural_preferences_from(
+    alloc: Global,
+    locale: &str,
+    system: &str,
+) -> Result<Option<String>, AllocError> {
+    match preferences(locale, system) {
+        Some(compact) => {
+            let plural = PluralRulesPreferences::from(&compact);
+            said(alloc, plural.locale_preferences.as_str())
         }
-        ("PluralRulesPreferences::from", [locale, system]) => match preferences(locale, system) {
-            Some(compact) => {
-                let plural = PluralRulesPreferences::from(&compact);
-                said(alloc, plural.locale_preferences.as_str())
-            }
-            None => Ok(None),
-        },
-        ("CompactDecimalFormatterPreferences::eq", [locale, system, other, other_system]) => {
-            let other = preferences(other, other_system);
-            preferences_eq(alloc, preferences(locale, system), other)
+        None => Ok(None),
+    }
+}
+
+/// What a call without arguments answers: the values that nobody asked to change.
+fn defaults(alloc: Global, call: &str) -> Result<Option<String>, AllocError> {
+    match call {
+        "GroupingStrategy::default" => said(alloc, name_of(Some(GroupingStrategy::default()))),
+        "DecimalFormatterOptions::default" => {
+            let options = DecimalFormatterOptions::default();
+            said(alloc, name_of(options.grouping_strategy))
         }
-        ("CompactDecimalFormatterPreferences::default", []) => {
+        "CompactDecimalFormatterOptions::default" => {
+            let options = CompactDecimalFormatterOptions::default();
+            said(alloc, name_of(options.grouping_strategy))
+        }
+        "CompactDecimalFormatterPreferences::default" => {
             let compact = CompactDecimalFormatterPreferences::default();
             preferred(
                 alloc,
@@ -226,13 +237,49 @@ fn answer_of_preferences(
                 &compact.numbering_system,
             )
         }
-        ("DecimalFormatterPreferences::default", []) => {
+        "DecimalFormatterPreferences::default" => {
             plain_preferred(alloc, &DecimalFormatterPreferences::default())
         }
-        ("PluralRulesPreferences::default", []) => {
+        "PluralRulesPreferences::default" => {
             let plural = PluralRulesPreferences::default();
             said(alloc, plural.locale_preferences.as_str())
         }
+        _ => Ok(None),
+    }
+}
+
+/// What a call with two arguments answers.
+fn answer_of_two(
+    alloc: Global,
+    call: &str,
+    one: &str,
+    other: &str,
+) -> Result<Option<String>, AllocError> {
+    match call {
+        "longest_ungrouped" => longest(alloc, one, other),
+        "CompactDecimalFormatterOptions::from" => compact_from(alloc, one, other),
+        "DecimalFormatterOptions::from" => plain_from(alloc, one, other),
+        "nu_id" => nu_id(alloc, one, other),
+        "DecimalFormatterPreferences::from" => plain_preferences_from(alloc, one, other),
+        "PluralRulesPreferences::from" => plural_preferences_from(alloc, one, other),
+        _ => Ok(None),
+    }
+}
+
+/// What a call with four arguments answers.
+fn answer_of_four(
+    alloc: Global,
+    call: &str,
+    (one, other): (&str, &str),
+    (third, fourth): (&str, &str),
+) -> Result<Option<String>, AllocError> {
+    match call {
+        "check" => checked(alloc, (one, other), third, fourth),
+        "CompactDecimalFormatterPreferences::eq" => preferences_eq(
+            alloc,
+            preferences(one, other),
+            preferences(third, fourth),
+        ),
         _ => Ok(None),
     }
 }
@@ -243,28 +290,14 @@ pub(crate) fn answer(
     call: &str,
     arguments: &[String],
 ) -> Result<Option<String>, AllocError> {
-    match (call, arguments) {
-        ("check", [upper, magnitude, strategy, sizes]) => {
-            checked(alloc, (upper, magnitude), strategy, sizes)
+    match arguments {
+        [] => defaults(alloc, call),
+        [sizes] if call == "secondary_size" => secondary(alloc, sizes),
+        [one, other] => answer_of_two(alloc, call, one, other),
+        [upper, strategy, sizes] if call == "check_each" => {
+            separators(alloc, upper, strategy, sizes)
         }
-        ("check_each", [upper, strategy, sizes]) => separators(alloc, upper, strategy, sizes),
-        ("longest_ungrouped", [strategy, sizes]) => longest(alloc, strategy, sizes),
-        ("secondary_size", [sizes]) => secondary(alloc, sizes),
-        ("GroupingStrategy::default", []) => {
-            said(alloc, name_of(Some(GroupingStrategy::default())))
-        }
-        ("DecimalFormatterOptions::default", []) => {
-            let options = DecimalFormatterOptions::default();
-            said(alloc, name_of(options.grouping_strategy))
-        }
-        ("CompactDecimalFormatterOptions::default", []) => {
-            let options = CompactDecimalFormatterOptions::default();
-            said(alloc, name_of(options.grouping_strategy))
-        }
-        ("CompactDecimalFormatterOptions::from", [kind, strategy]) => {
-            compact_from(alloc, kind, strategy)
-        }
-        ("DecimalFormatterOptions::from", [kind, strategy]) => plain_from(alloc, kind, strategy),
-        _ => answer_of_preferences(alloc, call, arguments),
+        [one, other, third, fourth] => answer_of_four(alloc, call, (one, other), (third, fourth)),
+        _ => Ok(None),
     }
 }

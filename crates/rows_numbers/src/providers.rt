@@ -97,39 +97,32 @@ fn identifiers_eq(
     }
 }
 
-/// What a call of identifiers answers.
-fn answer_of_identifiers(
-    alloc: Global,
-    call: &str,
-    arguments: &[String],
-) -> Result<Option<String>, AllocError> {
-    match (call, arguments) {
-        ("for_locale", [locale]) => identifier(alloc, None, locale),
-        ("for_marker_attributes", [system]) => {
-            spelled(alloc, DataIdentifierBorrowed::for_marker_attributes(system))
-        }
-        ("for_marker_attributes_and_locale", [system, locale]) => {
-            identifier(alloc, Some(system), locale)
-        }
-        ("DataIdentifierBorrowed::eq", [system, locale, other_system, other_locale]) => {
-            identifiers_eq(alloc, (system, locale), (other_system, other_locale))
-        }
-        _ => Ok(None),
-    }
-}
-
 /// What a call of locales, numbering systems or identifiers answers.
 pub(crate) fn answer(
     alloc: Global,
     call: &str,
     arguments: &[String],
 ) -> Result<Option<String>, AllocError> {
-    match (call, arguments) {
-        ("DataLocale::try_from_str", [text]) => locale(alloc, text),
-        ("DataLocale::eq", [one, other]) => locales_eq(alloc, one, other),
-        ("DataLocale::default", []) => said(alloc, DataLocale::default().as_str()),
-        ("NumberingSystem::try_from_str", [name]) => system(alloc, name),
-        ("NumberingSystem::eq", [one, other]) => systems_eq(alloc, one, other),
-        _ => answer_of_identifiers(alloc, call, arguments),
+    match arguments {
+        [] if call == "DataLocale::default" => said(alloc, DataLocale::default().as_str()),
+        [text] => match call {
+            "DataLocale::try_from_str" => locale(alloc, text),
+            "NumberingSystem::try_from_str" => system(alloc, text),
+            "for_locale" => identifier(alloc, None, text),
+            "for_marker_attributes" => {
+                spelled(alloc, DataIdentifierBorrowed::for_marker_attributes(text))
+            }
+            _ => Ok(None),
+        },
+        [one, other] => match call {
+            "DataLocale::eq" => locales_eq(alloc, one, other),
+            "NumberingSystem::eq" => systems_eq(alloc, one, other),
+            "for_marker_attributes_and_locale" => identifier(alloc, Some(one), other),
+            _ => Ok(None),
+        },
+        [system, locale, other_system, other_locale] if call == "DataIdentifierBorrowed::eq" => {
+            identifiers_eq(alloc, (system, locale), (other_system, other_locale))
+        }
+        _ => Ok(None),
     }
 }

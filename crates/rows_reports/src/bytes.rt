@@ -1,4 +1,4 @@
-//! Bytes, as texts of rows.
+//! Bytes, as texts of rows, and what is appended to a text.
 
 use std::alloc::{AllocError, Global};
 use std::str;
@@ -26,22 +26,49 @@ pub(crate) fn bytes_of(alloc: Global, text: &str) -> Result<Vec<u8>, AllocError>
     Ok(bytes)
 }
 
-/// The text of bytes: where they aren't UTF-8, each that isn't ASCII is the character that stands
-/// for it.
-pub(crate) fn text_of(alloc: Global, bytes: &[u8]) -> Result<String, AllocError> {
-    if let Ok(text) = str::from_utf8(bytes) {
-        return String::from_str(alloc, text);
+/// The character that stands for a byte: an ASCII byte stands for itself.
+fn character_of(byte: u8) -> char {
+    if byte.is_ascii() {
+        return char::from(byte);
     }
-    let mut text = String::new(alloc);
+    char::from_u32(0xf700 + u32::from(byte)).unwrap_or_default()
+}
+
+/// Appends the characters that stand for bytes.
+fn push_characters(bytes: &[u8], text: &mut String) -> Result<(), AllocError> {
     for byte in bytes {
-        let number = u32::from(*byte);
-        let code = if byte.is_ascii() {
-            number
-        } else {
-            0xf700 + number
-        };
-        text.push(char::from_u32(code).unwrap_or_default())?;
+        text.push(character_of(*byte))?;
     }
+    Ok(())
+}
+
+/// Appends the text of bytes: where they aren't UTF-8, each that isn't ASCII is the character that
+/// stands for it.
+pub(crate) fn push_text(bytes: &[u8], text: &mut String) -> Result<(), AllocError> {
+    match str::from_utf8(bytes) {
+        Ok(part) => text.push_str(part),
+        Err(_) => push_characters(bytes, text),
+    }
+}
+
+/// Appends a front and the text of bytes behind it, or nothing if there are no bytes.
+pub(crate) fn push_behind(front: &str, bytes: &[u8], text: &mut String) -> Result<(), AllocError> {
+    if bytes.is_empty() {
+        return Ok(());
+    }
+    text.push_str(front)?;
+    push_text(bytes, text)
+}
+
+/// A text if something is so, and else the empty one.
+pub(crate) fn text_if(is_so: bool, text: &'static str) -> &'static str {
+    if is_so { text } else { "" }
+}
+
+/// The text of bytes, as [`push_text`] appends it.
+pub(crate) fn text_of(alloc: Global, bytes: &[u8]) -> Result<String, AllocError> {
+    let mut text = String::new(alloc);
+    push_text(bytes, &mut text)?;
     Ok(text)
 }
 

@@ -25,6 +25,27 @@ pub(crate) struct Explained<'a> {
     told: Told<'a>,
 }
 
+/// What a call explains by this word alone.
+fn told_by_one<'a>(call: &str, word: &'a str) -> Option<Told<'a>> {
+    match call {
+        "explain" => Some(Told::Text(word)),
+        "explain_line" => Some(Told::Line(word)),
+        _ => None,
+    }
+}
+
+/// What a call explains by this word and those behind it.
+fn told_by<'a>(call: &str, word: &'a str, others: &'a [String]) -> Option<Told<'a>> {
+    if call == "explain_lines" {
+        return Some(Told::Lines(word == "stop", others));
+    }
+    match others {
+        [] => told_by_one(call, word),
+        [text] if call == "explain_at" => Some(Told::At(word, text.as_str())),
+        _ => None,
+    }
+}
+
 impl<'a> Explained<'a> {
     /// What a call explains by these words, of which the first is the width.
     pub(crate) fn of(call: &str, words: &'a [String]) -> Option<Explained<'a>> {
@@ -32,23 +53,20 @@ impl<'a> Explained<'a> {
         let Ok(width) = width.parse() else {
             return None;
         };
-        let told = match (call, words) {
-            ("explain", [text]) => Told::Text(text.as_str()),
-            ("explain_line", [line]) => Told::Line(line.as_str()),
-            ("explain_lines", [stops, lines @ ..]) => Told::Lines(stops.as_str() == "stop", lines),
-            ("explain_at", [place, text]) => Told::At(place.as_str(), text.as_str()),
-            _ => return None,
-        };
+        let (word, others) = words.split_first()?;
+        let told = told_by(call, word.as_str(), others)?;
         Some(Explained { width, told })
     }
 }
 
 /// What says how many fraction digits are written.
 fn digits_by<'a>(given: &Given<'a>) -> DigitsBy<'a> {
-    match (given.text("fraction"), given.text("currency")) {
-        (Some(text), _) => DigitsBy::Fraction(text),
-        (None, Some(code)) => DigitsBy::Currency(code),
-        (None, None) => DigitsBy::Given,
+    if let Some(text) = given.text("fraction") {
+        return DigitsBy::Fraction(text);
+    }
+    match given.text("currency") {
+        Some(code) => DigitsBy::Currency(code),
+        None => DigitsBy::Given,
     }
 }
 

@@ -8,15 +8,22 @@ use locnum_options::OptionFault;
 use std::alloc::{AllocError, Global};
 
 /// The names of an error of tables, of the key and of the fault.
+fn names(alloc: Global, error: TableError) -> Result<String, AllocError> {
+    match error {
+        TableError::Missing(key) => format!(in alloc; "Missing {key:?}"),
+        TableError::WrongKind(key) => format!(in alloc; "WrongKind {key:?}"),
+        TableError::Entry { key, index, fault } => {
+            format!(in alloc; "Entry {key:?} {index} {fault:?}")
+        }
+        _ => format!(in alloc; "{error:?}"),
+    }
+}
+
+/// Why tables are refused.
 fn refused(alloc: Global, error: TableError) -> Answer {
     match error {
         TableError::OutOfMemory => Err(AllocError),
-        TableError::Missing(key) => Ok(Some(format!(in alloc; "Missing {key:?}")?)),
-        TableError::WrongKind(key) => Ok(Some(format!(in alloc; "WrongKind {key:?}")?)),
-        TableError::Entry { key, index, fault } => Ok(Some(format!(in alloc;
-            "Entry {key:?} {index} {fault:?}"
-        )?)),
-        TableError::NotJson | TableError::Float => Ok(Some(format!(in alloc; "{error:?}")?)),
+        _ => Ok(Some(names(alloc, error)?)),
     }
 }
 

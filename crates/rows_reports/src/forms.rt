@@ -53,10 +53,15 @@ fn marked(alloc: Global, form: &Form, text: &[u8]) -> Answer {
     }
 }
 
+/// The character of a digit.
+fn character_of(digit: u8) -> char {
+    char::from(b'0' + digit % 10)
+}
+
 /// Appends digits.
 fn push_digits(digits: &[u8], text: &mut String) -> Result<(), AllocError> {
     for digit in digits {
-        text.push((b'0' + *digit % 10) as char)?;
+        text.push(character_of(*digit))?;
     }
     Ok(())
 }
@@ -163,16 +168,32 @@ fn by_file<'a>(
     }
 }
 
+/// What a call asks of a form that has no other word.
+fn question_alone<'a>(call: &str) -> Option<Question<'a>> {
+    match call {
+        "make" => Some(Question::Made),
+        "formatter" => Some(Question::Formatter),
+        _ => None,
+    }
+}
+
+/// What a call asks of a form by one word.
+fn question_by<'a>(call: &str, word: &'a str) -> Option<Question<'a>> {
+    match call {
+        "push" => Some(Question::Pushed(word)),
+        "mark" => Some(Question::Marked(word)),
+        "decimal" => Some(Question::Decimal(word)),
+        "run" => Some(Question::Run(word)),
+        "report" => Some(Question::Report(word)),
+        _ => None,
+    }
+}
+
 /// What a call asks of a form by these words.
 fn question_of<'a>(call: &str, words: &'a [String]) -> Option<Question<'a>> {
-    match (call, words) {
-        ("make", []) => Some(Question::Made),
-        ("push", [text]) => Some(Question::Pushed(text.as_str())),
-        ("mark", [text]) => Some(Question::Marked(text.as_str())),
-        ("decimal", [text]) => Some(Question::Decimal(text.as_str())),
-        ("formatter", []) => Some(Question::Formatter),
-        ("run", [input]) => Some(Question::Run(input.as_str())),
-        ("report", [input]) => Some(Question::Report(input.as_str())),
+    match words {
+        [] => question_alone(call),
+        [word] => question_by(call, word.as_str()),
         _ => Some(Question::Explained(Explained::of(call, words)?)),
     }
 }

@@ -1,26 +1,31 @@
 //! Calls of `locnum_lines` over an input.
 
 use crate::Answer;
-use crate::bytes::text_of;
+use crate::bytes::{push_behind, push_text, text_if};
 use crate::counts::at_once;
 use locnum_forms::Form;
 use locnum_lines::{LineSettings, Report, RunError, run};
 use rows::SlowReader;
 use std::alloc::{AllocError, Global};
 
-/// What a run leaves: its output, whether a text was rejected, whether it stopped, and its notes.
+/// Appends what a run leaves: its output, whether a text was rejected, whether it stopped, and its
+/// notes.
+fn push_left(
+    report: &Report,
+    output: &[u8],
+    notes: &[u8],
+    text: &mut String,
+) -> Result<(), AllocError> {
+    push_text(output, text)?;
+    text.push_str(text_if(report.is_refused, " | rejected"))?;
+    text.push_str(text_if(report.is_stopped, " | stopped"))?;
+    push_behind(" | ", notes, text)
+}
+
+/// What a run leaves.
 fn left(alloc: Global, report: &Report, output: &[u8], notes: &[u8]) -> Result<String, AllocError> {
-    let mut text = text_of(alloc, output)?;
-    if report.is_refused {
-        text.push_str(" | rejected")?;
-    }
-    if report.is_stopped {
-        text.push_str(" | stopped")?;
-    }
-    if !notes.is_empty() {
-        text.push_str(" | ")?;
-        text.push_str(text_of(alloc, notes)?.as_str())?;
-    }
+    let mut text = String::new(alloc);
+    push_left(report, output, notes, &mut text)?;
     Ok(text)
 }
 
@@ -59,13 +64,16 @@ pub(crate) fn ran(alloc: Global, form: &Form, settings: &LineSettings, input: &[
     Ok(Some(whole))
 }
 
-/// The greatest number of fields, and the first number that holds the delimiter, if one does.
+/// Appends the greatest number of fields, and the first number that holds the delimiter, if one does.
+fn push_report(alloc: Global, report: &Report, text: &mut String) -> Result<(), AllocError> {
+    text.push_str(format!(in alloc; "most fields {}", report.most_fields)?.as_str())?;
+    push_behind(" | holding ", &report.holding, text)
+}
+
+/// What a report says of fields.
 fn report_text(alloc: Global, report: &Report) -> Result<String, AllocError> {
-    let mut text = format!(in alloc; "most fields {}", report.most_fields)?;
-    if !report.holding.is_empty() {
-        text.push_str(" | holding ")?;
-        text.push_str(text_of(alloc, &report.holding)?.as_str())?;
-    }
+    let mut text = String::new(alloc);
+    push_report(alloc, report, &mut text)?;
     Ok(text)
 }
 

@@ -1,36 +1,48 @@
 //! Calls of `decimal_lines`.
 
-use crate::bytes::{bytes_of, text_of};
+use crate::bytes::{bytes_of, push_behind, text_of};
 use crate::counts::at_once;
 use crate::faults::{displayed, no_tables, not_written};
+use crate::options::push_grouping;
 use crate::rooms::{Filling, filled};
 use crate::words::{file_of, texts_of};
 use crate::{Answer, parts, pieces};
 use decimal_lines::{
-    Mode, RunError, StartError, TextError, compact_options, format_parts, judge_tables, mark_shown,
-    parse_words, plain_options, read_decimal, run,
+    Mode, RunError, StartError, TextError, Words, compact_options, format_parts, judge_tables,
+    mark_shown, parse_words, plain_options, read_decimal, run,
 };
 use icu_decimal::options::GroupingStrategy;
 use rows::{Documents, SlowReader};
 use std::alloc::{AllocError, Global};
 
+/// Appends what words ask for.
+fn push_words(alloc: Global, words: &Words<'_>, text: &mut String) -> Result<(), AllocError> {
+    text.push_str("path ")?;
+    text.push_str(words.path)?;
+    text.push_str(" locale ")?;
+    text.push_str(words.locale.as_str())?;
+    text.push_str(format!(in alloc; " style {:?}", words.style)?.as_str())?;
+    let system = match &words.system {
+        Some(system) => system.as_str(),
+        None => "",
+    };
+    push_behind(" system ", system.as_bytes(), text)?;
+    push_grouping(alloc, words.grouping, text)
+}
+
+/// What words ask for.
+fn asked_by(alloc: Global, words: &Words<'_>) -> Result<String, AllocError> {
+    let mut text = String::new(alloc);
+    push_words(alloc, words, &mut text)?;
+    Ok(text)
+}
+
 /// What `parse_words` answers.
 fn words_text(alloc: Global, words: &[String]) -> Answer {
-    let texts = texts_of(alloc, words)?;
-    let Some(words) = parse_words(&texts) else {
-        return Ok(Some(String::from_str(alloc, "nothing")?));
-    };
-    let locale = words.locale.as_str();
-    let style = words.style;
-    let mut text = format!(in alloc; "path {} locale {locale} style {style:?}", words.path)?;
-    if let Some(system) = &words.system {
-        text.push_str(" system ")?;
-        text.push_str(system.as_str())?;
+    match parse_words(&texts_of(alloc, words)?) {
+        Some(words) => Ok(Some(asked_by(alloc, &words)?)),
+        None => Ok(Some(String::from_str(alloc, "nothing")?)),
     }
-    if let Some(grouping) = words.grouping {
-        text.push_str(format!(in alloc; " grouping {grouping:?}")?.as_str())?;
-    }
-    Ok(Some(text))
 }
 
 /// The strategy of a word; `none` is none.
@@ -51,27 +63,42 @@ fn strategy_text(alloc: Global, strategy: Option<GroupingStrategy>) -> Answer {
     }
 }
 
-/// The strategy that `plain_options` or `compact_options` has.
-fn options_text(alloc: Global, call: &str, word: &str) -> Answer {
-    match (call, strategy_of(word)) {
-        ("plain_options", Some(asked)) => {
-            strategy_text(alloc, plain_options(asked).grouping_strategy)
-        }
-        ("compact_options", Some(asked)) => {
-            strategy_text(alloc, compact_options(asked).grouping_strategy)
-        }
-        _ => Ok(None),
+/// The strategy that `plain_options` or `compact_options` has for a strategy.
+fn strategy_by(call: &str, asked: Option<GroupingStrategy>) -> Option<GroupingStrategy> {
+    if call == "plain_options" {
+        plain_options(asked).grouping_strategy
+    } else {
+        compact_options(asked).grouping_strategy
+    }
+}
+
+/// The strategy that `plain_options` or `compact_options` has for that of a word.
+fn options_text(alloc: Global, call: &str, arguments: &[String]) -> Answer {
+    let [word] = arguments else {
+        return Ok(None);
+    };
+    match strategy_of(word.as_str()) {
+        Some(asked) => strategy_text(alloc, strategy_by(call, asked)),
+        None => Ok(None),
+    }
+}
+
+/// Whether `judge_tables` accepts a file.
+fn judgement(alloc: Global, file: &[u8]) -> Answer {
+    match judge_tables(alloc, file) {
+        Ok(()) => Ok(Some(String::from_str(alloc, "accepted")?)),
+        Err(fault) => no_tables(alloc, fault),
     }
 }
 
 /// What `judge_tables` answers.
-fn judged(alloc: Global, documents: &Documents, file: &str) -> Answer {
-    let Some(file) = file_of(alloc, documents, file)? else {
+fn judged(alloc: Global, documents: &Documents, arguments: &[String]) -> Answer {
+    let [file] = arguments else {
         return Ok(None);
     };
-    match judge_tables(alloc, &file) {
-        Ok(()) => Ok(Some(String::from_str(alloc, "accepted")?)),
-        Err(fault) => no_tables(alloc, fault),
+    match file_of(alloc, documents, file.as_str())? {
+        Some(file) => judgement(alloc, &file),
+        None => Ok(None),
     }
 }
 
@@ -179,23 +206,36 @@ fn by_texts(
     }
 }
 
+/// What a call asks of a mode by the first of these words, and the words behind it.
+fn question_by<'a>(call: &str, words: &'a [String]) -> Option<(Question<'a>, &'a [String])> {
+    let (first, words) = words.split_first()?;
+    match call {
+        "run_mode" => Some((Question::Run(first.as_str()), words)),
+        "format_parts" => Some((Question::Parts(first.as_str()), words)),
+        "mark_shown" => Some((Question::Shown(first.as_str()), words)),
+        _ => {
+            let (text, words) = words.split_first()?;
+            let filling = Filling::of(call, first.as_str(), text.as_str())?;
+            Some((Question::Filled(filling), words))
+        }
+    }
+}
+
 /// What a call answers that asks a mode, whose words stand behind the other arguments.
 fn asked_of_mode(alloc: Global, documents: &Documents, call: &str, arguments: &[String]) -> Answer {
-    match (call, arguments) {
-        ("make_mode", words) => by_texts(alloc, documents, words, Question::Made),
-        ("run_mode", [input, words @ ..]) => {
-            by_texts(alloc, documents, words, Question::Run(input.as_str()))
-        }
-        ("format_parts", [text, words @ ..]) => {
-            by_texts(alloc, documents, words, Question::Parts(text.as_str()))
-        }
-        ("mark_shown", [text, words @ ..]) => {
-            by_texts(alloc, documents, words, Question::Shown(text.as_str()))
-        }
-        (_, [room, text, words @ ..]) => match Filling::of(call, room.as_str(), text.as_str()) {
-            Some(filling) => by_texts(alloc, documents, words, Question::Filled(filling)),
-            None => Ok(None),
-        },
+    if call == "make_mode" {
+        return by_texts(alloc, documents, arguments, Question::Made);
+    }
+    match question_by(call, arguments) {
+        Some((question, words)) => by_texts(alloc, documents, words, question),
+        None => Ok(None),
+    }
+}
+
+/// The text of the fault that two words name.
+fn fault_text(alloc: Global, arguments: &[String]) -> Answer {
+    match arguments {
+        [kind, name] => displayed(alloc, kind.as_str(), name.as_str()),
         _ => Ok(None),
     }
 }
@@ -207,14 +247,14 @@ pub(crate) fn answer(
     call: &str,
     arguments: &[String],
 ) -> Answer {
-    match (call, arguments) {
-        ("parse_words", words) => words_text(alloc, words),
-        ("plain_options" | "compact_options", [word]) => {
-            options_text(alloc, call, word.as_str())
-        }
-        ("judge_tables", [file]) => judged(alloc, documents, file.as_str()),
-        ("display", [kind, name]) => displayed(alloc, kind.as_str(), name.as_str()),
-        _ if call.starts_with("push_") => pieces::answer(alloc, call, arguments),
+    if call.starts_with("push_") {
+        return pieces::answer(alloc, call, arguments);
+    }
+    match call {
+        "parse_words" => words_text(alloc, arguments),
+        "plain_options" | "compact_options" => options_text(alloc, call, arguments),
+        "judge_tables" => judged(alloc, documents, arguments),
+        "display" => fault_text(alloc, arguments),
         _ => asked_of_mode(alloc, documents, call, arguments),
     }
 }

@@ -1,111 +1,183 @@
 //! What options ask for.
 
 use crate::Answer;
+use crate::bytes::{push_behind, text_if};
 use crate::faults::no_options;
 use crate::words::{Pair, environment_of, given};
+use icu_decimal::options::GroupingStrategy;
 use locnum_forms::{FractionRange, Kind, Wanted};
-use locnum_lines::{Delimiter, LineSettings, Source};
+use locnum_lines::{Delimiter, FieldRange, LineSettings, Padding, Source};
 use locnum_options::{Given, OptionFault, Options, parse_options};
 use std::alloc::{AllocError, Global};
 
 /// Appends what is written of a number.
 fn push_kind(alloc: Global, kind: &Kind<'_>, text: &mut String) -> Result<(), AllocError> {
-    let spelled = match kind {
-        Kind::Plain => String::from_str(alloc, "plain"),
-        Kind::Short => String::from_str(alloc, "short"),
-        Kind::Long => String::from_str(alloc, "long"),
-        Kind::Percent => String::from_str(alloc, "percent"),
+    match kind {
+        Kind::Plain => text.push_str("plain"),
+        Kind::Short => text.push_str("short"),
+        Kind::Long => text.push_str("long"),
+        Kind::Percent => text.push_str("percent"),
         Kind::Money {
             code,
             width,
             sign,
             is_cash,
-        } => format!(in alloc;
-            "money {} {width:?} {sign:?}{}",
-            code.as_str(),
-            cash(*is_cash)
-        ),
-        Kind::MoneyNamed { code, is_cash } => {
-            format!(in alloc; "money named {}{}", code.as_str(), cash(*is_cash))
+        } => {
+            text.push_str("money ")?;
+            text.push_str(code.as_str())?;
+            text.push_str(format!(in alloc; " {width:?} {sign:?}")?.as_str())?;
+            text.push_str(text_if(*is_cash, " cash"))
         }
-        Kind::MoneyShort { code } => format!(in alloc; "money short {}", code.as_str()),
-        Kind::Unit { name, width } => format!(in alloc; "unit {name} {width:?}"),
-    }?;
-    text.push_str(spelled.as_str())
+        Kind::MoneyNamed { code, is_cash } => {
+            text.push_str("money named ")?;
+            text.push_str(code.as_str())?;
+            text.push_str(text_if(*is_cash, " cash"))
+        }
+        Kind::MoneyShort { code } => {
+            text.push_str("money short ")?;
+            text.push_str(code.as_str())
+        }
+        Kind::Unit { name, width } => {
+            text.push_str(format!(in alloc; "unit {name} {width:?}")?.as_str())
+        }
+    }
 }
 
-/// A word for the digits of cash.
-fn cash(is_cash: bool) -> &'static str {
-    if is_cash { " cash" } else { "" }
+/// Appends the strategy of groups, if one is asked for.
+pub(crate) fn push_grouping(
+    alloc: Global,
+    grouping: Option<GroupingStrategy>,
+    text: &mut String,
+) -> Result<(), AllocError> {
+    match grouping {
+        Some(grouping) => text.push_str(format!(in alloc; " grouping {grouping:?}")?.as_str()),
+        None => Ok(()),
+    }
 }
 
-/// The form of numbers: the locale, the numbering system, the groups, the fraction digits, the signs
-/// and what is written, as far as each is asked for.
-fn form_text(alloc: Global, wanted: &Wanted<'_>) -> Result<String, AllocError> {
-    let mut text = format!(in alloc; "locale {}", wanted.locale.as_str())?;
-    if let Some(system) = &wanted.system {
-        text.push_str(" system ")?;
-        text.push_str(system.as_str())?;
+/// Appends how many fraction digits there are, if that is asked for.
+fn push_fraction(
+    alloc: Global,
+    fraction: Option<FractionRange>,
+    text: &mut String,
+) -> Result<(), AllocError> {
+    match fraction {
+        Some(range) => {
+            let range = format!(in alloc; " fraction {}-{}", range.least, range.most)?;
+            text.push_str(range.as_str())
+        }
+        None => Ok(()),
     }
-    if let Some(grouping) = wanted.grouping {
-        text.push_str(format!(in alloc; " grouping {grouping:?}")?.as_str())?;
-    }
-    if let Some(range) = wanted.fraction {
-        let range = format!(in alloc; " fraction {}-{}", range.least, range.most)?;
-        text.push_str(range.as_str())?;
-    }
+}
+
+/// Appends the form of numbers: the locale, the numbering system, the groups, the fraction digits,
+/// the signs and what is written, as far as each is asked for.
+fn push_form(alloc: Global, wanted: &Wanted<'_>, text: &mut String) -> Result<(), AllocError> {
+    text.push_str("locale ")?;
+    text.push_str(wanted.locale.as_str())?;
+    let system = match &wanted.system {
+        Some(system) => system.as_str(),
+        None => "",
+    };
+    push_behind(" system ", system.as_bytes(), text)?;
+    push_grouping(alloc, wanted.grouping, text)?;
+    push_fraction(alloc, wanted.fraction, text)?;
     text.push_str(format!(in alloc; " sign {:?} ", wanted.sign)?.as_str())?;
-    push_kind(alloc, &wanted.kind, &mut text)?;
-    Ok(text)
+    push_kind(alloc, &wanted.kind, text)
 }
 
-/// What ends a field.
-fn delimiter_text(alloc: Global, delimiter: Delimiter) -> Result<String, AllocError> {
+/// Appends what ends a field.
+fn push_delimiter(delimiter: Delimiter, text: &mut String) -> Result<(), AllocError> {
     match delimiter {
-        Delimiter::Blanks => String::from_str(alloc, "blanks"),
-        Delimiter::Byte(byte) => format!(in alloc; "byte {}", char::from(byte)),
-        Delimiter::Csv(byte) => format!(in alloc; "csv {}", char::from(byte)),
+        Delimiter::Blanks => text.push_str("blanks"),
+        Delimiter::Byte(byte) => {
+            text.push_str("byte ")?;
+            text.push(char::from(byte))
+        }
+        Delimiter::Csv(byte) => {
+            text.push_str("csv ")?;
+            text.push(char::from(byte))
+        }
     }
 }
 
-/// Appends the fields by number and by name.
-fn push_fields(alloc: Global, lines: &LineSettings, text: &mut String) -> Result<(), AllocError> {
-    for range in &lines.fields {
+/// Appends the fields by number.
+fn push_ranges(alloc: Global, ranges: &[FieldRange], text: &mut String) -> Result<(), AllocError> {
+    for range in ranges {
         let range = format!(in alloc; " field {}-{}", range.first, range.last)?;
         text.push_str(range.as_str())?;
-    }
-    for name in &lines.names {
-        text.push_str(format!(in alloc; " name '{name}'")?.as_str())?;
     }
     Ok(())
 }
 
-/// How lines are cut: the delimiter, the fields, the header, the byte that ends a line, what becomes
-/// of rejected texts, the padding and the source, as far as each isn't nothing.
-fn lines_text(alloc: Global, lines: &LineSettings) -> Result<String, AllocError> {
-    let mut text = delimiter_text(alloc, lines.delimiter)?;
-    push_fields(alloc, lines, &mut text)?;
-    if lines.header > 0 {
-        text.push_str(format!(in alloc; " header {}", lines.header)?.as_str())?;
+/// Appends the fields by name.
+fn push_names(names: &[String], text: &mut String) -> Result<(), AllocError> {
+    for name in names {
+        text.push_str(" name '")?;
+        text.push_str(name.as_str())?;
+        text.push('\'')?;
     }
+    Ok(())
+}
+
+/// Appends how many lines the header has, if there is one.
+fn push_header(alloc: Global, count: u64, text: &mut String) -> Result<(), AllocError> {
+    match count {
+        0 => Ok(()),
+        _ => text.push_str(format!(in alloc; " header {count}")?.as_str()),
+    }
+}
+
+/// Appends the padding, if there is one.
+fn push_padding(
+    alloc: Global,
+    padding: Option<Padding>,
+    text: &mut String,
+) -> Result<(), AllocError> {
+    match padding {
+        Some(padding) => {
+            let columns = padding.columns;
+            let padding = format!(in alloc; " padding {columns} {:?}", padding.alignment)?;
+            text.push_str(padding.as_str())
+        }
+        None => Ok(()),
+    }
+}
+
+/// Appends the source, if it is an argument.
+fn push_source(alloc: Global, source: Source, text: &mut String) -> Result<(), AllocError> {
+    match source {
+        Source::Word(number) => text.push_str(format!(in alloc; " word {number}")?.as_str()),
+        _ => Ok(()),
+    }
+}
+
+/// Appends how lines are cut: the delimiter, the fields, the header, the byte that ends a line, what
+/// becomes of rejected texts, the padding and the source, as far as each isn't nothing.
+fn push_lines(alloc: Global, lines: &LineSettings, text: &mut String) -> Result<(), AllocError> {
+    push_delimiter(lines.delimiter, text)?;
+    push_ranges(alloc, &lines.fields, text)?;
+    push_names(&lines.names, text)?;
+    push_header(alloc, lines.header, text)?;
     let end = format!(in alloc; " end {:02X} {:?}", lines.end, lines.refusals)?;
     text.push_str(end.as_str())?;
-    if let Some(padding) = lines.padding {
-        let columns = padding.columns;
-        let padding = format!(in alloc; " padding {columns} {:?}", padding.alignment)?;
-        text.push_str(padding.as_str())?;
-    }
-    if let Source::Word(number) = lines.source {
-        text.push_str(format!(in alloc; " word {number}")?.as_str())?;
-    }
-    Ok(text)
+    push_padding(alloc, lines.padding, text)?;
+    push_source(alloc, lines.source, text)
+}
+
+/// Appends all that options ask for.
+fn push_options(alloc: Global, options: &Options<'_>, text: &mut String) -> Result<(), AllocError> {
+    push_form(alloc, &options.wanted, text)?;
+    text.push_str(" | ")?;
+    push_lines(alloc, &options.lines, text)?;
+    text.push_str(format!(in alloc; " | explain {:?}", options.explain)?.as_str())
 }
 
 /// All that options ask for.
 fn spelled(alloc: Global, options: &Options<'_>) -> Result<String, AllocError> {
-    let form = form_text(alloc, &options.wanted)?;
-    let lines = lines_text(alloc, &options.lines)?;
-    format!(in alloc; "{form} | {lines} | explain {:?}", options.explain)
+    let mut text = String::new(alloc);
+    push_options(alloc, options, &mut text)?;
+    Ok(text)
 }
 
 /// What `parse_options` answers.
@@ -130,10 +202,9 @@ pub(crate) fn parsed<'a>(
 /// The range of a text `LEAST-MOST`, whichever is greater.
 fn digits_of(text: &str) -> Option<FractionRange> {
     let (least, most) = text.split_once('-')?;
-    match (least.parse(), most.parse()) {
-        (Ok(least), Ok(most)) => Some(FractionRange { least, most }),
-        _ => None,
-    }
+    let least = least.parse().ok()?;
+    let most = most.parse().ok()?;
+    Some(FractionRange { least, most })
 }
 
 /// Sets what no option of `locnum` asks for: `--digits LEAST-MOST`, `--name NAME` whether there is a

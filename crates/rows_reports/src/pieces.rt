@@ -33,25 +33,20 @@ fn part_of(name: &str) -> Option<Part> {
 fn span_of(text: &str) -> Option<(usize, usize, Part)> {
     let (name, range) = text.split_once(':')?;
     let (start, end) = range.split_once('-')?;
-    match (start.parse(), end.parse()) {
-        (Ok(start), Ok(end)) => Some((start, end, part_of(name)?)),
-        _ => None,
-    }
+    let start = start.parse().ok()?;
+    let end = end.parse().ok()?;
+    Some((start, end, part_of(name)?))
 }
 
-/// The parts of texts.
-fn spans_of(
-    alloc: Global,
-    texts: &[String],
-) -> Result<Option<Vec<(usize, usize, Part)>>, AllocError> {
-    let mut spans = Vec::new(alloc);
+/// Appends the parts of texts. Whether each text has one.
+fn push_spans(texts: &[String], spans: &mut Vec<(usize, usize, Part)>) -> Result<bool, AllocError> {
     for text in texts {
         match span_of(text.as_str()) {
             Some(span) => spans.push(span)?,
-            None => return Ok(None),
+            None => return Ok(false),
         }
     }
-    Ok(Some(spans))
+    Ok(true)
 }
 
 /// The decimal of a text.
@@ -63,17 +58,24 @@ fn decimal_of(alloc: Global, text: &str) -> Result<Option<Decimal>, AllocError> 
     }
 }
 
+/// What `push_parts` appends for parts.
+fn lines_of(alloc: Global, width: usize, text: &str, parts: &[(usize, usize, Part)]) -> Answer {
+    let mut out = Vec::from_slice(alloc, b">")?;
+    push_parts(width, text, parts, &mut out)?;
+    Ok(Some(appended(alloc, &out)?))
+}
+
 /// What `push_parts` appends.
 fn parts_lines(alloc: Global, width: &str, text: &str, parts: &[String]) -> Answer {
     let Ok(width) = width.parse() else {
         return Ok(None);
     };
-    let Some(parts) = spans_of(alloc, parts)? else {
-        return Ok(None);
-    };
-    let mut out = Vec::from_slice(alloc, b">")?;
-    push_parts(width, text, &parts, &mut out)?;
-    Ok(Some(appended(alloc, &out)?))
+    let mut spans = Vec::new(alloc);
+    if push_spans(parts, &mut spans)? {
+        lines_of(alloc, width, text, &spans)
+    } else {
+        Ok(None)
+    }
 }
 
 /// What `push_magnitude` appends.
@@ -86,17 +88,28 @@ fn magnitude_line(alloc: Global, number: &str) -> Answer {
     Ok(Some(appended(alloc, &out)?))
 }
 
-/// What `push_operands` appends by rules with one condition, that of the category `one`.
-fn operands_line(alloc: Global, condition: &str, number: &str) -> Answer {
-    let Some(decimal) = decimal_of(alloc, number)? else {
-        return Ok(None);
-    };
-    let Ok(rules) = PluralRules::from_rules(alloc, &[(PluralCategory::One, condition)]) else {
-        return Err(AllocError);
-    };
+/// What `push_operands` appends for a decimal.
+fn operands_by(alloc: Global, rules: &PluralRules, decimal: &Decimal) -> Answer {
     let mut out = Vec::from_slice(alloc, b">")?;
-    push_operands(&rules, &decimal.absolute, &mut out)?;
+    push_operands(rules, &decimal.absolute, &mut out)?;
     Ok(Some(appended(alloc, &out)?))
+}
+
+/// What `push_operands` appends for a decimal by rules with one condition, that of the category
+/// `one`.
+fn operands_of(alloc: Global, condition: &str, decimal: &Decimal) -> Answer {
+    match PluralRules::from_rules(alloc, &[(PluralCategory::One, condition)]) {
+        Ok(rules) => operands_by(alloc, &rules, decimal),
+        Err(_) => Err(AllocError),
+    }
+}
+
+/// What `push_operands` appends by rules with one condition.
+fn operands_line(alloc: Global, condition: &str, number: &str) -> Answer {
+    match decimal_of(alloc, number)? {
+        Some(decimal) => operands_of(alloc, condition, &decimal),
+        None => Ok(None),
+    }
 }
 
 /// What `push_pattern` appends for a literal with a number at this byte, or with none.
@@ -115,21 +128,28 @@ fn pattern_line(alloc: Global, place: &str, literal: &str) -> Answer {
     Ok(Some(appended(alloc, &out)?))
 }
 
+/// What `push_entry` appends for a magnitude.
+fn entry_of(alloc: Global, table: &CompactPatterns<SinglePlaceholder>, magnitude: i32) -> Answer {
+    let mut out = Vec::from_slice(alloc, b">")?;
+    push_entry(table, magnitude, &mut out)?;
+    Ok(Some(appended(alloc, &out)?))
+}
+
 /// What `push_entry` appends by a table without entries.
 fn entry_line(alloc: Global, magnitude: &str) -> Answer {
     let Ok(magnitude) = magnitude.parse() else {
         return Ok(None);
     };
-    let table: CompactPatterns<SinglePlaceholder> = match CompactPatterns::new(
-        alloc,
-        BTreeMap::new(alloc),
-        None,
-    ) {
-        Ok(table) => table,
-        Err(_) => return Err(AllocError),
-    };
+    match CompactPatterns::new(alloc, BTreeMap::new(alloc), None) {
+        Ok(table) => entry_of(alloc, &table, magnitude),
+        Err(_) => Err(AllocError),
+    }
+}
+
+/// What `push_around` appends for a decimal.
+fn around(alloc: Global, power: i32, decimal: &Decimal) -> Answer {
     let mut out = Vec::from_slice(alloc, b">")?;
-    push_entry(&table, magnitude, &mut out)?;
+    push_around(alloc, power, &decimal.absolute, &mut out)?;
     Ok(Some(appended(alloc, &out)?))
 }
 
@@ -138,12 +158,10 @@ fn around_line(alloc: Global, power: &str, number: &str) -> Answer {
     let Ok(power) = power.parse() else {
         return Ok(None);
     };
-    let Some(decimal) = decimal_of(alloc, number)? else {
-        return Ok(None);
-    };
-    let mut out = Vec::from_slice(alloc, b">")?;
-    push_around(alloc, power, &decimal.absolute, &mut out)?;
-    Ok(Some(appended(alloc, &out)?))
+    match decimal_of(alloc, number)? {
+        Some(decimal) => around(alloc, power, &decimal),
+        None => Ok(None),
+    }
 }
 
 /// What `push_reported` appends.
@@ -153,22 +171,34 @@ fn reported(alloc: Global, text: &str) -> Answer {
     Ok(Some(appended(alloc, &out)?))
 }
 
+/// What a call of a piece of an explanation answers for one word.
+fn answer_by_one(alloc: Global, call: &str, word: &str) -> Answer {
+    match call {
+        "push_magnitude" => magnitude_line(alloc, word),
+        "push_entry" => entry_line(alloc, word),
+        "push_reported" => reported(alloc, word),
+        _ => Ok(None),
+    }
+}
+
+/// What a call of a piece of an explanation answers for two words.
+fn answer_by_two(alloc: Global, call: &str, first: &str, second: &str) -> Answer {
+    match call {
+        "push_operands" => operands_line(alloc, first, second),
+        "push_pattern" => pattern_line(alloc, first, second),
+        "push_around" => around_line(alloc, first, second),
+        _ => Ok(None),
+    }
+}
+
 /// What a call of a piece of an explanation answers.
 pub(crate) fn answer(alloc: Global, call: &str, arguments: &[String]) -> Answer {
-    match (call, arguments) {
-        ("push_parts", [width, text, parts @ ..]) => {
+    match arguments {
+        [width, text, parts @ ..] if call == "push_parts" => {
             parts_lines(alloc, width.as_str(), text.as_str(), parts)
         }
-        ("push_magnitude", [number]) => magnitude_line(alloc, number.as_str()),
-        ("push_operands", [condition, number]) => {
-            operands_line(alloc, condition.as_str(), number.as_str())
-        }
-        ("push_pattern", [place, literal]) => {
-            pattern_line(alloc, place.as_str(), literal.as_str())
-        }
-        ("push_entry", [magnitude]) => entry_line(alloc, magnitude.as_str()),
-        ("push_around", [power, number]) => around_line(alloc, power.as_str(), number.as_str()),
-        ("push_reported", [text]) => reported(alloc, text.as_str()),
+        [word] => answer_by_one(alloc, call, word.as_str()),
+        [first, second] => answer_by_two(alloc, call, first.as_str(), second.as_str()),
         _ => Ok(None),
     }
 }

@@ -1,7 +1,7 @@
 //! Calls of `locnum_lines` for a caller that cuts an input itself.
 
 use crate::Answer;
-use crate::bytes::{bytes_of, text_of};
+use crate::bytes::{bytes_of, push_behind, push_text, text_if, text_of};
 use crate::options::settings_of;
 use crate::words::Pair;
 use locnum_lines::{FoundNumber, LineSettings, NumberFinder, RecordPlace, behind_mark};
@@ -10,11 +10,21 @@ use std::alloc::{AllocError, Global};
 /// How many numbers are listed at most.
 const MOST_LISTED: usize = 20;
 
-/// A number and where it stands.
-fn number_text(alloc: Global, number: &FoundNumber) -> Result<String, AllocError> {
-    let place = text_of(alloc, &number.place)?;
-    let text = text_of(alloc, &number.text)?;
-    format!(in alloc; "{place}: {text} | ")
+/// Appends a number and where it stands.
+fn push_number(number: &FoundNumber, text: &mut String) -> Result<(), AllocError> {
+    push_text(&number.place, text)?;
+    text.push_str(": ")?;
+    push_text(&number.text, text)?;
+    text.push_str(" | ")
+}
+
+/// Appends the count of numbers and the last.
+fn push_last(alloc: Global, numbers: &[FoundNumber], text: &mut String) -> Result<(), AllocError> {
+    text.push_str(format!(in alloc; "{} numbers to ", numbers.len())?.as_str())?;
+    match numbers.last() {
+        Some(last) => push_number(last, text),
+        None => Ok(()),
+    }
 }
 
 /// Appends the numbers of a record; of more than twenty their count and the last.
@@ -24,36 +34,59 @@ fn push_numbers(
     text: &mut String,
 ) -> Result<(), AllocError> {
     if numbers.len() > MOST_LISTED {
-        text.push_str(format!(in alloc; "{} numbers to ", numbers.len())?.as_str())?;
-        if let Some(last) = numbers.last() {
-            text.push_str(number_text(alloc, last)?.as_str())?;
-        }
-        return Ok(());
+        return push_last(alloc, numbers, text);
     }
     for number in numbers {
-        text.push_str(number_text(alloc, number)?.as_str())?;
+        push_number(number, text)?;
     }
     Ok(())
 }
 
-/// The numbers that `NumberFinder::find` finds in records, the greatest number of fields, whether
-/// the search stopped, and the notes.
+/// Appends the numbers that a finder finds in a record.
+fn push_record(
+    alloc: Global,
+    settings: &LineSettings,
+    record: &[u8],
+    finder: &mut NumberFinder,
+    text: &mut String,
+) -> Result<(), AllocError> {
+    let numbers = finder.find(alloc, settings, record)?;
+    push_numbers(alloc, &numbers, text)
+}
+
+/// Appends the numbers that a finder finds in records.
+fn push_records(
+    alloc: Global,
+    settings: &LineSettings,
+    records: &[String],
+    finder: &mut NumberFinder,
+    text: &mut String,
+) -> Result<(), AllocError> {
+    for record in records {
+        push_record(
+            alloc,
+            settings,
+            &bytes_of(alloc, record.as_str())?,
+            finder,
+            text,
+        )?;
+    }
+    Ok(())
+}
+
+/// Appends the greatest number of fields, whether the search stopped, and the notes.
+fn push_end(alloc: Global, finder: &NumberFinder, text: &mut String) -> Result<(), AllocError> {
+    text.push_str(format!(in alloc; "most fields {}", finder.most_fields())?.as_str())?;
+    text.push_str(text_if(finder.is_stopped(), " | stopped"))?;
+    push_behind(" | ", finder.notes(), text)
+}
+
+/// The numbers that `NumberFinder::find` finds in records, and what it leaves.
 fn found(alloc: Global, settings: &LineSettings, records: &[String]) -> Answer {
     let mut finder = NumberFinder::new(alloc, settings);
     let mut text = String::new(alloc);
-    for record in records {
-        let record = bytes_of(alloc, record.as_str())?;
-        let numbers = finder.find(alloc, settings, &record)?;
-        push_numbers(alloc, &numbers, &mut text)?;
-    }
-    text.push_str(format!(in alloc; "most fields {}", finder.most_fields())?.as_str())?;
-    if finder.is_stopped() {
-        text.push_str(" | stopped")?;
-    }
-    if !finder.notes().is_empty() {
-        text.push_str(" | ")?;
-        text.push_str(text_of(alloc, finder.notes())?.as_str())?;
-    }
+    push_records(alloc, settings, records, &mut finder, &mut text)?;
+    push_end(alloc, &finder, &mut text)?;
     Ok(Some(text))
 }
 
@@ -67,6 +100,25 @@ fn open_behind(alloc: Global, settings: &LineSettings, pieces: &[String]) -> Ans
     Ok(Some(String::from_str(alloc, answer)?))
 }
 
+/// What stands behind the mark of an input.
+fn behind(alloc: Global, settings: &LineSettings, text: &str) -> Answer {
+    let bytes = bytes_of(alloc, text)?;
+    Ok(Some(text_of(alloc, behind_mark(settings.source, &bytes))?))
+}
+
+/// What a call answers by settings.
+fn by_settings(alloc: Global, call: &str, words: &[String], settings: &LineSettings) -> Answer {
+    match call {
+        "find" => found(alloc, settings, words),
+        "is_open" => open_behind(alloc, settings, words),
+        "behind_mark" => match words {
+            [text] => behind(alloc, settings, text.as_str()),
+            _ => Ok(None),
+        },
+        _ => Ok(None),
+    }
+}
+
 /// What a call answers whose arguments end in options.
 pub(crate) fn answer<'a>(
     alloc: Global,
@@ -74,17 +126,8 @@ pub(crate) fn answer<'a>(
     words: &[String],
     options: &'a [Pair<'a>],
 ) -> Answer {
-    let Some(settings) = settings_of(alloc, options)? else {
-        return Ok(None);
-    };
-    match (call, words) {
-        ("find", records) => found(alloc, &settings.lines, records),
-        ("is_open", pieces) => open_behind(alloc, &settings.lines, pieces),
-        ("behind_mark", [text]) => {
-            let bytes = bytes_of(alloc, text.as_str())?;
-            let rest = behind_mark(settings.lines.source, &bytes);
-            Ok(Some(text_of(alloc, rest)?))
-        }
-        _ => Ok(None),
+    match settings_of(alloc, options)? {
+        Some(settings) => by_settings(alloc, call, words, &settings.lines),
+        None => Ok(None),
     }
 }

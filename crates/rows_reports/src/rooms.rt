@@ -47,18 +47,18 @@ fn outcome_name(outcome: Result<(), FillError>) -> Result<&'static str, AllocErr
     }
 }
 
+/// An outcome, and what the room holds then.
+fn with_room(alloc: Global, outcome: &str, room: &[u8]) -> Answer {
+    let room = text_of(alloc, room)?;
+    Ok(Some(format!(in alloc; "{outcome} | '{room}'")?))
+}
+
 /// What `format_text` answers, and what the room holds then.
 fn by_text(alloc: Global, mode: &Mode, text: &[u8], room: &mut [u8]) -> Answer {
     match format_text(alloc, mode, text, room) {
-        Ok(count) => {
-            let room = text_of(alloc, room)?;
-            Ok(Some(format!(in alloc; "{count} | '{room}'")?))
-        }
+        Ok(count) => with_room(alloc, format!(in alloc; "{count}")?.as_str(), room),
         Err(error) => match not_written(alloc, error)? {
-            Some(name) => {
-                let room = text_of(alloc, room)?;
-                Ok(Some(format!(in alloc; "{name} | '{room}'")?))
-            }
+            Some(name) => with_room(alloc, name.as_str(), room),
             None => Ok(None),
         },
     }
@@ -68,22 +68,22 @@ fn by_text(alloc: Global, mode: &Mode, text: &[u8], room: &mut [u8]) -> Answer {
 fn by_lines(alloc: Global, mode: &Mode, input: &[u8], room: &mut [u8]) -> Answer {
     let filled = format_lines(alloc, mode, input, room);
     let outcome = outcome_name(filled.outcome)?;
-    let room = text_of(alloc, room)?;
     let written = filled.written;
-    Ok(Some(format!(in alloc; "{outcome} | written {written} | '{room}'")?))
+    let outcome = format!(in alloc; "{outcome} | written {written}")?;
+    with_room(alloc, outcome.as_str(), room)
 }
 
 /// What `format_some` answers, and what the room holds then.
 fn by_some(alloc: Global, mode: &Mode, input: &[u8], room: &mut [u8]) -> Answer {
     let progress = format_some(alloc, mode, input, room);
     let outcome = outcome_name(progress.outcome)?;
-    let room = text_of(alloc, room)?;
     let consumed = progress.consumed;
     let written = progress.written;
     let needed = progress.needed;
-    Ok(Some(format!(in alloc;
-        "{outcome} | consumed {consumed} written {written} needed {needed} | '{room}'"
-    )?))
+    let outcome = format!(in alloc;
+        "{outcome} | consumed {consumed} written {written} needed {needed}"
+    )?;
+    with_room(alloc, outcome.as_str(), room)
 }
 
 /// What a call answers that fills a room, and what the room holds then; before it holds `x`.

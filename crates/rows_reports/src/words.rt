@@ -30,13 +30,8 @@ pub(crate) fn cut_at_options(arguments: &[String]) -> (&[String], &[String]) {
     )
 }
 
-/// The options of words: each with the word behind it, and one of [`FLAGS`] with an empty text.
-/// `None` where a word stands at the place of an option, or an option has no text.
-pub(crate) fn options_of<'a>(
-    alloc: Global,
-    words: &'a [String],
-) -> Result<Option<Vec<Pair<'a>>>, AllocError> {
-    let mut options = Vec::new(alloc);
+/// Appends the options of words. Whether each word is an option or the text of one.
+fn push_options<'a>(words: &'a [String], options: &mut Vec<Pair<'a>>) -> Result<bool, AllocError> {
     let mut waiting: Option<&str> = None;
     for word in words {
         waiting = match (waiting, word.as_str().strip_prefix("--")) {
@@ -49,13 +44,24 @@ pub(crate) fn options_of<'a>(
                 None
             }
             (None, Some(option)) => Some(option),
-            (None, None) => return Ok(None),
+            (None, None) => return Ok(false),
         };
     }
-    if waiting.is_some() {
-        return Ok(None);
+    Ok(waiting.is_none())
+}
+
+/// The options of words: each with the word behind it, and one of [`FLAGS`] with an empty text.
+/// `None` where a word stands at the place of an option, or an option has no text.
+pub(crate) fn options_of<'a>(
+    alloc: Global,
+    words: &'a [String],
+) -> Result<Option<Vec<Pair<'a>>>, AllocError> {
+    let mut options = Vec::new(alloc);
+    if push_options(words, &mut options)? {
+        Ok(Some(options))
+    } else {
+        Ok(None)
     }
-    Ok(Some(options))
 }
 
 /// What these options give in an environment that says nothing.

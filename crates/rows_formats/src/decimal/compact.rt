@@ -3,12 +3,19 @@
 use super::asked::decimal_of;
 use super::making::{Place, Question};
 use super::shown;
-use super::spelled::{held_of, name_of, no_number, said, value, with_text, yes_or_no};
+use super::spelled::{held_of, made, name_of, no_number, said, value, with_text, yes_or_no};
 use crate::Answer;
 use fixed_decimal::{Decimal, UnsignedDecimal};
 use icu_decimal::{CompactDecimalFormatter, FormattedUnsignedCompactDecimal};
 use icu_plurals::PluralOperands;
 use std::alloc::{AllocError, Global};
+
+fn is_readable(alloc: Global, formatter: &CompactDecimalFormatter, words: &[String]) -> Answer {
+    match words {
+        [] => said(alloc, yes_or_no(formatter.is_readable())),
+        _ => Ok(None),
+    }
+}
 
 /// What `format` gives of a decimal.
 fn value_of(
@@ -43,9 +50,12 @@ fn format(
     alloc: Global,
     place: Place<'_>,
     formatter: &CompactDecimalFormatter,
-    number: &str,
+    words: &[String],
 ) -> Answer {
-    match decimal_of(alloc, number, place.asked.sign)? {
+    let [number] = words else {
+        return Ok(None);
+    };
+    match decimal_of(alloc, number.as_str(), place.asked.sign)? {
         Some(decimal) => of_decimal(alloc, formatter, &decimal, place.asked.limit),
         None => Ok(None),
     }
@@ -117,6 +127,40 @@ fn number(
     }
 }
 
+/// The significand and the exponent of the compact number of a text.
+fn significand(
+    alloc: Global,
+    place: Place<'_>,
+    formatter: &CompactDecimalFormatter,
+    words: &[String],
+) -> Answer {
+    match words {
+        [text] => number(alloc, place, formatter, text.as_str(), None),
+        _ => Ok(None),
+    }
+}
+
+/// Whether a condition holds of the operands of the compact number of a text.
+fn operands_of_value(
+    alloc: Global,
+    place: Place<'_>,
+    formatter: &CompactDecimalFormatter,
+    words: &[String],
+) -> Answer {
+    match words {
+        [text, condition] => {
+            number(
+                alloc,
+                place,
+                formatter,
+                text.as_str(),
+                Some(condition.as_str()),
+            )
+        }
+        _ => Ok(None),
+    }
+}
+
 /// What `format_with_exponent` gives of a significand.
 fn given_of(
     alloc: Global,
@@ -135,13 +179,15 @@ fn format_with_exponent(
     alloc: Global,
     place: Place<'_>,
     formatter: &CompactDecimalFormatter,
-    significand: &str,
-    exponent: &str,
+    words: &[String],
 ) -> Answer {
+    let [significand, exponent] = words else {
+        return Ok(None);
+    };
     let Ok(exponent) = exponent.parse() else {
         return Ok(None);
     };
-    match decimal_of(alloc, significand, place.asked.sign)? {
+    match decimal_of(alloc, significand.as_str(), place.asked.sign)? {
         Some(decimal) => given_of(alloc, formatter, &decimal, exponent, place.asked.limit),
         None => Ok(None),
     }
@@ -152,13 +198,15 @@ fn plural_rules(
     alloc: Global,
     place: Place<'_>,
     formatter: &CompactDecimalFormatter,
-    significand: &str,
-    exponent: &str,
+    words: &[String],
 ) -> Answer {
+    let [significand, exponent] = words else {
+        return Ok(None);
+    };
     let Ok(exponent) = exponent.parse() else {
         return Ok(None);
     };
-    match decimal_of(alloc, significand, place.asked.sign)? {
+    match decimal_of(alloc, significand.as_str(), place.asked.sign)? {
         Some(decimal) => {
             let operands = PluralOperands::from_significand_and_exponent(
                 &decimal.absolute,
@@ -174,7 +222,10 @@ fn plural_rules(
 }
 
 /// The type and the exponent of the entry of a magnitude in the formatter's table.
-fn patterns(alloc: Global, formatter: &CompactDecimalFormatter, magnitude: &str) -> Answer {
+fn patterns(alloc: Global, formatter: &CompactDecimalFormatter, words: &[String]) -> Answer {
+    let [magnitude] = words else {
+        return Ok(None);
+    };
     let Ok(magnitude) = magnitude.parse() else {
         return Ok(None);
     };
@@ -189,46 +240,15 @@ fn patterns(alloc: Global, formatter: &CompactDecimalFormatter, magnitude: &str)
     }
 }
 
-fn exponent_at(alloc: Global, formatter: &CompactDecimalFormatter, magnitude: &str) -> Answer {
+fn exponent_at(alloc: Global, formatter: &CompactDecimalFormatter, words: &[String]) -> Answer {
+    let [magnitude] = words else {
+        return Ok(None);
+    };
     let Ok(magnitude) = magnitude.parse() else {
         return Ok(None);
     };
     let exponent = formatter.compact_exponent_for_magnitude(magnitude);
     Ok(Some(format!(in alloc; "{exponent}")?))
-}
-
-/// What a compact formatter answers of its table, its rules and given exponents.
-fn answer_of_parts(
-    alloc: Global,
-    place: Place<'_>,
-    formatter: &CompactDecimalFormatter,
-    (call, words): Question<'_>,
-) -> Answer {
-    match (call, words) {
-        ("compact_exponent_for_magnitude", [magnitude]) => {
-            exponent_at(alloc, formatter, magnitude.as_str())
-        }
-        ("patterns", [magnitude]) => patterns(alloc, formatter, magnitude.as_str()),
-        ("plural_rules", [significand, exponent]) => {
-            plural_rules(
-                alloc,
-                place,
-                formatter,
-                significand.as_str(),
-                exponent.as_str(),
-            )
-        }
-        ("format_with_exponent", [significand, exponent]) => {
-            format_with_exponent(
-                alloc,
-                place,
-                formatter,
-                significand.as_str(),
-                exponent.as_str(),
-            )
-        }
-        _ => shown::answer(alloc, place, formatter, (call, words)),
-    }
 }
 
 /// What a compact formatter answers.
@@ -238,20 +258,16 @@ pub(crate) fn answer(
     formatter: &CompactDecimalFormatter,
     (call, words): Question<'_>,
 ) -> Answer {
-    match (call, words) {
-        ("try_new_unstable", []) => said(alloc, "made"),
-        ("is_readable", []) => said(alloc, yes_or_no(formatter.is_readable())),
-        ("format", [text]) => format(alloc, place, formatter, text.as_str()),
-        ("significand", [text]) => number(alloc, place, formatter, text.as_str(), None),
-        ("operands_of_value", [text, condition]) => {
-            number(
-                alloc,
-                place,
-                formatter,
-                text.as_str(),
-                Some(condition.as_str()),
-            )
-        }
-        _ => answer_of_parts(alloc, place, formatter, (call, words)),
+    match call {
+        "try_new_unstable" => made(alloc, words),
+        "is_readable" => is_readable(alloc, formatter, words),
+        "format" => format(alloc, place, formatter, words),
+        "significand" => significand(alloc, place, formatter, words),
+        "operands_of_value" => operands_of_value(alloc, place, formatter, words),
+        "compact_exponent_for_magnitude" => exponent_at(alloc, formatter, words),
+        "patterns" => patterns(alloc, formatter, words),
+        "plural_rules" => plural_rules(alloc, place, formatter, words),
+        "format_with_exponent" => format_with_exponent(alloc, place, formatter, words),
+        _ => shown::answer(alloc, place, formatter, (call, words)),
     }
 }

@@ -106,7 +106,10 @@ fn of_frame<F: AbstractFormatter>(
 }
 
 /// The pattern of a text behind a number.
-fn behind_number(alloc: Global, text: &str) -> Result<Pattern<SinglePlaceholder>, AllocError> {
+pub(crate) fn behind_number(
+    alloc: Global,
+    text: &str,
+) -> Result<Pattern<SinglePlaceholder>, AllocError> {
     match Pattern::try_new(alloc, Some(0), text) {
         Ok(pattern) => Ok(pattern),
         Err(_) => Err(AllocError),

@@ -77,6 +77,41 @@ fn category<F: AbstractFormatter>(
     }
 }
 
+/// What is asked of a number alone.
+fn of_number_alone<F: AbstractFormatter>(
+    alloc: Global,
+    place: Place<'_>,
+    formatter: &F,
+    number: &UnsignedDecimal,
+    call: &str,
+) -> Answer {
+    let limit = place.asked.limit;
+    match call {
+        "write_unsigned" => write_unsigned(alloc, formatter, number, limit),
+        "category" => category(alloc, place, formatter, number),
+        "write_framed" => frames::write_framed(alloc, formatter, number, limit),
+        "framed_to_string" => frames::framed_to_string(alloc, formatter, number),
+        _ => Ok(None),
+    }
+}
+
+/// What is asked of a number and a condition.
+fn of_number_and_condition<F: AbstractFormatter>(
+    alloc: Global,
+    place: Place<'_>,
+    formatter: &F,
+    number: &UnsignedDecimal,
+    (call, condition): (&str, &str),
+) -> Answer {
+    let limit = place.asked.limit;
+    match call {
+        "write_shown" => write_shown(alloc, formatter, number, limit, condition),
+        "plural_operands" => plural_operands(alloc, formatter, number, condition),
+        "framed_to_string" => frames::picked(alloc, formatter, number, condition),
+        _ => Ok(None),
+    }
+}
+
 /// What is asked of a number.
 fn of_number<F: AbstractFormatter>(
     alloc: Global,
@@ -85,20 +120,10 @@ fn of_number<F: AbstractFormatter>(
     number: &UnsignedDecimal,
     (call, words): Question<'_>,
 ) -> Answer {
-    let limit = place.asked.limit;
-    match (call, words) {
-        ("write_unsigned", []) => write_unsigned(alloc, formatter, number, limit),
-        ("write_shown", [condition]) => {
-            write_shown(alloc, formatter, number, limit, condition.as_str())
-        }
-        ("plural_operands", [condition]) => {
-            plural_operands(alloc, formatter, number, condition.as_str())
-        }
-        ("category", []) => category(alloc, place, formatter, number),
-        ("write_framed", []) => frames::write_framed(alloc, formatter, number, limit),
-        ("framed_to_string", []) => frames::framed_to_string(alloc, formatter, number),
-        ("framed_to_string", [condition]) => {
-            frames::picked(alloc, formatter, number, condition.as_str())
+    match words {
+        [] => of_number_alone(alloc, place, formatter, number, call),
+        [condition] => {
+            of_number_and_condition(alloc, place, formatter, number, (call, condition.as_str()))
         }
         _ => Ok(None),
     }

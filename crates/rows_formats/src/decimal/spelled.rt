@@ -6,7 +6,7 @@ use icu_plurals::{PluralCategory, PluralOperands, PluralRules, RulesError};
 use icu_provider::{DataError, DataErrorKind};
 use std::alloc::{AllocError, Global};
 use std::fmt::Display;
-use writeable::{PartsText, Writeable};
+use writeable::{Part, PartsText, Writeable};
 
 /// How many parts are listed at most.
 const MOST_LISTED: usize = 20;
@@ -14,6 +14,14 @@ const MOST_LISTED: usize = 20;
 /// An answer of fixed words.
 pub(crate) fn said(alloc: Global, words: &str) -> Answer {
     Ok(Some(String::from_str(alloc, words)?))
+}
+
+/// What the making of a formatter answers, which takes no words.
+pub(crate) fn made(alloc: Global, words: &[String]) -> Answer {
+    match words {
+        [] => said(alloc, "made"),
+        _ => Ok(None),
+    }
 }
 
 /// `yes` or `no`.
@@ -41,21 +49,49 @@ pub(crate) fn sink_of(alloc: Global, limit: Option<usize>) -> PartsText {
     }
 }
 
+/// Appends a part and the bytes at which it starts and ends.
+fn push_part(
+    alloc: Global,
+    spelled: &mut String,
+    (start, end, part): (usize, usize, Part),
+) -> Result<(), AllocError> {
+    let value = part.value;
+    let listed = format!(in alloc; " {value} {start}-{end}")?;
+    spelled.push_str(listed.as_str())
+}
+
+/// Appends parts in their order.
+fn push_parts(
+    alloc: Global,
+    spelled: &mut String,
+    spans: &[(usize, usize, Part)],
+) -> Result<(), AllocError> {
+    for span in spans {
+        push_part(alloc, spelled, *span)?;
+    }
+    Ok(())
+}
+
+/// Appends how many parts there are.
+fn push_count(alloc: Global, spelled: &mut String, count: usize) -> Result<(), AllocError> {
+    let counted = format!(in alloc; " {count} parts")?;
+    spelled.push_str(counted.as_str())
+}
+
+/// Appends the parts of a sink in the order in which they open, of more than twenty their count.
+fn push_spans(alloc: Global, spelled: &mut String, sink: &PartsText) -> Result<(), AllocError> {
+    match sink.spans(alloc) {
+        Ok(spans) if spans.len() > MOST_LISTED => push_count(alloc, spelled, spans.len()),
+        Ok(spans) => push_parts(alloc, spelled, spans.as_slice()),
+        Err(_) => Err(AllocError),
+    }
+}
+
 /// Behind `before`, the text of a sink, and its parts in the order in which they open, each with
 /// the bytes at which it starts and ends; of more than twenty their count.
 fn held(alloc: Global, before: &str, sink: &PartsText) -> Result<String, AllocError> {
-    let Ok(spans) = sink.spans(alloc) else {
-        return Err(AllocError);
-    };
     let mut spelled = format!(in alloc; "{before}{} |", sink.text())?;
-    if spans.len() > MOST_LISTED {
-        spelled.push_str(format!(in alloc; " {} parts", spans.len())?.as_str())?;
-        return Ok(spelled);
-    }
-    for (start, end, part) in &spans {
-        let value = part.value;
-        spelled.push_str(format!(in alloc; " {value} {start}-{end}")?.as_str())?;
-    }
+    push_spans(alloc, &mut spelled, sink)?;
     Ok(spelled)
 }
 
@@ -88,11 +124,16 @@ fn is_of(spelled: &str, text: &str) -> bool {
     }
 }
 
+/// A text, and behind it another one with the name of what gave that.
+pub(crate) fn followed(alloc: Global, spelled: &str, name: &str, text: &str) -> Answer {
+    Ok(Some(format!(in alloc; "{spelled} | {name} {text}")?))
+}
+
 /// An answer, and behind it a text that isn't the answer's, with the name of what gave it.
 fn with_other(alloc: Global, answer: Answer, name: &str, text: &str) -> Answer {
     match answer? {
         Some(spelled) if is_of(spelled.as_str(), text) => Ok(Some(spelled)),
-        Some(spelled) => Ok(Some(format!(in alloc; "{spelled} | {name} {text}")?)),
+        Some(spelled) => followed(alloc, spelled.as_str(), name, text),
         None => Ok(None),
     }
 }
@@ -150,7 +191,7 @@ pub(crate) fn with_text(
 fn same_error(alloc: Global, answer: Answer, name: &str) -> Answer {
     match answer? {
         Some(spelled) if spelled.as_str() == name => Ok(Some(spelled)),
-        Some(spelled) => Ok(Some(format!(in alloc; "{spelled} | format_to_string {name}")?)),
+        Some(spelled) => followed(alloc, spelled.as_str(), "format_to_string", name),
         None => Ok(None),
     }
 }
