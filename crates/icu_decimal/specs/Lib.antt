@@ -17,8 +17,4 @@ pub mod ExponentMismatch
 pub mod Loaded
 pub mod Readable
 pub mod ReadableLaws
-pub mod Shown
-pub mod ShownLaws
 pub mod NearestLemmas
-pub mod KeptLaws
-pub mod WritesSuch

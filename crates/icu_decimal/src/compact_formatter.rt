@@ -75,6 +75,13 @@ impl CompactDecimalFormatter {
         }
     }
 
+    /// The formatter of the digits and of the sign (this project's own).
+    pub fn decimal_formatter(&self) -> &DecimalFormatter
+        ensures { result.now ≡ self.now.decimal }
+    {
+        &self.decimal_formatter
+    }
+
     /// The plural rules that choose among the patterns of an entry (this project's own).
     pub fn plural_rules(&self) -> &PluralRules
         ensures { result.now ≡ self.now.rules }
@@ -124,8 +131,8 @@ impl CompactDecimalFormatter {
         Ok(self.decimal_formatter.format_sign(value.sign, compact))
     }
 
-    /// The number without its sign, as the nearest compact number.
-    pub(crate) fn format_unsigned<'l>(
+    /// The nearest compact number, without a sign. `Sink` is never reported.
+    pub fn format_unsigned<'l>(
         &'l self,
         alloc: Global,
         value: &UnsignedDecimal,

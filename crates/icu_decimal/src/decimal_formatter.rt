@@ -145,8 +145,8 @@ impl DecimalFormatter {
         is_table_readable(patterns, &self.symbols, &self.digits)
     }
 
-    /// The number without its sign.
-    pub(crate) fn format_unsigned<'l>(
+    /// A number without a sign (ICU4X `format_unsigned`); this takes no memory.
+    pub fn format_unsigned<'l>(
         &'l self,
         value: Cow<'l, UnsignedDecimal>,
     ) -> FormattedUnsignedDecimal<'l>
@@ -222,8 +222,8 @@ impl DecimalFormatter {
         out.groups(digits, grouping, &self.digits)
     }
 
-    /// The value with the affixes of the sign around it.
-    pub(crate) fn format_sign<'l, T>(&'l self, sign: Sign, value: T) -> FormattedSign<'l, T>
+    /// The value with the affixes of the sign around it; this takes no memory.
+    pub fn format_sign<'l, T>(&'l self, sign: Sign, value: T) -> FormattedSign<'l, T>
         ensures { result ≡ record { affixes = affixes_for self.now.symbols sign; value = value } }
     {
         let sign = match sign {

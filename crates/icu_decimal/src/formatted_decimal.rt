@@ -11,6 +11,7 @@ use fixed_decimal::UnsignedDecimal;
 use icu_decimal_data::DecimalSymbols;
 use icu_decimal_options::grouper::secondary_size;
 use icu_decimal_options::options::DecimalFormatterOptions;
+use icu_plurals::PluralOperands;
 use std::fmt;
 use std::marker::Model;
 use writeable::{EventWriter, Grouping, WriteFault, Writeable};
@@ -103,7 +104,15 @@ impl Writeable for FormattedUnsignedDecimal<'_> {
 }
 
 impl FormattedUnsignedDecimal<'_> {
+    ghost use Rattle.icu_plurals.specs.Operands.{operands_of};
     ghost use Rattle.icu_decimal.specs.Decimal.{grouped_events, integer_events, fraction_events};
+
+    /// The plural operands of the number; this takes no memory (this project's own).
+    pub fn plural_operands(&self) -> PluralOperands
+        ensures { result ≡ operands_of self.now.number 0 }
+    {
+        PluralOperands::from_significand_and_exponent(self.value.get(), 0)
+    }
 
     /// Writes the digits at power 0 and above, as the integer part.
     fn write_integer<K: EventWriter>(&self, integer: &[u8], out: &mut K) -> Result<(), WriteFault>

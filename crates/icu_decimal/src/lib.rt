@@ -15,7 +15,6 @@
 //! prints `-987,654.321`.
 #![tactic(auto)]
 
-mod abstract_formatter;
 mod compact_formatter;
 mod compact_rounding;
 mod cow;
@@ -24,25 +23,21 @@ pub mod error;
 mod formatted_compact;
 mod formatted_decimal;
 mod formatted_sign;
-mod frame;
 pub mod laws;
 mod loading;
 pub mod parts;
 pub mod provider;
-mod sealed;
 
 /// What a formatter takes.
 pub mod input {
     pub use fixed_decimal::{Decimal, SignDisplay};
 }
 
-pub use abstract_formatter::AbstractFormatter;
 pub use compact_formatter::CompactDecimalFormatter;
 pub use cow::Cow;
 pub use decimal_formatter::DecimalFormatter;
 pub use formatted_compact::{FormattedUnsignedCompactDecimal, InterpolatedDecimal};
 pub use formatted_decimal::{FormattedDecimal, FormattedUnsignedDecimal};
 pub use formatted_sign::FormattedSign;
-pub use frame::{Characters, Frame, ShownNumber};
 pub use icu_decimal_options::{grouper, options, preferences};
 pub use preferences::DecimalFormatterPreferences;

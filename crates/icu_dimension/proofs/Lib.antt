@@ -8,6 +8,7 @@ pub mod MoneySymbolTold
 pub mod MoneyTold
 pub mod PercentsTold
 pub mod PointMoved
+pub mod SinkWrites
 pub mod SymbolTold
 pub mod UnitLiterals
 pub mod WorkedMoney

@@ -1,5 +1,6 @@
 pub mod CompactMoney
 pub mod CurrencyData
+pub mod FramesOnce
 pub mod GivenNames
 pub mod Loaded
 pub mod Money

@@ -2,7 +2,7 @@
 use Rattle.std.specs.Prelude.{List}
 use Rattle.fixed_decimal.specs.declared.signs.Sign.{Sign}
 use Rattle.writeable.specs.Events.{Event}
-use Rattle.icu_decimal.specs.Shown.{Shown}
+use Rattle.icu_decimal_interface.specs.Shown.{Shown}
 use Rattle.icu_dimension_data.specs.Resolved.{Signed, affixes_of}
 use Rattle.icu_dimension_data.specs.Surrounding.{surrounded}
 

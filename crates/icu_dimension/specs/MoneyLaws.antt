@@ -5,7 +5,7 @@ use Rattle.fixed_decimal.specs.Unsigned.{Unsigned, IsUnsigned, IsWithinLimits}
 use Rattle.fixed_decimal.specs.Size.{size}
 use Rattle.writeable.specs.Events.{Event, characters, text_of}
 use Rattle.icu_decimal.specs.Decimal.{DecimalFormat}
-use Rattle.icu_decimal.specs.Shown.{plain_shown}
+use Rattle.icu_decimal_interface.specs.Shown.{plain_shown}
 use Rattle.icu_decimal_readable.specs.Readable.{IsReadable}
 use Rattle.icu_dimension_data.specs.Patterns.{PatternText}
 use Rattle.icu_dimension_data.specs.Resolved.{Signed, Texts, resolved}

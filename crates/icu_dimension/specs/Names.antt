@@ -7,7 +7,7 @@ use Rattle.icu_plurals.specs.Operands.{Operands}
 use Rattle.icu_plurals.specs.Rules.{Rule}
 use Rattle.icu_decimal_data.specs.declared.decimal_symbols.DecimalSymbols.{DecimalSymbols}
 use Rattle.icu_decimal.specs.Decimal.{signed_events}
-use Rattle.icu_decimal.specs.Shown.{Shown, operands_shown, picked}
+use Rattle.icu_decimal_interface.specs.Shown.{Shown, operands_shown, picked}
 use Rattle.icu_dimension_data.specs.Surrounding.{in_part}
 
 -- a number and a name, which of them comes first, and the texts around them
@@ -17,6 +17,11 @@ pub record NameText : Type 0 where
   pub between : List ℕ
   pub after : List ℕ
   pub name : List ℕ
+
+-- such a pattern, and a value in the place of the number
+pub record NamedValue (W : Type 0) : Type 0 where
+  pub pattern : NameText
+  pub value : W
 
 -- the name, in the part of a currency
 unfoldable pub name_events : List ℕ → List Event

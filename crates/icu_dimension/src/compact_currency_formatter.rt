@@ -7,7 +7,8 @@ ghost use Rattle.writeable.specs.Events.{text_of};
 ghost use Rattle.icu_decimal_data.specs.CompactTable.{IsIndex, entry_at};
 ghost use Rattle.icu_decimal.specs.CompactFormat.{FormattedCompact, IsCompacted};
 ghost use Rattle.icu_decimal.specs.CompactNumber.{ShowsPastLimits};
-ghost use Rattle.icu_decimal.specs.WritesSuch.{KeepsLimitSuch, WritesSuch};
+ghost use Rattle.icu_decimal_interface.specs.UsesShown.{WroteSuch};
+ghost use Rattle.icu_decimal_interface.specs.WritesSuch.{KeepsLimitSuch, WritesSuch};
 ghost use Rattle.icu_dimension.specs.CompactMoney.{compact_events, compact_money, entry_shown, formatter_of};
 
 use crate::currency_formatter::CurrencyFormatter;
@@ -19,7 +20,7 @@ use icu_dimension_data::{CompactCurrencyPatterns, SignedPatterns};
 use icu_plurals::PluralRules;
 use std::alloc::Global;
 use std::marker::Model;
-use writeable::{EventWriter, PartsWrite, WriteFault, Writeable};
+use writeable::{EventWriter, PartsWrite, WithParts, WriteFault, Writeable};
 
 /// Writes amounts of money in compact form with the symbol of their currency, as `$1.5M` or
 /// `€ -1,5 mln.`: the compact number that is nearest to the amount, by the compact formatter of its
@@ -135,8 +136,41 @@ impl CompactCurrencyFormatter {
         displayed_index(self.for_sign(sign), number).is_some()
     }
 
-    /// Writes an amount: the characters of the nearest compact number and, if no entry of the table
-    /// displays it, the parts of the sign and of the symbol around it.
+    /// Writes an amount into any writer: the characters of the nearest compact number and, if no
+    /// entry of the table displays it, the parts of the sign and of the symbol around it.
+    ///
+    /// After `Overflow` and `OutOfMemory` the writer is unchanged. `Sink` only where the writer
+    /// failed. `Overflow` exactly where the compact number is too large. It takes memory for that
+    /// number.
+    pub fn write_into<K: EventWriter>(
+        &self,
+        alloc: Global,
+        value: &Decimal,
+        out: &mut K,
+    ) -> Result<(), FormatError>
+        ensures written { WroteSuch K.wrote out.old result
+            (IsCompacted (formatter_of self.now value.now.sign) value.now.absolute)
+            (compact_events (formatter_of self.now value.now.sign).table self.now.patterns
+            value.now.sign) out.new }
+        ensures overflow { IsErrOf result FormatError.Overflow
+            ↔ ShowsPastLimits (formatter_of self.now value.now.sign).table
+            (size value.now.absolute) }
+    {
+        let number = self
+            .for_sign(value.sign)
+            .format_unsigned(alloc, &value.absolute)?;
+        let amount = CompactAmount {
+            money: self,
+            sign: value.sign,
+            number: &number,
+        };
+        match amount.write_events(out) {
+            Ok(()) => Ok(()),
+            Err(_) => Err(FormatError::Sink),
+        }
+    }
+
+    /// Writes an amount to a sink, with the same parts.
     ///
     /// After `Overflow` and `OutOfMemory` the sink is unchanged. `Sink` only where the sink failed
     /// in this call, and it then holds a beginning of the events besides. `Overflow` exactly where
@@ -161,16 +195,10 @@ impl CompactCurrencyFormatter {
             ↔ ShowsPastLimits (formatter_of self.now value.now.sign).table
             (size value.now.absolute) }
     {
-        let shown = self.for_sign(value.sign).format(alloc, value)?;
-        let amount = CompactAmount {
-            money: self,
-            sign: value.sign,
-            number: shown.value(),
-        };
-        match amount.write_to_parts(sink) {
-            Ok(()) => Ok(()),
-            Err(_) => Err(FormatError::Sink),
-        }
+        let mut out = WithParts { sink };
+        let result = self.write_into(alloc, value, &mut out);
+        out.into_inner();
+        result
     }
 
     /// The characters that `write` writes, as a text. `Sink` is never reported.
@@ -184,14 +212,10 @@ impl CompactCurrencyFormatter {
             (size value.now.absolute) }
         ensures no_sink { IfErr result (λ e. e ≢ FormatError.Sink) }
     {
-        let shown = self.for_sign(value.sign).format(alloc, value)?;
-        let amount = CompactAmount {
-            money: self,
-            sign: value.sign,
-            number: shown.value(),
-        };
-        match amount.write_to_string(alloc) {
-            Ok(text) => Ok(text),
+        let mut text = String::new(alloc);
+        match self.write_into(alloc, value, &mut text) {
+            Ok(()) => Ok(text),
+            Err(FormatError::Overflow) => Err(FormatError::Overflow),
             Err(_) => Err(FormatError::OutOfMemory),
         }
     }

@@ -3,19 +3,21 @@
 ghost use Rattle.std.specs.Prelude.{◌≡◌, ◌↔◌, IfOk, IsErrOf, IfErr, ◌≢◌};
 ghost use Rattle.std.specs.String.{string_bytes};
 ghost use Rattle.writeable.specs.Events.{text_of};
-ghost use Rattle.icu_decimal.specs.Shown.{Shown};
-ghost use Rattle.icu_decimal.specs.WritesSuch.{KeepsLimitSuch, WritesSuch};
+ghost use Rattle.icu_decimal_interface.specs.Shown.{Shown};
+ghost use Rattle.icu_decimal_interface.specs.UsesShown.{WroteSuch};
+ghost use Rattle.icu_decimal_interface.specs.WritesSuch.{KeepsLimitSuch, WritesSuch};
 ghost use Rattle.icu_dimension.specs.Money.{money_events};
 
 use crate::frame::SignFrame;
 use crate::readable::{are_readable, are_told_apart};
 use fixed_decimal::Decimal;
+use icu_decimal::DecimalFormatter;
 use icu_decimal::error::FormatError;
-use icu_decimal::{AbstractFormatter, DecimalFormatter};
+use icu_decimal_interface::AbstractFormatter;
 use icu_dimension_data::SignedPatterns;
 use std::alloc::Global;
 use std::marker::Model;
-use writeable::PartsWrite;
+use writeable::{EventWriter, PartsWrite, WithParts};
 
 /// Writes amounts of money with the symbol of their currency, as `-$1,234.50` or `($1,234.50)`: the
 /// number in the pattern of its sign.
@@ -59,7 +61,34 @@ impl<F: AbstractFormatter> CurrencyFormatter<F> {
         &self.patterns
     }
 
-    /// Writes an amount: the parts of the number, and those of the sign and of the symbol.
+    /// Writes an amount into any writer: the parts of the number, and those of the sign and of the
+    /// symbol.
+    ///
+    /// After `Overflow` and `OutOfMemory` the writer is unchanged. `Sink` only where the writer
+    /// failed. `Overflow` exactly where the formatter overflows. It takes no memory of its own.
+    pub fn write_into<K: EventWriter>(
+        &self,
+        alloc: Global,
+        value: &Decimal,
+        out: &mut K,
+    ) -> Result<(), FormatError>
+        ensures written { WroteSuch K.wrote out.old result
+            (F.shows self.now.formatter value.now.absolute)
+            (money_events self.now.patterns value.now.sign) out.new }
+        ensures overflow { IsErrOf result FormatError.Overflow
+            ↔ F.overflows self.now.formatter value.now.absolute }
+        ensures memory { IsErrOf result FormatError.OutOfMemory
+            → F.takes_memory self.now.formatter }
+    {
+        let frame = SignFrame {
+            patterns: &self.patterns,
+            sign: value.sign,
+        };
+        self.formatter
+            .write_framed_into(alloc, &value.absolute, &frame, out)
+    }
+
+    /// Writes an amount to a sink, with the same parts.
     ///
     /// After `Overflow` and `OutOfMemory` the sink is unchanged. `Sink` only where the sink failed
     /// in this call, and it then holds a beginning of the events besides. `Overflow` exactly where
@@ -80,13 +109,13 @@ impl<F: AbstractFormatter> CurrencyFormatter<F> {
             (money_events self.now.patterns value.now.sign) sink.new }
         ensures overflow { IsErrOf result FormatError.Overflow
             ↔ F.overflows self.now.formatter value.now.absolute }
+        ensures memory { IsErrOf result FormatError.OutOfMemory
+            → F.takes_memory self.now.formatter }
     {
-        let frame = SignFrame {
-            patterns: &self.patterns,
-            sign: value.sign,
-        };
-        self.formatter
-            .write_framed(alloc, &value.absolute, &frame, sink)
+        let mut out = WithParts { sink };
+        let result = self.write_into(alloc, value, &mut out);
+        out.into_inner();
+        result
     }
 
     /// The characters that `write` writes, as a text. `Sink` is never reported.

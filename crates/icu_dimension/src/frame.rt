@@ -1,7 +1,7 @@
 //! What stands around numbers of one sign.
 
 use fixed_decimal::Sign;
-use icu_decimal::{Frame, ShownNumber};
+use icu_decimal_interface::{Frame, ShownNumber};
 use icu_dimension_data::SignedPatterns;
 use writeable::{EventWriter, WriteFault, Writeable};
 
@@ -27,9 +27,15 @@ pub(crate) struct SignFrame<'a> {
 }
 
 impl Frame for SignFrame<'_> {
+    ghost use Rattle.std.proofs.Common.{inl};
+    ghost use Rattle.icu_dimension.specs.FramesOnce.{sign_stands};
     ghost use Rattle.icu_dimension.specs.Money.{sign_framed};
 
     ghost framed = { λ f operands es. sign_framed f.patterns.now f.sign es };
+
+    ghost leaves_out = { λ f operands. ⊥ };
+
+    ghost once = { λ f operands. inl (sign_stands f.patterns.now f.sign) };
 
     fn write_framed<N: ShownNumber, K: EventWriter>(
         &self,

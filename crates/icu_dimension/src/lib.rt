@@ -46,6 +46,6 @@ pub use compact_currency_formatter::CompactCurrencyFormatter;
 pub use currency_formatter::CurrencyFormatter;
 pub use icu_dimension_data::parts;
 pub use long_currency_formatter::LongCurrencyFormatter;
-pub use name_pattern::{NamePattern, NameTexts};
+pub use name_pattern::{NamePattern, NameTexts, Named};
 pub use percent_formatter::PercentFormatter;
 pub use units_formatter::UnitsFormatter;

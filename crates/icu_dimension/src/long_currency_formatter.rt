@@ -3,19 +3,20 @@
 ghost use Rattle.std.specs.Prelude.{◌≡◌, ◌↔◌, IsErrOf, IfOk, IfErr, ◌≢◌};
 ghost use Rattle.std.specs.String.{string_bytes};
 ghost use Rattle.writeable.specs.Events.{text_of};
-ghost use Rattle.icu_decimal.specs.Shown.{Shown};
-ghost use Rattle.icu_decimal.specs.WritesSuch.{KeepsLimitSuch, WritesSuch};
+ghost use Rattle.icu_decimal_interface.specs.Shown.{Shown};
+ghost use Rattle.icu_decimal_interface.specs.UsesShown.{WroteSuch};
+ghost use Rattle.icu_decimal_interface.specs.WritesSuch.{KeepsLimitSuch, WritesSuch};
 ghost use Rattle.icu_dimension.specs.Names.{names_events};
 
 use crate::frame::Lent;
 use crate::name_pattern::NamePattern;
 use fixed_decimal::{Decimal, Sign};
 use icu_decimal::error::FormatError;
-use icu_decimal::{AbstractFormatter, Frame, ShownNumber};
+use icu_decimal_interface::{AbstractFormatter, Frame, ShownNumber};
 use icu_plurals::{PluralElements, PluralRules};
 use std::alloc::Global;
 use std::marker::Model;
-use writeable::{EventWriter, PartsWrite, WriteFault};
+use writeable::{EventWriter, PartsWrite, WithParts, WriteFault, Writeable};
 
 /// Writes amounts of money with the name of their currency, as `1.00 US dollars`: the number and
 /// its sign with the name that the number's plural operands pick.
@@ -66,7 +67,34 @@ impl<F: AbstractFormatter> LongCurrencyFormatter<F> {
         &self.elements
     }
 
-    /// Writes the amount: the parts of the number, of its sign and of the name.
+    /// Writes the amount into any writer: the parts of the number, of its sign and of the name.
+    ///
+    /// After `Overflow` and `OutOfMemory` the writer is unchanged. `Sink` only where the writer
+    /// failed. `Overflow` exactly where the formatter overflows. It takes no memory of its own.
+    pub fn write_into<K: EventWriter>(
+        &self,
+        alloc: Global,
+        value: &Decimal,
+        out: &mut K,
+    ) -> Result<(), FormatError>
+        ensures written { WroteSuch K.wrote out.old result
+            (F.shows self.now.formatter value.now.absolute)
+            (names_events (F.symbols self.now.formatter) self.now.rules self.now.elements
+            value.now.sign) out.new }
+        ensures overflow { IsErrOf result FormatError.Overflow
+            ↔ F.overflows self.now.formatter value.now.absolute }
+        ensures memory { IsErrOf result FormatError.OutOfMemory
+            → F.takes_memory self.now.formatter }
+    {
+        let frame = NamesFrame {
+            money: self,
+            sign: value.sign,
+        };
+        self.formatter
+            .write_framed_into(alloc, &value.absolute, &frame, out)
+    }
+
+    /// Writes the amount to a sink, with the same parts.
     ///
     /// After `Overflow` and `OutOfMemory` the sink is unchanged. `Sink` only where the sink failed
     /// in this call, and it then holds a beginning of the events besides. `Overflow` exactly where
@@ -89,13 +117,13 @@ impl<F: AbstractFormatter> LongCurrencyFormatter<F> {
             value.now.sign) sink.new }
         ensures overflow { IsErrOf result FormatError.Overflow
             ↔ F.overflows self.now.formatter value.now.absolute }
+        ensures memory { IsErrOf result FormatError.OutOfMemory
+            → F.takes_memory self.now.formatter }
     {
-        let frame = NamesFrame {
-            money: self,
-            sign: value.sign,
-        };
-        self.formatter
-            .write_framed(alloc, &value.absolute, &frame, sink)
+        let mut out = WithParts { sink };
+        let result = self.write_into(alloc, value, &mut out);
+        out.into_inner();
+        result
     }
 
     /// The characters that `write` writes, as a text. `Sink` is never reported.
@@ -125,10 +153,17 @@ struct NamesFrame<'a, F> {
 }
 
 impl<F: AbstractFormatter> Frame for NamesFrame<'_, F> {
+    ghost use Rattle.std.proofs.Common.{inl};
+    ghost use Rattle.icu_dimension.specs.FramesOnce.{names_stand};
     ghost use Rattle.icu_dimension.specs.Names.{names_framed};
 
     ghost framed = { λ f. names_framed (F.symbols f.money.now.formatter) f.money.now.rules
         f.money.now.elements f.sign };
+
+    ghost leaves_out = { λ f operands. ⊥ };
+
+    ghost once = { λ f operands. inl (names_stand (F.symbols f.money.now.formatter)
+        f.money.now.rules f.money.now.elements f.sign operands) };
 
     fn write_framed<N: ShownNumber, K: EventWriter>(
         &self,
@@ -141,6 +176,7 @@ impl<F: AbstractFormatter> Frame for NamesFrame<'_, F> {
             .format_sign(Lent { value: number }, self.sign);
         number
             .pick(&money.elements, &money.rules)
-            .write_with(&signed, out)
+            .interpolate(signed)
+            .write_events(out)
     }
 }

@@ -46,6 +46,21 @@ impl Model for NamePattern {
     } };
 }
 
+/// A value with the name of a currency.
+#[derive(Drop)]
+pub struct Named<'a, W> {
+    pattern: &'a NamePattern,
+    value: W,
+}
+
+impl<'a, W> Model for Named<'a, W> {
+    ghost use Rattle.icu_dimension.specs.Names.{NamedValue};
+
+    ghost Value = { NamedValue W };
+
+    ghost view = { λ n. record { pattern = n.pattern.now; value = n.value } };
+}
+
 impl NamePattern {
     ghost use Rattle.std.specs.Prelude.{◌≡◌, IfOk};
     ghost use Rattle.icu_dimension.specs.GivenNames.{name_given};
@@ -62,6 +77,16 @@ impl NamePattern {
             after: String::from_str(alloc, texts.after)?,
             name: String::from_str(alloc, texts.name)?,
         })
+    }
+
+    /// The pattern with a number, or what stands in its place (this project's own).
+    pub fn interpolate<W: Writeable>(&self, value: W) -> Named<'_, W>
+        ensures { result ≡ record { pattern = self.now; value = value } }
+    {
+        Named {
+            pattern: self,
+            value,
+        }
     }
 
     #[tactic(auto, unfolding(crate::specs::Names::name_events))]
@@ -99,8 +124,8 @@ impl NamePattern {
         out.text(self.after.as_str())
     }
 
-    /// Writes a number, or what stands in its place, with the name (this project's own).
-    pub fn write_with<W: Writeable, K: EventWriter>(
+    /// Writes a number, or what stands in its place, with the name.
+    fn write_with<W: Writeable, K: EventWriter>(
         &self,
         number: &W,
         out: &mut K,
@@ -112,5 +137,15 @@ impl NamePattern {
         } else {
             self.write_name_then_number(number, out)
         }
+    }
+}
+
+impl<W: Writeable> Writeable for Named<'_, W> {
+    ghost use Rattle.icu_dimension.specs.Names.{with_name};
+
+    ghost events = { λ n. with_name n.pattern (W.events n.value) };
+
+    fn write_events<K: EventWriter>(&self, out: &mut K) -> Result<(), WriteFault> {
+        self.pattern.write_with(&self.value, out)
     }
 }

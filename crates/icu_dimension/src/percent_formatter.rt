@@ -4,8 +4,9 @@ ghost use Rattle.std.specs.Prelude.{◌≡◌, OnOk, IsErrOf, IfOk, IfErr, ◌�
 ghost use Rattle.std.specs.String.{string_bytes};
 ghost use Rattle.fixed_decimal.specs.Unsigned.{IsWithinLimits};
 ghost use Rattle.writeable.specs.Events.{text_of};
-ghost use Rattle.icu_decimal.specs.Shown.{Shown};
-ghost use Rattle.icu_decimal.specs.WritesSuch.{KeepsLimitSuch, WritesSuch};
+ghost use Rattle.icu_decimal_interface.specs.Shown.{Shown};
+ghost use Rattle.icu_decimal_interface.specs.UsesShown.{WroteSuch};
+ghost use Rattle.icu_decimal_interface.specs.WritesSuch.{KeepsLimitSuch, WritesSuch};
 ghost use Rattle.icu_dimension.specs.Money.{money_events};
 ghost use Rattle.icu_dimension.specs.Percent.{IsTooLarge, hundredfold};
 
@@ -13,12 +14,13 @@ use crate::frame::SignFrame;
 use crate::hundredfold::hundredfold;
 use crate::readable::are_readable;
 use fixed_decimal::Decimal;
+use icu_decimal::DecimalFormatter;
 use icu_decimal::error::FormatError;
-use icu_decimal::{AbstractFormatter, DecimalFormatter};
+use icu_decimal_interface::AbstractFormatter;
 use icu_dimension_data::SignedPatterns;
 use std::alloc::Global;
 use std::marker::Model;
-use writeable::PartsWrite;
+use writeable::{EventWriter, PartsWrite, WithParts};
 
 /// Writes numbers as percents, as `12.34%` of 0.1234: a hundred times the number in the percent
 /// pattern of its sign.
@@ -54,8 +56,37 @@ impl<F: AbstractFormatter> PercentFormatter<F> {
         &self.patterns
     }
 
-    /// Writes a hundred times the number, exactly and without leading zeros, as a percent: the
-    /// parts of the number, and those of the sign and of the percent sign.
+    /// Writes a hundred times the number, exactly and without leading zeros, as a percent into any
+    /// writer: the parts of the number, and those of the sign and of the percent sign.
+    ///
+    /// `Overflow` if a hundred times the number has more than 32768 digits at power 0 and above, or
+    /// if the formatter overflows for it. After `Overflow` and `OutOfMemory` the writer is
+    /// unchanged. `Sink` only where the writer failed. It takes memory for a hundred times the
+    /// number.
+    pub fn write_into<K: EventWriter>(
+        &self,
+        alloc: Global,
+        value: &Decimal,
+        out: &mut K,
+    ) -> Result<(), FormatError>
+        ensures written { WroteSuch K.wrote out.old result
+            (F.shows self.now.formatter (hundredfold value.now.absolute))
+            (money_events self.now.patterns value.now.sign) out.new }
+        ensures overflow { IsErrOf result FormatError.Overflow
+            → IsTooLarge F.overflows self.now.formatter value.now.absolute }
+        ensures within { OnOk result
+            (¬ (IsTooLarge F.overflows self.now.formatter value.now.absolute)) }
+    {
+        let hundredfold = hundredfold(alloc, &value.absolute)?;
+        let frame = SignFrame {
+            patterns: &self.patterns,
+            sign: value.sign,
+        };
+        self.formatter
+            .write_framed_into(alloc, &hundredfold, &frame, out)
+    }
+
+    /// Writes a hundred times the number as a percent to a sink, with the same parts.
     ///
     /// `Overflow` if a hundred times the number has more than 32768 digits at power 0 and above, or
     /// if the formatter overflows for it. After `Overflow` and `OutOfMemory` the sink is unchanged.
@@ -82,13 +113,10 @@ impl<F: AbstractFormatter> PercentFormatter<F> {
         ensures within { OnOk result
             (¬ (IsTooLarge F.overflows self.now.formatter value.now.absolute)) }
     {
-        let hundredfold = hundredfold(alloc, &value.absolute)?;
-        let frame = SignFrame {
-            patterns: &self.patterns,
-            sign: value.sign,
-        };
-        self.formatter
-            .write_framed(alloc, &hundredfold, &frame, sink)
+        let mut out = WithParts { sink };
+        let result = self.write_into(alloc, value, &mut out);
+        out.into_inner();
+        result
     }
 
     /// The characters that `write` writes, as a text. `Sink` is never reported.

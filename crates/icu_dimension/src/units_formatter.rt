@@ -3,20 +3,21 @@
 ghost use Rattle.std.specs.Prelude.{◌≡◌, ◌↔◌, IsErrOf, IfOk, IfErr, ◌≢◌};
 ghost use Rattle.std.specs.String.{string_bytes};
 ghost use Rattle.writeable.specs.Events.{text_of};
-ghost use Rattle.icu_decimal.specs.Shown.{Shown};
-ghost use Rattle.icu_decimal.specs.WritesSuch.{KeepsLimitSuch, WritesSuch};
+ghost use Rattle.icu_decimal_interface.specs.Shown.{Shown};
+ghost use Rattle.icu_decimal_interface.specs.UsesShown.{WroteSuch};
+ghost use Rattle.icu_decimal_interface.specs.WritesSuch.{KeepsLimitSuch, WritesSuch};
 ghost use Rattle.icu_dimension.specs.Units.{units_events};
 
 use crate::frame::Lent;
 use crate::unit_pattern::write_unit;
 use fixed_decimal::{Decimal, Sign};
 use icu_decimal::error::FormatError;
-use icu_decimal::{AbstractFormatter, Frame, ShownNumber};
+use icu_decimal_interface::{AbstractFormatter, Frame, ShownNumber};
 use icu_pattern::{Pattern, SinglePlaceholder};
 use icu_plurals::{PluralElements, PluralRules};
 use std::alloc::Global;
 use std::marker::Model;
-use writeable::{EventWriter, PartsWrite, WriteFault};
+use writeable::{EventWriter, PartsWrite, WithParts, WriteFault};
 
 /// Writes numbers with a unit, as `-1 kilometer` or `ɣleti -1`: the pattern that the number's
 /// plural operands pick, with the number and its sign in its place.
@@ -75,9 +76,37 @@ impl<F: AbstractFormatter> UnitsFormatter<F> {
         &self.elements
     }
 
-    /// Writes the number with its unit: the parts of the number and of its sign, and the letters of
-    /// the pattern on each side of them in the part `unit`, without the white space at their ends,
-    /// which is in no part. A pattern without a placeholder is written as its literal.
+    /// Writes the number with its unit into any writer: the parts of the number and of its sign,
+    /// and the letters of the pattern on each side of them in the part `unit`, without the white
+    /// space at their ends, which is in no part. A pattern without a placeholder is written as its
+    /// literal.
+    ///
+    /// After `Overflow` and `OutOfMemory` the writer is unchanged. `Sink` only where the writer
+    /// failed. `Overflow` exactly where the formatter overflows. It takes no memory of its own.
+    pub fn write_into<K: EventWriter>(
+        &self,
+        alloc: Global,
+        value: &Decimal,
+        out: &mut K,
+    ) -> Result<(), FormatError>
+        ensures written { WroteSuch K.wrote out.old result
+            (F.shows self.now.formatter value.now.absolute)
+            (units_events (F.symbols self.now.formatter) self.now.rules self.now.elements
+            value.now.sign) out.new }
+        ensures overflow { IsErrOf result FormatError.Overflow
+            ↔ F.overflows self.now.formatter value.now.absolute }
+        ensures memory { IsErrOf result FormatError.OutOfMemory
+            → F.takes_memory self.now.formatter }
+    {
+        let frame = UnitsFrame {
+            units: self,
+            sign: value.sign,
+        };
+        self.formatter
+            .write_framed_into(alloc, &value.absolute, &frame, out)
+    }
+
+    /// Writes the number with its unit to a sink, with the same parts.
     ///
     /// After `Overflow` and `OutOfMemory` the sink is unchanged. `Sink` only where the sink failed
     /// in this call, and it then holds a beginning of the events besides. `Overflow` exactly where
@@ -100,13 +129,13 @@ impl<F: AbstractFormatter> UnitsFormatter<F> {
             value.now.sign) sink.new }
         ensures overflow { IsErrOf result FormatError.Overflow
             ↔ F.overflows self.now.formatter value.now.absolute }
+        ensures memory { IsErrOf result FormatError.OutOfMemory
+            → F.takes_memory self.now.formatter }
     {
-        let frame = UnitsFrame {
-            units: self,
-            sign: value.sign,
-        };
-        self.formatter
-            .write_framed(alloc, &value.absolute, &frame, sink)
+        let mut out = WithParts { sink };
+        let result = self.write_into(alloc, value, &mut out);
+        out.into_inner();
+        result
     }
 
     /// The characters that `write` writes, as a text. `Sink` is never reported.
@@ -136,9 +165,15 @@ struct UnitsFrame<'a, F> {
 }
 
 impl<F: AbstractFormatter> Frame for UnitsFrame<'_, F> {
-    ghost use Rattle.icu_dimension.specs.Units.{units_framed};
+    ghost use Rattle.icu_dimension.specs.FramesOnce.{units_once};
+    ghost use Rattle.icu_dimension.specs.Units.{IsLeftOut, units_framed};
 
     ghost framed = { λ f. units_framed (F.symbols f.units.now.formatter) f.units.now.rules
+        f.units.now.elements f.sign };
+
+    ghost leaves_out = { λ f. IsLeftOut f.units.now.rules f.units.now.elements };
+
+    ghost once = { λ f. units_once (F.symbols f.units.now.formatter) f.units.now.rules
         f.units.now.elements f.sign };
 
     fn write_framed<N: ShownNumber, K: EventWriter>(

@@ -1,3 +1,4 @@
+pub mod ByValue
 pub mod PatternFaults
 pub mod CompactRows
 pub mod Repeated

@@ -11,4 +11,5 @@ pub mod Money
 pub mod CurrencySymbols
 pub mod CurrencyNames
 pub mod DimensionTables
+pub mod AllTables
 pub mod Answering

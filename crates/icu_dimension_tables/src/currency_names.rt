@@ -1,7 +1,6 @@
 //! The names of currencies, in their places beside amounts.
 
-ghost use Rattle.std.specs.Prelude.{◌≡◌, IfOk, Ok};
-ghost use Rattle.icu_provider.specs.Answer.{Answers};
+ghost use Rattle.std.specs.Prelude.{◌≡◌, IfOk};
 ghost use Rattle.icu_dimension_data.specs.ByCategory.{elements_map};
 ghost use Rattle.icu_dimension_tables.specs.CurrencyNames.{name_in, names_placed};
 
@@ -9,7 +8,6 @@ use crate::name_places::NamePlaces;
 use icu_dimension::{NamePattern, NameTexts};
 use icu_dimension_data::by_category::{SlotMaker, elements_made, other_of};
 use icu_plurals::PluralElements;
-use icu_provider::{DataError, DataErrorKind};
 use std::alloc::{AllocError, Global};
 use std::marker::Model;
 
@@ -127,16 +125,13 @@ impl SlotMaker for NamesPlaced<'_> {
     }
 }
 
-/// The same, as a provider answers.
-pub fn names_answered(
+/// The names of a currency, each in its place.
+pub fn names_placed(
     alloc: Global,
     places: &PluralElements<NamePlaces>,
     names: &PluralElements<CurrencyName>,
-) -> Result<PluralElements<NamePattern>, DataError>
-    ensures { Answers result (Ok (names_placed places.now names.now)) }
+) -> Result<PluralElements<NamePattern>, AllocError>
+    ensures { IfOk result (λ e. e ≡ names_placed places.now names.now) }
 {
-    match elements_made(alloc, &NamesPlaced { places, names }) {
-        Ok(placed) => Ok(placed),
-        Err(_) => Err(DataErrorKind::OutOfMemory.into()),
-    }
+    elements_made(alloc, &NamesPlaced { places, names })
 }

@@ -1,8 +1,7 @@
 //! Entries of the symbols and names of currencies.
 
-ghost use Rattle.std.specs.Prelude.{◌≡◌, Ok, map, option_map};
+ghost use Rattle.std.specs.Prelude.{◌≡◌, IfOk, map, option_map};
 ghost use Rattle.serde_json.specs.View.{view};
-ghost use Rattle.icu_provider.specs.Answer.{Answers};
 ghost use Rattle.icu_table_entries.specs.Reading.{Gives};
 ghost use Rattle.icu_dimension_tables.specs.CurrencySymbols.{currency_row_at, currency_rows_at, row_filed, row_in, row_of_code, rows_of_locale};
 ghost use Rattle.icu_provider.specs.Identifier.{identifier_of};
@@ -13,13 +12,13 @@ use crate::currency_names::{CurrencyName, names_given};
 use icu_dimension::provider::CurrencySymbols;
 use icu_dimension_data::CurrencyCode;
 use icu_plurals::PluralElements;
-use icu_provider::{DataError, DataErrorKind, DataIdentifierBorrowed, DataLocale};
+use icu_provider::{DataIdentifierBorrowed, DataLocale};
 use icu_table_entries::entries::EntryKind;
 use icu_table_entries::fields::{four_in, list_at, object_in, text_at, text_in};
 use icu_table_entries::named::locale_of;
 use icu_table_entries::{Key, Place, TableError};
 use serde_json::Value;
-use std::alloc::Global;
+use std::alloc::{AllocError, Global};
 use std::marker::Model;
 
 /// The symbols of a currency.
@@ -40,13 +39,10 @@ impl Model for SymbolTexts {
 
 impl SymbolTexts {
     /// The symbols with memory of their own, as a formatter takes them.
-    pub fn copied(&self, alloc: Global) -> Result<CurrencySymbols, DataError>
-        ensures { Answers result (Ok self.now) }
+    pub fn copy(&self, alloc: Global) -> Result<CurrencySymbols, AllocError>
+        ensures { IfOk result (λ s. s ≡ self.now) }
     {
-        match CurrencySymbols::new(alloc, self.short.as_str(), self.narrow.as_str()) {
-            Ok(symbols) => Ok(symbols),
-            Err(_) => Err(DataErrorKind::OutOfMemory.into()),
-        }
+        CurrencySymbols::new(alloc, self.short.as_str(), self.narrow.as_str())
     }
 }
 

@@ -1,6 +1,7 @@
 //! The data of formatters of money, percents and units, read from JSON.
 #![tactic(auto)]
 
+mod all_tables;
 mod by_category;
 mod copying;
 mod currency_compact;
@@ -17,5 +18,6 @@ mod sign_texts;
 mod tables;
 mod units;
 
+pub use all_tables::AllTables;
 pub use icu_table_entries::{EntryFault, Key, TableError};
 pub use tables::DimensionTables;

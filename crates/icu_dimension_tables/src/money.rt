@@ -1,8 +1,7 @@
 //! Entries of the patterns of money.
 
-ghost use Rattle.std.specs.Prelude.{◌≡◌, Ok, IfOk, None, option_map};
+ghost use Rattle.std.specs.Prelude.{◌≡◌, IfOk, None, option_map};
 ghost use Rattle.serde_json.specs.View.{view};
-ghost use Rattle.icu_provider.specs.Answer.{Answers};
 ghost use Rattle.icu_provider.specs.Identifier.{identifier_of};
 ghost use Rattle.icu_table_entries.specs.Named.{first_filed};
 ghost use Rattle.icu_table_entries.specs.Reading.{Gives};
@@ -15,7 +14,7 @@ use crate::sign_texts::sign_text_of;
 use icu_dimension::provider::CurrencyPatterns;
 use icu_dimension_data::CldrPattern;
 use icu_plurals::PluralElements;
-use icu_provider::{DataError, DataErrorKind, DataIdentifierBorrowed, DataLocale};
+use icu_provider::{DataIdentifierBorrowed, DataLocale};
 use icu_table_entries::entries::EntryKind;
 use icu_table_entries::fields::{object_in, optional_text_at, text_at};
 use icu_table_entries::named::{NamedEntry, first_filed, name_of};
@@ -50,7 +49,7 @@ impl Model for MoneyPatterns {
 
 impl MoneyPatterns {
     /// The patterns with memory of their own, as a formatter takes them.
-    fn given(&self, alloc: Global) -> Result<CurrencyPatterns, AllocError>
+    pub fn copy(&self, alloc: Global) -> Result<CurrencyPatterns, AllocError>
         ensures { IfOk result (λ p. p ≡ self.now) }
     {
         let standard = self.standard.copy(alloc)?;
@@ -63,16 +62,6 @@ impl MoneyPatterns {
             minus_sign,
             self.plus_sign.as_str(),
         )
-    }
-
-    /// The same, as a provider answers.
-    pub fn copied(&self, alloc: Global) -> Result<CurrencyPatterns, DataError>
-        ensures { Answers result (Ok self.now) }
-    {
-        match self.given(alloc) {
-            Ok(patterns) => Ok(patterns),
-            Err(_) => Err(DataErrorKind::OutOfMemory.into()),
-        }
     }
 }
 

@@ -1,18 +1,17 @@
-//! Tables of money, percents and units as a provider.
+//! All tables of a document as one provider.
 
-ghost use Rattle.std.specs.Prelude.{◌≡◌, Ok, option_map};
+ghost use Rattle.std.specs.Prelude.{◌≡◌, IfOk, Ok, option_map};
 ghost use Rattle.icu_provider.specs.Answer.{Answers};
 ghost use Rattle.icu_provider.specs.Identifier.{identifier_of};
-ghost use Rattle.icu_table_entries.specs.Answering.{optional_answer};
 ghost use Rattle.icu_dimension_tables.specs.Answering.{unit_answer};
 
+use crate::all_tables::AllTables;
 use crate::copying::patterns_copy;
-use crate::currency_names::names_answered;
+use crate::currency_names::names_placed;
 use crate::currency_symbols::row_filed;
 use crate::money::{patterns_filed, places_filed};
-use crate::tables::DimensionTables;
 use crate::units::{UnitPatterns, UnitWidth, first_unit};
-use icu_decimal_data::DecimalSymbols;
+use icu_decimal_data::{DecimalDigitsV1, DecimalSymbols, DecimalSymbolsV1};
 use icu_dimension::NamePattern;
 use icu_dimension::provider::{
     CompactRows, CurrencyCompactShortV1, CurrencyDecimalSymbolsV1, CurrencyDigitsV1,
@@ -20,81 +19,22 @@ use icu_dimension::provider::{
     PercentPatternsV1, UnitsLongV1, UnitsNarrowV1, UnitsShortV1,
 };
 use icu_dimension_data::{CurrencyDigits, SignedPatterns};
-use icu_plurals::PluralElements;
+use icu_plurals::{PluralElements, PluralRules, PluralsCardinalV1};
 use icu_provider::{
     DataError, DataErrorKind, DataIdentifierBorrowed, DataLocale, DataProvider, DataRequest,
 };
-use icu_table_entries::named::{NamedEntry, first_filed};
+use icu_table_entries::named::first_filed;
 use icu_table_entries::texts::Patterns;
+use icu_tables::Tables;
 use std::alloc::Global;
 
-/// Data that is copied for each answer.
-trait Copied: Sized {
-    /// An equal value with memory of its own.
-    fn copied(&self, alloc: Global) -> Result<Self, DataError>
-        ensures { Answers result (Ok self.now) };
-}
-
-impl Copied for CurrencyDigits {
-    fn copied(&self, alloc: Global) -> Result<Self, DataError> {
-        match self.copy(alloc) {
-            Ok(digits) => Ok(digits),
-            Err(_) => Err(DataErrorKind::OutOfMemory.into()),
-        }
-    }
-}
-
-impl Copied for SignedPatterns {
-    fn copied(&self, alloc: Global) -> Result<Self, DataError> {
-        match self.copy(alloc) {
-            Ok(patterns) => Ok(patterns),
-            Err(_) => Err(DataErrorKind::OutOfMemory.into()),
-        }
-    }
-}
-
-impl Copied for CompactRows {
-    fn copied(&self, alloc: Global) -> Result<Self, DataError> {
-        match self.copy(alloc) {
-            Ok(rows) => Ok(rows),
-            Err(_) => Err(DataErrorKind::OutOfMemory.into()),
-        }
-    }
-}
-
-impl Copied for DecimalSymbols {
-    fn copied(&self, alloc: Global) -> Result<Self, DataError> {
-        match self.copy(alloc) {
-            Ok(symbols) => Ok(symbols),
-            Err(_) => Err(DataErrorKind::OutOfMemory.into()),
-        }
-    }
-}
-
-impl Copied for Patterns {
-    fn copied(&self, alloc: Global) -> Result<Self, DataError> {
-        match patterns_copy(alloc, self) {
-            Ok(patterns) => Ok(patterns),
-            Err(_) => Err(DataErrorKind::OutOfMemory.into()),
-        }
-    }
-}
-
-/// A copy of the first entry with the identifier, under a key that may be absent.
-fn load_optional<T: Copied>(
-    alloc: Global,
-    entries: &Option<Vec<NamedEntry<T>>>,
-    id: &DataIdentifierBorrowed<'_>,
-) -> Result<T, DataError>
-    ensures { Answers result (optional_answer (option_map (λ v. v.items) entries.now)
-        (identifier_of id.now)) }
+/// What a provider answers with a copy of its data.
+fn answered<T, E: Drop>(copied: Result<T, E>) -> Result<T, DataError>
+    ensures { (held : T) → IfOk copied (λ c. c ≡ held) → Answers result (Ok held) }
 {
-    let Some(entries) = entries else {
-        return Err(DataErrorKind::MarkerNotFound.into());
-    };
-    match first_filed(entries, id) {
-        Some(content) => content.copied(alloc),
-        None => Err(DataErrorKind::IdentifierNotFound.into()),
+    match copied {
+        Ok(copy) => Ok(copy),
+        Err(_) => Err(DataErrorKind::OutOfMemory.into()),
     }
 }
 
@@ -112,82 +52,112 @@ fn load_unit(
         return Err(DataErrorKind::MarkerNotFound.into());
     };
     match first_unit(entries, width, id) {
-        Some(patterns) => patterns.copied(alloc),
+        Some(patterns) => answered(patterns_copy(alloc, patterns)),
         None => Err(DataErrorKind::IdentifierNotFound.into()),
     }
 }
 
-impl DataProvider<CurrencyDigitsV1> for DimensionTables {
+impl DataProvider<DecimalSymbolsV1> for AllTables {
+    ghost answer = { λ t. ⟦<Tables as DataProvider<DecimalSymbolsV1>>⟧.answer t.numbers };
+
+    fn load(&self, alloc: Global, request: &DataRequest<'_>) -> Result<DecimalSymbols, DataError> {
+        <Tables as DataProvider<DecimalSymbolsV1>>::load(&self.numbers, alloc, request)
+    }
+}
+
+impl DataProvider<DecimalDigitsV1> for AllTables {
+    ghost answer = { λ t. ⟦<Tables as DataProvider<DecimalDigitsV1>>⟧.answer t.numbers };
+
+    fn load(&self, alloc: Global, request: &DataRequest<'_>) -> Result<[char; 10], DataError> {
+        <Tables as DataProvider<DecimalDigitsV1>>::load(&self.numbers, alloc, request)
+    }
+}
+
+impl DataProvider<PluralsCardinalV1> for AllTables {
+    ghost answer = { λ t. ⟦<Tables as DataProvider<PluralsCardinalV1>>⟧.answer t.numbers };
+
+    fn load(&self, alloc: Global, request: &DataRequest<'_>) -> Result<PluralRules, DataError> {
+        <Tables as DataProvider<PluralsCardinalV1>>::load(&self.numbers, alloc, request)
+    }
+}
+
+impl DataProvider<CurrencyDigitsV1> for AllTables {
     ghost use Rattle.icu_dimension_tables.specs.Answering.{digits_answer};
 
-    ghost answer = { λ tables id. digits_answer tables.digits id };
+    ghost answer = { λ tables id. digits_answer tables.dimension.digits id };
 
     /// A copy of the digits of `currency_digits`, for the undetermined locale without a system.
     fn load(&self, alloc: Global, request: &DataRequest<'_>) -> Result<CurrencyDigits, DataError> {
-        let Some(digits) = &self.digits else {
+        let Some(digits) = &self.dimension.digits else {
             return Err(DataErrorKind::MarkerNotFound.into());
         };
         if request.id == DataIdentifierBorrowed::for_locale(&DataLocale::default()) {
-            digits.copied(alloc)
+            answered(digits.copy(alloc))
         } else {
             Err(DataErrorKind::IdentifierNotFound.into())
         }
     }
 }
 
-impl DataProvider<PercentPatternsV1> for DimensionTables {
+impl DataProvider<PercentPatternsV1> for AllTables {
     ghost use Rattle.icu_table_entries.specs.Answering.{optional_answer};
 
-    ghost answer = { λ tables id. optional_answer tables.percents id };
+    ghost answer = { λ tables id. optional_answer tables.dimension.percents id };
 
     /// A copy of the first entry of `percents` with the identifier's locale and numbering system,
     /// or none.
     fn load(&self, alloc: Global, request: &DataRequest<'_>) -> Result<SignedPatterns, DataError> {
-        load_optional(alloc, &self.percents, &request.id)
+        let Some(entries) = &self.dimension.percents else {
+            return Err(DataErrorKind::MarkerNotFound.into());
+        };
+        match first_filed(entries, &request.id) {
+            Some(patterns) => answered(patterns.copy(alloc)),
+            None => Err(DataErrorKind::IdentifierNotFound.into()),
+        }
     }
 }
 
-impl DataProvider<UnitsLongV1> for DimensionTables {
+impl DataProvider<UnitsLongV1> for AllTables {
     ghost use Rattle.icu_dimension_tables.specs.Answering.{unit_answer};
     ghost use Rattle.icu_dimension_tables.specs.declared.units.UnitWidth.TheVariants.{Long};
 
-    ghost answer = { λ tables id. unit_answer Long tables.units id };
+    ghost answer = { λ tables id. unit_answer Long tables.dimension.units id };
 
     /// A copy of the patterns of the first entry of `units` with the width `long`, the identifier's
     /// locale and, as its system, the unit.
     fn load(&self, alloc: Global, request: &DataRequest<'_>) -> Result<Patterns, DataError> {
-        load_unit(alloc, &self.units, UnitWidth::Long, &request.id)
+        load_unit(alloc, &self.dimension.units, UnitWidth::Long, &request.id)
     }
 }
 
-impl DataProvider<UnitsShortV1> for DimensionTables {
+impl DataProvider<UnitsShortV1> for AllTables {
     ghost use Rattle.icu_dimension_tables.specs.Answering.{unit_answer};
     ghost use Rattle.icu_dimension_tables.specs.declared.units.UnitWidth.TheVariants.{Short};
 
-    ghost answer = { λ tables id. unit_answer Short tables.units id };
+    ghost answer = { λ tables id. unit_answer Short tables.dimension.units id };
 
     /// The same with the width `short`.
     fn load(&self, alloc: Global, request: &DataRequest<'_>) -> Result<Patterns, DataError> {
-        load_unit(alloc, &self.units, UnitWidth::Short, &request.id)
+        load_unit(alloc, &self.dimension.units, UnitWidth::Short, &request.id)
     }
 }
 
-impl DataProvider<UnitsNarrowV1> for DimensionTables {
+impl DataProvider<UnitsNarrowV1> for AllTables {
     ghost use Rattle.icu_dimension_tables.specs.Answering.{unit_answer};
     ghost use Rattle.icu_dimension_tables.specs.declared.units.UnitWidth.TheVariants.{Narrow};
 
-    ghost answer = { λ tables id. unit_answer Narrow tables.units id };
+    ghost answer = { λ tables id. unit_answer Narrow tables.dimension.units id };
 
     /// The same with the width `narrow`.
     fn load(&self, alloc: Global, request: &DataRequest<'_>) -> Result<Patterns, DataError> {
-        load_unit(alloc, &self.units, UnitWidth::Narrow, &request.id)
+        load_unit(alloc, &self.dimension.units, UnitWidth::Narrow, &request.id)
     }
 }
 
-impl DataProvider<CurrencyPatternsV1> for DimensionTables {
+impl DataProvider<CurrencyPatternsV1> for AllTables {
     ghost use Rattle.icu_table_entries.specs.Answering.{optional_answer};
 
-    ghost answer = { λ tables id. optional_answer tables.currencies id };
+    ghost answer = { λ tables id. optional_answer tables.dimension.currencies id };
 
     /// A copy of the first entry of `currencies` with the identifier's locale and numbering system,
     /// or none.
@@ -196,38 +166,39 @@ impl DataProvider<CurrencyPatternsV1> for DimensionTables {
         alloc: Global,
         request: &DataRequest<'_>,
     ) -> Result<CurrencyPatterns, DataError> {
-        let Some(entries) = &self.money else {
+        let Some(entries) = &self.dimension.money else {
             return Err(DataErrorKind::MarkerNotFound.into());
         };
         match patterns_filed(entries, &request.id) {
-            Some(patterns) => patterns.copied(alloc),
+            Some(patterns) => answered(patterns.copy(alloc)),
             None => Err(DataErrorKind::IdentifierNotFound.into()),
         }
     }
 }
 
-impl DataProvider<CurrencySymbolsV1> for DimensionTables {
+impl DataProvider<CurrencySymbolsV1> for AllTables {
     ghost use Rattle.icu_dimension_tables.specs.Answering.{symbols_answer};
 
-    ghost answer = { λ tables id. symbols_answer tables.symbols id };
+    ghost answer = { λ tables id. symbols_answer tables.dimension.symbols id };
 
     /// A copy of the symbols of the first row with the currency's code, the identifier's system, in
     /// the first entry of `currency_symbols` with the identifier's locale.
     fn load(&self, alloc: Global, request: &DataRequest<'_>) -> Result<CurrencySymbols, DataError> {
-        let Some(entries) = &self.symbols else {
+        let Some(entries) = &self.dimension.symbols else {
             return Err(DataErrorKind::MarkerNotFound.into());
         };
         match row_filed(entries, &request.id) {
-            Some(row) => row.symbols.copied(alloc),
+            Some(row) => answered(row.symbols.copy(alloc)),
             None => Err(DataErrorKind::IdentifierNotFound.into()),
         }
     }
 }
 
-impl DataProvider<CurrencyNamesV1> for DimensionTables {
+impl DataProvider<CurrencyNamesV1> for AllTables {
     ghost use Rattle.icu_dimension_tables.specs.Answering.{names_answer};
 
-    ghost answer = { λ tables id. names_answer tables.places tables.symbols id };
+    ghost answer = { λ tables id.
+        names_answer tables.dimension.places tables.dimension.symbols id };
 
     /// The names of the first row with the currency's code, the identifier's system, in the first
     /// entry of `currency_symbols` with the identifier's locale, in the places that the first entry
@@ -239,49 +210,55 @@ impl DataProvider<CurrencyNamesV1> for DimensionTables {
         alloc: Global,
         request: &DataRequest<'_>,
     ) -> Result<PluralElements<NamePattern>, DataError> {
-        let Some(money) = &self.money else {
+        let Some(money) = &self.dimension.money else {
             return Err(DataErrorKind::MarkerNotFound.into());
         };
-        let Some(currencies) = &self.symbols else {
+        let Some(currencies) = &self.dimension.symbols else {
             return Err(DataErrorKind::MarkerNotFound.into());
         };
         match (
             places_filed(money, &request.id),
             row_filed(currencies, &request.id),
         ) {
-            (Some(Some(places)), Some(row)) => names_answered(alloc, places, &row.names),
+            (Some(Some(places)), Some(row)) => answered(names_placed(alloc, places, &row.names)),
             _ => Err(DataErrorKind::IdentifierNotFound.into()),
         }
     }
 }
 
-impl DataProvider<CurrencyDecimalSymbolsV1> for DimensionTables {
+impl DataProvider<CurrencyDecimalSymbolsV1> for AllTables {
     ghost use Rattle.icu_dimension_tables.specs.Answering.{decimals_answer};
 
-    ghost answer = { λ tables id. decimals_answer tables.decimals id };
+    ghost answer = { λ tables id. decimals_answer tables.dimension.decimals id };
 
     /// A copy of the first entry of `currency_decimals` with the identifier's locale and numbering
     /// system, or none, which also an absent key says.
     fn load(&self, alloc: Global, request: &DataRequest<'_>) -> Result<DecimalSymbols, DataError> {
-        let found = match &self.decimals {
+        let found = match &self.dimension.decimals {
             Some(entries) => first_filed(entries, &request.id),
             None => None,
         };
         match found {
-            Some(symbols) => symbols.copied(alloc),
+            Some(symbols) => answered(symbols.copy(alloc)),
             None => Err(DataErrorKind::IdentifierNotFound.into()),
         }
     }
 }
 
-impl DataProvider<CurrencyCompactShortV1> for DimensionTables {
+impl DataProvider<CurrencyCompactShortV1> for AllTables {
     ghost use Rattle.icu_table_entries.specs.Answering.{optional_answer};
 
-    ghost answer = { λ tables id. optional_answer tables.compact id };
+    ghost answer = { λ tables id. optional_answer tables.dimension.compact id };
 
     /// A copy of the first entry of `currency_compact` with the identifier's locale and numbering
     /// system, or none.
     fn load(&self, alloc: Global, request: &DataRequest<'_>) -> Result<CompactRows, DataError> {
-        load_optional(alloc, &self.compact, &request.id)
+        let Some(entries) = &self.dimension.compact else {
+            return Err(DataErrorKind::MarkerNotFound.into());
+        };
+        match first_filed(entries, &request.id) {
+            Some(rows) => answered(rows.copy(alloc)),
+            None => Err(DataErrorKind::IdentifierNotFound.into()),
+        }
     }
 }

@@ -54,23 +54,6 @@ impl Model for DimensionTables {
     } };
 }
 
-/// The tables of a value, key by key.
-#[tactic(auto, unfolding(crate::specs::DimensionTables::dimension_tables_at))]
-fn dimension_tables_at(alloc: Global, value: &Value) -> Result<DimensionTables, TableError>
-    ensures { Gives (λ x. x) result (dimension_tables_at (view value.now)) }
-{
-    let value = object_in(value, Key::Document)?;
-    Ok(DimensionTables {
-        digits: currency_digits_under(alloc, value)?,
-        percents: optional_entries::<PercentsEntry>(alloc, value, Key::Percents)?,
-        units: optional_entries::<UnitEntry>(alloc, value, Key::Units)?,
-        money: optional_entries::<CurrenciesEntry>(alloc, value, Key::Currencies)?,
-        symbols: optional_entries::<CurrencySymbolsEntry>(alloc, value, Key::CurrencySymbols)?,
-        decimals: optional_entries::<SymbolsEntry>(alloc, value, Key::CurrencyDecimals)?,
-        compact: optional_entries::<CurrencyCompactEntry>(alloc, value, Key::CurrencyCompact)?,
-    })
-}
-
 impl DimensionTables {
     /// The tables of a JSON text, or its first fault.
     ///
@@ -88,6 +71,26 @@ impl DimensionTables {
         ensures { Gives (λ x. x) result (dimension_tables_of text.now) }
     {
         let value = value_of(alloc, text)?;
-        dimension_tables_at(alloc, &value)
+        DimensionTables::from_value(alloc, &value)
+    }
+
+    /// The tables of a value that was read from JSON, or its first fault.
+    ///
+    /// Keys are judged as by [`DimensionTables::from_json`], which first searches the value for
+    /// numbers that aren't 64-bit whole numbers.
+    #[tactic(auto, unfolding(crate::specs::DimensionTables::dimension_tables_at))]
+    pub fn from_value(alloc: Global, value: &Value) -> Result<DimensionTables, TableError>
+        ensures { Gives (λ x. x) result (dimension_tables_at (view value.now)) }
+    {
+        let value = object_in(value, Key::Document)?;
+        Ok(DimensionTables {
+            digits: currency_digits_under(alloc, value)?,
+            percents: optional_entries::<PercentsEntry>(alloc, value, Key::Percents)?,
+            units: optional_entries::<UnitEntry>(alloc, value, Key::Units)?,
+            money: optional_entries::<CurrenciesEntry>(alloc, value, Key::Currencies)?,
+            symbols: optional_entries::<CurrencySymbolsEntry>(alloc, value, Key::CurrencySymbols)?,
+            decimals: optional_entries::<SymbolsEntry>(alloc, value, Key::CurrencyDecimals)?,
+            compact: optional_entries::<CurrencyCompactEntry>(alloc, value, Key::CurrencyCompact)?,
+        })
     }
 }

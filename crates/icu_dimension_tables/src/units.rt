@@ -16,7 +16,7 @@ use std::alloc::Global;
 use std::marker::Model;
 
 /// How wide a unit is written.
-#[derive(Clone, Copy, Debug)]
+#[derive(Clone, Copy)]
 pub enum UnitWidth {
     /// As in `5 kilometers`.
     Long,

@@ -47,21 +47,6 @@ impl Model for Tables {
     } };
 }
 
-/// The tables of a value, key by key.
-#[tactic(auto, unfolding(crate::specs::Tables::tables_at))]
-fn tables_at(alloc: Global, value: &Value) -> Result<Tables, TableError>
-    ensures { Gives (λ x. x) result (tables_at (view value.now)) }
-{
-    let value = object_in(value, Key::Document)?;
-    Ok(Tables {
-        symbols: entries_under::<SymbolsEntry>(alloc, value, Key::Symbols)?,
-        digits: entries_under::<DigitsEntry>(alloc, value, Key::Digits)?,
-        rules: optional_entries::<RulesEntry>(alloc, value, Key::Rules)?,
-        short: optional_entries::<CompactEntry>(alloc, value, Key::Short)?,
-        long: optional_entries::<CompactEntry>(alloc, value, Key::Long)?,
-    })
-}
-
 impl Tables {
     /// The tables of a JSON text, or its first fault.
     ///
@@ -76,6 +61,24 @@ impl Tables {
         ensures { Gives (λ x. x) result (tables_of text.now) }
     {
         let value = value_of(alloc, text)?;
-        tables_at(alloc, &value)
+        Tables::from_value(alloc, &value)
+    }
+
+    /// The tables of a value that was read from JSON, or its first fault.
+    ///
+    /// Keys are judged as by [`Tables::from_json`], which first searches the value for numbers that
+    /// aren't 64-bit whole numbers.
+    #[tactic(auto, unfolding(crate::specs::Tables::tables_at))]
+    pub fn from_value(alloc: Global, value: &Value) -> Result<Tables, TableError>
+        ensures { Gives (λ x. x) result (tables_at (view value.now)) }
+    {
+        let value = object_in(value, Key::Document)?;
+        Ok(Tables {
+            symbols: entries_under::<SymbolsEntry>(alloc, value, Key::Symbols)?,
+            digits: entries_under::<DigitsEntry>(alloc, value, Key::Digits)?,
+            rules: optional_entries::<RulesEntry>(alloc, value, Key::Rules)?,
+            short: optional_entries::<CompactEntry>(alloc, value, Key::Short)?,
+            long: optional_entries::<CompactEntry>(alloc, value, Key::Long)?,
+        })
     }
 }

@@ -1,9 +1,8 @@
 //! Which entry of the tables is at fault: the first that is rejected alone for the same reason.
 
 use crate::held::list_of;
-use icu_dimension_tables::DimensionTables;
+use icu_dimension_tables::AllTables;
 use icu_table_entries::TableError;
-use icu_tables::Tables;
 use serde_json::Value;
 use std::alloc::{AllocError, Global};
 
@@ -41,18 +40,10 @@ fn document_of(alloc: Global, entry: Entry<'_>) -> Result<String, AllocError> {
     Ok(text)
 }
 
-/// Why a document is rejected, if it is.
-fn fault_of(alloc: Global, document: &str) -> Option<TableError> {
-    match Tables::from_json(alloc, document) {
-        Ok(_) => DimensionTables::from_json(alloc, document).err(),
-        Err(error) => Some(error),
-    }
-}
-
 /// Whether an entry is rejected alone for this reason.
 fn is_at_fault(alloc: Global, entry: Entry<'_>, error: TableError) -> Result<bool, AllocError> {
     let document = document_of(alloc, entry)?;
-    match fault_of(alloc, document.as_str()) {
+    match AllTables::from_json(alloc, document.as_str()).err() {
         Some(TableError::OutOfMemory) => Err(AllocError),
         fault => Ok(fault == Some(error)),
     }

@@ -7,7 +7,7 @@ use Rattle.icu_plurals.specs.Elements.{Elements}
 use Rattle.icu_plurals.specs.Operands.{operands_of}
 use Rattle.icu_plurals.specs.Rules.{Rule}
 use Rattle.icu_pattern.specs.Patterns.{PatternText, interpolated}
-use Rattle.icu_decimal.specs.Shown.{picked}
+use Rattle.icu_decimal_interface.specs.Shown.{picked}
 use Rattle.icu_dimension_data.specs.Resolved.{Signed}
 use Rattle.icu_dimension.specs.Money.{sign_framed}
 use Rattle.icu_dimension.specs.Names.{NameText, with_name}

@@ -5,11 +5,11 @@ ghost use Rattle.locnum_explain.specs.Patterns.{name_line, signed_line, unit_lin
 
 use fixed_decimal::{Sign, UnsignedDecimal};
 use icu_decimal::DecimalFormatter;
-use icu_dimension::{LongCurrencyFormatter, NamePattern, UnitsFormatter};
+use icu_dimension::{LongCurrencyFormatter, UnitsFormatter};
 use icu_dimension_data::SignedPatterns;
 use icu_plurals::PluralOperands;
 use std::alloc::{AllocError, Global};
-use writeable::{EventWriter, WriteFault, Writeable};
+use writeable::Writeable;
 
 /// What stands in the place of the number.
 const NUMBER_PLACE: &str = "{0}";
@@ -49,23 +49,6 @@ pub(crate) fn push_signed(
     )
 }
 
-/// The place of a number with the name of a currency.
-#[derive(Drop)]
-struct NamedPlace<'a> {
-    pattern: &'a NamePattern,
-}
-
-impl Writeable for NamedPlace<'_> {
-    ghost use Rattle.icu_dimension.specs.Names.{with_name};
-    ghost use Rattle.locnum_explain.specs.Patterns.{number_place};
-
-    ghost events = { λ n. with_name n.pattern.now number_place };
-
-    fn write_events<K: EventWriter>(&self, out: &mut K) -> Result<(), WriteFault> {
-        self.pattern.write_with(&NUMBER_PLACE, out)
-    }
-}
-
 /// Appends the pattern that a number picks among those with the name of a currency.
 pub(crate) fn push_name(
     alloc: Global,
@@ -78,7 +61,7 @@ pub(crate) fn push_name(
 {
     let operands = PluralOperands::from_significand_and_exponent(value, 0);
     let pattern = formatter.elements().get(operands, formatter.plural_rules());
-    push_written(alloc, &NamedPlace { pattern }, out)
+    push_written(alloc, &pattern.interpolate(NUMBER_PLACE), out)
 }
 
 /// Appends the pattern that a number picks among those with a unit.

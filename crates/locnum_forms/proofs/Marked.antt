@@ -10,8 +10,8 @@ use Rattle.fixed_decimal.specs.Unsigned.{Unsigned, IsWithinLimits}
 use Rattle.icu_decimal.specs.CompactFormat.{FormattedCompact, IsCompacted}
 use Rattle.icu_decimal.specs.CompactNumber.{ShowsPastLimits}
 use Rattle.icu_decimal.specs.Decimal.{DecimalFormat}
-use Rattle.icu_decimal.specs.Shown.{Shown, plain_shown}
-use Rattle.icu_decimal.specs.WritesSuch.{WritesSuch}
+use Rattle.icu_decimal_interface.specs.Shown.{Shown, plain_shown}
+use Rattle.icu_decimal_interface.specs.WritesSuch.{WritesSuch}
 use Rattle.icu_decimal.specs.declared.error.FormatError.{FormatError}
 use Rattle.icu_decimal.specs.declared.error.FormatError.TheVariants as format
 use Rattle.icu_dimension.specs.CompactMoney.{CompactMoney, compact_events, formatter_of}

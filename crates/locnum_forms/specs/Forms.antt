@@ -7,7 +7,7 @@ use Rattle.fixed_decimal.specs.Size.{size}
 use Rattle.fixed_decimal.specs.Unsigned.{Unsigned}
 use Rattle.writeable.specs.Events.{Event}
 use Rattle.icu_decimal.specs.Decimal.{DecimalFormat}
-use Rattle.icu_decimal.specs.Shown.{plain_shown}
+use Rattle.icu_decimal_interface.specs.Shown.{plain_shown}
 use Rattle.icu_dimension.specs.Money.{SignedFormat, money_events}
 use Rattle.icu_dimension.specs.Names.{names_events}
 use Rattle.icu_dimension.specs.Percent.{hundredfold}

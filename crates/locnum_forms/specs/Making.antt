@@ -6,7 +6,8 @@ use Rattle.icu_provider.specs.declared.error.DataErrorKind.TheVariants as refusa
 use Rattle.icu_table_entries.specs.declared.error.TableError.{TableError}
 use Rattle.icu_table_entries.specs.declared.error.TableError.TheVariants as table
 use Rattle.icu_tables.specs.Tables.{TablesData, tables_of}
-use Rattle.icu_dimension_tables.specs.DimensionTables.{DimensionData, dimension_tables_of}
+use Rattle.icu_dimension_tables.specs.AllTables.{all_tables_of}
+use Rattle.icu_dimension_tables.specs.DimensionTables.{DimensionData}
 use Rattle.locnum_forms.specs.Forms.{FormData}
 use Rattle.locnum_forms.specs.Loaded.{long_loaded, money_loaded, money_options, money_short_loaded, named_loaded, percent_loaded, plain_loaded}
 use Rattle.locnum_forms.specs.Loaded.{short_loaded, unit_loaded}
@@ -58,9 +59,9 @@ read_then (Err e) next = Err (start.Refused e)
 abbrev pub with_tables : List ℕ → (TablesData → Result FormData Refusal) → Result FormData StartError
 with_tables text load = read_then (tables_of text) (λ tables. started (load tables))
 
--- what is made of the tables of numbers of a text, and then of those of money, percents and units
-abbrev pub with_both : List ℕ → (TablesData → DimensionData → Result FormData Refusal) → Result FormData StartError
-with_both text load = read_then (tables_of text) (λ tables. read_then (dimension_tables_of text) (λ dimension. started (load tables dimension)))
+-- what is made of all tables of a text
+abbrev pub with_all : List ℕ → (TablesData → DimensionData → Result FormData Refusal) → Result FormData StartError
+with_all text load = read_then (all_tables_of text) (λ all. started (load all.numbers all.dimension))
 
 -- the form that is wanted, by the text of the tables; those of money, percents and units are read where they are asked
 unfoldable pub form_of : WantedData → List ℕ → Result FormData StartError
@@ -68,9 +69,9 @@ form_of wanted text = elim wanted.kind [
   | Plain ↦ with_tables text (plain_loaded wanted)
   | Short ↦ with_tables text (short_loaded wanted)
   | Long ↦ with_tables text (long_loaded wanted)
-  | Money code width sign is_cash ↦ with_both text (money_loaded wanted code (money_options wanted.grouping width sign) is_cash)
-  | MoneyNamed code is_cash ↦ with_both text (named_loaded wanted code is_cash)
-  | MoneyShort code ↦ with_both text (money_short_loaded wanted code)
-  | Percent ↦ with_both text (percent_loaded wanted)
-  | WithUnit name width ↦ with_both text (unit_loaded wanted name.now width)
+  | Money code width sign is_cash ↦ with_all text (money_loaded wanted code (money_options wanted.grouping width sign) is_cash)
+  | MoneyNamed code is_cash ↦ with_all text (named_loaded wanted code is_cash)
+  | MoneyShort code ↦ with_all text (money_short_loaded wanted code)
+  | Percent ↦ with_all text (percent_loaded wanted)
+  | WithUnit name width ↦ with_all text (unit_loaded wanted name.now width)
 ]

@@ -13,7 +13,6 @@ mod making;
 mod marking;
 mod pushing;
 mod reported;
-mod tables;
 mod wanted;
 
 pub use decimal_lines::TextError;

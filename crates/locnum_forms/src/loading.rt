@@ -7,7 +7,6 @@ ghost use Rattle.locnum_forms.specs.Loaded.{amounts_loaded, compact_money_loaded
 ghost use Rattle.locnum_forms.specs.Loaded.{plain_loaded, preferences, short_loaded, unit_loaded, units_loaded};
 
 use crate::form::{Form, Formatter};
-use crate::tables::Both;
 use crate::wanted::{FractionRange, UnitWidth, Wanted};
 use decimal_lines::{Mode, compact_options, plain_options};
 use icu_decimal::options::{DecimalFormatterOptions, GroupingStrategy};
@@ -20,6 +19,7 @@ use icu_dimension::{
     UnitsFormatter,
 };
 use icu_dimension_data::{CurrencyCode, FractionDigits};
+use icu_dimension_tables::AllTables;
 use icu_provider::DataError;
 use icu_tables::Tables;
 use std::alloc::Global;
@@ -126,18 +126,18 @@ fn currency_range(is_cash: bool, digits: FractionDigits) -> FractionRange
 #[tactic(auto, unfolding(crate::specs::Loaded::money_range))]
 fn money_range(
     alloc: Global,
-    both: &Both,
+    all: &AllTables,
     wanted: Option<FractionRange>,
     code: CurrencyCode,
     is_cash: bool,
 ) -> Result<FractionRange, DataError>
     ensures { Answers result
-        (money_range wanted (digits_answer both.now.dimension.digits) code is_cash) }
+        (money_range wanted (digits_answer all.now.dimension.digits) code is_cash) }
 {
     if let Some(range) = wanted {
         return Ok(range);
     }
-    let digits = load_currency_digits::<Both>(alloc, both)?;
+    let digits = load_currency_digits::<AllTables>(alloc, all)?;
     Ok(currency_range(is_cash, digits.of(code)))
 }
 
@@ -145,16 +145,16 @@ fn money_range(
 #[tactic(auto, unfolding(crate::specs::Loaded::amounts_loaded))]
 fn load_amounts(
     alloc: Global,
-    both: &Both,
+    all: &AllTables,
     wanted: &Wanted<'_>,
     code: CurrencyCode,
     is_cash: bool,
     formatter: Formatter,
 ) -> Result<Form, DataError>
     ensures { Answers result
-        (amounts_loaded wanted.now code is_cash both.now.dimension formatter) }
+        (amounts_loaded wanted.now code is_cash all.now.dimension formatter) }
 {
-    let range = money_range(alloc, both, wanted.fraction, code, is_cash)?;
+    let range = money_range(alloc, all, wanted.fraction, code, is_cash)?;
     Ok(Form {
         fraction: Some(range),
         sign: wanted.sign,
@@ -166,65 +166,65 @@ fn load_amounts(
 #[tactic(auto, unfolding(crate::specs::Loaded::currency_loaded))]
 fn load_currency(
     alloc: Global,
-    both: &Both,
+    all: &AllTables,
     wanted: &Wanted<'_>,
     code: CurrencyCode,
     options: CurrencyFormatterOptions,
 ) -> Result<CurrencyFormatter<DecimalFormatter>, DataError>
     ensures { Answers result
-        (currency_loaded wanted.now code options both.now.numbers both.now.dimension) }
+        (currency_loaded wanted.now code options all.now.numbers all.now.dimension) }
 {
     let prefs = preferences(wanted);
-    CurrencyFormatter::try_new_unstable::<Both>(alloc, both, prefs, code, options)
+    CurrencyFormatter::try_new_unstable::<AllTables>(alloc, all, prefs, code, options)
 }
 
 /// Amounts of a currency.
 #[tactic(auto, unfolding(crate::specs::Loaded::money_loaded))]
 pub(crate) fn load_money(
     alloc: Global,
-    both: &Both,
+    all: &AllTables,
     wanted: &Wanted<'_>,
     code: CurrencyCode,
     options: CurrencyFormatterOptions,
     is_cash: bool,
 ) -> Result<Form, DataError>
     ensures { Answers result
-        (money_loaded wanted.now code options is_cash both.now.numbers both.now.dimension) }
+        (money_loaded wanted.now code options is_cash all.now.numbers all.now.dimension) }
 {
-    let money = Formatter::Money(load_currency(alloc, both, wanted, code, options)?);
-    load_amounts(alloc, both, wanted, code, is_cash, money)
+    let money = Formatter::Money(load_currency(alloc, all, wanted, code, options)?);
+    load_amounts(alloc, all, wanted, code, is_cash, money)
 }
 
 /// The formatter of amounts with the name of a currency.
 #[tactic(auto, unfolding(crate::specs::Loaded::names_loaded))]
 fn load_names(
     alloc: Global,
-    both: &Both,
+    all: &AllTables,
     wanted: &Wanted<'_>,
     code: CurrencyCode,
 ) -> Result<LongCurrencyFormatter<DecimalFormatter>, DataError>
     ensures { Answers result
-        (names_loaded wanted.now code both.now.numbers both.now.dimension) }
+        (names_loaded wanted.now code all.now.numbers all.now.dimension) }
 {
     let options = plain_options(wanted.grouping);
     let prefs = preferences(wanted);
-    LongCurrencyFormatter::try_new_unstable::<Both>(alloc, both, prefs, code, options)
+    LongCurrencyFormatter::try_new_unstable::<AllTables>(alloc, all, prefs, code, options)
 }
 
 /// Amounts with the name of a currency.
 #[tactic(auto, unfolding(crate::specs::Loaded::named_loaded))]
 pub(crate) fn load_named(
     alloc: Global,
-    both: &Both,
+    all: &AllTables,
     wanted: &Wanted<'_>,
     code: CurrencyCode,
     is_cash: bool,
 ) -> Result<Form, DataError>
     ensures { Answers result
-        (named_loaded wanted.now code is_cash both.now.numbers both.now.dimension) }
+        (named_loaded wanted.now code is_cash all.now.numbers all.now.dimension) }
 {
-    let named = Formatter::MoneyNamed(load_names(alloc, both, wanted, code)?);
-    load_amounts(alloc, both, wanted, code, is_cash, named)
+    let named = Formatter::MoneyNamed(load_names(alloc, all, wanted, code)?);
+    load_amounts(alloc, all, wanted, code, is_cash, named)
 }
 
 /// The options of compact amounts under a strategy, or the default ones, those of compact numbers.
@@ -238,33 +238,33 @@ fn compact_money_options(grouping: Option<GroupingStrategy>) -> DecimalFormatter
 #[tactic(auto, unfolding(crate::specs::Loaded::compact_money_loaded))]
 fn load_compact_money(
     alloc: Global,
-    both: &Both,
+    all: &AllTables,
     wanted: &Wanted<'_>,
     code: CurrencyCode,
 ) -> Result<CompactCurrencyFormatter, DataError>
     ensures { Answers result
-        (compact_money_loaded wanted.now code both.now.numbers both.now.dimension) }
+        (compact_money_loaded wanted.now code all.now.numbers all.now.dimension) }
 {
     let options = compact_money_options(wanted.grouping);
     let prefs = preferences(wanted);
-    CompactCurrencyFormatter::try_new_unstable::<Both>(alloc, both, prefs, code, options)
+    CompactCurrencyFormatter::try_new_unstable::<AllTables>(alloc, all, prefs, code, options)
 }
 
 /// Compact amounts of a currency, which have no range of fraction digits.
 #[tactic(auto, unfolding(crate::specs::Loaded::money_short_loaded))]
 pub(crate) fn load_money_short(
     alloc: Global,
-    both: &Both,
+    all: &AllTables,
     wanted: &Wanted<'_>,
     code: CurrencyCode,
 ) -> Result<Form, DataError>
     ensures { Answers result
-        (money_short_loaded wanted.now code both.now.numbers both.now.dimension) }
+        (money_short_loaded wanted.now code all.now.numbers all.now.dimension) }
 {
     Ok(Form {
         fraction: None,
         sign: wanted.sign,
-        formatter: Formatter::MoneyShort(load_compact_money(alloc, both, wanted, code)?),
+        formatter: Formatter::MoneyShort(load_compact_money(alloc, all, wanted, code)?),
     })
 }
 
@@ -272,14 +272,14 @@ pub(crate) fn load_money_short(
 #[tactic(auto, unfolding(crate::specs::Loaded::percent_loaded))]
 pub(crate) fn load_percent(
     alloc: Global,
-    both: &Both,
+    all: &AllTables,
     wanted: &Wanted<'_>,
 ) -> Result<Form, DataError>
-    ensures { Answers result (percent_loaded wanted.now both.now.numbers both.now.dimension) }
+    ensures { Answers result (percent_loaded wanted.now all.now.numbers all.now.dimension) }
 {
     let options = plain_options(wanted.grouping);
     let prefs = preferences(wanted);
-    let formatter = PercentFormatter::try_new_unstable::<Both>(alloc, both, prefs, options)?;
+    let formatter = PercentFormatter::try_new_unstable::<AllTables>(alloc, all, prefs, options)?;
     Ok(Form {
         fraction: wanted.fraction,
         sign: wanted.sign,
@@ -290,24 +290,24 @@ pub(crate) fn load_percent(
 /// The formatter of numbers with a unit in a width.
 fn load_units(
     alloc: Global,
-    both: &Both,
+    all: &AllTables,
     prefs: DecimalFormatterPreferences,
     name: &str,
     width: UnitWidth,
     options: DecimalFormatterOptions,
 ) -> Result<UnitsFormatter<DecimalFormatter>, DataError>
     ensures { Answers result
-        (units_loaded width both.now.numbers both.now.dimension prefs name.now options) }
+        (units_loaded width all.now.numbers all.now.dimension prefs name.now options) }
 {
     match width {
-        UnitWidth::Long => UnitsFormatter::try_new_unstable::<UnitsLongV1, Both>(
-            alloc, both, prefs, name, options,
+        UnitWidth::Long => UnitsFormatter::try_new_unstable::<UnitsLongV1, AllTables>(
+            alloc, all, prefs, name, options,
         ),
-        UnitWidth::Short => UnitsFormatter::try_new_unstable::<UnitsShortV1, Both>(
-            alloc, both, prefs, name, options,
+        UnitWidth::Short => UnitsFormatter::try_new_unstable::<UnitsShortV1, AllTables>(
+            alloc, all, prefs, name, options,
         ),
-        UnitWidth::Narrow => UnitsFormatter::try_new_unstable::<UnitsNarrowV1, Both>(
-            alloc, both, prefs, name, options,
+        UnitWidth::Narrow => UnitsFormatter::try_new_unstable::<UnitsNarrowV1, AllTables>(
+            alloc, all, prefs, name, options,
         ),
     }
 }
@@ -316,16 +316,16 @@ fn load_units(
 #[tactic(auto, unfolding(crate::specs::Loaded::unit_loaded))]
 pub(crate) fn load_unit(
     alloc: Global,
-    both: &Both,
+    all: &AllTables,
     wanted: &Wanted<'_>,
     name: &str,
     width: UnitWidth,
 ) -> Result<Form, DataError>
     ensures { Answers result
-        (unit_loaded wanted.now name.now width both.now.numbers both.now.dimension) }
+        (unit_loaded wanted.now name.now width all.now.numbers all.now.dimension) }
 {
     let options = plain_options(wanted.grouping);
-    let formatter = load_units(alloc, both, preferences(wanted), name, width, options)?;
+    let formatter = load_units(alloc, all, preferences(wanted), name, width, options)?;
     Ok(Form {
         fraction: wanted.fraction,
         sign: wanted.sign,

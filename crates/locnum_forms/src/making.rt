@@ -1,13 +1,13 @@
 //! The form that is wanted, by the bytes of a file of tables.
 
-ghost use Rattle.std.specs.Prelude.{◌≡◌, Err, IfErr, IfOk, Result};
+ghost use Rattle.std.specs.Prelude.{◌≡◌, Err, IfErr, IfOk, Ok, Result};
 ghost use Rattle.icu_provider.specs.Answer.{Answers, Refusal};
 ghost use Rattle.icu_tables.specs.ForLocale.{IsFor};
 ghost use Rattle.icu_tables.specs.Tables.{TablesData, tables_of};
-ghost use Rattle.icu_dimension_tables.specs.DimensionTables.{DimensionData, dimension_tables_of};
+ghost use Rattle.icu_dimension_tables.specs.AllTables.{AllData, all_tables_of};
 ghost use Rattle.locnum_forms.specs.Forms.{FormData};
 ghost use Rattle.locnum_forms.specs.Loaded.{long_loaded, money_loaded, money_options, money_short_loaded, named_loaded, percent_loaded, plain_loaded, short_loaded, unit_loaded};
-ghost use Rattle.locnum_forms.specs.Making.{Starts, Stops, form_of, read_then, start_error, started, table_error, with_both, with_tables};
+ghost use Rattle.locnum_forms.specs.Making.{Starts, Stops, form_of, read_then, start_error, started, table_error, with_all, with_tables};
 
 use crate::error::StartError;
 use crate::form::Form;
@@ -15,12 +15,11 @@ use crate::loading::{
     load_long, load_money, load_money_short, load_named, load_percent, load_plain, load_short,
     load_unit,
 };
-use crate::tables::Both;
 use crate::wanted::{Kind, UnitWidth, Wanted};
 use decimal_lines::plain_options;
 use icu_dimension::options::{CurrencyFormatterOptions, CurrencySign, Width};
 use icu_dimension_data::CurrencyCode;
-use icu_dimension_tables::DimensionTables;
+use icu_dimension_tables::AllTables;
 use icu_provider::{DataError, DataErrorKind};
 use icu_tables::{TableError, Tables};
 use std::alloc::Global;
@@ -69,18 +68,14 @@ fn tables_in(alloc: Global, wanted: &Wanted<'_>, text: &str) -> Result<Tables, S
     }
 }
 
-/// The tables of a text, those of numbers for the locale.
-fn both_in(alloc: Global, wanted: &Wanted<'_>, text: &str) -> Result<Both, StartError>
-    ensures numbers { IfOk result (λ both.
-        IsFor wanted.now.locale both.numbers (tables_of text.now)) }
-    ensures dimension { IfOk result (λ both. dimension_tables_of text.now ≡ Ok both.dimension) }
-    ensures refused { IfErr result (λ error.
-        (load : TablesData → DimensionData → Result FormData Refusal) →
-        Stops error (with_both text.now load)) }
+/// All tables of a text.
+fn all_in(alloc: Global, text: &str) -> Result<AllTables, StartError>
+    ensures tables { IfOk result (λ all. all_tables_of text.now ≡ Ok all) }
+    ensures refused { IfErr result (λ error. (next : AllData → Result FormData StartError) →
+        Stops error (read_then (all_tables_of text.now) next)) }
 {
-    let numbers = tables_in(alloc, wanted, text)?;
-    match DimensionTables::from_json(alloc, text) {
-        Ok(dimension) => Ok(Both { numbers, dimension }),
+    match AllTables::from_json(alloc, text) {
+        Ok(all) => Ok(all),
         Err(error) => Err(table_error(error)),
     }
 }
@@ -119,10 +114,10 @@ fn money_form(
     is_cash: bool,
 ) -> Result<Form, StartError>
     ensures { Starts result
-        (with_both text.now (money_loaded wanted.now code options is_cash)) }
+        (with_all text.now (money_loaded wanted.now code options is_cash)) }
 {
-    let both = both_in(alloc, wanted, text)?;
-    started(load_money(alloc, &both, wanted, code, options, is_cash))
+    let all = all_in(alloc, text)?;
+    started(load_money(alloc, &all, wanted, code, options, is_cash))
 }
 
 /// Amounts with the name of a currency, by a text of tables.
@@ -133,10 +128,10 @@ fn named_form(
     code: CurrencyCode,
     is_cash: bool,
 ) -> Result<Form, StartError>
-    ensures { Starts result (with_both text.now (named_loaded wanted.now code is_cash)) }
+    ensures { Starts result (with_all text.now (named_loaded wanted.now code is_cash)) }
 {
-    let both = both_in(alloc, wanted, text)?;
-    started(load_named(alloc, &both, wanted, code, is_cash))
+    let all = all_in(alloc, text)?;
+    started(load_named(alloc, &all, wanted, code, is_cash))
 }
 
 /// Compact amounts of a currency, by a text of tables.
@@ -146,18 +141,18 @@ fn money_short_form(
     text: &str,
     code: CurrencyCode,
 ) -> Result<Form, StartError>
-    ensures { Starts result (with_both text.now (money_short_loaded wanted.now code)) }
+    ensures { Starts result (with_all text.now (money_short_loaded wanted.now code)) }
 {
-    let both = both_in(alloc, wanted, text)?;
-    started(load_money_short(alloc, &both, wanted, code))
+    let all = all_in(alloc, text)?;
+    started(load_money_short(alloc, &all, wanted, code))
 }
 
 /// Percents, by a text of tables.
 fn percent_form(alloc: Global, wanted: &Wanted<'_>, text: &str) -> Result<Form, StartError>
-    ensures { Starts result (with_both text.now (percent_loaded wanted.now)) }
+    ensures { Starts result (with_all text.now (percent_loaded wanted.now)) }
 {
-    let both = both_in(alloc, wanted, text)?;
-    started(load_percent(alloc, &both, wanted))
+    let all = all_in(alloc, text)?;
+    started(load_percent(alloc, &all, wanted))
 }
 
 /// Numbers with a unit, by a text of tables.
@@ -168,10 +163,10 @@ fn unit_form(
     name: &str,
     width: UnitWidth,
 ) -> Result<Form, StartError>
-    ensures { Starts result (with_both text.now (unit_loaded wanted.now name.now width)) }
+    ensures { Starts result (with_all text.now (unit_loaded wanted.now name.now width)) }
 {
-    let both = both_in(alloc, wanted, text)?;
-    started(load_unit(alloc, &both, wanted, name, width))
+    let all = all_in(alloc, text)?;
+    started(load_unit(alloc, &all, wanted, name, width))
 }
 
 /// The form that is wanted, by a text of tables.

@@ -1,7 +1,6 @@
 //! What a form writes for a text.
 
-ghost use Rattle.std.specs.Prelude.{◌≡◌, ◌≢◌, ◌⊎◌, ◌++◌, IfErr, IfSome, IsErrOf, IsOkAnd, None, OnOk};
-ghost use Rattle.std.specs.String.{string_bytes};
+ghost use Rattle.std.specs.Prelude.{◌≡◌, ◌≢◌, ◌⊎◌, IfErr, IfSome, IsErrOf, IsOk, None, OnOk};
 ghost use Rattle.fixed_decimal.specs.SignDisplay.{minus_or_none};
 ghost use Rattle.decimal_lines.specs.Alone.{AppendsShown, IsRefusal, mode_events};
 ghost use Rattle.locnum_forms.specs.Forms.{digits_moved, formatter_events};
@@ -33,20 +32,14 @@ pub(crate) fn digits_moved(formatter: &Formatter) -> u8
     }
 }
 
-/// Appends a text that was written.
-fn push_text(written: Result<String, FormatError>, out: &mut Vec<u8>) -> Result<(), TextError>
-    ensures ok { OnOk result (IsOkAnd written (λ text.
-        out.new.items ≡ out.old.items ++ string_bytes text)) }
+/// Why something wasn't written, if it wasn't.
+fn pushed(written: Result<(), FormatError>) -> Result<(), TextError>
+    ensures ok { OnOk result (IsOk written) }
     ensures refused { IfErr result (λ error. (error ≡ TextError.OutOfMemory)
         ⊎ ((error ≡ TextError.Overflow) × IsErrOf written FormatError.Overflow)) }
-    ensures unchanged { IfErr result (λ error. error ≢ TextError.OutOfMemory →
-        out.new.items ≡ out.old.items) }
 {
     match written {
-        Ok(text) => match out.extend_from_slice(text.as_bytes()) {
-            Ok(()) => Ok(()),
-            Err(_) => Err(TextError::OutOfMemory),
-        },
+        Ok(()) => Ok(()),
         Err(FormatError::Overflow) => Err(TextError::Overflow),
         Err(FormatError::OutOfMemory | FormatError::Sink) => Err(TextError::OutOfMemory),
     }
@@ -67,7 +60,7 @@ fn push_money(
     ensures unchanged { IfErr result (λ error. error ≢ TextError.OutOfMemory →
         out.new.items ≡ out.old.items) }
 {
-    push_text(formatter.write_to_string(alloc, decimal), out)
+    pushed(formatter.write_into(alloc, decimal, out))
 }
 
 /// Appends an amount with the name of its currency.
@@ -86,7 +79,7 @@ fn push_money_named(
     ensures unchanged { IfErr result (λ error. error ≢ TextError.OutOfMemory →
         out.new.items ≡ out.old.items) }
 {
-    push_text(formatter.write_to_string(alloc, decimal), out)
+    pushed(formatter.write_into(alloc, decimal, out))
 }
 
 /// Appends a compact amount.
@@ -105,7 +98,7 @@ fn push_money_short(
     ensures unchanged { IfErr result (λ error. error ≢ TextError.OutOfMemory →
         out.new.items ≡ out.old.items) }
 {
-    push_text(formatter.write_to_string(alloc, decimal), out)
+    pushed(formatter.write_into(alloc, decimal, out))
 }
 
 /// Appends a percent.
@@ -123,7 +116,7 @@ fn push_percent(
     ensures unchanged { IfErr result (λ error. error ≢ TextError.OutOfMemory →
         out.new.items ≡ out.old.items) }
 {
-    push_text(formatter.write_to_string(alloc, decimal), out)
+    pushed(formatter.write_into(alloc, decimal, out))
 }
 
 /// Appends a number with its unit.
@@ -141,7 +134,7 @@ fn push_units(
     ensures unchanged { IfErr result (λ error. error ≢ TextError.OutOfMemory →
         out.new.items ≡ out.old.items) }
 {
-    push_text(formatter.write_to_string(alloc, decimal), out)
+    pushed(formatter.write_into(alloc, decimal, out))
 }
 
 /// Appends what the formatter writes for a decimal; without memory some bytes of it may stand

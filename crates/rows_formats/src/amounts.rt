@@ -4,8 +4,8 @@ use crate::dimension_faults::Fault;
 use crate::dimension_making::decimal;
 use crate::parts;
 use fixed_decimal::Decimal;
-use icu_decimal::AbstractFormatter;
 use icu_decimal::error::FormatError;
+use icu_decimal_interface::AbstractFormatter;
 use icu_dimension::{
     CompactCurrencyFormatter, CurrencyFormatter, LongCurrencyFormatter, PercentFormatter,
     UnitsFormatter,

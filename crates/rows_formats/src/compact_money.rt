@@ -6,13 +6,14 @@
 
 use crate::amounts::asked;
 use crate::dimension_faults::Fault;
-use crate::dimension_loading::{Asked, Both};
+use crate::dimension_loading::{Asked, tables_in};
 use crate::dimension_making::rules_of;
 use crate::money::{self, code_of};
 use crate::surrounding::surrounding;
 use icu_decimal::provider::CompactPatterns;
 use icu_dimension::CompactCurrencyFormatter;
 use icu_dimension::provider::CompactCurrencyPatterns;
+use icu_dimension_tables::AllTables;
 use icu_pattern::{Pattern, SinglePlaceholder};
 use icu_plurals::PluralElements;
 use rows::Documents;
@@ -106,7 +107,7 @@ fn made(
 /// Compact money by tables of a document.
 fn loaded(
     alloc: Global,
-    both: &Both,
+    tables: &AllTables,
     asked: Asked<'_>,
     currency: &str,
 ) -> Result<CompactCurrencyFormatter, Fault> {
@@ -115,7 +116,7 @@ fn loaded(
     };
     let options = asked.numbers();
     let prefs = asked.preferences();
-    Ok(CompactCurrencyFormatter::try_new_unstable(alloc, both, prefs, code, options)?)
+    Ok(CompactCurrencyFormatter::try_new_unstable(alloc, tables, prefs, code, options)?)
 }
 
 /// What compact money by tables of a document answers.
@@ -125,8 +126,8 @@ fn of_loaded(
     (document, locale, currency): (&str, &str, &str),
     number: &str,
 ) -> Result<String, Fault> {
-    let both = Both::of(alloc, documents, document)?;
-    let formatter = loaded(alloc, &both, Asked::of(locale), currency)?;
+    let tables = tables_in(alloc, documents, document)?;
+    let formatter = loaded(alloc, &tables, Asked::of(locale), currency)?;
     asked(alloc, &formatter, "try_new_unstable", number)
 }
 

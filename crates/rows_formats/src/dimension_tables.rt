@@ -1,14 +1,14 @@
-//! Calls of `DimensionTables`.
+//! Calls of `AllTables` and of `DimensionTables`.
 
 use crate::dimension_faults::{Fault, said};
-use crate::dimension_loading::document;
+use crate::dimension_loading::{document, tables_in};
 use crate::money::code_of;
 use icu_dimension::provider::{
     CurrencyCompactShortV1, CurrencyDecimalSymbolsV1, CurrencyDigitsV1, CurrencyNamesV1,
     CurrencyPatternsV1, CurrencySymbolsV1, PercentPatternsV1, UnitsLongV1, UnitsNarrowV1,
     UnitsShortV1, load_currency_digits,
 };
-use icu_dimension_tables::DimensionTables;
+use icu_dimension_tables::{AllTables, DimensionTables};
 use icu_provider::{DataError, DataIdentifierBorrowed, DataLocale, DataProvider, DataRequest};
 use rows::Documents;
 use std::alloc::Global;
@@ -24,24 +24,24 @@ fn refusal<T: Drop>(answer: Result<T, DataError>) -> Result<(), DataError> {
 /// How money of a marker is answered.
 fn of_money(
     alloc: Global,
-    tables: &DimensionTables,
+    tables: &AllTables,
     marker: &str,
     request: &DataRequest<'_>,
 ) -> Option<Result<(), DataError>> {
     match marker {
-        "CurrencyPatternsV1" => Some(refusal(<DimensionTables as DataProvider<
-            CurrencyPatternsV1,
-        >>::load(tables, alloc, request))),
-        "CurrencySymbolsV1" => Some(refusal(<DimensionTables as DataProvider<
-            CurrencySymbolsV1,
-        >>::load(tables, alloc, request))),
-        "CurrencyNamesV1" => Some(refusal(<DimensionTables as DataProvider<CurrencyNamesV1>>::load(
+        "CurrencyPatternsV1" => Some(refusal(<AllTables as DataProvider<CurrencyPatternsV1>>::load(
             tables, alloc, request,
         ))),
-        "CurrencyDecimalSymbolsV1" => Some(refusal(<DimensionTables as DataProvider<
+        "CurrencySymbolsV1" => Some(refusal(<AllTables as DataProvider<CurrencySymbolsV1>>::load(
+            tables, alloc, request,
+        ))),
+        "CurrencyNamesV1" => Some(refusal(<AllTables as DataProvider<CurrencyNamesV1>>::load(
+            tables, alloc, request,
+        ))),
+        "CurrencyDecimalSymbolsV1" => Some(refusal(<AllTables as DataProvider<
             CurrencyDecimalSymbolsV1,
         >>::load(tables, alloc, request))),
-        "CurrencyCompactShortV1" => Some(refusal(<DimensionTables as DataProvider<
+        "CurrencyCompactShortV1" => Some(refusal(<AllTables as DataProvider<
             CurrencyCompactShortV1,
         >>::load(tables, alloc, request))),
         _ => None,
@@ -51,24 +51,24 @@ fn of_money(
 /// How digits, percents or units of a marker are answered.
 fn of_others(
     alloc: Global,
-    tables: &DimensionTables,
+    tables: &AllTables,
     marker: &str,
     request: &DataRequest<'_>,
 ) -> Option<Result<(), DataError>> {
     match marker {
-        "CurrencyDigitsV1" => Some(refusal(<DimensionTables as DataProvider<
-            CurrencyDigitsV1,
-        >>::load(tables, alloc, request))),
-        "PercentPatternsV1" => Some(refusal(<DimensionTables as DataProvider<
-            PercentPatternsV1,
-        >>::load(tables, alloc, request))),
-        "UnitsLongV1" => Some(refusal(<DimensionTables as DataProvider<UnitsLongV1>>::load(
+        "CurrencyDigitsV1" => Some(refusal(<AllTables as DataProvider<CurrencyDigitsV1>>::load(
             tables, alloc, request,
         ))),
-        "UnitsShortV1" => Some(refusal(<DimensionTables as DataProvider<UnitsShortV1>>::load(
+        "PercentPatternsV1" => Some(refusal(<AllTables as DataProvider<PercentPatternsV1>>::load(
             tables, alloc, request,
         ))),
-        "UnitsNarrowV1" => Some(refusal(<DimensionTables as DataProvider<UnitsNarrowV1>>::load(
+        "UnitsLongV1" => Some(refusal(<AllTables as DataProvider<UnitsLongV1>>::load(
+            tables, alloc, request,
+        ))),
+        "UnitsShortV1" => Some(refusal(<AllTables as DataProvider<UnitsShortV1>>::load(
+            tables, alloc, request,
+        ))),
+        "UnitsNarrowV1" => Some(refusal(<AllTables as DataProvider<UnitsNarrowV1>>::load(
             tables, alloc, request,
         ))),
         _ => None,
@@ -78,7 +78,7 @@ fn of_others(
 /// How a request for data of a marker is answered.
 fn found(
     alloc: Global,
-    tables: &DimensionTables,
+    tables: &AllTables,
     marker: &str,
     request: &DataRequest<'_>,
 ) -> Result<String, Fault> {
@@ -96,7 +96,7 @@ fn found(
 /// How tables answer by a locale and a name, or without a name.
 fn load(
     alloc: Global,
-    tables: &DimensionTables,
+    tables: &AllTables,
     marker: &str,
     (locale, name): (&str, &str),
 ) -> Result<String, Fault> {
@@ -110,7 +110,7 @@ fn load(
 }
 
 /// The digits of a currency, and its digits in cash.
-fn digits(alloc: Global, tables: &DimensionTables, code: &str) -> Result<String, Fault> {
+fn digits(alloc: Global, tables: &AllTables, code: &str) -> Result<String, Fault> {
     let Some(code) = code_of(code) else {
         return Err(Fault::Unreadable);
     };
@@ -119,24 +119,8 @@ fn digits(alloc: Global, tables: &DimensionTables, code: &str) -> Result<String,
     Ok(format!(in alloc; "{} {}", digits.standard, digits.cash)?)
 }
 
-/// What tables answer.
-fn of_tables(
-    alloc: Global,
-    tables: &DimensionTables,
-    call: &str,
-    words: &[String],
-) -> Result<String, Fault> {
-    match (call, words) {
-        ("from_json", []) => said(alloc, "accepted"),
-        ("load", [marker, locale]) => load(alloc, tables, marker, (locale, "")),
-        ("load", [marker, locale, name]) => load(alloc, tables, marker, (locale, name)),
-        ("load_currency_digits", [code]) => digits(alloc, tables, code),
-        _ => Err(Fault::Unreadable),
-    }
-}
-
-/// What a call of tables answers, whose first argument is a document.
-pub(crate) fn answer(
+/// What a call of all tables answers, whose first argument is a document.
+pub(crate) fn answer_of_all(
     alloc: Global,
     documents: &Documents,
     call: &str,
@@ -145,7 +129,27 @@ pub(crate) fn answer(
     let Some((word, words)) = arguments.split_first() else {
         return Err(Fault::Unreadable);
     };
+    let tables = tables_in(alloc, documents, word)?;
+    match (call, words) {
+        ("from_json", []) => said(alloc, "accepted"),
+        ("load", [marker, locale]) => load(alloc, &tables, marker, (locale, "")),
+        ("load", [marker, locale, name]) => load(alloc, &tables, marker, (locale, name)),
+        ("load_currency_digits", [code]) => digits(alloc, &tables, code),
+        _ => Err(Fault::Unreadable),
+    }
+}
+
+/// What a call of the tables of money, percents and units answers, whose argument is a document.
+pub(crate) fn answer(
+    alloc: Global,
+    documents: &Documents,
+    call: &str,
+    arguments: &[String],
+) -> Result<String, Fault> {
+    let ("from_json", [word]) = (call, arguments) else {
+        return Err(Fault::Unreadable);
+    };
     let text = document(alloc, documents, word)?;
-    let tables = DimensionTables::from_json(alloc, text.as_str())?;
-    of_tables(alloc, &tables, call, words)
+    DimensionTables::from_json(alloc, text.as_str())?;
+    said(alloc, "accepted")
 }

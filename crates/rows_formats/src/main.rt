@@ -62,6 +62,7 @@ fn answer_of_dimension(
         "LongCurrencyFormatter" => names::answer(alloc, documents, call, arguments),
         "UnitsFormatter" => measures::answer(alloc, documents, call, arguments),
         "DimensionTables" => dimension_tables::answer(alloc, documents, call, arguments),
+        "AllTables" => dimension_tables::answer_of_all(alloc, documents, call, arguments),
         "CldrPattern" | "SignedPattern" => signed_patterns::answer(alloc, call, arguments),
         "CompactRows" => compact_rows::answer(alloc, call, arguments),
         _ => currencies::answer(alloc, kind, call, arguments),

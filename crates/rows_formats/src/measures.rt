@@ -2,12 +2,13 @@
 
 use crate::amounts::asked;
 use crate::dimension_faults::Fault;
-use crate::dimension_loading::{Asked, Both};
+use crate::dimension_loading::{Asked, tables_in};
 use crate::dimension_making::{decimal, numbers_of, pattern_of, plain, rules_of, with_value};
 use crate::surrounding::{PLACE, operands_of};
 use icu_decimal::DecimalFormatter;
 use icu_dimension::UnitsFormatter;
 use icu_dimension::provider::{UnitsLongV1, UnitsNarrowV1, UnitsShortV1};
+use icu_dimension_tables::AllTables;
 use icu_pattern::{Pattern, SinglePlaceholder};
 use icu_plurals::PluralElements;
 use icu_provider::DataError;
@@ -48,21 +49,23 @@ fn made(
 /// Numbers with a unit in a width by tables.
 fn loaded(
     alloc: Global,
-    both: &Both,
+    tables: &AllTables,
     asked: Asked<'_>,
     (width, unit): (&str, &str),
 ) -> Result<UnitsFormatter<DecimalFormatter>, DataError> {
     let options = asked.numbers();
     let prefs = asked.preferences();
     match width {
-        "short" => UnitsFormatter::try_new_unstable::<UnitsShortV1, Both>(
-            alloc, both, prefs, unit, options,
+        "short" => UnitsFormatter::try_new_unstable::<UnitsShortV1, AllTables>(
+            alloc, tables, prefs, unit, options,
         ),
-        "narrow" => UnitsFormatter::try_new_unstable::<UnitsNarrowV1, Both>(
-            alloc, both, prefs, unit, options,
+        "narrow" => UnitsFormatter::try_new_unstable::<UnitsNarrowV1, AllTables>(
+            alloc, tables, prefs, unit, options,
         ),
         _ => {
-            UnitsFormatter::try_new_unstable::<UnitsLongV1, Both>(alloc, both, prefs, unit, options)
+            UnitsFormatter::try_new_unstable::<UnitsLongV1, AllTables>(
+                alloc, tables, prefs, unit, options,
+            )
         }
     }
 }
@@ -75,8 +78,8 @@ fn of_loaded(
     unit: (&str, &str),
     number: &str,
 ) -> Result<String, Fault> {
-    let both = Both::of(alloc, documents, document)?;
-    let formatter = loaded(alloc, &both, Asked::of(locale), unit)?;
+    let tables = tables_in(alloc, documents, document)?;
+    let formatter = loaded(alloc, &tables, Asked::of(locale), unit)?;
     asked(alloc, &formatter, "try_new_unstable", number)
 }
 

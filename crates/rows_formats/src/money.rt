@@ -2,7 +2,7 @@
 
 use crate::amounts::{asked, number_text};
 use crate::dimension_faults::{Fault, yes_or_no};
-use crate::dimension_loading::{Asked, Both, document};
+use crate::dimension_loading::{Asked, document, tables_in};
 use crate::dimension_making::{decimal, numbers_of, patterns, plain};
 use crate::surrounding::surrounding;
 use icu_decimal::options::CompactDecimalFormatterOptions;
@@ -11,6 +11,7 @@ use icu_decimal::{CompactDecimalFormatter, DecimalFormatter};
 use icu_dimension::CurrencyFormatter;
 use icu_dimension::options::{CurrencyFormatterOptions, CurrencySign, Width};
 use icu_dimension_data::CurrencyCode;
+use icu_dimension_tables::AllTables;
 use icu_tables::Tables;
 use rows::Documents;
 use std::alloc::Global;
@@ -49,7 +50,7 @@ fn options_of(asked: Asked<'_>, word: &str) -> CurrencyFormatterOptions {
 /// Money by tables.
 fn loaded(
     alloc: Global,
-    both: &Both,
+    tables: &AllTables,
     asked: Asked<'_>,
     currency: &str,
 ) -> Result<CurrencyFormatter<DecimalFormatter>, Fault> {
@@ -58,7 +59,7 @@ fn loaded(
     };
     let options = options_of(asked, currency);
     let prefs = asked.preferences();
-    Ok(CurrencyFormatter::try_new_unstable(alloc, both, prefs, code, options)?)
+    Ok(CurrencyFormatter::try_new_unstable(alloc, tables, prefs, code, options)?)
 }
 
 /// What money by tables answers.
@@ -68,8 +69,8 @@ fn of_loaded(
     (document, locale, currency): (&str, &str, &str),
     number: &str,
 ) -> Result<String, Fault> {
-    let both = Both::of(alloc, documents, document)?;
-    let formatter = loaded(alloc, &both, Asked::of(locale), currency)?;
+    let tables = tables_in(alloc, documents, document)?;
+    let formatter = loaded(alloc, &tables, Asked::of(locale), currency)?;
     asked(alloc, &formatter, "try_new_unstable", number)
 }
 

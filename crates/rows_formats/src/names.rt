@@ -5,16 +5,17 @@
 
 use crate::amounts::asked;
 use crate::dimension_faults::Fault;
-use crate::dimension_loading::{Asked, Both};
+use crate::dimension_loading::{Asked, tables_in};
 use crate::dimension_making::{decimal, numbers_of, plain, rules_of, with_value};
 use crate::money::code_of;
 use crate::surrounding::{PLACE, operands_of};
 use icu_decimal::DecimalFormatter;
 use icu_dimension::{LongCurrencyFormatter, NamePattern, NameTexts};
+use icu_dimension_tables::AllTables;
 use icu_plurals::PluralElements;
 use rows::Documents;
 use std::alloc::Global;
-use writeable::{EventWriter, WriteFault, Writeable};
+use writeable::Writeable;
 
 /// The texts of a name.
 fn texts_of(text: &str) -> Option<NameTexts<'_>> {
@@ -79,7 +80,7 @@ fn made(
 /// Amounts with names by tables.
 fn loaded(
     alloc: Global,
-    both: &Both,
+    tables: &AllTables,
     asked: Asked<'_>,
     currency: &str,
 ) -> Result<LongCurrencyFormatter<DecimalFormatter>, Fault> {
@@ -88,7 +89,7 @@ fn loaded(
     };
     let options = asked.numbers();
     let prefs = asked.preferences();
-    Ok(LongCurrencyFormatter::try_new_unstable(alloc, both, prefs, code, options)?)
+    Ok(LongCurrencyFormatter::try_new_unstable(alloc, tables, prefs, code, options)?)
 }
 
 /// What amounts with names by tables answer.
@@ -98,27 +99,9 @@ fn of_loaded(
     (document, locale, currency): (&str, &str, &str),
     number: &str,
 ) -> Result<String, Fault> {
-    let both = Both::of(alloc, documents, document)?;
-    let formatter = loaded(alloc, &both, Asked::of(locale), currency)?;
+    let tables = tables_in(alloc, documents, document)?;
+    let formatter = loaded(alloc, &tables, Asked::of(locale), currency)?;
     asked(alloc, &formatter, "try_new_unstable", number)
-}
-
-/// A text in the place of the number, with the name of a currency.
-#[derive(Drop)]
-struct Placed<'a> {
-    pattern: &'a NamePattern,
-    place: &'a str,
-}
-
-impl Writeable for Placed<'_> {
-    ghost use Rattle.writeable.specs.Events.{text_events};
-    ghost use Rattle.icu_dimension.specs.Names.{with_name};
-
-    ghost events = { λ p. with_name p.pattern.now (text_events p.place.now) };
-
-    fn write_events<K: EventWriter>(&self, out: &mut K) -> Result<(), WriteFault> {
-        self.pattern.write_with(&self.place, out)
-    }
 }
 
 /// The name that is lent for a number.
@@ -130,11 +113,7 @@ fn lent(
     let number = decimal(alloc, number)?;
     let operands = operands_of(&number);
     let pattern = formatter.elements().get(operands, formatter.plural_rules());
-    let placed = Placed {
-        pattern,
-        place: PLACE,
-    };
-    Ok(placed.write_to_string(alloc)?)
+    Ok(pattern.interpolate(PLACE).write_to_string(alloc)?)
 }
 
 /// What amounts with names answer.

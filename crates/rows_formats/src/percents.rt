@@ -2,11 +2,12 @@
 
 use crate::amounts::asked;
 use crate::dimension_faults::{Fault, yes_or_no};
-use crate::dimension_loading::{Asked, Both};
+use crate::dimension_loading::{Asked, tables_in};
 use crate::dimension_making::{numbers_of, patterns, plain};
 use crate::surrounding::surrounding;
 use icu_decimal::DecimalFormatter;
 use icu_dimension::PercentFormatter;
+use icu_dimension_tables::AllTables;
 use rows::Documents;
 use std::alloc::Global;
 
@@ -24,11 +25,11 @@ fn made(
 /// Percents by tables.
 fn loaded(
     alloc: Global,
-    both: &Both,
+    tables: &AllTables,
     asked: Asked<'_>,
 ) -> Result<PercentFormatter<DecimalFormatter>, Fault> {
     let options = asked.numbers();
-    Ok(PercentFormatter::try_new_unstable(alloc, both, asked.preferences(), options)?)
+    Ok(PercentFormatter::try_new_unstable(alloc, tables, asked.preferences(), options)?)
 }
 
 /// What percents that were made answer.
@@ -52,8 +53,8 @@ fn of_loaded(
     (document, locale): (&str, &str),
     number: &str,
 ) -> Result<String, Fault> {
-    let both = Both::of(alloc, documents, document)?;
-    let formatter = loaded(alloc, &both, Asked::of(locale))?;
+    let tables = tables_in(alloc, documents, document)?;
+    let formatter = loaded(alloc, &tables, Asked::of(locale))?;
     asked(alloc, &formatter, "try_new_unstable", number)
 }
 

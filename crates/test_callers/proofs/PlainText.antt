@@ -4,7 +4,7 @@ use Rattle.fixed_decimal.specs.declared.signs.Sign.{Sign}
 use Rattle.fixed_decimal.specs.Unsigned.{Unsigned}
 use Rattle.writeable.specs.Events.{text_of}
 use Rattle.icu_decimal.specs.Decimal.{DecimalFormat}
-use Rattle.icu_decimal.specs.Shown.{Shown, plain_shown}
+use Rattle.icu_decimal_interface.specs.Shown.{Shown, plain_shown}
 use Rattle.icu_dimension.specs.Money.{SignedFormat, money_events}
 use Rattle.icu_dimension.specs.MoneyLaws.{plain_money}
 

@@ -135,14 +135,16 @@ pub trait EventWriter {
         (es fs : List Event) → IsErr r → wrote a (Err e) es b → wrote a r (es ++ fs) b };
 }
 
-/// Passes all events on to a sink.
+/// A sink as a writer: it passes all events on, with their parts.
 #[derive(Drop)]
-pub(crate) struct WithParts<'a, S> {
-    pub(crate) sink: &'a mut S,
+pub struct WithParts<'a, S> {
+    /// Where the events go.
+    pub sink: &'a mut S,
 }
 
 impl<'a, S> WithParts<'a, S> {
-    pub(crate) fn into_inner(self) -> &'a mut S
+    /// The sink, which holds what was written.
+    pub fn into_inner(self) -> &'a mut S
         ensures { result ≡ self.entry.sink }
     {
         self.sink

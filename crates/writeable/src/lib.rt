@@ -32,7 +32,7 @@ mod text_writer;
 pub mod writeable;
 
 pub use error::OutOfMemory;
-pub use event_writer::{ASCII_DIGITS, EventWriter};
+pub use event_writer::{ASCII_DIGITS, EventWriter, WithParts};
 pub use groups::Grouping;
 pub use parts_text::PartsText;
 pub use sink::{Part, PartsWrite, WriteFault};

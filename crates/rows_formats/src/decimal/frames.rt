@@ -1,30 +1,41 @@
 //! Frames of rows around a number, by callers that know no more of a formatter.
 
-ghost use Rattle.std.specs.Prelude.{◌++◌};
+ghost use Rattle.std.specs.Prelude.{◌≡◌, ◌++◌, None};
 ghost use Rattle.icu_plurals.specs.Elements.{selected};
 ghost use Rattle.writeable.specs.Events.{text_events, without_parts};
 ghost use Rattle.icu_pattern.specs.Patterns.{interpolated};
 ghost use Rattle.icu_plurals.specs.Rules.{category_of};
 
-use super::spelled::{sink_of, text, with_text, written};
+use super::spelled::{said, sink_of, text, with_text, written};
 use crate::Answer;
 use fixed_decimal::UnsignedDecimal;
-use icu_decimal::{AbstractFormatter, Characters, Frame, ShownNumber};
+use icu_decimal::error::FormatError;
+use icu_decimal_interface::{
+    AbstractFormatter, Characters, Frame, PairFrame, ShownNumber, write_pair_into,
+};
 use icu_pattern::{Pattern, SinglePlaceholder};
 use icu_plurals::{PluralCategory, PluralElements, PluralRules, RulesError};
 use std::alloc::{AllocError, Global};
 use writeable::{EventWriter, WriteFault, Writeable};
 
-/// Brackets around a number with its parts, and then its characters once more.
+/// Texts around a number.
 #[derive(Drop)]
-struct Twice<'a> {
+struct Between<'a> {
     before: &'a str,
     after: &'a str,
 }
 
-impl Frame for Twice<'_> {
+impl Frame for Between<'_> {
+    ghost use Rattle.std.proofs.Common.{inl};
+    ghost use Rattle.icu_decimal_interface.specs.OnceLaws.{alone_stands, around_stands};
+
     ghost framed = { λ f operands es.
-        text_events f.before.now ++ (es ++ (text_events f.after.now ++ without_parts es)) };
+        text_events f.before.now ++ (es ++ text_events f.after.now) };
+
+    ghost leaves_out = { λ f operands. ⊥ };
+
+    ghost once = { λ f operands. inl
+        (around_stands (text_events f.before.now) (text_events f.after.now) alone_stands) };
 
     fn write_framed<N: ShownNumber, K: EventWriter>(
         &self,
@@ -33,17 +44,54 @@ impl Frame for Twice<'_> {
     ) -> Result<(), WriteFault> {
         out.text(self.before)?;
         number.write_events(out)?;
-        out.text(self.after)?;
-        Characters::of(number).write_events(out)
+        out.text(self.after)
     }
 }
 
-const BRACKETS: Twice<'static> = Twice {
+const BRACKETS: Between<'static> = Between {
     before: "[",
     after: "]",
 };
 
-/// What a number in brackets and once more leaves in a sink.
+/// A text between two numbers.
+#[derive(Drop)]
+struct Joined<'a> {
+    by: &'a str,
+}
+
+impl PairFrame for Joined<'_> {
+    ghost framed = { λ f first es second fs. es ++ (text_events f.by.now ++ fs) };
+
+    fn write_pair<M: ShownNumber, N: ShownNumber, K: EventWriter>(
+        &self,
+        first: &M,
+        second: &N,
+        out: &mut K,
+    ) -> Result<(), WriteFault> {
+        first.write_events(out)?;
+        out.text(self.by)?;
+        second.write_events(out)
+    }
+}
+
+const DASH: Joined<'static> = Joined { by: "-" };
+
+/// The text of two numbers with a dash between them, and why it can't be written.
+pub(crate) fn write_pair<F: AbstractFormatter>(
+    alloc: Global,
+    formatter: &F,
+    first: &UnsignedDecimal,
+    second: &UnsignedDecimal,
+) -> Answer {
+    let mut out = String::new(alloc);
+    match write_pair_into(alloc, formatter, first, formatter, second, &DASH, &mut out) {
+        Ok(()) => Ok(Some(out)),
+        Err(FormatError::Overflow) => said(alloc, "Overflow"),
+        Err(_) => Err(AllocError),
+    }
+}
+
+/// What a number in brackets leaves in a sink.
 pub(crate) fn write_framed<F: AbstractFormatter>(
     alloc: Global,
     formatter: &F,
@@ -55,7 +103,7 @@ pub(crate) fn write_framed<F: AbstractFormatter>(
     written(alloc, &sink, answer)
 }
 
-/// The text of a number in brackets and once more.
+/// The text of a number in brackets.
 pub(crate) fn framed_to_string<F: AbstractFormatter>(
     alloc: Global,
     formatter: &F,
@@ -72,8 +120,18 @@ struct Marking<'a> {
 }
 
 impl Frame for Marking<'_> {
+    ghost use Rattle.icu_decimal_interface.specs.OnceLaws.{placed_stands, unparted_stands};
+
     ghost framed = { λ f operands es. interpolated
         (selected f.patterns.now operands (category_of f.rules.now operands)) (without_parts es) };
+
+    ghost leaves_out = { λ f operands.
+        (selected f.patterns.now operands (category_of f.rules.now operands)).placeholder ≡ None };
+
+    ghost once = { λ f operands. placed_stands
+        (selected f.patterns.now operands (category_of f.rules.now operands)).literal
+        (selected f.patterns.now operands (category_of f.rules.now operands)).placeholder
+        unparted_stands };
 
     fn write_framed<N: ShownNumber, K: EventWriter>(
         &self,

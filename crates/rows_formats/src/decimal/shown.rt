@@ -8,9 +8,10 @@ use super::spelled::{
 };
 use crate::Answer;
 use fixed_decimal::{Decimal, Sign, UnsignedDecimal};
-use icu_decimal::AbstractFormatter;
+use icu_decimal::error::FormatError;
+use icu_decimal_interface::AbstractFormatter;
 use icu_plurals::PluralOperands;
-use std::alloc::Global;
+use std::alloc::{AllocError, Global};
 
 /// What `write_unsigned` leaves in a sink.
 fn write_unsigned<F: AbstractFormatter>(
@@ -40,6 +41,39 @@ fn write_shown<F: AbstractFormatter>(
             with_condition(alloc, written(alloc, &sink, Ok(())), held)
         }
         Err(error) => written(alloc, &sink, Err(error)),
+    }
+}
+
+/// The text that `write_shown_into` leaves in a buffer, and whether a condition holds of the
+/// operands that it returns.
+fn write_shown_into<F: AbstractFormatter>(
+    alloc: Global,
+    formatter: &F,
+    number: &UnsignedDecimal,
+    condition: &str,
+) -> Answer {
+    let mut out = String::new(alloc);
+    match formatter.write_shown_into(alloc, number, &mut out) {
+        Ok(operands) => {
+            let held = held_of(alloc, condition, operands)?;
+            with_condition(alloc, Ok(Some(out)), held)
+        }
+        Err(FormatError::Overflow) => said(alloc, "Overflow"),
+        Err(_) => Err(AllocError),
+    }
+}
+
+/// What stands in a text of two numbers with a dash between them.
+fn write_pair_into<F: AbstractFormatter>(
+    alloc: Global,
+    place: Place<'_>,
+    formatter: &F,
+    first: &UnsignedDecimal,
+    second: &str,
+) -> Answer {
+    match decimal_of(alloc, second, place.asked.sign)? {
+        Some(second) => frames::write_pair(alloc, formatter, first, &second.absolute),
+        None => Ok(None),
     }
 }
 
@@ -95,7 +129,7 @@ fn of_number_alone<F: AbstractFormatter>(
     }
 }
 
-/// What is asked of a number and a condition.
+/// What is asked of a number and a condition, or of two numbers.
 fn of_number_and_condition<F: AbstractFormatter>(
     alloc: Global,
     place: Place<'_>,
@@ -106,6 +140,8 @@ fn of_number_and_condition<F: AbstractFormatter>(
     let limit = place.asked.limit;
     match call {
         "write_shown" => write_shown(alloc, formatter, number, limit, condition),
+        "write_shown_into" => write_shown_into(alloc, formatter, number, condition),
+        "write_pair_into" => write_pair_into(alloc, place, formatter, number, condition),
         "plural_operands" => plural_operands(alloc, formatter, number, condition),
         "framed_to_string" => frames::picked(alloc, formatter, number, condition),
         _ => Ok(None),

@@ -1,11 +1,11 @@
 //! What the contract says of the plain formatter and of the compact one: two proved callers that
 //! rest on it alone.
 
-ghost use Rattle.std.specs.Prelude.{◌≡◌, ◌↔◌, IsErrOf};
+ghost use Rattle.std.specs.Prelude.{◌≡◌, ◌↔◌, IfErr, IsErrOf};
 ghost use Rattle.fixed_decimal.specs.Size.{size};
 ghost use Rattle.icu_decimal.specs.CompactNumber.{ShowsPastLimits};
-ghost use Rattle.icu_decimal.specs.Shown.{ShowsCompact, plain_shown};
-ghost use Rattle.icu_decimal.specs.WritesSuch.{WritesSuch};
+ghost use Rattle.icu_decimal_interface.specs.Shown.{ShowsCompact, plain_shown};
+ghost use Rattle.icu_decimal_interface.specs.WritesSuch.{WritesSuch};
 ghost use Rattle.icu_unit.specs.Unit.{unit_events};
 
 use fixed_decimal::Decimal;
@@ -15,7 +15,8 @@ use icu_unit::UnitFormatter;
 use std::alloc::Global;
 use writeable::PartsWrite;
 
-/// Over a plain formatter, the number is its digits as they are given, and it never overflows.
+/// Over a plain formatter, the number is its digits as they are given. It never overflows, and
+/// takes no memory.
 pub(super) fn write_plain<S: PartsWrite>(
     alloc: Global,
     unit: &UnitFormatter<DecimalFormatter>,
@@ -27,6 +28,7 @@ pub(super) fn write_plain<S: PartsWrite>(
         (unit_events unit.now.formatter.symbols unit.now.rules unit.now.elements value.now.sign)
         sink.new }
     ensures overflow { IsErrOf result FormatError.Overflow ↔ ⊥ }
+    ensures only_sink { IfErr result (λ e. e ≡ FormatError.Sink) }
 {
     unit.write(alloc, value, sink)
 }

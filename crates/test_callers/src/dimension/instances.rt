@@ -1,12 +1,12 @@
 //! What the contracts say of the plain formatter and of the compact one: proved callers that rest
 //! on them alone.
 
-ghost use Rattle.std.specs.Prelude.{◌≡◌, ◌↔◌, IsErrOf, OnOk};
+ghost use Rattle.std.specs.Prelude.{◌≡◌, ◌↔◌, IfErr, IsErrOf, OnOk};
 ghost use Rattle.fixed_decimal.specs.Size.{size};
 ghost use Rattle.fixed_decimal.specs.Unsigned.{IsWithinLimits};
 ghost use Rattle.icu_decimal.specs.CompactNumber.{ShowsPastLimits};
-ghost use Rattle.icu_decimal.specs.Shown.{ShowsCompact, plain_shown};
-ghost use Rattle.icu_decimal.specs.WritesSuch.{WritesSuch};
+ghost use Rattle.icu_decimal_interface.specs.Shown.{ShowsCompact, plain_shown};
+ghost use Rattle.icu_decimal_interface.specs.WritesSuch.{WritesSuch};
 ghost use Rattle.icu_dimension.specs.Money.{money_events};
 ghost use Rattle.icu_dimension.specs.Percent.{hundredfold};
 
@@ -17,7 +17,8 @@ use icu_dimension::{CurrencyFormatter, PercentFormatter};
 use std::alloc::Global;
 use writeable::PartsWrite;
 
-/// Over a plain formatter, an amount is its digits as they are given, and it never overflows.
+/// Over a plain formatter, an amount is its digits as they are given. It never overflows, and takes
+/// no memory.
 pub(crate) fn write_plain<S: PartsWrite>(
     alloc: Global,
     money: &CurrencyFormatter<DecimalFormatter>,
@@ -28,6 +29,7 @@ pub(crate) fn write_plain<S: PartsWrite>(
         n ≡ plain_shown money.now.formatter value.now.absolute)
         (money_events money.now.patterns value.now.sign) sink.new }
     ensures overflow { IsErrOf result FormatError.Overflow ↔ ⊥ }
+    ensures only_sink { IfErr result (λ e. e ≡ FormatError.Sink) }
 {
     money.write(alloc, value, sink)
 }

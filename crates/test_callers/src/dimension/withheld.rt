@@ -11,11 +11,10 @@ use icu_dimension::provider::{
     UnitsLongV1,
 };
 use icu_dimension_data::SignedPatterns;
-use icu_dimension_tables::DimensionTables;
+use icu_dimension_tables::AllTables;
 use icu_pattern::{Pattern, SinglePlaceholder};
 use icu_plurals::{PluralElements, PluralRules, PluralsCardinalV1};
 use icu_provider::{DataError, DataErrorKind, DataProvider, DataRequest};
-use icu_tables::Tables;
 use std::alloc::Global;
 
 /// Which kinds of data are kept away, and with which error.
@@ -56,8 +55,7 @@ const ENGLISH: &str = "{\"symbols\":[\
 /// The tables of a document, and what of them is kept away.
 #[derive(Drop)]
 pub(crate) struct Withheld {
-    numbers: Tables,
-    dimension: DimensionTables,
+    tables: AllTables,
     kept: Kept,
 }
 
@@ -65,8 +63,7 @@ impl Withheld {
     /// English tables; none if out of memory.
     pub(crate) fn of(alloc: Global, kept: Kept) -> Option<Withheld> {
         Some(Withheld {
-            numbers: Tables::from_json(alloc, ENGLISH).ok()?,
-            dimension: DimensionTables::from_json(alloc, ENGLISH).ok()?,
+            tables: AllTables::from_json(alloc, ENGLISH).ok()?,
             kept,
         })
     }
@@ -80,59 +77,59 @@ type Names = PluralElements<NamePattern>;
 
 impl DataProvider<DecimalSymbolsV1> for Withheld {
     ghost answer = { λ w id. if w.kept.symbols then told (Err w.kept.error)
-        else ⟦<Tables as DataProvider<DecimalSymbolsV1>>⟧.answer w.numbers id };
+        else ⟦<AllTables as DataProvider<DecimalSymbolsV1>>⟧.answer w.tables id };
 
     fn load(&self, alloc: Global, request: &DataRequest<'_>) -> Result<DecimalSymbols, DataError> {
         if self.kept.symbols {
             return Err(self.kept.error);
         }
-        <Tables as DataProvider<DecimalSymbolsV1>>::load(&self.numbers, alloc, request)
+        <AllTables as DataProvider<DecimalSymbolsV1>>::load(&self.tables, alloc, request)
     }
 }
 
 impl DataProvider<DecimalDigitsV1> for Withheld {
-    ghost answer = { λ w. ⟦<Tables as DataProvider<DecimalDigitsV1>>⟧.answer w.numbers };
+    ghost answer = { λ w. ⟦<AllTables as DataProvider<DecimalDigitsV1>>⟧.answer w.tables };
 
     fn load(&self, alloc: Global, request: &DataRequest<'_>) -> Result<[char; 10], DataError> {
-        <Tables as DataProvider<DecimalDigitsV1>>::load(&self.numbers, alloc, request)
+        <AllTables as DataProvider<DecimalDigitsV1>>::load(&self.tables, alloc, request)
     }
 }
 
 impl DataProvider<PluralsCardinalV1> for Withheld {
     ghost answer = { λ w id. if w.kept.rules then told (Err w.kept.error)
-        else ⟦<Tables as DataProvider<PluralsCardinalV1>>⟧.answer w.numbers id };
+        else ⟦<AllTables as DataProvider<PluralsCardinalV1>>⟧.answer w.tables id };
 
     fn load(&self, alloc: Global, request: &DataRequest<'_>) -> Result<PluralRules, DataError> {
         if self.kept.rules {
             return Err(self.kept.error);
         }
-        <Tables as DataProvider<PluralsCardinalV1>>::load(&self.numbers, alloc, request)
+        <AllTables as DataProvider<PluralsCardinalV1>>::load(&self.tables, alloc, request)
     }
 }
 
 impl DataProvider<PercentPatternsV1> for Withheld {
     ghost answer = { λ w id. if w.kept.patterns then told (Err w.kept.error)
-        else ⟦<DimensionTables as DataProvider<PercentPatternsV1>>⟧.answer w.dimension id };
+        else ⟦<AllTables as DataProvider<PercentPatternsV1>>⟧.answer w.tables id };
 
     fn load(&self, alloc: Global, request: &DataRequest<'_>) -> Result<SignedPatterns, DataError> {
         if self.kept.patterns {
             return Err(self.kept.error);
         }
-        <DimensionTables as DataProvider<PercentPatternsV1>>::load(&self.dimension, alloc, request)
+        <AllTables as DataProvider<PercentPatternsV1>>::load(&self.tables, alloc, request)
     }
 }
 
 impl DataProvider<UnitsLongV1> for Withheld {
-    ghost answer = { λ w. ⟦<DimensionTables as DataProvider<UnitsLongV1>>⟧.answer w.dimension };
+    ghost answer = { λ w. ⟦<AllTables as DataProvider<UnitsLongV1>>⟧.answer w.tables };
 
     fn load(&self, alloc: Global, request: &DataRequest<'_>) -> Result<Patterns, DataError> {
-        <DimensionTables as DataProvider<UnitsLongV1>>::load(&self.dimension, alloc, request)
+        <AllTables as DataProvider<UnitsLongV1>>::load(&self.tables, alloc, request)
     }
 }
 
 impl DataProvider<CurrencyPatternsV1> for Withheld {
     ghost answer = { λ w id. if w.kept.patterns then told (Err w.kept.error)
-        else ⟦<DimensionTables as DataProvider<CurrencyPatternsV1>>⟧.answer w.dimension id };
+        else ⟦<AllTables as DataProvider<CurrencyPatternsV1>>⟧.answer w.tables id };
 
     fn load(
         &self,
@@ -142,59 +139,51 @@ impl DataProvider<CurrencyPatternsV1> for Withheld {
         if self.kept.patterns {
             return Err(self.kept.error);
         }
-        <DimensionTables as DataProvider<CurrencyPatternsV1>>::load(&self.dimension, alloc, request)
+        <AllTables as DataProvider<CurrencyPatternsV1>>::load(&self.tables, alloc, request)
     }
 }
 
 impl DataProvider<CurrencySymbolsV1> for Withheld {
     ghost answer = { λ w id. if w.kept.currency then told (Err w.kept.error)
-        else ⟦<DimensionTables as DataProvider<CurrencySymbolsV1>>⟧.answer w.dimension id };
+        else ⟦<AllTables as DataProvider<CurrencySymbolsV1>>⟧.answer w.tables id };
 
     fn load(&self, alloc: Global, request: &DataRequest<'_>) -> Result<CurrencySymbols, DataError> {
         if self.kept.currency {
             return Err(self.kept.error);
         }
-        <DimensionTables as DataProvider<CurrencySymbolsV1>>::load(&self.dimension, alloc, request)
+        <AllTables as DataProvider<CurrencySymbolsV1>>::load(&self.tables, alloc, request)
     }
 }
 
 impl DataProvider<CurrencyNamesV1> for Withheld {
     ghost answer = { λ w id. if w.kept.currency then told (Err w.kept.error)
-        else ⟦<DimensionTables as DataProvider<CurrencyNamesV1>>⟧.answer w.dimension id };
+        else ⟦<AllTables as DataProvider<CurrencyNamesV1>>⟧.answer w.tables id };
 
     fn load(&self, alloc: Global, request: &DataRequest<'_>) -> Result<Names, DataError> {
         if self.kept.currency {
             return Err(self.kept.error);
         }
-        <DimensionTables as DataProvider<CurrencyNamesV1>>::load(&self.dimension, alloc, request)
+        <AllTables as DataProvider<CurrencyNamesV1>>::load(&self.tables, alloc, request)
     }
 }
 
 impl DataProvider<CurrencyDecimalSymbolsV1> for Withheld {
     ghost answer = { λ w.
-        ⟦<DimensionTables as DataProvider<CurrencyDecimalSymbolsV1>>⟧.answer w.dimension };
+        ⟦<AllTables as DataProvider<CurrencyDecimalSymbolsV1>>⟧.answer w.tables };
 
     fn load(&self, alloc: Global, request: &DataRequest<'_>) -> Result<DecimalSymbols, DataError> {
-        <DimensionTables as DataProvider<CurrencyDecimalSymbolsV1>>::load(
-            &self.dimension,
-            alloc,
-            request,
-        )
+        <AllTables as DataProvider<CurrencyDecimalSymbolsV1>>::load(&self.tables, alloc, request)
     }
 }
 
 impl DataProvider<CurrencyCompactShortV1> for Withheld {
     ghost answer = { λ w id. if w.kept.compact then told (Err w.kept.error)
-        else ⟦<DimensionTables as DataProvider<CurrencyCompactShortV1>>⟧.answer w.dimension id };
+        else ⟦<AllTables as DataProvider<CurrencyCompactShortV1>>⟧.answer w.tables id };
 
     fn load(&self, alloc: Global, request: &DataRequest<'_>) -> Result<CompactRows, DataError> {
         if self.kept.compact {
             return Err(self.kept.error);
         }
-        <DimensionTables as DataProvider<CurrencyCompactShortV1>>::load(
-            &self.dimension,
-            alloc,
-            request,
-        )
+        <AllTables as DataProvider<CurrencyCompactShortV1>>::load(&self.tables, alloc, request)
     }
 }

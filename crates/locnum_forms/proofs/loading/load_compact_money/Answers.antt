@@ -12,8 +12,8 @@ use Rattle.locnum_forms.proofs.loading.load_compact_money.Goals as goal
 pub returns : goal.returns
 unfolding compact_money_loaded
 returns c =
-    let tables = c.args.both.now.numbers in
-    let dimension = c.args.both.now.dimension in
+    let tables = c.args.all.now.numbers in
+    let dimension = c.args.all.now.dimension in
     let told : DecimalFormatterPreferences → DecimalFormatterOptions → Type 0 = λ prefs options. Answers c.try_new_unstable.result
     (loaded_compact_money (symbols_for_money tables dimension) (system_digits tables) (optional_answer dimension.currencies)
     (symbols_answer dimension.symbols) (optional_answer tables.rules)

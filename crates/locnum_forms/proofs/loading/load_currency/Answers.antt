@@ -10,8 +10,8 @@ use Rattle.locnum_forms.proofs.loading.load_currency.Goals as goal
 pub returns : goal.returns
 unfolding currency_loaded
 returns c =
-    let tables = c.args.both.now.numbers in
-    let dimension = c.args.both.now.dimension in
+    let tables = c.args.all.now.numbers in
+    let dimension = c.args.all.now.dimension in
     subst (λ (prefs : DecimalFormatterPreferences). Answers c.try_new_unstable.result
     (loaded_currency (symbols_for_money tables dimension) (system_digits tables) (optional_answer dimension.currencies)
     (symbols_answer dimension.symbols) prefs c.args.code c.args.options))

@@ -13,8 +13,8 @@ use Rattle.locnum_forms.proofs.loading.load_names.Goals as goal
 pub returns : goal.returns
 unfolding names_loaded
 returns c =
-    let tables = c.args.both.now.numbers in
-    let dimension = c.args.both.now.dimension in
+    let tables = c.args.all.now.numbers in
+    let dimension = c.args.all.now.dimension in
     let told : DecimalFormatterPreferences → DecimalFormatterOptions → Type 0 = λ prefs options. Answers c.try_new_unstable.result
     (loaded_plural (symbols_for_money tables dimension) (system_digits tables) (optional_answer tables.rules)
     (names_answer dimension.places dimension.symbols) prefs c.args.code options (λ f r x. record { formatter = f; rules = r; elements = x })) in

@@ -1,7 +1,7 @@
 use Rattle.std.proofs.Common.{ap, refl}
 use Rattle.std.proofs.lemmas.Result.{IfErr-weaker}
 use Rattle.writeable.specs.Annotated.{Annotated}
-use Rattle.icu_decimal.specs.Shown.{plain_shown}
+use Rattle.icu_decimal_interface.specs.Shown.{plain_shown}
 use Rattle.icu_dimension.specs.Units.{units_events}
 use Rattle.locnum_forms.proofs.Marked.{marked-told, plain-marked}
 use Rattle.locnum_forms.proofs.Pushed.{refusal-told}

@@ -1,17 +1,22 @@
-use Rattle.std.specs.String.{string_bytes}
 use Rattle.std.proofs.lemmas.Result.{IfErr-weaker, on_ok_weaker}
-use Rattle.icu_decimal.specs.Shown.{plain_shown}
+use Rattle.icu_decimal_interface.specs.Shown.{plain_shown}
 use Rattle.icu_dimension.specs.Units.{units_events}
-use Rattle.locnum_forms.proofs.Pushed.{appended, refusal-told}
+use Rattle.locnum_forms.proofs.Pushed.{appended, refusal-told, unchanged-after, written-into}
 use Rattle.locnum_forms.proofs.pushing.push_units.Goals as goal
 
 pub returns-clause-ok : goal.returns-clause-ok
-returns-clause-ok c = on_ok_weaker c.push_text.result
-    (appended c.write_to_string.result string_bytes c.args.out.now.items c.push_text.new.out.items
+returns-clause-ok c = on_ok_weaker c.pushed.result
+    (λ is. written-into (λ v. v.items) c.args.out.now c.write_into.new.out c.write_into.result _ _ c.write_into.ensures.written is
+    (λ bytes wrote grown. appended c.write_into.result bytes c.args.out.now.items c.write_into.new.out.items
     (units_events c.args.formatter.now.formatter.symbols c.args.formatter.now.rules c.args.formatter.now.elements c.args.decimal.now.sign)
-    (plain_shown c.args.formatter.now.formatter c.args.decimal.now.absolute) c.write_to_string.ensures.text)
-    c.push_text.ensures.ok
+    (plain_shown c.args.formatter.now.formatter c.args.decimal.now.absolute) wrote grown))
+    c.pushed.ensures.ok
 
 pub returns-clause-refused : goal.returns-clause-refused
-returns-clause-refused c = IfErr-weaker c.push_text.result _ _
-    (λ error is. refusal-told _ error _ (λ over. absurd (c.write_to_string.ensures.overflow.0 over)) is) c.push_text.ensures.refused
+returns-clause-refused c = IfErr-weaker c.pushed.result _ _
+    (λ error is. refusal-told _ error _ (λ over. absurd (c.write_into.ensures.overflow.0 over)) is) c.pushed.ensures.refused
+
+pub returns-clause-unchanged : goal.returns-clause-unchanged
+returns-clause-unchanged c = IfErr-weaker c.pushed.result _ _
+    (λ error is. unchanged-after (λ v. v.items) c.args.out.now c.write_into.new.out c.write_into.result _ _ error c.write_into.ensures.written is)
+    c.pushed.ensures.refused

@@ -8,4 +8,4 @@ returns-in_err-value c =
     rw (p.1, p.2) (value_refused c.in_err-value.field-0.0 c.args.text.now c.in_err-value.ensures)
 
 pub returns : goal.returns
-returns c = rw (tables_by_value c.args.text.now, c.in_ok-value.ensures) c.tables_at.ensures
+returns c = rw (tables_by_value c.args.text.now, c.in_ok-value.ensures) c.from_value.ensures

@@ -1,0 +1,2 @@
+pub mod NestedSteps
+pub mod ShownOnce

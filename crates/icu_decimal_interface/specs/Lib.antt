@@ -1,0 +1,10 @@
+pub mod Shown
+pub mod ShownLaws
+pub mod KeptLaws
+pub mod WritesSuch
+pub mod UsesShown
+pub mod Spells
+pub mod SpellsLaws
+pub mod Nested
+pub mod Once
+pub mod OnceLaws
