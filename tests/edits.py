@@ -371,6 +371,9 @@ def why_not_by(edit: Edit, said: str, function: str, clause: str) -> str | None:
     if own:
         # a method may stand in another file than its type, by whose path it goes
         goals |= set(re.findall(r"`([^`]+)`", own[1].partition("did not prove")[2]))
+    # a law that an impl is to give is named by the impl's path and the law, as `spells-value`
+    if re.search(rf"^impl {edit.crate}::{re.escape(function)}: not proved; antt refuses `{re.escape(clause)}`", said, flags=re.M):
+        return None
     if not own or clause not in goals:
         return f"{clause} of {function} isn't among the open goals: {', '.join(sorted(goals)) or 'none there'}"
     return None
