@@ -2,10 +2,9 @@
 # Builds the library for C, archive and shared object, and runs the C example over it, tests in C and C++, some of them with
 # sanitizers, the extension for SQLite and the Python package: statuses, output, rooms that are too small, threads, thousands
 # of lines as `decfmt` writes them, and what the exceptions are.
-# usage: tests/c_library.sh [--build FOLDER | --install PREFIX | --after-ci]
+# usage: tests/c_library.sh [--build FOLDER | --after-ci]
 # With --build the library alone is made: FOLDER/libtalmuiga.a and, where there is a C compiler, FOLDER/libtalmuiga.so.0 with
-# a link libtalmuiga.so, which exports the names that begin with talmuiga_ alone. With --install it is put below PREFIX, with
-# the headers, the manual page and what pkg-config asks for.
+# a link libtalmuiga.so, which exports the names that begin with talmuiga_ alone. tools/install.sh installs it.
 # The archive is crates/talmuiga_c/out/libtalmuiga_c.a, as `rt lib` in crates/talmuiga_c builds it; that is done here where
 # it isn't there or a source is newer. With --after-ci, right after `rt ci`, it is built over the libraries that this proved,
 # and talmuiga_c alone is proved once more; `rt lib` would prove them all.
@@ -13,7 +12,7 @@
 # crates/decfmt/out/decfmt, is reported by a line 'skipped: c_library: WHY'. CC and CXX are the compilers with their words,
 # by default cc and c++.
 source "$(dirname "$0")/usage.sh"
-takes 1 --build --install --after-ci -- "$@"
+takes 1 --build --after-ci -- "$@"
 set -u
 cd "$(dirname "$0")/.." || exit 1
 root=$PWD archive=$PWD/crates/talmuiga_c/out/libtalmuiga_c.a
@@ -73,22 +72,6 @@ out_of_memory() {
     done | sort -u
 }
 
-# install_from FOLDER PREFIX: what was built in the folder
-install_from() {
-    mkdir -p "$2/include" "$2/lib/pkgconfig" "$2/share/man/man3" &&
-        cp include/talmuiga.h include/talmuiga.hpp "$2/include/" &&
-        cp -P "$1"/libtalmuiga.* "$2/lib/" &&
-        cp docs/talmuiga.3 "$2/share/man/man3/" &&
-        cat >"$2/lib/pkgconfig/talmuiga.pc" <<END
-prefix=$(realpath "$2")
-Name: talmuiga
-Description: Numbers in the form of a locale, in full and in compact form
-Version: $(cat VERSION)
-Cflags: -I\${prefix}/include
-Libs: -L\${prefix}/lib -ltalmuiga
-END
-}
-
 after_ci=
 [ "${1:-}" = --after-ci ] && after_ci=yes
 if [ "${1:-}" = --build ]; then
@@ -97,10 +80,6 @@ if [ "${1:-}" = --build ]; then
 fi
 folder=$(mktemp -d)
 trap 'rm -rf "$folder"' EXIT
-if [ "${1:-}" = --install ]; then
-    mkdir -p "$folder/lib" && build "$folder/lib" && install_from "$folder/lib" "$2"
-    exit
-fi
 build "$folder" || failed_all 'the library is built'
 
 # c NAME STATUS OUTPUT INPUT WORD..: what the C example writes, behind its status.
@@ -109,6 +88,39 @@ c() {
     shift 4
     judge "C: $name" same "$status $(printf '%b' "$output")" \
         "$(given=$(printf '%b' "$input" | "$folder/format_lines" "$@" 2>&1); echo "$? $given")"
+}
+
+# installed WORD..: runs a command of the installed tree, which is in its path with the system's own commands alone.
+installed() {
+    env -i "PATH=$prefix/bin:/usr/bin:/bin" "$@" 2>&1
+}
+
+# installs: what is installed runs, is replaced by a second installation, and is removed.
+installs() {
+    local prefix=$folder/prefix flags
+    judge 'install: into a folder that is not there' tools/install.sh --library "$folder" "$prefix"
+    judge 'install: the list' diff "$prefix/share/talmuiga/installed" <(cd "$prefix" && find . ! -type d | sed 's/^\.\///' | sort)
+    read -r -a flags < <(PKG_CONFIG_PATH=$prefix/lib/pkgconfig pkg-config --cflags --libs talmuiga)
+    "${compiler[@]}" -std=c11 -O2 examples/c/format_lines.c "${flags[@]}" -o "$folder/installed"
+    judge 'C: as pkg-config says' same '1,650' "$(echo 1650 | LD_LIBRARY_PATH=$prefix/lib "$folder/installed" 2>&1)"
+    prefix="$folder/a prefix"
+    judge 'install: into a folder with a space' tools/install.sh --library "$folder" "$prefix"
+    judge 'install: a second time' tools/install.sh --library "$folder" "$prefix"
+    judge 'install: locnum' same "\$1,234.50" "$(installed locnum --currency USD 1234.5)"
+    judge 'install: decfmt' same '1.5M' "$(echo 1500000 | installed decfmt tables/sample.json en - short)"
+    judge 'install: the manual page' installed man "$prefix/share/man/man1/locnum.1"
+    judge 'install: the converter' same "talmuiga-tables $(cat VERSION)" "$(installed talmuiga-tables --version)"
+    judge 'install: tables' installed talmuiga-tables -o "$prefix/share/talmuiga/tables/" tests/cldr qaa
+    judge 'install: a locale of these tables' same '12.345,5' "$(installed locnum -l qaa 12345.5)"
+    judge 'install: a locale of the program' same '1,234.5' "$(installed locnum -l en 1234.5)"
+    judge 'install: a file in place of the folder' same "tools/install.sh: $folder/installed/x: it can't be written" \
+        "$(tools/install.sh --library "$folder" "$folder/installed/x" 2>&1)"
+    judge 'install: no folder' same 2 "$(tools/install.sh >/dev/null 2>&1; echo $?)"
+    rm -r "$prefix/share/talmuiga/tables"
+    judge 'uninstall' tools/uninstall.sh "$prefix"
+    judge 'uninstall: nothing is left' same "$prefix" "$(find "$prefix")"
+    judge 'uninstall: nothing is installed' same "tools/uninstall.sh: $prefix: nothing of talmuiga is installed here" \
+        "$(tools/uninstall.sh "$prefix" 2>&1)"
 }
 
 # builds PROGRAM SOURCE [ARCHIVE]: the C program, over the archive.
@@ -249,10 +261,11 @@ if is_there "${compiler[0]}"; then
     judge 'C: parts of a number' "$folder/parts" "$sample"
     judge 'C: what the shared object exports' same '' \
         "$(nm -D --defined-only "$folder/libtalmuiga.so.0" | awk '{print $3}' | grep -v '^talmuiga_')"
-    install_from "$folder" "$folder/prefix"
-    read -r -a flags < <(PKG_CONFIG_PATH=$folder/prefix/lib/pkgconfig pkg-config --cflags --libs talmuiga)
-    "${compiler[@]}" -std=c11 -O2 examples/c/format_lines.c "${flags[@]}" -o "$folder/installed"
-    judge 'C: as pkg-config says' same '1,650' "$(echo 1650 | LD_LIBRARY_PATH=$folder/prefix/lib "$folder/installed" 2>&1)"
+    if [ -x crates/decfmt/out/decfmt ] && [ -x crates/locnum/out/locnum ]; then
+        installs
+    else
+        skipped "there is no crates/decfmt/out/decfmt or crates/locnum/out/locnum: 'rt run' in their folders builds them"
+    fi
     builds c_refused tests/c_refused.c "$folder/libtalmuiga.a"
     "${compiler[@]}" -O2 -shared -fPIC -o "$folder/refuse.so" tests/refuse_nth.c -ldl
     judge 'C: each allocation finds no memory in turn' same '0 out of memory' "$(out_of_memory)"

@@ -334,6 +334,27 @@ judge 'progress on a terminal' diff <(tr '\r\033' '<~' <"$folder/err") - <<'END'
 <~[K0/2 qaa<~[K1/2 qab<~[K2 in 1 locale: numbering systems left out (--verbose names each)<
 END
 
+# A folder of tables: a file for each name of a locale, which has the locale under this name alone.
+python3 "$tool" "$release" -o "$folder/many/" 2>"$folder/err"
+judge 'a folder: one line of each kind' [ "$(sort "$folder/err" | uniq -d)" = '' ]
+makes one_file "$release"
+grep -o '^{"locale":"[^"]*"' "$folder/one_file.symbols" | cut -d'"' -f4 | sort -u >"$folder/wanted"
+judge 'a folder: its files' diff "$folder/wanted" <(cd "$folder/many" && find . -type f | sed 's/^..//; s/\.json$//' | sort)
+judge 'a folder: one name a file' [ "$(grep -c '"locale"' "$folder/many/xq-BB.json")" = "$(grep -c '"locale":"xq-BB"' "$folder/many/xq-BB.json")" ]
+python3 "$tool" "$release" -o "$folder/all.json" 2>/dev/null
+for name in qab xq-AA; do
+    judge "a folder: $name as in one file" diff \
+        <(printf '1234567.5\n-12\n' | "$program" "$folder/all.json" $name - long) \
+        <(printf '1234567.5\n-12\n' | "$program" "$folder/many/$name.json" $name - long)
+done
+cp -r "$folder/many" "$folder/before"
+python3 "$tool" "$release" -o "$folder/many" 2>/dev/null
+judge 'a folder that is there: the same bytes' diff -r "$folder/before" "$folder/many"
+printf x >"$folder/many/qaa.json"
+python3 "$tool" "$release" -o "$folder/many" qaa 2>/dev/null
+judge 'a folder: one locale anew' grep -q '"locale":"qaa"' "$folder/many/qaa.json"
+judge 'a folder: nothing else is left in it' [ "$(find "$folder/many" -name '.*' -type f)" = '' ]
+
 # Statuses.
 ends 0 --help
 judge 'help' grep -q 'usage: cldr_to_tables.py' "$folder/out"
@@ -372,5 +393,6 @@ ends 2 "$release" qaa --which qaa
 ends 2 "$release" --which qaa -o "$folder/out"
 ends 1 "$release" -o "$folder/none/tables.json"
 ends 1 "$release" -o /dev/full
+ends 1 "$release" -o "$folder/err/"
 
 ended_all

@@ -148,7 +148,30 @@ rejects 'locnum: --width: short, narrow or name for money; long, short or narrow
 rejects 'locnum: --width: short, narrow or name for money; long, short or narrow for units' --unit meter --width name
 rejects 'locnum: --accounting and --cash want --currency, and --width wants --currency or --unit' --width name
 rejects "locnum: $folder/none.json: No such file or directory" -t "$folder/none.json"
-rejects "locnum: $folder: Is a directory" -t "$folder"
+# a folder of tables, by the option or by the variable: the file of the locale
+mkdir "$folder/tables"
+cp "$(dirname "$0")/../tables/six_locales.json" "$folder/tables/de.json"
+cp "$folder/tables/de.json" "$folder/tables/fr-CH.json"
+printf '{' >"$folder/tables/ja.json"
+mkdir "$folder/tables/bn.json"
+writes '1.234,5\n' -t "$folder/tables" -l de 1234.5
+writes '1.234,5\n' -t "$folder/tables/" --locale=de 1234.5
+writes 'ar-EG\nbn\nde\nen\nfr\nja\n' -t "$folder/tables" -l de --list locales
+rejects "locnum: $folder/tables/en.json: No such file or directory" -t "$folder/tables"
+rejects "locnum: $folder/tables/de-DE.json: No such file or directory" -t "$folder/tables" -l de_DE.UTF-8
+rejects "locnum: $folder/tables/bn.json: Is a directory" -t "$folder/tables" -l bn
+rejects 'locnum: no locale fr-CH; the tables have fr' -t "$folder/tables" -l fr-CH
+rejects "locnum: $folder/tables/ja.json: line 1, column 1: not JSON" -t "$folder/tables" -l ja
+rejects "locnum: --locale: not a locale" -t "$folder/tables" -l ../de
+export TALMUIGA_TABLES=$folder/tables
+writes '1.234,5\n' -l de 1234.5
+rejects "locnum: $folder/tables/en.json: No such file or directory" 1234.5
+writes '1.234,5\n' -t "$folder/tables/fr-CH.json" -l de 1234.5
+export TALMUIGA_TABLES=$folder/tables/de.json
+writes '1.234,5\n' -l de 1234.5
+export TALMUIGA_TABLES=
+writes '1,234.5\n' 1234.5
+unset TALMUIGA_TABLES
 rejects 'locnum: --percent and --unit: not together, nor with --style or --currency' --percent --currency USD
 rejects 'locnum: --percent and --unit: not together, nor with --style or --currency' --unit meter --style plain
 rejects 'locnum: --style long: not with --currency' --currency USD --style long

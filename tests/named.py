@@ -3,8 +3,9 @@
 A file of definitions is cut into its items: a name with its equations, a record, a block of a module. A source is cut into
 what it says to other crates: types, each variant of an enum, traits, impls of a trait, functions. An item is named where its
 name is among the words so far, and its own words are added to these, until nothing is added. A function has to be called
-besides; an impl of a trait is named with its type. Names are looked for whatever their module, so that two items of one name
-are both taken.
+besides; an impl of a trait is named with its type; a definition has to be imported by any of the files so far, or to stand in a
+file of which another definition with its name among its words is taken. Items of sources are looked for whatever their module, so
+that two of one name are both taken.
 """
 import dataclasses
 import functools
@@ -25,10 +26,13 @@ IMPORT = re.compile(r"^(?:pub )?use [^;]*;", re.M)
 # The heads of items at the beginning of a line.
 MODIFIERS = {"abbrev", "pub", "unfoldable", "data", "record", "syntax", "ruleset"}
 FUNCTION = re.compile(r" *(?:pub )?(?:const )?(?:unsafe )?(?:final )?fn (\w+)")
-TYPE = re.compile(r"(?:pub )?(struct|enum|trait|type|const|static|macro_rules!) ?(\w+)?")
+TYPE = re.compile(r"(?:pub(?:\(\w+\))? )?(struct|enum|trait|type|const|static|macro_rules!) ?(\w+)?")
 IMPL = re.compile(r"(?:unsafe )?impl\b(?:<(?:[^<>]|<[^<>]*>)*>)? ?(.*)")
 VARIANT = re.compile(r"    ([A-Z]\w*)")
 IDENTIFIER = re.compile(r"[A-Za-z_]\w*")
+# What a function's contract doesn't depend on: whether its body may change an argument, and the braces behind it.
+MUTABLE = re.compile(r"(?<=[(,] )mut (?=\w)")
+BRACES = re.compile(r"(?: [{}])+$")
 BUILT_IN = {"u8", "u16", "u32", "u64", "usize", "i16", "i32", "i64", "bool", "char", "str", "String", "Vec", "Option", "Result"}
 
 
@@ -50,6 +54,11 @@ def words_in(text: str) -> frozenset[str]:
 def item(names: Iterable[str], lines: Iterable[str], call: str = "", within: str = "") -> Item:
     text = layout.words_of(lines)
     return Item(frozenset(names), call, text, words_in(text), within)
+
+
+def contract(function: Item) -> Item:
+    """A function, by what its callers depend on."""
+    return dataclasses.replace(function, text=BRACES.sub("", MUTABLE.sub("", function.text)))
 
 
 # Definitions
@@ -137,7 +146,7 @@ def functions(head: str, lines: Iterable[str]) -> Iterator[Item]:
             found[-1].append(line)
     for block in found:
         name = next(match[1] for match in map(FUNCTION.match, block) if match)
-        yield item({name}, [head, *block], call="method")
+        yield contract(item({name}, [head, *block], call="method"))
 
 
 def self_names(header: str) -> set[str]:
@@ -156,7 +165,7 @@ def items_of_block(block: list[str]) -> Iterator[Item]:
     function = FUNCTION.match(head)
     header = IMPL.match(head)
     if function:
-        yield item({function[1]}, block, call="function")
+        yield contract(item({function[1]}, block, call="function"))
     elif declared and declared[1] == "enum" and not any(re.search(r"Ord\b|repr", line) for line in block if line.startswith("#")):
         yield item({declared[2]}, [line for line in block if line.startswith("#")] + [head])
         yield from variants(declared[2], rest)
@@ -188,6 +197,21 @@ def items_in(path: str) -> tuple[tuple[Item, ...], tuple[tuple[str, str], ...]]:
 # What is named
 
 
+@functools.lru_cache(maxsize=None)
+def imported_in(path: str) -> frozenset[tuple[str, str]]:
+    """The definitions that a file imports: the end of the file in which each may stand, and its name. A module that isn't a file
+    may be a part of one."""
+    found: set[tuple[str, str]] = set()
+    for module, names in layout.IMPORT.findall("\n".join(layout.said_in(path))):
+        crate, _, parts = module.removeprefix("Rattle.").partition(".specs.")
+        words = parts.split(".")
+        files = ["/".join(words[:count]) for count in range(1, len(words) + 1)]
+        for name in names.split(",") if words[0] not in ("", "declared") else []:
+            found.update((f"crates/{crate}/specs/{file}.antt", name.split(" as ")[0].strip()) for file in files)
+            found.add((f"/{files[-1]}.antt", name.split(" as ")[0].strip()))
+    return frozenset(found)
+
+
 def calls_in(paths: Iterable[str]) -> dict[str, set[str]]:
     """The names of methods and of functions that sources call."""
     texts = ["\n".join(layout.said_in(path)) for path in paths if path.endswith(".rt")]
@@ -202,6 +226,10 @@ def named(own: Collection[str], below: Iterable[tuple[str, str]]) -> list[str]:
     calls = calls_in(own)
     aliases: dict[str, set[str]] = {}
     waiting: list[tuple[str, Item]] = []
+    paths = {called: path for path, called in below}
+    imported = {name for path in own for name in imported_in(path)}
+    # the words of what is taken of each file
+    of_files: dict[str, set[str]] = {}
     for path in own:
         for old, new in ALIAS.findall("\n".join(layout.said_in(path))):
             aliases.setdefault(new, set()).add(old)
@@ -217,18 +245,27 @@ def named(own: Collection[str], below: Iterable[tuple[str, str]]) -> list[str]:
         parts = [part for part in name.split("◌") if part]
         return name in words or bool(parts) and all(part in words for part in parts)
 
-    def is_named(it: Item) -> bool:
+    def is_at_hand(called: str, name: str) -> bool:
+        passed_on = f"/{called.partition('/specs/')[2]}"
+        is_imported = (called, name) in imported or (passed_on, name) in imported
+        return not called.endswith(".antt") or is_imported or name in of_files.get(called, ())
+
+    def is_named(called: str, it: Item) -> bool:
         if it.within and it.within not in words:
             return False
-        return not it.names or any(is_word(name) and (not it.call or name in calls[it.call]) for name in it.names)
+        names = [name for name in it.names if is_word(name) and is_at_hand(called, name)]
+        return not it.names or any(not it.call or name in calls[it.call] for name in names)
 
     taken: list[tuple[str, Item]] = []
     grows = True
     while grows:
         words |= {old for new, olds in aliases.items() if new in words for old in olds}
-        found = [(called, it) for called, it in waiting if is_named(it)]
+        found = [(called, it) for called, it in waiting if is_named(called, it)]
         waiting = [pair for pair in waiting if pair not in found]
         taken += found
+        for called, it in found:
+            of_files.setdefault(called, set()).update(it.words)
+            imported |= imported_in(paths[called])
         added = {word for _, it in found for word in it.words} - words
         words |= added
         grows = bool(found)

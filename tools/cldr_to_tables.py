@@ -17,14 +17,16 @@ locale of the release.
 from __future__ import annotations
 
 import argparse
+import contextlib
 import difflib
 import functools
 import json
+import os
 import pathlib
 import re
 import sys
 import zipfile
-from typing import Callable, Collection, Dict, Iterable, Mapping, NamedTuple, NoReturn, Optional, Sequence, TypeVar
+from typing import Callable, Collection, Dict, Iterable, Iterator, Mapping, NamedTuple, NoReturn, Optional, Sequence, TypeVar
 
 import cldr_names
 from cldr_dimension import (
@@ -63,6 +65,10 @@ Something = TypeVar("Something")
 Entry = Dict[str, object]
 # What makes the entry of a numbering system, without `locale` and `system`, or nothing.
 MakeEntry = Callable[[str], Optional[Mapping[str, object]]]
+
+
+class NoOutput(Exception):
+    """The output couldn't be written."""
 
 
 class Wanted(NamedTuple):
@@ -104,15 +110,27 @@ class TablesMaker:
         self.wanted = wanted
         self.digits = usable_digits(release)
         self.further = sorted(self.digits) if wanted.systems == "all" else wanted.systems
-        self.tables: dict[str, list[object]] = {"symbols": [], "digits": [], "rules": [], "short": [], "long": []}
-        self.tables["digits"].extend(sorted(self.digits.items()))
-        if wanted.currencies:
-            self.tables.update(currencies=[], currency_decimals=[], currency_symbols=[], currency_compact=[])
-            self.tables["currency_digits"] = [*currency_digits(release, wanted.currencies)]
-        if wanted.percents:
-            self.tables["percents"] = []
-        if wanted.units:
-            self.tables["units"] = []
+        self.tables = self.without_locales()
+
+    def without_locales(self) -> dict[str, list[object]]:
+        """Tables that have no locale yet."""
+        tables: dict[str, list[object]] = {"symbols": [], "digits": [], "rules": [], "short": [], "long": []}
+        tables["digits"].extend(sorted(self.digits.items()))
+        if self.wanted.currencies:
+            tables.update(currencies=[], currency_decimals=[], currency_symbols=[], currency_compact=[])
+            tables["currency_digits"] = [*currency_digits(self.release, self.wanted.currencies)]
+        if self.wanted.percents:
+            tables["percents"] = []
+        if self.wanted.units:
+            tables["units"] = []
+        return tables
+
+    def tables_of(self, pairs: Iterable[tuple[str, str]]) -> dict[str, object]:
+        """The tables of locales under their names."""
+        self.tables = self.without_locales()
+        for tag, locale in pairs:
+            self.add(tag, locale)
+        return {"cldr": self.release.version() or "unknown", **self.tables}
 
     def add(self, tag: str, locale: str) -> None:
         """Adds all entries of a locale under a name."""
@@ -341,12 +359,46 @@ def make_tables(
     release: Release, pairs: Collection[tuple[str, str]], wanted: Wanted = NUMBERS_ALONE
 ) -> dict[str, object]:
     """The tables of locales under their names."""
-    maker = TablesMaker(release, wanted)
+    tables = TablesMaker(release, wanted).tables_of(reported(release, pairs))
+    release.reports.clear()
+    return tables
+
+
+def reported(release: Release, pairs: Collection[tuple[str, str]]) -> Iterator[tuple[str, str]]:
+    """The names with their locales, each reported as progress."""
     for index, (tag, locale) in enumerate(pairs):
         release.reports.progress(index, len(pairs), tag)
-        maker.add(tag, locale)
+        yield tag, locale
+
+
+def write_folder(release: Release, options: argparse.Namespace) -> None:
+    """Writes a file of tables for each name, which has the locale under this name alone, so that it is read fast."""
+    pairs, wanted = asked(release, options)
+    folder = pathlib.Path(options.output)
+    with writing():
+        folder.mkdir(parents=True, exist_ok=True)
+    maker = TablesMaker(release, wanted)
+    for tag, locale in reported(release, pairs):
+        replace(folder / f"{tag}.json", written(maker.tables_of([(tag, locale)])))
     release.reports.clear()
-    return {"cldr": release.version() or "unknown", **maker.tables}
+    release.reports.sum_up()
+
+
+def replace(file: pathlib.Path, text: str) -> None:
+    """Puts a text in the place of a file, which is never there in part."""
+    new = file.with_name(f".{file.name}.new")
+    with writing():
+        new.write_bytes(text.encode())
+        os.replace(new, file)
+
+
+@contextlib.contextmanager
+def writing() -> Iterator[None]:
+    """Reports an error of what is written inside as `NoOutput`."""
+    try:
+        yield
+    except OSError as error:
+        raise NoOutput(error) from error
 
 
 def written(tables: Mapping[str, object]) -> str:
@@ -393,7 +445,7 @@ def words_parser() -> argparse.ArgumentParser:
     parser = Parser(description=__doc__, formatter_class=argparse.RawDescriptionHelpFormatter)
     parser.add_argument("release", metavar="RELEASE", help="core.zip, or the folder of a release")
     parser.add_argument("locales", metavar="LOCALE", nargs="*", help="as de, pt-AO or zh-TW: these alone")
-    parser.add_argument("-o", "--output", metavar="FILE", help="where the tables go; standard output if left out")
+    parser.add_argument("-o", "--output", metavar="FILE", help="where the tables go; FOLDER/ for a file of each locale")
     parser.add_argument("--coverage", choices=(*LEVELS, "all"), help="the locales covered so well, or all; else modern")
     parser.add_argument("--names", choices=("none", "usual", "all"), help="which further names; else the usual ones")
     parser.add_argument("--currencies", metavar="CODES", type=listed, default=(), help="with money in EUR,USD, or all")
@@ -427,14 +479,31 @@ def tell_which(release: Release, names: Iterable[str]) -> int:
     return 0 if all(is_known for is_known, _ in answers) else 4
 
 
-def made(release: Release, options: argparse.Namespace) -> str:
-    """The text of the tables that are asked for."""
+def asked(release: Release, options: argparse.Namespace) -> tuple[list[tuple[str, str]], Wanted]:
+    """The names that tables are asked for, each with its locale, and what the tables have beside numbers."""
     pairs = chosen(release, options.locales, options.coverage or "modern", options.names or "usual")
     wanted = Wanted(options.currencies, options.percents, options.units, options.systems)
     refuse_unknown(release, {locale for _, locale in pairs}, wanted)
-    text = written(make_tables(release, pairs, wanted))
+    return pairs, wanted
+
+
+def made(release: Release, options: argparse.Namespace) -> str:
+    """The text of the tables that are asked for."""
+    text = written(make_tables(release, *asked(release, options)))
     release.reports.sum_up()
     return text
+
+
+def is_folder(output: str | None) -> bool:
+    """Whether tables go to a folder: its name ends with a slash, or there is such a folder."""
+    return output is not None and (output.endswith("/") or os.path.isdir(output))
+
+
+def write_file(release: Release, options: argparse.Namespace) -> None:
+    """Writes the tables to the file, or to standard output."""
+    text = made(release, options)
+    with writing(), open(options.output, "wb") if options.output else open(1, "wb", closefd=False) as file:
+        file.write(text.encode())
 
 
 def main(words: Sequence[str]) -> int:
@@ -445,21 +514,19 @@ def main(words: Sequence[str]) -> int:
         release = open_release(options.release, Reports(sys.stderr, options.verbose), scopes_of(options))
         if options.which:
             return tell_which(release, options.which)
-        text = made(release, options)
+        write = write_folder if is_folder(options.output) else write_file
+        write(release, options)
     except UnknownWord as refused:
         parser.error(str(refused))
     except UnknownLocale as refused:
         print(refused, file=sys.stderr)
         return 4
+    except NoOutput as error:
+        print(f"error: no output: {error}", file=sys.stderr)
+        return 1
     except UNREADABLE as refused:
         print(f"error: not a CLDR release: {refused}", file=sys.stderr)
         return 3
-    try:
-        with open(options.output, "wb") if options.output else open(1, "wb", closefd=False) as file:
-            file.write(text.encode())
-    except OSError as refused:
-        print(f"error: no output: {refused}", file=sys.stderr)
-        return 1
     return 0
 
 

@@ -16,7 +16,7 @@ function __locnum_list
 end
 
 complete -c locnum -f
-complete -c locnum -s t -l tables -r -F -d 'tables of locales; English without it'
+complete -c locnum -s t -l tables -r -F -d 'tables of locales, or a folder of tables; else English'
 complete -c locnum -s l -l locale -x -a '(__locnum_list locales)' -d 'such as de or pt-BR; env: that of the environment'
 complete -c locnum -l system -x -a '(__locnum_list systems)' -d 'the numbering system, such as latn'
 complete -c locnum -l list -x -a 'locales systems currencies units' -d 'print the locales, systems, currencies or units'

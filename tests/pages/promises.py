@@ -193,13 +193,18 @@ def cell(parts: list[tuple[str, str]]) -> tuple[str, str]:
     return ", ".join(name for name, _ in parts), ", ".join(f"[`{name}`](../{path})" for name, path in parts)
 
 
+def fitting(parts: list[tuple[str, str]]) -> list[tuple[str, str]]:
+    """The first two names, if a cell has room for both; else the first one."""
+    return parts[: 2 if len(cell(parts[:2])[0]) <= CELL else 1]
+
+
 def row(promise: Promise, definitions: list[tuple[str, str]]) -> str:
     """The row of a promise with these definitions."""
     mutations = [mutation_of(promise, name) for name in promise.mutations]
     judge(len(mutations) <= 2, f"{promise.path}: more than two mutations:", promise.sentence)
     judge(re.fullmatch(r"[A-Z`0-9][^|]*\.", promise.sentence), f"{promise.path}: no sentence:", promise.sentence)
-    fitting = definitions[: 2 if len(cell(definitions[:2])[0]) <= CELL else 1]
-    cells = [(promise.sentence, promise.sentence), *map(cell, ([(promise.call, promise.path)], fitting, mutations))]
+    both = [fitting(definitions), fitting(mutations)]
+    cells = [(promise.sentence, promise.sentence), *map(cell, ([(promise.call, promise.path)], *both))]
     for shown, _ in cells:
         judge(len(shown) <= CELL, f"{promise.path}: more than {CELL} characters, {len(shown)}:", shown)
     return "".join(f"| {text} " if text else "| " for _, text in cells) + "|"

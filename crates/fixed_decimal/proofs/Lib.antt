@@ -1,13 +1,18 @@
 pub mod Weights
 pub mod MagnitudePlaces
 pub mod Nearness
+pub mod Taken
+pub mod TakenMultiples
 pub mod Halves
 pub mod Places
 pub mod Numerals
 pub mod Readings
 pub mod Rounds
+pub mod Steps
 pub mod Magnitudes
 pub mod Rounded
+pub mod StepWeights
+pub mod Stepped
 pub mod NumberDigits
 pub mod Moved
 pub mod LeftDigits
@@ -15,3 +20,4 @@ pub mod Significands
 pub mod LaneLemmas
 pub mod LaneMoves
 pub mod ShortTexts
+pub mod Padded

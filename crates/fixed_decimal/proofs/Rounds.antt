@@ -1,16 +1,18 @@
 -- The digits that rounding keeps, and what they weigh.
-use Rattle.std.proofs.Common.{◌≡◌, ℕ, ◌+◌, ◌-◌, ◌*◌, ◌^◌, ◌<◌, ◌≤◌, List, [], ◌∷◌, ◌++◌, length, take, drop, get_or}
+use Rattle.std.proofs.Common.{◌≡◌, ℕ, suc, ◌+◌, ◌-◌, ◌*◌, ◌^◌, ◌<◌, ◌≤◌, List, [], ◌∷◌, ◌++◌, length, take, drop, get_or}
 use Rattle.std.proofs.Common.{replicate, refl, sym, ◌∙◌, ap, arith, zero-add, add-zero}
+use Rattle.std.proofs.Math.Nat.{mul-le-mul_left}
 use Rattle.std.proofs.lemmas.Nat.{pow-add}
 use Rattle.std.proofs.lemmas.List.{length-replicate, length-drop, take-append-drop, take_more}
 use Rattle.fixed_decimal.specs.Unsigned.{AreDigits}
 use Rattle.fixed_decimal.specs.Size.{weighed, finest}
-use Rattle.fixed_decimal.specs.Nearest.{IsMultiple, IsNearest}
-use Rattle.fixed_decimal.specs.Rounding.{RoundsUp, RoundsDown}
+use Rattle.fixed_decimal.specs.declared.modes.UnsignedRoundingMode.{UnsignedRoundingMode}
+use Rattle.fixed_decimal.specs.Nearest.{IsMultiple}
+use Rattle.fixed_decimal.specs.Modes.{IsTaken}
+use Rattle.fixed_decimal.specs.RoundedBy.{RoundsUpBy, RoundsDownBy}
 use Rattle.fixed_decimal.proofs.Weights.{weighed-append, weighed_times, weighed_units, weighed-replicate_zero, weighed-replicate_nine, weighed_lt, ten_pos}
 use Rattle.fixed_decimal.proofs.Weights.{ten_more, ten_mono, same_power}
-use Rattle.fixed_decimal.proofs.Nearness.{nearest_below}
-use Rattle.fixed_decimal.proofs.Halves.{up_nearest, down_nearest}
+use Rattle.fixed_decimal.proofs.TakenMultiples.{up_taken, down_taken, up_times, down_times, no_rest}
 
 -- the power of the unit lies below every written power
 pub finest_large : 32768 ≤ finest
@@ -52,7 +54,8 @@ carried ds kept nines =
 -- whose sign decides which of them is 0.
 module _ (ds : List ℕ) (s c kept n s' e : ℕ) (len : s + c ≡ length ds) (fine : s ≤ finest) (fine' : s' ≤ finest) (at_place : e + s' ≡ finest + n)
   where
-    size_split : kept + n ≡ c + s' → kept ≤ length ds →
+    -- a size is what the kept digits write, at the place, and what the dropped ones do
+    pub size_split : kept + n ≡ c + s' → kept ≤ length ds →
         weighed (finest - s) ds ≡ weighed 0 (take kept ds) * 10 ^ e + weighed 0 (drop kept ds) * 10 ^ (finest - s)
     size_split keep within =
         let f = finest - s in
@@ -61,56 +64,100 @@ module _ (ds : List ℕ) (s c kept n s' e : ℕ) (len : s + c ≡ length ds) (fi
         let same : f + length (drop kept ds) ≡ e = omega (arith, length-drop kept ds) in
         ap (weighed f) (sym (take-append-drop kept ds)) ∙ split ∙ rw (same, weighed_units e (take kept ds), weighed_units f (drop kept ds)) refl
 
-    unit_split : kept + n ≡ c + s' → kept ≤ length ds → 10 ^ e ≡ 10 ^ length (drop kept ds) * 10 ^ (finest - s)
+    -- ten to the place, as ten to the count of the dropped digits
+    pub unit_split : kept + n ≡ c + s' → kept ≤ length ds → 10 ^ e ≡ 10 ^ length (drop kept ds) * 10 ^ (finest - s)
     unit_split keep within =
         same_power e (length (drop kept ds) + (finest - s)) (omega (arith, length-drop kept ds)) ∙ pow-add 10 (length (drop kept ds)) (finest - s)
 
-    result_size : (k : ℕ) (hs : List ℕ) → weighed (finest - s') (hs ++ replicate (k + n) 0) ≡ weighed k hs * 10 ^ e
+    -- the size of digits with zeros behind them
+    pub result_size : (k : ℕ) (hs : List ℕ) → weighed (finest - s') (hs ++ replicate (k + n) 0) ≡ weighed k hs * 10 ^ e
     result_size k hs = weighed-zeros (finest - s') k n hs ∙ ap (λ x. weighed k hs * 10 ^ x) (omega arith)
 
-    -- where the kept digits are to stay, the number that they make is the nearest one
-    pub down : kept + n ≡ c + s' → kept ≤ length ds → RoundsDown (10 ^ length (drop kept ds)) (weighed 0 (take kept ds)) (weighed 0 (drop kept ds)) →
-        IsNearest (IsMultiple (10 ^ e)) (10 ^ e) (weighed (finest - s) ds) (weighed (finest - s') (take kept ds ++ replicate n 0))
-    down keep within half =
-        let y : weighed (finest - s') (take kept ds ++ replicate n 0) ≡ weighed 0 (take kept ds) * 10 ^ e =
-        rw (zero-add n) at (result_size 0 (take kept ds)) in
-        rw (size_split keep within, y, unit_split keep within)
-        (down_nearest (10 ^ length (drop kept ds)) (weighed 0 (take kept ds)) (weighed 0 (drop kept ds)) (10 ^ (finest - s)) (ten_pos (finest - s)) half)
+    rest_small : AreDigits (drop kept ds) → kept + n ≡ c + s' → kept ≤ length ds →
+        weighed 0 (drop kept ds) * 10 ^ (finest - s) < 10 ^ length (drop kept ds) * 10 ^ (finest - s)
+    rest_small digits keep within =
+        let small : suc (weighed 0 (drop kept ds)) ≤ 10 ^ length (drop kept ds) =
+        rw (zero-add (length (drop kept ds))) at (weighed_lt 0 (drop kept ds) digits) in
+        omega (arith, mul-le-mul_left (10 ^ (finest - s)) small, ten_pos (finest - s))
 
-    -- where the kept digits are to be raised, the number that they make then is the nearest one
-    pub up : AreDigits (drop kept ds) → kept + n ≡ c + s' → kept ≤ length ds →
-        RoundsUp (10 ^ length (drop kept ds)) (weighed 0 (take kept ds)) (weighed 0 (drop kept ds)) → (k : ℕ) (hs : List ℕ) →
-        weighed k hs ≡ weighed 0 (take kept ds) + 1 → IsNearest (IsMultiple (10 ^ e)) (10 ^ e) (weighed (finest - s) ds)
-        (weighed (finest - s') (hs ++ replicate (k + n) 0))
-    up digits keep within half k hs one_more =
-        let y : weighed (finest - s') (hs ++ replicate (k + n) 0) ≡ (weighed 0 (take kept ds) + 1) * 10 ^ e =
-        result_size k hs ∙ ap (λ x. x * 10 ^ e) one_more in
-        let small : weighed 0 (drop kept ds) < 10 ^ length (drop kept ds) = rw (zero-add (length (drop kept ds))) at (weighed_lt 0 (drop kept ds) digits) in
-        rw (size_split keep within, y, unit_split keep within)
-        (up_nearest (10 ^ length (drop kept ds)) (weighed 0 (take kept ds)) (weighed 0 (drop kept ds)) (10 ^ (finest - s)) (ten_pos (finest - s)) small half)
+    module _ (mode : UnsignedRoundingMode) where
+      -- where the kept digits are to stay, the number that they make is taken
+      pub down : AreDigits (drop kept ds) → kept + n ≡ c + s' → kept ≤ length ds →
+          RoundsDownBy mode (10 ^ length (drop kept ds)) (weighed 0 (take kept ds)) (weighed 0 (drop kept ds)) →
+          IsTaken (IsMultiple (10 ^ e)) mode (10 ^ e) (weighed (finest - s) ds) (weighed (finest - s') (take kept ds ++ replicate n 0))
+      down digits keep within decided =
+          let u = 10 ^ length (drop kept ds) in
+          let p = 10 ^ (finest - s) in
+          let y : weighed (finest - s') (take kept ds ++ replicate n 0) ≡ weighed 0 (take kept ds) * 10 ^ e =
+          rw (zero-add n) at (result_size 0 (take kept ds)) in
+          rw (size_split keep within, y, unit_split keep within)
+          (down_taken mode (u * p) (weighed 0 (take kept ds)) (weighed 0 (drop kept ds) * p) (rest_small digits keep within)
+          (down_times mode u (weighed 0 (take kept ds)) (weighed 0 (drop kept ds)) p (ten_pos (finest - s)) decided))
 
-    -- where the power is at most that of the last digit, zeros are added and the number stays
-    pub exact : s + n ≤ s' → IsNearest (IsMultiple (10 ^ e)) (10 ^ e) (weighed (finest - s) ds) (weighed (finest - s') (ds ++ replicate (s' - s) 0))
-    exact finer =
-        let r = s' - s - n in
-        let q = weighed 0 ds * 10 ^ r in
-        let power : 10 ^ (finest - s) ≡ 10 ^ r * 10 ^ e = same_power (finest - s) (r + e) (omega arith) ∙ pow-add 10 r e in
-        let x : weighed (finest - s) ds ≡ q * 10 ^ e = weighed_units (finest - s) ds ∙ rw power (omega arith) in
-        let back : finest - s' + (s' - s) ≡ finest - s = omega arith in
-        let y : weighed (finest - s') (ds ++ replicate (s' - s) 0) ≡ weighed 0 ds * 10 ^ (finest - s' + (s' - s)) =
-        rw (zero-add (s' - s)) at (weighed-zeros (finest - s') 0 (s' - s) ds) in
-        let y' : weighed (finest - s') (ds ++ replicate (s' - s) 0) ≡ q * 10 ^ e =
-        y ∙ ap (λ k. weighed 0 ds * 10 ^ k) back ∙ rw power (omega arith) in
-        rw (x, y') (rw add-zero at (nearest_below (10 ^ e) q 0 (omega (arith, ten_pos e))))
+      -- where the kept digits are to be raised, the number that they make then is taken
+      pub up : AreDigits (drop kept ds) → kept + n ≡ c + s' → kept ≤ length ds →
+          RoundsUpBy mode (10 ^ length (drop kept ds)) (weighed 0 (take kept ds)) (weighed 0 (drop kept ds)) → (k : ℕ) (hs : List ℕ) →
+          weighed k hs ≡ weighed 0 (take kept ds) + 1 → IsTaken (IsMultiple (10 ^ e)) mode (10 ^ e) (weighed (finest - s) ds)
+          (weighed (finest - s') (hs ++ replicate (k + n) 0))
+      up digits keep within decided k hs one_more =
+          let u = 10 ^ length (drop kept ds) in
+          let p = 10 ^ (finest - s) in
+          let y : weighed (finest - s') (hs ++ replicate (k + n) 0) ≡ (weighed 0 (take kept ds) + 1) * 10 ^ e =
+          result_size k hs ∙ ap (λ x. x * 10 ^ e) one_more in
+          rw (size_split keep within, y, unit_split keep within)
+          (up_taken mode (u * p) (weighed 0 (take kept ds)) (weighed 0 (drop kept ds) * p) (rest_small digits keep within)
+          (up_times mode u (weighed 0 (take kept ds)) (weighed 0 (drop kept ds)) p (ten_pos (finest - s)) decided))
 
-    -- where the power is more than one above that of the first digit, zero is nearest
-    pub nothing : AreDigits ds → c + s' < n → IsNearest (IsMultiple (10 ^ e)) (10 ^ e) (weighed (finest - s) ds) (weighed (finest - s') (replicate n 0))
-    nothing digits above =
-        let x = weighed (finest - s) ds in
-        let small : x < 10 ^ (finest - s + length ds) = weighed_lt (finest - s) ds digits in
-        let tens : 10 ^ ((finest - s + length ds) + 1) ≤ 10 ^ e = ten_mono ((finest - s + length ds) + 1) e (omega arith) in
-        let half : 2 * x < 10 ^ e = omega (arith, ten_more (finest - s + length ds)) in
-        let h : IsNearest (IsMultiple (10 ^ e)) (10 ^ e) (0 * 10 ^ e + x) (0 * 10 ^ e) = nearest_below (10 ^ e) 0 x half in
-        let e1 : 0 * 10 ^ e + x ≡ x = omega arith in
-        let e2 : 0 * 10 ^ e ≡ 0 = omega arith in
-        rw (weighed-replicate_zero (finest - s') n) (rw (e1, e2) at h)
+      -- where the power is at most that of the last digit, zeros are added and the number stays
+      pub exact : s + n ≤ s' → IsTaken (IsMultiple (10 ^ e)) mode (10 ^ e) (weighed (finest - s) ds)
+          (weighed (finest - s') (ds ++ replicate (s' - s) 0))
+      exact finer =
+          let r = s' - s - n in
+          let q = weighed 0 ds * 10 ^ r in
+          let power : 10 ^ (finest - s) ≡ 10 ^ r * 10 ^ e = same_power (finest - s) (r + e) (omega arith) ∙ pow-add 10 r e in
+          let x : weighed (finest - s) ds ≡ q * 10 ^ e = weighed_units (finest - s) ds ∙ rw power (omega arith) in
+          let back : finest - s' + (s' - s) ≡ finest - s = omega arith in
+          let y : weighed (finest - s') (ds ++ replicate (s' - s) 0) ≡ weighed 0 ds * 10 ^ (finest - s' + (s' - s)) =
+          rw (zero-add (s' - s)) at (weighed-zeros (finest - s') 0 (s' - s) ds) in
+          let y' : weighed (finest - s') (ds ++ replicate (s' - s) 0) ≡ q * 10 ^ e =
+          y ∙ ap (λ k. weighed 0 ds * 10 ^ k) back ∙ rw power (omega arith) in
+          rw (x, y') (rw add-zero at (no_rest mode (10 ^ e) q 0 refl))
+
+      -- where the power is more than one above that of the first digit, the number is less than half a unit
+      less_than_half : AreDigits ds → c + s' < n → 2 * weighed 0 ds < 10 ^ (e - (finest - s))
+      less_than_half digits above =
+          let small : weighed 0 ds < 10 ^ length ds = rw (zero-add (length ds)) at (weighed_lt 0 ds digits) in
+          let tens : 10 ^ (length ds + 1) ≤ 10 ^ (e - (finest - s)) = ten_mono (length ds + 1) (e - (finest - s)) (omega arith) in
+          omega (arith, ten_more (length ds))
+
+      unit_above : c + s' < n → 10 ^ e ≡ 10 ^ (e - (finest - s)) * 10 ^ (finest - s)
+      unit_above above = same_power e ((e - (finest - s)) + (finest - s)) (omega arith) ∙ pow-add 10 (e - (finest - s)) (finest - s)
+
+      rest_above : AreDigits ds → c + s' < n → weighed 0 ds * 10 ^ (finest - s) < 10 ^ (e - (finest - s)) * 10 ^ (finest - s)
+      rest_above digits above =
+          let small : suc (weighed 0 ds) ≤ 10 ^ (e - (finest - s)) = omega (arith, less_than_half digits above) in
+          omega (arith, mul-le-mul_left (10 ^ (finest - s)) small, ten_pos (finest - s))
+
+      -- then zero is taken, or the unit where the mode rounds up
+      pub nothing : AreDigits ds → c + s' < n → ((unit : ℕ) → 2 * weighed 0 ds < unit → RoundsDownBy mode unit 0 (weighed 0 ds)) →
+          IsTaken (IsMultiple (10 ^ e)) mode (10 ^ e) (weighed (finest - s) ds) (weighed (finest - s') (replicate n 0))
+      nothing digits above decided =
+          let u = 10 ^ (e - (finest - s)) in
+          let p = 10 ^ (finest - s) in
+          let e1 : 0 * (u * p) + weighed 0 ds * p ≡ weighed 0 ds * p = omega arith in
+          let e2 : 0 * (u * p) ≡ 0 = omega arith in
+          rw (weighed-replicate_zero (finest - s') n, weighed_units (finest - s) ds, unit_above above)
+          (rw (e1, e2) at (down_taken mode (u * p) 0 (weighed 0 ds * p) (rest_above digits above)
+          (down_times mode u 0 (weighed 0 ds) p (ten_pos (finest - s)) (decided u (less_than_half digits above)))))
+
+      pub one_unit : AreDigits ds → c + s' < n → ((unit : ℕ) → 2 * weighed 0 ds < unit → RoundsUpBy mode unit 0 (weighed 0 ds)) →
+          IsTaken (IsMultiple (10 ^ e)) mode (10 ^ e) (weighed (finest - s) ds) (weighed (finest - s') (1 ∷ replicate n 0))
+      one_unit digits above decided =
+          let u = 10 ^ (e - (finest - s)) in
+          let p = 10 ^ (finest - s) in
+          let y : weighed (finest - s') (1 ∷ replicate n 0) ≡ weighed 0 (1 ∷ []) * 10 ^ e = rw (zero-add n) at (result_size 0 (1 ∷ [])) in
+          let one : weighed 0 (1 ∷ []) ≡ 0 + 1 = omega arith in
+          let e1 : 0 * (u * p) + weighed 0 ds * p ≡ weighed 0 ds * p = omega arith in
+          rw (y, one, weighed_units (finest - s) ds, unit_above above)
+          (rw e1 at (up_taken mode (u * p) 0 (weighed 0 ds * p) (rest_above digits above)
+          (up_times mode u 0 (weighed 0 ds) p (ten_pos (finest - s)) (decided u (less_than_half digits above)))))

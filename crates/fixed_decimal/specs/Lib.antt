@@ -5,9 +5,14 @@ pub mod Reading
 pub mod ShortDigits
 pub mod Nearest
 pub mod Rounding
+pub mod Modes
+pub mod RoundedBy
+pub mod Increments
 pub mod RoundedDigits
 pub mod Scaling
 pub mod Trimming
 pub mod Significand
 pub mod SignDisplay
 pub mod Laws
+pub mod ModeLaws
+pub mod Padding

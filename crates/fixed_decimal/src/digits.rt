@@ -97,6 +97,16 @@ pub fn widen(digits: &mut Digits, front: usize, back: usize) -> Result<(), Decim
     Ok(())
 }
 
+/// Leaves out the first `count` digits.
+pub fn cut_front(digits: &mut Digits, count: usize)
+    requires { count ≤ small_vec_len digits.old }
+    ensures { digits.new.items ≡ drop count digits.old.items }
+{
+    let left = digits.len() - count;
+    digits.rotate_left(count);
+    digits.truncate(left);
+}
+
 /// Reverses the order of the digits.
 pub fn reverse_digits(digits: &mut Digits)
     ensures { digits.new.items ≡ reverse digits.old.items }

@@ -4,6 +4,9 @@
 ghost use Rattle.std.specs.Prelude.{◌≡◌, ◌↔◌, IsTrue};
 ghost use Rattle.fixed_decimal.specs.Laws.{MagnitudeIsReached, MagnitudeIsGreatest, MagnitudeIsUnique, MagnitudeIsMonotone, MagnitudeOfZero};
 ghost use Rattle.fixed_decimal.specs.Laws.{SomeMultipleIsNearest, OneMultipleIsNearest, TextReadsOneDecimal, ReadingIsSpelled, ReadingOfNothing};
+ghost use Rattle.fixed_decimal.specs.ModeLaws.{MultiplesAreTakenInOrder, OneMultipleIsTaken, MultipleIsTakenAsItself};
+ghost use Rattle.fixed_decimal.specs.ModeLaws.{TakenIsDivided, HalfEvenIsNearest, NoMultipleIsBetween, HalfModesTakeTheNearest};
+ghost use Rattle.fixed_decimal.specs.ModeLaws.{HalfUpIsTheGreater, HalfDownIsTheLesser, UpIsNoLess, DownIsNoMore, CeilingMirrorsFloor};
 
 use crate::{Decimal, UnsignedDecimal};
 
@@ -23,6 +26,41 @@ pub fn magnitude_is_the_greatest_power()
 pub fn nearest_multiple_is_unique()
     ensures some { SomeMultipleIsNearest }
     ensures one { OneMultipleIsNearest }
+{}
+
+/// Every rounding mode takes one multiple of a unit, that which division gives; a multiple is taken
+/// as itself.
+// promise: A mode takes one multiple, that which division gives.
+pub fn modes_take_one_multiple()
+    ensures one { OneMultipleIsTaken }
+    ensures divided { TakenIsDivided }
+    ensures itself { MultipleIsTakenAsItself }
+{}
+
+/// Rounding keeps the order of sizes, and no multiple lies between a size and what is taken of it.
+// promise: Rounding keeps the order of numbers.
+pub fn modes_keep_order()
+    ensures in_order { MultiplesAreTakenInOrder }
+    ensures between { NoMultipleIsBetween }
+{}
+
+/// The half modes take a nearest multiple, and of two equally near the greater, the lesser or the
+/// even one.
+// promise: The half modes take a nearest multiple.
+pub fn half_modes_take_the_nearest()
+    ensures nearest { HalfModesTakeTheNearest }
+    ensures greater { HalfUpIsTheGreater }
+    ensures lesser { HalfDownIsTheLesser }
+    ensures even { HalfEvenIsNearest }
+{}
+
+/// Up takes no lesser size and down no greater one; ceiling of a number is floor of the same with
+/// the other sign.
+// promise: Ceiling of a number is floor of it with the other sign.
+pub fn ceiling_mirrors_floor()
+    ensures no_less { UpIsNoLess }
+    ensures no_more { DownIsNoMore }
+    ensures mirror { CeilingMirrorsFloor }
 {}
 
 /// A text is read as one decimal at most.

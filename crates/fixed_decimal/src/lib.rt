@@ -16,9 +16,12 @@
 mod digits;
 mod equality;
 mod error;
+mod increments;
 mod lanes;
 pub mod laws;
+mod modes;
 mod numbers;
+mod padding;
 mod reading;
 mod rounded_digits;
 mod rounding;
@@ -27,10 +30,14 @@ mod short_text;
 mod signed;
 mod significand;
 mod signs;
+mod step_digits;
+mod step_rounding;
 mod trimming;
 mod unsigned;
 
 pub use error::DecimalError;
+pub use increments::RoundingIncrement;
+pub use modes::{SignedRoundingMode, UnsignedRoundingMode};
 pub use signed::Decimal;
 pub use signs::{Sign, SignDisplay};
 pub use unsigned::UnsignedDecimal;

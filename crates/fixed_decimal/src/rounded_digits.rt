@@ -62,10 +62,11 @@ impl RoundedDigits {
     }
 
     /// Appends the raised digit and the zeros, for which there is room.
-    fn push_rest(self, digits: &mut Digits)
+    pub(crate) fn push_rest(self, digits: &mut Digits)
         requires { HasRoomFor digits.old (self.zeros + 1) }
-        ensures { digits.new.items ≡ (digits.old.items ++ option_to_list self.raised)
+        ensures items { digits.new.items ≡ (digits.old.items ++ option_to_list self.raised)
             ++ replicate self.zeros 0 }
+        ensures capacity { digits.new.capacity ≡ digits.old.capacity }
     {
         if let Some(digit) = self.raised {
             digits.push_reserved(digit);

@@ -5,11 +5,16 @@ ghost use Rattle.std.specs.Prelude.{pos, unsigned_abs, int_lt};
 ghost use Rattle.fixed_decimal.specs.Unsigned.{IsUnsigned, low, high};
 ghost use Rattle.fixed_decimal.specs.Size.{size, ten_to, magnitude};
 ghost use Rattle.fixed_decimal.specs.Rounding.{IsRounded, RoundsPastLimits};
+ghost use Rattle.fixed_decimal.specs.RoundedBy.{IsRoundedBy, RoundsPastLimitsBy};
+ghost use Rattle.fixed_decimal.specs.Increments.{unit_of};
+ghost use Rattle.fixed_decimal.specs.SignDisplay.{is_negative};
 ghost use Rattle.fixed_decimal.specs.Scaling.{IsMoved, IsTimesTenTo, MovesPastLimits};
 ghost use Rattle.fixed_decimal.specs.SignDisplay.{displayed_sign};
 
-use crate::signs::displayed_sign;
-use crate::{DecimalError, Sign, SignDisplay, UnsignedDecimal};
+use crate::signs::{displayed_sign, is_negative};
+use crate::{
+    DecimalError, RoundingIncrement, Sign, SignDisplay, SignedRoundingMode, UnsignedDecimal,
+};
 use std::alloc::Global;
 
 /// A decimal: a sign and a number without one. `-0` keeps its sign.
@@ -94,6 +99,69 @@ impl Decimal {
     {
         let Decimal { sign, absolute } = self;
         match absolute.rounded(power) {
+            Ok(absolute) => Ok(Decimal { sign, absolute }),
+            Err((absolute, error)) => Err((Decimal { sign, absolute }, error)),
+        }
+    }
+
+    /// The multiple of ten to the power that the mode takes, the sign kept (ICU4X
+    /// `round_with_mode`).
+    ///
+    /// Where a carry would need power 32768 the answer is `Limit`, before memory is asked for; a
+    /// value that is rejected is handed back.
+    // promise: The mode takes the sign into account, and keeps it.
+    // mutations: minus_of_a_decimal_passed_over, rounded_with_mode_sign_lost
+    pub fn rounded_with_mode(
+        self,
+        power: i16,
+        mode: SignedRoundingMode,
+    ) -> Result<Self, (Self, DecimalError)>
+        ensures rounded { IfOk result (λ y.
+            IsRoundedBy mode (is_negative self.sign) (ten_to power) self.absolute power
+            y.absolute) }
+        ensures sign { IfOk result (λ y. y.sign ≡ self.sign) }
+        ensures valid { MatchResult result (λ y. IsUnsigned y.absolute) (λ e.
+            IsUnsigned e.0.absolute) }
+        ensures limit { IsErrAnd result (λ e. e.1 ≡ DecimalError.Limit)
+            ↔ RoundsPastLimitsBy mode (is_negative self.sign) (ten_to power) self.absolute }
+        ensures no_syntax { IfErr result (λ e. e.1 ≢ DecimalError.Syntax) }
+        ensures handed_back { IfErr result (λ e. e.0 ≡ self) }
+    {
+        let Decimal { sign, absolute } = self;
+        match absolute.rounded_with_mode(power, mode, is_negative(sign)) {
+            Ok(absolute) => Ok(Decimal { sign, absolute }),
+            Err((absolute, error)) => Err((Decimal { sign, absolute }, error)),
+        }
+    }
+
+    /// The multiple of the increment at the power that the mode takes, the sign kept (ICU4X
+    /// `round_with_mode_and_increment`): of 25 at power -2, a multiple of 0.25.
+    ///
+    /// Where the result would need power 32768 the answer is `Limit`, before memory is asked for; a
+    /// value that is rejected is handed back.
+    // promise: With increments, too, the mode takes the sign into account.
+    // mutations: increment_minus_passed_over, increment_sign_lost
+    pub fn rounded_with_mode_and_increment(
+        self,
+        power: i16,
+        mode: SignedRoundingMode,
+        increment: RoundingIncrement,
+    ) -> Result<Self, (Self, DecimalError)>
+        ensures rounded { IfOk result (λ y.
+            IsRoundedBy mode (is_negative self.sign) (unit_of increment power) self.absolute power
+            y.absolute) }
+        ensures sign { IfOk result (λ y. y.sign ≡ self.sign) }
+        ensures valid { MatchResult result (λ y. IsUnsigned y.absolute) (λ e.
+            IsUnsigned e.0.absolute) }
+        ensures limit { IsErrAnd result (λ e. e.1 ≡ DecimalError.Limit)
+            ↔ RoundsPastLimitsBy mode (is_negative self.sign) (unit_of increment power)
+            self.absolute }
+        ensures no_syntax { IfErr result (λ e. e.1 ≢ DecimalError.Syntax) }
+        ensures handed_back { IfErr result (λ e. e.0 ≡ self) }
+    {
+        let Decimal { sign, absolute } = self;
+        let minus = is_negative(sign);
+        match absolute.rounded_with_mode_and_increment(power, mode, minus, increment) {
             Ok(absolute) => Ok(Decimal { sign, absolute }),
             Err((absolute, error)) => Err((Decimal { sign, absolute }, error)),
         }

@@ -6,7 +6,7 @@ ghost use Rattle.fixed_decimal.specs.Rounding.{RoundsPastLimits};
 ghost use Rattle.fixed_decimal.specs.Significand.{IsRoundedSignificand};
 
 use crate::rounding::{round_digits, scale_below};
-use crate::{DecimalError, UnsignedDecimal};
+use crate::{DecimalError, UnsignedDecimal, UnsignedRoundingMode};
 use std::alloc::Global;
 
 impl UnsignedDecimal {
@@ -31,7 +31,12 @@ impl UnsignedDecimal {
         ensures limit { IsErrOf result DecimalError.Limit ↔ RoundsPastLimits self.now power }
         ensures no_syntax { ¬ (IsErrOf result DecimalError.Syntax) }
     {
-        let Some(rounded) = round_digits(&self.digits, self.scale, power) else {
+        let Some(rounded) = round_digits(
+            &self.digits,
+            self.scale,
+            power,
+            UnsignedRoundingMode::HalfEven,
+        ) else {
             return Err(DecimalError::Limit);
         };
         let moved = scale_below(power) as usize + exponent as usize;

@@ -3,6 +3,7 @@ use Rattle.std.specs.Prelude.{ℕ, ◌-◌, ◌%◌, ◌^◌, Bool, nat_le, ◌=
 use Rattle.std.specs.List.{suffix_len}
 use Rattle.std.specs.Int.Digits.{number_from_digits}
 use Rattle.fixed_decimal.specs.Unsigned.{Unsigned, integer, fraction}
+use Rattle.icu_plurals.specs.declared.operands.RawPluralOperands.{RawPluralOperands}
 
 -- By UTS 35's letters (Part 3, Plural Operand Meanings): the number n is given by i, v and f. The integer digits are
 -- seen as their eighteen lowest ones, i, and whether a digit above these isn't zero; of the fraction the first eighteen
@@ -51,3 +52,7 @@ operands_of_digits before seen exponent = record {
 abbrev pub operands_of : Unsigned → ℕ → Operands
 operands_of significand exponent =
     operands_of_digits (integer_after_moving exponent significand) (take 18 (fraction_after_moving exponent significand)) exponent
+
+-- the operands that are kept by their letters
+abbrev pub operands_in : RawPluralOperands → Operands
+operands_in o = record { i = o.i; is_large = o.is_large; v = o.v; w = o.w; f = o.f; t = o.t; c = o.c }

@@ -31,5 +31,5 @@ pub use category::PluralCategory;
 pub use elements::PluralElements;
 pub use icu_plurals_conditions::{RulesError, error};
 pub use loading::{PluralRulesPreferences, PluralsCardinalV1};
-pub use operands::PluralOperands;
+pub use operands::{PluralOperands, RawPluralOperands};
 pub use rules::PluralRules;

@@ -24,6 +24,26 @@ pub struct PluralOperands {
     pub(crate) c: u8,
 }
 
+/// The operands of a number by UTS 35's letters (Part 3, Plural Operand Meanings; ICU4X
+/// `RawPluralOperands`).
+#[derive(Clone, Copy, Debug, PartialEq, Eq)]
+pub struct RawPluralOperands {
+    /// The eighteen lowest integer digits.
+    pub i: u64,
+    /// Whether an integer digit above these isn't zero. ICU4X has no such field.
+    pub is_large: bool,
+    /// How many fraction digits there are, of the first eighteen.
+    pub v: u8,
+    /// How many of them are left without the zeros at their end.
+    pub w: u8,
+    /// The fraction digits as a number.
+    pub f: u64,
+    /// The fraction digits without the zeros at their end, as a number.
+    pub t: u64,
+    /// The exponent of the compact form, also called e.
+    pub c: u8,
+}
+
 impl Model for PluralOperands {
     ghost use Rattle.icu_plurals.specs.Operands.{Operands};
 
@@ -52,7 +72,7 @@ impl Model for PluralOperands {
 
 impl PluralOperands {
     ghost use Rattle.std.specs.Prelude.{◌≡◌};
-    ghost use Rattle.icu_plurals.specs.Operands.{operands_of};
+    ghost use Rattle.icu_plurals.specs.Operands.{operands_in, operands_of};
     ghost use Rattle.icu_plurals.specs.Elements.{is_exactly};
 
     /// The operands of the number `significand * 10^exponent` as it is written once the point is
@@ -75,6 +95,23 @@ impl PluralOperands {
             f: number(seen),
             t: number(trimmed),
             c: exponent,
+        }
+    }
+
+    /// The operands by their letters.
+    // promise: Each letter has its operand.
+    // mutations: raw_fraction_without_its_zeros
+    pub fn raw(self) -> RawPluralOperands
+        ensures { operands_in result ≡ self }
+    {
+        RawPluralOperands {
+            i: self.i,
+            is_large: self.is_large,
+            v: self.v,
+            w: self.w,
+            f: self.f,
+            t: self.t,
+            c: self.c,
         }
     }
 

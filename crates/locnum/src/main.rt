@@ -16,6 +16,7 @@ mod mistakes;
 mod near;
 mod options;
 mod places;
+mod read_tables;
 mod running;
 mod streams;
 mod tables;
@@ -23,18 +24,18 @@ mod words;
 
 use clap::ArgMatches;
 use command::{command, given};
-use english::ENGLISH;
 use icu_provider::DataLocale;
 use locnum_forms::{Form, StartError, Wanted};
 use locnum_options::{Environment, Given, OptionFault, Options, parse_options};
 use lone_locale::locale_of_tables;
 use mistakes::status_of_words;
+use read_tables::read_tables;
 use running::run_formed;
 use std::alloc::AllocError;
-use std::io::{ErrorKind, Write};
+use std::io::Write;
 use std::process::ExitCode;
-use std::{env, fs, str};
-use streams::{report_error, status_of_output};
+use std::{env, str};
+use streams::status_of_output;
 use tables::{ListAnswer, TablesFile, heading, list, note_of_failure, note_of_system};
 use words::{marked, numbers_given};
 
@@ -64,23 +65,6 @@ fn words_given(rt: &HostRuntime) -> Result<Vec<String>, Failure> {
     match given.collect(rt.alloc()) {
         Ok(words) => Ok(words),
         Err(_) => Err(Failure::OutOfMemory),
-    }
-}
-
-/// The bytes of the tables: those of a file, or those in the program.
-fn tables_of(rt: &HostRuntime, path: Option<&str>) -> Result<Vec<u8>, Failure> {
-    match path {
-        Some(path) => match fs::read(rt, path) {
-            Ok(bytes) => Ok(bytes),
-            Err(error) => match error.kind() {
-                ErrorKind::OutOfMemory => Err(Failure::OutOfMemory),
-                _ => {
-                    report_error(rt, path, Some(error));
-                    Err(Failure::Reported)
-                }
-            },
-        },
-        None => Ok(Vec::from_slice(rt.alloc(), ENGLISH.as_bytes())?),
     }
 }
 
@@ -175,20 +159,21 @@ fn list_asked(
     }
 }
 
-/// Runs what is asked for, or lists it; the status.
+/// Runs what is asked for, or lists it, by the tables of the arguments or else these; the status.
 fn run_options(
     rt: &HostRuntime,
     matches: &ArgMatches<'_>,
     options: Options<'_>,
+    tables: Option<&str>,
 ) -> Result<u8, Failure> {
     if !options.lines.names.is_empty() && matches.contains_id("number") {
         return Err(Failure::Names);
     }
-    let path = matches.get_str("tables");
-    let bytes = tables_of(rt, path)?;
+    let path = matches.get_str("tables").or(tables);
+    let read = read_tables(rt, path, options.wanted.locale.as_str())?;
     let file = TablesFile {
-        path,
-        bytes: &bytes,
+        path: read.path.as_deref(),
+        bytes: &read.bytes,
     };
     match matches.get_str("list") {
         Some(word) => {
@@ -209,6 +194,12 @@ fn variable(rt: &HostRuntime, name: &str) -> Option<String> {
     env::var(rt, name).ok()
 }
 
+/// The tables that the environment names, if it does.
+fn tables_of_environment(rt: &HostRuntime) -> Option<String> {
+    let path = variable(rt, "TALMUIGA_TABLES")?;
+    if path.is_empty() { None } else { Some(path) }
+}
+
 /// Runs what the arguments ask for; the status.
 fn run_asked(rt: &HostRuntime, matches: &ArgMatches<'_>) -> Result<u8, Failure> {
     let all = variable(rt, "LC_ALL");
@@ -225,7 +216,10 @@ fn run_asked(rt: &HostRuntime, matches: &ArgMatches<'_>) -> Result<u8, Failure> 
         environment,
     };
     match parse_options(rt.alloc(), &given) {
-        Ok(options) => run_options(rt, matches, options),
+        Ok(options) => {
+            let tables = tables_of_environment(rt);
+            run_options(rt, matches, options, tables.as_deref())
+        }
         Err(fault) => Err(Failure::Options(fault)),
     }
 }

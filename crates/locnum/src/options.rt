@@ -45,7 +45,7 @@ pub(crate) const OPTIONS: [OptionEntry; 22] = [
         name: "tables",
         letter: Some('t'),
         takes: Takes::Text("FILE"),
-        help: "tables of locales; English without it",
+        help: "tables of locales, or a folder of tables; else English",
     },
     OptionEntry {
         heading: LOCALE,

@@ -1,5 +1,4 @@
 pub mod EntryTexts
-pub mod WholeNumbers
 pub mod Below
 pub mod Entries
 pub mod Between

@@ -1,11 +1,9 @@
 -- The line of a number's plural operands, and of the category that they have.
-use Rattle.std.specs.Prelude.{ℕ, ◌%◌, ◌^◌, nat_le, Bool, List, [], ◌++◌, codes, decimal, if◌then◌else◌}
+use Rattle.std.specs.Prelude.{ℕ, Bool, List, [], ◌++◌, codes, decimal, if◌then◌else◌}
 use Rattle.fixed_decimal.specs.Unsigned.{Unsigned}
 use Rattle.icu_plurals.specs.Operands.{Operands, operands_of}
 use Rattle.icu_plurals.specs.Rules.{Rule, category_of}
 use Rattle.icu_plurals.specs.declared.category.PluralCategory.{PluralCategory}
-use Rattle.locnum_explain.specs.declared.operands.SeenOperands.{SeenOperands}
-use Rattle.locnum_explain.specs.declared.operands.WholeNumber.{WholeNumber}
 use Rattle.icu_plurals.specs.declared.category.PluralCategory.TheVariants.{Zero, One, Two, Few, Many, Other}
 
 -- the name of a category
@@ -34,11 +32,3 @@ operands_and_category o category = codes "  operands   " ++ operands_text o ++ c
 -- the operands of a number as it is written, and their category by plural rules
 unfoldable pub operands_line : List Rule → Unsigned → List ℕ
 operands_line rules d = operands_and_category (operands_of d 0) (category_of rules (operands_of d 0))
-
--- the operands that are kept in fields
-abbrev pub operands_in : SeenOperands → Operands
-operands_in o = record { i = o.whole.lowest; is_large = o.whole.is_large; v = o.v; w = o.w; f = o.f; t = o.t; c = 0 }
-
--- the number's eighteen lowest digits as a number, and whether a digit above these isn't zero
-abbrev pub whole_number : ℕ → WholeNumber
-whole_number n = record { lowest = n % 10 ^ 18; is_large = nat_le (10 ^ 18) n }

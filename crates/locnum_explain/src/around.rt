@@ -5,7 +5,6 @@ ghost use Rattle.fixed_decimal.specs.Size.{place};
 ghost use Rattle.icu_plurals.specs.Operands.{number_of};
 ghost use Rattle.locnum_explain.specs.Around.{around_line, around_text, between_text, digits_below, filled, fixed};
 
-use crate::operands::number;
 use crate::repeating::push_times;
 use fixed_decimal::UnsignedDecimal;
 use itoa::Buffer;
@@ -79,6 +78,20 @@ fn push_between(scale: usize, unit: u64, number: u64, out: &mut Vec<u8>) -> Resu
     out.extend_from_slice(b" (")?;
     push_fixed(scale, unit - rest, out)?;
     out.extend_from_slice(b" above)")
+}
+
+/// The number that at most eighteen digits write.
+fn number(digits: &[u8]) -> u64
+    requires few { length digits.now ≤ 18 }
+    requires below_ten { All (λ d. d < 10) digits.now }
+    ensures number { result ≡ number_of digits.now }
+    ensures small { result < 10 ^ 18 }
+{
+    let mut number = 0;
+    for digit in digits {
+        number = number * 10 + *digit as u64;
+    }
+    number
 }
 
 /// The number of digits before and behind the point, in units of the last of them.

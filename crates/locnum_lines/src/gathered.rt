@@ -4,6 +4,7 @@ use crate::columns::push_columns;
 use crate::names::names_in;
 use crate::note::{push_missing_note, push_note, push_place};
 use crate::settings::{FieldRange, LineSettings, Source, is_chosen};
+use crate::whole::RestGuess;
 use locnum_forms::TextError;
 use std::alloc::{AllocError, Global};
 use std::marker::Model;
@@ -30,12 +31,8 @@ pub(crate) struct Gathered {
     columns: Vec<FieldRange>,
     /// Room for the text of one field, whatever stands in it.
     spare: Vec<u8>,
-    /// How often the rest of a record may still be tried as one number before it is one.
-    tries: u8,
+    guess: RestGuess,
 }
-
-/// How often in turn it may be something else, until what was gathered is written.
-const TRIES: u8 = 8;
 
 impl Model for Gathered {
     ghost use Rattle.std.specs.Prelude.{map};
@@ -91,7 +88,7 @@ impl Gathered {
             names: Vec::new(alloc),
             columns: Vec::new(alloc),
             spare: Vec::new(alloc),
-            tries: TRIES,
+            guess: RestGuess::new(),
         }
     }
 
@@ -99,18 +96,14 @@ impl Gathered {
     pub(crate) fn takes_try(&mut self) -> bool
         ensures { self.new ≡ self.old }
     {
-        if self.tries == 0 {
-            return false;
-        }
-        self.tries -= 1;
-        true
+        self.guess.takes_try()
     }
 
     /// It was one.
     pub(crate) fn renew_tries(&mut self)
         ensures { self.new ≡ self.old }
     {
-        self.tries = TRIES;
+        self.guess = RestGuess::new();
     }
 
     /// Nothing gathered apart, in the room that is spare here.
@@ -145,7 +138,7 @@ impl Gathered {
     {
         self.output.clear();
         self.notes.clear();
-        self.tries = TRIES;
+        self.guess = RestGuess::new();
     }
 
     /// How many bytes were written.

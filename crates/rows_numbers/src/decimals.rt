@@ -31,7 +31,7 @@ fn spelled_number(alloc: Global, number: &UnsignedDecimal) -> Result<String, All
 }
 
 /// A decimal as it is spelled.
-fn spelled(alloc: Global, decimal: &Decimal) -> Result<String, AllocError> {
+pub(crate) fn spelled(alloc: Global, decimal: &Decimal) -> Result<String, AllocError> {
     let mut text = String::new(alloc);
     match decimal.sign {
         Sign::Negative => text.push('-')?,
@@ -52,7 +52,7 @@ fn name_of(error: DecimalError) -> &'static str {
 }
 
 /// The answer of a call that may fail; an error by its name.
-fn told(
+pub(crate) fn told(
     alloc: Global,
     answer: Result<Option<String>, DecimalError>,
 ) -> Result<Option<String>, AllocError> {
@@ -86,7 +86,7 @@ fn made_number(
 }
 
 /// A decimal that was made of another one, or the error and the other one that was handed back.
-fn made_of(
+pub(crate) fn made_of(
     alloc: Global,
     decimal: Result<Decimal, (Decimal, DecimalError)>,
 ) -> Result<Option<String>, DecimalError> {
@@ -101,7 +101,7 @@ fn made_of(
 }
 
 /// The same for numbers.
-fn made_of_number(
+pub(crate) fn made_of_number(
     alloc: Global,
     number: Result<UnsignedDecimal, (UnsignedDecimal, DecimalError)>,
 ) -> Result<Option<String>, DecimalError> {
@@ -156,7 +156,7 @@ fn unsigned_from_u64(alloc: Global, value: &str) -> Result<Option<String>, Alloc
 }
 
 /// Makes a decimal of an argument.
-fn decimal_of(alloc: Global, text: &str) -> Result<Decimal, DecimalError> {
+pub(crate) fn decimal_of(alloc: Global, text: &str) -> Result<Decimal, DecimalError> {
     Decimal::try_from_str(alloc, text)
 }
 
@@ -220,6 +220,24 @@ fn is_zero(alloc: Global, text: &str) -> Result<Option<String>, DecimalError> {
 fn trimmed_end(alloc: Global, text: &str) -> Result<Option<String>, DecimalError> {
     let trimmed = number_of(alloc, text)?.trimmed_end();
     Ok(Some(spelled_number(alloc, &trimmed)?))
+}
+
+fn trimmed_start(alloc: Global, text: &str) -> Result<Option<String>, DecimalError> {
+    let trimmed = number_of(alloc, text)?.trimmed_start();
+    Ok(Some(spelled_number(alloc, &trimmed)?))
+}
+
+fn padded(
+    alloc: Global,
+    text: &str,
+    integer: &str,
+    fraction: &str,
+) -> Result<Option<String>, DecimalError> {
+    let (Ok(integer), Ok(fraction)) = (integer.parse(), fraction.parse()) else {
+        return Ok(None);
+    };
+    let padded = number_of(alloc, text)?.padded(alloc, integer, fraction)?;
+    Ok(Some(spelled_number(alloc, &padded)?))
 }
 
 /// The display of signs of a name.
@@ -332,6 +350,7 @@ fn answer_of_digits(
             "nonzero_magnitude_start" => magnitude(alloc, text),
             "is_zero" => is_zero(alloc, text),
             "trimmed_end" => trimmed_end(alloc, text),
+            "trimmed_start" => trimmed_start(alloc, text),
             _ => Ok(None),
         },
         [text, other] => match call {
@@ -346,6 +365,7 @@ fn answer_of_digits(
         [text, power, exponent] if call == "rounded_significand" => {
             rounded_significand(alloc, text, power, exponent)
         }
+        [text, integer, fraction] if call == "padded" => padded(alloc, text, integer, fraction),
         _ => Ok(None),
     }
 }

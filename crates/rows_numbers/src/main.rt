@@ -1,4 +1,5 @@
-//! Rows of decimals, patterns, providers, plural rules, symbols and tables.
+//! Rows of decimals, patterns, providers, plural rules, symbols, tables, number skeletons and shown
+//! numbers.
 #![tactic(auto)]
 
 mod bytes;
@@ -12,7 +13,10 @@ mod options;
 mod patterns;
 mod plural_rules;
 mod providers;
+mod rounding;
 mod row_texts;
+mod shown_numbers;
+mod skeletons;
 mod symbols;
 mod words;
 
@@ -48,7 +52,7 @@ fn answer_of_base(
     errors::answer(alloc, call, arguments)
 }
 
-/// What a call of symbols, options or tables answers.
+/// What a call of symbols, options, skeletons or tables answers.
 fn answer_of_data(
     alloc: Global,
     documents: &Documents,
@@ -59,6 +63,12 @@ fn answer_of_data(
         return Ok(Some(answer));
     }
     if let Some(answer) = options::answer(alloc, call, arguments)? {
+        return Ok(Some(answer));
+    }
+    if let Some(answer) = skeletons::answer(alloc, call, arguments)? {
+        return Ok(Some(answer));
+    }
+    if let Some(answer) = shown_numbers::answer(alloc, documents, call, arguments)? {
         return Ok(Some(answer));
     }
     compact::answer(alloc, documents, call, arguments)
@@ -76,6 +86,9 @@ impl Calls for Numbers {
             return Ok(Some(answer));
         }
         if let Some(answer) = decimals::answer(alloc, call, arguments)? {
+            return Ok(Some(answer));
+        }
+        if let Some(answer) = rounding::answer(alloc, call, arguments)? {
             return Ok(Some(answer));
         }
         if let Some(answer) = answer_of_base(alloc, documents, call, arguments)? {

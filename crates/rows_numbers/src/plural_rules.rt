@@ -132,6 +132,19 @@ pub(crate) fn operands_of(
     }
 }
 
+/// The operands of a number and an exponent by their letters.
+fn raw(alloc: Global, number: &str, exponent: &str) -> Result<Option<String>, AllocError> {
+    let Some(operands) = operands_of(alloc, number, exponent)? else {
+        return Ok(None);
+    };
+    let raw = operands.raw();
+    let large = if raw.is_large { " large" } else { "" };
+    Ok(Some(format!(in alloc;
+        "i={} v={} w={} f={} t={} c={}{large}",
+        raw.i, raw.v, raw.w, raw.f, raw.t, raw.c
+    )?))
+}
+
 /// The first bad rule, or that there is none.
 fn from_rules(
     alloc: Global,
@@ -238,6 +251,7 @@ pub(crate) fn answer(
 ) -> Result<Option<String>, AllocError> {
     match (call, arguments) {
         ("from_rules", [rules]) => from_rules(alloc, documents, rules),
+        ("raw", [number, exponent]) => raw(alloc, number, exponent),
         ("category_for", [rules, number, exponent]) => {
             category_for(alloc, documents, false, rules, number, exponent)
         }

@@ -1,0 +1,10 @@
+pub mod SignificandSteps
+pub mod Unrounded
+pub mod PlaceLemmas
+pub mod Joined
+pub mod Units
+pub mod ShownSizes
+pub mod NearestShown
+pub mod StepPlaces
+pub mod ShownSteps
+pub mod ShownNumbers

@@ -1,0 +1,6 @@
+pub mod Steps
+pub mod Showable
+pub mod Laws
+pub mod LeastDigits
+pub mod Shown
+pub mod ShownLaws

@@ -1,0 +1,13 @@
+pub mod Bytes
+pub mod Cuts
+pub mod Data
+pub mod Drafts
+pub mod Results
+pub mod Words
+pub mod Stems
+pub mod Numbers
+pub mod Fragments
+pub mod Options
+pub mod Values
+pub mod Tokens
+pub mod Laws
