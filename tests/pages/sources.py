@@ -107,7 +107,7 @@ def is_code(line: str) -> bool:
 def judge_widths() -> None:
     """Lines that are wider than a page."""
     for crate in edits.USES:
-        lines = [(path, line, len(line), 160)
+        lines = [(path, line, len(line.encode()), 160)
                  for path in found(f"crates/{crate}/specs/**/*.antt") + found(f"crates/{crate}/proofs/**/*.antt")
                  for line in read(path).splitlines()]
         lines += [(path, line, len(line), 100) for path in found(f"crates/{crate}/src/**/*.rt") for line in filter(is_code, read(path).splitlines())]

@@ -1,5 +1,6 @@
 -- Digits without the zeros before them, and with zeros before and behind them: sizes, and how many digits they need.
-use Rattle.std.proofs.Common.{◌≡◌, ◌≢◌, ℕ, ◌+◌, ◌-◌, ◌*◌, ◌^◌, ◌<◌, ◌≤◌, inl, inr, List, [], ◌∷◌, ◌++◌, length, take, drop, get_or, min}
+use Rattle.std.proofs.Common.{◌≡◌, ◌≢◌, ℕ, ◌+◌, ◌-◌, ◌*◌, ◌^◌, ◌<◌, ◌≤◌, inl, inr, List, [], ◌∷◌, ◌++◌}
+use Rattle.std.proofs.Common.{length, take, drop, get_or, min}
 use Rattle.std.proofs.Common.{replicate, length-append, zero-add, mul_assoc, refl, sym, ◌∙◌, ap, arith, ℤ, pos, ◌-ℤ◌}
 use Rattle.std.specs.Int.{int_max}
 use Rattle.std.proofs.lemmas.Int.{ints, clamps}
@@ -80,7 +81,8 @@ module _ (ds : List ℕ) (s : ℕ) (some : 0 < length ds) (fine : s ≤ finest) 
       ap (weighed e) split ∙ omega (arith, joined, up, one)
 
   -- fewer digits below power 0 do not write it, where the last one isn't 0
-  pub not_fewer : (n : ℕ) → get_or ds (length ds - 1) 0 ≢ 0 → get_or ds (length ds - 1) 0 < 10 → n < s → ¬ (IsWrittenWith (weighed (finest - s) ds) n)
+  pub not_fewer : (n : ℕ) → get_or ds (length ds - 1) 0 ≢ 0 → get_or ds (length ds - 1) 0 < 10 → n < s →
+      ¬ (IsWrittenWith (weighed (finest - s) ds) n)
   not_fewer n other below h (k, e) =
       let u = 10 ^ (finest - s) in
       let q = weighed 0 (take (length ds - 1) ds) in
@@ -98,8 +100,8 @@ module _ (ds : List ℕ) (s : ℕ) (some : 0 < length ds) (fine : s ≤ finest) 
       cancel a b u positive e = grind arith
 
 -- The trimmed digits ds, of which the last s stand below power 0, get zeros before and behind them.
-module _ (ds : List ℕ) (s integer fraction f b : ℕ) (is : IsUnsigned (record { digits = ds; scale = s })) (small : integer ≤ 32768) (small' : fraction ≤ 32768)
-    (before : f ≡ integer - (length ds - s)) (behind : b ≡ fraction - s)
+module _ (ds : List ℕ) (s integer fraction f b : ℕ) (is : IsUnsigned (record { digits = ds; scale = s })) (small : integer ≤ 32768)
+    (small' : fraction ≤ 32768) (before : f ≡ integer - (length ds - s)) (behind : b ≡ fraction - s)
   where
     len : length (replicate f 0 ++ (ds ++ replicate b 0)) ≡ f + (length ds + b)
     len = omega (

@@ -5,7 +5,8 @@
 -- power depends on the magnitude of the result: the digits before the point bound it (`rounded_within`), and after a carry
 -- it reaches the first of them (`rounded_carry`). A power is taken as zeros_at less scale_at, of which one is 0 (`power_is`,
 -- `one_is_none`), so that `omega` needs no case for its sign; `finest` stays folded, with `finest_large` for its bound.
-use Rattle.std.proofs.Common.{◌≡◌, ◌≢◌, ℕ, suc, zero, ◌+◌, ◌-◌, ◌*◌, ◌^◌, ◌<◌, ◌≤◌, ◌⊎◌, inl, inr, List, [], ◌∷◌}
+use Rattle.std.proofs.Common.{◌≡◌, ◌≢◌, ℕ, suc, zero, ◌+◌, ◌-◌, ◌*◌, ◌^◌, ◌<◌, ◌≤◌, ◌⊎◌, inl, inr, List, []}
+use Rattle.std.proofs.Common.{◌∷◌}
 use Rattle.std.proofs.Common.{◌++◌, length, take, drop, get_or, replicate, length-append, refl, ◌∙◌, ap, arith, ℤ, pos, negsuc, ◌-ℤ◌}
 use Rattle.std.proofs.Common.{◌≤ℤ◌}
 use Rattle.std.specs.Int.{int_min, int_max}
@@ -96,8 +97,8 @@ past_half_even d p (z, t, past) = (z, nearest-half_even (ten_to p) (size d) z (t
 pub not_past : (d y : Unsigned) (p : ℤ) → IsUnsigned y → IsRoundedSize HalfEven (ten_to p) d p y → ¬ (RoundsPastLimits d p)
 not_past d y p is r past = not_past_by HalfEven (ten_to p) d y p is r (past_half_even d p past)
 
-module _ (mode : UnsignedRoundingMode) (ds : List ℕ) (s : ℕ) (p : ℤ) (is : IsUnsigned (record { digits = ds; scale = s })) (in_range : negsuc 32767 ≤ℤ p)
-    (below : p ≤ℤ pos 32767) where
+module _ (mode : UnsignedRoundingMode) (ds : List ℕ) (s : ℕ) (p : ℤ) (is : IsUnsigned (record { digits = ds; scale = s }))
+    (in_range : negsuc 32767 ≤ℤ p) (below : p ≤ℤ pos 32767) where
   -- a decimal that is rounded has no more digits below power 0 than a decimal may
   pub scale_small : scale_at p ≤ 32768
   scale_small = omega (arith, ints, power_is p, one_is_none p)

@@ -1,5 +1,6 @@
 -- What a head of digits, a tail (the digits behind it that decide whether a number is a multiple of an increment) and zeros weigh.
-use Rattle.std.proofs.Common.{◌≡◌, ◌≢◌, ℕ, ◌+◌, ◌*◌, ◌/◌, ◌%◌, ◌^◌, ◌<◌, ◌≤◌, inl, inr, List, [], ◌∷◌, ◌++◌}
+use Rattle.std.proofs.Common.{◌≡◌, ◌≢◌, ℕ, ◌+◌, ◌*◌, ◌/◌, ◌%◌, ◌^◌, ◌<◌, ◌≤◌, inl, inr, List, [], ◌∷◌}
+use Rattle.std.proofs.Common.{◌++◌}
 use Rattle.std.proofs.Common.{length, take, get_or, replicate, refl, sym, ◌∙◌, ap, arith, zero-add, add-zero}
 use Rattle.std.proofs.lemmas.Bool.{cases_lt}
 use Rattle.std.proofs.lemmas.List.{length-replicate, take_more, take_all, get_or_past}
@@ -16,7 +17,8 @@ use Rattle.fixed_decimal.proofs.Halves.{last_digit}
 use Rattle.fixed_decimal.proofs.Steps.{next_step}
 
 -- two digits more
-two_more : (ds : List ℕ) (head : ℕ) → head + 2 ≤ length ds → take (head + 2) ds ≡ (take head ds ++ get_or ds head 0 ∷ []) ++ get_or ds (head + 1) 0 ∷ []
+two_more : (ds : List ℕ) (head : ℕ) → head + 2 ≤ length ds →
+    take (head + 2) ds ≡ (take head ds ++ get_or ds head 0 ∷ []) ++ get_or ds (head + 1) 0 ∷ []
 two_more ds head h =
     ap (λ k. take k ds) (omega arith) ∙ take_more ds (head + 1) 0 (omega arith)
     ∙ ap (λ xs. xs ++ get_or ds (head + 1) 0 ∷ []) (take_more ds head 0 (omega arith))

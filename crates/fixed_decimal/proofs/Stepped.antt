@@ -4,8 +4,10 @@
 -- one, then those of a tail, then zeros are the result (`steps_same`, `steps_longer`), so where the head stays and where it is
 -- raised (`steps_kept`, `steps_raised`). Two ways stand beside: a number without digits behind the head (`steps_exact`), and one
 -- that is less than half a unit (`steps_nothing`, `steps_little`).
-use Rattle.std.proofs.Common.{◌≡◌, ◌≢◌, ℕ, suc, ◌+◌, ◌-◌, ◌*◌, ◌/◌, ◌%◌, ◌^◌, ◌<◌, ◌≤◌, inl, inr, List, [], ◌++◌}
-use Rattle.std.proofs.Common.{length, take, drop, replicate, length-append, refl, sym, ◌∙◌, ap, arith, zero-add, add-zero, ℤ, pos, negsuc, ◌-ℤ◌, ◌≤ℤ◌}
+use Rattle.std.proofs.Common.{◌≡◌, ◌≢◌, ℕ, suc, ◌+◌, ◌-◌, ◌*◌, ◌/◌, ◌%◌, ◌^◌, ◌<◌, ◌≤◌, inl, inr, List, []}
+use Rattle.std.proofs.Common.{◌++◌}
+use Rattle.std.proofs.Common.{length, take, drop, replicate, length-append, refl, sym, ◌∙◌, ap, arith, zero-add, add-zero, ℤ, pos, negsuc}
+use Rattle.std.proofs.Common.{◌-ℤ◌, ◌≤ℤ◌}
 use Rattle.std.specs.Int.{int_max}
 use Rattle.std.proofs.Math.Nat.{mul-le-mul_left}
 use Rattle.std.proofs.lemmas.Nat.{pow-add}
@@ -73,14 +75,16 @@ module _ (increment : RoundingIncrement) (ds : List ℕ) (s c n s' e : ℕ) (len
           omega arith in
           same ∙ ap (λ x. step_of increment * x) (sym tail_split.1)
 
-      over_same : (o : ℕ) → (o * 10 ^ length behind + weighed 0 behind) * 10 ^ (e - length behind) ≡ o * 10 ^ e + weighed 0 behind * 10 ^ (e - length behind)
+      over_same : (o : ℕ) →
+          (o * 10 ^ length behind + weighed 0 behind) * 10 ^ (e - length behind) ≡ o * 10 ^ e + weighed 0 behind * 10 ^ (e - length behind)
       over_same o =
           let f = 10 ^ (e - length behind) in
           let same : (o * 10 ^ length behind + weighed 0 behind) * f ≡ o * (10 ^ length behind * f) + weighed 0 behind * f = omega arith in
           same ∙ ap (λ x. o * x + weighed 0 behind * f) (sym tail_split.1)
 
       -- the head with what becomes of the tail is taken of the number
-      pub stepped : (t : ℕ) → IsTailTaken mode increment (weighed 0 (take head ds)) (tail_of increment ds head) (10 ^ length behind) (weighed 0 behind) t →
+      pub stepped : (t : ℕ) →
+          IsTailTaken mode increment (weighed 0 (take head ds)) (tail_of increment ds head) (10 ^ length behind) (weighed 0 behind) t →
           IsTaken (IsMultiple (step_of increment * 10 ^ e)) mode (step_of increment * 10 ^ e) (weighed (finest - s) ds)
           ((weighed 0 (take head ds) * 10 ^ tail_count increment + t) * 10 ^ e)
       stepped t (inl (decided, is)) =
@@ -226,8 +230,9 @@ module _ (mode : UnsignedRoundingMode) (increment : RoundingIncrement) (ds : Lis
         (omega (arith, length-take-le head ds (omega arith)))
 
     -- else the next head is written, which has one digit more after nothing but nines
-    pub steps_raised : 10 ^ tail_count increment ≤ t → (left : ℕ) → take head ds ≡ take left ds ++ replicate (head - left) 9 → (hs : List ℕ) (k : ℕ) →
-        AreDigits hs → weighed k hs ≡ weighed 0 (take head ds) + 1 → (0 < left → length hs + k ≡ head) → (left ≡ 0 → length hs + k ≡ head + 1) →
+    pub steps_raised : 10 ^ tail_count increment ≤ t → (left : ℕ) → take head ds ≡ take left ds ++ replicate (head - left) 9 →
+        (hs : List ℕ) (k : ℕ) → AreDigits hs → weighed k hs ≡ weighed 0 (take head ds) + 1 →
+        (0 < left → length hs + k ≡ head) → (left ≡ 0 → length hs + k ≡ head + 1) →
         (left ≡ 0 → length ds - s < 32768) → GivesBy (((hs ++ replicate k 0) ++ tail_digits increment 0) ++ replicate (zeros_at p) 0)
     steps_raised more left nines hs k digits one_more as_long longer room =
         let carry = carry_is more in
@@ -242,7 +247,8 @@ module _ (mode : UnsignedRoundingMode) (increment : RoundingIncrement) (ds : Lis
         ]
 
   -- a number without digits behind the head
-  pub steps_exact : (kept : ℕ) → pos kept ≡ pos (length ds - s) -ℤ p → length ds + tail_count increment ≤ kept → GivesBy (ds ++ replicate (kept - length ds) 0)
+  pub steps_exact : (kept : ℕ) → pos kept ≡ pos (length ds - s) -ℤ p → length ds + tail_count increment ≤ kept →
+      GivesBy (ds ++ replicate (kept - length ds) 0)
   steps_exact kept counted all =
       let (valid, r) = rounded_exact mode ds s p is in_range below kept counted (omega arith) in
       let keep = keep_is mode ds s p is in_range below kept counted in
@@ -295,7 +301,8 @@ module _ (mode : UnsignedRoundingMode) (increment : RoundingIncrement) (ds : Lis
         omega (arith, mul-le-mul_left (10 ^ (finest - s)) small, ten_pos (finest - s))
 
     -- the result is zero
-    pub steps_nothing : (m : ℕ) → pos m ≡ int_max (pos (length ds - s)) p → ((unit : ℕ) → 2 * weighed 0 ds < unit → RoundsDownBy mode unit 0 (weighed 0 ds)) →
+    pub steps_nothing : (m : ℕ) → pos m ≡ int_max (pos (length ds - s)) p →
+        ((unit : ℕ) → 2 * weighed 0 ds < unit → RoundsDownBy mode unit 0 (weighed 0 ds)) →
         GivesBy (replicate m 0)
     steps_nothing m most decided =
         let u = step_of increment * 10 ^ (zeros_at p + s) in

@@ -1,5 +1,6 @@
 -- What stands behind the last whole step of an increment, and how it compares with half a step.
-use Rattle.std.proofs.Common.{◌≡◌, ◌≢◌, ◌⊎◌, inl, inr, nat_eq, refl, ℕ, suc, ◌+◌, ◌*◌, ◌^◌, ◌<◌, ◌≤◌, ◌/◌, ◌%◌, List, length, drop, arith}
+use Rattle.std.proofs.Common.{◌≡◌, ◌≢◌, ◌⊎◌, inl, inr, nat_eq, refl, ℕ, suc, ◌+◌, ◌*◌, ◌^◌, ◌<◌, ◌≤◌, ◌/◌}
+use Rattle.std.proofs.Common.{◌%◌, List, length, drop, arith}
 use Rattle.std.proofs.Common.{ap, ◌∙◌, zero-add, true, false, not, Bool, MatchBool}
 use Rattle.std.proofs.Math.Nat.{mul-le-mul_left}
 use Rattle.std.proofs.Common.{Ordering, Less, Equal, Greater}
@@ -53,7 +54,8 @@ rest_none k ds e all =
     omega arith
 
 -- of an odd step the digits behind the middle decide
-pub middle : (o : Ordering) (step over base rest : ℕ) → 2 * over + 1 ≡ step → MatchOrdering o (2 * rest < base) (2 * rest ≡ base) (base < 2 * rest) →
+pub middle : (o : Ordering) (step over base rest : ℕ) → 2 * over + 1 ≡ step →
+    MatchOrdering o (2 * rest < base) (2 * rest ≡ base) (base < 2 * rest) →
     MatchOrdering o (2 * (over * base + rest) < step * base) (2 * (over * base + rest) ≡ step * base) (step * base < 2 * (over * base + rest))
 middle Less step over base rest e h = rw (← e) (omega arith)
 middle Equal step over base rest e h = rw (← e) (omega arith)

@@ -1,5 +1,6 @@
 -- Increments: units of 1, 2, 5 or 25 times a power of ten (ICU4X `RoundingIncrement`).
-use Rattle.std.specs.Prelude.{◌≡◌, ℕ, ◌+◌, ◌*◌, ◌/◌, ◌%◌, ◌^◌, ◌⊎◌, List, [], ◌∷◌, ◌++◌, replicate, slice_index, Option, ℤ}
+use Rattle.std.specs.Prelude.{◌≡◌, ℕ, ◌+◌, ◌*◌, ◌/◌, ◌%◌, ◌^◌, ◌⊎◌, List, [], ◌∷◌, ◌++◌, replicate, slice_index}
+use Rattle.std.specs.Prelude.{Option, ℤ}
 use Rattle.fixed_decimal.specs.declared.modes.UnsignedRoundingMode.{UnsignedRoundingMode}
 use Rattle.fixed_decimal.specs.declared.increments.RoundingIncrement.{RoundingIncrement}
 use Rattle.fixed_decimal.specs.declared.increments.RoundingIncrement.TheVariants.{MultiplesOf1, MultiplesOf2, MultiplesOf5, MultiplesOf25}
@@ -39,7 +40,7 @@ tail_digits MultiplesOf2 tail = tail ∷ []
 tail_digits MultiplesOf5 tail = tail ∷ []
 tail_digits MultiplesOf25 tail = tail / 10 ∷ tail % 10 ∷ []
 
--- how many steps a head and a tail of so many steps make
+-- how many steps a head and a tail of that many steps make
 abbrev pub steps_of : RoundingIncrement → ℕ → ℕ → ℕ
 steps_of increment head steps = head * (10 ^ tail_count increment / step_of increment) + steps
 

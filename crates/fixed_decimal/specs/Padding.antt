@@ -3,6 +3,6 @@ use Rattle.std.specs.Prelude.{ℕ, ◌-◌, ◌^◌}
 use Rattle.fixed_decimal.specs.Size.{finest}
 use Rattle.fixed_decimal.specs.Nearest.{IsMultiple}
 
--- so many digits below power 0 write the size exactly
+-- that many digits below power 0 write the size exactly
 abbrev pub IsWrittenWith : ℕ → ℕ → Type 0
 IsWrittenWith x n = IsMultiple (10 ^ (finest - n)) x

@@ -36,7 +36,7 @@ times_down (negsuc n) e x y same times =
     let n_is : e ≡ n + 1 = omega (arith, ints) in
     rw n_is (omega (arith, times))
 
--- so many digits below power 0, or one more
+-- that many digits below power 0, or one more
 written_more : (x n : ℕ) → (finest ≤ n) → IsWrittenWith x n
 written_more x n h = let none : finest - n ≡ 0 = omega arith in (x, let one : 10 ^ (finest - n) ≡ 1 = ap (λ p. 10 ^ p) none in rw one (omega arith))
 
@@ -71,7 +71,7 @@ module _ (t : Unsigned) (e : ℕ) (is : IsUnsigned t) (trimmed : IsTrimmed t) (s
   below_alone k same (inl h) = absurd (omega (arith, ints, is.high_limit, is.integer_some))
   below_alone k same (inr h) = omega (arith, ints)
 
-  -- the size is ten to the exponent times a size that so many digits don't write
+  -- the size is ten to the exponent times a size that that many digits don't write
   pub too_many_below : (k : ℤ) → k ≡ pos 0 -ℤ pos e → MovesPastLimits t k →
       (s : ℕ) × (s * 10 ^ e ≡ size t) × ((n : ℕ) → IsWrittenWith s n → 32768 < n)
   too_many_below k same past =

@@ -8,7 +8,7 @@ use Rattle.skeleton_settings.specs.declared.settings.Priority.{Priority}
 use Rattle.skeleton_settings.specs.declared.settings.Priority.TheVariants.{Relaxed, Strict}
 use Rattle.number_rounding.specs.Steps.{fraction_place, significant_place}
 
--- how many of so many significant digits, the first of which stands at place k, stand below power 0
+-- how many of that many significant digits, the first of which stands at place k, stand below power 0
 abbrev pub significant_below : ℕ → ℕ → ℕ
 significant_below few k = (few + finest) - (k + 1)
 

@@ -11,12 +11,12 @@ use Rattle.skeleton_settings.specs.declared.settings.Precision.TheVariants.{Frac
 use Rattle.skeleton_settings.specs.declared.settings.Priority.{Priority}
 use Rattle.skeleton_settings.specs.declared.settings.Priority.TheVariants.{Relaxed, Strict}
 
--- the place of the last of so many digits below power 0; without a greatest count the place of the unit of sizes
+-- the place of the last of that many digits below power 0; without a greatest count the place of the unit of sizes
 abbrev pub fraction_place : Option ℕ → ℕ
 fraction_place None = 0
 fraction_place (Some most) = finest - most
 
--- the place of the last of so many significant digits, the first of which stands at place k
+-- the place of the last of that many significant digits, the first of which stands at place k
 abbrev pub significant_place : Option ℕ → ℕ → ℕ
 significant_place None k = 0
 significant_place (Some most) k = k - (most - 1)

@@ -26,7 +26,7 @@ pub(crate) fn place_of(power: i16) -> u32
     (power as i32 + FINEST as i32) as u32
 }
 
-/// The place of the last of so many digits below power 0, or the least place of all.
+/// The place of the last of that many digits below power 0, or the least place of all.
 pub(crate) fn fraction_place(most: Option<u16>) -> u32
     ensures { result ≡ fraction_place most }
 {
@@ -36,7 +36,7 @@ pub(crate) fn fraction_place(most: Option<u16>) -> u32
     }
 }
 
-/// The place of the last of so many significant digits, the first of which stands at `k`.
+/// The place of the last of that many significant digits, the first of which stands at `k`.
 pub(crate) fn significant_place(most: u16, k: u32) -> u32
     ensures { result ≡ significant_place (Some most) k }
 {

@@ -31,7 +31,7 @@ fn over_ten_to(value: UnsignedDecimal, exponent: u8) -> Result<UnsignedDecimal, 
     }
 }
 
-/// How many of so many significant digits, the first of which stands at `k`, stand below power 0.
+/// How many of that many significant digits, the first of which stands at `k`, stand below power 0.
 fn significant_below(few: u16, k: u32) -> usize
     requires { k ≤ finest + 32767 }
     ensures { result ≡ significant_below few k }

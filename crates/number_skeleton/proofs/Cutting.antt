@@ -25,7 +25,7 @@ blank_len-le (a ∷ []) = grind (arith, nat_tests)
 blank_len-le (a ∷ b ∷ []) = grind (arith, nat_tests)
 blank_len-le (a ∷ b ∷ c ∷ bs) = grind (arith, nat_tests)
 
--- behind a blank of so many bytes stand the same tokens
+-- behind a blank of that many bytes stand the same tokens
 behind_bytes : (at n b : ℕ) (bs : List ℕ) → blank_len (b ∷ bs) ≡ n → 0 < n → tokens_from at 0 (b ∷ bs) ≡ tokens_from (at + n) 0 (drop n (b
     ∷ bs))
 unfolding tokens_from
@@ -53,7 +53,7 @@ unfolding token_len
 token_len-stop [] h = refl
 token_len-stop (b ∷ bs) h = rw (positive (blank_len (b ∷ bs)) h) refl
 
--- a token of so many bytes, and what stands behind it
+-- a token of that many bytes, and what stands behind it
 token_bytes : (at n b : ℕ) (bs : List ℕ) → blank_len (b ∷ bs) ≡ 0 → token_len (b ∷ bs) ≡ n →
     tokens_from at 0 (b ∷ bs) ≡ (at, take n (b ∷ bs)) ∷ tokens_from (at + n) 0 (drop n (b ∷ bs))
 unfolding tokens_from

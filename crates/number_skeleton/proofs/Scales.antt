@@ -35,7 +35,7 @@ not_past n h = grind (arith, nat_tests)
 not_less : (n : ℕ) → nat_lt n n ≡ false
 not_less n = grind (arith, nat_tests)
 
--- so many zeros behind a wild byte
+-- that many zeros behind a wild byte
 wild_zeros : (n : ℕ) → suc n ≤ 999 → integer_digits_of (42 ∷ repeated (suc n) 48) ≡ Ok (suc n)
 unfolding integer_digits_of run_len
 wild_zeros n h =

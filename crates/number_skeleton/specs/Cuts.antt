@@ -19,7 +19,7 @@ unfoldable pub token_len : List ℕ → ℕ
 token_len [] = 0
 token_len (b ∷ bs) = if nat_lt 0 (blank_len (b ∷ bs)) then 0 else 1 + token_len bs
 
--- The runs without a blank, each with its byte; so many bytes are passed over first, which belong to what was found.
+-- The runs without a blank, each with its byte; that many bytes are passed over first, which belong to what was found.
 unfoldable pub tokens_from : ℕ → ℕ → List ℕ → List (ℕ × List ℕ)
 tokens_from at skip [] = []
 tokens_from at (suc skip) (b ∷ bs) = tokens_from (at + 1) skip bs

@@ -92,7 +92,7 @@ unit_of word =
 unfoldable pub system_of : List ℕ → Result (List ℕ) FaultKind
 system_of word = if nat_le 3 (length word) && nat_le (length word) 8 && list_all is_lower word then Ok word else Err BadOption
 
--- a wild byte and so many zeros; other widths cut digits off, or have none
+-- a wild byte and that many zeros; other widths cut digits off, or have none
 unfoldable pub integer_digits_of : List ℕ → Result ℕ FaultKind
 integer_digits_of word =
     let zeros = drop 1 word in

@@ -13,7 +13,7 @@ use Rattle.number_skeleton.specs.Bytes.{is_wild, run_len}
 use Rattle.number_skeleton.specs.Results.{◌>>=◌}
 use Rattle.number_skeleton.specs.Words.{sign_named, grouping_named, mode_named, width_named, precision_named, concise_stem, plain_stem, option_stem}
 
--- so many digits, so many `#` behind them, and then the end; or digits, a wild byte, and then the end
+-- that many digits, that many `#` behind them, and then the end; or digits, a wild byte, and then the end
 abbrev pub counts_end : ℕ → ℕ → List ℕ → Result Counts FaultKind
 counts_end digits hashes end =
     if length end == 0 then Ok (record { least = digits; most = Some (digits + hashes) })

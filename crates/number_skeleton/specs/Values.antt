@@ -51,13 +51,13 @@ unlimited = precision.Fraction 0 None
 abbrev pub both : Limits → Beside → Precision
 both limits beside = precision.Both limits.least limits.most beside.few beside.many beside.priority beside.keeps_least
 
--- so many significant digits
+-- that many significant digits
 abbrev pub beside_counts : ℕ → ℕ → Priority → Bool → Result Beside FaultKind
 beside_counts few many priority keeps_least =
     if nat_lt 999 many then Err TooManyDigits
     else Ok (record { few = few; many = many; priority = priority; keeps_least = keeps_least })
 
--- what stands behind so many `@` and so many `#`: nothing, a wild byte, `r` or `s`
+-- what stands behind that many `@` and that many `#`: nothing, a wild byte, `r` or `s`
 abbrev pub beside_end : ℕ → ℕ → List ℕ → Result Beside FaultKind
 beside_end few hashes end =
     if few == 0 then Err BadOption

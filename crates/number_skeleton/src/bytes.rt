@@ -4,7 +4,7 @@ ghost use Rattle.std.specs.Prelude.{◌≡◌, ◌≤◌, length, take, drop, ge
 ghost use Rattle.std.specs.List.{prefix_len, list_all};
 ghost use Rattle.number_skeleton.specs.Bytes.{is_byte, is_wild, is_digit, is_lower, is_inner, run_len, piece_len};
 
-/// The first bytes of a word, at most so many.
+/// The first bytes of a word, at most that many.
 pub(crate) fn front(word: &[u8], count: usize) -> &[u8]
     ensures { result.now ≡ take count word.now }
 {

@@ -47,6 +47,10 @@ fn precision_place(at: usize, draft: Draft<'_>, precision_at: usize) -> usize
 /// The first fault, with its byte. In a token the stem comes before its options, and a stem that
 /// isn't read before one that is set already, and that before a count that is past 999. An increment
 /// that doesn't go with compact notation is reported after all else.
+// promise: A text sets what its tokens set, each setting once.
+// mutations: second_setting_wins, blank_is_ascii_alone
+// promise: Any other text has its first fault, with its byte.
+// mutations: fault_of_an_option_reported_at_its_stem
 pub fn read_skeleton(text: &str) -> Result<Skeleton<'_>, SkeletonFault>
     ensures { read result ≡ skeleton_of text.now }
 {

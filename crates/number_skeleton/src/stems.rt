@@ -17,9 +17,9 @@ use skeleton_settings::{Grouping, Notation, UnitWidth};
 /// How many digits are written.
 #[derive(Clone, Copy)]
 pub(crate) struct Counts {
-    /// So many at least.
+    /// That many at least.
     pub(crate) least: usize,
-    /// So many at most, if there is such a count.
+    /// That many at most, if there is such a count.
     pub(crate) most: Option<usize>,
 }
 

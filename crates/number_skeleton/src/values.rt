@@ -22,18 +22,18 @@ use skeleton_settings::{NumberUnit, Precision, Priority};
 /// Counts of digits, each at most 999.
 #[derive(Clone, Copy)]
 struct Limits {
-    /// So many at least.
+    /// That many at least.
     least: u16,
-    /// So many at most, if there is such a count.
+    /// That many at most, if there is such a count.
     most: Option<u16>,
 }
 
 /// Significant digits beside fraction digits.
 #[derive(Clone, Copy)]
 struct Beside {
-    /// So many at least.
+    /// That many at least.
     few: u16,
-    /// So many at most.
+    /// That many at most.
     many: u16,
     priority: Priority,
     keeps_least: bool,
@@ -116,7 +116,7 @@ fn unlimited() -> Precision
     }
 }
 
-/// So many significant digits.
+/// That many significant digits.
 fn beside_counts(
     few: usize,
     many: usize,
@@ -137,7 +137,7 @@ fn beside_counts(
     })
 }
 
-/// The significant digits of so many `@`, so many `#` and what stands behind both.
+/// The significant digits of that many `@`, that many `#` and what stands behind both.
 fn beside_end(few: usize, hashes: usize, end: &[u8]) -> Result<Beside, FaultKind>
     requires { few + hashes < 2 ^ 63 }
     ensures { result ≡ beside_end few hashes end.now }

@@ -26,7 +26,7 @@ use Rattle.skeleton_settings.specs.declared.settings.UnitWidth.{UnitWidth}
 use Rattle.skeleton_settings.specs.declared.settings.UnitWidth.TheVariants as width
 use Rattle.skeleton_settings.specs.Settings.{SkeletonData, UnitData, nothing, percent, permille, currency, named, name_data}
 
--- so many equal bytes
+-- that many equal bytes
 unfoldable pub repeated : ℕ → ℕ → List ℕ
 repeated zero b = []
 repeated (suc n) b = b ∷ repeated n b
@@ -62,7 +62,7 @@ unit_text permille = Some (codes "permille")
 unit_text (currency c) = Some (currency_text c)
 unit_text (named name) = Some (codes "unit/" ++ name)
 
--- so many equal bytes, and so many others
+-- that many equal bytes, and that many others
 abbrev pub counts_text : ℕ → ℕ → ℕ → ℕ → List ℕ
 counts_text digit least other more = repeated least digit ++ repeated more other
 
@@ -101,12 +101,12 @@ increment_len increment.MultiplesOf2 = 1
 increment_len increment.MultiplesOf5 = 1
 increment_len increment.MultiplesOf25 = 2
 
--- the point and so many zeros, if there are any
+-- the point and that many zeros, if there are any
 abbrev pub point_zeros : ℕ → List ℕ
 point_zeros zero = []
 point_zeros (suc n) = codes "." ++ repeated (suc n) 48
 
--- the number up to the last digit of an increment, which stands so many places behind the point
+-- the number up to the last digit of an increment, which stands that many places behind the point
 abbrev pub behind_zeros : RoundingIncrement → ℕ → List ℕ
 behind_zeros increment below = codes "0." ++ (repeated (below - increment_len increment) 48 ++ increment_digits increment)
 
@@ -117,7 +117,7 @@ behind_point increment.MultiplesOf5 below = behind_zeros increment.MultiplesOf5 
 behind_point increment.MultiplesOf25 (suc zero) = codes "2.5"
 behind_point increment.MultiplesOf25 below = behind_zeros increment.MultiplesOf25 below
 
--- An increment times ten to a power, with so many fraction digits. The power is `above`, or where this is 0 `below` less than 0.
+-- An increment times ten to a power, with that many fraction digits. The power is `above`, or where this is 0 `below` less than 0.
 abbrev pub number_text : RoundingIncrement → ℕ → ℕ → ℕ → List ℕ
 number_text increment above zero least = increment_digits increment ++ (repeated above 48 ++ point_zeros least)
 number_text increment above (suc below) least = behind_point increment (suc below) ++ repeated (least - suc below) 48

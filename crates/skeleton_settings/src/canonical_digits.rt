@@ -33,7 +33,7 @@ pub(crate) fn push_token(out: &mut String, token: &str) -> Result<(), AllocError
     out.push_str(token)
 }
 
-/// So many equal characters of ASCII.
+/// That many equal characters of ASCII.
 #[tactic(auto, using(crate::proofs::Spaced::repeated_none, crate::proofs::Spaced::repeated_more))]
 pub(crate) fn push_repeated(out: &mut String, count: u16, character: char) -> Result<(), AllocError>
     requires { character < 128 }
@@ -46,7 +46,7 @@ pub(crate) fn push_repeated(out: &mut String, count: u16, character: char) -> Re
     Ok(())
 }
 
-/// So many equal characters of ASCII, and so many others.
+/// That many equal characters of ASCII, and that many others.
 fn push_counts(
     out: &mut String,
     digit: char,
@@ -148,7 +148,7 @@ fn increment_len(increment: RoundingIncrement) -> u16
     }
 }
 
-/// The point and so many zeros, if there are any.
+/// The point and that many zeros, if there are any.
 fn push_point_zeros(out: &mut String, count: u16) -> Result<(), AllocError>
     ensures { IfOk result (λ _.
         string_bytes out.new ≡ string_bytes out.old ++ point_zeros count) }
@@ -160,7 +160,7 @@ fn push_point_zeros(out: &mut String, count: u16) -> Result<(), AllocError>
     push_repeated(out, count, '0')
 }
 
-/// A number up to the last digit of an increment, which stands so many places behind the point.
+/// A number up to the last digit of an increment, which stands that many places behind the point.
 fn push_behind_point(
     out: &mut String,
     increment: RoundingIncrement,

@@ -70,16 +70,16 @@ pub enum Precision {
     /// Fraction digits: `.00##`, `.00*`, `precision-integer`. `precision-unlimited` has no least and
     /// no greatest count.
     Fraction {
-        /// So many at least.
+        /// That many at least.
         least: u16,
-        /// So many at most, if there is such a count.
+        /// That many at most, if there is such a count.
         most: Option<u16>,
     },
     /// Significant digits: `@@##`, `@@*`.
     Significant {
-        /// So many at least.
+        /// That many at least.
         least: u16,
-        /// So many at most, if there is such a count.
+        /// That many at most, if there is such a count.
         most: Option<u16>,
     },
     /// Multiples of an increment times ten to the power: `precision-increment/0.05`.
@@ -88,18 +88,18 @@ pub enum Precision {
         increment: RoundingIncrement,
         /// The power of ten of the last digit of the increment.
         power: i16,
-        /// So many fraction digits at least.
+        /// That many fraction digits at least.
         least: u16,
     },
     /// Fraction digits beside significant ones: `.00##/@@*`, `.00##/@@#r`.
     Both {
-        /// So many fraction digits at least.
+        /// That many fraction digits at least.
         least: u16,
-        /// So many fraction digits at most, if there is such a count.
+        /// That many fraction digits at most, if there is such a count.
         most: Option<u16>,
-        /// So many significant digits at least.
+        /// That many significant digits at least.
         few: u16,
-        /// So many significant digits at most.
+        /// That many significant digits at most.
         many: u16,
         /// Which of the two counts decides.
         priority: Priority,

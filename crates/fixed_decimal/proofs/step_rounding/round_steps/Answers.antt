@@ -71,7 +71,11 @@ returns-clause-valid c =
     let n = simp to_z-of_z at c.zeros_below-zeros.ensures in
     let counted : pos (head + tail_count c.args.increment) ≡ pos (length ds - c.args.scale) -ℤ c.args.power = omega (arith, ints, c.in-Some.ensures.some) in
     let room : left ≡ 0 → length ds - c.args.scale < 32768 = λ e. elim c.else-left-eq0.branch [
-      | else-left-eq0-via-then-left-eq0+else-integer_count-eq-MAX_DIGITS w ↦ omega (arith, w.if-integer_count-eq-MAX_DIGITS.false, c.requires.valid.high_limit)
+      | else-left-eq0-via-then-left-eq0+else-integer_count-eq-MAX_DIGITS w ↦ omega (
+        arith,
+        w.if-integer_count-eq-MAX_DIGITS.false,
+        c.requires.valid.high_limit,
+      )
       | else-left-eq0-via-else-left-eq0 w ↦ absurd (omega (arith, w.if-left-eq0.false))
     ] in
     rw n (steps_raised c.args.mode c.args.increment ds c.args.scale c.args.power c.requires.valid (omega (arith, ints)) (omega (arith, ints))
@@ -88,7 +92,11 @@ returns-clause-rounded c =
     let n = simp to_z-of_z at c.zeros_below-zeros.ensures in
     let counted : pos (head + tail_count c.args.increment) ≡ pos (length ds - c.args.scale) -ℤ c.args.power = omega (arith, ints, c.in-Some.ensures.some) in
     let room : left ≡ 0 → length ds - c.args.scale < 32768 = λ e. elim c.else-left-eq0.branch [
-      | else-left-eq0-via-then-left-eq0+else-integer_count-eq-MAX_DIGITS w ↦ omega (arith, w.if-integer_count-eq-MAX_DIGITS.false, c.requires.valid.high_limit)
+      | else-left-eq0-via-then-left-eq0+else-integer_count-eq-MAX_DIGITS w ↦ omega (
+        arith,
+        w.if-integer_count-eq-MAX_DIGITS.false,
+        c.requires.valid.high_limit,
+      )
       | else-left-eq0-via-else-left-eq0 w ↦ absurd (omega (arith, w.if-left-eq0.false))
     ] in
     rw n (steps_raised c.args.mode c.args.increment ds c.args.scale c.args.power c.requires.valid (omega (arith, ints)) (omega (arith, ints))
