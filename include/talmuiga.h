@@ -17,9 +17,9 @@
 #include <string.h>
 
 /* The version of the project that this header is of; talmuiga_version() tells the library's. */
-#define TALMUIGA_VERSION "0.1.0"
+#define TALMUIGA_VERSION "0.2.0"
 #define TALMUIGA_VERSION_MAJOR 0
-#define TALMUIGA_VERSION_MINOR 1
+#define TALMUIGA_VERSION_MINOR 2
 #define TALMUIGA_VERSION_PATCH 0
 #define TALMUIGA_VERSION_NUMBER \
     (TALMUIGA_VERSION_MAJOR * 10000 + TALMUIGA_VERSION_MINOR * 100 + TALMUIGA_VERSION_PATCH)

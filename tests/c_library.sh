@@ -2,20 +2,20 @@
 # Builds the library for C, archive and shared object, and runs the C example over it, tests in C and C++, some of them with
 # sanitizers, the extension for SQLite and the Python package: statuses, output, rooms that are too small, threads, thousands
 # of lines as `decfmt` writes them, and what the exceptions are.
-# usage: tests/c_library.sh [--build FOLDER | --after-ci]
+# usage: tests/c_library.sh [--archive FILE] [--build FOLDER | --after-ci]
 # With --build the library alone is made: FOLDER/libtalmuiga.a and, where there is a C compiler, FOLDER/libtalmuiga.so.0 with
 # a link libtalmuiga.so, which exports the names that begin with talmuiga_ alone. tools/install.sh installs it.
 # The archive is crates/talmuiga_c/out/libtalmuiga_c.a, as `rt lib` in crates/talmuiga_c builds it; that is done here where
-# it isn't there or a source is newer. With --after-ci, right after `rt ci`, it is built over the libraries that this proved,
+# it isn't there or a source is newer. With --archive another archive is taken, as tools/build_unproved.sh makes it. With --after-ci, right after `rt ci`, it is built over the libraries that this proved,
 # and talmuiga_c alone is proved once more; `rt lib` would prove them all.
 # The last line is 'N passed, M failed'. What can't be done here, without a C or C++ compiler, Python, SQLite or
 # crates/decfmt/out/decfmt, is reported by a line 'skipped: c_library: WHY'. CC and CXX are the compilers with their words,
 # by default cc and c++.
 source "$(dirname "$0")/usage.sh"
-takes 1 --build --after-ci -- "$@"
+takes 2 --archive --build --after-ci -- "$@"
 set -u
 cd "$(dirname "$0")/.." || exit 1
-root=$PWD archive=$PWD/crates/talmuiga_c/out/libtalmuiga_c.a
+root=$PWD archive=$PWD/crates/talmuiga_c/out/libtalmuiga_c.a ready=
 read -r -a compiler <<<"${CC:-cc}"
 read -r -a cpp_compiler <<<"${CXX:-c++}"
 kit=$(dirname "$(rt doc)")
@@ -44,7 +44,9 @@ build_after_ci() {
 
 # build FOLDER
 build() {
-    if [ "$after_ci" ]; then
+    if [ "$ready" ]; then
+        archive=$ready
+    elif [ "$after_ci" ]; then
         build_after_ci || return 1
     elif [ ! -s "$archive" ] || [ -n "$(find crates -name out -prune -o -name '*.rt' -newer "$archive" -print -quit)" ]; then
         (cd crates/talmuiga_c && rt lib) || return 1
@@ -72,6 +74,10 @@ out_of_memory() {
     done | sort -u
 }
 
+if [ "${1:-}" = --archive ] && [ $# -gt 1 ]; then
+    ready=$2
+    shift 2
+fi
 after_ci=
 [ "${1:-}" = --after-ci ] && after_ci=yes
 if [ "${1:-}" = --build ]; then

@@ -97,7 +97,7 @@ judge("tables that are no text", "not UTF-8", lambda: talmuiga.tables_fault(b"\x
 judge("an entry that is refused", "entry 0 of `rules`: rule 0 isn't a condition, by its byte 0", lambda: talmuiga.tables_fault(
     b'{"symbols":[],"digits":[],"rules":[{"locale":"en","rules":[["one","x = 1"]]}]}'))
 judge("exceptions of values", True, lambda: issubclass(NoData, ValueError) and issubclass(NotFormatted, ValueError))
-judge("the version", "0.1.0", lambda: talmuiga.__version__)
+judge("the version", "0.2.0", lambda: talmuiga.__version__)
 
 WANTED = [f"{n:,}" for n in range(20000)]
 GIVEN: list[list[str]] = []

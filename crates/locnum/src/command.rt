@@ -4,6 +4,7 @@ ghost use Rattle.std.specs.Prelude.{◌≡◌, ◌++◌, [], IfOk, OnOk, option_
 ghost use Rattle.clap.specs.Matches.{first_value, found_of};
 ghost use Rattle.locnum.specs.Matched.{given_among, onto_given, seen, value_of};
 
+use crate::built::VERSION;
 use crate::options::{OPTIONS, OptionEntry, PROGRAM, Takes};
 use clap::{Arg, ArgAction, ArgMatches, Command};
 use std::alloc::{AllocError, Global};
@@ -51,7 +52,7 @@ fn printing<'a>(
 /// The command with all its options.
 pub(crate) fn command<'a>(alloc: Global) -> Result<Command<'a>, AllocError> {
     let mut command = Command::new(alloc, "locnum")
-        .version("0.1.0")
+        .version(VERSION)
         .about("Writes numbers in the form of a locale")
         .infer_long_args(true)
         .disable_help_flag(true)

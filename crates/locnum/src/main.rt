@@ -1,6 +1,7 @@
 //! `locnum`: numbers in arguments or in fields of lines, in the form of a locale.
 #![tactic(auto)]
 
+mod built;
 mod command;
 mod ending;
 mod english;

@@ -65,6 +65,6 @@ pub record IsRefused (mode : Mode) (text old new : List ℕ) (n status : ℕ) : 
 abbrev pub IsShown : Mode → List ℕ → List ℕ → List ℕ → ℕ → ℕ → Type 0
 IsShown mode text old new n status = IsWritten mode text old new n status ⊎ IsRefused mode text old new n status
 
--- that of 0.1.0
+-- that of 0.2.0
 abbrev pub version : ℕ
-version = 100
+version = 200

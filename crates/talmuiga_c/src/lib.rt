@@ -237,5 +237,5 @@ pub extern "C" fn talmuiga_tables_fault_sized(
 pub extern "C" fn talmuiga_version() -> u32
     ensures { result ≡ version }
 {
-    100
+    200
 }

@@ -14,7 +14,7 @@ from typing import Iterable, List, Optional, Tuple, Union, cast
 from . import _library
 
 __all__ = ["Formatter", "NoData", "NotFormatted", "Number", "Refused", "TablesRefused", "WordsRefused", "tables_fault"]
-__version__ = "0.1.0"
+__version__ = "0.2.0"
 
 #: What is formatted: a whole number, a decimal, a text that spells one, or a float by its shortest text.
 Number = Union[int, Decimal, str, float]
