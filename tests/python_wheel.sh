@@ -1,11 +1,16 @@
 #!/bin/bash
 # Makes the wheel of the Python package, without the network, and runs the package's tests in a fresh virtual environment.
-# usage: tests/python_wheel.sh [ARCHIVE | --build FOLDER]; ARCHIVE is libtalmuiga.a, by default one that is built
+# usage: tests/python_wheel.sh [ARCHIVE] [--build FOLDER]; ARCHIVE is libtalmuiga.a, by default one that is built
 # With --build the wheel alone is made, in FOLDER. PYTHON is the Python, by default Debian's /usr/bin/python3.
 # The last line is 'N passed, M failed'; what isn't there is reported by a line 'skipped: python_wheel: WHY'.
 source "$(dirname "$0")/usage.sh"
-takes 1 --build -- "$@"
+takes 2 --build -- "$@"
 set -u
+archive=
+if [ $# -gt 0 ] && [ "$1" != --build ]; then
+    archive=$(realpath -- "$1")
+    shift
+fi
 cd "$(dirname "$0")/.." || exit 1
 root=$PWD python=${PYTHON:-/usr/bin/python3}
 source tests/judging.sh
@@ -14,8 +19,6 @@ wanted='import importlib.util as u, sys; sys.exit(not all(map(u.find_spec, ("pip
 "$python" -c "$wanted" 2>/dev/null || skipped_all "no pip, setuptools, venv or wheel for $python"
 folder=$(mktemp -d)
 trap 'rm -rf "$folder"' EXIT
-archive=
-[ "${1:-}" = --build ] || archive=${1:-}
 if [ ! "$archive" ]; then
     tests/c_library.sh --build "$folder/lib" || exit 1
     archive=$folder/lib/libtalmuiga.a
@@ -26,6 +29,7 @@ TALMUIGA_ARCHIVE=$(realpath "$archive") TALMUIGA_INCLUDE=$root/include "$python"
     --no-build-isolation --wheel-dir "$folder/wheel" "$folder/python" >"$folder/said" 2>&1 ||
     { cat "$folder/said"; failed_all 'the wheel is made'; }
 if [ "${1:-}" = --build ]; then
+    [ $# = 2 ] || failed_all '--build: which folder?'
     mkdir -p "$2" && cp "$folder"/wheel/*.whl "$2/"
     exit
 fi

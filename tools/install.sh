@@ -1,20 +1,29 @@
 #!/bin/bash
 # Installs the programs, the library for C, the converter of tables, the manual pages and the completions below a folder.
-# usage: tools/install.sh [--library FOLDER] PREFIX
+# usage: tools/install.sh PREFIX [--unproved] [--library FOLDER]
 # What isn't built yet, or is older than a source, is built first, with proofs. From nothing this takes up to an hour on four
-# processors, and every ten seconds a line says what is being built. It needs the command `rt`, and `ar` and a C compiler for
-# the library, which --library takes from a folder where it is built. PREFIX/share/talmuiga/installed lists the installed
-# files, and tools/uninstall.sh PREFIX removes them.
+# processors. With --unproved all is built without proofs, in two minutes: the programs do the same, but nothing is proved of
+# them, and `locnum --version` says so. Every ten seconds a line says what is being built. It needs the command `rt`, and `ar`
+# and a C compiler for the library, which --library takes from a folder where it is built.
+# PREFIX/share/talmuiga/installed lists the installed files, and tools/uninstall.sh PREFIX removes them.
 source "$(dirname "$0")/../tests/usage.sh"
-takes 2 --library -- "$@"
+takes 2 --library --unproved -- "$@"
 set -u
-library=
-if [ "${1:-}" = --library ] && [ $# -gt 1 ]; then
-    library=$(realpath -m -- "$2")
-    shift 2
-fi
-[ $# = 1 ] || { echo "$0: which folder? --help says more" >&2 && exit 2; }
-prefix=$(realpath -m -- "$1")
+library='' unproved='' given=()
+while [ $# -gt 0 ]; do
+    case $1 in
+        --unproved) unproved=yes ;;
+        --library)
+            [ $# -gt 1 ] || { echo "$0: --library: which folder? --help says more" >&2 && exit 2; }
+            library=$(realpath -m -- "$2")
+            shift
+            ;;
+        *) given+=("$1") ;;
+    esac
+    shift
+done
+[[ ${#given[@]} = 1 && -n ${given[0]} ]] || { echo "$0: which folder? --help says more" >&2 && exit 2; }
+prefix=$(realpath -m -- "${given[0]}")
 cd "$(dirname "$0")/.." || exit 1
 
 # fails WHY: the end
@@ -23,11 +32,37 @@ fails() {
     exit 1
 }
 
-if ! mkdir -p "$prefix" 2>/dev/null || [ ! -w "$prefix" ]; then
-    fails "$prefix: it can't be written"
-fi
+# can_be_written FOLDER: whether the folder, or the nearest one above that is there, can be written
+can_be_written() {
+    local folder=$1
+    while [ ! -e "$folder" ] && [ ! -L "$folder" ]; do
+        folder=$(dirname "$folder")
+    done
+    [ -d "$folder" ] && [ -w "$folder" ]
+}
+
+# Judges the folders below PREFIX: each has to be one that can be written, and inside.
+judge_folders() {
+    local folder place
+    can_be_written "$prefix" || fails "$prefix: it can't be written"
+    for folder in bin include lib lib/pkgconfig share share/{doc,man,talmuiga,bash-completion,zsh,fish} share/doc/talmuiga \
+        share/man/man{1,3} share/talmuiga/tools share/bash-completion/completions share/zsh/site-functions share/fish/vendor_completions.d; do
+        place=$(realpath -m -- "$prefix/$folder")
+        [[ $place == "$prefix"/* || $prefix == / ]] || fails "$prefix/$folder: it leads out of $prefix, to $place"
+        can_be_written "$place" || fails "$place: it can't be written"
+    done
+}
+
+judge_folders
 staging=$(mktemp -d)
-trap 'rm -rf "$staging"' EXIT
+job=
+# ends: nothing is left behind, and what is being built ends too
+ends() {
+    [ -z "$job" ] || kill -- "-$job" 2>/dev/null
+    rm -rf "$staging"
+}
+trap ends EXIT
+trap 'exit 130' INT TERM HUP
 
 # is_old FILE: whether a file isn't there, or a source is newer
 is_old() {
@@ -36,20 +71,28 @@ is_old() {
 
 # built WHAT COMMAND..: runs a command that builds something, and says every ten seconds what it last said
 built() {
-    local what=$1 since=$SECONDS
+    local what=$1 since=$SECONDS next
     shift
-    "$@" >"$staging/said" 2>&1 &
-    while kill -0 $! 2>/dev/null; do
-        [ $(((SECONDS - since) % 10)) != 9 ] || echo "$what, $((SECONDS - since + 1)) seconds: $(tail -n 1 "$staging/said" | cut -c 1-60)"
+    next=$((since + 8))
+    set -m
+    "$@" >"$staging/said" 2>&1 </dev/null &
+    job=$!
+    set +m
+    while kill -0 "$job" 2>/dev/null; do
+        if [ "$SECONDS" -ge "$next" ]; then
+            echo "$what, $((SECONDS - since)) seconds: $(tail -n 1 "$staging/said" | tr -d '[:cntrl:]' | cut -c 1-40)"
+            next=$((SECONDS + 8))
+        fi
         sleep 1
     done
-    wait $! || { tail -n 5 "$staging/said" >&2 && fails "$what: it wasn't built"; }
+    wait "$job"
+    local status=$?
+    job=
+    [ "$status" = 0 ] || { tail -n 5 "$staging/said" >&2 && fails "$what: it wasn't built"; }
 }
 
-# program NAME: builds the program, if it has to be, by running it
+# program NAME WORD..: builds the program with proofs, by running it
 program() {
-    is_old "crates/$1/out/$1" || return 0
-    echo "$1 is built, with proofs"
     (cd "crates/$1" && rt run -- "${@:2}") </dev/null
     [ -x "crates/$1/out/$1" ]
 }
@@ -59,15 +102,31 @@ puts() {
     install -D -m "${3:-644}" "$1" "$staging/root/$2" || fails "$1: it isn't there"
 }
 
-built locnum program locnum --version
-built decfmt program decfmt --version
-if [ -z "$library" ]; then
-    library=$staging/lib
-    built 'the library for C' tests/c_library.sh --build "$library"
+if [ "$unproved" ]; then
+    programs=$staging/programs
+    echo 'locnum, decfmt and the library for C are built without proofs. On four free processors'
+    echo 'this takes two minutes.'
+    built 'Without proofs' tools/build_unproved.sh "$programs"
+    library=${library:-$programs/lib}
+else
+    programs=$staging/programs
+    mkdir "$programs"
+    for name in locnum decfmt; do
+        if is_old "crates/$name/out/$name"; then
+            echo "$name is built with proofs. From nothing this takes up to an hour on four processors."
+            built "$name" program "$name" --version
+        fi
+        cp "crates/$name/out/$name" "$programs/$name" || fails "$name: it isn't there"
+    done
+    if [ -z "$library" ]; then
+        library=$staging/lib
+        echo 'The library for C is built with proofs. With the proofs of decfmt this takes two minutes.'
+        built 'The library for C' tests/c_library.sh --build "$library"
+    fi
 fi
 
-puts crates/locnum/out/locnum bin/locnum 755
-puts crates/decfmt/out/decfmt bin/decfmt 755
+puts "$programs/locnum" bin/locnum 755
+puts "$programs/decfmt" bin/decfmt 755
 puts docs/locnum.1 share/man/man1/locnum.1
 puts docs/decfmt.1 share/man/man1/decfmt.1
 puts docs/talmuiga.3 share/man/man3/talmuiga.3
@@ -82,6 +141,7 @@ for file in tools/cldr_*.py; do
 done
 chmod 755 "$staging/root/share/talmuiga/tools/cldr_to_tables.py"
 ln -s ../share/talmuiga/tools/cldr_to_tables.py "$staging/root/bin/talmuiga-tables"
+puts tables/english.json share/talmuiga/english.json
 puts VERSION share/talmuiga/VERSION
 puts LICENSE.md share/doc/talmuiga/LICENSE.md
 if [ -e "$library/libtalmuiga.so.0" ]; then
@@ -98,15 +158,29 @@ Cflags: -I\${prefix}/include
 Libs: -L\${prefix}/lib -ltalmuiga
 END
 
-# the list first, so that an installation that was interrupted can be removed; then each file in one step
-(cd "$staging/root" && { find . ! -type d | sed 's/^\.\///' && echo share/talmuiga/installed; } | sort) >"$staging/list"
+# puts_in_place FILE PLACE: in one step; a link at the place is replaced, and not followed
 puts_in_place() {
-    if ! { mkdir -p "$(dirname "$2")" && cp -P "$1" "$2.new" && mv -f "$2.new" "$2"; }; then
+    if ! { mkdir -p "$(dirname "$2")" && rm -f "$2.new" && cp -P "$1" "$2.new" && mv -fT "$2.new" "$2"; }; then
         fails "$2: it can't be written"
     fi
 }
-puts_in_place "$staging/list" "$prefix/share/talmuiga/installed"
+
+# At first the list has what an installation before this one has put here, too: so whenever this one is interrupted, all of
+# it can be removed.
+list=share/talmuiga/installed
+(cd "$staging/root" && { find . ! -type d | sed 's/^\.\///' && echo "$list"; } | sort) >"$staging/list"
+cp "$staging/list" "$staging/both"
+[ ! -r "$prefix/$list" ] || sort -u "$staging/list" "$prefix/$list" >"$staging/both"
+puts_in_place "$staging/both" "$prefix/$list"
 while read -r file; do
-    [ "$file" = share/talmuiga/installed ] || puts_in_place "$staging/root/$file" "$prefix/$file"
+    [ "$file" = "$list" ] || puts_in_place "$staging/root/$file" "$prefix/$file"
 done <"$staging/list"
-echo "$(wc -l <"$staging/list") files are below $prefix. To try it: $prefix/bin/locnum --currency USD 1234.5"
+while read -r file; do
+    case /$file/ in
+        //* | */../*) ;;
+        *) rm -f "$prefix/$file" ;;
+    esac
+done < <(comm -13 "$staging/list" "$staging/both")
+puts_in_place "$staging/list" "$prefix/$list"
+echo "$(wc -l <"$staging/list") files are below $prefix. To try it:"
+printf '%q --currency USD 1234.5\n' "$prefix/bin/locnum"
