@@ -1,10 +1,12 @@
 #!/usr/bin/env python3
 """Judges the pages of the repository.
 
-usage: tests/docs.py [--write | --mutations [CRATE] | --map [CRATE] | --help]
+usage: tests/docs.py [--write | --installed PREFIX | --mutations [CRATE] | --map [CRATE] | --help]
 
 --write makes the pages that are made. --mutations prints the must-fail mutations of a crate, or of all, each with what rejects
-it; --map the files of specs/ and proofs/, with what each says and who uses it. Else the pages are judged:
+it; --map the files of specs/ and proofs/, with what each says and who uses it. --installed judges
+what README shows, and nothing else, by the programs that are installed below PREFIX: each command behind `$`, each row of its
+table of locales, the commands by which it tries an installed program, and the manual pages. Else the pages are judged:
 
 - Each relative link of README.md, CONTRIBUTING.md, CHANGELOG.md, docs/, tables/ and the crates' pages has its target, a
   heading too; each reference is one of the page, and each of these is used; the name of a call, a definition or a mutation that is a link stands in the file that the link leads to.
@@ -57,6 +59,12 @@ from pages import links, made, manuals, promises, rows, shown, sources, terms  #
 from pages.judging import ROOT, counts, read  # noqa: E402
 
 
+def ended() -> int:
+    """Prints the count, the last line."""
+    print(f"{counts[True]} passed, {counts[False]} failed")
+    return 0 if counts[False] == 0 else 1
+
+
 def judge_all(is_writing: bool) -> int:
     """Judges all pages; with is_writing those that are made are written first."""
     made.judge_page("docs/EDITS.md", made.edits_page(), is_writing)
@@ -84,8 +92,7 @@ def judge_all(is_writing: bool) -> int:
     shown.judge_first_commands()
     shown.judge_release(read("README.md"))
     shown.judge_locales(read("README.md"))
-    print(f"{counts[True]} passed, {counts[False]} failed")
-    return 0 if counts[False] == 0 else 1
+    return ended()
 
 
 def main(words: Sequence[str]) -> int:
@@ -96,8 +103,11 @@ def main(words: Sequence[str]) -> int:
     if words == ["--help"]:
         print(__doc__)
         return 0
+    if words and words[0] == "--installed" and len(words) == 2:
+        shown.judge_installed(words[1])
+        return ended()
     if words not in ([], ["--write"]):
-        print("usage: tests/docs.py [--write | --mutations [CRATE] | --map [CRATE] | --help]", file=sys.stderr)
+        print("usage: tests/docs.py [--write | --installed PREFIX | --mutations [CRATE] | --map [CRATE] | --help]", file=sys.stderr)
         return 2
     return judge_all(words == ["--write"])
 

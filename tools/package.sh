@@ -55,7 +55,7 @@ trap 'rm -rf "$work"' EXIT
 trap 'exit 130' INT TERM HUP
 prefix=$work/prefix
 
-tools/install.sh "$prefix" ${words[@]+"${words[@]}"} | sed '$d' || exit 1
+tools/install.sh "$prefix" ${words[@]+"${words[@]}"} | sed -u '/ files are below /,$d'
 [ -x "$prefix/bin/locnum" ] || fails 'it was not installed'
 
 if [ -z "$tables" ]; then

@@ -33,9 +33,11 @@ def found(pattern: str) -> list[str]:
     return sorted(path for path in glob.glob(pattern, recursive=True) if "/out/" not in path)
 
 
-def output_of(command: str) -> str:
-    """Standard output and standard error of a command, as a terminal shows them."""
-    done = subprocess.run(["bash", "-c", command], stdout=subprocess.PIPE, stderr=subprocess.STDOUT, timeout=60)
+def output_of(command: str, path: str | None = None) -> str:
+    """Standard output and standard error of a command, as a terminal shows them, by the programs of another PATH where it is
+    given."""
+    env = None if path is None else {"PATH": path, "LC_ALL": "C.UTF-8"}
+    done = subprocess.run(["bash", "-c", command], env=env, stdout=subprocess.PIPE, stderr=subprocess.STDOUT, timeout=60)
     return done.stdout.decode("utf-8", "replace")
 
 

@@ -1,6 +1,7 @@
 """What pages show: code that stands in the sources, commands with what they write, a table of locales, a file of tables."""
 import os
 import re
+import shlex
 import subprocess
 import tempfile
 from collections.abc import Iterator
@@ -88,16 +89,37 @@ def judge_release(page: str) -> None:
     judge(well, "README.md: by a release of CLDR:", "\n".join(told))
 
 
-def judge_locales(page: str) -> None:
+def judge_installed(prefix: str) -> None:
+    """What README shows is what the programs write that are installed below a folder, and `man` finds their pages."""
+    prefix = os.path.abspath(prefix)
+    path = f"{prefix}/bin:/usr/bin:/bin"
+    page = read("README.md")
+    for command, wanted in commands_of("README.md"):
+        given = output_of(command.replace(REPORTS, "locnum").replace(PROGRAM, "decfmt"), path)
+        # explanations name the tables, which an installed program takes from its own folder
+        given = re.sub(r"^\S*/en\.json.*: locale", "the tables in the program: locale", given, flags=re.M)
+        judge(given.strip("\n") == wanted, f"README.md: installed: {command}:", given)
+    judge_locales(page, "decfmt", "locnum", path)
+    has_tables = os.path.exists(f"{prefix}/share/talmuiga/tables/de.json")
+    for words in re.findall(r"^\S+/bin/locnum (.*)$", "\n".join(shell_lines("README.md")), flags=re.M):
+        if has_tables or "-t " in words:
+            given = output_of(f"locnum {words}", path).strip("\n")
+            judge(given and f"`{given}`" in page, f"README.md: installed: locnum {words}:", given)
+    for name in ("locnum", "decfmt"):
+        given = output_of(f"man -M {shlex.quote(prefix)}/share/man {name}", path)
+        judge(given.lower().startswith(f"{name}(1)"), f"{prefix}: no manual page {name}:", given[:80])
+
+
+def judge_locales(page: str, lines: str = PROGRAM, reports: str = REPORTS, path: str | None = None) -> None:
     """Each row of the table of locales is what the programs write of the number by the tables of the six locales."""
     rows = page.split(LOCALES_HEADER + "\n|---|---|---|---|---|\n")[1].split("\n\n")[0].splitlines()
     for row in rows:
         locale, *wanted = [cell.strip().strip("`") for cell in row.strip("|").split("|")]
         given = [
-            output_of(f"echo {LOCALES_NUMBER} | {PROGRAM} {LOCALES_TABLES} {locale} - {style}").strip("\n")
+            output_of(f"echo {LOCALES_NUMBER} | {lines} {LOCALES_TABLES} {locale} - {style}", path).strip("\n")
             for style in ("plain", "short", "long")
         ]
-        given.append(output_of(f"{REPORTS} -t {LOCALES_TABLES} -l {locale} --currency EUR {LOCALES_NUMBER}").strip("\n"))
+        given.append(output_of(f"{reports} -t {LOCALES_TABLES} -l {locale} --currency EUR {LOCALES_NUMBER}", path).strip("\n"))
         judge(given == wanted, f"README.md: {locale}:", str(given))
 
 

@@ -26,9 +26,13 @@ def judge_version() -> None:
         ("python/pyproject.toml", r'^version = "(.*)"$'),
         ("python/src/talmuiga/__init__.py", r'^__version__ = "(.*)"$'),
         ("docs/talmuiga.3", r'^\.TH TALMUIGA 3 \S+ "talmuiga (.*?)"'),
+        ("crates/locnum/src/built.rt", r'VERSION: &str = "(.*) \(proved\)";$'),
     ):
         told = re.findall(form, read(path), flags=re.M)
         judge(told == [version], f"{path}: isn't of version {version}:", str(told))
+    for path in ("README.md", "docs/BUILDING.md"):
+        told = sorted(set(re.findall(r"talmuiga[-\w]*?[-_](\d+\.\d+\.\d+)", read(path))))
+        judge(told == [version], f"{path}: names packages of another version than {version}:", str(told))
     newest = re.search(r"^## (\S+)", read("CHANGELOG.md"), flags=re.M)
     judge(newest and newest[1] == version, f"CHANGELOG.md: doesn't begin with {version}")
 
