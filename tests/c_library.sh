@@ -123,10 +123,51 @@ installs() {
         "$(tools/install.sh --library "$folder" "$folder/installed/x" 2>&1)"
     judge 'install: no folder' same 2 "$(tools/install.sh >/dev/null 2>&1; echo $?)"
     rm -r "$prefix/share/talmuiga/tables"
+    judge 'install: what README shows' tests/docs.py --installed "$prefix"
+    echo old >"$prefix/bin/older" && echo bin/older >>"$prefix/share/talmuiga/installed"
+    rm "$prefix/bin/decfmt" && ln -s "$folder/outside" "$prefix/bin/decfmt" && echo outside >"$folder/outside"
+    echo half >"$prefix/bin/locnum.new"
+    judge 'install: over an older and interrupted one' tools/install.sh --library "$folder" "$prefix"
+    judge 'install: what is no longer installed' test ! -e "$prefix/bin/older"
+    judge 'install: the half of a file' test ! -e "$prefix/bin/locnum.new"
+    judge 'install: a link in place of a program' same 'outside' "$(cat "$folder/outside")"
+    judge 'install: its program' same '1' "$(echo 1 | installed decfmt)"
+    mkdir "$folder/linked" "$folder/elsewhere" && ln -s "$folder/elsewhere" "$folder/linked/share"
+    judge 'install: a folder that leads outside' same \
+        "tools/install.sh: $folder/linked/share: it leads out of $folder/linked, to $folder/elsewhere" \
+        "$(tools/install.sh --library "$folder" "$folder/linked" 2>&1)"
+    echo kept >"$folder/kept" && echo ../kept >>"$prefix/share/talmuiga/installed"
+    judge 'uninstall: a list that leads outside' same "tools/uninstall.sh: $prefix/../kept: it leads out of $prefix, and isn't removed" \
+        "$(tools/uninstall.sh "$prefix" 2>&1)"
+    judge 'uninstall: what is outside' same kept "$(cat "$folder/kept")"
+    tools/install.sh --library "$folder" "$prefix" >/dev/null
     judge 'uninstall' tools/uninstall.sh "$prefix"
     judge 'uninstall: nothing is left' same "$prefix" "$(find "$prefix")"
     judge 'uninstall: nothing is installed' same "tools/uninstall.sh: $prefix: nothing of talmuiga is installed here" \
         "$(tools/uninstall.sh "$prefix" 2>&1)"
+}
+
+# unpacked: the archive of tools/package.sh, unpacked, with a PATH of its folder alone. Its tables are those of the repository.
+unpacked() {
+    local tables=$folder/packaged made archive prefix
+    mkdir "$tables" "$folder/un packed" && cp LICENSE.md "$tables/CLDR-LICENSE"
+    for made in de fr; do
+        cp tables/six_locales.json "$tables/$made.json"
+    done
+    cp tables/english.json "$tables/en.json"
+    for made in first second; do
+        judge "archive: the $made" tools/package.sh --archive --library "$folder" --tables "$tables" --into "$folder/$made"
+    done
+    archive=talmuiga-$(cat VERSION)-linux-x86_64
+    judge 'archive: the same bytes twice' cmp "$folder/first/$archive.tar.gz" "$folder/second/$archive.tar.gz"
+    tar xf "$folder/first/$archive.tar.gz" -C "$folder/un packed"
+    prefix="$folder/un packed/$archive"
+    judge 'archive: locnum' same $'1.234,50\u00a0€' "$("$(command -v env)" -i "PATH=$prefix/bin" locnum -l de --currency EUR 1234.5 2>&1)"
+    judge 'archive: decfmt' same '1,5 Mio.' \
+        "$(echo 1500000 | "$(command -v env)" -i "PATH=$prefix/bin" decfmt "$prefix/share/talmuiga/tables/de.json" de - short 2>&1)"
+    judge 'archive: what README shows' tests/docs.py --installed "$prefix"
+    judge 'archive: its list' diff "$prefix/share/talmuiga/installed" <(cd "$prefix" && find . ! -type d | sed 's/^\.\///' | LC_ALL=C.UTF-8 sort)
+    judge 'archive: no folder' same 2 "$(tools/package.sh --into >/dev/null 2>&1; echo $?)"
 }
 
 # builds PROGRAM SOURCE [ARCHIVE]: the C program, over the archive.
@@ -269,6 +310,7 @@ if is_there "${compiler[0]}"; then
         "$(nm -D --defined-only "$folder/libtalmuiga.so.0" | awk '{print $3}' | grep -v '^talmuiga_')"
     if [ -x crates/decfmt/out/decfmt ] && [ -x crates/locnum/out/locnum ]; then
         installs
+        unpacked
     else
         skipped "there is no crates/decfmt/out/decfmt or crates/locnum/out/locnum: 'rt run' in their folders builds them"
     fi

@@ -68,7 +68,7 @@ chmod -R a+rX "$root/room" && chmod 1777 "$root/room"
 judge 'dpkg installs them' inside bash -c 'dpkg -i /packages/*.deb'
 judge 'what README shows' as_nobody 'python3 -B tests/docs.py --installed /usr'
 judge 'locnum in euros' same $'1.234,50\u00a0€' "$(as_nobody 'locnum -l de --currency EUR 1234.5')"
-judge 'locnum with a unit' same $'5\u00a0км' "$(as_nobody 'locnum -l ru --unit kilometer 5')"
+judge 'locnum with a unit' same '5 км' "$(as_nobody 'locnum -l ru --unit kilometer 5')"
 judge 'decfmt by these tables' same $'1,2\u00a0Mio.' "$(as_nobody 'echo 1234567 | decfmt /usr/share/talmuiga/tables/de.json de - short')"
 judge 'the converter' same '12.345,5' \
     "$(as_nobody 'talmuiga-tables -o /tmp/qaa.json tests/cldr qaa 2>/dev/null && locnum -t /tmp/qaa.json -l qaa 12345.5')"

@@ -2,25 +2,32 @@
 # Makes packages in dist/: talmuiga-VERSION-linux-x86_64.tar.gz, an archive that works in whatever folder it is unpacked, and
 # Debian packages: talmuiga (the programs and the converter of tables), libtalmuiga0, libtalmuiga-dev, python3-talmuiga, and
 # talmuiga-tables-cldr (tables of the CLDR release that is installed here, which the archive has too).
-# usage: tools/package.sh [--unproved] [--library FOLDER] [--tables FOLDER]
+# usage: tools/package.sh [--archive] [--unproved] [--library FOLDER] [--tables FOLDER] [--into FOLDER]
 # Packaged is what tools/install.sh installs, so what isn't built yet is built first, with proofs; --unproved and --library
-# are for it. Making the tables takes a minute; --tables takes them from a folder where this script has left them before:
-# dist/tables. They are of all modern locales, with all their currencies, percents and the units of everyday.
+# are for it. With --archive the archive alone is made. Making the tables takes a minute; --tables takes them from a folder, as
+# from dist/tables, where this script leaves them. They are of all modern locales, with all their currencies, percents and the
+# units of everyday. The folder's file CLDR-LICENSE is the notice of their data. --into names another folder than dist.
 # Two runs over the same commit and release make the same bytes: the times of files are SOURCE_DATE_EPOCH, by default the time
 # of the commit. It needs ar, a C compiler, Python with setuptools and wheel, dpkg-deb, sqlite3ext.h, and the packages
 # unicode-cldr-core and dpkg-dev.
 source "$(dirname "$0")/../tests/usage.sh"
-takes 2 --unproved --library --tables -- "$@"
+takes 3 --archive --unproved --library --tables --into -- "$@"
 set -u
 export LC_ALL=C.UTF-8
 umask 022
-words=() tables=''
+words=() tables='' archive_alone='' into=''
 while [ $# -gt 0 ]; do
     case $1 in
         --unproved) words+=(--unproved) ;;
-        --library | --tables)
+        --archive) archive_alone=yes ;;
+        --library | --tables | --into)
             [ $# -gt 1 ] || { echo "$0: $1: which folder? --help says more" >&2 && exit 2; }
-            if [ "$1" = --tables ]; then tables=$(realpath -m -- "$2"); else words+=(--library "$(realpath -m -- "$2")"); fi
+            place=$(realpath -m -- "$2")
+            case $1 in
+                --library) words+=(--library "$place") ;;
+                --tables) tables=$place ;;
+                *) into=$place ;;
+            esac
             shift
             ;;
         *) echo "$0: $1: not expected; --help says what is" >&2 && exit 2 ;;
@@ -28,7 +35,7 @@ while [ $# -gt 0 ]; do
     shift
 done
 cd "$(dirname "$0")/.." || exit 1
-root=$PWD version=$(cat VERSION)
+dist=${into:-$PWD/dist} version=$(cat VERSION)
 release=/usr/share/unicode/cldr notice=/usr/share/doc/unicode-cldr-core/copyright
 units=byte,kilobyte,megabyte,gigabyte,terabyte,celsius,fahrenheit,millimeter,centimeter,meter,kilometer,inch,foot,yard,mile
 units+=,gram,kilogram,ounce,pound,milliliter,liter,gallon,square-meter,square-kilometer,hectare,acre
@@ -42,14 +49,19 @@ fails() {
     exit 1
 }
 
-for command in dpkg-deb dpkg-shlibdeps ar strip gzip; do
-    command -v "$command" >/dev/null || fails "there is no '$command': apt-get install dpkg-dev binutils"
+commands=(cc ar strip gzip)
+[ "$archive_alone" ] || commands+=(dpkg-deb dpkg-shlibdeps)
+for command in "${commands[@]}"; do
+    command -v "$command" >/dev/null || fails "there is no '$command': apt-get install gcc binutils dpkg-dev"
 done
+if [ "$tables" ]; then
+    [ -r "$tables/en.json" ] || fails "$tables: it has no tables of English"
+    notice=$tables/CLDR-LICENSE
+fi
 [ "$tables" ] || [ -d "$release" ] || fails "$release: it isn't there: apt-get install unicode-cldr-core"
 [ -r "$notice" ] || fails "$notice: it isn't there: apt-get install unicode-cldr-core"
 [ -r /usr/include/sqlite3ext.h ] || fails '/usr/include/sqlite3ext.h: it is not there: apt-get install libsqlite3-dev'
-[ -z "$tables" ] || [ -r "$tables/en.json" ] || fails "$tables: it has no tables of English"
-mkdir -p dist || fails 'dist: it cannot be written'
+mkdir -p "$dist" || fails "$dist: it can't be written"
 work=$(mktemp -d)
 trap 'rm -rf "$work"' EXIT
 trap 'exit 130' INT TERM HUP
@@ -60,11 +72,12 @@ tools/install.sh "$prefix" ${words[@]+"${words[@]}"} | sed -u '/ files are below
 
 if [ -z "$tables" ]; then
     echo "The tables of $release are made: this takes a minute."
-    tables=$root/dist/tables
+    tables=$dist/tables
     rm -rf "$tables"
     tools/cldr_to_tables.py -o "$work/tables/" --currencies all --percents --units "$units" "$release" 2>"$work/left_out" ||
         { tail -n 5 "$work/left_out" >&2 && fails 'the tables: they were not made'; }
-    mv "$work/tables" "$tables"
+    install -m 644 "$notice" "$work/tables/CLDR-LICENSE"
+    mv "$work/tables" "$tables" || fails "$tables: it can't be written"
 fi
 cldr=$(sed -n 's/^{"cldr":"\([^"]*\)".*/\1/p' "$tables/en.json")
 locales=$(find "$tables" -name '*.json' | wc -l)
@@ -100,8 +113,7 @@ Try it in this folder:
 
     bin/locnum -l de --currency EUR 1234.5
 
-This writes 1.234,50 followed by a space and the sign of the euro. The folder can be moved
-anywhere. To have its commands and manual pages, put it on the path:
+This writes 1.234,50 €. The folder can be moved anywhere. To have its commands and manual pages, put it on the path:
 
     export PATH="\$PWD/bin:\$PATH"
     man locnum
@@ -112,13 +124,14 @@ share/talmuiga  tables of $locales names of locales, of CLDR $cldr ($size MB), E
                 (english.json), and a wheel for Python 3.10 and later: pip install FILE
 share           manual pages, and completions for bash, zsh and fish
 
-LICENSE.md is the licence, CLDR-LICENSE that of the tables. $("$prefix/bin/locnum" --version)
+LICENSE.md is the licence, CLDR-LICENSE that of the tables' data. This is $("$prefix/bin/locnum" --version)
 END
 (cd "$tree" && find . ! -type d | sed 's/^\.\///' | sort >"$work/list" && cp "$work/list" share/talmuiga/installed)
 chmod -R u+rwX,go+rX,go-w "$tree"
 tar c -C "$work" --sort=name --mtime="@$SOURCE_DATE_EPOCH" --owner=0 --group=0 --numeric-owner --format=gnu "$name" |
-    gzip -9n >"dist/$name.tar.gz" || fails "dist/$name.tar.gz: it can't be written"
-echo "dist/$name.tar.gz"
+    gzip -9n >"$dist/$name.tar.gz" || fails "$dist/$name.tar.gz: it can't be written"
+echo "$dist/$name.tar.gz"
+[ -z "$archive_alone" ] || exit 0
 
 # ---- Debian packages
 multiarch=usr/lib/x86_64-linux-gnu
@@ -172,8 +185,9 @@ END
     (cd "$folder" && find usr -type f -print0 | sort -z | xargs -0 md5sum) >"$folder/DEBIAN/md5sums"
     chmod -R u+rwX,go+rX,go-w "$folder"
     find "$folder" -exec touch -h -d "@$SOURCE_DATE_EPOCH" {} +
-    dpkg-deb --root-owner-group -Zxz --threads-max=1 --build "$folder" "dist/${name}_${debian_version}_$2.deb" >/dev/null || fails "$name: it was not made"
-    echo "dist/${name}_${debian_version}_$2.deb"
+    dpkg-deb --root-owner-group -Zxz --threads-max=1 --build "$folder" "$dist/${name}_${debian_version}_$2.deb" >/dev/null ||
+        fails "$name: it was not made"
+    echo "$dist/${name}_${debian_version}_$2.deb"
 }
 
 maintainer='Talmuiga maintainers <maintainers@talmuiga.invalid>'

@@ -97,7 +97,7 @@ def judge_installed(prefix: str) -> None:
     for command, wanted in commands_of("README.md"):
         given = output_of(command.replace(REPORTS, "locnum").replace(PROGRAM, "decfmt"), path)
         # explanations name the tables, which an installed program takes from its own folder
-        given = re.sub(r"^\S*/en\.json.*: locale", "the tables in the program: locale", given, flags=re.M)
+        given = re.sub(r"^/.*/en\.json.*: locale", "the tables in the program: locale", given, flags=re.M)
         judge(given.strip("\n") == wanted, f"README.md: installed: {command}:", given)
     judge_locales(page, "decfmt", "locnum", path)
     has_tables = os.path.exists(f"{prefix}/share/talmuiga/tables/de.json")
