@@ -71,7 +71,7 @@ is_old() {
 
 # built WHAT COMMAND..: runs a command that builds something, and says every ten seconds what it last said
 built() {
-    local what=$1 since=$SECONDS next
+    local what=$1 since=$SECONDS next last
     shift
     next=$((since + 8))
     set -m
@@ -80,7 +80,8 @@ built() {
     set +m
     while kill -0 "$job" 2>/dev/null; do
         if [ "$SECONDS" -ge "$next" ]; then
-            echo "$what, $((SECONDS - since)) seconds: $(tail -n 1 "$staging/said" | tr -d '[:cntrl:]' | cut -c 1-40)"
+            last=$(tail -n 1 "$staging/said" | tr -d '[:cntrl:]' | cut -c 1-45)
+            echo "$what, $((SECONDS - since)) seconds${last:+: $last}"
             next=$((SECONDS + 8))
         fi
         sleep 1
