@@ -2,6 +2,7 @@
 # Builds the library for C, archive and shared object, and runs the C example over it, tests in C and C++, some of them with
 # sanitizers, the extension for SQLite and the Python package: statuses, output, rooms that are too small, threads, thousands
 # of lines as `decfmt` writes them, and what the exceptions are.
+# It tries an installation by tools/install.sh, and the archive that tools/package.sh makes.
 # usage: tests/c_library.sh [--archive FILE] [--build FOLDER | --after-ci]
 # With --build the library alone is made: FOLDER/libtalmuiga.a and, where there is a C compiler, FOLDER/libtalmuiga.so.0 with
 # a link libtalmuiga.so, which exports the names that begin with talmuiga_ alone. tools/install.sh installs it.
@@ -121,6 +122,8 @@ installs() {
     judge 'install: a locale of the program' same '1,234.5' "$(installed locnum -l en 1234.5)"
     judge 'install: a file in place of the folder' same "tools/install.sh: $folder/installed/x: it can't be written" \
         "$(tools/install.sh --library "$folder" "$folder/installed/x" 2>&1)"
+    [ ! -d /proc/self ] || judge 'install: into /proc' same "tools/install.sh: /proc/talmuiga: it can't be written" \
+        "$(tools/install.sh --library "$folder" /proc/talmuiga 2>&1)"
     judge 'install: no folder' same 2 "$(tools/install.sh >/dev/null 2>&1; echo $?)"
     rm -r "$prefix/share/talmuiga/tables"
     judge 'install: what README shows' tests/docs.py --installed "$prefix"

@@ -19,8 +19,8 @@ table of locales, the commands by which it tries an installed program, and the m
 - Each path in a code span of a page is one of the repository's.
 - Each block of Rust code of README.md, docs/LIBRARY.md and of the pages of icu_provider and examples stands so in a source of the crates; the
   example at the head of each library stands in the program crates/examples.
-- The version of include/talmuiga.h, of the Python package and of docs/talmuiga.3 is that of VERSION, and CHANGELOG.md begins
-  with it.
+- The version of include/talmuiga.h, of the Python package, of docs/talmuiga.3, of docs/talmuiga-tables.1, of locnum and of
+  the packages that README and docs/BUILDING.md name is that of VERSION, and CHANGELOG.md begins with it.
 - The pictures of docs/pictures are what tools/pictures.py draws, and the numbers around 999,500 are shown as one of them says.
 - docs/BUILDING.md names the packages of tests/packages.txt, and the logic of the toolchain as `rt version` prints it.
 - docs/decfmt.1, as `man` shows it, has the words, the statuses with their texts, the error lines and the examples of
@@ -29,6 +29,7 @@ table of locales, the commands by which it tries an installed program, and the m
   letter, whether it takes a text or a file, and the words among which it chooses, and no other; so the table of its page
   has their names. That of bash is run: it offers just these options, words and files. Those of zsh and fish are read. The
   manual page has the statuses and examples of the page too.
+- docs/talmuiga-tables.1 has each option of the converter's --help, and no other.
 - The sample tables that rows name are tables/sample.json, byte for byte, and the text in crates/locnum is that of
   tables/english.json.
 - crates.txt has each crate under a heading, crates/README.md has each behind those that it uses, and the page of each crate says in a line `Tests: ..` where its tests stand.
@@ -82,6 +83,7 @@ def judge_all(is_writing: bool) -> int:
     sources.judge_needs(read("docs/BUILDING.md"))
     manuals.judge_manual()
     manuals.judge_options()
+    manuals.judge_converter()
     sources.judge_sample()
     sources.judge_english()
     sources.judge_signs()

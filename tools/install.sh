@@ -34,11 +34,12 @@ fails() {
 
 # can_be_written FOLDER: whether the folder, or the nearest one above that is there, can be written
 can_be_written() {
-    local folder=$1
+    local folder=$1 probe
     while [ ! -e "$folder" ] && [ ! -L "$folder" ]; do
         folder=$(dirname "$folder")
     done
-    [ -d "$folder" ] && [ -w "$folder" ]
+    # the permissions alone say nothing to root
+    probe=$(mktemp "$folder/.talmuiga-XXXXXX" 2>/dev/null) && rm -f "$probe"
 }
 
 # Judges the folders below PREFIX: each has to be one that can be written, and inside.
@@ -130,6 +131,7 @@ puts "$programs/locnum" bin/locnum 755
 puts "$programs/decfmt" bin/decfmt 755
 puts docs/locnum.1 share/man/man1/locnum.1
 puts docs/decfmt.1 share/man/man1/decfmt.1
+puts docs/talmuiga-tables.1 share/man/man1/talmuiga-tables.1
 puts docs/talmuiga.3 share/man/man3/talmuiga.3
 puts docs/completions/locnum.bash share/bash-completion/completions/locnum
 puts docs/completions/_locnum share/zsh/site-functions/_locnum

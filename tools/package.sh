@@ -204,6 +204,7 @@ copies VERSION talmuiga usr/share/talmuiga/VERSION
 copies tables/english.json talmuiga usr/share/talmuiga/english.json
 copies docs/locnum.1 talmuiga usr/share/man/man1/locnum.1
 copies docs/decfmt.1 talmuiga usr/share/man/man1/decfmt.1
+copies docs/talmuiga-tables.1 talmuiga usr/share/man/man1/talmuiga-tables.1
 copies docs/completions/locnum.bash talmuiga usr/share/bash-completion/completions/locnum
 copies docs/completions/_locnum talmuiga usr/share/zsh/vendor-completions/_locnum
 copies docs/completions/locnum.fish talmuiga usr/share/fish/vendor_completions.d/locnum.fish

@@ -5,7 +5,7 @@ import shutil
 import subprocess
 
 import locnum_pages
-from pages.judging import REPORTS, judge, read
+from pages.judging import REPORTS, judge, output_of, read
 
 def shown_by_man(path: str) -> list[str]:
     """The lines of a manual page on a very wide terminal, each without the spaces around and doubled in it."""
@@ -45,3 +45,11 @@ def judge_options() -> None:
     """The page, the manual page and the completions of locnum say what its --help says."""
     for held, name, told in locnum_pages.cases(REPORTS, shown_by_man if shutil.which("man") else None):
         judge(held, name, told)
+
+
+def judge_converter() -> None:
+    """The manual page of the converter has the options of its --help, and no others."""
+    path = "docs/talmuiga-tables.1"
+    wanted = set(re.findall(r"--[a-z]+", output_of("tools/cldr_to_tables.py --help")))
+    given = {option.replace("\\", "") for option in re.findall(r"\\-\\-[a-z]+", read(path).split(".SH EXAMPLES")[0])}
+    judge(wanted and given == wanted, f"{path}: other options:", str(given ^ wanted))

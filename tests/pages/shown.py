@@ -105,7 +105,7 @@ def judge_installed(prefix: str) -> None:
         if has_tables or "-t " in words:
             given = output_of(f"locnum {words}", path).strip("\n")
             judge(given and f"`{given}`" in page, f"README.md: installed: locnum {words}:", given)
-    for name in ("locnum", "decfmt"):
+    for name in ("locnum", "decfmt", "talmuiga-tables"):
         given = output_of(f"man -M {shlex.quote(prefix)}/share/man {name}", path)
         judge(given.lower().startswith(f"{name}(1)"), f"{prefix}: no manual page {name}:", given[:80])
 

@@ -26,6 +26,7 @@ def judge_version() -> None:
         ("python/pyproject.toml", r'^version = "(.*)"$'),
         ("python/src/talmuiga/__init__.py", r'^__version__ = "(.*)"$'),
         ("docs/talmuiga.3", r'^\.TH TALMUIGA 3 \S+ "talmuiga (.*?)"'),
+        ("docs/talmuiga-tables.1", r'^\.TH TALMUIGA-TABLES 1 "" "talmuiga-tables (.*?)"'),
         ("crates/locnum/src/built.rt", r'VERSION: &str = "(.*) \(proved\)";$'),
     ):
         told = re.findall(form, read(path), flags=re.M)
