@@ -62,8 +62,8 @@ fi
 [ -r "$notice" ] || fails "$notice: it isn't there: apt-get install unicode-cldr-core"
 [ -r /usr/include/sqlite3ext.h ] || fails '/usr/include/sqlite3ext.h: it is not there: apt-get install libsqlite3-dev'
 mkdir -p "$dist" || fails "$dist: it can't be written"
-work=$(mktemp -d)
-trap 'rm -rf "$work"' EXIT
+work=$(mktemp -d) job='' seconds=0
+trap '[ -z "$job" ] || kill "$job"; rm -rf "$work"' EXIT
 trap 'exit 130' INT TERM HUP
 prefix=$work/prefix
 
@@ -74,8 +74,14 @@ if [ -z "$tables" ]; then
     echo "The tables of $release are made: this takes a minute."
     tables=$dist/tables
     rm -rf "$tables"
-    tools/cldr_to_tables.py -o "$work/tables/" --currencies all --percents --units "$units" "$release" 2>"$work/left_out" ||
-        { tail -n 5 "$work/left_out" >&2 && fails 'the tables: they were not made'; }
+    tools/cldr_to_tables.py -o "$work/tables/" --currencies all --percents --units "$units" "$release" 2>"$work/left_out" &
+    job=$!
+    while kill -0 "$job" 2>/dev/null; do
+        sleep 1
+        [ $((++seconds % 8)) != 0 ] || echo "The tables, $seconds seconds: $(find "$work/tables" -name '*.json' 2>/dev/null | wc -l) files"
+    done
+    wait "$job" || { tail -n 5 "$work/left_out" >&2 && fails 'the tables: they were not made'; }
+    job=
     install -m 644 "$notice" "$work/tables/CLDR-LICENSE"
     mv "$work/tables" "$tables" || fails "$tables: it can't be written"
 fi
