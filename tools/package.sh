@@ -119,18 +119,22 @@ Try it in this folder:
 
     bin/locnum -l de --currency EUR 1234.5
 
-This writes 1.234,50 €. The folder can be moved anywhere. To have its commands and manual pages, put it on the path:
+This writes 1.234,50 €. You can move the folder. To have its commands and
+manual pages everywhere, put it on the path:
 
     export PATH="\$PWD/bin:\$PATH"
     man locnum
 
-bin             locnum, decfmt, and talmuiga-tables, which makes tables (it needs Python 3.8)
-include, lib    the library for C and C++; the extension for SQLite
-share/talmuiga  tables of $locales names of locales, of CLDR $cldr ($size MB), English tables
-                (english.json), and a wheel for Python 3.10 and later: pip install FILE
+bin             locnum, decfmt, and talmuiga-tables, which makes tables of
+                locales (it needs Python 3.8)
+include, lib    the library for C and C++, and an extension for SQLite
+share/talmuiga  a folder of tables: $locales names of locales, CLDR $cldr, $size MB;
+                English tables; a wheel for Python 3.10 and later, which
+                'pip install FILE' installs
 share           manual pages, and completions for bash, zsh and fish
 
-LICENSE.md is the licence, CLDR-LICENSE that of the tables' data. This is $("$prefix/bin/locnum" --version)
+It needs Linux on x86-64 with glibc 2.34 or later. LICENSE.md is the licence,
+CLDR-LICENSE that of the tables' data. This is $("$prefix/bin/locnum" --version).
 END
 (cd "$tree" && find . ! -type d | sed 's/^\.\///' | sort >"$work/list" && cp "$work/list" share/talmuiga/installed)
 chmod -R u+rwX,go+rX,go-w "$tree"
