@@ -15,10 +15,12 @@ use Rattle.std.specs.Prelude.{
   Result,
   Ok,
   Err,
+  IsOk,
   if◌then◌else◌,
   pos,
 }
 use Rattle.writeable.specs.Events.{Event, text_of}
+use Rattle.writeable.specs.declared.sink.WriteFault.{WriteFault}
 use Rattle.fixed_decimal.specs.declared.signs.Sign.{Sign}
 use Rattle.fixed_decimal.specs.Reading.{reading}
 use Rattle.fixed_decimal.specs.Size.{size, ten_to}
@@ -71,6 +73,14 @@ IsRefusal shown error = (error ≡ OutOfMemory) ⊎ (shown ≡ Err error)
 abbrev pub AppendsShown : Result (List Event) TextError → List ℕ → List ℕ → Type 0
 AppendsShown (Ok events) old new = new ≡ old ++ text_of events
 AppendsShown (Err error) old new = ⊥
+
+-- What a call does that is to write what is shown: the call is handed the writer k and leaves l. On success all its events are written.
+-- After an error nothing is shown, or memory ran out; the writer is unchanged, unless it failed while those events were written.
+abbrev pub WroteShown : {K T : Type 0} → (K → Result (Unit {0}) WriteFault → List Event → K → Type 0) → K → Result T TextError →
+    Result (List Event) TextError → K → Type 0
+WroteShown {K} {T} wrote k (Ok x) shown l = (events : List Event) × (shown ≡ Ok events) × wrote k (Ok tt) events l
+WroteShown {K} {T} wrote k (Err error) shown l = IsRefusal shown error × ((l ≡ k) ⊎ ((error ≡ OutOfMemory)
+    × ((events : List Event) × (IsOk shown → shown ≡ Ok events) × wrote k (Err (record {})) events l)))
 
 -- an output holds a text of n bytes at its front if it fits, and else what it held before
 pub record HoldsIfRoom (old new text : List ℕ) (n : ℕ) : Type 0 where

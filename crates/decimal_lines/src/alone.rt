@@ -1,16 +1,14 @@
 //! A single text instead of a line: its characters, or its characters and parts.
 
-ghost use Rattle.std.specs.Prelude.{◌≡◌, ◌≢◌, Ok, length, IfErr, IfOk, OnOk, OnErr};
-ghost use Rattle.decimal_lines.specs.Alone.{AppendsShown, HoldsIfRoom, HoldsShown, IsRefusal, compact_events, decimal_read, events_of, mode_events};
+ghost use Rattle.std.specs.Prelude.{◌≡◌, Ok, length, IfErr, IfOk, OnErr};
+ghost use Rattle.decimal_lines.specs.Alone.{HoldsIfRoom, HoldsShown, IsRefusal, decimal_read, events_of};
 
-use crate::line::push_plain;
 use crate::mode::Mode;
+use crate::showing::{mark_shown, push_shown};
 use fixed_decimal::{Decimal, DecimalError};
-use icu_decimal::CompactDecimalFormatter;
-use icu_decimal::error::FormatError;
 use std::alloc::Global;
 use thiserror::Error;
-use writeable::Writeable;
+use writeable::PartsText;
 
 /// Why a text has no formatted number.
 #[derive(Clone, Copy, Debug, PartialEq, Eq, Error)]
@@ -43,56 +41,6 @@ pub fn read_decimal(alloc: Global, text: &[u8]) -> Result<Decimal, TextError>
         Err(DecimalError::Syntax) => Err(TextError::NotDecimal),
         Err(DecimalError::Limit) => Err(TextError::TooManyDigits),
         Err(DecimalError::OutOfMemory) => Err(TextError::OutOfMemory),
-    }
-}
-
-/// Appends the compact text of a decimal; without memory some bytes of it may stand there.
-fn push_compact(
-    alloc: Global,
-    formatter: &CompactDecimalFormatter,
-    decimal: &Decimal,
-    out: &mut Vec<u8>,
-) -> Result<(), TextError>
-    ensures ok { OnOk result (AppendsShown
-        (compact_events formatter.now decimal.now.sign decimal.now.absolute)
-        out.old.items out.new.items) }
-    ensures refused { IfErr result (λ error. IsRefusal
-        (compact_events formatter.now decimal.now.sign decimal.now.absolute) error) }
-    ensures unchanged { IfErr result (λ error. error ≢ TextError.OutOfMemory →
-        out.new.items ≡ out.old.items) }
-{
-    match formatter.format(alloc, decimal) {
-        Ok(formatted) => match formatted.write_events(out) {
-            Ok(()) => Ok(()),
-            Err(_) => Err(TextError::OutOfMemory),
-        },
-        Err(FormatError::Overflow) => Err(TextError::Overflow),
-        Err(FormatError::OutOfMemory | FormatError::Sink) => Err(TextError::OutOfMemory),
-    }
-}
-
-/// Appends what the mode shows for a decimal; without memory some bytes of it may stand there.
-#[tactic(auto, unfolding(crate::specs::Plain::plain_text))]
-pub fn push_shown(
-    alloc: Global,
-    mode: &Mode,
-    decimal: &Decimal,
-    out: &mut Vec<u8>,
-) -> Result<(), TextError>
-    ensures ok { OnOk result (AppendsShown
-        (mode_events mode.now decimal.now.sign decimal.now.absolute)
-        out.old.items out.new.items) }
-    ensures refused { IfErr result (λ error. IsRefusal
-        (mode_events mode.now decimal.now.sign decimal.now.absolute) error) }
-    ensures unchanged { IfErr result (λ error. error ≢ TextError.OutOfMemory →
-        out.new.items ≡ out.old.items) }
-{
-    match mode {
-        Mode::Plain(formatter) => match push_plain(formatter, decimal, out) {
-            Ok(()) => Ok(()),
-            Err(_) => Err(TextError::OutOfMemory),
-        },
-        Mode::Compact(formatter) => push_compact(alloc, formatter, decimal, out),
     }
 }
 
@@ -133,4 +81,19 @@ pub fn format_text(
     push_shown(alloc, mode, &decimal, &mut shown)?;
     put_front(output, &shown);
     Ok(shown.len())
+}
+
+/// What the mode shows for a text, with the byte offsets of its parts (this project's own).
+///
+/// The text is a decimal and nothing else, as for [`format_text`](crate::format_text). The parts
+/// are those of `icu_decimal`; in a compact number the sign alone has a part.
+// promise: The text has just the events of the number, with parts.
+// mutations: parts_overflow_told_as_no_decimal
+#[tactic(auto, unfolding(crate::specs::Alone::events_of))]
+pub fn format_parts(alloc: Global, mode: &Mode, text: &[u8]) -> Result<PartsText, TextError>
+    ensures ok { IfOk result (λ parts. events_of mode.now text.now ≡ Ok parts.events) }
+    ensures refused { IfErr result (λ error. IsRefusal (events_of mode.now text.now) error) }
+{
+    let decimal = read_decimal(alloc, text)?;
+    mark_shown(alloc, mode, &decimal)
 }
