@@ -5,9 +5,9 @@ use Rattle.std.specs.Prelude.{◌≢◌, IfErr, OnOk}
 use Rattle.writeable.specs.Annotated.{Annotated}
 use Rattle.writeable.specs.Events.{Event, text_of}
 use Rattle.writeable.specs.Sink.{LentWrites, Writes}
-use Rattle.decimal_lines.specs.Alone.{AppendsShown, IsRefusal, WroteShown}
-use Rattle.decimal_lines.specs.declared.alone.TextError.{TextError}
-use Rattle.decimal_lines.specs.declared.alone.TextError.TheVariants.{OutOfMemory}
+use Rattle.decimal_lines.specs.SingleText.{AppendsShown, IsRefusal, WroteShown}
+use Rattle.decimal_lines.specs.declared.single_text.TextError.{TextError}
+use Rattle.decimal_lines.specs.declared.single_text.TextError.TheVariants.{OutOfMemory}
 
 module _ {K T : Type 0} (items : K → List ℕ) (k l : K) where
   -- a buffer grows by the text of what is shown

@@ -1,12 +1,12 @@
 //! What a mode shows for a decimal: in any writer, in a buffer, or as a text with parts.
 
 ghost use Rattle.std.specs.Prelude.{◌≡◌, ◌≢◌, Ok, IfErr, IfOk, OnOk};
-ghost use Rattle.decimal_lines.specs.Alone.{AppendsShown, IsRefusal, WroteShown, compact_events, mode_events};
+ghost use Rattle.decimal_lines.specs.SingleText.{AppendsShown, IsRefusal, WroteShown, compact_events, mode_events};
 ghost use Rattle.writeable.specs.Sink.{Writes};
 ghost use Rattle.icu_decimal.specs.Decimal.{decimal_events};
 
-use crate::alone::TextError;
 use crate::mode::Mode;
+use crate::single_text::TextError;
 use fixed_decimal::Decimal;
 use icu_decimal::error::FormatError;
 use icu_decimal::{CompactDecimalFormatter, DecimalFormatter};

@@ -3,7 +3,7 @@
 ghost use Rattle.std.specs.Prelude.{◌≡◌, ◌≢◌, ◌++◌, IfOk, Ok, OnOk, codes, true};
 ghost use Rattle.std.specs.Result.{is_err};
 ghost use Rattle.fixed_decimal.specs.Unsigned.{IsUnsigned};
-ghost use Rattle.decimal_lines.specs.Alone.{decimal_read};
+ghost use Rattle.decimal_lines.specs.SingleText.{decimal_read};
 ghost use Rattle.locnum_forms.specs.Decimals.{decimal_written};
 ghost use Rattle.locnum_forms.specs.Forms.{form_events, formatter_events};
 ghost use Rattle.locnum_forms.specs.Reported.{reported};

@@ -14,8 +14,8 @@ use Rattle.icu_decimal.specs.Displayed.{displayed_entry}
 use Rattle.icu_decimal.specs.NearestLemmas.{nearest_compact_same}
 use Rattle.icu_dimension.specs.CompactMoney.{CompactMoney, compact_events, formatter_of}
 use Rattle.decimal_lines.specs.Computed.{nearest_number, significand_shown}
-use Rattle.decimal_lines.specs.declared.alone.TextError.{TextError}
-use Rattle.decimal_lines.specs.declared.alone.TextError.TheVariants.{Overflow}
+use Rattle.decimal_lines.specs.declared.single_text.TextError.{TextError}
+use Rattle.decimal_lines.specs.declared.single_text.TextError.TheVariants.{Overflow}
 use Rattle.decimal_lines.proofs.Displaying.{displayed-told, number-nearest, past-number}
 use Rattle.locnum_forms.specs.CompactMoney.{compact_money_events, compacted}
 

@@ -21,9 +21,9 @@ use Rattle.fixed_decimal.proofs.Rounds.{finest_large}
 use Rattle.fixed_decimal.proofs.Weights.{ten_mono, ten_pos, weighed_units}
 use Rattle.icu_decimal.proofs.DisplayedOnce.{digits_by_weight}
 use Rattle.decimal_lines.specs.Computed.{count_up_to, digits_from, rounded_units, scale_of}
-use Rattle.decimal_lines.specs.Alone.{IsRefusal}
-use Rattle.decimal_lines.specs.declared.alone.TextError.{TextError}
-use Rattle.decimal_lines.specs.declared.alone.TextError.TheVariants.{Overflow}
+use Rattle.decimal_lines.specs.SingleText.{IsRefusal}
+use Rattle.decimal_lines.specs.declared.single_text.TextError.{TextError}
+use Rattle.decimal_lines.specs.declared.single_text.TextError.TheVariants.{Overflow}
 use Rattle.decimal_lines.proofs.Computing.{digits_from-digits, length-digits_from, rounded-nearest, scale_of-at_most, scale_of-enough}
 use Rattle.decimal_lines.proofs.Computing.{weighed-digits_from}
 use Rattle.locnum_forms.specs.Fractions.{nearest_size, number_of, number_shown, with_fraction}

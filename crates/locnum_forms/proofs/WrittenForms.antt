@@ -14,10 +14,10 @@ use Rattle.icu_decimal.specs.declared.error.FormatError.{FormatError}
 use Rattle.icu_decimal.specs.declared.error.FormatError.TheVariants as format
 use Rattle.icu_dimension.specs.Money.{SignedFormat, money_events}
 use Rattle.icu_dimension.specs.Percent.{hundredfold}
-use Rattle.decimal_lines.specs.Alone.{WroteShown}
+use Rattle.decimal_lines.specs.SingleText.{WroteShown}
 use Rattle.decimal_lines.specs.LineAnswers.{is_within_limits}
-use Rattle.decimal_lines.specs.declared.alone.TextError.{TextError}
-use Rattle.decimal_lines.specs.declared.alone.TextError.TheVariants.{OutOfMemory, Overflow}
+use Rattle.decimal_lines.specs.declared.single_text.TextError.{TextError}
+use Rattle.decimal_lines.specs.declared.single_text.TextError.TheVariants.{OutOfMemory, Overflow}
 use Rattle.decimal_lines.proofs.Answering.{is_within-limits, limits-is_within}
 use Rattle.locnum_forms.specs.Forms.{percent_events}
 use Rattle.locnum_forms.specs.WrittenOr.{written_or}

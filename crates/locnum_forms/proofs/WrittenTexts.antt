@@ -2,8 +2,8 @@
 use Rattle.std.proofs.Common.{◌≡◌, ℕ, inl, inr, List, Result, Ok, Err, refl, ap, ◌∙◌}
 use Rattle.fixed_decimal.specs.declared.signs.Sign.{Sign}
 use Rattle.fixed_decimal.specs.Unsigned.{Unsigned}
-use Rattle.decimal_lines.specs.Alone.{IsRefusal, decimal_read}
-use Rattle.decimal_lines.specs.declared.alone.TextError.{TextError}
+use Rattle.decimal_lines.specs.SingleText.{IsRefusal, decimal_read}
+use Rattle.decimal_lines.specs.declared.single_text.TextError.{TextError}
 use Rattle.locnum_forms.specs.Decimals.{decimal_written, events_at, rounded_decimal, signed_decimal}
 use Rattle.locnum_forms.specs.Forms.{FormData, digits_moved, form_events, read_events, rounded_events}
 use Rattle.locnum_forms.specs.Fractions.{in_range}

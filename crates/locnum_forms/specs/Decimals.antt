@@ -6,8 +6,8 @@ use Rattle.fixed_decimal.specs.SignDisplay.{displayed_sign}
 use Rattle.fixed_decimal.specs.Size.{size}
 use Rattle.fixed_decimal.specs.Unsigned.{Unsigned}
 use Rattle.writeable.specs.Events.{Event}
-use Rattle.decimal_lines.specs.Alone.{decimal_read}
-use Rattle.decimal_lines.specs.declared.alone.TextError.{TextError}
+use Rattle.decimal_lines.specs.SingleText.{decimal_read}
+use Rattle.decimal_lines.specs.declared.single_text.TextError.{TextError}
 use Rattle.locnum_forms.specs.Forms.{FormData, digits_moved, formatter_events}
 use Rattle.locnum_forms.specs.Fractions.{in_range}
 use Rattle.locnum_forms.specs.declared.form.Formatter.{Formatter}

@@ -19,7 +19,7 @@ pub struct Prepared {
 
 impl Form {
     ghost use Rattle.std.specs.Prelude.{◌≡◌, Ok, IfErr, IfOk};
-    ghost use Rattle.decimal_lines.specs.Alone.{IsRefusal, decimal_read};
+    ghost use Rattle.decimal_lines.specs.SingleText.{IsRefusal, decimal_read};
     ghost use Rattle.locnum_forms.specs.Decimals.{decimal_written, rounded_decimal};
 
     /// What writes numbers whose digits and sign are given (this project's own).

@@ -6,7 +6,7 @@ ghost use Rattle.fixed_decimal.specs.Modes.{IsLeastFrom};
 ghost use Rattle.fixed_decimal.specs.Padding.{IsWrittenWith};
 ghost use Rattle.fixed_decimal.specs.Size.{magnitude, size};
 ghost use Rattle.fixed_decimal.specs.Unsigned.{IsUnsigned, high, integer_count};
-ghost use Rattle.decimal_lines.specs.Alone.{IsRefusal};
+ghost use Rattle.decimal_lines.specs.SingleText.{IsRefusal};
 ghost use Rattle.locnum_forms.specs.Fractions.{in_range, with_fraction};
 ghost use Rattle.locnum_forms.specs.Rounding.{IsCut, IsCutRefusal};
 

@@ -3,7 +3,7 @@
 ghost use Rattle.std.specs.Prelude.{◌≡◌, IfSome, None, Ok};
 ghost use Rattle.fixed_decimal.specs.SignDisplay.{minus_or_none};
 ghost use Rattle.writeable.specs.Sink.{Writes};
-ghost use Rattle.decimal_lines.specs.Alone.{WroteShown, mode_events};
+ghost use Rattle.decimal_lines.specs.SingleText.{WroteShown, mode_events};
 ghost use Rattle.locnum_forms.specs.Forms.{digits_moved, formatter_events};
 ghost use Rattle.locnum_forms.specs.WrittenOr.{written_or};
 ghost use Rattle.locnum_forms.specs.declared.form.Formatter.TheVariants.{Money, MoneyNamed, MoneyShort, Numbers, Percent, Units};
@@ -191,7 +191,7 @@ fn write_unchanged<K: EventWriter>(
 
 impl Form {
     ghost use Rattle.std.specs.Prelude.{◌≡◌, ◌≢◌, IfErr, IfOk, Ok, OnOk};
-    ghost use Rattle.decimal_lines.specs.Alone.{AppendsShown, IsRefusal, WroteShown};
+    ghost use Rattle.decimal_lines.specs.SingleText.{AppendsShown, IsRefusal, WroteShown};
     ghost use Rattle.writeable.specs.Sink.{Writes};
     ghost use Rattle.locnum_forms.specs.Forms.{form_events, formatter_events, read_events};
 

@@ -1,7 +1,7 @@
 use Rattle.std.proofs.Common.{◌≡◌, inl, inr, refl}
 use Rattle.std.specs.Prelude.{Ok}
 use Rattle.icu_decimal.specs.CompactFormat.{significand_of, signed_compact_shown}
-use Rattle.decimal_lines.specs.Alone.{compact_events}
+use Rattle.decimal_lines.specs.SingleText.{compact_events}
 use Rattle.decimal_lines.proofs.OneText.{compact_events-past, compact_events-written}
 use Rattle.decimal_lines.proofs.showing.write_compact.Goals as goal
 

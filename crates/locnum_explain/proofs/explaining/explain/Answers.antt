@@ -3,9 +3,9 @@ use Rattle.std.specs.Prelude.{◌≢◌, IfOk, OnOk}
 use Rattle.std.specs.Result.{is_err}
 use Rattle.std.proofs.lemmas.Result.{IfOk-weaker, on_ok_weaker}
 use Rattle.writeable.specs.Events.{Event}
-use Rattle.decimal_lines.specs.Alone.{IsRefusal}
-use Rattle.decimal_lines.specs.declared.alone.TextError.{TextError}
-use Rattle.decimal_lines.specs.declared.alone.TextError.TheVariants.{OutOfMemory}
+use Rattle.decimal_lines.specs.SingleText.{IsRefusal}
+use Rattle.decimal_lines.specs.declared.single_text.TextError.{TextError}
+use Rattle.decimal_lines.specs.declared.single_text.TextError.TheVariants.{OutOfMemory}
 use Rattle.locnum_forms.specs.Decimals.{events_at}
 use Rattle.locnum_forms.proofs.WrittenTexts.{form_events-at, form_events-refused}
 use Rattle.locnum_explain.specs.Lines.{form_explanation, outcome_lines}

@@ -6,7 +6,7 @@ use Rattle.fixed_decimal.specs.Padding.{IsWrittenWith}
 use Rattle.fixed_decimal.specs.Size.{magnitude, size}
 use Rattle.fixed_decimal.specs.Unsigned.{Unsigned, IsUnsigned, high, integer_count}
 use Rattle.fixed_decimal.specs.declared.signed.Decimal.{Decimal}
-use Rattle.decimal_lines.specs.declared.alone.TextError.{TextError}
+use Rattle.decimal_lines.specs.declared.single_text.TextError.{TextError}
 use Rattle.locnum_forms.specs.Fractions.{with_fraction}
 use Rattle.locnum_forms.proofs.Cutting.{cut-refused, with-rounded, with-shortened}
 use Rattle.locnum_forms.proofs.fractions.with_fraction.Goals as goal

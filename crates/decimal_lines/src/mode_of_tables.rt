@@ -3,8 +3,8 @@
 ghost use Rattle.std.specs.Prelude.{◌≡◌, Ok, Err, IfOk, IfErr};
 ghost use Rattle.decimal_lines.specs.LineAnswers.{HasTable};
 ghost use Rattle.decimal_lines.specs.declared.mode.Mode.TheVariants.{Compact};
-ghost use Rattle.decimal_lines.specs.Making.{Starts, compact_options, compact_preferences, long_mode, mode_by, mode_of, plain_mode, plain_options};
-ghost use Rattle.decimal_lines.specs.Making.{plain_preferences, short_mode, start_error};
+ghost use Rattle.decimal_lines.specs.ModeOfTables.{Starts, compact_options, compact_preferences, long_mode, mode_by, mode_of, plain_mode, plain_options};
+ghost use Rattle.decimal_lines.specs.ModeOfTables.{plain_preferences, short_mode, start_error};
 
 use crate::mode::{Mode, StartError};
 use crate::words::{Style, Words};
@@ -70,7 +70,7 @@ fn start_error(error: DataError) -> StartError
 }
 
 /// Plain numbers.
-#[tactic(auto, unfolding(crate::specs::Making::plain_mode))]
+#[tactic(auto, unfolding(crate::specs::ModeOfTables::plain_mode))]
 fn plain_mode(alloc: Global, tables: &Tables, words: &Words<'_>) -> Result<Mode, StartError>
     ensures mode { Starts result (plain_mode words.now tables.now) }
     ensures table { IfOk result (λ mode. HasTable mode) }
@@ -94,7 +94,7 @@ fn compact_mode(made: Result<CompactDecimalFormatter, DataError>) -> Result<Mode
 }
 
 /// Numbers shortened by the short patterns.
-#[tactic(auto, unfolding(crate::specs::Making::short_mode))]
+#[tactic(auto, unfolding(crate::specs::ModeOfTables::short_mode))]
 fn short_mode(alloc: Global, tables: &Tables, words: &Words<'_>) -> Result<Mode, StartError>
     ensures mode { Starts result (short_mode words.now tables.now) }
     ensures table { IfOk result (λ mode. HasTable mode) }
@@ -105,7 +105,7 @@ fn short_mode(alloc: Global, tables: &Tables, words: &Words<'_>) -> Result<Mode,
 }
 
 /// Numbers shortened by the long patterns.
-#[tactic(auto, unfolding(crate::specs::Making::long_mode))]
+#[tactic(auto, unfolding(crate::specs::ModeOfTables::long_mode))]
 fn long_mode(alloc: Global, tables: &Tables, words: &Words<'_>) -> Result<Mode, StartError>
     ensures mode { Starts result (long_mode words.now tables.now) }
     ensures table { IfOk result (λ mode. HasTable mode) }
@@ -116,7 +116,7 @@ fn long_mode(alloc: Global, tables: &Tables, words: &Words<'_>) -> Result<Mode, 
 }
 
 /// The mode of the style that is asked for.
-#[tactic(auto, unfolding(crate::specs::Making::mode_by))]
+#[tactic(auto, unfolding(crate::specs::ModeOfTables::mode_by))]
 fn mode_by(alloc: Global, tables: &Tables, words: &Words<'_>) -> Result<Mode, StartError>
     ensures mode { Starts result (mode_by words.now tables.now) }
     ensures table { IfOk result (λ mode. HasTable mode) }
@@ -129,7 +129,7 @@ fn mode_by(alloc: Global, tables: &Tables, words: &Words<'_>) -> Result<Mode, St
 }
 
 /// The mode of a text of tables.
-#[tactic(auto, unfolding(crate::specs::Making::mode_of))]
+#[tactic(auto, unfolding(crate::specs::ModeOfTables::mode_of))]
 fn mode_of(alloc: Global, words: &Words<'_>, text: &str) -> Result<Mode, StartError>
     ensures mode { Starts result (mode_of words.now text.now) }
     ensures table { IfOk result (λ mode. HasTable mode) }
@@ -144,7 +144,7 @@ fn mode_of(alloc: Global, words: &Words<'_>, text: &str) -> Result<Mode, StartEr
 impl Mode {
     ghost use Rattle.std.specs.Prelude.{◌≡◌, Err, IfOk};
     ghost use Rattle.std.specs.Str.{IsUtf8};
-    ghost use Rattle.decimal_lines.specs.Making.{Starts, mode_of};
+    ghost use Rattle.decimal_lines.specs.ModeOfTables.{Starts, mode_of};
 
     /// The mode that the arguments ask for, by the bytes of the file of tables (this project's
     /// own).

@@ -1,7 +1,7 @@
 //! A single text instead of a line: its characters, or its characters and parts.
 
 ghost use Rattle.std.specs.Prelude.{◌≡◌, Ok, length, IfErr, IfOk, OnErr};
-ghost use Rattle.decimal_lines.specs.Alone.{HoldsIfRoom, HoldsShown, IsRefusal, decimal_read, events_of};
+ghost use Rattle.decimal_lines.specs.SingleText.{HoldsIfRoom, HoldsShown, IsRefusal, decimal_read, events_of};
 
 use crate::mode::Mode;
 use crate::showing::{mark_shown, push_shown};
@@ -59,7 +59,7 @@ fn put_front(output: &mut [u8], text: &[u8])
 /// The text is a decimal and nothing else: a line feed or a carriage return in it is rejected.
 // promise: The output has the text of the number if it fits.
 // mutations: text_room_told_as_its_length
-#[tactic(auto, unfolding(crate::specs::Alone::events_of))]
+#[tactic(auto, unfolding(crate::specs::SingleText::events_of))]
 pub fn format_text(
     alloc: Global,
     mode: &Mode,
@@ -89,7 +89,7 @@ pub fn format_text(
 /// are those of `icu_decimal`; in a compact number the sign alone has a part.
 // promise: The text has just the events of the number, with parts.
 // mutations: parts_overflow_told_as_no_decimal
-#[tactic(auto, unfolding(crate::specs::Alone::events_of))]
+#[tactic(auto, unfolding(crate::specs::SingleText::events_of))]
 pub fn format_parts(alloc: Global, mode: &Mode, text: &[u8]) -> Result<PartsText, TextError>
     ensures ok { IfOk result (λ parts. events_of mode.now text.now ≡ Ok parts.events) }
     ensures refused { IfErr result (λ error. IsRefusal (events_of mode.now text.now) error) }

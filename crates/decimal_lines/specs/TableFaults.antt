@@ -4,8 +4,8 @@ use Rattle.std.specs.Str.{is_utf8}
 use Rattle.icu_tables.specs.Tables.{TablesData, tables_of}
 use Rattle.icu_table_entries.specs.declared.error.TableError.{TableError}
 use Rattle.icu_table_entries.specs.declared.error.TableError.TheVariants.{OutOfMemory}
-use Rattle.decimal_lines.specs.declared.judging.TablesFault.{TablesFault}
-use Rattle.decimal_lines.specs.declared.judging.TablesFault.TheVariants.{NotUtf8, Refused}
+use Rattle.decimal_lines.specs.declared.table_faults.TablesFault.{TablesFault}
+use Rattle.decimal_lines.specs.declared.table_faults.TablesFault.TheVariants.{NotUtf8, Refused}
 
 -- by the tables of a text, or what rejects it
 abbrev pub text_judged : Result TablesData TableError → Result (Unit {0}) TablesFault

@@ -1,7 +1,7 @@
 use Rattle.std.proofs.Common.{◌++◌, ◌∙◌, ap, sym, take, drop, append_assoc, List, ℕ}
 use Rattle.std.proofs.lemmas.List.{take-append-drop}
 use Rattle.decimal_lines.proofs.Known.{Appends-then}
-use Rattle.decimal_lines.proofs.piece.write_piece.Goals as goal
+use Rattle.decimal_lines.proofs.writing.write_piece.Goals as goal
 
 pub loop-rest-preserved : goal.loop-rest-preserved
 loop-rest-preserved g c =

@@ -3,7 +3,7 @@ use Rattle.icu_tables.specs.ForLocale.{IsFor}
 use Rattle.icu_tables.specs.Tables.{tables_of}
 use Rattle.decimal_lines.specs.Words.{WordsData}
 use Rattle.decimal_lines.proofs.OneLocale.{mode_for}
-use Rattle.decimal_lines.proofs.making.mode_of.Goals as goal
+use Rattle.decimal_lines.proofs.mode_of_tables.mode_of.Goals as goal
 
 pub returns-in-Ok-clause-mode : goal.returns-in-Ok-clause-mode
 returns-in-Ok-clause-mode c =

@@ -31,8 +31,8 @@ use Rattle.decimal_lines.specs.LineAnswers.{is_within_limits}
 use Rattle.decimal_lines.specs.Compact.{events_shown}
 use Rattle.decimal_lines.specs.Computed.{nearest_number}
 use Rattle.decimal_lines.specs.Filled.{IsFilled}
-use Rattle.decimal_lines.specs.declared.alone.TextError.{TextError}
-use Rattle.decimal_lines.specs.declared.alone.TextError.TheVariants.{NotDecimal, TooManyDigits, Overflow, OutOfMemory}
+use Rattle.decimal_lines.specs.declared.single_text.TextError.{TextError}
+use Rattle.decimal_lines.specs.declared.single_text.TextError.TheVariants.{NotDecimal, TooManyDigits, Overflow, OutOfMemory}
 use Rattle.decimal_lines.specs.declared.mode.Mode.{Mode}
 use Rattle.decimal_lines.specs.declared.mode.Mode.TheVariants.{Plain, Compact}
 

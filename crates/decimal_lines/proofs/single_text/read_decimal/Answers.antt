@@ -1,6 +1,6 @@
 use Rattle.std.proofs.Common.{inr, refl}
 use Rattle.decimal_lines.proofs.OneText.{decimal_read-decimal, decimal_read-nothing, decimal_read-past}
-use Rattle.decimal_lines.proofs.alone.read_decimal.Goals as goal
+use Rattle.decimal_lines.proofs.single_text.read_decimal.Goals as goal
 
 pub returns-in-Ok-clause-ok : goal.returns-in-Ok-clause-ok
 returns-in-Ok-clause-ok c =

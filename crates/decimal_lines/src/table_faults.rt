@@ -2,7 +2,7 @@
 
 ghost use Rattle.std.specs.Prelude.{◌≡◌, IfErr, OnOk, Ok};
 ghost use Rattle.icu_tables.specs.Tables.{tables_of};
-ghost use Rattle.decimal_lines.specs.Judging.{IsFault, tables_judged, text_judged};
+ghost use Rattle.decimal_lines.specs.TableFaults.{IsFault, tables_judged, text_judged};
 
 use icu_tables::{TableError, Tables};
 use std::alloc::Global;
