@@ -33,6 +33,7 @@ use Rattle.std.proofs.Common.{
   nat_lt,
   zero-add,
   add-zero,
+  mul_assoc,
   negsuc,
 }
 use Rattle.std.specs.Prelude.{◌==◌, if◌then◌else◌}
@@ -41,11 +42,12 @@ use Rattle.std.proofs.lemmas.Int.{ints}
 use Rattle.std.proofs.lemmas.Nat.{mod-mul-add}
 use Rattle.std.proofs.lemmas.List.{get_or-drop}
 use Rattle.std.proofs.lemmas.List.Elements.{All-nil, All-cons}
-use Rattle.std.proofs.Math.Nat.{mod-lt, mod-eq_of_lt, mul-le-mul_left}
+use Rattle.std.proofs.Math.Nat.{mod-lt, mod-eq_of_lt, mul-le-mul_left, mul-mod_left}
 use Rattle.fixed_decimal.specs.Unsigned.{IsUnsigned, AreDigits, integer_count, low, digit_at}
 use Rattle.fixed_decimal.specs.Size.{finest, weighed, size}
 use Rattle.fixed_decimal.specs.Trimming.{IsTrimmed}
 use Rattle.fixed_decimal.specs.Nearest.{IsMultiple, IsNearest}
+use Rattle.fixed_decimal.proofs.MagnitudePlaces.{ten_multiple}
 use Rattle.fixed_decimal.proofs.Weights.{ten_pos, ten_more}
 use Rattle.fixed_decimal.proofs.Rounds.{finest_large}
 use Rattle.fixed_decimal.proofs.Nearness.{nearest_below, nearest_above, nearest_tie_even, nearest_tie_odd}
@@ -157,6 +159,30 @@ scale-least x (suc n) k e = go (x % 10 ^ (finest - n) == 0) refl (scale-least x 
         λ z.
         let here : x % 10 ^ (finest - n) ≡ 0 = ap (λ j. x % 10 ^ (finest - j)) same ∙ z in
         absurd (grind (arith, nat_tests))
+
+-- they write a size that 32768 digits below power 0 write
+pub scale_of-enough : (x : ℕ) → x % 10 ^ (finest - 32768) ≡ 0 → x % 10 ^ (finest - scale_of x) ≡ 0
+unfolding scale_of
+scale_of-enough x whole = scale-enough x 32768 whole
+
+-- and a size that n digits write needs no more than these
+pub scale_of-at_most : (x n : ℕ) → IsMultiple (10 ^ (finest - n)) x → scale_of x ≤ n
+unfolding scale_of
+scale_of-at_most x n (q, whole) = go (scale_up_to x 32768) refl
+  where
+    more : (k : ℕ) → n ≤ k → x % 10 ^ (finest - k) ≡ 0
+    more k few = by_factor (ten_multiple (finest - k) (finest - n) (omega arith))
+      where
+        by_factor : IsMultiple (10 ^ (finest - k)) (10 ^ (finest - n)) → x % 10 ^ (finest - k) ≡ 0
+        by_factor (r, e) = ap (λ y. y % 10 ^ (finest - k)) (whole ∙ ap (λ y. q * y) e ∙ sym (mul_assoc q r (10 ^ (finest - k))))
+            ∙ mul-mod_left (q * r) (10 ^ (finest - k))
+
+    small : (k : ℕ) → ¬ (n ≤ k) → suc k ≤ n
+    small k large = grind arith
+
+    go : (s : ℕ) → scale_up_to x 32768 ≡ s → s ≤ n
+    go zero e = omega arith
+    go (suc k) e = small k (λ few. scale-least x 32768 k e (more k few))
 
 -- A size that fits: that many digits at power 0 and above, and 32768 below.
 module _ (count x : ℕ) (some : 0 < count) (few : count ≤ 32768) (whole : x % 10 ^ (finest - 32768) ≡ 0) (below : x < 10 ^ (finest + count)) where

@@ -7,8 +7,8 @@ use Rattle.icu_table_entries.specs.Reading.{Fails}
 use Rattle.icu_tables.specs.Tables.{TablesData, tables_of}
 use Rattle.icu_table_entries.specs.declared.error.TableError.{TableError}
 use Rattle.icu_table_entries.specs.declared.error.TableError.TheVariants as table
-use Rattle.decimal_lines.specs.Judging.{IsFault, tables_judged, text_judged}
-use Rattle.decimal_lines.specs.declared.judging.TablesFault.TheVariants.{NotUtf8, Refused}
+use Rattle.decimal_lines.specs.TableFaults.{IsFault, tables_judged, text_judged}
+use Rattle.decimal_lines.specs.declared.table_faults.TablesFault.TheVariants.{NotUtf8, Refused}
 
 -- a file that is a text
 pub tables_judged-text : (file : List ℕ) → IsUtf8 file → tables_judged file ≡ text_judged (tables_of file)

@@ -11,6 +11,7 @@ pub mod Runs
 pub mod EachLine
 pub mod Apart
 pub mod OneText
+pub mod ShownInto
 pub mod Consumed
 pub mod Judged
 pub mod OneLocale

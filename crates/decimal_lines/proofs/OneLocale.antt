@@ -12,7 +12,7 @@ use Rattle.icu_tables.specs.Digits.{system_answer}
 use Rattle.icu_tables.specs.ForLocale.{AnswersAs, IsFor}
 use Rattle.icu_table_entries.specs.Named.{NamedEntry}
 use Rattle.icu_tables.specs.Tables.{TablesData, tables_of}
-use Rattle.decimal_lines.specs.Making.{compact_options, long_mode, mode_by, mode_by_tables, mode_of, plain_mode, plain_options, short_mode, started}
+use Rattle.decimal_lines.specs.ModeOfTables.{compact_options, long_mode, mode_by, mode_by_tables, mode_of, plain_mode, plain_options, short_mode, started}
 use Rattle.decimal_lines.specs.Words.{WordsData}
 use Rattle.decimal_lines.specs.declared.mode.Mode.{Mode}
 use Rattle.decimal_lines.specs.declared.mode.Mode.TheVariants as mode

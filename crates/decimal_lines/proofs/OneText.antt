@@ -12,11 +12,11 @@ use Rattle.fixed_decimal.proofs.Readings.{reading-reads, reading-nothing}
 use Rattle.writeable.specs.Events.{Event}
 use Rattle.icu_decimal.specs.CompactFormat.{CompactFormat, IsCompactFormat}
 use Rattle.icu_decimal.specs.CompactNumber.{ShowsPastLimits}
-use Rattle.decimal_lines.specs.Alone.{compact_events, decimal_read, within_or}
+use Rattle.decimal_lines.specs.SingleText.{compact_events, decimal_read, within_or}
 use Rattle.decimal_lines.specs.LineAnswers.{is_within_limits}
 use Rattle.decimal_lines.specs.Compact.{events_shown}
 use Rattle.decimal_lines.specs.Computed.{nearest_number}
-use Rattle.decimal_lines.specs.declared.alone.TextError.TheVariants.{NotDecimal, TooManyDigits, Overflow}
+use Rattle.decimal_lines.specs.declared.single_text.TextError.TheVariants.{NotDecimal, TooManyDigits, Overflow}
 use Rattle.decimal_lines.proofs.Answering.{is_within-limits, limits-is_within}
 use Rattle.decimal_lines.proofs.Displaying.{events-told, number-nearest, past-number}
 

@@ -7,7 +7,7 @@ pub mod Written
 pub mod Filled
 pub mod Laws
 pub mod Words
-pub mod Making
-pub mod Alone
+pub mod ModeOfTables
+pub mod SingleText
 pub mod Progress
-pub mod Judging
+pub mod TableFaults

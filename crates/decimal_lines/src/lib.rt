@@ -11,27 +11,27 @@
 //! prints `1,000,007` and `error: not a decimal`.
 #![tactic(auto)]
 
-mod alone;
 mod blocks;
 mod filling;
-mod judging;
 pub mod laws;
 mod line;
-mod making;
-mod marked;
 mod mode;
-mod piece;
+mod mode_of_tables;
 mod progress;
 mod running;
+mod showing;
+mod single_text;
+mod table_faults;
 mod words;
+mod writing;
 
-pub use alone::{TextError, format_text, push_shown, read_decimal};
 pub use filling::{FillError, Filled, format_lines};
-pub use judging::{TablesFault, judge_tables};
-pub use making::{compact_options, plain_options};
-pub use marked::{format_parts, mark_shown};
 pub use mode::{Mode, StartError};
-pub use piece::{WriteFailed, write_piece};
+pub use mode_of_tables::{compact_options, plain_options};
 pub use progress::{Progress, format_some};
 pub use running::{RunError, run};
+pub use showing::{mark_shown, push_shown, write_shown};
+pub use single_text::{TextError, format_parts, format_text, read_decimal};
+pub use table_faults::{TablesFault, judge_tables};
 pub use words::{Style, Words, parse_words};
+pub use writing::{WriteFailed, write_piece};

@@ -9,7 +9,7 @@ ghost use Rattle.decimal_lines.specs.Written.{AppendsBeginning, AppendsProperBeg
 use crate::blocks::take_block;
 use crate::line::push_line;
 use crate::mode::Mode;
-use crate::piece::write_piece;
+use crate::writing::write_piece;
 use std::alloc::{AllocError, Global};
 use std::io::{Read, Write};
 use thiserror::Error;

@@ -4,9 +4,9 @@ use Rattle.writeable.specs.Events.{Event, text_of}
 use Rattle.writeable.specs.Spans.{spans}
 use Rattle.fixed_decimal.specs.declared.signs.Sign.{Sign}
 use Rattle.fixed_decimal.specs.Unsigned.{Unsigned}
-use Rattle.decimal_lines.specs.Alone.{decimal_read}
-use Rattle.decimal_lines.specs.declared.alone.TextError.{TextError}
-use Rattle.decimal_lines.specs.declared.alone.TextError.TheVariants.{NotDecimal, TooManyDigits, Overflow, OutOfMemory}
+use Rattle.decimal_lines.specs.SingleText.{decimal_read}
+use Rattle.decimal_lines.specs.declared.single_text.TextError.{TextError}
+use Rattle.decimal_lines.specs.declared.single_text.TextError.TheVariants.{NotDecimal, TooManyDigits, Overflow, OutOfMemory}
 use Rattle.decimal_lines.specs.declared.mode.Mode.TheVariants.{Plain, Compact}
 use Rattle.locnum_forms.specs.Decimals.{decimal_written}
 use Rattle.locnum_forms.specs.Forms.{FormData, form_events}

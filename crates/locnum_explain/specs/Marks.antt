@@ -10,7 +10,7 @@ use Rattle.icu_decimal.specs.CompactFormat.{CompactFormat, FormattedCompact, giv
 use Rattle.icu_dimension.specs.CompactMoney.{CompactMoney, formatter_of}
 use Rattle.icu_dimension.specs.Money.{sign_framed}
 use Rattle.decimal_lines.specs.Computed.{nearest_number}
-use Rattle.decimal_lines.specs.declared.alone.TextError.{TextError}
+use Rattle.decimal_lines.specs.declared.single_text.TextError.{TextError}
 use Rattle.decimal_lines.specs.declared.mode.Mode.TheVariants.{Plain, Compact}
 use Rattle.locnum_forms.specs.CompactMoney.{compacted}
 use Rattle.locnum_forms.specs.declared.form.Formatter.{Formatter}

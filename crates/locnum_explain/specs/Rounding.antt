@@ -4,7 +4,7 @@ use Rattle.std.specs.List.{list_all}
 use Rattle.fixed_decimal.specs.declared.signs.Sign.{Sign}
 use Rattle.fixed_decimal.specs.Text.{digits_text, fraction_text, sign_text}
 use Rattle.fixed_decimal.specs.Unsigned.{Unsigned, fraction, integer}
-use Rattle.decimal_lines.specs.declared.alone.TextError.{TextError}
+use Rattle.decimal_lines.specs.declared.single_text.TextError.{TextError}
 use Rattle.locnum_forms.specs.Reported.{reported}
 use Rattle.locnum_explain.specs.declared.settings.DigitsBy.{DigitsBy}
 use Rattle.locnum_explain.specs.declared.settings.DigitsBy.TheVariants.{Fraction, Currency, Given}

@@ -1,16 +1,18 @@
 //! The explanation of a text.
 
-ghost use Rattle.std.specs.Prelude.{◌≡◌, ◌≢◌, ◌++◌, IfOk, Ok, OnOk};
+ghost use Rattle.std.specs.Prelude.{◌≡◌, ◌≢◌, ◌++◌, IfOk, Ok, OnOk, codes, true};
 ghost use Rattle.std.specs.Result.{is_err};
 ghost use Rattle.fixed_decimal.specs.Unsigned.{IsUnsigned};
-ghost use Rattle.decimal_lines.specs.Alone.{decimal_read};
-ghost use Rattle.locnum_forms.specs.Forms.{form_events};
+ghost use Rattle.decimal_lines.specs.SingleText.{decimal_read};
+ghost use Rattle.locnum_forms.specs.Decimals.{decimal_written};
+ghost use Rattle.locnum_forms.specs.Forms.{form_events, formatter_events};
+ghost use Rattle.locnum_forms.specs.Reported.{reported};
 ghost use Rattle.locnum_forms.specs.declared.form.Formatter.TheVariants.{MoneyNamed, Units};
-ghost use Rattle.locnum_explain.specs.Lines.{detail_lines, fact_lines, form_explanation, refusal_line, written_lines};
+ghost use Rattle.locnum_explain.specs.Lines.{detail_lines, fact_lines, form_explanation, outcome_lines, refusal_line, written_lines};
 
 use crate::compact::{push_amount, push_compact};
 use crate::facts::push_magnitude;
-use crate::marking::{push_marked, push_spans};
+use crate::marking::push_marked;
 use crate::operands::push_operands;
 use crate::patterns::{push_name, push_signed, push_unit};
 use crate::rounding::push_rounding;
@@ -19,7 +21,7 @@ use decimal_lines::Mode;
 use fixed_decimal::Decimal;
 use icu_decimal::DecimalFormatter;
 use icu_dimension::{LongCurrencyFormatter, UnitsFormatter};
-use locnum_forms::{Form, Formatter, TextError, push_reported};
+use locnum_forms::{Form, Formatter, Prepared, TextError, push_reported};
 use std::alloc::{AllocError, Global};
 use writeable::PartsText;
 
@@ -86,23 +88,24 @@ fn push_details(
     }
 }
 
-/// Appends what is said of the decimal that a form writes for a text.
+/// Appends what is said of the number of a text, and of the decimal that a form writes for it.
 fn push_facts(
     alloc: Global,
     digits: &DigitsBy<'_>,
     formatter: &Formatter,
     text: &[u8],
-    decimal: &Decimal,
+    prepared: &Prepared,
     out: &mut Vec<u8>,
 ) -> Result<(), AllocError>
-    requires { IsUnsigned decimal.now.absolute }
     ensures { OnOk result (out.new.items ≡ out.old.items
-        ++ fact_lines digits.now formatter.now text.now (decimal_read text.now)
-        (Ok (decimal.now.sign, decimal.now.absolute))) }
+        ++ fact_lines digits.now formatter.now text.now
+        (Ok (prepared.now.read.sign, prepared.now.read.absolute))
+        (Ok (prepared.now.written.sign, prepared.now.written.absolute))) }
 {
-    push_rounding(alloc, digits, text, decimal, out)?;
-    push_magnitude(&decimal.absolute, out)?;
-    push_details(alloc, formatter, decimal, out)
+    let written = &prepared.written;
+    push_rounding(digits, text, prepared, out)?;
+    push_magnitude(&written.absolute, out)?;
+    push_details(alloc, formatter, written, out)
 }
 
 /// Appends what a form writes for a text, with its parts, and what is said of the decimal that is
@@ -112,37 +115,72 @@ fn push_written(
     settings: &Settings<'_>,
     form: &Form,
     text: &[u8],
-    written: &PartsText,
+    prepared: &Prepared,
+    marked: &PartsText,
     out: &mut Vec<u8>,
 ) -> Result<(), AllocError>
+    requires read { decimal_read text.now
+        ≡ Ok (prepared.now.read.sign, prepared.now.read.absolute) }
+    requires written { decimal_written form.now text.now
+        ≡ Ok (prepared.now.written.sign, prepared.now.written.absolute) }
     ensures { OnOk result (out.new.items ≡ out.old.items
-        ++ written_lines settings.now form.now text.now written.now.events) }
+        ++ written_lines settings.now form.now text.now marked.now.events) }
 {
-    match form.decimal(alloc, text) {
-        Ok(decimal) => {
-            push_marked(alloc, settings.width, form, &decimal, written, out)?;
-            push_facts(
-                alloc,
-                &settings.digits,
-                form.formatter(),
-                text,
-                &decimal,
-                out,
-            )
+    let written = &prepared.written;
+    push_marked(alloc, settings.width, form, written, marked, out)?;
+    let formatter = form.formatter();
+    push_facts(alloc, &settings.digits, formatter, text, prepared, out)
+}
+
+/// Appends a text as notes show it, and why it isn't written; that it is rejected.
+fn push_rejected(text: &[u8], error: TextError, out: &mut Vec<u8>) -> Result<bool, AllocError>
+    ensures appended { OnOk result (out.new.items ≡ out.old.items
+        ++ (reported text.now ++ codes "\n" ++ refusal_line error)) }
+    ensures reason { OnOk result (error ≢ TextError.OutOfMemory) }
+    ensures rejected { IfOk result (λ r. r ≡ true) }
+{
+    push_reported(text, out)?;
+    out.push(b'\n')?;
+    push_refusal(error, out)?;
+    Ok(true)
+}
+
+/// Appends the explanation of a text whose number is prepared; whether it is rejected.
+fn explain_prepared(
+    alloc: Global,
+    settings: &Settings<'_>,
+    form: &Form,
+    text: &[u8],
+    prepared: &Prepared,
+    out: &mut Vec<u8>,
+) -> Result<bool, AllocError>
+    requires read { decimal_read text.now
+        ≡ Ok (prepared.now.read.sign, prepared.now.read.absolute) }
+    requires written { decimal_written form.now text.now
+        ≡ Ok (prepared.now.written.sign, prepared.now.written.absolute) }
+    ensures lines { OnOk result (out.new.items ≡ out.old.items
+        ++ outcome_lines settings.now form.now text.now (formatter_events form.now.formatter
+        prepared.now.written.sign prepared.now.written.absolute)) }
+    ensures refused { IfOk result (λ r. r ≡ is_err (formatter_events form.now.formatter
+        prepared.now.written.sign prepared.now.written.absolute)) }
+{
+    match form.mark_decimal(alloc, &prepared.written) {
+        Ok(marked) => {
+            out.extend_from_slice(text)?;
+            out.push(b'\n')?;
+            push_written(alloc, settings, form, text, prepared, &marked, out)?;
+            Ok(false)
         }
-        Err(TextError::NotDecimal | TextError::TooManyDigits | TextError::Overflow) => {
-            push_spans(alloc, settings.width, written, written, out)
-        }
-        Err(TextError::OutOfMemory) => Err(AllocError),
+        Err(error) => push_rejected(text, error, out),
     }
 }
 
 /// Appends the explanation of a text by a form (this project's own); whether the text is rejected.
 ///
 /// First the text stands in a line, and below it, indented, what the form writes for it with the
-/// parts underlined, also all those of a compact number, to what the number was rounded where it was, the magnitude of the number that
-/// is written, and what else there is to say: of a compact number the values around it that are
-/// shown, the table's entry, the plural operands of the significand with their category, and the
+/// parts underlined, also all those of a compact number, to what the number was rounded where it
+/// was, the magnitude of the number that is written, and what else there is to say: of a compact
+/// number the values around it that are shown, the table's entry, the plural operands of the significand with their category, and the
 /// pattern; of money and percents the pattern; of a number with a unit or the name of a currency
 /// its operands with their category, and the pattern. In a pattern `{0}` stands for the number. A
 /// compact amount below the first entry of the table has two patterns, `{0}` and that of money.
@@ -164,18 +202,8 @@ pub fn explain(
         ++ form_explanation settings.now form.now text.now) }
     ensures refused { IfOk result (λ r. r ≡ is_err (form_events form.now text.now)) }
 {
-    match form.mark(alloc, text) {
-        Ok(marked) => {
-            out.extend_from_slice(text)?;
-            out.push(b'\n')?;
-            push_written(alloc, settings, form, text, &marked, out)?;
-            Ok(false)
-        }
-        Err(error) => {
-            push_reported(text, out)?;
-            out.push(b'\n')?;
-            push_refusal(error, out)?;
-            Ok(true)
-        }
+    match form.prepare(alloc, text) {
+        Ok(prepared) => explain_prepared(alloc, settings, form, text, &prepared, out),
+        Err(error) => push_rejected(text, error, out),
     }
 }

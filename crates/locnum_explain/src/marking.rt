@@ -135,7 +135,7 @@ fn marks_of(
 }
 
 /// Appends a text in a line, and under it the parts of another one, which has the same characters.
-pub(crate) fn push_spans(
+fn push_spans(
     alloc: Global,
     width: usize,
     text: &PartsText,

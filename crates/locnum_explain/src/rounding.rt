@@ -1,18 +1,16 @@
 //! The line that says that a number was rounded.
 
-ghost use Rattle.std.specs.Prelude.{◌≡◌, ◌<◌, ◌==◌, ◌++◌, All, OnOk, decimal, drop};
+ghost use Rattle.std.specs.Prelude.{◌≡◌, ◌<◌, ◌==◌, ◌++◌, All, Ok, OnOk, decimal, drop};
 ghost use Rattle.std.specs.List.{list_all};
 ghost use Rattle.fixed_decimal.specs.Unsigned.{fraction};
 ghost use Rattle.fixed_decimal.specs.Text.{digits_text, fraction_text, sign_text};
-ghost use Rattle.decimal_lines.specs.Alone.{decimal_read};
 ghost use Rattle.locnum_explain.specs.Rounding.{counted_digits, decimal_text, digits_word, is_cut, option_text, reason_text, rounded_line, rounded_text, rounding_lines};
 
 use crate::settings::DigitsBy;
-use decimal_lines::{TextError, read_decimal};
 use fixed_decimal::{Decimal, Sign, UnsignedDecimal};
 use itoa::Buffer;
-use locnum_forms::push_reported;
-use std::alloc::{AllocError, Global};
+use locnum_forms::{Prepared, push_reported};
+use std::alloc::AllocError;
 
 /// Appends a sign.
 fn push_sign(sign: Sign, out: &mut Vec<u8>) -> Result<(), AllocError>
@@ -158,28 +156,24 @@ fn push_rounded(
     Ok(())
 }
 
-/// Appends that line, where digits other than 0 of the number that the text reads as aren't
-/// written.
+/// Appends that line, where digits other than 0 of the number that was read aren't written.
 // promise: A line says where a digit other than 0 isn't written.
 // mutations: rounding_told_of_zeros, rounding_by_a_digit_too_many
 pub(crate) fn push_rounding(
-    alloc: Global,
     digits: &DigitsBy<'_>,
     text: &[u8],
-    decimal: &Decimal,
+    prepared: &Prepared,
     out: &mut Vec<u8>,
 ) -> Result<(), AllocError>
     ensures { OnOk result (out.new.items ≡ out.old.items
-        ++ rounding_lines digits.now text.now (decimal_read text.now)
-        decimal.now.sign decimal.now.absolute) }
+        ++ rounding_lines digits.now text.now
+        (Ok (prepared.now.read.sign, prepared.now.read.absolute))
+        prepared.now.written.sign prepared.now.written.absolute) }
 {
-    match read_decimal(alloc, text) {
-        Ok(read) if is_cut(decimal.absolute.fraction().len(), &read.absolute) => {
-            push_rounded(digits, text, decimal, out)
-        }
-        Err(TextError::OutOfMemory) => Err(AllocError),
-        Ok(_) | Err(TextError::NotDecimal | TextError::TooManyDigits | TextError::Overflow) => Ok(
-            (),
-        ),
+    let written = &prepared.written;
+    if is_cut(written.absolute.fraction().len(), &prepared.read.absolute) {
+        push_rounded(digits, text, written, out)
+    } else {
+        Ok(())
     }
 }

@@ -1,24 +1,21 @@
 -- What is written of a compact amount is what is computed, and an amount is past the limits where the computed number is.
-use Rattle.std.proofs.Common.{◌≡◌, ℕ, Bool, true, false, List, ◌++◌, Result, Ok, Err}
-use Rattle.std.proofs.Common.{refl, sym, ap, ap₂, ◌∙◌, subst, arith, pos}
-use Rattle.std.specs.Prelude.{IfOk, IsErrOf, IsOkAnd, nat_le, if◌then◌else◌}
+use Rattle.std.proofs.Common.{◌≡◌, ℕ, Bool, true, false, List, Result, Ok, Err, refl, sym, ap, ap₂, ◌∙◌, arith, pos}
+use Rattle.std.specs.Prelude.{IsOk, nat_le, if◌then◌else◌}
+use Rattle.std.proofs.lemmas.Bool.{false≢true}
 use Rattle.std.proofs.lemmas.Bool.Decides.{nat_tests}
 use Rattle.fixed_decimal.specs.declared.signs.Sign.{Sign}
 use Rattle.fixed_decimal.specs.Size.{size, ten_to}
 use Rattle.fixed_decimal.specs.Unsigned.{Unsigned}
-use Rattle.writeable.specs.Events.{Event, text_of}
+use Rattle.writeable.specs.Events.{Event}
 use Rattle.icu_decimal_data.specs.CompactTable.{exponent_of}
 use Rattle.icu_decimal.specs.CompactFormat.{CompactFormat, FilledNumber, FormattedCompact, IsCompacted, filled_by, significand_of}
 use Rattle.icu_decimal.specs.CompactNumber.{ShowsPastLimits}
 use Rattle.icu_decimal.specs.Displayed.{displayed_entry}
 use Rattle.icu_decimal.specs.NearestLemmas.{nearest_compact_same}
-use Rattle.icu_decimal.specs.declared.error.FormatError.{FormatError}
-use Rattle.icu_decimal.specs.declared.error.FormatError.TheVariants as format
 use Rattle.icu_dimension.specs.CompactMoney.{CompactMoney, compact_events, formatter_of}
-use Rattle.decimal_lines.specs.Alone.{AppendsShown}
 use Rattle.decimal_lines.specs.Computed.{nearest_number, significand_shown}
-use Rattle.decimal_lines.specs.declared.alone.TextError.{TextError}
-use Rattle.decimal_lines.specs.declared.alone.TextError.TheVariants.{Overflow}
+use Rattle.decimal_lines.specs.declared.single_text.TextError.{TextError}
+use Rattle.decimal_lines.specs.declared.single_text.TextError.TheVariants.{Overflow}
 use Rattle.decimal_lines.proofs.Displaying.{displayed-told, number-nearest, past-number}
 use Rattle.locnum_forms.specs.CompactMoney.{compact_money_events, compacted}
 
@@ -67,13 +64,26 @@ module _ (f : CompactMoney) (sign : Sign) (d : Unsigned) where
       go false e = ap (λ (n : FormattedCompact). Ok (compact_events (formatter_of f sign).table f.patterns sign n))
           (compacted-told (formatter_of f sign) d number is)
 
-  -- its text was appended, if the text that was written was
-  pub compact_money-appended : {W : Type 0} (written : Result W FormatError) (bytes : W → List ℕ) (old new : List ℕ)
-      → IfOk written (λ t. (n : FormattedCompact) × IsCompacted (formatter_of f sign) d n
-      × (bytes t ≡ text_of (compact_events (formatter_of f sign).table f.patterns sign n)))
-      → (ShowsPastLimits (formatter_of f sign).table (size d) → IsErrOf written format.Overflow)
-      → IsOkAnd written (λ t. new ≡ old ++ bytes t) → AppendsShown (compact_money_events f sign d) old new
-  compact_money-appended (Ok t) bytes old new (number, is, wrote) over appended =
-      subst (λ (shown : Result (List Event) TextError). AppendsShown shown old new)
-      (sym (compact_money-within number is (λ past. cc (over past)))) (appended ∙ ap (λ bs. old ++ bs) wrote)
-  compact_money-appended (Err e) bytes old new wrote over appended = absurd appended
+  -- something is shown of one within them
+  pub compact_money-some : ¬ (ShowsPastLimits (formatter_of f sign).table (size d)) → IsOk (compact_money_events f sign d)
+  unfolding compact_money_events
+  compact_money-some within = go (nat_le (ten_to (pos 32768)) (nearest_number (formatter_of f sign).table (size d))) refl
+    where
+      go : (b : Bool) → nat_le (ten_to (pos 32768)) (nearest_number (formatter_of f sign).table (size d)) ≡ b
+          → IsOk (if b then Err Overflow else Ok (compact_events (formatter_of f sign).table f.patterns sign
+          (compacted (formatter_of f sign) d (nearest_number (formatter_of f sign).table (size d)))))
+      go true e = absurd (within (
+        nearest_number (formatter_of f sign).table (size d),
+        number-nearest (formatter_of f sign).table (size d),
+        grind (arith, nat_tests),
+      ))
+      go false e = refl
+
+  -- and it is the text of the compact number, if something is shown
+  pub compact_money-is : (number : FormattedCompact) → IsCompacted (formatter_of f sign) d number → IsOk (compact_money_events f sign d)
+      → compact_money_events f sign d ≡ Ok (compact_events (formatter_of f sign).table f.patterns sign number)
+  compact_money-is number is shown = compact_money-within number is (λ past. not_shown (compact_money_events f sign d) (compact_money-past past) shown)
+    where
+      not_shown : (shown : Result (List Event) TextError) → shown ≡ Err Overflow → IsOk shown → ⊥
+      not_shown (Ok events) is shown = cc is
+      not_shown (Err error) is shown = absurd (false≢true shown)

@@ -1,17 +1,18 @@
--- Rounded to just that many fraction digits, then without zeros at the end, then with zeros again: this is what `with_fraction` computes.
+-- Rounded to just that many fraction digits, and then with as few as it needs: this is what `with_fraction` computes.
 -- A rounded number is nearest, and the computed one too, so their sizes are equal. A number is determined by its size and its counts of digits
--- (`number-told`), and a trimmed one has as few below power 0 as its size needs (`decimal-told` of decimal_lines).
-use Rattle.std.proofs.Common.{◌≡◌, ℕ, ◌+◌, ◌-◌, ◌*◌, ◌%◌, ◌^◌, ◌<◌, ◌≤◌, max, Bool, true, false, List, inl, inr, refl}
-use Rattle.std.proofs.Common.{sym, ap, ap₂, ◌∙◌, subst, arith, mul_assoc, ℤ, pos, negsuc, ◌-ℤ◌}
+-- (`number-told`), and the fewest digits below power 0 that write a size are its `scale_of`.
+use Rattle.std.proofs.Common.{◌≡◌, ℕ, ◌+◌, ◌-◌, ◌*◌, ◌/◌, ◌%◌, ◌^◌, ◌<◌, ◌≤◌, max, Bool, true, false}
+use Rattle.std.proofs.Common.{List, inl, inr, refl, sym, ap, ap₂, ◌∙◌, subst, arith, mul_assoc, ℤ, pos, negsuc, ◌-ℤ◌}
 use Rattle.std.specs.Prelude.{Ok, Err, nat_le, if◌then◌else◌}
 use Rattle.std.specs.Int.{int_max, int_min}
 use Rattle.std.proofs.lemmas.Bool.Decides.{nat_tests}
 use Rattle.std.proofs.lemmas.Int.{ints, clamps}
 use Rattle.std.proofs.Math.Nat.{mul-mod_left}
+use Rattle.fixed_decimal.specs.Modes.{IsLeastFrom}
 use Rattle.fixed_decimal.specs.Nearest.{IsMultiple, IsNearest}
+use Rattle.fixed_decimal.specs.Padding.{IsWrittenWith}
 use Rattle.fixed_decimal.specs.Rounding.{IsRounded, RoundsPastLimits}
 use Rattle.fixed_decimal.specs.Size.{finest, magnitude, size, ten_to, weighed}
-use Rattle.fixed_decimal.specs.Trimming.{IsTrimmed}
 use Rattle.fixed_decimal.specs.Unsigned.{Unsigned, IsUnsigned, high, integer_count}
 use Rattle.fixed_decimal.proofs.MagnitudePlaces.{ten_multiple}
 use Rattle.fixed_decimal.proofs.Magnitudes.{place_is, size_lt}
@@ -19,13 +20,12 @@ use Rattle.fixed_decimal.proofs.Nearness.{nearest-unique}
 use Rattle.fixed_decimal.proofs.Rounds.{finest_large}
 use Rattle.fixed_decimal.proofs.Weights.{ten_mono, ten_pos, weighed_units}
 use Rattle.icu_decimal.proofs.DisplayedOnce.{digits_by_weight}
-use Rattle.icu_decimal.specs.NearestLemmas.{itself_nearest}
-use Rattle.decimal_lines.specs.Computed.{count_up_to, digits_from, scale_of}
-use Rattle.decimal_lines.specs.Alone.{IsRefusal}
-use Rattle.decimal_lines.specs.declared.alone.TextError.{TextError}
-use Rattle.decimal_lines.specs.declared.alone.TextError.TheVariants.{Overflow}
-use Rattle.decimal_lines.proofs.Computing.{digits_from-digits, length-digits_from, rounded-nearest, weighed-digits_from}
-use Rattle.decimal_lines.proofs.Displaying.{decimal-told}
+use Rattle.decimal_lines.specs.Computed.{count_up_to, digits_from, rounded_units, scale_of}
+use Rattle.decimal_lines.specs.SingleText.{IsRefusal}
+use Rattle.decimal_lines.specs.declared.single_text.TextError.{TextError}
+use Rattle.decimal_lines.specs.declared.single_text.TextError.TheVariants.{Overflow}
+use Rattle.decimal_lines.proofs.Computing.{digits_from-digits, length-digits_from, rounded-nearest, scale_of-at_most, scale_of-enough}
+use Rattle.decimal_lines.proofs.Computing.{weighed-digits_from}
 use Rattle.locnum_forms.specs.Fractions.{nearest_size, number_of, number_shown, with_fraction}
 use Rattle.locnum_forms.specs.Rounding.{IsCut, IsCutRefusal}
 
@@ -38,6 +38,11 @@ counted : (c k n : ℕ) (m : ℤ) → 0 < k → pos k -ℤ pos 1 ≡ int_max (in
     → k ≡ max c (count_up_to m)
 counted c k n (pos j) some e = omega (arith, ints, clamps)
 counted c k n (negsuc j) some e = omega (arith, ints, clamps)
+
+-- the same without a least power
+counted_from : (k c : ℕ) (m : ℤ) → 0 < k → 0 < c → pos k -ℤ pos 1 ≡ int_max (int_max (pos 0) (pos c -ℤ pos 1)) m → k ≡ max c (count_up_to m)
+counted_from k c (pos j) some other e = omega (arith, ints, clamps)
+counted_from k c (negsuc j) some other e = omega (arith, ints, clamps)
 
 -- the size of a rounded number is the computed one
 module _ (d : Unsigned) (p : ℤ) (n : ℕ) (is : p ≡ pos 0 -ℤ pos n) (small : n ≤ 32768) where
@@ -114,56 +119,58 @@ module _ (least most : ℕ) (d : Unsigned) where
       go true e = refl
       go false e = absurd (grind (arith, nat_tests))
 
-  -- a number that was rounded, and then trimmed
-  module _ (y t : Unsigned) (cut : IsCut most d y) (valid : IsUnsigned t) (last : IsTrimmed t) (same : size t ≡ size y) (top : high t ≡ high y) where
-    size_told : size t ≡ nearest_size most (size d)
-    size_told = same ∙ cut.size_is
+  -- a number that was rounded
+  module _ (y : Unsigned) (cut : IsCut most d y) where
+    abbrev rounded : ℕ
+    rounded = nearest_size most (size d)
 
-    scale_told : t.scale ≡ scale_of (nearest_size most (size d))
-    scale_told = sym (ap (λ (u : Unsigned). u.scale) (decimal-told t valid last)) ∙ ap scale_of size_told
+    few : scale_of rounded ≤ most
+    few = scale_of-at_most rounded most (rounded_units (10 ^ (finest - most)) (size d), refl)
 
-    count_told : integer_count t ≡ max (integer_count d) (count_up_to (magnitude (nearest_size most (size d))))
-    count_told =
-        let counts : integer_count t ≡ integer_count y = omega (arith, ints, top) in
-        counts ∙ cut.count_is
+    -- with just that many fraction digits
+    pub with-rounded : least ≡ most → with_fraction least most d ≡ Ok y
+    with-rounded same = with-shown y cut.within
+        (shown-told least d y rounded cut.valid cut.size_is cut.count_is (omega (arith, cut.scale_is, few)))
 
-    -- it has digits enough
-    pub with-trimmed : least ≤ t.scale → with_fraction least most d ≡ Ok t
-    with-trimmed enough = with-shown t cut.within
-        (shown-told least d t (nearest_size most (size d)) valid size_told count_told (omega (arith, scale_told)))
-
-    -- it has too few, so that rounding it once more changes nothing but the zeros at its end
-    whole_units : t.scale < least → IsMultiple (10 ^ (finest - least)) (size t)
-    whole_units few = go (ten_multiple (finest - least) (finest - t.scale) (omega arith))
+    -- as many digits as it needs below power 0, and the least at least
+    written : scale_of rounded ≤ 32768 → IsWrittenWith rounded (max least (scale_of rounded))
+    written small = more (ten_multiple (finest - max least (scale_of rounded)) (finest - scale_of rounded) (omega arith))
+        (rounded / 10 ^ (finest - scale_of rounded), whole)
       where
-        go : IsMultiple (10 ^ (finest - least)) (10 ^ (finest - t.scale)) → IsMultiple (10 ^ (finest - least)) (size t)
-        go (k, e) = (
-          weighed 0 t.digits * k,
-          weighed_units (finest - t.scale) t.digits ∙ ap (λ n. weighed 0 t.digits * n) e
-              ∙ sym (mul_assoc (weighed 0 t.digits) k (10 ^ (finest - least))),
-        )
+        unit : ℕ → ℕ
+        unit n = 10 ^ (finest - n)
 
-    itself : t.scale < least → nearest_size least (size t) ≡ size t
-    itself few = itself_nearest (IsMultiple (10 ^ (finest - least))) (10 ^ (finest - least)) (size t) (nearest_size least (size t)) (whole_units few)
-        (rounded-nearest (10 ^ (finest - least)) (size t) (ten_pos (finest - least)))
+        fits : rounded % unit 32768 ≡ 0
+        fits = of_whole (ten_multiple (finest - 32768) (finest - most) (omega (arith, cut.scale_is, cut.valid.low_limit)))
+          where
+            of_whole : IsMultiple (unit 32768) (unit most) → rounded % unit 32768 ≡ 0
+            of_whole (r, e) = ap (λ u. (rounded_units (unit most) (size d) * u) % unit 32768) e
+                ∙ ap (λ z. z % unit 32768) (sym (mul_assoc (rounded_units (unit most) (size d)) r (unit 32768)))
+                ∙ mul-mod_left (rounded_units (unit most) (size d) * r) (unit 32768)
 
-    pub with-padded : (u : Unsigned) → t.scale < least → IsCut least t u → with_fraction least most d ≡ Ok u
-    with-padded u few padded =
-        let sizes : size u ≡ nearest_size most (size d) = padded.size_is ∙ itself few ∙ size_told in
-        let counts : integer_count u ≡ max (integer_count t) (count_up_to (magnitude (nearest_size most (size d)))) =
-        padded.count_is ∙ ap (λ n. max (integer_count t) (count_up_to (magnitude n))) (itself few ∙ size_told) in
+        whole : rounded ≡ rounded / unit (scale_of rounded) * unit (scale_of rounded)
+        whole = let none = scale_of-enough rounded fits in omega (arith, none, ten_pos (finest - scale_of rounded))
+
+        more : IsMultiple (unit (max least (scale_of rounded))) (unit (scale_of rounded)) → IsMultiple (unit (scale_of rounded)) rounded
+            → IsWrittenWith rounded (max least (scale_of rounded))
+        more (r, e) (q, f) = (q * r, f ∙ ap (λ u. q * u) e ∙ sym (mul_assoc q r (unit (max least (scale_of rounded)))))
+
+    -- with as few as it needs, and the least at least
+    pub with-shortened : (u : Unsigned) → IsUnsigned u → size u ≡ size y
+        → high u ≡ int_max (int_max (pos 0) (pos (integer_count y) -ℤ pos 1)) (magnitude (size y))
+        → IsLeastFrom (IsWrittenWith (size y)) least u.scale → with_fraction least most d ≡ Ok u
+    with-shortened u valid same top scale =
+        let needed : IsLeastFrom (IsWrittenWith rounded) least u.scale =
+        subst (λ (x : ℕ). IsLeastFrom (IsWrittenWith x) least u.scale) cut.size_is scale in
+        let low : scale_of rounded ≤ u.scale = scale_of-at_most rounded u.scale needed.allowed in
+        let small : u.scale ≤ max least (scale_of rounded) =
+        needed.least (max least (scale_of rounded)) (written (omega (arith, low, valid.low_limit))) (omega arith) in
+        let counts : integer_count u ≡ max (integer_count y) (count_up_to (magnitude rounded)) =
+        counted_from (integer_count u) (integer_count y) (magnitude rounded) (omega (arith, valid.integer_some))
+        (omega (arith, cut.valid.integer_some))
+        (top ∙ ap (λ x. int_max (int_max (pos 0) (pos (integer_count y) -ℤ pos 1)) (magnitude x)) cut.size_is) in
         with-shown u cut.within
-        (shown-told least d u (nearest_size most (size d)) padded.valid sizes (omega (arith, counts, count_told))
-        (omega (arith, padded.scale_is, scale_told)))
-
-    -- and it isn't past the limits
-    not-past : t.scale < least → ten_to (pos 32768) ≤ nearest_size least (size t) → ⊥
-    not-past few large = cut.within (subst (λ (z : ℕ). ten_to (pos 32768) ≤ z) (itself few ∙ size_told) large)
-
-    -- so it can't be rejected but because memory ran out
-    pub padded-refused : (error : TextError) → t.scale < least → IsCutRefusal least t error → IsRefusal (with_fraction least most d) error
-    padded-refused error few (inl memory) = inl memory
-    padded-refused error few (inr (over, large)) = absurd (not-past few large)
+        (shown-told least d u rounded valid (same ∙ cut.size_is) (omega (arith, counts, cut.count_is)) (omega (arith, low, small, needed.from)))
 
 -- a number that can't be rounded isn't shown
 pub cut-refused : (least most : ℕ) (d : Unsigned) (error : TextError) → IsCutRefusal most d error → IsRefusal (with_fraction least most d) error

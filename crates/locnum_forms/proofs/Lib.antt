@@ -1,6 +1,6 @@
 pub mod CompactMoney
 pub mod Cutting
-pub mod Pushed
 pub mod Served
-pub mod Marked
+pub mod WrittenForms
+pub mod WrittenTexts
 pub mod ShownTexts

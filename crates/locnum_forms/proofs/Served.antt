@@ -8,7 +8,7 @@ use Rattle.icu_table_entries.specs.declared.error.TableError.{TableError}
 use Rattle.icu_table_entries.specs.declared.error.TableError.TheVariants as table
 use Rattle.icu_tables.specs.ForLocale.{AnswersAs, IsFor}
 use Rattle.icu_tables.specs.Tables.{TablesData, tables_of}
-use Rattle.decimal_lines.specs.Making.{compact_options, plain_options}
+use Rattle.decimal_lines.specs.ModeOfTables.{compact_options, plain_options}
 use Rattle.decimal_lines.proofs.OneLocale.{and_then_both, compact_loaded, loaded_same}
 use Rattle.locnum_forms.specs.Forms.{FormData}
 use Rattle.locnum_forms.specs.Loaded.{long_loaded, plain_loaded, short_loaded}

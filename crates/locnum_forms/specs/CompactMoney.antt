@@ -10,8 +10,8 @@ use Rattle.icu_decimal.specs.Displayed.{displayed_entry}
 use Rattle.icu_dimension_data.specs.Resolved.{Signed}
 use Rattle.icu_dimension.specs.CompactMoney.{CompactMoney, compact_events, formatter_of}
 use Rattle.decimal_lines.specs.Computed.{nearest_number, significand_shown}
-use Rattle.decimal_lines.specs.declared.alone.TextError.{TextError}
-use Rattle.decimal_lines.specs.declared.alone.TextError.TheVariants.{Overflow}
+use Rattle.decimal_lines.specs.declared.single_text.TextError.{TextError}
+use Rattle.decimal_lines.specs.declared.single_text.TextError.TheVariants.{Overflow}
 
 -- the compact number by which d is displayed as the size y
 abbrev pub compacted : CompactFormat → Unsigned → ℕ → FormattedCompact

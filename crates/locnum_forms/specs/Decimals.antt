@@ -5,10 +5,12 @@ use Rattle.fixed_decimal.specs.declared.signs.SignDisplay.{SignDisplay}
 use Rattle.fixed_decimal.specs.SignDisplay.{displayed_sign}
 use Rattle.fixed_decimal.specs.Size.{size}
 use Rattle.fixed_decimal.specs.Unsigned.{Unsigned}
-use Rattle.decimal_lines.specs.Alone.{decimal_read}
-use Rattle.decimal_lines.specs.declared.alone.TextError.{TextError}
-use Rattle.locnum_forms.specs.Forms.{FormData, digits_moved}
+use Rattle.writeable.specs.Events.{Event}
+use Rattle.decimal_lines.specs.SingleText.{decimal_read}
+use Rattle.decimal_lines.specs.declared.single_text.TextError.{TextError}
+use Rattle.locnum_forms.specs.Forms.{FormData, digits_moved, formatter_events}
 use Rattle.locnum_forms.specs.Fractions.{in_range}
+use Rattle.locnum_forms.specs.declared.form.Formatter.{Formatter}
 
 -- a rounded number with the sign of its text, where that is shown, which depends on the rounded number
 abbrev pub signed_decimal : SignDisplay → Sign → Result Unsigned TextError → Result (Sign × Unsigned) TextError
@@ -23,3 +25,8 @@ rounded_decimal form (Err error) = Err error
 -- the decimal that is written for a text
 unfoldable pub decimal_written : FormData → List ℕ → Result (Sign × Unsigned) TextError
 decimal_written form text = rounded_decimal form (decimal_read text)
+
+-- what a formatter writes for the decimal that is written
+abbrev pub events_at : Formatter → Result (Sign × Unsigned) TextError → Result (List Event) TextError
+events_at formatter (Ok (sign, d)) = formatter_events formatter sign d
+events_at formatter (Err error) = Err error

@@ -12,10 +12,10 @@ use Rattle.icu_dimension.specs.Money.{SignedFormat, money_events}
 use Rattle.icu_dimension.specs.Names.{names_events}
 use Rattle.icu_dimension.specs.Percent.{hundredfold}
 use Rattle.icu_dimension.specs.Units.{units_events}
-use Rattle.decimal_lines.specs.Alone.{decimal_read, mode_events}
+use Rattle.decimal_lines.specs.SingleText.{decimal_read, mode_events}
 use Rattle.decimal_lines.specs.LineAnswers.{is_within_limits}
-use Rattle.decimal_lines.specs.declared.alone.TextError.{TextError}
-use Rattle.decimal_lines.specs.declared.alone.TextError.TheVariants.{Overflow}
+use Rattle.decimal_lines.specs.declared.single_text.TextError.{TextError}
+use Rattle.decimal_lines.specs.declared.single_text.TextError.TheVariants.{Overflow}
 use Rattle.locnum_forms.specs.CompactMoney.{compact_money_events}
 use Rattle.locnum_forms.specs.Fractions.{in_range}
 use Rattle.locnum_forms.specs.declared.form.Formatter.{Formatter}

@@ -3,8 +3,8 @@ use Rattle.std.specs.Prelude.{ℕ, ◌+◌, ◌-◌, ◌*◌, ◌^◌, max, nat_
 use Rattle.fixed_decimal.specs.Size.{finest, magnitude, size, ten_to}
 use Rattle.fixed_decimal.specs.Unsigned.{Unsigned, integer_count}
 use Rattle.decimal_lines.specs.Computed.{count_up_to, digits_from, rounded_units, scale_of}
-use Rattle.decimal_lines.specs.declared.alone.TextError.{TextError}
-use Rattle.decimal_lines.specs.declared.alone.TextError.TheVariants.{Overflow}
+use Rattle.decimal_lines.specs.declared.single_text.TextError.{TextError}
+use Rattle.decimal_lines.specs.declared.single_text.TextError.TheVariants.{Overflow}
 use Rattle.locnum_forms.specs.declared.wanted.FractionRange.{FractionRange}
 
 -- the number of a size with that many digits at power 0 and above, and that many below

@@ -3,6 +3,7 @@ pub mod Fractions
 pub mod Rounding
 pub mod CompactMoney
 pub mod Forms
+pub mod WrittenOr
 pub mod Loaded
 pub mod Making
 pub mod Decimals

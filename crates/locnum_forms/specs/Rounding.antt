@@ -3,8 +3,8 @@ use Rattle.std.specs.Prelude.{◌≡◌, ℕ, ◌≤◌, ◌⊎◌, max, pos}
 use Rattle.fixed_decimal.specs.Size.{magnitude, size, ten_to}
 use Rattle.fixed_decimal.specs.Unsigned.{Unsigned, IsUnsigned, integer_count}
 use Rattle.decimal_lines.specs.Computed.{count_up_to}
-use Rattle.decimal_lines.specs.declared.alone.TextError.{TextError}
-use Rattle.decimal_lines.specs.declared.alone.TextError.TheVariants.{OutOfMemory, Overflow}
+use Rattle.decimal_lines.specs.declared.single_text.TextError.{TextError}
+use Rattle.decimal_lines.specs.declared.single_text.TextError.TheVariants.{OutOfMemory, Overflow}
 use Rattle.locnum_forms.specs.Fractions.{nearest_size}
 
 -- y is d rounded to n fraction digits, and has as many digits at power 0 and above as d, or more where its size needs them

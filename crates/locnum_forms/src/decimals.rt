@@ -2,21 +2,44 @@
 
 use crate::form::{Form, Formatter};
 use crate::fractions::in_range;
-use crate::pushing::digits_moved;
+use crate::writing::digits_moved;
 use decimal_lines::{TextError, read_decimal};
 use fixed_decimal::Decimal;
 use std::alloc::Global;
 
+/// The number of a text: as it was read, and as a form writes it, rounded and with its sign (this
+/// project's own).
+#[derive(Drop)]
+pub struct Prepared {
+    /// The number as it was read.
+    pub read: Decimal,
+    /// The number as it is written.
+    pub written: Decimal,
+}
+
 impl Form {
     ghost use Rattle.std.specs.Prelude.{◌≡◌, Ok, IfErr, IfOk};
-    ghost use Rattle.decimal_lines.specs.Alone.{IsRefusal};
-    ghost use Rattle.locnum_forms.specs.Decimals.{decimal_written};
+    ghost use Rattle.decimal_lines.specs.SingleText.{IsRefusal, decimal_read};
+    ghost use Rattle.locnum_forms.specs.Decimals.{decimal_written, rounded_decimal};
 
     /// What writes numbers whose digits and sign are given (this project's own).
     pub fn formatter(&self) -> &Formatter
         ensures { result.now ≡ self.now.formatter }
     {
         &self.formatter
+    }
+
+    /// The decimal that is written for a decimal that was read.
+    fn rounded(&self, alloc: Global, decimal: Decimal) -> Result<Decimal, TextError>
+        ensures ok { IfOk result (λ d.
+            rounded_decimal self.now (Ok (decimal.sign, decimal.absolute))
+            ≡ Ok (d.sign, d.absolute)) }
+        ensures refused { IfErr result (λ error.
+            IsRefusal (rounded_decimal self.now (Ok (decimal.sign, decimal.absolute))) error) }
+    {
+        let moved = digits_moved(&self.formatter);
+        let rounded = in_range(alloc, decimal, self.fraction, moved)?;
+        Ok(rounded.with_sign_display(self.sign))
     }
 
     /// The decimal that is written for a text (this project's own): that of the text, rounded half
@@ -34,7 +57,25 @@ impl Form {
             IsRefusal (decimal_written self.now text.now) error) }
     {
         let decimal = read_decimal(alloc, text)?;
-        let rounded = in_range(decimal, self.fraction, digits_moved(&self.formatter))?;
-        Ok(rounded.with_sign_display(self.sign))
+        self.rounded(alloc, decimal)
+    }
+
+    /// The decimal of a text and the decimal that is written for it (this project's own), for
+    /// callers that need both: the text is read once, and its number is rounded once.
+    #[tactic(auto, unfolding(crate::specs::Decimals::decimal_written))]
+    pub fn prepare(&self, alloc: Global, text: &[u8]) -> Result<Prepared, TextError>
+        ensures read { IfOk result (λ p.
+            decimal_read text.now ≡ Ok (p.read.sign, p.read.absolute)) }
+        ensures written { IfOk result (λ p.
+            decimal_written self.now text.now ≡ Ok (p.written.sign, p.written.absolute)) }
+        ensures refused { IfErr result (λ error.
+            IsRefusal (decimal_written self.now text.now) error) }
+    {
+        let read = read_decimal(alloc, text)?;
+        let Ok(copy) = read.copy(alloc) else {
+            return Err(TextError::OutOfMemory);
+        };
+        let written = self.rounded(alloc, copy)?;
+        Ok(Prepared { read, written })
     }
 }

@@ -1,16 +1,19 @@
 //! How many fraction digits a decimal has.
 
-ghost use Rattle.std.specs.Prelude.{◌≡◌, ◌+◌, ◌<◌, ◌≤◌, ◌-ℤ◌, Ok, IfErr, IfOk, MatchBool, pos};
-ghost use Rattle.fixed_decimal.specs.Size.{size};
-ghost use Rattle.fixed_decimal.specs.Trimming.{IsTrimmed};
-ghost use Rattle.fixed_decimal.specs.Unsigned.{IsUnsigned, high};
-ghost use Rattle.decimal_lines.specs.Alone.{IsRefusal};
+ghost use Rattle.std.specs.Int.{int_max};
+ghost use Rattle.std.specs.Prelude.{◌≡◌, ◌+◌, ◌-ℤ◌, Ok, IfErr, IfOk, pos};
+ghost use Rattle.fixed_decimal.specs.Modes.{IsLeastFrom};
+ghost use Rattle.fixed_decimal.specs.Padding.{IsWrittenWith};
+ghost use Rattle.fixed_decimal.specs.Size.{magnitude, size};
+ghost use Rattle.fixed_decimal.specs.Unsigned.{IsUnsigned, high, integer_count};
+ghost use Rattle.decimal_lines.specs.SingleText.{IsRefusal};
 ghost use Rattle.locnum_forms.specs.Fractions.{in_range, with_fraction};
 ghost use Rattle.locnum_forms.specs.Rounding.{IsCut, IsCutRefusal};
 
 use crate::wanted::FractionRange;
 use decimal_lines::TextError;
 use fixed_decimal::{Decimal, DecimalError};
+use std::alloc::Global;
 
 /// The power of the last of that many fraction digits.
 fn last_power(digits: u8, moved: u8) -> i16
@@ -33,31 +36,36 @@ fn cut(decimal: Decimal, digits: u8, moved: u8) -> Result<Decimal, TextError>
     }
 }
 
-/// The same decimal without zeros at the end of its fraction.
-fn trimmed(decimal: Decimal) -> Decimal
-    ensures last { IsTrimmed result.absolute }
-    ensures size { size result.absolute ≡ size decimal.absolute }
-    ensures high { high result.absolute ≡ high decimal.absolute }
-    ensures valid { IsUnsigned result.absolute }
-    ensures sign { result.sign ≡ decimal.sign }
+/// The same number with as few fraction digits as it needs, and that many at least.
+fn shortened(alloc: Global, decimal: &Decimal, least: u8, moved: u8) -> Result<Decimal, TextError>
+    ensures size { IfOk result (λ d. size d.absolute ≡ size decimal.now.absolute) }
+    ensures high { IfOk result (λ d. high d.absolute
+        ≡ int_max (int_max (pos 0) (pos (integer_count decimal.now.absolute) -ℤ pos 1))
+        (magnitude (size decimal.now.absolute))) }
+    ensures scale { IfOk result (λ d. IsLeastFrom (IsWrittenWith (size decimal.now.absolute))
+        (least + moved) d.absolute.scale) }
+    ensures valid { IfOk result (λ d. IsUnsigned d.absolute) }
+    ensures sign { IfOk result (λ d. d.sign ≡ decimal.now.sign) }
+    ensures memory { IfErr result (λ error. error ≡ TextError.OutOfMemory) }
 {
-    let Decimal { sign, absolute } = decimal;
-    Decimal {
-        sign,
-        absolute: absolute.trimmed_end(),
+    let integer = decimal.absolute.integer().len();
+    let fraction = usize::from(least) + usize::from(moved);
+    match decimal.absolute.padded(alloc, integer, fraction) {
+        Ok(absolute) => Ok(Decimal {
+            sign: decimal.sign,
+            absolute,
+        }),
+        Err(_) => Err(TextError::OutOfMemory),
     }
 }
 
-/// Whether the decimal has fewer fraction digits than that many.
-fn is_short_of(decimal: &Decimal, digits: u8, moved: u8) -> bool
-    ensures short { MatchBool result (decimal.now.absolute.scale < digits + moved)
-        (digits + moved ≤ decimal.now.absolute.scale) }
-{
-    decimal.absolute.fraction().len() < usize::from(digits) + usize::from(moved)
-}
-
 /// The decimal with fraction digits in the range, counted from behind that many others.
-fn with_fraction(decimal: Decimal, range: FractionRange, moved: u8) -> Result<Decimal, TextError>
+fn with_fraction(
+    alloc: Global,
+    decimal: Decimal,
+    range: FractionRange,
+    moved: u8,
+) -> Result<Decimal, TextError>
     ensures ok { IfOk result (λ d.
         with_fraction (range.least + moved) (range.most + moved) decimal.absolute
         ≡ Ok d.absolute) }
@@ -65,16 +73,17 @@ fn with_fraction(decimal: Decimal, range: FractionRange, moved: u8) -> Result<De
     ensures refused { IfErr result (λ error. IsRefusal
         (with_fraction (range.least + moved) (range.most + moved) decimal.absolute) error) }
 {
-    let trimmed = trimmed(cut(decimal, range.most, moved)?);
-    if is_short_of(&trimmed, range.least, moved) {
-        return cut(trimmed, range.least, moved);
+    let rounded = cut(decimal, range.most, moved)?;
+    if range.least == range.most {
+        return Ok(rounded);
     }
-    Ok(trimmed)
+    shortened(alloc, &rounded, range.least, moved)
 }
 
 /// The decimal with fraction digits in the range, where there is one, counted from behind that many
 /// others.
 pub(crate) fn in_range(
+    alloc: Global,
     decimal: Decimal,
     range: Option<FractionRange>,
     moved: u8,
@@ -85,7 +94,7 @@ pub(crate) fn in_range(
         error) }
 {
     match range {
-        Some(range) => with_fraction(decimal, range, moved),
+        Some(range) => with_fraction(alloc, decimal, range, moved),
         None => Ok(decimal),
     }
 }

@@ -10,12 +10,12 @@ mod form;
 mod fractions;
 mod loading;
 mod making;
-mod marking;
-mod pushing;
 mod reported;
 mod wanted;
+mod writing;
 
 pub use decimal_lines::TextError;
+pub use decimals::Prepared;
 pub use error::StartError;
 pub use form::{Form, Formatter};
 pub use reported::push_reported;

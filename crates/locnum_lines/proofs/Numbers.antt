@@ -5,9 +5,9 @@ use Rattle.std.specs.Prelude.{Result, Ok, Err, Option, option_map}
 use Rattle.std.proofs.Math.Nat.{max-zero}
 use Rattle.std.proofs.lemmas.List.{append-nil}
 use Rattle.writeable.specs.Events.{Event, text_of}
-use Rattle.decimal_lines.specs.Alone.{AppendsShown, IsRefusal}
-use Rattle.decimal_lines.specs.declared.alone.TextError.{TextError}
-use Rattle.decimal_lines.specs.declared.alone.TextError.TheVariants.{OutOfMemory}
+use Rattle.decimal_lines.specs.SingleText.{AppendsShown, IsRefusal}
+use Rattle.decimal_lines.specs.declared.single_text.TextError.{TextError}
+use Rattle.decimal_lines.specs.declared.single_text.TextError.TheVariants.{OutOfMemory}
 use Rattle.locnum_forms.specs.Forms.{FormData, form_events}
 use Rattle.locnum_lines.specs.FieldRuns.{blanks_kept, chosen_ran, csv_cut_ran, field_ran, held_by, picked_ran, refused_ran, writes_number}
 use Rattle.locnum_lines.specs.Csv.{as_field, core_length, is_in_quotes}

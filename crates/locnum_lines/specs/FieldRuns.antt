@@ -2,7 +2,7 @@
 use Rattle.std.specs.Prelude.{ℕ, suc, true, false, nat_lt, List, [], ◌∷◌, ◌++◌, drop, length, take, Option, Some, None, option_map}
 use Rattle.std.specs.Prelude.{Result, Ok, Err, if◌then◌else◌}
 use Rattle.writeable.specs.Events.{Event, text_of}
-use Rattle.decimal_lines.specs.declared.alone.TextError.{TextError}
+use Rattle.decimal_lines.specs.declared.single_text.TextError.{TextError}
 use Rattle.locnum_forms.specs.Forms.{FormData, form_events}
 use Rattle.locnum_lines.specs.Csv.{as_field, content_from, core_length, is_in_quotes}
 use Rattle.locnum_lines.specs.Fields.{Cut, Field, cut, field_length}

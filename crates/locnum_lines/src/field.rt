@@ -1,7 +1,7 @@
 //! One field of a line.
 
 ghost use Rattle.std.specs.Prelude.{◌≡◌, ◌≢◌, ◌≤◌, ◌<◌, ◌+◌, ◌^◌, length, ◌++◌, OnOk, IfErr, Ok, Some, List, drop, false, take, true};
-ghost use Rattle.decimal_lines.specs.Alone.{IsRefusal};
+ghost use Rattle.decimal_lines.specs.SingleText.{IsRefusal};
 ghost use Rattle.locnum_forms.specs.Forms.{form_events};
 ghost use Rattle.locnum_lines.specs.FieldRuns.{blanks_kept, chosen_ran, csv_cut_ran, field_ran, held_by, refused_ran};
 ghost use Rattle.locnum_lines.specs.Csv.{as_field, content_from, core_length, is_in_quotes};

@@ -10,7 +10,7 @@ use std::alloc::{AllocError, Global};
 
 impl Gathered {
     ghost use Rattle.std.specs.Prelude.{◌≡◌, ◌≢◌, ◌++◌, List, IfErr, Ok, OnOk, Some};
-    ghost use Rattle.decimal_lines.specs.Alone.{IsRefusal};
+    ghost use Rattle.decimal_lines.specs.SingleText.{IsRefusal};
     ghost use Rattle.locnum_forms.specs.Forms.{form_events};
     ghost use Rattle.locnum_lines.specs.Csv.{as_field};
     ghost use Rattle.locnum_lines.specs.FieldRuns.{held_by};

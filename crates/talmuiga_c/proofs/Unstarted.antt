@@ -4,7 +4,7 @@ use Rattle.std.specs.Prelude.{Option, Result, if◌then◌else◌}
 use Rattle.std.specs.Str.{IsUtf8, is_utf8}
 use Rattle.std.proofs.lemmas.Str.{IsUtf8-from_is_utf8}
 use Rattle.decimal_lines.specs.LineAnswers.{answer_to}
-use Rattle.decimal_lines.specs.Making.{Stops, mode_of}
+use Rattle.decimal_lines.specs.ModeOfTables.{Stops, mode_of}
 use Rattle.decimal_lines.specs.Words.{WordsData}
 use Rattle.decimal_lines.specs.declared.mode.Mode.{Mode}
 use Rattle.decimal_lines.specs.declared.mode.StartError.{StartError}

@@ -1,7 +1,7 @@
 -- The mode that texts from C ask for.
 use Rattle.std.specs.Prelude.{ℕ, List, [], ◌∷◌, Option, Some, None, Result, Err, if◌then◌else◌}
 use Rattle.std.specs.Str.{is_utf8}
-use Rattle.decimal_lines.specs.Making.{mode_of}
+use Rattle.decimal_lines.specs.ModeOfTables.{mode_of}
 use Rattle.decimal_lines.specs.Words.{◌>>=◌, WordsData, words_of}
 use Rattle.decimal_lines.specs.declared.mode.Mode.{Mode}
 use Rattle.decimal_lines.specs.declared.mode.StartError.{StartError}

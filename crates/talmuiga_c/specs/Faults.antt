@@ -1,8 +1,8 @@
 -- What a call that judges tables leaves, by its status.
 use Rattle.std.specs.Prelude.{◌≡◌, ℕ, ◌⊎◌, List, Ok, Err}
-use Rattle.decimal_lines.specs.Alone.{HoldsIfRoom}
-use Rattle.decimal_lines.specs.Judging.{tables_judged}
-use Rattle.decimal_lines.specs.declared.judging.TablesFault.{TablesFault}
+use Rattle.decimal_lines.specs.SingleText.{HoldsIfRoom}
+use Rattle.decimal_lines.specs.TableFaults.{tables_judged}
+use Rattle.decimal_lines.specs.declared.table_faults.TablesFault.{TablesFault}
 use Rattle.talmuiga_c.specs.Endings.{IsUntouched, done, out_of_memory, tables_refused}
 
 -- the tables are rejected, and an output holds a text of n bytes at its front if it fits; which text it is isn't said here

@@ -1,11 +1,11 @@
 -- What calls with a formatter leave, by their status.
 use Rattle.std.specs.Prelude.{◌≡◌, ℕ, ◌<◌, ◌≤◌, ◌⊎◌, List, length, Option, Some, None, Result, Ok, Err}
-use Rattle.decimal_lines.specs.Alone.{HoldsShown, events_of}
+use Rattle.decimal_lines.specs.SingleText.{HoldsShown, events_of}
 use Rattle.decimal_lines.specs.LineAnswers.{answer_to}
 use Rattle.decimal_lines.specs.Progress.{AnswersFirst, NextNeeds}
 use Rattle.decimal_lines.specs.Words.{WordsData}
-use Rattle.decimal_lines.specs.declared.alone.TextError.{TextError}
-use Rattle.decimal_lines.specs.declared.alone.TextError.TheVariants as refusal
+use Rattle.decimal_lines.specs.declared.single_text.TextError.{TextError}
+use Rattle.decimal_lines.specs.declared.single_text.TextError.TheVariants as refusal
 use Rattle.decimal_lines.specs.declared.mode.Mode.{Mode}
 use Rattle.decimal_lines.specs.declared.mode.StartError.{StartError}
 use Rattle.talmuiga_c.specs.Asked.{mode_asked}

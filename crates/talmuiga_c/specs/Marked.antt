@@ -4,8 +4,8 @@ use Rattle.std.specs.Prelude.{List, ◌++◌, length, drop, map, codes}
 use Rattle.std.specs.Cmp.Lexicographic.{pointwise}
 use Rattle.writeable.specs.Events.{Event}
 use Rattle.writeable.specs.Spans as writeable
-use Rattle.decimal_lines.specs.Alone.{HoldsShown, events_of}
-use Rattle.decimal_lines.specs.declared.alone.TextError.{TextError}
+use Rattle.decimal_lines.specs.SingleText.{HoldsShown, events_of}
+use Rattle.decimal_lines.specs.declared.single_text.TextError.{TextError}
 use Rattle.decimal_lines.specs.declared.mode.Mode.{Mode}
 use Rattle.talmuiga_c.specs.Endings.{done, output_too_small}
 use Rattle.talmuiga_c.specs.Kept.{IsRefused}

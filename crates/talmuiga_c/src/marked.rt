@@ -3,7 +3,7 @@
 ghost use Rattle.std.specs.Prelude.{◌≡◌, Ok, IfErr, IfOk, map};
 ghost use Rattle.writeable.specs.PartSpans.{span};
 ghost use Rattle.writeable.specs.Spans.{spans};
-ghost use Rattle.decimal_lines.specs.Alone.{IsRefusal, events_of};
+ghost use Rattle.decimal_lines.specs.SingleText.{IsRefusal, events_of};
 ghost use Rattle.talmuiga_c.specs.Marked.{HoldsSpans, IsShownInParts, numbered, part_number};
 
 use crate::output::put_text;

@@ -1,6 +1,6 @@
 //! The front of an output of C's.
 
-ghost use Rattle.decimal_lines.specs.Alone.{HoldsIfRoom};
+ghost use Rattle.decimal_lines.specs.SingleText.{HoldsIfRoom};
 
 /// Puts a text to the front of the output, if it fits, and answers its length.
 pub fn put_text(output: &mut [u8], text: &[u8]) -> usize

@@ -5,7 +5,7 @@ use Rattle.icu_decimal.specs.declared.preferences.DecimalFormatterPreferences.{D
 use Rattle.icu_dimension.specs.Loaded.{loaded_plural}
 use Rattle.icu_table_entries.specs.Answering.{optional_answer}
 use Rattle.icu_dimension_tables.specs.Answering.{names_answer}
-use Rattle.decimal_lines.specs.Making.{plain_options}
+use Rattle.decimal_lines.specs.ModeOfTables.{plain_options}
 use Rattle.locnum_forms.specs.Loaded.{names_loaded, preferences, symbols_for_money, system_digits}
 use Rattle.locnum_forms.specs.Wanted.{WantedData}
 use Rattle.locnum_forms.proofs.loading.load_names.Goals as goal

@@ -2,7 +2,7 @@ use Rattle.std.proofs.Common.{◌≡◌, ◌≢◌, refl, ap, ◌∙◌}
 use Rattle.std.proofs.lemmas.Bool.{false≢true}
 use Rattle.std.proofs.lemmas.Result.{on_ok_weaker}
 use Rattle.std.specs.Prelude.{Option}
-use Rattle.decimal_lines.specs.declared.alone.TextError.TheVariants.{OutOfMemory}
+use Rattle.decimal_lines.specs.declared.single_text.TextError.TheVariants.{OutOfMemory}
 use Rattle.locnum_lines.specs.declared.padding.Width.{Width}
 use Rattle.locnum_lines.proofs.Numbers.{number-refused, number-shown, shown_by}
 use Rattle.locnum_lines.proofs.field.push_chosen.Goals as goal

@@ -3,7 +3,7 @@ use Rattle.std.proofs.lemmas.Bool.{false≢true}
 use Rattle.std.proofs.lemmas.Result.{on_ok_weaker}
 use Rattle.std.specs.Prelude.{Option}
 use Rattle.writeable.specs.Events.{text_of}
-use Rattle.decimal_lines.specs.declared.alone.TextError.TheVariants.{OutOfMemory}
+use Rattle.decimal_lines.specs.declared.single_text.TextError.TheVariants.{OutOfMemory}
 use Rattle.locnum_lines.specs.FieldRuns.{blanks_kept}
 use Rattle.locnum_lines.specs.Padding.{padded}
 use Rattle.locnum_lines.specs.declared.padding.Width.{Width}

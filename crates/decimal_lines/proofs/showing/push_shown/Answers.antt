@@ -1,0 +1,11 @@
+use Rattle.decimal_lines.proofs.ShownInto.{buffer-grows, buffer-refused, buffer-unchanged}
+use Rattle.decimal_lines.proofs.showing.push_shown.Goals as goal
+
+pub returns-clause-ok : goal.returns-clause-ok
+returns-clause-ok c = buffer-grows (λ v. v.items) _ _ _ _ c.write_shown.ensures
+
+pub returns-clause-refused : goal.returns-clause-refused
+returns-clause-refused c = buffer-refused (λ v. v.items) _ _ _ _ c.write_shown.ensures
+
+pub returns-clause-unchanged : goal.returns-clause-unchanged
+returns-clause-unchanged c = buffer-unchanged (λ v. v.items) _ _ _ _ c.write_shown.ensures
