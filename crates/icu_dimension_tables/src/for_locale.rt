@@ -150,10 +150,8 @@ impl AllTables {
     /// text answer, and for digits of numbering systems and of currencies in any locale. What they
     /// answer in other locales isn't specified: unless the text has something rare, entries of
     /// other locales aren't kept.
-    // promise: Its tables answer for the locale as all tables do.
-    // mutations: for_locale_leaves_out_decimals, currencies_of_other_locales_kept
-    // promise: The same texts are rejected, by the same first fault.
-    // mutations: all_for_locale_rejects_what_is_rare
+    // promise: For its locale it answers and rejects as `from_json`.
+    // mutations: for_locale_leaves_out_decimals, all_for_locale_rejects_what_is_rare
     pub fn from_json_for_locale(
         alloc: Global,
         text: &str,

@@ -2,5 +2,6 @@ pub mod CompactMoney
 pub mod Cutting
 pub mod Pushed
 pub mod Served
+pub mod ServedAll
 pub mod Marked
 pub mod ShownTexts
