@@ -4,3 +4,4 @@ pub mod CompactRows
 pub mod Repeated
 pub mod Splits
 pub mod Filed
+pub mod ForLocale

@@ -13,3 +13,4 @@ pub mod CurrencyNames
 pub mod DimensionTables
 pub mod AllTables
 pub mod Answering
+pub mod ForLocale

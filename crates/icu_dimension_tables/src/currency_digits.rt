@@ -1,11 +1,11 @@
 //! Entries of the digits of currencies.
 
-ghost use Rattle.std.specs.Prelude.{◌≡◌, IfOk};
+ghost use Rattle.std.specs.Prelude.{◌≡◌, IfOk, option_map};
 ghost use Rattle.std.specs.List.{filter_map};
 ghost use Rattle.serde_json.specs.View.{view};
 ghost use Rattle.icu_table_entries.specs.Reading.{Gives};
 ghost use Rattle.icu_dimension_tables.specs.CurrencyDigits.{code_or_default, currency_code_of, currency_digits_under, currency_in};
-ghost use Rattle.icu_dimension_tables.specs.CurrencyDigits.{default_digits, fraction_digits_of};
+ghost use Rattle.icu_dimension_tables.specs.CurrencyDigits.{currency_digits_of, default_digits, fraction_digits_of};
 
 use icu_dimension_data::{CurrencyCode, CurrencyDigits, CurrencyEntry, FractionDigits};
 use icu_provider::DataLocale;
@@ -128,6 +128,21 @@ fn default_digits(rows: &[DigitsRow]) -> FractionDigits
     }
 }
 
+/// The digits of all currencies by rows, if there are any.
+pub fn digits_of_rows(
+    alloc: Global,
+    rows: &Option<Vec<DigitsRow>>,
+) -> Result<Option<CurrencyDigits>, AllocError>
+    ensures { IfOk result (λ d. d
+        ≡ option_map currency_digits_of (option_map (λ v. v.items) rows.now)) }
+{
+    let Some(rows) = rows else {
+        return Ok(None);
+    };
+    let currencies = currencies(alloc, rows)?;
+    Ok(Some(CurrencyDigits::new(currencies, default_digits(rows))))
+}
+
 /// The digits of all currencies, if the document has their key.
 #[tactic(auto, unfolding(crate::specs::CurrencyDigits::currency_digits_under))]
 pub fn currency_digits_under(
@@ -136,11 +151,6 @@ pub fn currency_digits_under(
 ) -> Result<Option<CurrencyDigits>, TableError>
     ensures { Gives (λ x. x) result (currency_digits_under (view value.now)) }
 {
-    match optional_entries::<DigitsRowEntry>(alloc, value, Key::CurrencyDigits)? {
-        Some(rows) => {
-            let currencies = currencies(alloc, &rows)?;
-            Ok(Some(CurrencyDigits::new(currencies, default_digits(&rows))))
-        }
-        None => Ok(None),
-    }
+    let rows = optional_entries::<DigitsRowEntry>(alloc, value, Key::CurrencyDigits)?;
+    Ok(digits_of_rows(alloc, &rows)?)
 }

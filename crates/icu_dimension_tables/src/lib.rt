@@ -8,6 +8,7 @@ mod currency_compact;
 mod currency_digits;
 mod currency_names;
 mod currency_symbols;
+mod for_locale;
 mod money;
 mod money_pattern;
 mod name_places;

@@ -1,6 +1,6 @@
 //! All tables of a document as one provider.
 
-ghost use Rattle.std.specs.Prelude.{◌≡◌, IfOk, Ok, option_map};
+ghost use Rattle.std.specs.Prelude.{option_map};
 ghost use Rattle.icu_provider.specs.Answer.{Answers};
 ghost use Rattle.icu_provider.specs.Identifier.{identifier_of};
 ghost use Rattle.icu_dimension_tables.specs.Answering.{unit_answer};
@@ -26,17 +26,8 @@ use icu_provider::{
 use icu_table_entries::named::first_filed;
 use icu_table_entries::texts::Patterns;
 use icu_tables::Tables;
+use icu_tables::provider::answered;
 use std::alloc::Global;
-
-/// What a provider answers with a copy of its data.
-fn answered<T, E: Drop>(copied: Result<T, E>) -> Result<T, DataError>
-    ensures { (held : T) → IfOk copied (λ c. c ≡ held) → Answers result (Ok held) }
-{
-    match copied {
-        Ok(copy) => Ok(copy),
-        Err(_) => Err(DataErrorKind::OutOfMemory.into()),
-    }
-}
 
 /// A copy of the patterns of the first entry of a width with the identifier.
 fn load_unit(

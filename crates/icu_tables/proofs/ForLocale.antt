@@ -165,19 +165,19 @@ whole_object text ts ds first are =
 -- ---- the tables of what was kept
 
 -- a filter that keeps all leaves a list as it is
-filter-all : {A : Type 0} (xs : List A) → filter (λ x. true) xs ≡ xs
+pub filter-all : {A : Type 0} (xs : List A) → filter (λ x. true) xs ≡ xs
 filter-all [] = refl
 filter-all {A = A} (x ∷ xs) = ap (λ (ys : List A). x ∷ ys) (filter-all xs)
 
 -- what is kept of a list that may be absent
-abbrev KeptOf : {A : Type 0} → (A → Bool) → Option (List A) → Option (List A) → Type 0
+abbrev pub KeptOf : {A : Type 0} → (A → Bool) → Option (List A) → Option (List A) → Type 0
 KeptOf serves None None = Unit {0}
 KeptOf serves None (Some all) = ⊥
 KeptOf serves (Some kept) None = ⊥
 KeptOf serves (Some kept) (Some all) = kept ≡ filter serves all
 
 -- a list that may be absent
-optional_read : {A : Type 0} (read : Place → Data → Result A TableError) (serves : A
+pub optional_read : {A : Type 0} (read : Place → Data → Result A TableError) (serves : A
     → Bool) (key : Key) (o : Option Data) (kept : Option (List A)) → HoldsAt read serves key o kept
     → (all : Option (List A)) × (optional (entries_in read key) o ≡ Ok all) × KeptOf serves kept all
 optional_read read serves key None None holds = (None, refl, tt)
@@ -186,7 +186,7 @@ optional_read read serves key (Some d) None holds = absurd holds
 optional_read read serves key (Some d) (Some kept) (all, reads, same) = (Some all, rw reads refl, same)
 
 -- such lists answer alike by each identifier of the locale
-optional_same : {A : Type 0} (locale : List ℕ) (kept all : Option (List (NamedEntry A))) → KeptOf (is_of locale) kept all
+pub optional_same : {A : Type 0} (locale : List ℕ) (kept all : Option (List (NamedEntry A))) → KeptOf (is_of locale) kept all
     → (id : Identifier) → id.locale ≡ locale → optional_answer kept id ≡ optional_answer all id
 optional_same locale None None is id same = refl
 optional_same locale None (Some all) is id same = absurd is
@@ -217,7 +217,7 @@ adds_other locale name d ds f none symbols digits rules short long holds = recor
 module _ (locale : List ℕ) (ts : List Token) (f : FoundData) (rest : List Token) where
   -- the first member with symbols
   pub adds_symbols : (name : List ℕ) (slot : Option (List (NamedEntry DecimalSymbols))) → name ≡ name_of Symbols
-      → IsOnce symbols_at (is_of locale) Symbols ts f.symbols slot rest → Adds locale name ts f (record f { symbols = slot }) rest
+      → IsOnce symbols_at (is_of locale) Symbols ts f.symbols slot rest → Adds (λ l ds f. Holds l ds f) locale name ts f (record f { symbols = slot }) rest
   adds_symbols name slot named (fresh, kept, same, (d, is, served)) = rw named (
     d,
     is,
@@ -233,7 +233,7 @@ module _ (locale : List ℕ) (ts : List Token) (f : FoundData) (rest : List Toke
 
   -- the first member with digits
   pub adds_digits : (name : List ℕ) (slot : Option (List (SystemDigits))) → name ≡ name_of Digits
-      → IsOnce digits_at (λ entry. true) Digits ts f.digits slot rest → Adds locale name ts f (record f { digits = slot }) rest
+      → IsOnce digits_at (λ entry. true) Digits ts f.digits slot rest → Adds (λ l ds f. Holds l ds f) locale name ts f (record f { digits = slot }) rest
   adds_digits name slot named (fresh, kept, same, (d, is, served)) = rw named (
     d,
     is,
@@ -249,7 +249,7 @@ module _ (locale : List ℕ) (ts : List Token) (f : FoundData) (rest : List Toke
 
   -- the first member with rules
   pub adds_rules : (name : List ℕ) (slot : Option (List (NamedEntry (List Rule)))) → name ≡ name_of Rules
-      → IsOnce rules_at (is_of locale) Rules ts f.rules slot rest → Adds locale name ts f (record f { rules = slot }) rest
+      → IsOnce rules_at (is_of locale) Rules ts f.rules slot rest → Adds (λ l ds f. Holds l ds f) locale name ts f (record f { rules = slot }) rest
   adds_rules name slot named (fresh, kept, same, (d, is, served)) = rw named (
     d,
     is,
@@ -265,7 +265,7 @@ module _ (locale : List ℕ) (ts : List Token) (f : FoundData) (rest : List Toke
 
   -- the first member with short patterns
   pub adds_short : (name : List ℕ) (slot : Option (List (NamedEntry (List TableEntry)))) → name ≡ name_of Short
-      → IsOnce compact_at (is_of locale) Short ts f.short slot rest → Adds locale name ts f (record f { short = slot }) rest
+      → IsOnce compact_at (is_of locale) Short ts f.short slot rest → Adds (λ l ds f. Holds l ds f) locale name ts f (record f { short = slot }) rest
   adds_short name slot named (fresh, kept, same, (d, is, served)) = rw named (
     d,
     is,
@@ -281,7 +281,7 @@ module _ (locale : List ℕ) (ts : List Token) (f : FoundData) (rest : List Toke
 
   -- the first member with long patterns
   pub adds_long : (name : List ℕ) (slot : Option (List (NamedEntry (List TableEntry)))) → name ≡ name_of Long
-      → IsOnce compact_at (is_of locale) Long ts f.long slot rest → Adds locale name ts f (record f { long = slot }) rest
+      → IsOnce compact_at (is_of locale) Long ts f.long slot rest → Adds (λ l ds f. Holds l ds f) locale name ts f (record f { long = slot }) rest
   adds_long name slot named (fresh, kept, same, (d, is, served)) = rw named (
     d,
     is,
@@ -295,18 +295,19 @@ module _ (locale : List ℕ) (ts : List Token) (f : FoundData) (rest : List Toke
     },
   )
 
--- what is found is of one member more, and the others go on with it
-pub members_step : (locale : List ℕ) (before after : FoundData) (ts s r start : List Token) (k : List ℕ)
-    → ((ds : Members) × Holds locale ds before × MembersGoOn 126 start ts ds) → read_key ts ≡ Some (Some k, s) → Adds locale k s before after r
-    → (ds : Members) × Holds locale ds after × MembersGoOn 126 start r ds
-members_step locale before after ts s r start k (ds, holds, on) key (d, is, adds) =
-    (put k d ds, adds ds holds, MembersGoOn-member 126 start ds ts s r k d key is on)
+module _ {F : Type 0} (holds : List ℕ → Members → F → Type 0) where
+  -- what is found is of one member more, and the others go on with it
+  pub members_step : (locale : List ℕ) (before after : F) (ts s r start : List Token) (k : List ℕ)
+      → ((ds : Members) × holds locale ds before × MembersGoOn 126 start ts ds) → read_key ts ≡ Some (Some k, s)
+      → Adds holds locale k s before after r → (ds : Members) × holds locale ds after × MembersGoOn 126 start r ds
+  members_step locale before after ts s r start k (ds, held, on) key (d, is, adds) =
+      (put k d ds, adds ds held, MembersGoOn-member 126 start ds ts s r k d key is on)
 
--- a member that is added takes a token at least
-pub members_smaller : (locale : List ℕ) (before after : FoundData) (ts s r : List Token) (k : List ℕ) → read_key ts ≡ Some (Some k, s)
-    → Adds locale k s before after r → length r < length ts
-members_smaller locale before after ts s r k key (d, is, adds) =
-    omega (arith, read_key-shorter ts (Some k) s key, IsValue-shorter 126 s d r is)
+  -- a member that is added takes a token at least
+  pub members_smaller : (locale : List ℕ) (before after : F) (ts s r : List Token) (k : List ℕ) → read_key ts ≡ Some (Some k, s)
+      → Adds holds locale k s before after r → length r < length ts
+  members_smaller locale before after ts s r k key (d, is, adds) =
+      omega (arith, read_key-shorter ts (Some k) s key, IsValue-shorter 126 s d r is)
 
 -- the tables of members of which each list was read
 tables_read : (ds : Members) (s g : Data) (symbols : List (NamedEntry DecimalSymbols)) (digits : List SystemDigits)

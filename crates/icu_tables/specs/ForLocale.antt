@@ -80,6 +80,6 @@ pub record Holds (locale : List ℕ) (ds : Members) (f : FoundData) : Type 0 whe
   pub whole : members_have_float ds ≡ false
 
 -- one member more, whose value is in front of tokens
-abbrev pub Adds : List ℕ → List ℕ → List Token → FoundData → FoundData → List Token → Type 0
-Adds locale name ts before after rest =
-    (d : Data) × IsValue 126 ts d rest × ((ds : Members) → Holds locale ds before → Holds locale (put name d ds) after)
+abbrev pub Adds : {F : Type 0} → (List ℕ → Members → F → Type 0) → List ℕ → List ℕ → List Token → F → F → List Token → Type 0
+Adds holds locale name ts before after rest =
+    (d : Data) × IsValue 126 ts d rest × ((ds : Members) → holds locale ds before → holds locale (put name d ds) after)

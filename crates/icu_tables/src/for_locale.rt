@@ -1,7 +1,7 @@
 //! The tables of a text for one locale: entries of other locales aren't kept.
 
-ghost use Rattle.std.specs.Prelude.{◌≡◌, IfOk, OnOk, Some, option_map};
-ghost use Rattle.serde_json.specs.Data.{Members, object};
+ghost use Rattle.std.specs.Prelude.{◌≡◌, ℕ, IfOk, List, OnOk, Some, option_map};
+ghost use Rattle.serde_json.specs.Data.{Members, no_members, object};
 ghost use Rattle.serde_json.specs.Read.{read};
 ghost use Rattle.icu_tables.specs.ForLocale.{Adds, AreEntries, Holds, IsFor, IsOnce};
 ghost use Rattle.icu_tables.specs.Owned.{AreMembersOf};
@@ -30,9 +30,30 @@ const MOST_NESTED: usize = 126;
 /// How deep the entries in the lists under its keys may nest.
 const MOST_NESTED_ENTRY: usize = MOST_NESTED - 1;
 
-/// What is kept of the members of a document that were read so far.
+/// What is kept of the members of a document, for a locale.
+pub trait Kept: Drop + Sized {
+    /// What is kept of these members for a locale.
+    ghost holds: { List ℕ → Members → Self → Type 0 };
+
+    /// What is kept before the first member.
+    fn none() -> Self
+        ensures { (locale : List ℕ) → holds locale no_members result };
+
+    /// Reads a member's value, and adds what is kept of it.
+    fn add(
+        &mut self,
+        alloc: Global,
+        locale: &DataLocale,
+        name: &str,
+        reader: &mut Reader<'_>,
+    ) -> Result<(), Unread>
+        ensures { OnOk result
+            (Adds holds locale.now name.now reader.old self.old self.new reader.new) };
+}
+
+/// What is kept of the members of tables of numbers.
 #[derive(Drop)]
-struct Found {
+pub struct Found {
     symbols: Option<Vec<NamedEntry<DecimalSymbols>>>,
     digits: Option<Vec<SystemDigits>>,
     rules: Option<Vec<NamedEntry<PluralRules>>>,
@@ -83,7 +104,7 @@ fn served<T: EntryKind>(
 }
 
 /// The same, for a key that wasn't met before.
-fn once<T: EntryKind>(
+pub fn once<T: EntryKind>(
     alloc: Global,
     locale: &DataLocale,
     key: Key,
@@ -100,51 +121,63 @@ fn once<T: EntryKind>(
     Ok(())
 }
 
-/// Reads a member's value, and adds what is kept of it.
-fn add(
-    alloc: Global,
-    locale: &DataLocale,
-    found: &mut Found,
-    name: &str,
-    reader: &mut Reader<'_>,
-) -> Result<(), Unread>
-    ensures { OnOk result
-        (Adds locale.now name.now reader.old found.old found.new reader.new) }
-{
-    match name {
-        "symbols" => once::<SymbolsEntry>(alloc, locale, Key::Symbols, reader, &mut found.symbols),
-        "digits" => once::<DigitsEntry>(alloc, locale, Key::Digits, reader, &mut found.digits),
-        "rules" => once::<RulesEntry>(alloc, locale, Key::Rules, reader, &mut found.rules),
-        "short" => once::<CompactEntry>(alloc, locale, Key::Short, reader, &mut found.short),
-        "long" => once::<CompactEntry>(alloc, locale, Key::Long, reader, &mut found.long),
-        _ => {
-            drop(owned(alloc, reader, MOST_NESTED)?);
-            Ok(())
+impl Kept for Found {
+    ghost use Rattle.icu_tables.specs.ForLocale.{Holds};
+
+    ghost holds = { λ locale members found. Holds locale members found };
+
+    fn none() -> Found {
+        Found {
+            symbols: None,
+            digits: None,
+            rules: None,
+            short: None,
+            long: None,
+        }
+    }
+
+    fn add(
+        &mut self,
+        alloc: Global,
+        locale: &DataLocale,
+        name: &str,
+        reader: &mut Reader<'_>,
+    ) -> Result<(), Unread> {
+        match name {
+            "symbols" => {
+                once::<SymbolsEntry>(alloc, locale, Key::Symbols, reader, &mut self.symbols)
+            }
+            "digits" => once::<DigitsEntry>(alloc, locale, Key::Digits, reader, &mut self.digits),
+            "rules" => once::<RulesEntry>(alloc, locale, Key::Rules, reader, &mut self.rules),
+            "short" => once::<CompactEntry>(alloc, locale, Key::Short, reader, &mut self.short),
+            "long" => once::<CompactEntry>(alloc, locale, Key::Long, reader, &mut self.long),
+            _ => {
+                drop(owned(alloc, reader, MOST_NESTED)?);
+                Ok(())
+            }
         }
     }
 }
 
 /// What is kept of all members that are left.
-fn members(alloc: Global, locale: &DataLocale, reader: &mut Reader<'_>) -> Result<Found, Unread>
-    ensures { IfOk result (λ f. (ds : Members) × Holds locale.now ds f
+fn members<K: Kept>(
+    alloc: Global,
+    locale: &DataLocale,
+    reader: &mut Reader<'_>,
+) -> Result<K, Unread>
+    ensures { IfOk result (λ f. (ds : Members) × K.holds locale.now ds f
         × AreMembersOf 126 reader.old ds reader.new) }
 {
-    let mut found = Found {
-        symbols: None,
-        digits: None,
-        rules: None,
-        short: None,
-        long: None,
-    };
+    let mut found = K::none();
     'members: while let Some(name) = reader.next_key()? {
-        add(alloc, locale, &mut found, name, reader)?;
+        found.add(alloc, locale, name, reader)?;
     }
     Ok(found)
 }
 
 /// What is kept of the object that a text is.
-fn document(alloc: Global, locale: &DataLocale, text: &str) -> Result<Found, Unread>
-    ensures { IfOk result (λ f. (ds : Members) × Holds locale.now ds f
+pub fn document<K: Kept>(alloc: Global, locale: &DataLocale, text: &str) -> Result<K, Unread>
+    ensures { IfOk result (λ f. (ds : Members) × K.holds locale.now ds f
         × (read text.now ≡ Some (object ds))) }
 {
     let mut scratch = Scratch::new(alloc);
@@ -152,28 +185,37 @@ fn document(alloc: Global, locale: &DataLocale, text: &str) -> Result<Found, Unr
     let Some(Token::BeginObject) = reader.next() else {
         return Err(Unread::Other);
     };
-    let found = members(alloc, locale, &mut reader)?;
+    let found = members::<K>(alloc, locale, &mut reader)?;
     if reader.next().is_some() {
         return Err(Unread::Other);
     }
     Ok(found)
 }
 
+impl Found {
+    /// The tables of what was found, if the lists are there that have to be.
+    pub fn tables(self) -> Result<Tables, Unread>
+        ensures { IfOk result (λ t. (locale text : List ℕ) (ds : Members) → Holds locale ds self
+            → read text ≡ Some (object ds) → IsFor locale t (tables_of text)) }
+    {
+        let (Some(symbols), Some(digits)) = (self.symbols, self.digits) else {
+            return Err(Unread::Other);
+        };
+        Ok(Tables {
+            symbols,
+            digits,
+            rules: self.rules,
+            short: self.short,
+            long: self.long,
+        })
+    }
+}
+
 /// The tables of a text, if nothing in it is rejected or rare.
 fn tables(alloc: Global, locale: &DataLocale, text: &str) -> Result<Tables, Unread>
     ensures { IfOk result (λ t. IsFor locale.now t (tables_of text.now)) }
 {
-    let found = document(alloc, locale, text)?;
-    let (Some(symbols), Some(digits)) = (found.symbols, found.digits) else {
-        return Err(Unread::Other);
-    };
-    Ok(Tables {
-        symbols,
-        digits,
-        rules: found.rules,
-        short: found.short,
-        long: found.long,
-    })
+    document::<Found>(alloc, locale, text)?.tables()
 }
 
 impl Tables {

@@ -23,12 +23,12 @@
 
 pub mod compact;
 mod digits;
-mod for_locale;
-mod provider;
+pub mod for_locale;
+pub mod provider;
 mod rules;
 pub mod symbols;
 mod tables;
-mod tokens;
+pub mod tokens;
 
 pub use compact::compact_from_value;
 pub use icu_table_entries::{EntryFault, Key, TableError};

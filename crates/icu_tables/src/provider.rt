@@ -1,6 +1,6 @@
 //! Tables as a provider.
 
-ghost use Rattle.std.specs.Prelude.{Ok, option_map};
+ghost use Rattle.std.specs.Prelude.{◌≡◌, IfOk, Ok, option_map};
 ghost use Rattle.icu_provider.specs.Answer.{Answers};
 ghost use Rattle.icu_provider.specs.Identifier.{identifier_of};
 ghost use Rattle.icu_table_entries.specs.Answering.{filed_answer, optional_answer};
@@ -18,6 +18,16 @@ use icu_provider::{DataError, DataErrorKind, DataIdentifierBorrowed, DataProvide
 use icu_table_entries::named::{NamedEntry, first_filed};
 use std::alloc::Global;
 
+/// What a provider answers with a copy of its data.
+pub fn answered<T, E: Drop>(copied: Result<T, E>) -> Result<T, DataError>
+    ensures { (held : T) → IfOk copied (λ c. c ≡ held) → Answers result (Ok held) }
+{
+    match copied {
+        Ok(copy) => Ok(copy),
+        Err(_) => Err(DataErrorKind::OutOfMemory.into()),
+    }
+}
+
 /// Data that is copied for each answer.
 trait Copied: Sized {
     /// An equal value with memory of its own.
@@ -27,28 +37,19 @@ trait Copied: Sized {
 
 impl Copied for DecimalSymbols {
     fn copied(&self, alloc: Global) -> Result<Self, DataError> {
-        match self.copy(alloc) {
-            Ok(symbols) => Ok(symbols),
-            Err(_) => Err(DataErrorKind::OutOfMemory.into()),
-        }
+        answered(self.copy(alloc))
     }
 }
 
 impl Copied for PluralRules {
     fn copied(&self, alloc: Global) -> Result<Self, DataError> {
-        match self.copy(alloc) {
-            Ok(rules) => Ok(rules),
-            Err(_) => Err(DataErrorKind::OutOfMemory.into()),
-        }
+        answered(self.copy(alloc))
     }
 }
 
 impl Copied for CompactPatterns<SinglePlaceholder> {
     fn copied(&self, alloc: Global) -> Result<Self, DataError> {
-        match self.copy(alloc) {
-            Ok(table) => Ok(table),
-            Err(_) => Err(DataErrorKind::OutOfMemory.into()),
-        }
+        answered(self.copy(alloc))
     }
 }
 

@@ -3,4 +3,5 @@ pub mod Cutting
 pub mod Served
 pub mod WrittenForms
 pub mod WrittenTexts
+pub mod ServedAll
 pub mod ShownTexts

@@ -1,10 +1,11 @@
 //! The form that is wanted, by the bytes of a file of tables.
 
-ghost use Rattle.std.specs.Prelude.{◌≡◌, Err, IfErr, IfOk, Ok, Result};
+ghost use Rattle.std.specs.Prelude.{◌≡◌, Err, IfErr, IfOk, Result};
 ghost use Rattle.icu_provider.specs.Answer.{Answers, Refusal};
 ghost use Rattle.icu_tables.specs.ForLocale.{IsFor};
 ghost use Rattle.icu_tables.specs.Tables.{TablesData, tables_of};
 ghost use Rattle.icu_dimension_tables.specs.AllTables.{AllData, all_tables_of};
+ghost use Rattle.icu_dimension_tables.specs.ForLocale.{IsAllFor};
 ghost use Rattle.locnum_forms.specs.Forms.{FormData};
 ghost use Rattle.locnum_forms.specs.Loaded.{long_loaded, money_loaded, money_options, money_short_loaded, named_loaded, percent_loaded, plain_loaded, short_loaded, unit_loaded};
 ghost use Rattle.locnum_forms.specs.Making.{Starts, Stops, form_of, read_then, start_error, started, table_error, with_all, with_tables};
@@ -68,13 +69,13 @@ fn tables_in(alloc: Global, wanted: &Wanted<'_>, text: &str) -> Result<Tables, S
     }
 }
 
-/// All tables of a text.
-fn all_in(alloc: Global, text: &str) -> Result<AllTables, StartError>
-    ensures tables { IfOk result (λ all. all_tables_of text.now ≡ Ok all) }
+/// All tables of a text, for the locale.
+fn all_in(alloc: Global, wanted: &Wanted<'_>, text: &str) -> Result<AllTables, StartError>
+    ensures tables { IfOk result (λ all. IsAllFor wanted.now.locale all (all_tables_of text.now)) }
     ensures refused { IfErr result (λ error. (next : AllData → Result FormData StartError) →
         Stops error (read_then (all_tables_of text.now) next)) }
 {
-    match AllTables::from_json(alloc, text) {
+    match AllTables::from_json_for_locale(alloc, text, &wanted.locale) {
         Ok(all) => Ok(all),
         Err(error) => Err(table_error(error)),
     }
@@ -116,7 +117,7 @@ fn money_form(
     ensures { Starts result
         (with_all text.now (money_loaded wanted.now code options is_cash)) }
 {
-    let all = all_in(alloc, text)?;
+    let all = all_in(alloc, wanted, text)?;
     started(load_money(alloc, &all, wanted, code, options, is_cash))
 }
 
@@ -130,7 +131,7 @@ fn named_form(
 ) -> Result<Form, StartError>
     ensures { Starts result (with_all text.now (named_loaded wanted.now code is_cash)) }
 {
-    let all = all_in(alloc, text)?;
+    let all = all_in(alloc, wanted, text)?;
     started(load_named(alloc, &all, wanted, code, is_cash))
 }
 
@@ -143,7 +144,7 @@ fn money_short_form(
 ) -> Result<Form, StartError>
     ensures { Starts result (with_all text.now (money_short_loaded wanted.now code)) }
 {
-    let all = all_in(alloc, text)?;
+    let all = all_in(alloc, wanted, text)?;
     started(load_money_short(alloc, &all, wanted, code))
 }
 
@@ -151,7 +152,7 @@ fn money_short_form(
 fn percent_form(alloc: Global, wanted: &Wanted<'_>, text: &str) -> Result<Form, StartError>
     ensures { Starts result (with_all text.now (percent_loaded wanted.now)) }
 {
-    let all = all_in(alloc, text)?;
+    let all = all_in(alloc, wanted, text)?;
     started(load_percent(alloc, &all, wanted))
 }
 
@@ -165,7 +166,7 @@ fn unit_form(
 ) -> Result<Form, StartError>
     ensures { Starts result (with_all text.now (unit_loaded wanted.now name.now width)) }
 {
-    let all = all_in(alloc, text)?;
+    let all = all_in(alloc, wanted, text)?;
     started(load_unit(alloc, &all, wanted, name, width))
 }
 

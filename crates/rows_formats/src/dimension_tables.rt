@@ -1,8 +1,10 @@
 //! Calls of `AllTables` and of `DimensionTables`.
 
-use crate::dimension_faults::{Fault, said};
+use crate::Answer;
+use crate::dimension_faults::{Fault, said, told};
 use crate::dimension_loading::{document, tables_in};
 use crate::money::code_of;
+use crate::tables::one_of;
 use icu_dimension::provider::{
     CurrencyCompactShortV1, CurrencyDecimalSymbolsV1, CurrencyDigitsV1, CurrencyNamesV1,
     CurrencyPatternsV1, CurrencySymbolsV1, PercentPatternsV1, UnitsLongV1, UnitsNarrowV1,
@@ -93,30 +95,90 @@ fn found(
     said(alloc, "found")
 }
 
-/// How tables answer by a locale and a name, or without a name.
+/// Whether all tables are read, or those for a locale alone.
+#[derive(Clone, Copy)]
+enum Scope {
+    All,
+    Alone(DataLocale),
+}
+
+/// The tables of the document of a word.
+fn tables_of(
+    alloc: Global,
+    documents: &Documents,
+    word: &str,
+    scope: Scope,
+) -> Result<AllTables, Fault> {
+    let text = document(alloc, documents, word)?;
+    match scope {
+        Scope::All => Ok(AllTables::from_json(alloc, text.as_str())?),
+        Scope::Alone(locale) => Ok(AllTables::from_json_for_locale(alloc, text.as_str(), &locale)?),
+    }
+}
+
+/// Whether the document of a word is read as tables.
+fn read(alloc: Global, documents: &Documents, word: &str, scope: Scope) -> Result<String, Fault> {
+    tables_of(alloc, documents, word, scope)?;
+    said(alloc, "accepted")
+}
+
+/// How the tables of the document of a word answer by a locale and a name, or without a name.
 fn load(
     alloc: Global,
-    tables: &AllTables,
+    documents: &Documents,
+    (word, scope): (&str, Scope),
     marker: &str,
-    (locale, name): (&str, &str),
+    (locale, name): (DataLocale, &str),
 ) -> Result<String, Fault> {
-    let locale = DataLocale::try_from_str(locale).unwrap_or_default();
+    let tables = tables_of(alloc, documents, word, scope)?;
     let id = if name.is_empty() {
         DataIdentifierBorrowed::for_locale(&locale)
     } else {
         DataIdentifierBorrowed::for_marker_attributes_and_locale(name, &locale)
     };
-    found(alloc, tables, marker, &DataRequest { id, silent: false })
+    found(alloc, &tables, marker, &DataRequest { id, silent: false })
 }
 
 /// The digits of a currency, and its digits in cash.
-fn digits(alloc: Global, tables: &AllTables, code: &str) -> Result<String, Fault> {
+fn digits(alloc: Global, documents: &Documents, word: &str, code: &str) -> Result<String, Fault> {
+    let tables = tables_in(alloc, documents, word)?;
     let Some(code) = code_of(code) else {
         return Err(Fault::Unreadable);
     };
-    let digits = load_currency_digits(alloc, tables)?;
+    let digits = load_currency_digits(alloc, &tables)?;
     let digits = digits.of(code);
     Ok(format!(in alloc; "{} {}", digits.standard, digits.cash)?)
+}
+
+/// Whether a document is read as tables, and for English alone.
+fn read_twice(alloc: Global, documents: &Documents, word: &str) -> Answer {
+    let alone = Scope::Alone(DataLocale::try_from_str("en").unwrap_or_default());
+    one_of(
+        alloc,
+        told(alloc, read(alloc, documents, word, Scope::All)),
+        told(alloc, read(alloc, documents, word, alone)),
+    )
+}
+
+/// How the tables of a document answer. Those for the locale alone have to answer the same.
+fn load_twice(
+    alloc: Global,
+    documents: &Documents,
+    word: &str,
+    marker: &str,
+    (locale, name): (&str, &str),
+) -> Answer {
+    let locale = DataLocale::try_from_str(locale).unwrap_or_default();
+    let by = (locale, name);
+    let alone = (word, Scope::Alone(locale));
+    one_of(
+        alloc,
+        told(
+            alloc,
+            load(alloc, documents, (word, Scope::All), marker, by),
+        ),
+        told(alloc, load(alloc, documents, alone, marker, by)),
+    )
 }
 
 /// What a call of all tables answers, whose first argument is a document.
@@ -125,17 +187,17 @@ pub(crate) fn answer_of_all(
     documents: &Documents,
     call: &str,
     arguments: &[String],
-) -> Result<String, Fault> {
-    let Some((word, words)) = arguments.split_first() else {
-        return Err(Fault::Unreadable);
-    };
-    let tables = tables_in(alloc, documents, word)?;
-    match (call, words) {
-        ("from_json", []) => said(alloc, "accepted"),
-        ("load", [marker, locale]) => load(alloc, &tables, marker, (locale, "")),
-        ("load", [marker, locale, name]) => load(alloc, &tables, marker, (locale, name)),
-        ("load_currency_digits", [code]) => digits(alloc, &tables, code),
-        _ => Err(Fault::Unreadable),
+) -> Answer {
+    match (call, arguments) {
+        ("from_json", [word]) => read_twice(alloc, documents, word),
+        ("load", [word, marker, locale]) => {
+            load_twice(alloc, documents, word, marker, (locale, ""))
+        }
+        ("load", [word, marker, locale, name]) => {
+            load_twice(alloc, documents, word, marker, (locale, name))
+        }
+        ("load_currency_digits", [word, code]) => told(alloc, digits(alloc, documents, word, code)),
+        _ => Ok(None),
     }
 }
 

@@ -62,7 +62,6 @@ fn answer_of_dimension(
         "LongCurrencyFormatter" => names::answer(alloc, documents, call, arguments),
         "UnitsFormatter" => measures::answer(alloc, documents, call, arguments),
         "DimensionTables" => dimension_tables::answer(alloc, documents, call, arguments),
-        "AllTables" => dimension_tables::answer_of_all(alloc, documents, call, arguments),
         "CldrPattern" | "SignedPattern" => signed_patterns::answer(alloc, call, arguments),
         "CompactRows" => compact_rows::answer(alloc, call, arguments),
         _ => currencies::answer(alloc, kind, call, arguments),
@@ -84,6 +83,9 @@ impl Calls for Formats {
             if answer.is_some() {
                 return Ok(answer);
             }
+        }
+        if let Some(call) = call.strip_prefix("AllTables::") {
+            return dimension_tables::answer_of_all(alloc, documents, call, arguments);
         }
         told(
             alloc,

@@ -48,7 +48,7 @@ fn joined(alloc: Global, all: String, alone: &str) -> Answer {
 }
 
 /// Two answers that have to be equal: the first, and behind it the second if it is another one.
-fn one_of(alloc: Global, all: Answer, alone: Answer) -> Answer {
+pub(crate) fn one_of(alloc: Global, all: Answer, alone: Answer) -> Answer {
     match all?.zip(alone?) {
         Some((all, alone)) => joined(alloc, all, alone.as_str()),
         None => Ok(None),

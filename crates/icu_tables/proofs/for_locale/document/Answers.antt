@@ -7,7 +7,7 @@ use Rattle.icu_tables.proofs.ForLocale.{whole_object}
 use Rattle.icu_tables.proofs.for_locale.document.Goals as goal
 
 pub returns : goal.returns
-returns c =
+returns g c =
     let found = c.in_ok-found.ensures in
     let none : c.members.new.reader ≡ [] = grind (arith, common_steps) in
     let opening = c.in-Some-BeginObject in

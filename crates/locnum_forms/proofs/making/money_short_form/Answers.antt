@@ -2,6 +2,7 @@ use Rattle.std.proofs.Common.{rules}
 use Rattle.icu_dimension_tables.specs.AllTables.{AllData}
 use Rattle.locnum_forms.specs.Loaded.{money_short_loaded}
 use Rattle.locnum_forms.specs.Making.{started}
+use Rattle.locnum_forms.proofs.ServedAll.{money_short-same, with_all-for}
 use Rattle.locnum_forms.proofs.making.money_short_form.Goals as goal
 
 pub returns-in_err-all : goal.returns-in_err-all
@@ -12,6 +13,8 @@ returns-in_err-all c =
 
 pub returns : goal.returns
 returns c =
-    let all = c.in_ok-all.all in
+    let kept = c.in_ok-all.all in
     let load = money_short_loaded c.args.wanted.now c.args.code in
-    rw c.in_ok-all.ensures.tables (c.started.ensures (load all.numbers all.dimension) c.load_money_short.ensures)
+    rw (with_all-for c.args.wanted.now.locale c.args.text.now kept load c.in_ok-all.ensures.tables (λ all answers.
+    money_short-same c.args.wanted.now kept all answers c.args.code))
+    (c.started.ensures (load kept.numbers kept.dimension) c.load_money_short.ensures)

@@ -3,12 +3,11 @@ use Rattle.icu_decimal_data.specs.declared.decimal_symbols.DecimalSymbols.{Decim
 use Rattle.icu_tables.specs.Digits.{SystemDigits}
 use Rattle.icu_table_entries.specs.Named.{NamedEntry}
 use Rattle.icu_tables.proofs.ForLocale.{tables_for}
-use Rattle.icu_tables.proofs.for_locale.tables.Goals as goal
+use Rattle.icu_tables.proofs.for_locale.Found.tables.Goals as goal
 
 pub returns : goal.returns
 returns c =
-    let found = c.in_ok-found.ensures in
     let some = c.in-Some-Some in
     let symbols = ap (option_map (λ (v : Vec (NamedEntry DecimalSymbols) Global). v.items)) some.is-0 in
     let digits = ap (option_map (λ (v : Vec SystemDigits Global). v.items)) some.is-1 in
-    tables_for c.args.locale.now c.args.text.now found.0 _ some.symbols.items some.digits.items (rw (← c.found.view_is) at found.1) found.2 symbols digits
+    λ locale text ds holds reads. tables_for locale text ds _ some.symbols.items some.digits.items (rw (← c.self.view_is) at holds) reads symbols digits
