@@ -3,7 +3,6 @@
 use Rattle.std.proofs.Common.{◌≡◌, ℕ, Bool, true, false, List, [], ◌∷◌, Option, Some, None, Result, Ok, nat_eq, refl}
 use Rattle.std.proofs.Common.{sym, ap, ◌∙◌, cond, map, option_map}
 use Rattle.std.proofs.Math.Bool.{and-false}
-use Rattle.std.proofs.lemmas.Cmp.{nat_list_eq_equiv}
 use Rattle.std.specs.Cmp.Lexicographic.{pointwise}
 use Rattle.std.specs.List.{filter}
 use Rattle.json.specs.Token.{Token}
@@ -18,37 +17,33 @@ use Rattle.icu_dimension_data.specs.declared.compact_rows.CompactRow.{CompactRow
 use Rattle.icu_dimension.specs.Names.{NameText}
 use Rattle.icu_plurals.specs.Elements.{Elements}
 use Rattle.icu_provider.specs.Answer.{Refusal}
-use Rattle.icu_pattern.specs.Patterns.{PatternText}
-use Rattle.icu_provider.specs.Identifier.{Identifier, same_identifier}
-use Rattle.icu_table_entries.specs.Answering.{filed_answer, optional_answer, or_not_found}
+use Rattle.icu_provider.specs.Identifier.{Identifier}
+use Rattle.icu_table_entries.specs.Answering.{optional_answer, or_not_found}
 use Rattle.icu_table_entries.specs.Keys.{name_of}
 use Rattle.icu_table_entries.specs.Named.{NamedEntry, first_filed, is_of}
-use Rattle.icu_table_entries.specs.Reading.{◌>>=◌, entries_in, object_in, ok_or, optional, optional_at, value_of}
+use Rattle.icu_table_entries.specs.Reading.{◌>>=◌, entries_in, object_in, optional, optional_at, value_of}
 use Rattle.icu_table_entries.specs.declared.error.Key.{Key}
 use Rattle.icu_table_entries.specs.declared.error.Key.TheVariants.{Percents, Units, Currencies, CurrencySymbols, CurrencyDecimals}
 use Rattle.icu_table_entries.specs.declared.error.Key.TheVariants.{CurrencyDigits, CurrencyCompact}
 use Rattle.icu_table_entries.specs.declared.error.Key.TheVariants.{Symbols, Digits, Rules, Short, Long}
-use Rattle.icu_table_entries.specs.declared.error.Place.{Place}
-use Rattle.icu_table_entries.specs.declared.error.TableError.{TableError}
-use Rattle.icu_tables.specs.ForLocale.{Adds, AnswersAs, FoundData, Holds, HoldsAt, IsFor, IsOnce}
-use Rattle.icu_tables.specs.Owned.{IsValue}
+use Rattle.icu_tables.specs.ForLocale.{Adds, FoundData, Holds, IsFor, IsOnce}
 use Rattle.icu_tables.specs.Symbols.{symbols_at}
 use Rattle.icu_tables.specs.Tables.{TablesData, tables_of}
 use Rattle.icu_tables.proofs.ForLocale.{HoldsAt-here, HoldsAt-other, KeptOf, adds_other, apart, filter-all}
 use Rattle.icu_tables.proofs.ForLocale.{first_filed-filter, optional_read, optional_same}
-use Rattle.icu_dimension_tables.specs.AllTables.{AllData, all_tables_of}
+use Rattle.icu_dimension_tables.specs.AllTables.{all_tables_of}
 use Rattle.icu_dimension_tables.specs.Answering.{decimals_answer, names_answer, symbols_answer, unit_answer}
 use Rattle.icu_dimension_tables.specs.CurrencyCompact.{currency_compact_at}
 use Rattle.icu_dimension_tables.specs.CurrencyDigits.{currency_digits_of, currency_digits_under, digits_row_at}
 use Rattle.icu_dimension_tables.specs.CurrencyNames.{names_found}
 use Rattle.icu_dimension_tables.specs.CurrencySymbols.{LocaleCurrencies, CurrencyRow, currency_symbols_at, row_filed, row_in, rows_of_locale}
 use Rattle.icu_dimension_tables.specs.DimensionTables.{DimensionData, dimension_tables_at, dimension_tables_of}
-use Rattle.icu_dimension_tables.specs.ForLocale.{AllAnswersAs, AllFoundData, DimensionAnswersAs, HoldsAll, IsAllFor, IsDimensionFor}
+use Rattle.icu_dimension_tables.specs.ForLocale.{AllFoundData, HoldsAll, IsAllFor, IsDimensionFor}
 use Rattle.icu_dimension_tables.specs.ForLocale.{currencies_are_of, unit_is_of}
 use Rattle.icu_dimension_tables.specs.Money.{LocaleMoney, currencies_at, filed_part, patterns_filed, places_filed}
 use Rattle.icu_dimension_tables.specs.NamePlaces.{NamePlaces}
 use Rattle.icu_dimension_tables.specs.Percents.{percents_at}
-use Rattle.icu_dimension_tables.specs.Units.{UnitPatterns, first_unit, same_width, units_at}
+use Rattle.icu_dimension_tables.specs.Units.{UnitPatterns, first_unit, units_at}
 use Rattle.icu_dimension_tables.specs.declared.currency_digits.DigitsRow.{DigitsRow}
 use Rattle.icu_dimension_tables.specs.declared.units.UnitWidth.{UnitWidth}
 use Rattle.icu_dimension_tables.proofs.Filed.{first_part}

@@ -1,12 +1,8 @@
 -- All tables for the locale that is wanted make the same form as those of the whole text.
 use Rattle.std.proofs.Common.{◌≡◌, ℕ, Bool, List, None, Ok, Result, refl, sym, ap, ◌∙◌}
-use Rattle.icu_decimal_data.specs.Decided.{or_else}
-use Rattle.icu_decimal_data.specs.declared.decimal_symbols.DecimalSymbols.{DecimalSymbols}
-use Rattle.icu_dimension_data.specs.Digits.{Digits}
 use Rattle.icu_decimal.specs.Loaded.{Provider, and_then, loaded, preferably}
 use Rattle.icu_decimal_options.specs.Preferences.{locale_id}
 use Rattle.icu_decimal.specs.declared.options.DecimalFormatterOptions.{DecimalFormatterOptions}
-use Rattle.icu_decimal.specs.declared.preferences.DecimalFormatterPreferences.{DecimalFormatterPreferences}
 use Rattle.icu_decimal.specs.Decimal.{DecimalFormat}
 use Rattle.icu_dimension.specs.CompactMoney.{CompactMoney, compact_money}
 use Rattle.icu_dimension.specs.Money.{SignedFormat}
@@ -17,13 +13,12 @@ use Rattle.icu_dimension_data.specs.declared.compact_rows.CompactRow.{CompactRow
 use Rattle.icu_plurals.specs.Rules.{Rule}
 use Rattle.icu_dimension.specs.declared.options.CurrencyFormatterOptions.{CurrencyFormatterOptions}
 use Rattle.icu_dimension_tables.specs.AllTables.{AllData, all_tables_of}
-use Rattle.icu_dimension_tables.specs.Answering.{decimals_answer, digits_answer, names_answer, symbols_answer, unit_answer}
 use Rattle.icu_dimension_tables.specs.DimensionTables.{DimensionData}
 use Rattle.icu_dimension_tables.specs.ForLocale.{AllAnswersAs, IsAllFor}
 use Rattle.icu_dimension_tables.specs.declared.units.UnitWidth.TheVariants as filed
 use Rattle.icu_provider.specs.Answer.{Refusal}
 use Rattle.icu_provider.specs.Identifier.{Identifier}
-use Rattle.icu_table_entries.specs.Answering.{filed_answer, optional_answer}
+use Rattle.icu_table_entries.specs.Answering.{optional_answer}
 use Rattle.icu_table_entries.specs.declared.error.TableError.{TableError}
 use Rattle.icu_tables.specs.Tables.{TablesData}
 use Rattle.decimal_lines.specs.Making.{plain_options}
@@ -31,7 +26,7 @@ use Rattle.decimal_lines.proofs.OneLocale.{and_then_both, digits_same, loaded_sa
 use Rattle.locnum_forms.specs.Forms.{FormData}
 use Rattle.locnum_forms.specs.Loaded.{amounts_loaded, compact_money_loaded, compact_money_options, currency_loaded, money_loaded, money_short_loaded}
 use Rattle.locnum_forms.specs.Loaded.{named_loaded, names_loaded, percent_loaded, preferences, symbols_for_money, system_digits, unit_loaded}
-use Rattle.locnum_forms.specs.Loaded.{form_with, unit_patterns, units_loaded}
+use Rattle.locnum_forms.specs.Loaded.{form_with, unit_patterns}
 use Rattle.locnum_forms.specs.Making.{read_then, started, with_all}
 use Rattle.locnum_forms.specs.Wanted.{WantedData}
 use Rattle.locnum_forms.specs.declared.form.Formatter.{Formatter}
