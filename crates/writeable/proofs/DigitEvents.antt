@@ -33,7 +33,7 @@ text_of-digits_split characters digits i =
     ∙ ap (λ l. text_of (digit_events characters l)) (take-append-drop i digits)
 
 -- an ASCII character is one byte
-pub encode_ascii : (c : ℕ) → c < 128 → encode_utf8 c ≡ c ∷ []
+encode_ascii : (c : ℕ) → c < 128 → encode_utf8 c ≡ c ∷ []
 encode_ascii c h = search (rules, common_steps)
 
 -- after the text of the digits before an index, the character of the next digit makes that of one digit more

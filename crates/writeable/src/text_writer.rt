@@ -5,12 +5,10 @@ ghost use Rattle.writeable.specs.Events.{digit_events, text_of};
 ghost use Rattle.writeable.specs.Events.Event.{Char, Close, Open};
 ghost use Rattle.writeable.specs.Writes.{AppendsText-nothing, AppendsText-then, OnOk-stop};
 
-use crate::byte_groups::{push_byte_digits, push_byte_groups};
-use crate::event_writer::{ASCII_DIGITS, EventWriter};
+use crate::event_writer::EventWriter;
 use crate::groups::Grouping;
 use crate::sink::{Part, WriteFault};
 use crate::text_buffer::{TextBuffer, append_groups};
-use std::mem;
 
 // On success the text of the events stands behind what the string held.
 impl EventWriter for String {
@@ -61,33 +59,6 @@ impl EventWriter for String {
         append_groups(self, digits, grouping, characters)
     }
 
-    /// Asks for room once.
-    fn ascii_digits(&mut self, digits: &[u8]) -> Result<(), WriteFault> {
-        let mut bytes = taken(self);
-        let written = push_byte_digits(&mut bytes, digits, &ASCII_DIGITS);
-        *self = unsafe { String::from_utf8_unchecked(bytes) };
-        written
-    }
-
-    /// Asks for room once, where the separator is one byte.
-    fn ascii_groups(&mut self, digits: &[u8], grouping: &Grouping<'_>) -> Result<(), WriteFault> {
-        let separator = grouping.separator.as_bytes();
-        if separator.len() != 1 {
-            return self.groups(digits, grouping, &ASCII_DIGITS);
-        }
-        let mut bytes = taken(self);
-        let written = push_byte_groups(
-            &mut bytes,
-            digits,
-            grouping.primary,
-            grouping.secondary,
-            separator[0],
-            &ASCII_DIGITS,
-        );
-        *self = unsafe { String::from_utf8_unchecked(bytes) };
-        written
-    }
-
     fn open(&mut self, part: Part) -> Result<(), WriteFault>
         ensures wrote { OnOk result (string_bytes self.new ≡ string_bytes self.old
             ++ text_of (Open part.category.now part.value.now ∷ [])) }
@@ -120,14 +91,6 @@ impl TextBuffer for String {
         }
         Ok(())
     }
-}
-
-/// The bytes of a text, which is empty then.
-fn taken(text: &mut String) -> Vec<u8>
-    ensures { result.items ≡ string_bytes text.old }
-{
-    let alloc = *text.allocator();
-    mem::replace(text, String::new(alloc)).into_bytes()
 }
 
 /// Appends a character.
