@@ -95,48 +95,43 @@ fn found(
     said(alloc, "found")
 }
 
-/// Whether all tables are read, or those for a locale alone.
-#[derive(Clone, Copy)]
-enum Scope {
-    All,
-    Alone(DataLocale),
-}
-
-/// The tables of the document of a word.
-fn tables_of(
+/// The tables of the document of a word for a locale alone.
+fn tables_alone(
     alloc: Global,
     documents: &Documents,
     word: &str,
-    scope: Scope,
+    locale: &DataLocale,
 ) -> Result<AllTables, Fault> {
     let text = document(alloc, documents, word)?;
-    match scope {
-        Scope::All => Ok(AllTables::from_json(alloc, text.as_str())?),
-        Scope::Alone(locale) => Ok(AllTables::from_json_for_locale(alloc, text.as_str(), &locale)?),
+    Ok(AllTables::from_json_for_locale(alloc, text.as_str(), locale)?)
+}
+
+/// Whether tables were read.
+fn read(alloc: Global, tables: Result<AllTables, Fault>) -> Answer {
+    match tables {
+        Ok(_) => told(alloc, said(alloc, "accepted")),
+        Err(fault) => told(alloc, Err(fault)),
     }
 }
 
-/// Whether the document of a word is read as tables.
-fn read(alloc: Global, documents: &Documents, word: &str, scope: Scope) -> Result<String, Fault> {
-    tables_of(alloc, documents, word, scope)?;
-    said(alloc, "accepted")
-}
-
-/// How the tables of the document of a word answer by a locale and a name, or without a name.
+/// How tables that were read answer by a locale and a name, or without a name.
 fn load(
     alloc: Global,
-    documents: &Documents,
-    (word, scope): (&str, Scope),
+    tables: Result<AllTables, Fault>,
     marker: &str,
-    (locale, name): (DataLocale, &str),
-) -> Result<String, Fault> {
-    let tables = tables_of(alloc, documents, word, scope)?;
+    locale: &DataLocale,
+    name: &str,
+) -> Answer {
     let id = if name.is_empty() {
-        DataIdentifierBorrowed::for_locale(&locale)
+        DataIdentifierBorrowed::for_locale(locale)
     } else {
-        DataIdentifierBorrowed::for_marker_attributes_and_locale(name, &locale)
+        DataIdentifierBorrowed::for_marker_attributes_and_locale(name, locale)
     };
-    found(alloc, &tables, marker, &DataRequest { id, silent: false })
+    let request = DataRequest { id, silent: false };
+    match tables {
+        Ok(tables) => told(alloc, found(alloc, &tables, marker, &request)),
+        Err(fault) => told(alloc, Err(fault)),
+    }
 }
 
 /// The digits of a currency, and its digits in cash.
@@ -152,12 +147,10 @@ fn digits(alloc: Global, documents: &Documents, word: &str, code: &str) -> Resul
 
 /// Whether a document is read as tables, and for English alone.
 fn read_twice(alloc: Global, documents: &Documents, word: &str) -> Answer {
-    let alone = Scope::Alone(DataLocale::try_from_str("en").unwrap_or_default());
-    one_of(
-        alloc,
-        told(alloc, read(alloc, documents, word, Scope::All)),
-        told(alloc, read(alloc, documents, word, alone)),
-    )
+    let locale = DataLocale::try_from_str("en").unwrap_or_default();
+    let all = tables_in(alloc, documents, word);
+    let alone = tables_alone(alloc, documents, word, &locale);
+    one_of(alloc, read(alloc, all), read(alloc, alone))
 }
 
 /// How the tables of a document answer. Those for the locale alone have to answer the same.
@@ -169,16 +162,11 @@ fn load_twice(
     (locale, name): (&str, &str),
 ) -> Answer {
     let locale = DataLocale::try_from_str(locale).unwrap_or_default();
-    let by = (locale, name);
-    let alone = (word, Scope::Alone(locale));
-    one_of(
-        alloc,
-        told(
-            alloc,
-            load(alloc, documents, (word, Scope::All), marker, by),
-        ),
-        told(alloc, load(alloc, documents, alone, marker, by)),
-    )
+    let all = tables_in(alloc, documents, word);
+    let all = load(alloc, all, marker, &locale, name);
+    let alone = tables_alone(alloc, documents, word, &locale);
+    let alone = load(alloc, alone, marker, &locale, name);
+    one_of(alloc, all, alone)
 }
 
 /// What a call of all tables answers, whose first argument is a document.
