@@ -21,7 +21,7 @@ use Rattle.icu_provider.specs.Identifier.{Identifier}
 use Rattle.icu_table_entries.specs.Answering.{optional_answer}
 use Rattle.icu_table_entries.specs.declared.error.TableError.{TableError}
 use Rattle.icu_tables.specs.Tables.{TablesData}
-use Rattle.decimal_lines.specs.Making.{plain_options}
+use Rattle.decimal_lines.specs.ModeOfTables.{plain_options}
 use Rattle.decimal_lines.proofs.OneLocale.{and_then_both, digits_same, loaded_same, preferably_same}
 use Rattle.locnum_forms.specs.Forms.{FormData}
 use Rattle.locnum_forms.specs.Loaded.{amounts_loaded, compact_money_loaded, compact_money_options, currency_loaded, money_loaded, money_short_loaded}
