@@ -67,7 +67,8 @@ fn write_money_named<K: EventWriter>(
     out: &mut K,
 ) -> Result<(), TextError>
     ensures { WroteShown K.wrote out.old result
-        (formatter_events (MoneyNamed formatter.now) decimal.now.sign decimal.now.absolute) out.new }
+        (formatter_events (MoneyNamed formatter.now) decimal.now.sign decimal.now.absolute)
+        out.new }
 {
     written_or(formatter.write_into(alloc, decimal, out))
 }
@@ -80,7 +81,8 @@ fn write_money_short<K: EventWriter>(
     out: &mut K,
 ) -> Result<(), TextError>
     ensures { WroteShown K.wrote out.old result
-        (formatter_events (MoneyShort formatter.now) decimal.now.sign decimal.now.absolute) out.new }
+        (formatter_events (MoneyShort formatter.now) decimal.now.sign decimal.now.absolute)
+        out.new }
 {
     written_or(formatter.write_into(alloc, decimal, out))
 }
