@@ -245,7 +245,7 @@ def version() -> str:
 
 def answer_to_ending(ending: str, data: str) -> Answer:
     """What the words' ending answers, as far as it is known: a note names the data that are to be made."""
-    output = {VERSION: f"locnum {version()}\n", HELP: "Writes numbers in the form of a locale\n"}.get(ending, "")
+    output = {VERSION: f"locnum {version()} (proved)\n", HELP: "Writes numbers in the form of a locale\n"}.get(ending, "")
     error = "locnum: " if ending in (COMMAND, FILE, UNIT) else ""
     if ending in FAULTS:
         shown = data if ending.endswith("locale without data") else ""
