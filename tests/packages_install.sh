@@ -71,14 +71,14 @@ judge 'locnum in euros' same $'1.234,50\u00a0€' "$(as_nobody 'locnum -l de --c
 judge 'locnum with a unit' same '5 км' "$(as_nobody 'locnum -l ru --unit kilometer 5')"
 judge 'decfmt by these tables' same $'1,2\u00a0Mio.' "$(as_nobody 'echo 1234567 | decfmt /usr/share/talmuiga/tables/de.json de - short')"
 judge 'the converter' same '12.345,5' \
-    "$(as_nobody 'talmuiga-tables -o /tmp/qaa.json tests/cldr qaa 2>/dev/null && locnum -t /tmp/qaa.json -l qaa 12345.5')"
+    "$(as_nobody 'talmuiga-tables -o qaa.json tests/cldr qaa 2>/dev/null && locnum -t qaa.json -l qaa 12345.5')"
 judge 'the manual page of the library' as_nobody 'man talmuiga | grep -q talmuiga_formatter_open'
 awk -v 'head=```c' 'BEGIN { print "#include \"talmuiga.h\"\n#include <stdio.h>\nint main(void) {" }
     $0 == head { shown = 1; next } /^```$/ { shown = 0 } shown
     END { print "return 0;\n}" }' README.md >"$root/room/readme.c"
 # shellcheck disable=SC2016 # the Debian's shell asks for the flags
 judge 'C: as README shows' same $'1,000,007\n-987,654.321' \
-    "$(as_nobody 'cc readme.c $(pkg-config --cflags --libs talmuiga) -o /tmp/readme && /tmp/readme')"
+    "$(as_nobody 'cc readme.c $(pkg-config --cflags --libs talmuiga) -o readme && ./readme')"
 awk '/^```python$/ { shown = 1; next } /^```$/ { shown = 0 } shown' README.md >"$root/room/readme.txt"
 judge 'Python: as README shows' as_nobody 'python3 -B -m doctest readme.txt'
 judge 'SQLite: as README shows' same $'1,2\u00a0Mio.' "$(as_nobody "TALMUIGA_TABLES=/usr/share/talmuiga/tables/de.json sqlite3 -batch \
@@ -87,7 +87,6 @@ judge 'SQLite: as README shows' same $'1,2\u00a0Mio.' "$(as_nobody "TALMUIGA_TAB
 for place in bash-completion/completions/locnum zsh/vendor-completions/_locnum fish/vendor_completions.d/locnum.fish; do
     judge "completions: $place" test -s "$root/usr/share/$place"
 done
-rm -rf "$root"/tmp/*
 # root has used the converter, so Python has kept its modules
 judge 'the converter, as root' inside talmuiga-tables --version
 judge 'dpkg removes them' inside dpkg --purge talmuiga-tables-cldr python3-talmuiga libtalmuiga-dev libtalmuiga0 talmuiga
