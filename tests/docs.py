@@ -36,6 +36,7 @@ table of locales, the commands by which it tries an installed program, and the m
 - No page has a word of the last column of CONTRIBUTING.md's table of terms, outside of code.
 - No line of specs/ and proofs/ is longer than 160 bytes, and none of a clause than 100 characters.
 - No source of a crate has more than 400 lines.
+- Each library imports an item, and a definition, from the crate that defines it.
 - The whole file that docs/FORMATS.md begins with is read by both programs.
 - Each command that README.md and the page of examples show behind `$` gives the output below it, also on a terminal at which
   nobody types; those of README.md and docs/BUILDING.md that build the program and run it have their input from a pipe or a
@@ -47,7 +48,7 @@ table of locales, the commands by which it tries an installed program, and the m
 The last line is 'N passed, M failed', one for each page's links, each page that is made, each block and example, each place
 of the version, each picture, the packages, the toolchain, each status, word and example of the manual pages, each option of
 a completion and each question to that of bash, the text of the tables, the headings, each crate's page, the widths of each
-crate, each command, twice, each one that builds unproved, those by a release, and each row. Without `man` a line
+crate, the imports of each library, each command, twice, each one that builds unproved, those by a release, and each row. Without `man` a line
 'skipped: docs: WHY' stands for the manual pages.
 """
 import os
@@ -56,7 +57,7 @@ from collections.abc import Sequence
 
 sys.dont_write_bytecode = True
 
-from pages import links, made, manuals, promises, rows, shown, sources, terms  # noqa: E402
+from pages import imports, links, made, manuals, promises, rows, shown, sources, terms  # noqa: E402
 from pages.judging import ROOT, counts, read  # noqa: E402
 
 
@@ -89,6 +90,7 @@ def judge_all(is_writing: bool) -> int:
     sources.judge_signs()
     sources.judge_widths()
     sources.judge_lengths()
+    imports.judge_homes()
     shown.judge_file()
     shown.judge_commands()
     shown.judge_first_commands()
