@@ -1,5 +1,5 @@
 -- The answer to a text, by what the text reads as.
--- The relation `IsAnswer` says what a text reads as, and `answer_to` computes it with `reading`; fixed_decimal's Readings tie the two. So
+-- The relation `IsTextResult` says what a text reads as, and `text_result` computes it with `reading`; fixed_decimal's Readings tie the two. So
 -- each lemma is a case of what is read: no decimal, one within the limits, one past them. Limits are tested by a Boolean, carried to and
 -- from the relation by `is_within-limits` and `limits-is_within`. What a mode shows of a decimal comes from Displaying.
 use Rattle.std.proofs.Common.{
@@ -38,7 +38,7 @@ use Rattle.fixed_decimal.specs.Unsigned.{IsWithinLimits}
 use Rattle.decimal_lines.specs.declared.mode.Mode.{Mode}
 use Rattle.decimal_lines.specs.declared.mode.Mode.TheVariants.{Plain, Compact}
 use Rattle.fixed_decimal.specs.Reading.{reading}
-use Rattle.decimal_lines.specs.LineAnswers.{HasTable, IsShown, IsAnswer, is_within_limits, shown_by, answer_for, answer_to}
+use Rattle.decimal_lines.specs.LineResults.{HasTable, IsTextBy, IsTextResult, is_within_limits, text_by, reading_result, text_result}
 use Rattle.decimal_lines.proofs.Displaying.{compact-is, compact-only}
 use Rattle.fixed_decimal.proofs.Readings.{reading-reads, reading-spells, reading-nothing, nothing-reading, reads_nothing}
 
@@ -76,55 +76,55 @@ reads-unsigned text s d r w = record {
     some (x ∷ xs) = omega arith
 
 -- what a mode shows is the one thing that it may show
-shown_by-is : (mode : Mode) → HasTable mode → (s : Sign) (d : Unsigned) → IsUnsigned d → IsShown mode s d (shown_by mode s d)
-shown_by-is (Plain format) has s d is = refl
-shown_by-is (Compact format) has s d is = compact-is format s d is has
+text_by-is : (mode : Mode) → HasTable mode → (s : Sign) (d : Unsigned) → IsUnsigned d → IsTextBy mode s d (text_by mode s d)
+text_by-is (Plain format) has s d is = refl
+text_by-is (Compact format) has s d is = compact-is format s d is has
 
 -- and nothing else
-shown_by-only : (mode : Mode) (s : Sign) (d : Unsigned) (answer : List ℕ) → IsShown mode s d answer → answer ≡ shown_by mode s d
-shown_by-only (Plain format) s d answer shows = shows
-shown_by-only (Compact format) s d answer shows = compact-only format s d answer shows
+text_by-only : (mode : Mode) (s : Sign) (d : Unsigned) (result : List ℕ) → IsTextBy mode s d result → result ≡ text_by mode s d
+text_by-only (Plain format) s d result shows = shows
+text_by-only (Compact format) s d result shows = compact-only format s d result shows
 
 module _ (mode : Mode) (text : List ℕ) where
   -- the answer is that to what is read
-  by_reading : (o : Option (Sign × Unsigned)) → reading text ≡ o → answer_to mode text ≡ answer_for mode o
-  unfolding answer_to
-  by_reading o e = ap (answer_for mode) e
+  by_reading : (o : Option (Sign × Unsigned)) → reading text ≡ o → text_result mode text ≡ reading_result mode o
+  unfolding text_result
+  by_reading o e = ap (reading_result mode) e
 
   -- the answer to a decimal within the limits
-  pub answer_to-within : (s : Sign) (d : Unsigned) → Reads text s d → IsWithinLimits d → answer_to mode text ≡ shown_by mode s d
-  answer_to-within s d r w = by_reading (Some (s, d)) (reading-reads text s d r) ∙ rw (is_within-limits d w) refl
+  pub text_result-within : (s : Sign) (d : Unsigned) → Reads text s d → IsWithinLimits d → text_result mode text ≡ text_by mode s d
+  text_result-within s d r w = by_reading (Some (s, d)) (reading-reads text s d r) ∙ rw (is_within-limits d w) refl
 
   -- the answer to a text that spells no decimal
-  pub answer_to-nothing : ReadsNothing text → answer_to mode text ≡ codes "error: not a decimal"
-  answer_to-nothing none = by_reading None (reading-nothing text none)
+  pub text_result-nothing : ReadsNothing text → text_result mode text ≡ codes "error: not a decimal"
+  text_result-nothing none = by_reading None (reading-nothing text none)
 
   -- and to one that needs a power of ten past the limits
-  pub answer_to-past : ReadsPastLimits text → answer_to mode text ≡ codes "error: too many digits"
-  answer_to-past (s, d, r, past) = by_reading (Some (s, d)) (reading-reads text s d r) ∙ go (is_within_limits d) refl
+  pub text_result-past : ReadsPastLimits text → text_result mode text ≡ codes "error: too many digits"
+  text_result-past (s, d, r, past) = by_reading (Some (s, d)) (reading-reads text s d r) ∙ go (is_within_limits d) refl
     where
-      go : (b : Bool) → is_within_limits d ≡ b → (if b then shown_by mode s d else codes "error: too many digits") ≡ codes "error: too many digits"
+      go : (b : Bool) → is_within_limits d ≡ b → (if b then text_by mode s d else codes "error: too many digits") ≡ codes "error: too many digits"
       go true e = absurd (past (limits-is_within d e))
       go false e = refl
 
   -- a decimal that isn't past the limits
-  pub answer_to-decimal : (s : Sign) (d : Unsigned) → Reads text s d → ¬ (ReadsPastLimits text) → answer_to mode text ≡ shown_by mode s d
-  answer_to-decimal s d r not_past = go (is_within_limits d) refl
+  pub text_result-decimal : (s : Sign) (d : Unsigned) → Reads text s d → ¬ (ReadsPastLimits text) → text_result mode text ≡ text_by mode s d
+  text_result-decimal s d r not_past = go (is_within_limits d) refl
     where
-      go : (b : Bool) → is_within_limits d ≡ b → answer_to mode text ≡ shown_by mode s d
-      go true e = answer_to-within s d r (limits-is_within d e)
+      go : (b : Bool) → is_within_limits d ≡ b → text_result mode text ≡ text_by mode s d
+      go true e = text_result-within s d r (limits-is_within d e)
       go false e = absurd (not_past (s, d, r, λ w. absurd (false≢true (sym e ∙ is_within-limits d w))))
 
   -- bytes that are no text spell no decimal
-  pub answer_to-no_text : ¬ (IsUtf8 text) → answer_to mode text ≡ codes "error: not a decimal"
-  answer_to-no_text not_text = answer_to-nothing (reads_nothing text not_text)
+  pub text_result-no_text : ¬ (IsUtf8 text) → text_result mode text ≡ codes "error: not a decimal"
+  text_result-no_text not_text = text_result-nothing (reads_nothing text not_text)
 
   -- it is an answer, and the only one
-  pub answer_to-is : HasTable mode → IsAnswer mode text (answer_to mode text)
-  answer_to-is has = go (reading text) refl
+  pub text_result-is : HasTable mode → IsTextResult mode text (text_result mode text)
+  text_result-is has = go (reading text) refl
     where
       limited : (s : Sign) (d : Unsigned) → reading text ≡ Some (s, d) → (b : Bool) → is_within_limits d ≡ b →
-          IsAnswer mode text (answer_to mode text)
+          IsTextResult mode text (text_result mode text)
       limited s d e true f =
           let r = reading-spells text s d e in
           let w = limits-is_within d f in
@@ -134,29 +134,29 @@ module _ (mode : Mode) (text : List ℕ) where
             reads = r;
             within = w;
             shown =
-                rw (answer_to-within s d r w) (shown_by-is mode has s d (reads-unsigned text s d r w));
+                rw (text_result-within s d r w) (text_by-is mode has s d (reads-unsigned text s d r w));
           })
       limited s d e false f =
           let past : ReadsPastLimits text = (s, d, reading-spells text s d e, λ w. absurd (false≢true (sym f ∙ is_within-limits d w))) in
-          inr (inr (past, answer_to-past past))
+          inr (inr (past, text_result-past past))
 
-      go : (o : Option (Sign × Unsigned)) → reading text ≡ o → IsAnswer mode text (answer_to mode text)
+      go : (o : Option (Sign × Unsigned)) → reading text ≡ o → IsTextResult mode text (text_result mode text)
       go None e =
           let none = nothing-reading text e in
-          inr (inl (none, answer_to-nothing none))
+          inr (inl (none, text_result-nothing none))
       go (Some (s, d)) e = limited s d e (is_within_limits d) refl
 
   -- the computed answer is the only one
-  pub answer_to-only : (answer : List ℕ) → IsAnswer mode text answer → answer ≡ answer_to mode text
-  answer_to-only answer (inl shows) = shown_by-only mode shows.sign shows.absolute answer shows.shown
-      ∙ sym (answer_to-within shows.sign shows.absolute shows.reads shows.within)
-  answer_to-only answer (inr (inl (none, e))) = e ∙ sym (answer_to-nothing none)
-  answer_to-only answer (inr (inr (past, e))) = e ∙ sym (answer_to-past past)
+  pub text_result-only : (result : List ℕ) → IsTextResult mode text result → result ≡ text_result mode text
+  text_result-only result (inl shows) = text_by-only mode shows.sign shows.absolute result shows.shown
+      ∙ sym (text_result-within shows.sign shows.absolute shows.reads shows.within)
+  text_result-only result (inr (inl (none, e))) = e ∙ sym (text_result-nothing none)
+  text_result-only result (inr (inr (past, e))) = e ∙ sym (text_result-past past)
 
 -- what a call added, if it did
 pub appended : {T E : Type 0} (r : Result T E) (new old more : List ℕ) → new ≡ (if is_ok r then old ++ more else old) → OnOk r (new ≡ old ++ more)
 appended (Ok v) new old more h = h
 appended (Err e) new old more h = tt
 
--- the answers that the proof of `push_answer` cites
-pub ruleset answering = (answer_to-nothing, answer_to-past, answer_to-decimal, answer_to-no_text)
+-- the answers that the proof of `push_result` cites
+pub ruleset answering = (text_result-nothing, text_result-past, text_result-decimal, text_result-no_text)

@@ -23,11 +23,11 @@ use Rattle.std.proofs.Common.{
 use Rattle.std.proofs.Math.Seq.{drop-append_seam, take-append_seam}
 use Rattle.decimal_lines.specs.Filled.{IsFirstLine}
 use Rattle.decimal_lines.specs.Lines.{line_output}
-use Rattle.decimal_lines.specs.Progress.{AnswersFirst, NextNeeds}
+use Rattle.decimal_lines.specs.Progress.{WritesFirst, NextNeeds}
 use Rattle.decimal_lines.specs.Written.{AreWholeLines}
 use Rattle.decimal_lines.proofs.FilledLines.{Fills, Fills-length}
 
-module _ (answer : List ℕ → List ℕ) (input left old new : List ℕ) (n : ℕ) (f : Fills answer input left old new n) where
+module _ (result : List ℕ → List ℕ) (input left old new : List ℕ) (n : ℕ) (f : Fills result input left old new n) where
   -- what is answered is what isn't left
   count : length input - length left ≡ length f.done
   count = omega (arith, ap (λ (k : List ℕ). length k) f.parts, length-append f.done left)
@@ -41,7 +41,7 @@ module _ (answer : List ℕ → List ℕ) (input left old new : List ℕ) (n : �
       ap (λ (k : List ℕ). drop (length input - length left) k) f.parts ∙ ap (λ i. drop i (f.done ++ left)) count ∙ drop-append_seam f.done left
 
   -- the output is that of the bytes in front of what is left
-  pub Fills-consumed : AnswersFirst answer input old new (length input - length left) n
+  pub Fills-consumed : WritesFirst result input old new (length input - length left) n
   Fills-consumed = record {
     within = omega arith;
     are_whole = whole f.boundary;
@@ -54,13 +54,13 @@ module _ (answer : List ℕ → List ℕ) (input left old new : List ℕ) (n : �
       whole (inr none) = inr (omega (arith, ap (λ (k : List ℕ). length k) none))
 
   -- and the next line's finds no room
-  pub Fills-needs : 0 < length left → (line rest : List ℕ) → IsFirstLine left line rest → length new < n + length (line_output answer line) →
-      NextNeeds answer input old (length input - length left) n (length (line_output answer line))
+  pub Fills-needs : 0 < length left → (line rest : List ℕ) → IsFirstLine left line rest → length new < n + length (line_output result line) →
+      NextNeeds result input old (length input - length left) n (length (line_output result line))
   Fills-needs some line rest first no_room = record {
     line = line;
     rest = rest;
     is_some = omega (arith, ap (λ (k : List ℕ). length k) f.parts, length-append f.done left);
     next = rw behind first;
     needed_is = refl;
-    no_room = omega (arith, Fills-length answer input left old new n f);
+    no_room = omega (arith, Fills-length result input left old new n f);
   }

@@ -1,9 +1,9 @@
 -- What is computed of a decimal in compact form is what is displayed of it, and the only such text.
 -- That it is displayed: `nearest_number` is rounded at the size's own magnitude (Computing), so by `nearest_compact_from_rounded` of
 -- icu_decimal it is the nearest compact number. Ten to the entry's exponent divides it and leaves no digit below power -32768 (`exact`), and
--- the quotient fits in the digits that `displayed_high` counts (`fits`), so Computing's `decimal_of` is its significand. The limits are
+-- the quotient fits in the digits that `decomposed_high` counts (`fits`), so Computing's `decimal_of` is its significand. The limits are
 -- needed here alone: past them no decimal holds the quotient. That it is the only such text: nearest compact numbers are unique, the entry
--- is a function of the size, and a trimmed decimal is determined by its size and its count of integer digits (`trimmed_told` of icu_decimal).
+-- is a function of the size, and a trimmed decimal is determined by its size and its count of integer digits (`trimmed_distinct` of icu_decimal).
 use Rattle.std.proofs.Common.{
   ◌≡◌,
   ℕ,
@@ -58,13 +58,13 @@ use Rattle.writeable.specs.Events.{Event, text_of}
 use Rattle.icu_decimal_data.specs.CompactTable.{TableEntry, IsCompactTable, entry_for, exponent_of, exponent_for}
 use Rattle.icu_decimal.specs.CompactFormat.{CompactFormat, IsCompactFormat}
 use Rattle.icu_decimal.specs.CompactNumber.{rounding_place, rounding_place_for, IsCompactNumber, IsNearestCompact, ShowsPastLimits}
-use Rattle.icu_decimal.specs.Displayed.{are_same_entry, displayed_entry, displayed_high, IsDisplayed}
+use Rattle.icu_decimal.specs.Decomposed.{are_same_entry, decomposed_entry, decomposed_high, IsDecomposed}
 use Rattle.icu_decimal.specs.RoundedAt.{IsRoundedAt}
 use Rattle.icu_decimal.proofs.CompactCore.{exponent_le_magnitude, magnitude_within, past_limits_from_rounded}
-use Rattle.icu_decimal.proofs.DisplayedOnce.{trimmed_told}
+use Rattle.icu_decimal.proofs.DecomposedOnce.{trimmed_distinct}
 use Rattle.icu_decimal.specs.NearestLemmas.{itself_nearest, nearest_compact_from_rounded, nearest_compact_same}
 use Rattle.decimal_lines.specs.Computed.{nearest_number, decimal_of, count_up_to, significand_shown}
-use Rattle.decimal_lines.specs.Compact.{IsCompactAnswer, events_by, events_shown, compact_text, compact_answer}
+use Rattle.decimal_lines.specs.Compact.{IsCompactResult, events_by, events_of_nearest, compact_text, compact_result}
 use Rattle.decimal_lines.proofs.Computing.{rounded-nearest, decimal-unsigned, decimal-size, decimal-count, decimal-trimmed}
 
 -- the computed number is the size rounded at the place of its own magnitude
@@ -130,19 +130,19 @@ quotient_of g e y (k, is) =
 
 -- the greatest power that is written of a significand
 high-least : (table : List TableEntry) (d : Unsigned) (y : ℕ) →
-    (pos 0 ≤ℤ displayed_high table d y) × ((magnitude y -ℤ pos (exponent_of (displayed_entry table y))) ≤ℤ displayed_high table d y)
+    (pos 0 ≤ℤ decomposed_high table d y) × ((magnitude y -ℤ pos (exponent_of (decomposed_entry table y))) ≤ℤ decomposed_high table d y)
 high-least table d y =
-    let e : ℕ = exponent_of (displayed_entry table y) in
+    let e : ℕ = exponent_of (decomposed_entry table y) in
     ⊎_elim (λ same. rw same (omega (arith, ints, clamps), omega (arith, ints, clamps)))
     (λ other. rw other (omega (arith, ints, clamps), omega (arith, ints, clamps)))
-    (cases_Bool (are_same_entry (displayed_entry table y) (entry_for table (magnitude_place (size d)))))
+    (cases_Bool (are_same_entry (decomposed_entry table y) (entry_for table (magnitude_place (size d)))))
 
 -- it is at most 32767 where those of the decimal and of the displayed size are
 high-most : (table : List TableEntry) (d : Unsigned) (y : ℕ) → high d ≤ℤ pos 32767 → magnitude y ≤ℤ pos 32767 →
-    displayed_high table d y ≤ℤ pos 32767
+    decomposed_high table d y ≤ℤ pos 32767
 high-most table d y h m =
     ⊎_elim (λ same. rw same (omega (arith, ints, clamps))) (λ other. rw other (omega (arith, ints, clamps)))
-    (cases_Bool (are_same_entry (displayed_entry table y) (entry_for table (magnitude_place (size d)))))
+    (cases_Bool (are_same_entry (decomposed_entry table y) (entry_for table (magnitude_place (size d)))))
 
 -- the count of the powers from 0 up to one
 count_is : (h : ℤ) → pos 0 ≤ℤ h → pos (count_up_to h) ≡ h +ℤ pos 1
@@ -164,7 +164,7 @@ decimal-told u is trimmed =
     let few : integer_count u ≤ 32768 = omega (arith, is.high_limit) in
     let whole : size u % 10 ^ (finest - 32768) ≡ 0 = multiple_rest (size-multiple u is.low_limit) in
     let below = size_lt u is in
-    trimmed_told (decimal_of (integer_count u) (size u)) u (decimal-unsigned (integer_count u) (size u) some few whole below) is
+    trimmed_distinct (decimal_of (integer_count u) (size u)) u (decimal-unsigned (integer_count u) (size u) some few whole below) is
     (decimal-trimmed (integer_count u) (size u) some few whole below) trimmed
     (decimal-size (integer_count u) (size u) some few whole below)
     (ap (λ n. pos n -ℤ pos 1) (decimal-count (integer_count u) (size u) some few whole below))
@@ -173,31 +173,31 @@ decimal-told u is trimmed =
     multiple_rest (k, e) = ap (λ n. n % 10 ^ (finest - 32768)) e ∙ mul-mod_left k (10 ^ (finest - 32768))
 
 -- whatever is displayed, its significand is the computed one
-pub displayed-told : (table : List TableEntry) (d : Unsigned) (y : ℕ) (entry : Option TableEntry) (s : Unsigned) → IsDisplayed table d y entry s →
+pub decomposed-told : (table : List TableEntry) (d : Unsigned) (y : ℕ) (entry : Option TableEntry) (s : Unsigned) → IsDecomposed table d y entry s →
     significand_shown table d y ≡ s
 unfolding significand_shown
-displayed-told table d y entry s h =
-    let left : y / 10 ^ exponent_of (displayed_entry table y) ≡ size s =
+decomposed-told table d y entry s h =
+    let left : y / 10 ^ exponent_of (decomposed_entry table y) ≡ size s =
     ap (λ o. y / 10 ^ exponent_of o) (sym h.entry_is) ∙ ap (λ n. n / 10 ^ exponent_of entry) (sym h.scaled)
     ∙ mul-div_cancel (size s) (ten_pos (exponent_of entry)) in
     let some : 0 < integer_count s = omega (arith, h.is_decimal.integer_some) in
-    let count : count_up_to (displayed_high table d y) ≡ integer_count s = ap count_up_to (sym h.high_is) ∙ count-high (integer_count s) some in
-    ap (λ n. decimal_of n (y / 10 ^ exponent_of (displayed_entry table y))) count
+    let count : count_up_to (decomposed_high table d y) ≡ integer_count s = ap count_up_to (sym h.high_is) ∙ count-high (integer_count s) some in
+    ap (λ n. decimal_of n (y / 10 ^ exponent_of (decomposed_entry table y))) count
     ∙ ap (λ n. decimal_of (integer_count s) n) left ∙ decimal-told s h.is_decimal h.trimmed
 
 -- within the limits the computed significand is displayed
 module _ (table : List TableEntry) (d : Unsigned) (is : IsUnsigned d) (t : IsCompactTable table) (within : ¬ (ShowsPastLimits table (size d))) where
   module _ (y : ℕ) (rounded : IsRoundedAt (rounding_place_for table (magnitude_place (size d))) (size d) y) where
     -- ten to the exponent divides the displayed size, and what it leaves has no digit below power -32768
-    exact : (y / 10 ^ exponent_of (displayed_entry table y) * 10 ^ exponent_of (displayed_entry table y) ≡ y)
-        × (y / 10 ^ exponent_of (displayed_entry table y) % 10 ^ (finest - 32768) ≡ 0)
+    exact : (y / 10 ^ exponent_of (decomposed_entry table y) * 10 ^ exponent_of (decomposed_entry table y) ≡ y)
+        × (y / 10 ^ exponent_of (decomposed_entry table y) % 10 ^ (finest - 32768) ≡ 0)
     exact =
         let near = nearest_compact_from_rounded table (size d) y rounded in
         let units = rounded-multiple (finest - 32768) (rounding_place_for table (magnitude_place (size d))) (size d) y (size-multiple d is.low_limit) rounded in
-        quotient_of (finest - 32768) (exponent_of (displayed_entry table y)) y (compact-multiple table y t near.allowed units)
+        quotient_of (finest - 32768) (exponent_of (decomposed_entry table y)) y (compact-multiple table y t near.allowed units)
 
     -- no power above 32767 is written
-    top_most : displayed_high table d y ≤ℤ pos 32767
+    top_most : decomposed_high table d y ≤ℤ pos 32767
     top_most =
         let low = magnitude_within (rounding_place_for table (magnitude_place (size d))) (size d) y rounded
         (λ past. within (past_limits_from_rounded table (size d) past)) in
@@ -216,42 +216,42 @@ module _ (table : List TableEntry) (d : Unsigned) (is : IsUnsigned d) (t : IsCom
     ]
 
     -- so the computed significand is displayed
-    shown-displayed : IsDisplayed table d y (displayed_entry table y) (significand_shown table d y)
+    shown-decomposed : IsDecomposed table d y (decomposed_entry table y) (significand_shown table d y)
     unfolding significand_shown
-    shown-displayed =
-        let e : ℕ = exponent_of (displayed_entry table y) in
-        let count : ℕ = count_up_to (displayed_high table d y) in
-        let s : ℕ = y / 10 ^ exponent_of (displayed_entry table y) in
+    shown-decomposed =
+        let e : ℕ = exponent_of (decomposed_entry table y) in
+        let count : ℕ = count_up_to (decomposed_high table d y) in
+        let s : ℕ = y / 10 ^ exponent_of (decomposed_entry table y) in
         let least = high-least table d y in
         let most = top_most in
-        let counted = count_is (displayed_high table d y) least.0 in
-        let some : 0 < count_up_to (displayed_high table d y) = omega (arith, ints, least.0) in
-        let few : count_up_to (displayed_high table d y) ≤ 32768 = omega (arith, ints) in
-        let reach : magnitude_place y + 1 ≤ finest + count_up_to (displayed_high table d y) + exponent_of (displayed_entry table y) =
+        let counted = count_is (decomposed_high table d y) least.0 in
+        let some : 0 < count_up_to (decomposed_high table d y) = omega (arith, ints, least.0) in
+        let few : count_up_to (decomposed_high table d y) ≤ 32768 = omega (arith, ints) in
+        let reach : magnitude_place y + 1 ≤ finest + count_up_to (decomposed_high table d y) + exponent_of (decomposed_entry table y) =
         omega (arith, ints, least.1) in
         let below = fits s e count exact.0 reach in
         record {
           nearest = nearest_compact_from_rounded table (size d) y rounded;
           entry_is = refl;
-          scaled = ap (λ n. n * 10 ^ exponent_of (displayed_entry table y)) (decimal-size count s some few exact.1 below) ∙ exact.0;
+          scaled = ap (λ n. n * 10 ^ exponent_of (decomposed_entry table y)) (decimal-size count s some few exact.1 below) ∙ exact.0;
           is_decimal = decimal-unsigned count s some few exact.1 below;
           trimmed = decimal-trimmed count s some few exact.1 below;
           high_is = ap (λ n. pos n -ℤ pos 1) (decimal-count count s some few exact.1 below) ∙ omega (arith, ints);
         }
 
   -- that is what is displayed of the computed number
-  pub number-displayed : IsDisplayed table d (nearest_number table (size d)) (displayed_entry table (nearest_number table (size d)))
+  pub number-decomposed : IsDecomposed table d (nearest_number table (size d)) (decomposed_entry table (nearest_number table (size d)))
       (significand_shown table d (nearest_number table (size d)))
-  number-displayed = shown-displayed (nearest_number table (size d)) (number-rounded table (size d))
+  number-decomposed = shown-decomposed (nearest_number table (size d)) (number-rounded table (size d))
 
 -- what is written of a decimal is what is computed
 pub events-told : (format : CompactFormat) (sign : Sign) (d s : Unsigned) (exponent : ℕ) (events : List Event) →
-    IsCompactFormat format sign d s exponent events → events_shown format sign d (nearest_number format.table (size d)) ≡ events
+    IsCompactFormat format sign d s exponent events → events_of_nearest format sign d (nearest_number format.table (size d)) ≡ events
 events-told format sign d s exponent events w =
-    let near = number-only format.table (size d) w.shown w.displayed.nearest in
-    ap (events_shown format sign d) (sym near)
-    ∙ ap (events_by format sign (displayed_entry format.table w.shown)) (displayed-told format.table d w.shown w.entry s w.displayed)
-    ∙ ap (λ o. events_by format sign o s) (sym w.displayed.entry_is) ∙ sym w.events_are
+    let near = number-only format.table (size d) w.shown w.decomposed.nearest in
+    ap (events_of_nearest format sign d) (sym near)
+    ∙ ap (events_by format sign (decomposed_entry format.table w.shown)) (decomposed-told format.table d w.shown w.entry s w.decomposed)
+    ∙ ap (λ o. events_by format sign o s) (sym w.decomposed.entry_is) ∙ sym w.events_are
 
 -- so its text is the computed one
 compact_text-told : (format : CompactFormat) (sign : Sign) (d s : Unsigned) (exponent : ℕ) (events : List Event) →
@@ -265,9 +265,9 @@ past-number table x (y, near, large) = rw (number-only table x y near) at large
 
 module _ (format : CompactFormat) (sign : Sign) (d : Unsigned) where
   -- the answer where it is within them
-  answer-within : ¬ (ShowsPastLimits format.table (size d)) → compact_answer format sign d ≡ compact_text format sign d
-  unfolding compact_answer
-  answer-within within = go (nat_le (ten_to (pos 32768)) (nearest_number format.table (size d))) refl
+  result-within : ¬ (ShowsPastLimits format.table (size d)) → compact_result format sign d ≡ compact_text format sign d
+  unfolding compact_result
+  result-within within = go (nat_le (ten_to (pos 32768)) (nearest_number format.table (size d))) refl
     where
       go : (b : Bool) → nat_le (ten_to (pos 32768)) (nearest_number format.table (size d)) ≡ b →
           (if b then codes "error: overflow" else compact_text format sign d) ≡ compact_text format sign d
@@ -275,9 +275,9 @@ module _ (format : CompactFormat) (sign : Sign) (d : Unsigned) where
       go false e = refl
 
   -- the answer where the nearest compact number is past the limits
-  pub answer-past : ShowsPastLimits format.table (size d) → compact_answer format sign d ≡ codes "error: overflow"
-  unfolding compact_answer
-  answer-past past = go (nat_le (ten_to (pos 32768)) (nearest_number format.table (size d))) refl
+  pub result-past : ShowsPastLimits format.table (size d) → compact_result format sign d ≡ codes "error: overflow"
+  unfolding compact_result
+  result-past past = go (nat_le (ten_to (pos 32768)) (nearest_number format.table (size d))) refl
     where
       go : (b : Bool) → nat_le (ten_to (pos 32768)) (nearest_number format.table (size d)) ≡ b →
           (if b then codes "error: overflow" else compact_text format sign d) ≡ codes "error: overflow"
@@ -285,43 +285,43 @@ module _ (format : CompactFormat) (sign : Sign) (d : Unsigned) where
       go false e = let large = past-number format.table (size d) past in absurd (grind (arith, nat_tests))
 
   -- what is written within the limits is the answer
-  pub answer-written : (s : Unsigned) (exponent : ℕ) (events : List Event) → IsCompactFormat format sign d s exponent events →
-      ¬ (ShowsPastLimits format.table (size d)) → compact_answer format sign d ≡ text_of events
-  answer-written s exponent events w within = answer-within within ∙ compact_text-told format sign d s exponent events w
+  pub result-written : (s : Unsigned) (exponent : ℕ) (events : List Event) → IsCompactFormat format sign d s exponent events →
+      ¬ (ShowsPastLimits format.table (size d)) → compact_result format sign d ≡ text_of events
+  result-written s exponent events w within = result-within within ∙ compact_text-told format sign d s exponent events w
 
   -- the computed compact answer is the only one
-  pub compact-only : (answer : List ℕ) → IsCompactAnswer format sign d answer → answer ≡ compact_answer format sign d
-  compact-only answer (inl is) = is.spelled ∙ sym (answer-written is.significand is.exponent is.events is.written is.within)
-  compact-only answer (inr (past, e)) = e ∙ sym (answer-past past)
+  pub compact-only : (result : List ℕ) → IsCompactResult format sign d result → result ≡ compact_result format sign d
+  compact-only result (inl is) = is.spelled ∙ sym (result-written is.significand is.exponent is.events is.written is.within)
+  compact-only result (inr (past, e)) = e ∙ sym (result-past past)
 
   -- and it is one
-  pub compact-is : IsUnsigned d → IsCompactTable format.table → IsCompactAnswer format sign d (compact_answer format sign d)
+  pub compact-is : IsUnsigned d → IsCompactTable format.table → IsCompactResult format sign d (compact_result format sign d)
   compact-is is t = go (nat_le (ten_to (pos 32768)) (nearest_number format.table (size d))) refl
     where
       y_is : ℕ
       y_is = nearest_number format.table (size d)
 
       go : (b : Bool) → nat_le (ten_to (pos 32768)) (nearest_number format.table (size d)) ≡ b →
-          IsCompactAnswer format sign d (compact_answer format sign d)
+          IsCompactResult format sign d (compact_result format sign d)
       go true e =
           let past : ShowsPastLimits format.table (size d) =
           (nearest_number format.table (size d), number-nearest format.table (size d), grind (arith, nat_tests)) in
-          inr (past, answer-past past)
+          inr (past, result-past past)
       go false e =
           let within : ¬ (ShowsPastLimits format.table (size d)) = λ past. let large = past-number format.table (size d) past in
           absurd (grind (arith, nat_tests)) in
-          let w : IsCompactFormat format sign d (significand_shown format.table d y_is) (exponent_of (displayed_entry format.table y_is)) _ = record {
+          let w : IsCompactFormat format sign d (significand_shown format.table d y_is) (exponent_of (decomposed_entry format.table y_is)) _ = record {
             shown = y_is;
-            entry = displayed_entry format.table y_is;
-            displayed = number-displayed format.table d is t within;
+            entry = decomposed_entry format.table y_is;
+            decomposed = number-decomposed format.table d is t within;
             exponent_is = refl;
             events_are = refl;
           } in
           inl (record {
             significand = significand_shown format.table d y_is;
-            exponent = exponent_of (displayed_entry format.table y_is);
+            exponent = exponent_of (decomposed_entry format.table y_is);
             events = _;
             written = w;
             within = within;
-            spelled = answer-written _ _ _ w within;
+            spelled = result-written _ _ _ w within;
           })

@@ -11,7 +11,7 @@ pub mod Runs
 pub mod EachLine
 pub mod Apart
 pub mod OneText
-pub mod ShownInto
+pub mod EventsInto
 pub mod Consumed
 pub mod Judged
 pub mod OneLocale

@@ -39,7 +39,7 @@ pub preferably_same : {X : Type 0} (p q : Provider X) (locale : List ℕ) (syste
 preferably_same p q locale None other preferred same = same
 preferably_same p q locale (Some s) other preferred same = rw (preferred s, same) refl
 
-module _ (locale : List ℕ) (system : Option (List ℕ)) (kept all : TablesData) (answers : AnswersAs locale kept all) where
+module _ (locale : List ℕ) (system : Option (List ℕ)) (kept all : TablesData) (results : AnswersAs locale kept all) where
   -- the symbols are the same
   pub symbols_same : symbols_loaded (filed_answer kept.symbols) (record {
     locale_preferences = locale;
@@ -48,14 +48,14 @@ module _ (locale : List ℕ) (system : Option (List ℕ)) (kept all : TablesData
   symbols_same = preferably_same (filed_answer kept.symbols) (filed_answer all.symbols) locale system (record {
     system = None;
     locale = locale;
-  }) (λ s. answers.symbols _ refl) (answers.symbols _ refl)
+  }) (λ s. results.symbols _ refl) (results.symbols _ refl)
 
   -- and so are the digits
   pub digits_same : (s : DecimalSymbols)
       → digits_loaded (λ id. system_answer kept.digits id.system) (record { locale_preferences = locale; numbering_system = system }) s
       ≡ digits_loaded (λ id. system_answer all.digits id.system) (record { locale_preferences = locale; numbering_system = system }) s
   digits_same s = preferably_same (λ id. system_answer kept.digits id.system) (λ id. system_answer all.digits id.system) locale system
-      (record { system = Some s.strings.numsys; locale = codes "und" }) (λ x. answers.digits (Some x)) (answers.digits (Some s.strings.numsys))
+      (record { system = Some s.strings.numsys; locale = codes "und" }) (λ x. results.digits (Some x)) (results.digits (Some s.strings.numsys))
 
   -- so the plain formatter is
   pub loaded_same : (options : DecimalFormatterOptions)
@@ -77,25 +77,25 @@ module _ (locale : List ℕ) (system : Option (List ℕ)) (kept all : TablesData
       ≡ loaded_compact (filed_answer all.symbols) (λ id. system_answer all.digits id.system) (optional_answer all.rules) (optional_answer other)
       (record { locale_preferences = locale; numbering_system = system }) options
   compact_loaded one other alike options = and_then_both _ _ _ _ (loaded_same (record { grouping_strategy = options.grouping_strategy })) (λ f.
-      and_then_both _ _ _ _ (answers.rules _ refl) (λ r.
+      and_then_both _ _ _ _ (results.rules _ refl) (λ r.
       and_then_both _ _ _ _ (preferably_same (optional_answer one) (optional_answer other) locale system (record {
         system = None;
         locale = locale;
       }) (λ s. alike _ refl) (alike _ refl)) (λ t. refl)))
 
-module _ (words : WordsData) (kept all : TablesData) (answers : AnswersAs words.locale kept all) where
+module _ (words : WordsData) (kept all : TablesData) (results : AnswersAs words.locale kept all) where
   plain_same : plain_mode words kept ≡ plain_mode words all
   unfolding plain_mode
-  plain_same = ap (started mode.Plain) (loaded_same words.locale words.system kept all answers (plain_options words.grouping))
+  plain_same = ap (started mode.Plain) (loaded_same words.locale words.system kept all results (plain_options words.grouping))
 
   short_same : short_mode words kept ≡ short_mode words all
   unfolding short_mode
-  short_same = ap (started mode.Compact) (compact_loaded words.locale words.system kept all answers kept.short all.short answers.short
+  short_same = ap (started mode.Compact) (compact_loaded words.locale words.system kept all results kept.short all.short results.short
       (compact_options words.grouping))
 
   long_same : long_mode words kept ≡ long_mode words all
   unfolding long_mode
-  long_same = ap (started mode.Compact) (compact_loaded words.locale words.system kept all answers kept.long all.long answers.long
+  long_same = ap (started mode.Compact) (compact_loaded words.locale words.system kept all results kept.long all.long results.long
       (compact_options words.grouping))
 
   -- the mode of a style
@@ -119,4 +119,4 @@ module _ (words : WordsData) (kept all : TablesData) (answers : AnswersAs words.
 pub mode_for : (words : WordsData) (text : List ℕ) (kept : TablesData) → IsFor words.locale kept (tables_of text)
     → mode_of words text ≡ mode_by words kept
 unfolding mode_of
-mode_for words text kept (all, read, answers) = ap (mode_by_tables words) read ∙ sym (mode_by_same words kept all answers)
+mode_for words text kept (all, read, results) = ap (mode_by_tables words) read ∙ sym (mode_by_same words kept all results)

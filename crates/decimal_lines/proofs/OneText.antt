@@ -13,8 +13,8 @@ use Rattle.writeable.specs.Events.{Event}
 use Rattle.icu_decimal.specs.CompactFormat.{CompactFormat, IsCompactFormat}
 use Rattle.icu_decimal.specs.CompactNumber.{ShowsPastLimits}
 use Rattle.decimal_lines.specs.SingleText.{compact_events, decimal_read, within_or}
-use Rattle.decimal_lines.specs.LineAnswers.{is_within_limits}
-use Rattle.decimal_lines.specs.Compact.{events_shown}
+use Rattle.decimal_lines.specs.LineResults.{is_within_limits}
+use Rattle.decimal_lines.specs.Compact.{events_of_nearest}
 use Rattle.decimal_lines.specs.Computed.{nearest_number}
 use Rattle.decimal_lines.specs.declared.single_text.TextError.TheVariants.{NotDecimal, TooManyDigits, Overflow}
 use Rattle.decimal_lines.proofs.Answering.{is_within-limits, limits-is_within}
@@ -55,7 +55,7 @@ module _ (format : CompactFormat) (sign : Sign) (d : Unsigned) where
   compact_events-past past = go (nat_le (ten_to (pos 32768)) (nearest_number format.table (size d))) refl
     where
       go : (b : Bool) → nat_le (ten_to (pos 32768)) (nearest_number format.table (size d)) ≡ b →
-          (if b then Err Overflow else Ok (events_shown format sign d (nearest_number format.table (size d)))) ≡ Err Overflow
+          (if b then Err Overflow else Ok (events_of_nearest format sign d (nearest_number format.table (size d)))) ≡ Err Overflow
       go true e = refl
       go false e = let large = past-number format.table (size d) past in absurd (grind (arith, nat_tests))
 
@@ -66,6 +66,6 @@ module _ (format : CompactFormat) (sign : Sign) (d : Unsigned) where
   compact_events-written s exponent events w within = go (nat_le (ten_to (pos 32768)) (nearest_number format.table (size d))) refl
     where
       go : (b : Bool) → nat_le (ten_to (pos 32768)) (nearest_number format.table (size d)) ≡ b →
-          (if b then Err Overflow else Ok (events_shown format sign d (nearest_number format.table (size d)))) ≡ Ok events
+          (if b then Err Overflow else Ok (events_of_nearest format sign d (nearest_number format.table (size d)))) ≡ Ok events
       go true e = absurd (within (nearest_number format.table (size d), number-nearest format.table (size d), grind (arith, nat_tests)))
       go false e = ap Ok (events-told format sign d s exponent events w)

@@ -85,24 +85,24 @@ unfolding lines_of
 lines_of-append w x (inl e) = rw e refl
 lines_of-append w x (inr (f, e)) = rw e (ended-append f x)
 
-module _ (answer : List ℕ → List ℕ) where
+module _ (result : List ℕ → List ℕ) where
   -- the output of whole lines and what follows them
-  pub output_of-append : (w x : List ℕ) → AreWholeLines w → output_of answer (w ++ x) ≡ output_of answer w ++ output_of answer x
+  pub output_of-append : (w x : List ℕ) → AreWholeLines w → output_of result (w ++ x) ≡ output_of result w ++ output_of result x
   unfolding output_of
-  output_of-append w x h = rw (lines_of-append w x h) (flat_map-append (line_output answer) (lines_of w) (lines_of x))
+  output_of-append w x h = rw (lines_of-append w x h) (flat_map-append (line_output result) (lines_of w) (lines_of x))
 
   -- the output of one line and its line feed
-  pub output_of-ended : (p : List ℕ) → IsPartLine p → output_of answer (p ++ 10 ∷ []) ≡ line_output answer p
+  pub output_of-ended : (p : List ℕ) → IsPartLine p → output_of result (p ++ 10 ∷ []) ≡ line_output result p
   unfolding output_of lines_of
-  output_of-ended p h = rw (lines_of-ended p [] h) (append-nil (line_output answer p))
+  output_of-ended p h = rw (lines_of-ended p [] h) (append-nil (line_output result p))
 
   -- the output of a last line without one
-  pub output_of-last : (b : ℕ) (bs : List ℕ) → IsPartLine (b ∷ bs) → output_of answer (b ∷ bs) ≡ line_output answer (b ∷ bs)
+  pub output_of-last : (b : ℕ) (bs : List ℕ) → IsPartLine (b ∷ bs) → output_of result (b ∷ bs) ≡ line_output result (b ∷ bs)
   unfolding output_of
-  output_of-last b bs h = rw (lines_of-last b bs h) (append-nil (line_output answer (b ∷ bs)))
+  output_of-last b bs h = rw (lines_of-last b bs h) (append-nil (line_output result (b ∷ bs)))
 
   -- no line has no output
-  pub output_of-nothing : output_of answer [] ≡ []
+  pub output_of-nothing : output_of result [] ≡ []
   unfolding output_of lines_of
   output_of-nothing = refl
 
@@ -117,15 +117,15 @@ IsPartLine-push [] b h e = (e, tt)
 IsPartLine-push (c ∷ p) b h e = (h.0, IsPartLine-push p b h.1 e)
 
 -- part of a line, written or not
-pub output_of-part : (answer : List ℕ → List ℕ) (p : List ℕ) → IsPartLine p → (eqb (length p) 0 ≡ false) →
-    output_of answer p ≡ line_output answer p
-output_of-part answer [] h e = absurd cc
-output_of-part answer (b ∷ bs) h e = output_of-last answer b bs h
+pub output_of-part : (result : List ℕ → List ℕ) (p : List ℕ) → IsPartLine p → (eqb (length p) 0 ≡ false) →
+    output_of result p ≡ line_output result p
+output_of-part result [] h e = absurd cc
+output_of-part result (b ∷ bs) h e = output_of-last result b bs h
 
 -- the output of nothing is empty
-pub output_of-none : (answer : List ℕ → List ℕ) (p : List ℕ) → (eqb (length p) 0 ≡ true) → output_of answer p ≡ []
-output_of-none answer [] e = output_of-nothing answer
-output_of-none answer (b ∷ bs) e = absurd (omega (arith, eqb-true (length (b ∷ bs)) 0 e))
+pub output_of-none : (result : List ℕ → List ℕ) (p : List ℕ) → (eqb (length p) 0 ≡ true) → output_of result p ≡ []
+output_of-none result [] e = output_of-nothing result
+output_of-none result (b ∷ bs) e = absurd (omega (arith, eqb-true (length (b ∷ bs)) 0 e))
 
 -- two parts of a line are one part
 pub IsPartLine-append : (p q : List ℕ) → IsPartLine p → IsPartLine q → IsPartLine (p ++ q)

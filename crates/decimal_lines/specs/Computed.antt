@@ -1,5 +1,5 @@
 -- The compact number nearest to a size, and the decimal of a size, computed. What they mean is stated by `IsNearestCompact`
--- and `IsDisplayed`; these definitions follow no step of the code.
+-- and `IsDecomposed`; these definitions follow no step of the code.
 use Rattle.std.specs.Prelude.{
   ℕ,
   zero,
@@ -24,7 +24,7 @@ use Rattle.fixed_decimal.specs.Size.{finest, magnitude_place}
 use Rattle.fixed_decimal.specs.Unsigned.{Unsigned}
 use Rattle.icu_decimal_data.specs.CompactTable.{TableEntry, exponent_of}
 use Rattle.icu_decimal.specs.CompactNumber.{rounding_place_for}
-use Rattle.icu_decimal.specs.Displayed.{displayed_entry, displayed_high}
+use Rattle.icu_decimal.specs.Decomposed.{decomposed_entry, decomposed_high}
 
 -- to how many units x is rounded: one more than are in it if more than half a unit is left over, and of two equally near
 -- counts the even one
@@ -61,4 +61,4 @@ count_up_to (negsuc n) = 0
 
 -- the significand by which d is displayed as the size y
 unfoldable pub significand_shown : List TableEntry → Unsigned → ℕ → Unsigned
-significand_shown table d y = decimal_of (count_up_to (displayed_high table d y)) (y / 10 ^ exponent_of (displayed_entry table y))
+significand_shown table d y = decimal_of (count_up_to (decomposed_high table d y)) (y / 10 ^ exponent_of (decomposed_entry table y))

@@ -10,16 +10,16 @@ pub record IsFilled (old new text : List ℕ) (n : ℕ) : Type 0 where
   pub within : n ≤ length old
 
 -- the input begins with whole lines, and the output is filled with the output of these
-pub record HoldsWholeLines (answer : List ℕ → List ℕ) (input old new : List ℕ) (n : ℕ) : Type 0 where
+pub record HoldsWholeLines (result : List ℕ → List ℕ) (input old new : List ℕ) (n : ℕ) : Type 0 where
   pub whole : List ℕ
   pub rest : List ℕ
   pub are_whole : AreWholeLines whole
   pub parts : input ≡ whole ++ rest
-  pub filled : IsFilled old new (output_of answer whole) n
+  pub filled : IsFilled old new (output_of result whole) n
 
 -- so it is, some of the input is left, and there is room behind what is filled
-pub record HasRoomLeft (answer : List ℕ → List ℕ) (input old new : List ℕ) (n : ℕ) : Type 0 where
-  pub holds : HoldsWholeLines answer input old new n
+pub record HasRoomLeft (result : List ℕ → List ℕ) (input old new : List ℕ) (n : ℕ) : Type 0 where
+  pub holds : HoldsWholeLines result input old new n
   pub is_some : 0 < length holds.rest
   pub room : n < length old
 
@@ -29,7 +29,7 @@ pub record IsFirstLine (bytes line rest : List ℕ) : Type 0 where
   pub parts : (bytes ≡ (line ++ 10 ∷ []) ++ rest) ⊎ ((bytes ≡ line) × (rest ≡ []))
 
 -- the output is filled with that of whole lines, and the output of the next line doesn't fit
-pub record HoldsAllThatFit (answer : List ℕ → List ℕ) (input old new : List ℕ) (n : ℕ) : Type 0 where
+pub record HoldsAllThatFit (result : List ℕ → List ℕ) (input old new : List ℕ) (n : ℕ) : Type 0 where
   pub whole : List ℕ
   pub line : List ℕ
   pub left : List ℕ
@@ -38,5 +38,5 @@ pub record HoldsAllThatFit (answer : List ℕ → List ℕ) (input old new : Lis
   pub parts : input ≡ whole ++ left
   pub is_some : 0 < length left
   pub next : IsFirstLine left line rest
-  pub filled : IsFilled old new (output_of answer whole) n
-  pub no_room : length old < n + length (line_output answer line)
+  pub filled : IsFilled old new (output_of result whole) n
+  pub no_room : length old < n + length (line_output result line)

@@ -1,7 +1,7 @@
 pub mod Plain
 pub mod Computed
 pub mod Compact
-pub mod LineAnswers
+pub mod LineResults
 pub mod Lines
 pub mod Written
 pub mod Filled

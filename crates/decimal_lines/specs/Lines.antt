@@ -38,8 +38,8 @@ without_return (b ∷ c ∷ bs) = b ∷ without_return (c ∷ bs)
 
 -- what is written for a line, under the answer to each text
 unfoldable pub line_output : (List ℕ → List ℕ) → List ℕ → List ℕ
-line_output answer line = answer (without_return line) ++ 10 ∷ []
+line_output result line = result (without_return line) ++ 10 ∷ []
 
 -- the output of an input: one line for each line
 unfoldable pub output_of : (List ℕ → List ℕ) → List ℕ → List ℕ
-output_of answer input = flat_map (line_output answer) (lines_of input)
+output_of result input = flat_map (line_output result) (lines_of input)

@@ -1,7 +1,7 @@
 -- The plain text of a decimal, and the formatter of a run without arguments.
 use Rattle.std.specs.Prelude.{ℕ, List, None, codes}
 use Rattle.writeable.specs.Events.{text_of}
-use Rattle.icu_decimal_data.specs.DecimalSymbols.{english_symbols}
+use Rattle.icu_decimal_symbols.specs.DecimalSymbols.{english_symbols}
 use Rattle.fixed_decimal.specs.declared.signs.Sign.{Sign}
 use Rattle.fixed_decimal.specs.Unsigned.{Unsigned}
 use Rattle.icu_decimal.specs.Decimal.{DecimalFormat, decimal_events}

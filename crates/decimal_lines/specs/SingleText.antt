@@ -27,8 +27,8 @@ use Rattle.fixed_decimal.specs.Size.{size, ten_to}
 use Rattle.fixed_decimal.specs.Unsigned.{Unsigned}
 use Rattle.icu_decimal.specs.CompactFormat.{CompactFormat}
 use Rattle.icu_decimal.specs.Decimal.{decimal_events}
-use Rattle.decimal_lines.specs.LineAnswers.{is_within_limits}
-use Rattle.decimal_lines.specs.Compact.{events_shown}
+use Rattle.decimal_lines.specs.LineResults.{is_within_limits}
+use Rattle.decimal_lines.specs.Compact.{events_of_nearest}
 use Rattle.decimal_lines.specs.Computed.{nearest_number}
 use Rattle.decimal_lines.specs.Filled.{IsFilled}
 use Rattle.decimal_lines.specs.declared.single_text.TextError.{TextError}
@@ -49,7 +49,7 @@ decimal_read text = within_or (reading text)
 unfoldable pub compact_events : CompactFormat → Sign → Unsigned → Result (List Event) TextError
 compact_events format sign d =
     if nat_le (ten_to (pos 32768)) (nearest_number format.table (size d)) then Err Overflow
-    else Ok (events_shown format sign d (nearest_number format.table (size d)))
+    else Ok (events_of_nearest format sign d (nearest_number format.table (size d)))
 
 -- what a mode shows for a decimal
 abbrev pub mode_events : Mode → Sign → Unsigned → Result (List Event) TextError
@@ -70,16 +70,16 @@ abbrev pub IsRefusal : {X : Type 0} → Result X TextError → TextError → Typ
 IsRefusal shown error = (error ≡ OutOfMemory) ⊎ (shown ≡ Err error)
 
 -- a buffer grows by the text of what is shown
-abbrev pub AppendsShown : Result (List Event) TextError → List ℕ → List ℕ → Type 0
-AppendsShown (Ok events) old new = new ≡ old ++ text_of events
-AppendsShown (Err error) old new = ⊥
+abbrev pub AppendsEvents : Result (List Event) TextError → List ℕ → List ℕ → Type 0
+AppendsEvents (Ok events) old new = new ≡ old ++ text_of events
+AppendsEvents (Err error) old new = ⊥
 
 -- What a call does that is to write what is shown: the call is handed the writer k and leaves l. On success all its events are written.
 -- After an error nothing is shown, or memory ran out; the writer is unchanged, unless it failed while those events were written.
-abbrev pub WroteShown : {K T : Type 0} → (K → Result (Unit {0}) WriteFault → List Event → K → Type 0) → K → Result T TextError →
+abbrev pub WroteEvents : {K T : Type 0} → (K → Result (Unit {0}) WriteFault → List Event → K → Type 0) → K → Result T TextError →
     Result (List Event) TextError → K → Type 0
-WroteShown {K} {T} wrote k (Ok x) shown l = (events : List Event) × (shown ≡ Ok events) × wrote k (Ok tt) events l
-WroteShown {K} {T} wrote k (Err error) shown l = IsRefusal shown error × ((l ≡ k) ⊎ ((error ≡ OutOfMemory)
+WroteEvents {K} {T} wrote k (Ok x) shown l = (events : List Event) × (shown ≡ Ok events) × wrote k (Ok tt) events l
+WroteEvents {K} {T} wrote k (Err error) shown l = IsRefusal shown error × ((l ≡ k) ⊎ ((error ≡ OutOfMemory)
     × ((events : List Event) × (IsOk shown → shown ≡ Ok events) × wrote k (Err (record {})) events l)))
 
 -- an output holds a text of n bytes at its front if it fits, and else what it held before
@@ -89,6 +89,6 @@ pub record HoldsIfRoom (old new text : List ℕ) (n : ℕ) : Type 0 where
   pub too_long : length old < n → new ≡ old
 
 -- the same of the text of what is shown
-abbrev pub HoldsShown : Result (List Event) TextError → List ℕ → List ℕ → ℕ → Type 0
-HoldsShown (Ok events) old new n = HoldsIfRoom old new (text_of events) n
-HoldsShown (Err error) old new n = ⊥
+abbrev pub HoldsEvents : Result (List Event) TextError → List ℕ → List ℕ → ℕ → Type 0
+HoldsEvents (Ok events) old new n = HoldsIfRoom old new (text_of events) n
+HoldsEvents (Err error) old new n = ⊥

@@ -16,23 +16,23 @@ abbrev pub AreWholeLines : List ℕ → Type 0
 AreWholeLines bytes = (bytes ≡ []) ⊎ ((front : List ℕ) × (bytes ≡ front ++ 10 ∷ []))
 
 -- the bytes that were held back, with the new ones behind them, are whole lines, whose output was written, and what is held back now
-pub record Feeds (answer : List ℕ → List ℕ) (written written' : Option (List ℕ)) (held chunk held' : List ℕ) : Type 0 where
+pub record Feeds (result : List ℕ → List ℕ) (written written' : Option (List ℕ)) (held chunk held' : List ℕ) : Type 0 where
   pub whole : List ℕ
   pub are_whole : AreWholeLines whole
   pub parts : held ++ chunk ≡ whole ++ held'
   pub is_part : IsPartLine held'
-  pub appends : Appends written written' (output_of answer whole)
+  pub appends : Appends written written' (output_of result whole)
 
 -- the bytes begin with whole lines, and a beginning of their output was written, but not all of it
-pub record Breaks (answer : List ℕ → List ℕ) (written written' : Option (List ℕ)) (bytes : List ℕ) : Type 0 where
+pub record Breaks (result : List ℕ → List ℕ) (written written' : Option (List ℕ)) (bytes : List ℕ) : Type 0 where
   pub whole : List ℕ
   pub after : List ℕ
   pub are_whole : AreWholeLines whole
   pub parts : bytes ≡ whole ++ after
-  pub appends : AppendsProperBeginning written written' (output_of answer whole)
+  pub appends : AppendsProperBeginning written written' (output_of result whole)
 
 -- the input is whole lines, part of a line and what is left to read, and the output of the whole lines was written
-pub record StopsBetween (answer : List ℕ → List ℕ) (written written' : Option (List ℕ)) (input : List ℕ) (left : Option (List ℕ)) : Type 0 where
+pub record StopsBetween (result : List ℕ → List ℕ) (written written' : Option (List ℕ)) (input : List ℕ) (left : Option (List ℕ)) : Type 0 where
   pub whole : List ℕ
   pub part : List ℕ
   pub rest : List ℕ
@@ -40,4 +40,4 @@ pub record StopsBetween (answer : List ℕ → List ℕ) (written written' : Opt
   pub is_part : IsPartLine part
   pub is_left : left ≡ Some rest
   pub parts : input ≡ whole ++ part ++ rest
-  pub appends : Appends written written' (output_of answer whole)
+  pub appends : Appends written written' (output_of result whole)

@@ -1,7 +1,7 @@
 //! Lines cut out of blocks of input.
 
 ghost use Rattle.std.specs.Prelude.{◌++◌, ◌∷◌, [], Some, OnOk};
-ghost use Rattle.decimal_lines.specs.LineAnswers.{answer_to};
+ghost use Rattle.decimal_lines.specs.LineResults.{text_result};
 ghost use Rattle.decimal_lines.specs.Lines.{IsPartLine};
 ghost use Rattle.decimal_lines.specs.Written.{Feeds};
 
@@ -20,7 +20,7 @@ fn end_line(
 ) -> Result<(), AllocError>
     requires held_part { IsPartLine held.old.items }
     requires rest_part { IsPartLine rest.now }
-    ensures { OnOk result (Feeds (answer_to mode.now) (Some out.old.items)
+    ensures { OnOk result (Feeds (text_result mode.now) (Some out.old.items)
         (Some out.new.items) held.old.items (rest.now ++ 10 ∷ []) held.new.items) }
 {
     if held.is_empty() {
@@ -43,7 +43,7 @@ pub fn take_block(
     out: &mut Vec<u8>,
 ) -> Result<(), AllocError>
     requires { IsPartLine held.old.items }
-    ensures { OnOk result (Feeds (answer_to mode.now) (Some out.old.items)
+    ensures { OnOk result (Feeds (text_result mode.now) (Some out.old.items)
         (Some out.new.items) held.old.items block.now held.new.items) }
 {
     let mut rest = block;

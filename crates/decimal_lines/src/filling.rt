@@ -1,7 +1,7 @@
 //! From bytes to bytes, without a reader or a writer.
 
 ghost use Rattle.std.specs.Prelude.{◌≡◌, ◌+◌, ◌<◌, ◌≤◌, ◌++◌, take, drop, length, Err, IfErr, IfOk, OnOk, OnErr};
-ghost use Rattle.decimal_lines.specs.LineAnswers.{answer_to};
+ghost use Rattle.decimal_lines.specs.LineResults.{text_result};
 ghost use Rattle.decimal_lines.specs.Filled.{HasRoomLeft, HoldsAllThatFit, HoldsWholeLines, IsFilled, IsFirstLine};
 ghost use Rattle.decimal_lines.specs.Lines.{line_output, output_of};
 
@@ -45,7 +45,7 @@ pub(crate) fn first_line(bytes: &[u8]) -> (&[u8], &[u8])
 }
 
 /// Copies a text to a byte offset of the output, if it fits. The result is where it ends.
-pub(crate) fn place(output: &mut [u8], at: usize, text: &[u8]) -> Result<usize, FillError>
+pub(crate) fn put(output: &mut [u8], at: usize, text: &[u8]) -> Result<usize, FillError>
     requires { at ≤ length output.old }
     ensures fits { IfOk result (λ end. (end ≡ at + length text.now)
         × (at + length text.now ≤ length output.old)) }
@@ -75,16 +75,16 @@ fn put_line(
     at: usize,
 ) -> Result<usize, FillError>
     requires { at ≤ length output.old }
-    ensures fits { IfOk result (λ end. at + length (line_output (answer_to mode.now) line.now)
+    ensures fits { IfOk result (λ end. at + length (line_output (text_result mode.now) line.now)
         ≤ length output.old) }
     ensures bytes { OnOk result (output.new ≡ take at output.old
-        ++ line_output (answer_to mode.now) line.now
-        ++ drop (at + length (line_output (answer_to mode.now) line.now)) output.old) }
+        ++ line_output (text_result mode.now) line.now
+        ++ drop (at + length (line_output (text_result mode.now) line.now)) output.old) }
     ensures end { IfOk result (λ end.
-        end ≡ at + length (line_output (answer_to mode.now) line.now)) }
+        end ≡ at + length (line_output (text_result mode.now) line.now)) }
     ensures unchanged { OnErr result (output.new ≡ output.old) }
     ensures too_small { result ≡ Err FillError.TooSmall
-        → length output.old < at + length (line_output (answer_to mode.now) line.now) }
+        → length output.old < at + length (line_output (text_result mode.now) line.now) }
     ensures memory { result ≡ Err FillError.OutOfMemory → at < length output.old }
 {
     if at == output.len() {
@@ -94,7 +94,7 @@ fn put_line(
     if push_line(alloc, mode, line, text).is_err() {
         return Err(FillError::OutOfMemory);
     }
-    place(output, at, text)
+    put(output, at, text)
 }
 
 /// Formats all lines of the input into the output: for each line the decimal in the mode's form, or
@@ -110,21 +110,22 @@ fn put_line(
 pub fn format_lines(alloc: Global, mode: &Mode, input: &[u8], output: &mut [u8]) -> Filled
     // The output of the whole input was written.
     ensures ok { OnOk result.outcome
-        (IsFilled output.old output.new (output_of (answer_to mode.now) input.now) result.written) }
+        (IsFilled output.old output.new (output_of (text_result mode.now) input.now)
+        result.written) }
 
     // What was written is the output of whole lines at the input's beginning;
     ensures err { OnErr result.outcome
-        (HoldsWholeLines (answer_to mode.now) input.now output.old output.new result.written) }
+        (HoldsWholeLines (text_result mode.now) input.now output.old output.new result.written) }
 
     // the output is too small for the whole, and for the next line's answer.
     ensures too_small { result.outcome ≡ Err FillError.TooSmall
-        → length output.old < length (output_of (answer_to mode.now) input.now) }
+        → length output.old < length (output_of (text_result mode.now) input.now) }
     ensures full { result.outcome ≡ Err FillError.TooSmall
-        → HoldsAllThatFit (answer_to mode.now) input.now output.old output.new result.written }
+        → HoldsAllThatFit (text_result mode.now) input.now output.old output.new result.written }
 
     // If memory runs out, a line is left, and so is some room.
     ensures memory { result.outcome ≡ Err FillError.OutOfMemory
-        → HasRoomLeft (answer_to mode.now) input.now output.old output.new result.written }
+        → HasRoomLeft (text_result mode.now) input.now output.old output.new result.written }
 {
     let mut text = Vec::new(alloc);
     let mut written = 0;

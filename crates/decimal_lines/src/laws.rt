@@ -1,8 +1,8 @@
 //! What the computed definitions mean: each is the only value that a relation allows.
 
-ghost use Rattle.decimal_lines.specs.LineAnswers.{HasTable};
-ghost use Rattle.decimal_lines.specs.Laws.{AnswerIsAnAnswer, AnswerIsUnique, InputHasLines, LinesAreUnique, OutputAnswersEachLine};
-ghost use Rattle.decimal_lines.specs.Laws.{PiecesAreAnsweredApart, TwoAreAnsweredApart};
+ghost use Rattle.decimal_lines.specs.LineResults.{HasTable};
+ghost use Rattle.decimal_lines.specs.Laws.{ResultIsAResult, ResultIsUnique, InputHasLines, LinesAreUnique, OutputHasEachResult};
+ghost use Rattle.decimal_lines.specs.Laws.{PiecesRunApart, TwoRunApart};
 
 use crate::mode::Mode;
 use icu_decimal::laws::table_is_compact;
@@ -10,9 +10,9 @@ use icu_decimal::laws::table_is_compact;
 /// A text has an answer in each mode whose entries are a compact table; with any entries it has no
 /// other answer.
 // promise: A text has one answer in each mode.
-pub fn texts_have_one_answer()
-    ensures exists { AnswerIsAnAnswer }
-    ensures unique { AnswerIsUnique }
+pub fn texts_have_one_result()
+    ensures exists { ResultIsAResult }
+    ensures unique { ResultIsUnique }
 {}
 
 /// An input has one list of lines.
@@ -21,7 +21,7 @@ pub fn inputs_have_one_list_of_lines()
     ensures unique { LinesAreUnique }
 {}
 
-/// The entries of a compact mode are a compact table, as `exists` of [`texts_have_one_answer`]
+/// The entries of a compact mode are a compact table, as `exists` of [`texts_have_one_result`]
 /// asks.
 pub fn mode_has_table(mode: &Mode)
     ensures { HasTable mode.now }
@@ -36,8 +36,8 @@ pub fn mode_has_table(mode: &Mode)
 /// decimal is its text in the mode. In a compact mode that is the text of the compact number, of
 /// all magnitudes, that is nearest to the decimal.
 // promise: The output has one answer for each line, and nothing else.
-pub fn each_line_is_answered(mode: &Mode)
-    ensures { OutputAnswersEachLine mode.now }
+pub fn each_line_has_its_result(mode: &Mode)
+    ensures { OutputHasEachResult mode.now }
 {
     mode_has_table(mode);
 }
@@ -47,7 +47,7 @@ pub fn each_line_is_answered(mode: &Mode)
 /// second. So an input may be cut behind any line feeds and its pieces run apart, in any order and
 /// on any machines: their outputs, in the order of the pieces, are the output of the whole.
 // promise: Pieces that are cut behind line feeds may be run apart.
-pub fn lines_are_answered_apart()
-    ensures two { TwoAreAnsweredApart }
-    ensures pieces { PiecesAreAnsweredApart }
+pub fn lines_run_apart()
+    ensures two { TwoRunApart }
+    ensures pieces { PiecesRunApart }
 {}

@@ -1,8 +1,8 @@
 //! The answer to a line.
 
 ghost use Rattle.std.specs.Prelude.{◌≡◌, ◌++◌, ◌∷◌, [], OnOk, codes};
-ghost use Rattle.decimal_lines.specs.LineAnswers.{answer_to, shown_by};
-ghost use Rattle.decimal_lines.specs.Compact.{compact_answer};
+ghost use Rattle.decimal_lines.specs.LineResults.{text_result, text_by};
+ghost use Rattle.decimal_lines.specs.Compact.{compact_result};
 ghost use Rattle.decimal_lines.specs.Lines.{without_return, line_output};
 ghost use Rattle.decimal_lines.specs.Plain.{plain_text};
 
@@ -51,7 +51,7 @@ fn push_compact(
     out: &mut Vec<u8>,
 ) -> Result<(), AllocError>
     ensures { OnOk result (out.new.items ≡ out.old.items
-        ++ compact_answer formatter.now decimal.now.sign decimal.now.absolute) }
+        ++ compact_result formatter.now decimal.now.sign decimal.now.absolute) }
 {
     match formatter.format(alloc, decimal) {
         Ok(formatted) => match formatted.write_events(out) {
@@ -71,7 +71,7 @@ fn push_decimal(
     out: &mut Vec<u8>,
 ) -> Result<(), AllocError>
     ensures { OnOk result (out.new.items ≡ out.old.items
-        ++ shown_by mode.now decimal.now.sign decimal.now.absolute) }
+        ++ text_by mode.now decimal.now.sign decimal.now.absolute) }
 {
     match mode {
         Mode::Plain(formatter) => push_plain(formatter, decimal, out),
@@ -81,8 +81,8 @@ fn push_decimal(
 
 /// Appends the answer to a text; without memory some bytes of it may stand there.
 #[tactic(auto, using(crate::proofs::Answering::answering))]
-fn push_answer(alloc: Global, mode: &Mode, text: &[u8], out: &mut Vec<u8>) -> Result<(), AllocError>
-    ensures { OnOk result (out.new.items ≡ out.old.items ++ answer_to mode.now text.now) }
+fn push_result(alloc: Global, mode: &Mode, text: &[u8], out: &mut Vec<u8>) -> Result<(), AllocError>
+    ensures { OnOk result (out.new.items ≡ out.old.items ++ text_result mode.now text.now) }
 {
     match Decimal::try_from_utf8(alloc, text) {
         Ok(decimal) => push_decimal(alloc, mode, &decimal, out),
@@ -101,9 +101,9 @@ pub fn push_line(
     out: &mut Vec<u8>,
 ) -> Result<(), AllocError>
     ensures { OnOk result (out.new.items ≡ out.old.items
-        ++ line_output (answer_to mode.now) line.now) }
+        ++ line_output (text_result mode.now) line.now) }
 {
-    push_answer(alloc, mode, without_return(line), out)?;
+    push_result(alloc, mode, without_return(line), out)?;
     out.push(b'\n')?;
     Ok(())
 }

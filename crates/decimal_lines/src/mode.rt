@@ -1,8 +1,8 @@
 //! How each line is formatted.
 
-use icu_decimal::options::DecimalFormatterOptions;
-use icu_decimal::provider::DecimalSymbols;
 use icu_decimal::{CompactDecimalFormatter, DecimalFormatter};
+use icu_decimal_options::options::DecimalFormatterOptions;
+use icu_decimal_symbols::DecimalSymbols;
 use std::alloc::Global;
 use thiserror::Error;
 use writeable::ASCII_DIGITS;

@@ -1,20 +1,23 @@
 //! The mode that the arguments and the file of tables make.
 
 ghost use Rattle.std.specs.Prelude.{◌≡◌, Ok, Err, IfOk, IfErr};
-ghost use Rattle.decimal_lines.specs.LineAnswers.{HasTable};
+ghost use Rattle.decimal_lines.specs.LineResults.{HasTable};
 ghost use Rattle.decimal_lines.specs.declared.mode.Mode.TheVariants.{Compact};
 ghost use Rattle.decimal_lines.specs.ModeOfTables.{Starts, compact_options, compact_preferences, long_mode, mode_by, mode_of, plain_mode, plain_options};
 ghost use Rattle.decimal_lines.specs.ModeOfTables.{plain_preferences, short_mode, start_error};
 
 use crate::mode::{Mode, StartError};
 use crate::words::{Style, Words};
-use icu_decimal::options::{
+use icu_decimal::{CompactDecimalFormatter, DecimalFormatter};
+use icu_decimal_options::options::{
     CompactDecimalFormatterOptions, DecimalFormatterOptions, GroupingStrategy,
 };
-use icu_decimal::preferences::{CompactDecimalFormatterPreferences, DecimalFormatterPreferences};
-use icu_decimal::{CompactDecimalFormatter, DecimalFormatter};
+use icu_decimal_options::preferences::{
+    CompactDecimalFormatterPreferences, DecimalFormatterPreferences,
+};
 use icu_provider::{DataError, DataErrorKind};
-use icu_tables::{TableError, Tables};
+use icu_table_entries::TableError;
+use icu_tables::Tables;
 use std::alloc::Global;
 use std::str;
 

@@ -1,11 +1,11 @@
 //! An input that is answered piece by piece, each in an output of limited size.
 
 ghost use Rattle.std.specs.Prelude.{◌≡◌, ◌<◌, ◌⊎◌, Err, length, OnErr, OnOk};
-ghost use Rattle.decimal_lines.specs.LineAnswers.{answer_to};
+ghost use Rattle.decimal_lines.specs.LineResults.{text_result};
 ghost use Rattle.decimal_lines.specs.Lines.{line_output};
-ghost use Rattle.decimal_lines.specs.Progress.{AnswersFirst, NextNeeds};
+ghost use Rattle.decimal_lines.specs.Progress.{WritesFirst, NextNeeds};
 
-use crate::filling::{FillError, first_line, place};
+use crate::filling::{FillError, first_line, put};
 use crate::line::push_line;
 use crate::mode::Mode;
 use std::alloc::{AllocError, Global};
@@ -24,13 +24,13 @@ pub struct Progress {
 }
 
 /// Makes a buffer hold the answer to a line.
-fn answer_line(
+fn line_result(
     alloc: Global,
     mode: &Mode,
     line: &[u8],
     text: &mut Vec<u8>,
 ) -> Result<(), AllocError>
-    ensures { OnOk result (text.new.items ≡ line_output (answer_to mode.now) line.now) }
+    ensures { OnOk result (text.new.items ≡ line_output (text_result mode.now) line.now) }
 {
     text.clear();
     push_line(alloc, mode, line, text)
@@ -65,7 +65,7 @@ fn stopped(consumed: usize, written: usize, needed: usize, error: FillError) -> 
 // mutations: some_needed_without_its_line_feed
 pub fn format_some(alloc: Global, mode: &Mode, input: &[u8], output: &mut [u8]) -> Progress
     // Whatever the outcome, what was written is the output of the consumed bytes.
-    ensures holds { AnswersFirst (answer_to mode.now) input.now output.old output.new
+    ensures holds { WritesFirst (text_result mode.now) input.now output.old output.new
         result.consumed result.written }
 
     // All of the input is consumed, or a line is left.
@@ -74,7 +74,7 @@ pub fn format_some(alloc: Global, mode: &Mode, input: &[u8], output: &mut [u8]) 
 
     // The next line's answer is `needed` bytes long and doesn't fit.
     ensures too_small { result.outcome ≡ Err FillError.TooSmall
-        → NextNeeds (answer_to mode.now) input.now output.old result.consumed result.written
+        → NextNeeds (text_result mode.now) input.now output.old result.consumed result.written
         result.needed }
 
     // Otherwise `needed` is 0.
@@ -86,10 +86,10 @@ pub fn format_some(alloc: Global, mode: &Mode, input: &[u8], output: &mut [u8]) 
     while !left.is_empty() {
         let (line, rest) = first_line(left);
         let consumed = input.len() - left.len();
-        let Ok(()) = answer_line(alloc, mode, line, &mut text) else {
+        let Ok(()) = line_result(alloc, mode, line, &mut text) else {
             return stopped(consumed, written, 0, FillError::OutOfMemory);
         };
-        match place(output, written, &text) {
+        match put(output, written, &text) {
             Ok(end) => written = end,
             Err(error) => return stopped(consumed, written, text.len(), error),
         }

@@ -2,7 +2,7 @@
 
 ghost use Rattle.std.specs.Prelude.{◌≡◌, ◌≢◌, ◌<◌, [], Some, Err, OnOk, OnErr, IfSome, IfOk, length, vec_len};
 ghost use Rattle.std.specs.Io.KnownBytes.{Appends};
-ghost use Rattle.decimal_lines.specs.LineAnswers.{answer_to};
+ghost use Rattle.decimal_lines.specs.LineResults.{text_result};
 ghost use Rattle.decimal_lines.specs.Lines.{output_of, IsPartLine};
 ghost use Rattle.decimal_lines.specs.Written.{AppendsBeginning, AppendsProperBeginning, StopsBetween};
 
@@ -41,12 +41,12 @@ fn finish<W: Write>(
 ) -> Result<(), RunError>
     requires { IsPartLine held.now }
     ensures ok { OnOk result (Appends (W.contents writer.old) (W.contents writer.new)
-        (output_of (answer_to mode.now) held.now)) }
+        (output_of (text_result mode.now) held.now)) }
     ensures err { OnErr result (AppendsBeginning (W.contents writer.old) (W.contents writer.new)
-        (output_of (answer_to mode.now) held.now)) }
+        (output_of (text_result mode.now) held.now)) }
     ensures write { result ≡ Err RunError.Write
         → AppendsProperBeginning (W.contents writer.old) (W.contents writer.new)
-        (output_of (answer_to mode.now) held.now) }
+        (output_of (text_result mode.now) held.now) }
     ensures not_read { result ≢ Err RunError.Read }
 {
     if held.is_empty() {
@@ -73,17 +73,17 @@ fn run_by<R: Read, W: Write>(
     requires { 0 < length block.old }
     ensures ok { OnOk result (IfSome (R.remaining reader.old) (λ input.
         Appends (W.contents writer.old) (W.contents writer.new)
-        (output_of (answer_to mode.now) input)
+        (output_of (text_result mode.now) input)
         × (R.remaining reader.new ≡ Some []))) }
     ensures err { OnErr result (IfSome (R.remaining reader.old) (λ input.
         AppendsBeginning (W.contents writer.old) (W.contents writer.new)
-        (output_of (answer_to mode.now) input))) }
+        (output_of (text_result mode.now) input))) }
     ensures read { result ≡ Err RunError.Read → IfSome (R.remaining reader.old) (λ input.
-        StopsBetween (answer_to mode.now) (W.contents writer.old) (W.contents writer.new) input
+        StopsBetween (text_result mode.now) (W.contents writer.old) (W.contents writer.new) input
         (R.remaining reader.new)) }
     ensures write { result ≡ Err RunError.Write → IfSome (R.remaining reader.old) (λ input.
         AppendsProperBeginning (W.contents writer.old) (W.contents writer.new)
-        (output_of (answer_to mode.now) input)) }
+        (output_of (text_result mode.now) input)) }
 {
     let mut held = Vec::new(alloc);
     let mut out = Vec::new(alloc);
@@ -130,23 +130,23 @@ pub fn run<R: Read, W: Write>(
     // The output of the whole input was written, and all of it read.
     ensures ok { OnOk result (IfSome (R.remaining reader.old) (λ input.
         Appends (W.contents writer.old) (W.contents writer.new)
-        (output_of (answer_to mode.now) input)
+        (output_of (text_result mode.now) input)
         × (R.remaining reader.new ≡ Some []))) }
 
     // What was written is a beginning of it;
     ensures err { OnErr result (IfSome (R.remaining reader.old) (λ input.
         AppendsBeginning (W.contents writer.old) (W.contents writer.new)
-        (output_of (answer_to mode.now) input))) }
+        (output_of (text_result mode.now) input))) }
 
     // where reading failed, the output of just the whole lines read so far;
     ensures read { result ≡ Err RunError.Read → IfSome (R.remaining reader.old) (λ input.
-        StopsBetween (answer_to mode.now) (W.contents writer.old) (W.contents writer.new) input
+        StopsBetween (text_result mode.now) (W.contents writer.old) (W.contents writer.new) input
         (R.remaining reader.new)) }
 
     // and where writing failed, something was left to write.
     ensures write { result ≡ Err RunError.Write → IfSome (R.remaining reader.old) (λ input.
         AppendsProperBeginning (W.contents writer.old) (W.contents writer.new)
-        (output_of (answer_to mode.now) input)) }
+        (output_of (text_result mode.now) input)) }
 {
     let Ok(mut block) = buffer(alloc, BLOCK_LEN) else {
         return Err(RunError::OutOfMemory);

@@ -1,7 +1,7 @@
 //! What a mode shows for a decimal: in any writer, in a buffer, or as a text with parts.
 
 ghost use Rattle.std.specs.Prelude.{◌≡◌, ◌≢◌, Ok, IfErr, IfOk, OnOk};
-ghost use Rattle.decimal_lines.specs.SingleText.{AppendsShown, IsRefusal, WroteShown, compact_events, mode_events};
+ghost use Rattle.decimal_lines.specs.SingleText.{AppendsEvents, IsRefusal, WroteEvents, compact_events, mode_events};
 ghost use Rattle.writeable.specs.Sink.{Writes};
 ghost use Rattle.icu_decimal.specs.Decimal.{decimal_events};
 
@@ -19,7 +19,7 @@ fn write_plain<K: EventWriter>(
     decimal: &Decimal,
     out: &mut K,
 ) -> Result<(), TextError>
-    ensures { WroteShown K.wrote out.old result
+    ensures { WroteEvents K.wrote out.old result
         (Ok (decimal_events formatter.now decimal.now.sign decimal.now.absolute)) out.new }
 {
     match formatter.format(decimal).write_events(out) {
@@ -35,7 +35,7 @@ fn write_compact<K: EventWriter>(
     decimal: &Decimal,
     out: &mut K,
 ) -> Result<(), TextError>
-    ensures { WroteShown K.wrote out.old result
+    ensures { WroteEvents K.wrote out.old result
         (compact_events formatter.now decimal.now.sign decimal.now.absolute) out.new }
 {
     match formatter.format(alloc, decimal) {
@@ -58,7 +58,7 @@ pub fn write_shown<K: EventWriter>(
     decimal: &Decimal,
     out: &mut K,
 ) -> Result<(), TextError>
-    ensures { WroteShown K.wrote out.old result
+    ensures { WroteEvents K.wrote out.old result
         (mode_events mode.now decimal.now.sign decimal.now.absolute) out.new }
 {
     match mode {
@@ -74,7 +74,7 @@ pub fn push_shown(
     decimal: &Decimal,
     out: &mut Vec<u8>,
 ) -> Result<(), TextError>
-    ensures ok { OnOk result (AppendsShown
+    ensures ok { OnOk result (AppendsEvents
         (mode_events mode.now decimal.now.sign decimal.now.absolute)
         out.old.items out.new.items) }
     ensures refused { IfErr result (λ error. IsRefusal
@@ -92,7 +92,7 @@ fn write_parts<S: PartsWrite>(
     decimal: &Decimal,
     sink: &mut S,
 ) -> Result<(), TextError>
-    ensures { WroteShown (Writes S.events S.failures) sink.old result
+    ensures { WroteEvents (Writes S.events S.failures) sink.old result
         (mode_events mode.now decimal.now.sign decimal.now.absolute) sink.new }
 {
     let mut out = WithParts { sink };

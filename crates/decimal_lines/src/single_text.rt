@@ -1,7 +1,7 @@
 //! A single text instead of a line: its characters, or its characters and parts.
 
 ghost use Rattle.std.specs.Prelude.{◌≡◌, Ok, length, IfErr, IfOk, OnErr};
-ghost use Rattle.decimal_lines.specs.SingleText.{HoldsIfRoom, HoldsShown, IsRefusal, decimal_read, events_of};
+ghost use Rattle.decimal_lines.specs.SingleText.{HoldsIfRoom, HoldsEvents, IsRefusal, decimal_read, events_of};
 
 use crate::mode::Mode;
 use crate::showing::{mark_shown, push_shown};
@@ -68,7 +68,7 @@ pub fn format_text(
 ) -> Result<usize, TextError>
     // If the text fits, the output holds it, and else what it held before.
     ensures ok { IfOk result (λ n.
-        HoldsShown (events_of mode.now text.now) output.old output.new n) }
+        HoldsEvents (events_of mode.now text.now) output.old output.new n) }
 
     // The text is rejected, or memory runs out.
     ensures refused { IfErr result (λ error. IsRefusal (events_of mode.now text.now) error) }

@@ -4,7 +4,8 @@ ghost use Rattle.std.specs.Prelude.{◌≡◌, IfErr, OnOk, Ok};
 ghost use Rattle.icu_tables.specs.Tables.{tables_of};
 ghost use Rattle.decimal_lines.specs.TableFaults.{IsFault, tables_judged, text_judged};
 
-use icu_tables::{TableError, Tables};
+use icu_table_entries::TableError;
+use icu_tables::Tables;
 use std::alloc::Global;
 use std::str;
 use thiserror::Error;

@@ -3,7 +3,7 @@
 ghost use Rattle.std.specs.Prelude.{◌≡◌, map};
 ghost use Rattle.decimal_lines.specs.Words.{grouping_named, locale_named, strategy_named, style_named, system_named, words_from, words_of};
 
-use icu_decimal::options::GroupingStrategy;
+use icu_decimal_options::options::GroupingStrategy;
 use icu_provider::{DataLocale, NumberingSystem};
 use std::marker::Model;
 

@@ -12,7 +12,7 @@ use Rattle.fixed_decimal.specs.Unsigned.{Unsigned, IsUnsigned, digit_at, high, l
 use Rattle.fixed_decimal.specs.Size.{weighed, finest, size, magnitude}
 use Rattle.fixed_decimal.specs.Modes.{IsLeastFrom}
 use Rattle.fixed_decimal.specs.Trimming.{IsTrimmed}
-use Rattle.fixed_decimal.specs.Padding.{IsWrittenWith}
+use Rattle.fixed_decimal.specs.Padding.{IsExactWith}
 use Rattle.fixed_decimal.proofs.Weights.{weighed-append, weighed_units, weighed-replicate_zero, ten_more, ten_pos}
 use Rattle.fixed_decimal.proofs.Rounds.{finest_large}
 use Rattle.fixed_decimal.proofs.Magnitudes.{magnitude_first, magnitude_none, magnitude_only}
@@ -82,7 +82,7 @@ module _ (ds : List ℕ) (s : ℕ) (some : 0 < length ds) (fine : s ≤ finest) 
 
   -- fewer digits below power 0 do not write it, where the last one isn't 0
   pub not_fewer : (n : ℕ) → get_or ds (length ds - 1) 0 ≢ 0 → get_or ds (length ds - 1) 0 < 10 → n < s →
-      ¬ (IsWrittenWith (weighed (finest - s) ds) n)
+      ¬ (IsExactWith (weighed (finest - s) ds) n)
   not_fewer n other below h (k, e) =
       let u = 10 ^ (finest - s) in
       let q = weighed 0 (take (length ds - 1) ds) in
@@ -127,7 +127,7 @@ module _ (ds : List ℕ) (s integer fraction f b : ℕ) (is : IsUnsigned (record
       low_limit = omega (arith, is.low_limit);
     }
 
-    pub padded_scale : IsTrimmed (record { digits = ds; scale = s }) → IsLeastFrom (IsWrittenWith (weighed (finest - s) ds)) fraction (s + b)
+    pub padded_scale : IsTrimmed (record { digits = ds; scale = s }) → IsLeastFrom (IsExactWith (weighed (finest - s) ds)) fraction (s + b)
     padded_scale trimmed = record {
       allowed =
           let split = ten_multiple (finest - (s + b)) (finest - s) (omega arith) in (
@@ -141,7 +141,7 @@ module _ (ds : List ℕ) (s integer fraction f b : ℕ) (is : IsUnsigned (record
       ];
     }
       where
-        fewer : (n : ℕ) → IsWrittenWith (weighed (finest - s) ds) n → n < s → IsTrimmed (record { digits = ds; scale = s }) → ⊥
+        fewer : (n : ℕ) → IsExactWith (weighed (finest - s) ds) n → n < s → IsTrimmed (record { digits = ds; scale = s }) → ⊥
         fewer n written h (inl none) = omega (arith, ints)
         fewer n written h (inr last) =
             let d : Unsigned = record { digits = ds; scale = s } in

@@ -4,5 +4,5 @@ use Rattle.fixed_decimal.specs.Size.{finest}
 use Rattle.fixed_decimal.specs.Nearest.{IsMultiple}
 
 -- that many digits below power 0 write the size exactly
-abbrev pub IsWrittenWith : ℕ → ℕ → Type 0
-IsWrittenWith x n = IsMultiple (10 ^ (finest - n)) x
+abbrev pub IsExactWith : ℕ → ℕ → Type 0
+IsExactWith x n = IsMultiple (10 ^ (finest - n)) x

@@ -11,7 +11,7 @@ use std::simd::prelude::*;
 pub(crate) const LANES: usize = 16;
 
 /// The place of each lane.
-const PLACES: [u8; LANES] = [0, 1, 2, 3, 4, 5, 6, 7, 8, 9, 10, 11, 12, 13, 14, 15];
+const INDEXES: [u8; LANES] = [0, 1, 2, 3, 4, 5, 6, 7, 8, 9, 10, 11, 12, 13, 14, 15];
 
 /// A text, and zeros behind it.
 pub(crate) fn padded(text: &[u8]) -> [u8; LANES]
@@ -36,8 +36,8 @@ fn by_ends(text: &[u8], part: usize) -> [u8; LANES]
     ensures { result ≡ text.now ++ replicate (LANES - length text.now) 0 }
 {
     let front = with_text([0; LANES], 0, &text[..part]);
-    let place = text.len() - part;
-    with_text(front, place, &text[place..])
+    let lane = text.len() - part;
+    with_text(front, lane, &text[lane..])
 }
 
 /// Two texts one behind the other, and zeros behind them.
@@ -53,23 +53,23 @@ pub(crate) fn both_padded(front: &[u8], back: &[u8]) -> [u8; LANES]
     lanes
 }
 
-/// The lanes with a text written over them from index `place` on.
-pub(crate) fn with_text(mut lanes: [u8; LANES], place: usize, text: &[u8]) -> [u8; LANES]
-    requires { place + length text.now ≤ LANES }
-    ensures { result ≡ take place lanes ++ (text.now ++ drop (place + length text.now) lanes) }
+/// The lanes with a text written over them from index `lane` on.
+pub(crate) fn with_text(mut lanes: [u8; LANES], lane: usize, text: &[u8]) -> [u8; LANES]
+    requires { lane + length text.now ≤ LANES }
+    ensures { result ≡ take lane lanes ++ (text.now ++ drop (lane + length text.now) lanes) }
 {
-    lanes[place..place + text.len()].copy_from_slice(text);
+    lanes[lane..lane + text.len()].copy_from_slice(text);
     lanes
 }
 
-/// The lanes without the one at `place`: those behind it move up by one, and the first one goes
+/// The lanes without the one at `lane`: those behind it move up by one, and the first one goes
 /// last.
-pub(crate) fn without_lane(lanes: [u8; LANES], place: usize) -> [u8; LANES]
-    requires { place < LANES }
-    ensures { result ≡ take place lanes ++ (drop (place + 1) lanes ++ take 1 lanes) }
+pub(crate) fn without_lane(lanes: [u8; LANES], lane: usize) -> [u8; LANES]
+    requires { lane < LANES }
+    ensures { result ≡ take lane lanes ++ (drop (lane + 1) lanes ++ take 1 lanes) }
 {
     let lanes = u8x16::from_array(lanes);
-    let before = u8x16::from_array(PLACES).simd_lt(u8x16::splat(place as u8));
+    let before = u8x16::from_array(INDEXES).simd_lt(u8x16::splat(lane as u8));
     before
         .select(lanes, lanes.rotate_elements_left::<1>())
         .to_array()

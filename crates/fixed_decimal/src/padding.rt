@@ -5,7 +5,7 @@ ghost use Rattle.std.specs.Int.{int_max};
 ghost use Rattle.fixed_decimal.specs.Unsigned.{IsUnsigned, high};
 ghost use Rattle.fixed_decimal.specs.Size.{size, magnitude};
 ghost use Rattle.fixed_decimal.specs.Modes.{IsLeastFrom};
-ghost use Rattle.fixed_decimal.specs.Padding.{IsWrittenWith};
+ghost use Rattle.fixed_decimal.specs.Padding.{IsExactWith};
 
 use crate::digits::{MAX_DIGITS, cut_front, leading_zeros, widen};
 use crate::{DecimalError, UnsignedDecimal};
@@ -46,7 +46,7 @@ impl UnsignedDecimal {
         ensures high { IfOk result (λ y.
             high y ≡ int_max (int_max (pos 0) (pos integer -ℤ pos 1)) (magnitude (size self.now))) }
         ensures scale { IfOk result (λ y.
-            IsLeastFrom (IsWrittenWith (size self.now)) fraction y.scale) }
+            IsLeastFrom (IsExactWith (size self.now)) fraction y.scale) }
         ensures valid { IfOk result (λ y. IsUnsigned y) }
         ensures limit { IsErrOf result DecimalError.Limit
             ↔ ((32768 < integer) ⊎ (32768 < fraction)) }

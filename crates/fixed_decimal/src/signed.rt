@@ -9,9 +9,9 @@ ghost use Rattle.fixed_decimal.specs.RoundedBy.{IsRoundedBy, RoundsPastLimitsBy}
 ghost use Rattle.fixed_decimal.specs.Increments.{unit_of};
 ghost use Rattle.fixed_decimal.specs.SignDisplay.{is_negative};
 ghost use Rattle.fixed_decimal.specs.Scaling.{IsMoved, IsTimesTenTo, MovesPastLimits};
-ghost use Rattle.fixed_decimal.specs.SignDisplay.{displayed_sign};
+ghost use Rattle.fixed_decimal.specs.SignDisplay.{sign_by_display};
 
-use crate::signs::{displayed_sign, is_negative};
+use crate::signs::{is_negative, sign_by_display};
 use crate::{
     DecimalError, RoundingIncrement, Sign, SignDisplay, SignedRoundingMode, UnsignedDecimal,
 };
@@ -171,12 +171,12 @@ impl Decimal {
     // promise: The sign shown is that of the display; the number stays.
     // mutations: with_sign_display_minus_of_zero_kept
     pub fn with_sign_display(self, display: SignDisplay) -> Self
-        ensures sign { result.sign ≡ displayed_sign display (size self.absolute == 0) self.sign }
+        ensures sign { result.sign ≡ sign_by_display display (size self.absolute == 0) self.sign }
         ensures absolute { result.absolute ≡ self.absolute }
         ensures valid { IsUnsigned result.absolute }
     {
         let Decimal { sign, absolute } = self;
-        let sign = displayed_sign(display, absolute.is_zero(), sign);
+        let sign = sign_by_display(display, absolute.is_zero(), sign);
         Decimal { sign, absolute }
     }
 }

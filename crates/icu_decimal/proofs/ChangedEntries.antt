@@ -6,7 +6,7 @@ use Rattle.std.proofs.lemmas.Bool.{cases_order, eqb-true}
 use Rattle.std.proofs.lemmas.Option.{get_or_from_slice_get}
 use Rattle.fixed_decimal.specs.Size.{finest}
 use Rattle.icu_decimal_data.specs.CompactTable.{TableEntry, IsIndex, type_place, entry_at, entry_for}
-use Rattle.icu_decimal.specs.Displayed.{are_same_entry}
+use Rattle.icu_decimal.specs.Decomposed.{are_same_entry}
 use Rattle.icu_decimal.proofs.EntrySteps.{entry_reached}
 
 -- inside a table there is an entry

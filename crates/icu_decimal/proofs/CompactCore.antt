@@ -15,7 +15,7 @@ use Rattle.fixed_decimal.proofs.MagnitudePlaces.{magnitude_place_low, magnitude_
 use Rattle.icu_decimal_data.specs.CompactTable.{TableEntry, IsCompactTable, type_place, entry_for, exponent_of, exponent_for}
 use Rattle.icu_decimal.specs.CompactNumber.{rounding_place, rounding_place_for, ShowsPastLimits}
 use Rattle.icu_decimal.specs.RoundedAt.{IsRoundedAt, RoundsPast}
-use Rattle.icu_decimal.specs.Displayed.{are_same_entry, IsDisplayed}
+use Rattle.icu_decimal.specs.Decomposed.{are_same_entry, IsDecomposed}
 use Rattle.icu_decimal.specs.NearestLemmas.{nearest_to_itself, itself_nearest, rounded_zero, rounded_within, nearest_compact_from_rounded, nearest_compact_same}
 use Rattle.icu_decimal.proofs.EntrySteps.{entry_has, entry_reached}
 use Rattle.icu_decimal.proofs.ChangedEntries.{same_entry-itself}
@@ -115,11 +115,11 @@ magnitude_within u x y r within = elim (cases_lt (magnitude_place y) (finest + 3
 
 -- by the entry of the input's magnitude, where that is the one of the magnitude reached too, the rounded number is displayed
 -- as the significand that the exponent leaves
-pub displayed_by_same : (table : List TableEntry) (d s : Unsigned) (y : ℕ) (by : Option TableEntry) → by ≡ entry_for table (magnitude_place (size d)) →
+pub decomposed_by_same : (table : List TableEntry) (d s : Unsigned) (y : ℕ) (by : Option TableEntry) → by ≡ entry_for table (magnitude_place (size d)) →
     by ≡ entry_for table (magnitude_place y) → IsRoundedAt (rounding_place_for table (magnitude_place (size d))) (size d) y
     → size s * 10 ^ exponent_of by ≡ y → IsUnsigned s → IsTrimmed s →
-    high s ≡ int_max (pos 0) (int_max (high d) (magnitude y) -ℤ pos (exponent_of by)) → IsDisplayed table d y by s
-displayed_by_same table d s y by here is r scaled valid trimmed top = record {
+    high s ≡ int_max (pos 0) (int_max (high d) (magnitude y) -ℤ pos (exponent_of by)) → IsDecomposed table d y by s
+decomposed_by_same table d s y by here is r scaled valid trimmed top = record {
   nearest = nearest_compact_from_rounded table (size d) y r;
   entry_is = is;
   scaled = scaled;
@@ -129,11 +129,11 @@ displayed_by_same table d s y by here is r scaled valid trimmed top = record {
 }
 
 -- by another entry it is displayed as the power of ten that the exponent leaves
-pub displayed_by_other : (table : List TableEntry) (d s : Unsigned) (y power : ℕ) (by : Option TableEntry) → by ≡ entry_for table (magnitude_place y) →
+pub decomposed_by_other : (table : List TableEntry) (d s : Unsigned) (y power : ℕ) (by : Option TableEntry) → by ≡ entry_for table (magnitude_place y) →
     are_same_entry by (entry_for table (magnitude_place (size d))) ≡ false
     → IsRoundedAt (rounding_place_for table (magnitude_place (size d))) (size d) y → finest + power + exponent_of by ≡ magnitude_place y →
-    size s ≡ 10 ^ (finest + power) → IsUnsigned s → IsTrimmed s → high s ≡ pos power → IsDisplayed table d y by s
-displayed_by_other table d s y power by is other r sum ten valid trimmed top =
+    size s ≡ 10 ^ (finest + power) → IsUnsigned s → IsTrimmed s → high s ≡ pos power → IsDecomposed table d y by s
+decomposed_by_other table d s y power by is other r sum ten valid trimmed top =
     let changed : are_same_entry (entry_for table (magnitude_place y)) (entry_for table (magnitude_place (size d))) ≡ false = rw (← is) other in
     let reached : y ≡ 10 ^ magnitude_place y = changed_is_ten table (exponent_for table (magnitude_place (size d))) (size d) y r changed in
     record {

@@ -7,9 +7,9 @@ pub mod NearestLaws
 pub mod ChangedEntries
 pub mod CompactCore
 pub mod RoundingSteps
-pub mod DisplayedSteps
+pub mod DecomposedSteps
 pub mod OrderLaws
-pub mod DisplayedOnce
+pub mod DecomposedOnce
 pub mod WorkedNearest
 pub mod ShownAgain
 pub mod WorkedAgain
@@ -17,10 +17,10 @@ pub mod WorkedPadding
 pub mod Runs
 pub mod CharactersShown
 pub mod GroupRuns
-pub mod DigitsTold
-pub mod TextsTold
-pub mod CompactTold
-pub mod ShownTold
+pub mod DigitsDistinct
+pub mod TextsDistinct
+pub mod CompactDistinct
+pub mod ShownDistinct
 pub mod WorkedReadable
 pub mod WorkedEnglish
 pub mod WorkedCarry

@@ -1,7 +1,7 @@
 -- What is shown of a decimal is shown again in the same way.
 -- The shown size is a compact number, so it is its own nearest one, and it has the same entry. The significand is the same too where no
--- decimal has leading padding: then `displayed_high` is a function of the shown size alone (`high_unpadded`, by cases on whether the entry
--- is that of the decimal's own magnitude). That nothing else is written comes from `displayed_is_one` of DisplayedOnce.
+-- decimal has leading padding: then `decomposed_high` is a function of the shown size alone (`high_unpadded`, by cases on whether the entry
+-- is that of the decimal's own magnitude). That nothing else is written comes from `decomposed_is_one` of DisplayedOnce.
 -- For `format_with_exponent` the magnitude of significand and exponent together has to have the same entry (`given_entry`). A significand 0
 -- is a case of its own, as its magnitude is that of 1: there the exponent is 0. That call keeps the parts of the number and `format` doesn't,
 -- so the two are compared without parts.
@@ -21,16 +21,16 @@ use Rattle.writeable.specs.Events.{Event, text_events, without_parts, characters
 use Rattle.writeable.specs.Events.Event.{Char, Open, Close}
 use Rattle.icu_decimal_data.specs.CompactTable.{TableEntry, IsCompactTable, entry_for, exponent_of}
 use Rattle.icu_decimal_data.specs.declared.decimal_symbols.DecimalSymbols.{DecimalSymbols}
-use Rattle.icu_decimal.specs.CompactFormat.{CompactFormat, filled_events, magnitude_with, given_events}
+use Rattle.icu_decimal.specs.CompactFormat.{CompactFormat, filled_events, magnitude_with, events_with_exponent}
 use Rattle.icu_decimal.specs.CompactNumber.{rounding_place_for, IsCompactNumber, IsNearestCompact, ShowsPastLimits}
 use Rattle.icu_decimal.specs.Decimal.{signed_events}
-use Rattle.icu_decimal.specs.Displayed.{are_same_entry, displayed_entry, displayed_high, IsDisplayed}
-use Rattle.icu_decimal.specs.CompactLaws.{IsUnpadded, IsWrittenAlone, IsShownAgain, ShownIsGiven}
+use Rattle.icu_decimal.specs.Decomposed.{are_same_entry, decomposed_entry, decomposed_high, IsDecomposed}
+use Rattle.icu_decimal.specs.CompactLaws.{IsUnpadded, IsWrittenAlone, IsShownAgain, ShownIsAccepted}
 use Rattle.icu_decimal.specs.Part.{in_decimal_part}
 use Rattle.writeable.proofs.LawLemmas.{characters-without_parts}
 use Rattle.writeable.specs.Writes.{without_parts-append}
 use Rattle.icu_decimal.proofs.CompactCore.{exponent_le_magnitude}
-use Rattle.icu_decimal.proofs.DisplayedOnce.{displayed_is_one}
+use Rattle.icu_decimal.proofs.DecomposedOnce.{decomposed_is_one}
 use Rattle.icu_decimal.specs.NearestLemmas.{nearest_to_itself, itself_nearest, nearest_within, zero_is_compact}
 use Rattle.icu_decimal.proofs.PowerPlaces.{place_is}
 
@@ -53,18 +53,19 @@ nearest_again table x y z n same = rw same (nearest_to_itself (IsCompactNumber t
 
 -- what is displayed of an unpadded decimal has no padding, by whichever entry
 pub high_unpadded : (table : List TableEntry) (d : Unsigned) (y : ℕ) → IsUnpadded d → magnitude_place (size d) ≤ magnitude_place y →
-    displayed_high table d y ≡ int_max (pos 0) (magnitude y -ℤ pos (exponent_of (displayed_entry table y)))
+    decomposed_high table d y ≡ int_max (pos 0) (magnitude y -ℤ pos (exponent_of (decomposed_entry table y)))
 high_unpadded table d y unpadded rises =
-    ⊎_elim (λ same. rw same (widest (exponent_of (displayed_entry table y)))) (λ other. rw other refl)
-    (cases_Bool (are_same_entry (displayed_entry table y) (entry_for table (magnitude_place (size d)))))
+    ⊎_elim (λ same. rw same (widest (exponent_of (decomposed_entry table y)))) (λ other. rw other refl)
+    (cases_Bool (are_same_entry (decomposed_entry table y) (entry_for table (magnitude_place (size d)))))
   where
     widest : (e : ℕ) → int_max (pos 0) (int_max (high d) (magnitude y) -ℤ pos e) ≡ int_max (pos 0) (magnitude y -ℤ pos e)
     widest e = omega (arith, ints, clamps, unpadded)
 
 -- so what is displayed of it is displayed of every unpadded decimal of the shown size
-displayed_again : (table : List TableEntry) (d again s : Unsigned) (y : ℕ) (entry : Option TableEntry) → IsDisplayed table d y entry s → IsUnpadded d →
-    IsUnpadded again → size again ≡ y → IsDisplayed table again y entry s
-displayed_again table d again s y entry h unpadded unpadded_again same = record {
+decomposed_again : (table : List TableEntry) (d again s : Unsigned) (y : ℕ) (entry : Option TableEntry) → IsDecomposed table d y entry s → IsUnpadded d
+    →
+    IsUnpadded again → size again ≡ y → IsDecomposed table again y entry s
+decomposed_again table d again s y entry h unpadded unpadded_again same = record {
   nearest = nearest_again table (size d) y (size again) h.nearest same;
   entry_is = h.entry_is;
   scaled = h.scaled;
@@ -77,13 +78,13 @@ displayed_again table d again s y entry h unpadded unpadded_again same = record 
 
 -- what is written of a decimal is one, and what is displayed decides it
 written_alone : (format : CompactFormat) (sign : Sign) (d s : Unsigned) (exponent : ℕ) (events : List Event) (y : ℕ) (entry : Option TableEntry) →
-    IsDisplayed format.table d y entry s → exponent ≡ exponent_of entry
+    IsDecomposed format.table d y entry s → exponent ≡ exponent_of entry
     → events ≡ signed_events format.decimal.symbols sign (without_parts (filled_events format entry s)) →
     IsWrittenAlone format sign d s exponent events y entry
 written_alone format sign d s exponent events y entry h exponent_is events_are = record {
-  written = record { shown = y; entry = entry; displayed = h; exponent_is = exponent_is; events_are = events_are };
+  written = record { shown = y; entry = entry; decomposed = h; exponent_is = exponent_is; events_are = events_are };
   alone = λ t other others k.
-      let one = displayed_is_one format.table d k.shown y k.entry entry t s k.displayed h in (
+      let one = decomposed_is_one format.table d k.shown y k.entry entry t s k.decomposed h in (
         one.0,
         one.1,
         one.2,
@@ -102,7 +103,7 @@ pub shown_again : (format : CompactFormat) (sign : Sign) (d again : Unsigned) �
 shown_again format sign d again unpadded unpadded_again = record {
   alike = λ s exponent events first same.
       written_alone format sign again s exponent events first.shown first.entry
-      (displayed_again format.table d again s first.shown first.entry first.displayed unpadded unpadded_again same)
+      (decomposed_again format.table d again s first.shown first.entry first.decomposed unpadded unpadded_again same)
       first.exponent_is first.events_are;
   within = λ y near same past. past_again y near same past;
 }
@@ -170,18 +171,18 @@ signed_without_parts symbols Positive es =
     (in_decimal_part (codes "plusSign") (text_events symbols.strings.plus_sign_suffix)) es
 
 -- the significand and the exponent that are shown are accepted as they are
-pub shown_is_given : ShownIsGiven
-shown_is_given format sign d s exponent events t first =
-    let displayed = first.displayed in
-    let entry_is = given_entry format.table s first.shown first.entry t displayed.entry_is displayed.scaled in
+pub shown_is_accepted : ShownIsAccepted
+shown_is_accepted format sign d s exponent events t first =
+    let decomposed = first.decomposed in
+    let entry_is = given_entry format.table s first.shown first.entry t decomposed.entry_is decomposed.scaled in
     let by_exponent : entry_for format.table (place (magnitude_with s exponent)) ≡ first.entry =
     ap (λ e. entry_for format.table (place (magnitude_with s e))) first.exponent_is ∙ entry_is in
-    let alike : without_parts (given_events format sign s exponent) ≡ without_parts events =
+    let alike : without_parts (events_with_exponent format sign s exponent) ≡ without_parts events =
     ap (λ o. without_parts (signed_events format.decimal.symbols sign (filled_events format o s))) by_exponent
     ∙ signed_without_parts format.decimal.symbols sign (filled_events format first.entry s) ∙ ap without_parts (sym first.events_are) in
     record {
       accepted = first.exponent_is ∙ ap exponent_of (sym by_exponent);
       characters_are = alike;
-      text_is = ap encode_utf8_all (sym (characters-without_parts (given_events format sign s exponent)) ∙ ap characters alike
+      text_is = ap encode_utf8_all (sym (characters-without_parts (events_with_exponent format sign s exponent)) ∙ ap characters alike
           ∙ characters-without_parts events);
     }

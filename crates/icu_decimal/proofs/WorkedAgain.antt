@@ -22,12 +22,12 @@ use Rattle.writeable.specs.Events.{Event, without_parts}
 use Rattle.icu_plurals.specs.Rules.{Rule}
 use Rattle.icu_decimal_data.specs.CompactTable.{TableEntry, IsCompactTable, entry_for}
 use Rattle.icu_decimal.specs.CompactFormat.{CompactFormat, IsCompactFormat, filled_events}
-use Rattle.icu_decimal.specs.CompactLaws.{IsUnpadded, IsWrittenAlone, IsGivenAlike}
+use Rattle.icu_decimal.specs.CompactLaws.{IsUnpadded, IsWrittenAlone, IsFormattedAlike}
 use Rattle.icu_decimal.specs.CompactNumber.{rounding_place, rounding_place_for, IsNearestCompact}
 use Rattle.icu_decimal.specs.Decimal.{DecimalFormat, signed_events}
-use Rattle.icu_decimal.specs.Displayed.{IsDisplayed}
+use Rattle.icu_decimal.specs.Decomposed.{IsDecomposed}
 use Rattle.icu_decimal.specs.NearestLemmas.{nearest_compact_from_rounded}
-use Rattle.icu_decimal.proofs.ShownAgain.{shown_again, shown_is_given}
+use Rattle.icu_decimal.proofs.ShownAgain.{shown_again, shown_is_accepted}
 use Rattle.icu_decimal.proofs.WorkedNearest.{kilo}
 
 -- `0L` from a million on
@@ -136,8 +136,8 @@ carried_nearest =
     nearest_compact_from_rounded table (size carried) (10 ^ (finest + 6))
     (rw (carried_magnitude, thousands, carried_is) carried_rounded)
 
-carried_displayed : IsDisplayed table carried (10 ^ (finest + 6)) (Some lakh) significand
-carried_displayed = record {
+carried_decomposed : IsDecomposed table carried (10 ^ (finest + 6)) (Some lakh) significand
+carried_decomposed = record {
   nearest = carried_nearest;
   entry_is = rw (magnitude_place-ten (finest + 6), lakh_there) refl;
   scaled = significand_scaled;
@@ -166,12 +166,12 @@ module _ (decimal : DecimalFormat) (rules : List Rule) (sign : Sign) where
   events = signed_events decimal.symbols sign (without_parts (filled_events format (Some lakh) significand))
 
   abbrev carried_written : IsCompactFormat format sign carried significand 5 events
-  carried_written = record { shown = 10 ^ (finest + 6); entry = Some lakh; displayed = carried_displayed; exponent_is = refl; events_are = refl }
+  carried_written = record { shown = 10 ^ (finest + 6); entry = Some lakh; decomposed = carried_decomposed; exponent_is = refl; events_are = refl }
 
   -- the million that is shown is written so too
   pub million_written : IsWrittenAlone format sign million significand 5 events (10 ^ (finest + 6)) (Some lakh)
   million_written = (shown_again format sign carried million carried_unpadded million_unpadded).alike significand 5 events carried_written million_is
 
   -- and 10 with the exponent 5 is given alike
-  pub ten_given : IsGivenAlike format sign significand 5 events
-  ten_given = shown_is_given format sign carried significand 5 events table_valid carried_written
+  pub ten_given : IsFormattedAlike format sign significand 5 events
+  ten_given = shown_is_accepted format sign carried significand 5 events table_valid carried_written

@@ -12,9 +12,9 @@ use Rattle.icu_decimal_data.specs.CompactTable.{TableEntry, entry_for}
 use Rattle.icu_decimal.specs.CompactFormat.{CompactFormat, IsCompactFormat, filled_events}
 use Rattle.icu_decimal.specs.CompactNumber.{rounding_place, rounding_place_for, IsCompactNumber, IsNearestCompact}
 use Rattle.icu_decimal.specs.Decimal.{signed_events}
-use Rattle.icu_decimal.specs.Displayed.{IsDisplayed}
+use Rattle.icu_decimal.specs.Decomposed.{IsDecomposed}
 use Rattle.icu_decimal.specs.NearestLemmas.{nearest_compact_from_rounded, nearest_to_itself, ten_is_compact}
-use Rattle.icu_decimal.proofs.ShownTold.{equal_shown_texts_tell, shown_tells}
+use Rattle.icu_decimal.proofs.ShownDistinct.{equal_shown_texts_tell, shown_tells}
 use Rattle.icu_decimal.proofs.WorkedAgain.{carried, carried_is, carried_magnitude, carried_rounded, carried_unpadded}
 use Rattle.icu_decimal.proofs.WorkedAgain.{whole, million, million_is, million_magnitude, million_power, million_unpadded}
 use Rattle.icu_decimal.proofs.WorkedEnglish.{row_entry, short_rows, with_table, english_short_readable}
@@ -70,8 +70,8 @@ million_nearest =
     rw million_is (nearest_to_itself (IsCompactNumber table) unit (10 ^ (finest + 6)) (ten_is_compact table (finest + 6)))
 
 -- both are displayed as 1M
-carried_displayed : IsDisplayed table carried (10 ^ (finest + 6)) (Some mega) one
-carried_displayed = record {
+carried_decomposed : IsDecomposed table carried (10 ^ (finest + 6)) (Some mega) one
+carried_decomposed = record {
   nearest = carried_nearest;
   entry_is = rw (magnitude_place-ten (finest + 6), mega_there) refl;
   scaled = one_scaled;
@@ -80,8 +80,8 @@ carried_displayed = record {
   high_is = rw (carried_magnitude, magnitude_place-ten (finest + 6), mega_there, kilo_here, million_power) refl;
 }
 
-million_displayed : IsDisplayed table million (10 ^ (finest + 6)) (Some mega) one
-million_displayed = record {
+million_decomposed : IsDecomposed table million (10 ^ (finest + 6)) (Some mega) one
+million_decomposed = record {
   nearest = million_nearest;
   entry_is = rw (magnitude_place-ten (finest + 6), mega_there) refl;
   scaled = one_scaled;
@@ -103,22 +103,22 @@ pub record IsOneM (d : Unsigned) : Type 0 where
   pub shown_is : written.shown ≡ 10 ^ (finest + 6)
   pub characters_are : characters written_as ≡ codes "1M"
 
-displayed_is_one_m : (d : Unsigned) → IsDisplayed table d (10 ^ (finest + 6)) (Some mega) one → IsOneM d
+decomposed_is_one_m : (d : Unsigned) → IsDecomposed table d (10 ^ (finest + 6)) (Some mega) one → IsOneM d
 unfolding chars
-displayed_is_one_m d displayed = record {
+decomposed_is_one_m d decomposed = record {
   written_as = events;
-  written = record { shown = 10 ^ (finest + 6); entry = Some mega; displayed = displayed; exponent_is = refl; events_are = refl };
+  written = record { shown = 10 ^ (finest + 6); entry = Some mega; decomposed = decomposed; exponent_is = refl; events_are = refl };
   shown_is = refl;
   characters_are = refl;
 }
 
 -- 999500 is written so
 pub carried_is_one_m : IsOneM carried
-carried_is_one_m = displayed_is_one_m carried carried_displayed
+carried_is_one_m = decomposed_is_one_m carried carried_decomposed
 
 -- and so is the million
 pub million_is_one_m : IsOneM million
-million_is_one_m = displayed_is_one_m million million_displayed
+million_is_one_m = decomposed_is_one_m million million_decomposed
 
 abbrev carried_events : List Event
 carried_events = carried_is_one_m.written_as
@@ -130,8 +130,8 @@ same_shown : carried_is_one_m.written.shown ≡ million_is_one_m.written.shown
 same_shown = carried_is_one_m.shown_is ∙ sym million_is_one_m.shown_is
 
 -- so the law says that their characters are the same, and that their texts are
-pub carry_told : (characters carried_events ≡ characters million_events) × (text_of carried_events ≡ text_of million_events)
-carry_told =
+pub carry_distinct : (characters carried_events ≡ characters million_events) × (text_of carried_events ≡ text_of million_events)
+carry_distinct =
     let first = carried_is_one_m.written in
     let second = million_is_one_m.written in
     let alike = shown_tells format NoSign NoSign carried million one one 6 6 carried_events million_events

@@ -1,7 +1,7 @@
 -- English with its short and with its long compact table is readable: instances of the laws of texts.
 -- A table is made of rows, each an exponent and the literal behind the number; a number without an entry counts as a row with an empty
 -- literal. Such a table is readable where no literal has a digit and no two are alike (`rows_readable`). Both are tests that compute
--- (`are_free`, `are_told`), shown by induction on the rows to mean what the relations ask; at a given table `refl` proves them.
+-- (`are_free`, `are_distinct`), shown by induction on the rows to mean what the relations ask; at a given table `refl` proves them.
 -- Without the tests each pair of patterns would be a case. English affixes of a sign stand before the number alone (`nothing_after`).
 use Rattle.std.proofs.Common.{◌≡◌, ℕ, zero, suc, ◌<◌, arith, refl, sym, ap, ap₂, append-nil, ◌∙◌, subst, Bool, true, false, ◌==◌, List}
 use Rattle.std.proofs.Common.{[], ◌∷◌, ◌++◌, length, map, slice_index_or, Option, Some, None, IsSome, inl, inr, if◌then◌else◌, codes}
@@ -12,11 +12,11 @@ use Rattle.fixed_decimal.specs.declared.signs.Sign.TheVariants.{Negative, Positi
 use Rattle.icu_plurals.specs.Elements.{only_other}
 use Rattle.icu_pattern.specs.Patterns.{PatternText}
 use Rattle.icu_decimal_data.specs.CompactTable.{TableEntry, exponent_of}
-use Rattle.icu_decimal_data.specs.DecimalSymbols.{english_symbols}
+use Rattle.icu_decimal_symbols.specs.DecimalSymbols.{english_symbols}
 use Rattle.icu_decimal_readable.specs.Readable.{Surroundings, affixes, sides, sides_at, surroundings, HasPattern, IsFreeOfDigits, IsPatternBy, IsReadableTable}
 use Rattle.icu_decimal.specs.CompactFormat.{CompactFormat}
 use Rattle.icu_decimal.specs.Readable.{IsReadableCompact}
-use Rattle.icu_decimal.proofs.WorkedReadable.{texts, digits, has_none_of, neither, none_of, sign_told, english_readable}
+use Rattle.icu_decimal.proofs.WorkedReadable.{texts, digits, has_none_of, neither, none_of, sign_distinct, english_readable}
 
 -- an exponent, and the literal that follows a number: the one pattern of an entry whose type is its exponent
 pub record Row : Type 0 where
@@ -56,9 +56,9 @@ abbrev is_tail_of : List Row → List ℕ → Bool
 is_tail_of [] t = false
 is_tail_of (r ∷ rows) t = if is_same (tail r) t then true else is_tail_of rows t
 
-abbrev are_told : List Row → Bool
-are_told [] = true
-are_told (r ∷ rows) = if is_tail_of rows (tail r) then false else are_told rows
+abbrev are_distinct : List Row → Bool
+are_distinct [] = true
+are_distinct (r ∷ rows) = if is_tail_of rows (tail r) then false else are_distinct rows
 
 abbrev are_free : List Row → Bool
 are_free [] = true
@@ -78,18 +78,18 @@ is_among (x ∷ rows) zero r t at same = rw (ap tail at ∙ same) (rw (itself t)
 is_among (x ∷ rows) (suc j) r t at same =
     elim (is_same (tail x) t) as (λ b. (if b then true else is_tail_of rows t) ≡ true) [ true ↦ refl | false ↦ is_among rows j r t at same ]
 
-told : (rows : List Row) (i j : ℕ) (r s : Row) → are_told rows ≡ true → IsRowAt rows i r → IsRowAt rows j s → tail r ≡ tail s → r ≡ s
-told [] i j r s e at on same = absurd at
-told (x ∷ rows) zero zero r s e at on same = sym at ∙ on
-told (x ∷ rows) zero (suc j) r s e at on same =
+distinct : (rows : List Row) (i j : ℕ) (r s : Row) → are_distinct rows ≡ true → IsRowAt rows i r → IsRowAt rows j s → tail r ≡ tail s → r ≡ s
+distinct [] i j r s e at on same = absurd at
+distinct (x ∷ rows) zero zero r s e at on same = sym at ∙ on
+distinct (x ∷ rows) zero (suc j) r s e at on same =
     let found = is_among rows j s (tail x) on (sym same ∙ sym (ap tail at)) in
-    let missed = (neither (is_tail_of rows (tail x)) (are_told rows) e).0 in
+    let missed = (neither (is_tail_of rows (tail x)) (are_distinct rows) e).0 in
     cc
-told (x ∷ rows) (suc i) zero r s e at on same =
+distinct (x ∷ rows) (suc i) zero r s e at on same =
     let found = is_among rows i r (tail x) at (same ∙ sym (ap tail on)) in
-    let missed = (neither (is_tail_of rows (tail x)) (are_told rows) e).0 in
+    let missed = (neither (is_tail_of rows (tail x)) (are_distinct rows) e).0 in
     cc
-told (x ∷ rows) (suc i) (suc j) r s e at on same = told rows i j r s (neither (is_tail_of rows (tail x)) (are_told rows) e).1 at on same
+distinct (x ∷ rows) (suc i) (suc j) r s e at on same = distinct rows i j r s (neither (is_tail_of rows (tail x)) (are_distinct rows) e).1 at on same
 
 free : (rows : List Row) (j : ℕ) (r : Row) → are_free rows ≡ true → IsRowAt rows j r → has_none_of digits (tail r) ≡ true
 free [] j r e at = absurd at
@@ -146,24 +146,24 @@ around s r =
     (ap₂ (λ (a : Surroundings) (l : List ℕ). a.after ++ l) (sides_of r.literal) (nothing_after s) ∙ append-nil (tail r))
 
 -- a table of rows is readable where no literal has a digit and no two, nor one and none, have the same characters
-rows_readable : (rows : List Row) → are_free (alone ∷ rows) ≡ true → are_told (alone ∷ rows) ≡ true →
+rows_readable : (rows : List Row) → are_free (alone ∷ rows) ≡ true → are_distinct (alone ∷ rows) ≡ true →
     IsReadableTable texts digits (map row_entry rows)
 rows_readable rows frees tells = record {
-  placed = λ by p h. let k = picked rows by p h in subst (λ (q : PatternText). IsSome q.placeholder) (sym k.4) refl;
+  has_placeholder = λ by p h. let k = picked rows by p h in subst (λ (q : PatternText). IsSome q.placeholder) (sym k.4) refl;
   sides_free = λ by p h.
       let k = picked rows by p h in
       let behind = none_of digits (tail k.1) (free (alone ∷ rows) k.0 k.1 frees k.2) in
       let is_free : IsFreeOfDigits digits (record { before = []; after = tail k.1 }) = record { before_free = none_of digits [] refl; after_free = behind } in
       subst (λ (q : PatternText). IsFreeOfDigits digits (sides q)) (sym k.4)
       (subst (λ (a : Surroundings). IsFreeOfDigits digits a) (sym (sides_of k.1.literal)) is_free);
-  told = λ s t by to p q h i e.
+  distinct = λ s t by to p q h i e.
       let k = picked rows by p h in
       let l = picked rows to q i in
       let same = sym (around s k.1) ∙ sym (ap (surroundings texts s) k.4) ∙ e ∙ ap (surroundings texts t) l.4 ∙ around t l.1 in
       let before : (affixes texts s).before ≡ (affixes texts t).before = ap (λ (a : Surroundings). a.before) same in
       let of : List ℕ → List ℕ → Surroundings = λ x y. record { before = x; after = y } in
-      let rows_same = told (alone ∷ rows) k.0 l.0 k.1 l.1 tells k.2 l.2 (ap (λ (a : Surroundings). a.after) same) in
-      (sign_told s t (ap₂ of before (nothing_after s ∙ sym (nothing_after t))), k.3 ∙ ap (λ (r : Row). r.exponent) rows_same ∙ sym l.3);
+      let rows_same = distinct (alone ∷ rows) k.0 l.0 k.1 l.1 tells k.2 l.2 (ap (λ (a : Surroundings). a.after) same) in
+      (sign_distinct s t (ap₂ of before (nothing_after s ∙ sym (nothing_after t))), k.3 ∙ ap (λ (r : Row). r.exponent) rows_same ∙ sym l.3);
 }
 
 -- the English formatter with the table of these rows

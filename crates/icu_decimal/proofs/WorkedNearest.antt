@@ -14,7 +14,7 @@ use Rattle.fixed_decimal.proofs.Rounds.{finest_large}
 use Rattle.icu_plurals.specs.Elements.{only_other}
 use Rattle.icu_decimal_data.specs.CompactTable.{TableEntry, entry_for}
 use Rattle.icu_decimal.specs.CompactNumber.{rounding_place, rounding_place_for, IsCompactNumber, IsNearestCompact}
-use Rattle.icu_decimal.specs.Displayed.{IsDisplayed}
+use Rattle.icu_decimal.specs.Decomposed.{IsDecomposed}
 use Rattle.icu_decimal.specs.NearestLemmas.{nearest_to_itself, nearest_compact_from_rounded}
 
 -- `0K` from a thousand on
@@ -52,8 +52,8 @@ number_magnitude = ap magnitude_place number_is ∙ thousands finest (12 * 10 ^ 
     (omega (arith, pow-add 10 finest 3, pow-add 10 finest 2, ten_pos finest))
     (omega (arith, pow-add 10 finest 4, pow-add 10 finest 2, ten_pos finest))
 
-displayed_magnitude : magnitude_place (12 * 10 ^ (finest + 2)) ≡ finest + 3
-displayed_magnitude = thousands finest (12 * 10 ^ (finest + 2))
+decomposed_magnitude : magnitude_place (12 * 10 ^ (finest + 2)) ≡ finest + 3
+decomposed_magnitude = thousands finest (12 * 10 ^ (finest + 2))
     (omega (arith, pow-add 10 finest 3, pow-add 10 finest 2, ten_pos finest))
     (omega (arith, pow-add 10 finest 4, pow-add 10 finest 2, ten_pos finest))
 
@@ -84,14 +84,14 @@ number_nearest =
     (rw (number_magnitude, hundreds, number_is) number_rounded)
 
 -- displayed as 1.2K
-pub number_displayed : IsDisplayed table number (12 * 10 ^ (finest + 2)) (Some kilo) significand
-number_displayed = record {
+pub number_decomposed : IsDecomposed table number (12 * 10 ^ (finest + 2)) (Some kilo) significand
+number_decomposed = record {
   nearest = number_nearest;
-  entry_is = rw (displayed_magnitude, entry_is) refl;
+  entry_is = rw (decomposed_magnitude, entry_is) refl;
   scaled = two_digits (finest - 1) ∙ ap (λ n. 12 * n) (same_power (finest - 1 + 3) (finest + 2) (omega (arith, finest_large)));
   is_decimal = record { below_ten = two; integer_some = omega arith; high_limit = omega arith; low_limit = omega arith };
   trimmed = inr (λ e. absurd (omega arith));
-  high_is = rw (number_magnitude, displayed_magnitude, entry_is, third_power) refl;
+  high_is = rw (number_magnitude, decomposed_magnitude, entry_is, third_power) refl;
 }
   where
     two : AreDigits (1 ∷ 2 ∷ [])

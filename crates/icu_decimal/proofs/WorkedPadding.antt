@@ -14,7 +14,7 @@ use Rattle.icu_decimal.specs.CompactFormat.{CompactFormat, IsCompactFormat, fill
 use Rattle.icu_decimal.specs.CompactLaws.{IsUnpadded, IsShownAgain}
 use Rattle.icu_decimal.specs.CompactNumber.{rounding_place_for, IsCompactNumber, IsNearestCompact}
 use Rattle.icu_decimal.specs.Decimal.{DecimalFormat, signed_events}
-use Rattle.icu_decimal.specs.Displayed.{displayed_high, IsDisplayed}
+use Rattle.icu_decimal.specs.Decomposed.{decomposed_high, IsDecomposed}
 use Rattle.icu_decimal.specs.NearestLemmas.{nearest_to_itself, ten_is_compact}
 
 abbrev no_entries : List TableEntry
@@ -46,9 +46,9 @@ padded_nearest : IsNearestCompact no_entries (size padded) (10 ^ finest)
 padded_nearest = rw padded_is (nearest_to_itself (IsCompactNumber no_entries) (10 ^ rounding_place_for no_entries (magnitude_place (10 ^ finest))) (10 ^ finest)
     (ten_is_compact no_entries finest))
 
-padded_displayed : IsDisplayed no_entries padded (10 ^ finest) None padded
+padded_decomposed : IsDecomposed no_entries padded (10 ^ finest) None padded
 unfolding entry_for
-padded_displayed = record {
+padded_decomposed = record {
   nearest = padded_nearest;
   entry_is = refl;
   scaled = omega (arith, padded_is);
@@ -64,7 +64,7 @@ one_unpadded : IsUnpadded one
 one_unpadded = rw (one_is, magnitude_place-ten, no_power) refl
 
 -- 1 is displayed without padding
-one_high : (y : ℕ) → y ≡ 10 ^ finest → displayed_high no_entries one y ≡ pos 0
+one_high : (y : ℕ) → y ≡ 10 ^ finest → decomposed_high no_entries one y ≡ pos 0
 unfolding entry_for
 one_high y is = rw (is, magnitude_place-ten, no_power) refl
 
@@ -76,12 +76,12 @@ module _ (decimal : DecimalFormat) (rules : List Rule) (sign : Sign) where
   events = signed_events decimal.symbols sign (without_parts (filled_events format None padded))
 
   abbrev padded_written : IsCompactFormat format sign padded padded 0 events
-  padded_written = record { shown = 10 ^ finest; entry = None; displayed = padded_displayed; exponent_is = refl; events_are = refl }
+  padded_written = record { shown = 10 ^ finest; entry = None; decomposed = padded_decomposed; exponent_is = refl; events_are = refl }
 
   -- without the premise on padding, that numbers are shown again is false
   pub padding_is_needed : ((d again : Unsigned) → IsUnpadded again → IsShownAgain format sign d again) → ⊥
   padding_is_needed law =
       let again = (law padded one one_unpadded).alike padded 0 events padded_written one_is in
       let shown : again.written.shown ≡ 10 ^ finest = (again.alone padded 0 events again.written).0 in
-      let top : high padded ≡ pos 0 = again.written.displayed.high_is ∙ one_high again.written.shown shown in
+      let top : high padded ≡ pos 0 = again.written.decomposed.high_is ∙ one_high again.written.shown shown in
       absurd (cc)

@@ -6,8 +6,8 @@ use Rattle.std.proofs.lemmas.Bool.{eq-eqb}
 use Rattle.std.proofs.lemmas.List.{get_or_default}
 use Rattle.fixed_decimal.specs.declared.signs.Sign.{Sign}
 use Rattle.fixed_decimal.specs.declared.signs.Sign.TheVariants.{Negative, Positive, None as NoSign}
-use Rattle.icu_decimal_data.specs.DecimalSymbols.{english_symbols}
-use Rattle.icu_decimal_data.specs.Symbols.{SymbolTexts}
+use Rattle.icu_decimal_symbols.specs.DecimalSymbols.{english_symbols}
+use Rattle.icu_decimal_symbols.specs.Symbols.{SymbolTexts}
 use Rattle.icu_decimal_readable.specs.Readable.{Surroundings, affixes, IsFreeOfDigits, IsReadable}
 
 -- the texts of English symbols
@@ -70,17 +70,17 @@ affixes_free Negative = record { before_free = none_of digits (45 ∷ []) refl; 
 affixes_free Positive = record { before_free = none_of digits (43 ∷ []) refl; after_free = none_of digits [] refl }
 
 -- English affixes determine their sign
-pub sign_told : (s t : Sign) → affixes texts s ≡ affixes texts t → s ≡ t
+pub sign_distinct : (s t : Sign) → affixes texts s ≡ affixes texts t → s ≡ t
 unfolding chars
-sign_told NoSign NoSign e = refl
-sign_told NoSign Negative e = let before = ap (λ (a : Surroundings). a.before) e in cc
-sign_told NoSign Positive e = let before = ap (λ (a : Surroundings). a.before) e in cc
-sign_told Negative NoSign e = let before = ap (λ (a : Surroundings). a.before) e in cc
-sign_told Negative Negative e = refl
-sign_told Negative Positive e = let before = ap (λ (a : Surroundings). a.before) e in cc
-sign_told Positive NoSign e = let before = ap (λ (a : Surroundings). a.before) e in cc
-sign_told Positive Negative e = let before = ap (λ (a : Surroundings). a.before) e in cc
-sign_told Positive Positive e = refl
+sign_distinct NoSign NoSign e = refl
+sign_distinct NoSign Negative e = let before = ap (λ (a : Surroundings). a.before) e in cc
+sign_distinct NoSign Positive e = let before = ap (λ (a : Surroundings). a.before) e in cc
+sign_distinct Negative NoSign e = let before = ap (λ (a : Surroundings). a.before) e in cc
+sign_distinct Negative Negative e = refl
+sign_distinct Negative Positive e = let before = ap (λ (a : Surroundings). a.before) e in cc
+sign_distinct Positive NoSign e = let before = ap (λ (a : Surroundings). a.before) e in cc
+sign_distinct Positive Negative e = let before = ap (λ (a : Surroundings). a.before) e in cc
+sign_distinct Positive Positive e = refl
 
 -- English numbers are readable
 pub english_readable : IsReadable texts digits
@@ -93,5 +93,5 @@ english_readable = record {
   grouping_free = none_of digits (chars texts.grouping_separator) refl;
   decimal_some = λ e. cc;
   separators_differ = λ e. cc;
-  sign_told = sign_told;
+  sign_distinct = sign_distinct;
 }

@@ -10,8 +10,8 @@ use Rattle.icu_plurals.specs.Rules.{Rule, category_of}
 use Rattle.icu_decimal_data.specs.CompactTable.{TableEntry, entry_for, exponent_for, exponent_of}
 use Rattle.icu_decimal_data.specs.Faithful.{pattern_for}
 use Rattle.icu_decimal.specs.Decimal.{DecimalFormat, signed_events, unsigned_events}
-use Rattle.icu_decimal.specs.Displayed.{IsDisplayed}
-use Rattle.icu_decimal.specs.Formatted.{FormattedNumber, unsigned_shown}
+use Rattle.icu_decimal.specs.Decomposed.{IsDecomposed}
+use Rattle.icu_decimal.specs.Formatted.{FormattedNumber, number_events}
 use Rattle.icu_decimal.specs.Signed.{Signed, affixed_events, affixes_for}
 
 -- what determines the output of a compact formatter: the format of plain numbers, plural rules, and a compact table
@@ -36,7 +36,7 @@ filled_events format entry significand = interpolated (pattern_of format entry s
 pub record IsCompactFormat (format : CompactFormat) (sign : Sign) (d significand : Unsigned) (exponent : ℕ) (events : List Event) : Type 0 where
   pub shown : ℕ
   pub entry : Option TableEntry
-  pub displayed : IsDisplayed format.table d shown entry significand
+  pub decomposed : IsDecomposed format.table d shown entry significand
   pub exponent_is : exponent ≡ exponent_of entry
   pub events_are : events ≡ signed_events format.decimal.symbols sign (without_parts (filled_events format entry significand))
 
@@ -49,8 +49,8 @@ abbrev pub exponent_needed : CompactFormat → Unsigned → ℕ → ℕ
 exponent_needed format significand exponent = exponent_for format.table (place (magnitude_with significand exponent))
 
 -- what `format_with_exponent` writes: the sign around the digits as they are given, in their pattern, with their parts
-abbrev pub given_events : CompactFormat → Sign → Unsigned → ℕ → List Event
-given_events format sign significand exponent =
+abbrev pub events_with_exponent : CompactFormat → Sign → Unsigned → ℕ → List Event
+events_with_exponent format sign significand exponent =
     signed_events format.decimal.symbols sign (filled_events format (entry_for format.table (place (magnitude_with significand exponent))) significand)
 
 -- a number in a pattern
@@ -66,19 +66,19 @@ filled_by format entry significand = record {
 }
 
 -- what `format_with_exponent` answers: the digits as they are given, in their pattern, and the affixes of the sign
-abbrev pub given_value : CompactFormat → Sign → Unsigned → ℕ → Signed FilledNumber
-given_value format sign significand exponent = record {
+abbrev pub value_with_exponent : CompactFormat → Sign → Unsigned → ℕ → Signed FilledNumber
+value_with_exponent format sign significand exponent = record {
   affixes = affixes_for format.decimal.symbols sign;
   value = filled_by format (entry_for format.table (place (magnitude_with significand exponent))) significand;
 }
 
 -- its events
-abbrev pub filled_shown : FilledNumber → List Event
-filled_shown f = interpolated f.pattern (unsigned_shown f.number)
+abbrev pub filled_number_events : FilledNumber → List Event
+filled_number_events f = interpolated f.pattern (number_events f.number)
 
 -- the events of such a number with a sign
-abbrev pub given_shown : Signed FilledNumber → List Event
-given_shown f = affixed_events f.affixes (filled_shown f.value)
+abbrev pub signed_filled_events : Signed FilledNumber → List Event
+signed_filled_events f = affixed_events f.affixes (filled_number_events f.value)
 
 -- a compact number: a significand in its pattern, and its exponent
 pub record FormattedCompact : Type 0 where
@@ -90,18 +90,18 @@ abbrev pub significand_of : FormattedCompact → Unsigned
 significand_of f = f.filled.number.number
 
 -- its events: characters alone
-abbrev pub compact_shown : FormattedCompact → List Event
-compact_shown f = without_parts (filled_shown f.filled)
+abbrev pub compact_number_events : FormattedCompact → List Event
+compact_number_events f = without_parts (filled_number_events f.filled)
 
 -- the events of a compact number with a sign
-abbrev pub signed_compact_shown : Signed FormattedCompact → List Event
-signed_compact_shown f = affixed_events f.affixes (compact_shown f.value)
+abbrev pub signed_compact_events : Signed FormattedCompact → List Event
+signed_compact_events f = affixed_events f.affixes (compact_number_events f.value)
 
 -- What `format` makes of the decimal d without its sign: the displayed significand in the pattern of the displayed entry,
 -- and that entry's exponent.
 pub record IsCompacted (format : CompactFormat) (d : Unsigned) (number : FormattedCompact) : Type 0 where
   pub shown : ℕ
   pub entry : Option TableEntry
-  pub displayed : IsDisplayed format.table d shown entry (significand_of number)
+  pub decomposed : IsDecomposed format.table d shown entry (significand_of number)
   pub exponent_is : number.exponent ≡ exponent_of entry
   pub filled_is : number.filled ≡ filled_by format entry (significand_of number)

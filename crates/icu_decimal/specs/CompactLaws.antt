@@ -6,10 +6,10 @@ use Rattle.fixed_decimal.specs.Size.{magnitude_place, magnitude, size}
 use Rattle.fixed_decimal.specs.Unsigned.{Unsigned, high}
 use Rattle.writeable.specs.Events.{Event, without_parts, text_of}
 use Rattle.icu_decimal_data.specs.CompactTable.{TableEntry, IsCompactTable}
-use Rattle.icu_decimal.specs.CompactFormat.{CompactFormat, IsCompactFormat, exponent_needed, given_events}
+use Rattle.icu_decimal.specs.CompactFormat.{CompactFormat, IsCompactFormat, exponent_needed, events_with_exponent}
 use Rattle.icu_decimal.specs.CompactNumber.{IsCompactNumber, IsNearestCompact, ShowsPastLimits, rounding_place_for}
 use Rattle.icu_decimal.specs.RoundedAt.{IsRoundedAt}
-use Rattle.icu_decimal.specs.Displayed.{IsDisplayed}
+use Rattle.icu_decimal.specs.Decomposed.{IsDecomposed}
 
 -- for every list of entries each size has a nearest compact number, and no other one
 abbrev pub OneCompactNumberIsNearest : Type 0
@@ -22,9 +22,9 @@ abbrev pub NearestIsRounded : Type 0
 NearestIsRounded = (table : List TableEntry) (x y : ℕ) → IsNearestCompact table x y ↔ IsRoundedAt (rounding_place_for table (magnitude_place x)) x y
 
 -- what is displayed of a decimal is one: of any two the sizes, the entries and the significands agree
-abbrev pub DisplayedIsOne : Type 0
-DisplayedIsOne = (table : List TableEntry) (d : Unsigned) (y z : ℕ) (entry other : Option TableEntry) (significand another : Unsigned)
-    → IsDisplayed table d y entry significand → IsDisplayed table d z other another → (y ≡ z) × (entry ≡ other) × (significand ≡ another)
+abbrev pub DecomposedIsOne : Type 0
+DecomposedIsOne = (table : List TableEntry) (d : Unsigned) (y z : ℕ) (entry other : Option TableEntry) (significand another : Unsigned)
+    → IsDecomposed table d y entry significand → IsDecomposed table d z other another → (y ≡ z) × (entry ≡ other) × (significand ≡ another)
 
 -- of two sizes the smaller never has the larger nearest compact number
 abbrev pub NearestKeepsOrder : Type 0
@@ -61,12 +61,12 @@ pub record IsShownAgain (format : CompactFormat) (sign : Sign) (d again : Unsign
       ShowsPastLimits format.table (size d)
 
 -- `format_with_exponent` accepts a significand, with a sign, and an exponent, and writes the characters of the events
-pub record IsGivenAlike (format : CompactFormat) (sign : Sign) (significand : Unsigned) (exponent : ℕ) (events : List Event) : Type 0 where
+pub record IsFormattedAlike (format : CompactFormat) (sign : Sign) (significand : Unsigned) (exponent : ℕ) (events : List Event) : Type 0 where
   pub accepted : exponent ≡ exponent_needed format significand exponent
-  pub characters_are : without_parts (given_events format sign significand exponent) ≡ without_parts events
-  pub text_is : text_of (given_events format sign significand exponent) ≡ text_of events
+  pub characters_are : without_parts (events_with_exponent format sign significand exponent) ≡ without_parts events
+  pub text_is : text_of (events_with_exponent format sign significand exponent) ≡ text_of events
 
 -- for every table, whatever `format` writes of a decimal, its significand and its exponent are given alike
-abbrev pub ShownIsGiven : Type 0
-ShownIsGiven = (format : CompactFormat) (sign : Sign) (d significand : Unsigned) (exponent : ℕ) (events : List Event)
-    → IsCompactTable format.table → IsCompactFormat format sign d significand exponent events → IsGivenAlike format sign significand exponent events
+abbrev pub ShownIsAccepted : Type 0
+ShownIsAccepted = (format : CompactFormat) (sign : Sign) (d significand : Unsigned) (exponent : ℕ) (events : List Event)
+    → IsCompactTable format.table → IsCompactFormat format sign d significand exponent events → IsFormattedAlike format sign significand exponent events

@@ -11,9 +11,9 @@ pub record FormattedNumber : Type 0 where
   pub number : Unsigned
 
 -- the events of a formatted number without sign
-abbrev pub unsigned_shown : FormattedNumber → List Event
-unsigned_shown f = unsigned_events f.format f.number
+abbrev pub number_events : FormattedNumber → List Event
+number_events f = unsigned_events f.format f.number
 
 -- the events of a formatted decimal
-abbrev pub decimal_shown : Signed FormattedNumber → List Event
-decimal_shown f = affixed_events f.affixes (unsigned_shown f.value)
+abbrev pub signed_number_events : Signed FormattedNumber → List Event
+signed_number_events f = affixed_events f.affixes (number_events f.value)

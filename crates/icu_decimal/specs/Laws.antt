@@ -8,7 +8,7 @@ use Rattle.icu_decimal_data.specs.CompactTable.{TableEntry}
 use Rattle.icu_decimal_data.specs.declared.decimal_symbols.DecimalSymbols.{DecimalSymbols}
 use Rattle.icu_decimal_options.specs.declared.options.GroupingStrategy.{GroupingStrategy}
 use Rattle.icu_decimal_options.specs.declared.options.GroupingStrategy.TheVariants.{Auto, Always}
-use Rattle.icu_decimal.specs.CompactFormat.{CompactFormat, IsCompactFormat, given_events}
+use Rattle.icu_decimal.specs.CompactFormat.{CompactFormat, IsCompactFormat, events_with_exponent}
 use Rattle.icu_decimal.specs.Decimal.{DecimalFormat, decimal_events}
 pub use Rattle.icu_decimal_options.specs.GroupingLaws.{SeparatorsTakenOut, DigitsHaveAGrouping, DigitsHaveOneGrouping}
 
@@ -38,7 +38,7 @@ pub record WriteAlike (one other : CompactFormat) : Type 0 where
   pub formatted : (sign : Sign) (d significand : Unsigned) (exponent : ℕ) (events : List Event) →
       IsCompactFormat one sign d significand exponent events ↔ IsCompactFormat other sign d significand exponent events
   pub given : (sign : Sign) (significand : Unsigned) (exponent : ℕ) →
-      given_events one sign significand exponent ≡ given_events other sign significand exponent
+      events_with_exponent one sign significand exponent ≡ events_with_exponent other sign significand exponent
 
 -- compact formats with `Auto` and with `Always` write the same
 abbrev pub CompactAutoAndAlwaysWriteAlike : Type 0

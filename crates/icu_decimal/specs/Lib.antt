@@ -8,11 +8,11 @@ pub mod Cow
 pub mod Part
 pub mod Signed
 pub mod CompactNumber
-pub mod Displayed
+pub mod Decomposed
 pub mod RoundedAt
 pub mod CompactLaws
 pub mod CompactFormat
-pub mod PatternGiven
+pub mod PatternOrAlone
 pub mod ExponentMismatch
 pub mod Loaded
 pub mod Readable

@@ -11,9 +11,9 @@ ghost use Rattle.icu_pattern.specs.Refs.{text_of_ref};
 ghost use Rattle.icu_plurals.specs.Rules.{category_of};
 ghost use Rattle.icu_decimal_data.specs.CompactTable.{IsCompactTable, IsIndex, entry_at, exponent_for};
 ghost use Rattle.icu_decimal.specs.CompactNumber.{ShowsPastLimits};
-ghost use Rattle.icu_decimal.specs.CompactFormat.{IsCompactFormat, IsCompacted, pattern_of, exponent_needed, magnitude_with, given_events};
-ghost use Rattle.icu_decimal.specs.CompactFormat.{given_shown, given_value, significand_of, compact_shown, signed_compact_shown};
-ghost use Rattle.icu_decimal.specs.PatternGiven.{pattern_or_alone};
+ghost use Rattle.icu_decimal.specs.CompactFormat.{IsCompactFormat, IsCompacted, pattern_of, exponent_needed, magnitude_with, events_with_exponent};
+ghost use Rattle.icu_decimal.specs.CompactFormat.{signed_filled_events, value_with_exponent, significand_of, compact_number_events, signed_compact_events};
+ghost use Rattle.icu_decimal.specs.PatternOrAlone.{pattern_or_alone};
 ghost use Rattle.icu_decimal.specs.Readable.{IsReadableCompact};
 ghost use Rattle.icu_decimal.specs.Signed.{affixes_for};
 
@@ -119,7 +119,7 @@ impl CompactDecimalFormatter {
     ) -> Result<FormattedSign<'l, FormattedUnsignedCompactDecimal<'l>>, FormatError>
         ensures nearest { IfOk result (λ r.
             IsCompactFormat self.now value.now.sign value.now.absolute
-            (significand_of r.value) r.value.exponent (signed_compact_shown r)) }
+            (significand_of r.value) r.value.exponent (signed_compact_events r)) }
         ensures affixes { IfOk result (λ r.
             r.affixes ≡ affixes_for self.now.decimal.symbols value.now.sign) }
         ensures value { IfOk result (λ r. IsCompacted self.now value.now.absolute r.value) }
@@ -127,8 +127,8 @@ impl CompactDecimalFormatter {
             ↔ ShowsPastLimits self.now.table (size value.now.absolute) }
         ensures no_sink { IfErr result (λ e. e ≢ FormatError.Sink) }
     {
-        let compact = self.format_unsigned(alloc, &value.absolute)?;
-        Ok(self.decimal_formatter.format_sign(value.sign, compact))
+        let number = self.format_unsigned(alloc, &value.absolute)?;
+        Ok(self.decimal_formatter.format_sign(value.sign, number))
     }
 
     /// The nearest compact number, without a sign. `Sink` is never reported.
@@ -139,7 +139,7 @@ impl CompactDecimalFormatter {
     ) -> Result<FormattedUnsignedCompactDecimal<'l>, FormatError>
         ensures nearest { IfOk result (λ r.
             IsCompactFormat self.now NoSign value.now (significand_of r) r.exponent
-            (compact_shown r)) }
+            (compact_number_events r)) }
         ensures value { IfOk result (λ r. IsCompacted self.now value.now r) }
         ensures overflow { IsErrOf result FormatError.Overflow
             ↔ ShowsPastLimits self.now.table (size value.now) }
@@ -190,10 +190,12 @@ impl CompactDecimalFormatter {
         ensures accepted { IsOk result
             ↔ (exponent ≡ exponent_needed self.now significand.now.absolute exponent) }
         ensures given { IfOk result (λ r.
-            given_shown r ≡ given_events self.now significand.now.sign significand.now.absolute
+            signed_filled_events r ≡ events_with_exponent self.now significand.now.sign
+            significand.now.absolute
             exponent) }
         ensures value { IfOk result (λ r.
-            r ≡ given_value self.now significand.now.sign significand.now.absolute exponent) }
+            r ≡ value_with_exponent self.now significand.now.sign significand.now.absolute
+            exponent) }
         ensures refused { IfErr result (λ e.
             e ≡ record {
               actual = exponent;

@@ -8,7 +8,7 @@ ghost use Rattle.fixed_decimal.specs.Trimming.{IsTrimmed};
 ghost use Rattle.fixed_decimal.specs.Unsigned.{IsUnsigned, high};
 ghost use Rattle.icu_decimal_data.specs.CompactTable.{IsIndex, entry_at, entry_for, exponent_of};
 ghost use Rattle.icu_decimal.specs.CompactNumber.{rounding_place, ShowsPastLimits};
-ghost use Rattle.icu_decimal.specs.Displayed.{IsDisplayed};
+ghost use Rattle.icu_decimal.specs.Decomposed.{IsDecomposed};
 ghost use Rattle.icu_decimal.specs.RoundedAt.{IsRoundedAt, RoundsPast};
 
 use crate::error::FormatError;
@@ -31,8 +31,8 @@ pub(crate) fn nearest_compact<P: PatternBackend>(
     table: &CompactPatterns<P>,
     value: &UnsignedDecimal,
 ) -> Result<Compacted, FormatError>
-    ensures displayed { IfOk result (λ r. (y : ℕ)
-        × IsDisplayed table.now value.now y (entry_at table.now r.index) r.significand) }
+    ensures decomposed { IfOk result (λ r. (y : ℕ)
+        × IsDecomposed table.now value.now y (entry_at table.now r.index) r.significand) }
     ensures exponent { IfOk result (λ r. r.exponent ≡ exponent_of (entry_at table.now r.index)) }
     ensures index { IfOk result (λ r. IsIndex table.now r.index) }
     ensures overflow { IsErrOf result FormatError.Overflow

@@ -14,10 +14,11 @@ use crate::formatted_decimal::{FormattedDecimal, FormattedUnsignedDecimal};
 use crate::formatted_sign::FormattedSign;
 use crate::parts;
 use fixed_decimal::{Decimal, Sign, UnsignedDecimal};
-use icu_decimal_data::{CompactPatterns, DecimalSymbols};
+use icu_decimal_data::CompactPatterns;
 use icu_decimal_options::grouper::longest_ungrouped;
 use icu_decimal_options::options::{DecimalFormatterOptions, GroupingStrategy};
 use icu_decimal_readable::{are_numbers_readable, is_table_readable};
+use icu_decimal_symbols::DecimalSymbols;
 use icu_pattern::SinglePlaceholder;
 use std::alloc::Global;
 use std::marker::Model;
@@ -52,7 +53,7 @@ impl Model for DecimalFormatter {
 }
 
 impl DecimalFormatter {
-    ghost use Rattle.icu_decimal.specs.Formatted.{decimal_shown, unsigned_shown};
+    ghost use Rattle.icu_decimal.specs.Formatted.{signed_number_events, number_events};
     ghost use Rattle.icu_decimal.specs.Cow.{value_of};
     ghost use Rattle.icu_decimal.specs.Signed.{affixes_for};
 
@@ -100,7 +101,7 @@ impl DecimalFormatter {
           affixes = affixes_for self.now.symbols value.now.sign;
           value = record { format = self.now; number = value.now.absolute };
         } }
-        ensures shown { decimal_shown result
+        ensures shown { signed_number_events result
             ≡ decimal_events self.now value.now.sign value.now.absolute }
     {
         let number = self.format_unsigned(Cow::Borrowed(&value.absolute));

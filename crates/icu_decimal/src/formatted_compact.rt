@@ -22,7 +22,7 @@ pub struct InterpolatedDecimal<'l> {
 
 impl<'l> Model for InterpolatedDecimal<'l> {
     ghost use Rattle.icu_decimal.specs.CompactFormat.{FilledNumber};
-    ghost use Rattle.icu_decimal.specs.PatternGiven.{pattern_or_alone};
+    ghost use Rattle.icu_decimal.specs.PatternOrAlone.{pattern_or_alone};
 
     ghost Value = { FilledNumber };
 
@@ -73,9 +73,9 @@ impl FormattedUnsignedCompactDecimal<'_> {
 }
 
 impl Writeable for InterpolatedDecimal<'_> {
-    ghost use Rattle.icu_decimal.specs.CompactFormat.{filled_shown};
+    ghost use Rattle.icu_decimal.specs.CompactFormat.{filled_number_events};
 
-    ghost events = { filled_shown };
+    ghost events = { filled_number_events };
 
     fn write_events<K: EventWriter>(&self, out: &mut K) -> Result<(), WriteFault> {
         match self.pattern {
@@ -88,9 +88,9 @@ impl Writeable for InterpolatedDecimal<'_> {
 }
 
 impl Writeable for FormattedUnsignedCompactDecimal<'_> {
-    ghost use Rattle.icu_decimal.specs.CompactFormat.{compact_shown};
+    ghost use Rattle.icu_decimal.specs.CompactFormat.{compact_number_events};
 
-    ghost events = { compact_shown };
+    ghost events = { compact_number_events };
 
     fn write_events<K: EventWriter>(&self, out: &mut K) -> Result<(), WriteFault> {
         self.filled.write_characters(out)
@@ -100,11 +100,11 @@ impl Writeable for FormattedUnsignedCompactDecimal<'_> {
 impl fmt::Display for InterpolatedDecimal<'_> {
     ghost use Rattle.std.specs.Prelude.{Some};
     ghost use Rattle.writeable.specs.Events.{text_of};
-    ghost use Rattle.icu_decimal.specs.CompactFormat.{filled_shown};
+    ghost use Rattle.icu_decimal.specs.CompactFormat.{filled_number_events};
 
-    ghost output = { λ f. Some (text_of (filled_shown f)) };
+    ghost output = { λ f. Some (text_of (filled_number_events f)) };
 
-    ghost styled_output = { λ f _. Some (text_of (filled_shown f)) };
+    ghost styled_output = { λ f _. Some (text_of (filled_number_events f)) };
 
     fn fmt<W: fmt::Write>(&self, f: &mut fmt::Formatter<W>) -> fmt::Result {
         self.write_events(f).map_err(|_| fmt::Error)
@@ -114,11 +114,11 @@ impl fmt::Display for InterpolatedDecimal<'_> {
 impl fmt::Display for FormattedUnsignedCompactDecimal<'_> {
     ghost use Rattle.std.specs.Prelude.{Some};
     ghost use Rattle.writeable.specs.Events.{text_of};
-    ghost use Rattle.icu_decimal.specs.CompactFormat.{compact_shown};
+    ghost use Rattle.icu_decimal.specs.CompactFormat.{compact_number_events};
 
-    ghost output = { λ f. Some (text_of (compact_shown f)) };
+    ghost output = { λ f. Some (text_of (compact_number_events f)) };
 
-    ghost styled_output = { λ f _. Some (text_of (compact_shown f)) };
+    ghost styled_output = { λ f _. Some (text_of (compact_number_events f)) };
 
     fn fmt<W: fmt::Write>(&self, f: &mut fmt::Formatter<W>) -> fmt::Result {
         self.filled.write_characters(f).map_err(|_| fmt::Error)

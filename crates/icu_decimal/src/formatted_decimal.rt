@@ -8,9 +8,9 @@ use crate::decimal_formatter::DecimalFormatter;
 use crate::formatted_sign::FormattedSign;
 use crate::parts;
 use fixed_decimal::UnsignedDecimal;
-use icu_decimal_data::DecimalSymbols;
 use icu_decimal_options::grouper::secondary_size;
 use icu_decimal_options::options::DecimalFormatterOptions;
+use icu_decimal_symbols::DecimalSymbols;
 use icu_plurals::PluralOperands;
 use std::fmt;
 use std::marker::Model;
@@ -80,9 +80,9 @@ impl PartialEq for FormattedUnsignedDecimal<'_> {
 }
 
 impl Writeable for FormattedDecimal<'_> {
-    ghost use Rattle.icu_decimal.specs.Formatted.{decimal_shown};
+    ghost use Rattle.icu_decimal.specs.Formatted.{signed_number_events};
 
-    ghost events = { decimal_shown };
+    ghost events = { signed_number_events };
 
     // promise: Writing the value writes just the events that it shows.
     // mutations: lent_value_not_written
@@ -92,9 +92,9 @@ impl Writeable for FormattedDecimal<'_> {
 }
 
 impl Writeable for FormattedUnsignedDecimal<'_> {
-    ghost use Rattle.icu_decimal.specs.Formatted.{unsigned_shown};
+    ghost use Rattle.icu_decimal.specs.Formatted.{number_events};
 
-    ghost events = { unsigned_shown };
+    ghost events = { number_events };
 
     fn write_events<K: EventWriter>(&self, out: &mut K) -> Result<(), WriteFault> {
         let value = self.value.get();
@@ -162,11 +162,11 @@ impl FormattedUnsignedDecimal<'_> {
 impl fmt::Display for FormattedDecimal<'_> {
     ghost use Rattle.std.specs.Prelude.{Some};
     ghost use Rattle.writeable.specs.Events.{text_of};
-    ghost use Rattle.icu_decimal.specs.Formatted.{decimal_shown};
+    ghost use Rattle.icu_decimal.specs.Formatted.{signed_number_events};
 
-    ghost output = { λ f. Some (text_of (decimal_shown f)) };
+    ghost output = { λ f. Some (text_of (signed_number_events f)) };
 
-    ghost styled_output = { λ f _. Some (text_of (decimal_shown f)) };
+    ghost styled_output = { λ f _. Some (text_of (signed_number_events f)) };
 
     fn fmt<W: fmt::Write>(&self, f: &mut fmt::Formatter<W>) -> fmt::Result {
         self.signed.fmt(f)
@@ -176,11 +176,11 @@ impl fmt::Display for FormattedDecimal<'_> {
 impl fmt::Display for FormattedUnsignedDecimal<'_> {
     ghost use Rattle.std.specs.Prelude.{Some};
     ghost use Rattle.writeable.specs.Events.{text_of};
-    ghost use Rattle.icu_decimal.specs.Formatted.{unsigned_shown};
+    ghost use Rattle.icu_decimal.specs.Formatted.{number_events};
 
-    ghost output = { λ f. Some (text_of (unsigned_shown f)) };
+    ghost output = { λ f. Some (text_of (number_events f)) };
 
-    ghost styled_output = { λ f _. Some (text_of (unsigned_shown f)) };
+    ghost styled_output = { λ f _. Some (text_of (number_events f)) };
 
     fn fmt<W: fmt::Write>(&self, f: &mut fmt::Formatter<W>) -> fmt::Result {
         self.write_events(f).map_err(|_| fmt::Error)

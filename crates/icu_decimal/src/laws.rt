@@ -2,12 +2,12 @@
 //! law.
 
 ghost use Rattle.std.specs.Prelude.{◌≡◌, IsTrue};
-ghost use Rattle.icu_decimal.specs.Formatted.{decimal_shown, unsigned_shown};
+ghost use Rattle.icu_decimal.specs.Formatted.{signed_number_events, number_events};
 ghost use Rattle.fixed_decimal.specs.declared.signs.Sign.{Sign};
 ghost use Rattle.fixed_decimal.specs.Unsigned.{Unsigned};
 ghost use Rattle.icu_decimal.specs.CompactFormat.{CompactFormat};
-ghost use Rattle.icu_decimal.specs.CompactLaws.{OneCompactNumberIsNearest, NearestIsRounded, DisplayedIsOne, NearestKeepsOrder, MagnitudeIsShown};
-ghost use Rattle.icu_decimal.specs.CompactLaws.{CompactNumberIsItsNearest, IsUnpadded, IsShownAgain, ShownIsGiven};
+ghost use Rattle.icu_decimal.specs.CompactLaws.{OneCompactNumberIsNearest, NearestIsRounded, DecomposedIsOne, NearestKeepsOrder, MagnitudeIsShown};
+ghost use Rattle.icu_decimal.specs.CompactLaws.{CompactNumberIsItsNearest, IsUnpadded, IsShownAgain, ShownIsAccepted};
 ghost use Rattle.icu_decimal.specs.Laws.{AutoAndAlwaysWriteAlike, CompactAutoAndAlwaysWriteAlike, CompactNoneActsAsAuto, NoneActsAsAuto};
 ghost use Rattle.icu_decimal.specs.ReadableLaws.{CompactTextTells, EqualCompactTextsTell, EqualShownTextsTell, EqualTextsTellTheDecimal};
 ghost use Rattle.icu_decimal.specs.ReadableLaws.{ShownTextTells, TextTellsTheDecimal};
@@ -17,10 +17,10 @@ use crate::compact_formatter::CompactDecimalFormatter;
 use crate::formatted_decimal::{FormattedDecimal, FormattedUnsignedDecimal};
 use crate::formatted_sign::FormattedSign;
 use fixed_decimal::UnsignedDecimal;
-use icu_decimal_data::DecimalSymbols;
 pub use icu_decimal_data::laws::{entries_are_a_compact_table, kept_means_full};
 pub use icu_decimal_options::laws::{grouping_is_unique, separators_taken_out};
 use icu_decimal_options::options::DecimalFormatterOptions;
+use icu_decimal_symbols::DecimalSymbols;
 use writeable::Writeable;
 
 /// The strategies `Auto` and `Always` write the same, and so does no strategy: plain numbers, and
@@ -71,9 +71,9 @@ pub fn equal_signed_values_write_equal_events<T: Writeable + PartialEq>()
 // promise: Equal formatted numbers write equal events.
 pub fn equal_values_write_equal_events()
     ensures numbers { (a b : _) → IsTrue (⟦<FormattedUnsignedDecimal<'static> as PartialEq>⟧.eq a b)
-        → unsigned_shown a ≡ unsigned_shown b }
+        → number_events a ≡ number_events b }
     ensures decimals { (a b : _) → IsTrue (⟦<FormattedDecimal<'static> as PartialEq>⟧.eq a b)
-        → decimal_shown a ≡ decimal_shown b }
+        → signed_number_events a ≡ signed_number_events b }
 {
     equal_parts_are_the_same();
     equal_signed_values_write_equal_events::<FormattedUnsignedDecimal<'static>>();
@@ -94,7 +94,7 @@ fn equal_parts_are_the_same()
 pub fn nearest_is_unique()
     ensures nearest { OneCompactNumberIsNearest }
     ensures rounded { NearestIsRounded }
-    ensures displayed { DisplayedIsOne }
+    ensures decomposed { DecomposedIsOne }
 {}
 
 /// Of two sizes the smaller never has the larger nearest compact number. A size other than zero is
@@ -121,7 +121,7 @@ pub fn smaller_never_shows_larger()
 pub fn shown_again()
     ensures again { (format : CompactFormat) (sign : Sign) (d again : Unsigned) → IsUnpadded d
         → IsUnpadded again → IsShownAgain format sign d again }
-    ensures given { ShownIsGiven }
+    ensures given { ShownIsAccepted }
     ensures readable { ShownTextTells }
     ensures texts { EqualShownTextsTell }
 {}

@@ -3,7 +3,9 @@
 pub use crate::loading::load_preferred;
 pub use icu_decimal_data::{
     CompactError, CompactPatterns, CompactView, Damaged, DecimalCompactLongV1,
-    DecimalCompactShortV1, DecimalDigitsV1, DecimalSymbolStrsBuilder, DecimalSymbols,
-    DecimalSymbolsStrs, DecimalSymbolsV1, EntryView, GroupingSizes, SymbolsError, SymbolsView,
+    DecimalCompactShortV1, DecimalDigitsV1, DecimalSymbolsV1, EntryView, SymbolsError,
     load_with_fallback,
+};
+pub use icu_decimal_symbols::{
+    DecimalSymbolStrsBuilder, DecimalSymbols, DecimalSymbolsStrs, GroupingSizes, SymbolsView,
 };

@@ -7,7 +7,7 @@ use Rattle.std.proofs.lemmas.List.{length-drop}
 use Rattle.icu_pattern.specs.Patterns.{PatternText}
 use Rattle.icu_decimal_data.specs.PackedTable.{is_pattern}
 use Rattle.icu_decimal_data.specs.TableReading.{two_byte_number, pattern_in, count_in, pool_start, pool_in, whole_len, unless, ◌>>=◌, is_wrong_kind}
-use Rattle.icu_decimal_data.specs.TableReading.{is_wrong_place, is_wrong_type, is_wrong_exponent, is_repeated, slot_step, slots_step, record_step}
+use Rattle.icu_decimal_data.specs.TableReading.{is_wrong_placeholder, is_wrong_type, is_wrong_exponent, is_repeated, slot_step, slots_step, record_step}
 use Rattle.icu_decimal_data.specs.TableReading.{records_step, table_step}
 use Rattle.icu_decimal_data.proofs.TableBasics.{IsBytes, IsBytes-drop, not_false}
 use Rattle.icu_decimal_data.proofs.RecordLaws.{TakenRecords, records_taken}
@@ -34,19 +34,19 @@ module _ (accepts : PatternText → Bool) (pool : List ℕ) (pool_at top : ℕ) 
     where
       present : unless (not (eqb (two_byte_number slot 1) sum)) (at + 1)
           (unless (ltb (length pool) (two_byte_number slot 1 + two_byte_number slot 3)) (at + 3)
-          (unless (is_wrong_place slot) (at + 5) (unless (not (is_pattern accepts (pattern_in pool slot))) (pool_at + two_byte_number slot 1)
+          (unless (is_wrong_placeholder slot) (at + 5) (unless (not (is_pattern accepts (pattern_in pool slot))) (pool_at + two_byte_number slot 1)
           (Ok (sum + two_byte_number slot 3))))) ≡ Err d → d ≤ top
       present e =
           unless_inside (not (eqb (two_byte_number slot 1) sum)) (at + 1) _ d top e (omega arith) (λ _ e.
           unless_inside (ltb (length pool) (two_byte_number slot 1 + two_byte_number slot 3)) (at + 3) _ d top e (omega arith) (λ fits e.
-          unless_inside (is_wrong_place slot) (at + 5) _ d top e (omega arith) (λ _ e.
+          unless_inside (is_wrong_placeholder slot) (at + 5) _ d top e (omega arith) (λ _ e.
           let within : two_byte_number slot 1 + two_byte_number slot 3 ≤ length pool = ltb-false _ _ fits in
           unless_inside (not (is_pattern accepts (pattern_in pool slot))) (pool_at + two_byte_number slot 1) (Ok (sum + two_byte_number slot 3)) d top e
           (omega arith) (λ _ e. no_error (sum + two_byte_number slot 3) d top e))))
 
       by_kind : (b : Bool) → cond b (unless (not (list_all (λ x. eqb x 0) (drop 1 slot))) (at + 1) (Ok sum))
           (unless (not (eqb (two_byte_number slot 1) sum)) (at + 1) (unless (ltb (length pool) (two_byte_number slot 1 + two_byte_number slot 3)) (at + 3)
-          (unless (is_wrong_place slot) (at + 5) (unless (not (is_pattern accepts (pattern_in pool slot))) (pool_at + two_byte_number slot 1)
+          (unless (is_wrong_placeholder slot) (at + 5) (unless (not (is_pattern accepts (pattern_in pool slot))) (pool_at + two_byte_number slot 1)
           (Ok (sum + two_byte_number slot 3)))))) ≡ Err d → d ≤ top
       by_kind true e = unless_inside (not (list_all (λ x. eqb x 0) (drop 1 slot))) (at + 1) (Ok sum) d top e (omega arith) (λ _ e. no_error sum d top e)
       by_kind false e = present e

@@ -12,7 +12,7 @@ use Rattle.std.proofs.lemmas.List.Kept.{AllPairs-cons}
 use Rattle.std.proofs.lemmas.List.Elements.{All-nil, All-cons}
 use Rattle.std.proofs.lemmas.Map.Keys.{sorted_head, sorted_tail}
 use Rattle.icu_decimal_data.specs.CompactTable.{PatternElements, TableEntry, IsCompactTable}
-use Rattle.icu_decimal_data.specs.Kept.{given, kept, changes, repeats, is_zero_magnitude}
+use Rattle.icu_decimal_data.specs.Kept.{as_table, kept, changes, repeats, is_zero_magnitude}
 use Rattle.icu_decimal_data.specs.CompactFaults.{fault_of, falls_after, has_falling_exponents, entry_fault, first_entry_fault}
 use Rattle.icu_decimal_data.proofs.EntryFaults.{none_or, sound_entry, no_entry_fault}
 
@@ -68,7 +68,7 @@ pairs_kept R zero_magnitude (e ∷ es) h =
     (cases_Bool (is_zero_magnitude zero_magnitude e.elements))
 
 types_above : (k : ℕ) (es : List (ℕ × (ℕ × PatternElements))) → AllByRecursion (λ y. nat_cmp k y ≡ Less) (keys_of es) →
-    Each (λ e. k < e.log10_type) (given es)
+    Each (λ e. k < e.log10_type) (as_table es)
 types_above k [] h = tt
 types_above k (e ∷ es) h = (less k e.0 h.0, types_above k es h.1)
   where
@@ -77,7 +77,7 @@ types_above k (e ∷ es) h = (less k e.0 h.0, types_above k es h.1)
 
 -- the types of a sorted map rise
 pub types_rise : (es : List (ℕ × (ℕ × PatternElements))) → IsStrictlySortedBy nat_cmp (keys_of es) →
-    Pairs (λ e f. e.log10_type < f.log10_type) (given es)
+    Pairs (λ e f. e.log10_type < f.log10_type) (as_table es)
 types_rise [] h = tt
 types_rise (e ∷ es) h = (types_above e.0 es (sorted_head nat_cmp e.0 (keys_of es) h), types_rise es (sorted_tail nat_cmp e.0 (keys_of es) h))
 
@@ -105,13 +105,14 @@ sound (e ∷ es) h =
 
 -- what is kept of a sorted map without a fault is a compact table
 pub kept_is_table : (zero_magnitude : Option PatternElements) (es : List (ℕ × (ℕ × PatternElements))) → IsStrictlySortedBy nat_cmp (keys_of es) →
-    fault_of zero_magnitude (given es) ≡ None → IsCompactTable (kept zero_magnitude (given es))
+    fault_of zero_magnitude (as_table es) ≡ None → IsCompactTable (kept zero_magnitude (as_table es))
 kept_is_table zero_magnitude es sorted none =
-    let faults = no_entry_fault zero_magnitude (given es) none in
-    let small = sound (kept zero_magnitude (given es)) faults.1 in
+    let faults = no_entry_fault zero_magnitude (as_table es) none in
+    let small = sound (kept zero_magnitude (as_table es)) faults.1 in
     record {
-      types_rise = all_pairs _ _ (pairs_kept (λ e f. e.log10_type < f.log10_type) zero_magnitude (given es) (types_rise es sorted));
-      exponents_never_fall = all_pairs _ _ (pairs_kept (λ e f. e.exponent ≤ f.exponent) zero_magnitude (given es) (without_a_fall (given es) faults.0));
-      exponents_small = all_each _ _ (each_weaker _ (λ e. e.exponent ≤ e.log10_type) (λ e h. h.0) (kept zero_magnitude (given es)) small);
-      shifts_small = all_each _ _ (each_weaker _ (λ e. e.log10_type ≤ e.exponent + 15) (λ e h. h.1) (kept zero_magnitude (given es)) small);
+      types_rise = all_pairs _ _ (pairs_kept (λ e f. e.log10_type < f.log10_type) zero_magnitude (as_table es) (types_rise es sorted));
+      exponents_never_fall = all_pairs _ _ (pairs_kept (λ e f. e.exponent ≤ f.exponent) zero_magnitude (as_table es)
+          (without_a_fall (as_table es) faults.0));
+      exponents_small = all_each _ _ (each_weaker _ (λ e. e.exponent ≤ e.log10_type) (λ e h. h.0) (kept zero_magnitude (as_table es)) small);
+      shifts_small = all_each _ _ (each_weaker _ (λ e. e.log10_type ≤ e.exponent + 15) (λ e h. h.1) (kept zero_magnitude (as_table es)) small);
     }

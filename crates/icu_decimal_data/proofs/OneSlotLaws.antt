@@ -12,8 +12,8 @@ use Rattle.std.proofs.lemmas.Bool.{eqb-true, eq-eqb, ltb-false, le-ltb, and_part
 use Rattle.icu_pattern.specs.Patterns.{PatternText, placeholder_alone}
 use Rattle.icu_decimal_data.specs.PackedTable.{is_pattern, IsBackend}
 use Rattle.icu_decimal_data.specs.PackedTable.{ArePatterns, literal_of}
-use Rattle.icu_decimal_data.specs.TableBytes.{kind_of, place_number, slot_bytes}
-use Rattle.icu_decimal_data.specs.TableReading.{two_byte_number, pattern_in, slot_in, unless, is_wrong_kind, is_wrong_place, slot_step}
+use Rattle.icu_decimal_data.specs.TableBytes.{kind_of, placeholder_number, slot_bytes}
+use Rattle.icu_decimal_data.specs.TableReading.{two_byte_number, pattern_in, slot_in, unless, is_wrong_kind, is_wrong_placeholder, slot_step}
 use Rattle.icu_decimal_data.proofs.TableBasics.{IsBytes, unless_ok, ok_is, not_false, low_is, high_is, joined_is, length-range, nothing_at}
 
 -- what is known of a slot that was read
@@ -62,45 +62,46 @@ module _ (accepts : PatternText → Bool) (pool : List ℕ) (pool_at : ℕ) (las
 
   -- a slot of kind 1 or 2
   module _ (k s0 s1 l0 l1 p0 p1 next : ℕ) (b0 : s0 < 256) (b1 : l0 < 256) (b2 : p0 < 256) (nonzero : eqb k 0 ≡ false)
-      (place : Option ℕ) (place_is : cond (eqb k 2) (Some (p0 + 256 * p1)) None ≡ place) (kind_is : kind_of place ≡ k)
-      (number_is : is_wrong_place (k ∷ s0 ∷ s1 ∷ l0 ∷ l1 ∷ p0 ∷ p1 ∷ []) ≡ false → place_number place ≡ p0 + 256 * p1) where
-    present_taken : slot_step accepts pool pool_at last at sum (k ∷ s0 ∷ s1 ∷ l0 ∷ l1 ∷ p0 ∷ p1 ∷ []) ≡ Ok next →
-        Taken accepts pool last sum (k ∷ s0 ∷ s1 ∷ l0 ∷ l1 ∷ p0 ∷ p1 ∷ []) next
-    unfolding slot_step
-    present_taken e =
-        let slot = k ∷ s0 ∷ s1 ∷ l0 ∷ l1 ∷ p0 ∷ p1 ∷ [] in
-        let a = unless_ok (is_wrong_kind accepts last k) at _ next e in
-        let inner : unless (not (eqb (two_byte_number slot 1) sum)) (at + 1)
-        (unless (ltb (length pool) (two_byte_number slot 1 + two_byte_number slot 3)) (at + 3)
-        (unless (is_wrong_place slot) (at + 5) (unless (not (is_pattern accepts (pattern_in pool slot))) (pool_at + two_byte_number slot 1)
-        (Ok (sum + two_byte_number slot 3))))) ≡ Ok next = rw nonzero at a.1 in
-        let b = unless_ok (not (eqb (two_byte_number slot 1) sum)) (at + 1) _ next inner in
-        let c = unless_ok (ltb (length pool) (two_byte_number slot 1 + two_byte_number slot 3)) (at + 3) _ next b.1 in
-        let d = unless_ok (is_wrong_place slot) (at + 5) _ next c.1 in
-        let f = unless_ok (not (is_pattern accepts (pattern_in pool slot))) (pool_at + two_byte_number slot 1) (Ok (sum + two_byte_number slot 3)) next d.1 in
-        let starts : two_byte_number slot 1 ≡ sum = eqb-true _ _ (not_false _ b.0) in
-        let fits : two_byte_number slot 1 + two_byte_number slot 3 ≤ length pool = ltb-false _ _ c.0 in
-        let next_is : sum + two_byte_number slot 3 ≡ next = ok_is _ _ f.1 in
-        let here : slot_in pool slot ≡ Some (pattern_in pool slot) = rw nonzero refl in
-        let range : slice_range pool sum next ≡ (pattern_in pool slot).literal = rw (← next_is, ← starts) refl in
-        let long : length (pattern_in pool slot).literal ≡ two_byte_number slot 3 =
-        length-range pool (two_byte_number slot 1) (two_byte_number slot 1 + two_byte_number slot 3) (omega arith) fits ∙ omega arith in
-        let place_number_is = number_is d.0 in
-        let q0 : sum % 256 ≡ s0 = rw (← starts) (low_is s0 s1 b0) in
-        let q1 : sum / 256 ≡ s1 = rw (← starts) (high_is s0 s1 b0) in
-        let q2 : length (pattern_in pool slot).literal % 256 ≡ l0 = rw long (low_is l0 l1 b1) in
-        let q3 : length (pattern_in pool slot).literal / 256 ≡ l1 = rw long (high_is l0 l1 b1) in
-        let q4 : place_number place % 256 ≡ p0 = rw place_number_is (low_is p0 p1 b2) in
-        let q5 : place_number place / 256 ≡ p1 = rw place_number_is (high_is p0 p1 b2) in
-        let written : slot_bytes sum (Some (pattern_in pool slot)) ≡ slot = rw place_is (cc) in
-        record {
-          bytes = rw here written;
-          next_is = rw here (omega arith);
-          literal = rw here range;
-          inside = omega arith;
-          patterns = rw here (not_false _ f.0, tt);
-          present = λ t. rw here refl;
-        }
+      (placeholder : Option ℕ) (placeholder_is : cond (eqb k 2) (Some (p0 + 256 * p1)) None ≡ placeholder) (kind_is : kind_of placeholder ≡ k)
+      (number_is : is_wrong_placeholder (k ∷ s0 ∷ s1 ∷ l0 ∷ l1 ∷ p0 ∷ p1 ∷ []) ≡ false → placeholder_number placeholder ≡ p0 + 256 * p1)
+    where
+      present_taken : slot_step accepts pool pool_at last at sum (k ∷ s0 ∷ s1 ∷ l0 ∷ l1 ∷ p0 ∷ p1 ∷ []) ≡ Ok next →
+          Taken accepts pool last sum (k ∷ s0 ∷ s1 ∷ l0 ∷ l1 ∷ p0 ∷ p1 ∷ []) next
+      unfolding slot_step
+      present_taken e =
+          let slot = k ∷ s0 ∷ s1 ∷ l0 ∷ l1 ∷ p0 ∷ p1 ∷ [] in
+          let a = unless_ok (is_wrong_kind accepts last k) at _ next e in
+          let inner : unless (not (eqb (two_byte_number slot 1) sum)) (at + 1)
+          (unless (ltb (length pool) (two_byte_number slot 1 + two_byte_number slot 3)) (at + 3)
+          (unless (is_wrong_placeholder slot) (at + 5) (unless (not (is_pattern accepts (pattern_in pool slot))) (pool_at + two_byte_number slot 1)
+          (Ok (sum + two_byte_number slot 3))))) ≡ Ok next = rw nonzero at a.1 in
+          let b = unless_ok (not (eqb (two_byte_number slot 1) sum)) (at + 1) _ next inner in
+          let c = unless_ok (ltb (length pool) (two_byte_number slot 1 + two_byte_number slot 3)) (at + 3) _ next b.1 in
+          let d = unless_ok (is_wrong_placeholder slot) (at + 5) _ next c.1 in
+          let f = unless_ok (not (is_pattern accepts (pattern_in pool slot))) (pool_at + two_byte_number slot 1) (Ok (sum + two_byte_number slot 3)) next d.1 in
+          let starts : two_byte_number slot 1 ≡ sum = eqb-true _ _ (not_false _ b.0) in
+          let fits : two_byte_number slot 1 + two_byte_number slot 3 ≤ length pool = ltb-false _ _ c.0 in
+          let next_is : sum + two_byte_number slot 3 ≡ next = ok_is _ _ f.1 in
+          let here : slot_in pool slot ≡ Some (pattern_in pool slot) = rw nonzero refl in
+          let range : slice_range pool sum next ≡ (pattern_in pool slot).literal = rw (← next_is, ← starts) refl in
+          let long : length (pattern_in pool slot).literal ≡ two_byte_number slot 3 =
+          length-range pool (two_byte_number slot 1) (two_byte_number slot 1 + two_byte_number slot 3) (omega arith) fits ∙ omega arith in
+          let placeholder_number_is = number_is d.0 in
+          let q0 : sum % 256 ≡ s0 = rw (← starts) (low_is s0 s1 b0) in
+          let q1 : sum / 256 ≡ s1 = rw (← starts) (high_is s0 s1 b0) in
+          let q2 : length (pattern_in pool slot).literal % 256 ≡ l0 = rw long (low_is l0 l1 b1) in
+          let q3 : length (pattern_in pool slot).literal / 256 ≡ l1 = rw long (high_is l0 l1 b1) in
+          let q4 : placeholder_number placeholder % 256 ≡ p0 = rw placeholder_number_is (low_is p0 p1 b2) in
+          let q5 : placeholder_number placeholder / 256 ≡ p1 = rw placeholder_number_is (high_is p0 p1 b2) in
+          let written : slot_bytes sum (Some (pattern_in pool slot)) ≡ slot = rw placeholder_is (cc) in
+          record {
+            bytes = rw here written;
+            next_is = rw here (omega arith);
+            literal = rw here range;
+            inside = omega arith;
+            patterns = rw here (not_false _ f.0, tt);
+            present = λ t. rw here refl;
+          }
 
   taken : (k s0 s1 l0 l1 p0 p1 next : ℕ) → s0 < 256 → l0 < 256 → p0 < 256 → sum ≤ length pool
       → slot_step accepts pool pool_at last at sum (k ∷ s0 ∷ s1 ∷ l0 ∷ l1 ∷ p0 ∷ p1 ∷ []) ≡ Ok next →
@@ -134,10 +135,11 @@ module _ (accepts : PatternText → Bool) (pool : List ℕ) (pool_at : ℕ) (las
   -- ---- what is written is read
 
   -- a slot of a pattern, by its kind and its place
-  module _ (p : PatternText) (kind place : ℕ) (kind_is : kind_of p.placeholder ≡ kind) (place_is : place_number p.placeholder ≡ place)
+  module _ (p : PatternText) (kind placeholder : ℕ) (kind_is : kind_of p.placeholder ≡ kind)
+      (placeholder_is : placeholder_number p.placeholder ≡ placeholder)
       (nonzero : eqb kind 0 ≡ false)
-      (right_kind : is_wrong_kind accepts last kind ≡ false) (place_back : cond (eqb kind 2) (Some place) None ≡ p.placeholder)
-      (right_place : (ltb (length p.literal) place || (eqb kind 1 && not (eqb place 0))) ≡ false) where
+      (right_kind : is_wrong_kind accepts last kind ≡ false) (placeholder_back : cond (eqb kind 2) (Some placeholder) None ≡ p.placeholder)
+      (right_placeholder : (ltb (length p.literal) placeholder || (eqb kind 1 && not (eqb placeholder 0))) ≡ false) where
     kind_again : is_pattern accepts p ≡ true → length pool < 2 ^ 16 → sum + length p.literal ≤ length pool →
         slice_range pool sum (sum + length p.literal) ≡ p.literal
         → (slot_step accepts pool pool_at last at sum (slot_bytes sum (Some p)) ≡ Ok (sum + length p.literal))
@@ -146,11 +148,11 @@ module _ (accepts : PatternText → Bool) (pool : List ℕ) (pool_at : ℕ) (las
     kind_again good small fits range =
         let n1 = joined_is sum in
         let n3 = joined_is (length p.literal) in
-        let n5 = joined_is place in
+        let n5 = joined_is placeholder in
         let t1 : eqb sum sum ≡ true = eq-eqb _ _ refl in
         let t2 : ltb (length pool) (sum + length p.literal) ≡ false = le-ltb _ _ fits in (
-          rw (kind_is, place_is, n1, n3, n5, right_kind, nonzero, t1, t2, right_place, place_back, range, good) refl,
-          rw (kind_is, place_is, n1, n3, n5, nonzero, place_back, range) refl,
+          rw (kind_is, placeholder_is, n1, n3, n5, right_kind, nonzero, t1, t2, right_placeholder, placeholder_back, range, good) refl,
+          rw (kind_is, placeholder_is, n1, n3, n5, nonzero, placeholder_back, range) refl,
         )
 
   some_again : (p : PatternText) → IsBackend accepts → IsTrue (is_pattern accepts p) → length pool < 2 ^ 16 → sum + length p.literal ≤ length pool →
@@ -168,7 +170,7 @@ module _ (accepts : PatternText → Bool) (pool : List ℕ) (pool_at : ℕ) (las
       go None e =
           let a : ltb (length p.literal) 0 ≡ false = le-ltb _ _ (omega arith) in
           let l = no_last last in
-          kind_again p 1 0 (ap kind_of e) (ap place_number e) refl (rw l refl) (sym e) (rw a refl) good small fits range
+          kind_again p 1 0 (ap kind_of e) (ap placeholder_number e) refl (rw l refl) (sym e) (rw a refl) good small fits range
       go (Some k) e =
           let parts = and_parts (is_utf8 p.literal) (accepts p) good in
           let some : IsSome p.placeholder = rw e refl in
@@ -177,7 +179,7 @@ module _ (accepts : PatternText → Bool) (pool : List ℕ) (pool_at : ℕ) (las
           let inside : k ≤ length p.literal = rw e at in_it in
           let a : ltb (length p.literal) k ≡ false = le-ltb _ _ inside in
           let l = no_last last in
-          kind_again p 2 k (ap kind_of e) (ap place_number e) refl (rw (l, open_is) refl) (sym e) (rw a refl) good small fits range
+          kind_again p 2 k (ap kind_of e) (ap placeholder_number e) refl (rw (l, open_is) refl) (sym e) (rw a refl) good small fits range
 
   -- what is written of a slot is passed, and that slot stands in it
   pub slot_again : (s : Option PatternText) → IsBackend accepts → (last ≡ true → IsSome s) → ArePatterns accepts (s ∷ []) →

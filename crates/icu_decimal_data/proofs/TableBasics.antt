@@ -32,11 +32,11 @@ pub unless_ok : (b : Bool) (byte : ℕ) (rest : Result ℕ ℕ) (next : ℕ) →
 unless_ok true byte rest next e = absurd cc
 unless_ok false byte rest next e = (refl, e)
 
-abbrev given : ℕ → Result ℕ ℕ
-given x = Ok x
+abbrev as_table : ℕ → Result ℕ ℕ
+as_table x = Ok x
 
 -- two results are the same number
-pub ok_is : (x y : ℕ) → given x ≡ given y → x ≡ y
+pub ok_is : (x y : ℕ) → as_table x ≡ as_table y → x ≡ y
 ok_is x y e = cc
 
 -- what is not false is true

@@ -15,7 +15,7 @@ use Rattle.std.proofs.lemmas.List.Sums.{sum_by-cons}
 use Rattle.icu_plurals.specs.Elements.{slots}
 use Rattle.icu_pattern.specs.Patterns.{PatternText}
 use Rattle.icu_decimal_data.specs.CompactTable.{PatternElements, TableEntry}
-use Rattle.icu_decimal_data.specs.Kept.{given, kept, repeats, is_zero_magnitude}
+use Rattle.icu_decimal_data.specs.Kept.{as_table, kept, repeats, is_zero_magnitude}
 use Rattle.icu_decimal_data.specs.KeptSince.{kept_since}
 use Rattle.icu_decimal_data.specs.CompactFaults.{fault_of, slot_size, elements_size, literals_size, first_entry_fault}
 use Rattle.icu_decimal_data.specs.declared.error.CompactError.TheVariants.{TooLarge}
@@ -124,37 +124,37 @@ within n h =
 
 module _ (zero_magnitude : Option PatternElements) (map : List (ℕ × (ℕ × PatternElements))) where
   -- without a fault the kept literals are short
-  pub short_kept : fault_of zero_magnitude (given map) ≡ None → length (literals (kept zero_magnitude (given map))) < 2 ^ 16
+  pub short_kept : fault_of zero_magnitude (as_table map) ≡ None → length (literals (kept zero_magnitude (as_table map))) < 2 ^ 16
   short_kept none =
-      let faults = no_entry_fault zero_magnitude (given map) none in
-      let parts = none_or (first_entry_fault (kept zero_magnitude (given map))) _ (rw faults.0 at none) in
-      let limit : literals_size (kept zero_magnitude (given map)) ≤ 65535 = within (literals_size (kept zero_magnitude (given map))) parts.1 in
-      omega (arith, all_size (kept zero_magnitude (given map)))
+      let faults = no_entry_fault zero_magnitude (as_table map) none in
+      let parts = none_or (first_entry_fault (kept zero_magnitude (as_table map))) _ (rw faults.0 at none) in
+      let limit : literals_size (kept zero_magnitude (as_table map)) ≤ 65535 = within (literals_size (kept zero_magnitude (as_table map))) parts.1 in
+      omega (arith, all_size (kept zero_magnitude (as_table map)))
 
   module _ (accepts : PatternText → Bool) (sorted : IsStrictlySortedBy nat_cmp (keys_of map))
-      (writable : AreWritable accepts (kept zero_magnitude (given map))) where
-    rising : Pairs (λ e f. e.log10_type < f.log10_type) (kept zero_magnitude (given map))
-    rising = pairs_kept (λ e f. e.log10_type < f.log10_type) zero_magnitude (given map) (types_rise map sorted)
+      (writable : AreWritable accepts (kept zero_magnitude (as_table map))) where
+    rising : Pairs (λ e f. e.log10_type < f.log10_type) (kept zero_magnitude (as_table map))
+    rising = pairs_kept (λ e f. e.log10_type < f.log10_type) zero_magnitude (as_table map) (types_rise map sorted)
 
     -- at most 256 entries are kept
-    pub few_kept : length (kept zero_magnitude (given map)) ≤ 256
+    pub few_kept : length (kept zero_magnitude (as_table map)) ≤ 256
     few_kept =
-        let h = bounded 0 (kept zero_magnitude (given map)) (omega arith)
-        (each_any (λ e. 0 ≤ e.log10_type) (λ e. omega arith) (kept zero_magnitude (given map)))
-        (types_are_bytes accepts (kept zero_magnitude (given map)) writable) rising in
+        let h = bounded 0 (kept zero_magnitude (as_table map)) (omega arith)
+        (each_any (λ e. 0 ≤ e.log10_type) (λ e. omega arith) (kept zero_magnitude (as_table map)))
+        (types_are_bytes accepts (kept zero_magnitude (as_table map)) writable) rising in
         omega arith
 
     -- what is kept without a fault can be packed
-    pub packable : fault_of zero_magnitude (given map) ≡ None → IsPackable accepts (kept zero_magnitude (given map))
+    pub packable : fault_of zero_magnitude (as_table map) ≡ None → IsPackable accepts (kept zero_magnitude (as_table map))
     packable none =
-        let faults = no_entry_fault zero_magnitude (given map) none in
-        let differ : FirstDiffer (kept zero_magnitude (given map)) =
-        subst FirstDiffer (kept_since_start zero_magnitude (given map)) (kept_differ zero_magnitude (given map)) in
+        let faults = no_entry_fault zero_magnitude (as_table map) none in
+        let differ : FirstDiffer (kept zero_magnitude (as_table map)) =
+        subst FirstDiffer (kept_since_start zero_magnitude (as_table map)) (kept_differ zero_magnitude (as_table map)) in
         record {
           counted = few_kept;
           short = short_kept none;
-          entries = entries_are accepts (kept zero_magnitude (given map)) rising
-              (pairs_kept (λ e f. e.exponent ≤ f.exponent) zero_magnitude (given map) (without_a_fall (given map) faults.0))
-              (sound (kept zero_magnitude (given map)) faults.1)
+          entries = entries_are accepts (kept zero_magnitude (as_table map)) rising
+              (pairs_kept (λ e f. e.exponent ≤ f.exponent) zero_magnitude (as_table map) (without_a_fall (as_table map) faults.0))
+              (sound (kept zero_magnitude (as_table map)) faults.1)
               differ writable;
         }

@@ -18,12 +18,12 @@ use Rattle.icu_decimal_data.specs.TableBytes.{number_bytes, slot_bytes, slots_by
 use Rattle.icu_decimal_data.proofs.RecordLaws.{length-records}
 
 -- a place lies in its literal
-pub place_inside : (p : PatternText) (place : ℕ) → PlaceholderFits p → p.placeholder ≡ Some place → place ≤ length p.literal
-place_inside p place fits is = go p.placeholder is fits
+pub placeholder_inside : (p : PatternText) (placeholder : ℕ) → PlaceholderFits p → p.placeholder ≡ Some placeholder → placeholder ≤ length p.literal
+placeholder_inside p placeholder fits is = go p.placeholder is fits
   where
-    go : (o : Option ℕ) → o ≡ Some place → IfSome o (λ k. IsCharBoundary p.literal k) → place ≤ length p.literal
+    go : (o : Option ℕ) → o ≡ Some placeholder → IfSome o (λ k. IsCharBoundary p.literal k) → placeholder ≤ length p.literal
     go None e h = absurd cc
-    go (Some k) e h = let same : k ≡ place = cc in rw (← same) h.0
+    go (Some k) e h = let same : k ≡ placeholder = cc in rw (← same) h.0
 
 -- what holds anyway holds on success
 pub on_ok : {T E : Type 0} (r : Result T E) {A : Type 0} → A → OnOk r A
@@ -175,4 +175,4 @@ unfolding table_bytes
 whole_is table records pool count len r p c l = rw (c, l, r, p) refl
 
 -- what the writing of a table needs
-pub ruleset writing = (place_inside, none_written, entry_room, all_records, all_pool, all_writable)
+pub ruleset writing = (placeholder_inside, none_written, entry_room, all_records, all_pool, all_writable)

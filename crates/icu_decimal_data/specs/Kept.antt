@@ -11,8 +11,8 @@ abbrev pub same_patterns : PatternElements → PatternElements → Bool
 same_patterns = same_elements same_pattern
 
 -- the entries of a map from types to exponents and elements
-abbrev pub given : List (ℕ × (ℕ × PatternElements)) → List TableEntry
-given = map (λ (p : ℕ × (ℕ × PatternElements)). record { log10_type = p.0; exponent = p.1.0; elements = p.1.1 })
+abbrev pub as_table : List (ℕ × (ℕ × PatternElements)) → List TableEntry
+as_table = map (λ (p : ℕ × (ℕ × PatternElements)). record { log10_type = p.0; exponent = p.1.0; elements = p.1.1 })
 
 -- whether the elements equal those of the zero magnitude, if these are given
 abbrev pub is_zero_magnitude : Option PatternElements → PatternElements → Bool

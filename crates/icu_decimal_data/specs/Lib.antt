@@ -1,7 +1,7 @@
 pub use Rattle.icu_decimal_symbols.specs.Symbols
 pub use Rattle.icu_decimal_symbols.specs.SymbolBytes
-pub use Rattle.icu_decimal_symbols.specs.SymbolsShown
-pub use Rattle.icu_decimal_symbols.specs.Given
+pub use Rattle.icu_decimal_symbols.specs.ViewedSymbols
+pub use Rattle.icu_decimal_symbols.specs.LentTexts
 pub use Rattle.icu_decimal_symbols.specs.DecimalSymbols
 pub mod CompactTable
 pub mod Kept
@@ -14,4 +14,4 @@ pub mod PackedTable
 pub mod TableBytes
 pub mod TableReading
 pub mod TableAnswers
-pub mod TableShown
+pub mod ViewedTable

@@ -31,14 +31,15 @@ kind_of None = 1
 kind_of (Some k) = 2
 
 -- the place, or 0 without one
-abbrev pub place_number : Option ℕ → ℕ
-place_number None = 0
-place_number (Some k) = k
+abbrev pub placeholder_number : Option ℕ → ℕ
+placeholder_number None = 0
+placeholder_number (Some k) = k
 
 -- seven bytes: kind, start in the pool, length of the literal, place in it
 abbrev pub slot_bytes : ℕ → Option PatternText → List ℕ
 slot_bytes start None = 0 ∷ 0 ∷ 0 ∷ 0 ∷ 0 ∷ 0 ∷ 0 ∷ []
-slot_bytes start (Some p) = kind_of p.placeholder ∷ (number_bytes start ++ (number_bytes (length p.literal) ++ number_bytes (place_number p.placeholder)))
+slot_bytes start (Some p) = kind_of p.placeholder ∷ (number_bytes start
+    ++ (number_bytes (length p.literal) ++ number_bytes (placeholder_number p.placeholder)))
 
 -- slots whose first literal begins at a place in the pool
 abbrev pub slots_bytes : ℕ → List (Option PatternText) → List ℕ

@@ -18,13 +18,13 @@ two_byte_number bytes i = slice_index bytes i + 256 * slice_index bytes (i + 1)
 -- ---- what stands in the bytes
 
 -- the place in a slot's seven bytes
-abbrev pub place_in : List ℕ → Option ℕ
-place_in slot = if slice_index slot 0 == 2 then Some (two_byte_number slot 5) else None
+abbrev pub placeholder_in : List ℕ → Option ℕ
+placeholder_in slot = if slice_index slot 0 == 2 then Some (two_byte_number slot 5) else None
 
 -- the pattern of a slot's seven bytes
 abbrev pub pattern_in : List ℕ → List ℕ → PatternText
 pattern_in pool slot = record {
-  placeholder = place_in slot;
+  placeholder = placeholder_in slot;
   literal = slice_range pool (two_byte_number slot 1) (two_byte_number slot 1 + two_byte_number slot 3);
 }
 
@@ -101,8 +101,8 @@ abbrev pub is_wrong_kind : (PatternText → Bool) → Bool → ℕ → Bool
 is_wrong_kind accepts last kind = nat_lt 2 kind || ((last && kind == 0) || (kind == 2 && not (accepts placeholder_alone)))
 
 -- a place above the length, or one of a pattern without a place
-abbrev pub is_wrong_place : List ℕ → Bool
-is_wrong_place slot = nat_lt (two_byte_number slot 3) (two_byte_number slot 5) || (slice_index slot 0 == 1 && not (two_byte_number slot 5 == 0))
+abbrev pub is_wrong_placeholder : List ℕ → Bool
+is_wrong_placeholder slot = nat_lt (two_byte_number slot 3) (two_byte_number slot 5) || (slice_index slot 0 == 1 && not (two_byte_number slot 5 == 0))
 
 -- Checks one slot at byte `at`, where the literals before it have `sum` bytes: the bytes of the literals up to its own, or the first damage.
 unfoldable pub slot_step : (PatternText → Bool) → List ℕ → ℕ → Bool → ℕ → ℕ → List ℕ → Result ℕ ℕ
@@ -111,7 +111,7 @@ slot_step accepts pool pool_at last at sum slot =
     (if slice_index slot 0 == 0 then unless (not (list_all (λ b. b == 0) (drop 1 slot))) (at + 1) (Ok sum)
     else unless (not (two_byte_number slot 1 == sum)) (at + 1)
     (unless (nat_lt (length pool) (two_byte_number slot 1 + two_byte_number slot 3)) (at + 3)
-    (unless (is_wrong_place slot) (at + 5)
+    (unless (is_wrong_placeholder slot) (at + 5)
     (unless (not (is_pattern accepts (pattern_in pool slot))) (pool_at + two_byte_number slot 1)
     (Ok (sum + two_byte_number slot 3))))))
 

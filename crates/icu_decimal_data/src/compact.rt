@@ -14,7 +14,7 @@ ghost use Rattle.icu_decimal_data.specs.CompactTable.{IsCompactTable, IsIndex, e
 ghost use Rattle.icu_decimal_data.specs.PackedTable.{IsPackable};
 ghost use Rattle.icu_decimal_data.specs.TableBytes.{table_bytes};
 ghost use Rattle.icu_decimal_data.specs.CompactFaults.{fault_of};
-ghost use Rattle.icu_decimal_data.specs.Kept.{given, kept, at};
+ghost use Rattle.icu_decimal_data.specs.Kept.{as_table, kept, at};
 ghost use Rattle.icu_decimal_data.specs.declared.error.CompactError.TheVariants.{OutOfMemory};
 
 use crate::error::CompactError;
@@ -90,8 +90,9 @@ impl<P: PatternBackend> CompactPatterns<P> {
         zero_magnitude: Option<&PluralElements<Pattern<P>>>,
     ) -> Result<Self, CompactError>
         ensures kept { IfOk result (λ table.
-            table ≡ kept (at zero_magnitude.entry) (given patterns.entries)) }
-        ensures refused { MatchOption (fault_of (at zero_magnitude.entry) (given patterns.entries))
+            table ≡ kept (at zero_magnitude.entry) (as_table patterns.entries)) }
+        ensures refused { MatchOption (fault_of (at zero_magnitude.entry)
+            (as_table patterns.entries))
             (IsOkUnless result OutOfMemory) (λ fault. IsErrOf result fault) }
     {
         if let Some(fault) = first_fault(&patterns, zero_magnitude) {

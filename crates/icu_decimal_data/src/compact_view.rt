@@ -41,7 +41,7 @@ impl<P: PatternBackend> Clone for CompactView<'_, P> {
 impl<P: PatternBackend> Copy for CompactView<'_, P> {}
 
 impl<'a, P: PatternBackend> CompactView<'a, P> {
-    ghost use Rattle.icu_decimal_data.specs.TableShown.{table_shown, entry_shown};
+    ghost use Rattle.icu_decimal_data.specs.ViewedTable.{viewed_table, viewed_entry};
 
     /// The table with these bytes.
     ///
@@ -55,10 +55,10 @@ impl<'a, P: PatternBackend> CompactView<'a, P> {
     // mutations: table_damage_a_byte_off
     #[tactic(auto, using(crate::proofs::PackedTables::tables))]
     pub fn parse(bytes: &'a [u8]) -> Result<Self, Damaged>
-        ensures found { IfOk result (λ v. IsPackable P.accepted (table_shown v)
-            × (bytes.now ≡ table_bytes (table_shown v))) }
+        ensures found { IfOk result (λ v. IsPackable P.accepted (viewed_table v)
+            × (bytes.now ≡ table_bytes (viewed_table v))) }
         ensures every { (t : List TableEntry) → IsPackable P.accepted t → bytes.now ≡ table_bytes t
-            → IsOkAnd result (λ v. table_shown v ≡ t) }
+            → IsOkAnd result (λ v. viewed_table v ≡ t) }
         ensures inside { IfErr result (λ e. e.byte ≤ length bytes.now) }
         ensures damaged { MatchResult result (λ _. IsOk (table_step P.accepted bytes.now)) (λ e.
             table_step P.accepted bytes.now ≡ Err e.byte) }
@@ -76,8 +76,8 @@ impl<'a, P: PatternBackend> CompactView<'a, P> {
     // mutations: search_skips_the_first
     #[tactic(auto, using(crate::proofs::TableSearch::searching))]
     pub fn entry_for_magnitude(&self, magnitude: i16) -> Option<EntryView<'a, P>>
-        ensures { option_map entry_shown result
-            ≡ entry_for (table_shown self.now) (place magnitude) }
+        ensures { option_map viewed_entry result
+            ≡ entry_for (viewed_table self.now) (place magnitude) }
     {
         match reached(self.bytes, magnitude as i32) {
             0 => None,
@@ -91,7 +91,7 @@ impl<'a, P: PatternBackend> CompactView<'a, P> {
 
     /// The exponent for a magnitude: that of its entry, or 0 if it has none.
     pub fn exponent_for_magnitude(&self, magnitude: i16) -> u8
-        ensures { result ≡ exponent_for (table_shown self.now) (place magnitude) }
+        ensures { result ≡ exponent_for (viewed_table self.now) (place magnitude) }
     {
         match self.entry_for_magnitude(magnitude) {
             Some(entry) => entry.exponent(),
@@ -123,12 +123,12 @@ impl<P: PatternBackend> Clone for EntryView<'_, P> {
 impl<P: PatternBackend> Copy for EntryView<'_, P> {}
 
 impl<'a, P: PatternBackend> EntryView<'a, P> {
-    ghost use Rattle.icu_decimal_data.specs.TableShown.{entry_shown};
+    ghost use Rattle.icu_decimal_data.specs.ViewedTable.{viewed_entry};
 
     /// The type: the power of ten at which the entry begins.
     #[tactic(auto, using(crate::proofs::TableSearch::searching))]
     pub fn log10_type(&self) -> u8
-        ensures { result ≡ (entry_shown self.now).log10_type }
+        ensures { result ≡ (viewed_entry self.now).log10_type }
     {
         type_at(self.bytes, self.index)
     }
@@ -136,7 +136,7 @@ impl<'a, P: PatternBackend> EntryView<'a, P> {
     /// The exponent: the power of ten that the patterns name.
     #[tactic(auto, using(crate::proofs::TableSearch::searching))]
     pub fn exponent(&self) -> u8
-        ensures { result ≡ (entry_shown self.now).exponent }
+        ensures { result ≡ (viewed_entry self.now).exponent }
     {
         exponent_at(self.bytes, self.index)
     }
@@ -146,7 +146,7 @@ impl<'a, P: PatternBackend> EntryView<'a, P> {
     pub fn slot(&self, slot: u8) -> Option<PatternRef<'a, P>>
         requires { slot < 8 }
         ensures { option_map text_of_ref result
-            ≡ slice_index_or (slots (entry_shown self.now).elements) slot None }
+            ≡ slice_index_or (slots (viewed_entry self.now).elements) slot None }
     {
         pattern_at(self.bytes, self.index, slot as usize)
     }
@@ -157,7 +157,7 @@ impl<'a, P: PatternBackend> EntryView<'a, P> {
     // promise: A view picks the pattern that the table picks.
     // mutations: view_pick_of_the_first_entry
     pub fn pick(&self, operands: &PluralOperands, rules: &PluralRules) -> PatternRef<'a, P>
-        ensures { text_of_ref result ≡ selected (entry_shown self.now).elements operands.now
+        ensures { text_of_ref result ≡ selected (viewed_entry self.now).elements operands.now
             (category_of rules.now operands.now) }
     {
         pick(self.bytes, self.index, operands, rules)

@@ -2,7 +2,7 @@
 
 ghost use Rattle.std.specs.Prelude.{◌≡◌, ◌+◌, min};
 ghost use Rattle.std.specs.Option.{option_map};
-ghost use Rattle.icu_decimal_data.specs.Kept.{given, at};
+ghost use Rattle.icu_decimal_data.specs.Kept.{as_table, at};
 ghost use Rattle.icu_decimal_data.specs.CompactFaults.{has_falling_exponents, fault_at, fault_of, slot_size, elements_size};
 ghost use Rattle.icu_decimal_data.specs.KeptSince.{stays};
 
@@ -21,7 +21,7 @@ pub(crate) type Elements<P> = PluralElements<Pattern<P>>;
 
 /// Whether some exponent is below that of the preceding type.
 fn exponents_fall<P: PatternBackend>(map: &BTreeMap<u8, (u8, Elements<P>)>) -> bool
-    ensures { result ≡ has_falling_exponents (given map.now.entries) }
+    ensures { result ≡ has_falling_exponents (as_table map.now.entries) }
 {
     let mut before = 0;
     for (_, value) in map {
@@ -88,7 +88,7 @@ pub(crate) fn first_fault<P: PatternBackend>(
     map: &BTreeMap<u8, (u8, Elements<P>)>,
     zero_magnitude: Option<&Elements<P>>,
 ) -> Option<CompactError>
-    ensures { result ≡ fault_of (at zero_magnitude.entry) (given map.now.entries) }
+    ensures { result ≡ fault_of (at zero_magnitude.entry) (as_table map.now.entries) }
 {
     if exponents_fall(map) {
         return Some(CompactError::ExponentsFall);

@@ -1,7 +1,7 @@
 //! The layout of a compact table in bytes.
 
 ghost use Rattle.std.specs.Prelude.{◌≡◌, ℕ, ◌+◌, ◌<◌, ◌^◌, length, slice_index};
-ghost use Rattle.icu_decimal_data.specs.TableReading.{two_byte_number, place_in, pattern_in};
+ghost use Rattle.icu_decimal_data.specs.TableReading.{two_byte_number, placeholder_in, pattern_in};
 
 /// The length of the two numbers in front: the number of entries, and the length of the pool.
 pub(crate) const HEAD_LEN: usize = 4;
@@ -23,10 +23,10 @@ pub(crate) const SLOT_LEN: usize = 7;
 pub(crate) const ABSENT: u8 = 0;
 
 /// The kind of a slot whose pattern has no place.
-pub(crate) const WITHOUT_PLACE: u8 = 1;
+pub(crate) const WITHOUT_PLACEHOLDER: u8 = 1;
 
 /// The kind of a slot whose pattern has a place.
-pub(crate) const WITH_PLACE: u8 = 2;
+pub(crate) const WITH_PLACEHOLDER: u8 = 2;
 
 /// States that bytes are below 256. It does nothing: it is its contract.
 pub(crate) fn are_below_256(bytes: &[u8])
@@ -45,11 +45,11 @@ pub(crate) fn number_at(bytes: &[u8], at: usize) -> usize
 }
 
 /// The place of a slot's pattern.
-pub(crate) fn place_of(slot: &[u8]) -> Option<usize>
+pub(crate) fn placeholder_of(slot: &[u8]) -> Option<usize>
     requires { length slot.now ≡ SLOT_LEN }
-    ensures { result ≡ place_in slot.now }
+    ensures { result ≡ placeholder_in slot.now }
 {
-    if slot[0] == WITH_PLACE {
+    if slot[0] == WITH_PLACEHOLDER {
         Some(number_at(slot, 5))
     } else {
         None

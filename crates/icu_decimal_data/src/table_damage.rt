@@ -12,14 +12,14 @@ ghost use Rattle.icu_decimal_data.specs.PackedTable.{is_pattern};
 ghost use Rattle.std.specs.Cmp.Lexicographic.{pointwise};
 ghost use Rattle.icu_decimal_data.specs.TableAnswers.{GivesNumber, Passes};
 ghost use Rattle.icu_decimal_data.specs.TableReading.{two_byte_number, slot_step, slots_step, record_step, records_step, table_step, is_wrong_kind};
-ghost use Rattle.icu_decimal_data.specs.TableReading.{is_wrong_place, is_wrong_type, is_wrong_exponent, is_repeated, same_at, same_from, place_in};
+ghost use Rattle.icu_decimal_data.specs.TableReading.{is_wrong_placeholder, is_wrong_type, is_wrong_exponent, is_repeated, same_at, same_from, placeholder_in};
 ghost use Rattle.icu_decimal_data.specs.TableReading.{pattern_in, slot_in, slot_at, count_in, pool_start, pool_in, whole_len};
 
 use crate::error::Damaged;
 use crate::kept::MAX_ZEROS;
 use crate::table_bytes::{
-    ABSENT, HEAD_LEN, RECORD_LEN, SLOT_LEN, SLOTS_LEN, WITH_PLACE, WITHOUT_PLACE, literal_of,
-    number_at, place_of,
+    ABSENT, HEAD_LEN, RECORD_LEN, SLOT_LEN, SLOTS_LEN, WITH_PLACEHOLDER, WITHOUT_PLACEHOLDER,
+    literal_of, number_at, placeholder_of,
 };
 use icu_pattern::PatternBackend;
 use std::str;
@@ -32,18 +32,19 @@ const MAX_ENTRIES: usize = 256;
 fn is_kind_wrong<P: PatternBackend>(is_last: bool, kind: u8) -> bool
     ensures { result ≡ is_wrong_kind P.accepted is_last kind }
 {
-    kind > WITH_PLACE
+    kind > WITH_PLACEHOLDER
         || (is_last && kind == ABSENT)
-        || (kind == WITH_PLACE && !P::accepts(Some(0), ""))
+        || (kind == WITH_PLACEHOLDER && !P::accepts(Some(0), ""))
 }
 
 /// Whether a slot's place is after the end of its literal, or isn't 0 although the pattern has no
 /// place.
-fn is_place_wrong(slot: &[u8]) -> bool
+fn is_placeholder_wrong(slot: &[u8]) -> bool
     requires { length slot.now ≡ SLOT_LEN }
-    ensures { result ≡ is_wrong_place slot.now }
+    ensures { result ≡ is_wrong_placeholder slot.now }
 {
-    number_at(slot, 3) < number_at(slot, 5) || (slot[0] == WITHOUT_PLACE && number_at(slot, 5) != 0)
+    number_at(slot, 3) < number_at(slot, 5)
+        || (slot[0] == WITHOUT_PLACEHOLDER && number_at(slot, 5) != 0)
 }
 
 /// Whether all bytes are zero.
@@ -54,12 +55,12 @@ fn are_zero(bytes: &[u8]) -> bool
 }
 
 /// Whether a literal is UTF-8, and the backend accepts it with this place.
-fn is_good_pattern<P: PatternBackend>(place: Option<usize>, literal: &[u8]) -> bool
+fn is_good_pattern<P: PatternBackend>(placeholder: Option<usize>, literal: &[u8]) -> bool
     ensures { result ≡ is_pattern P.accepted
-        (record { placeholder = place; literal = literal.now }) }
+        (record { placeholder = placeholder; literal = literal.now }) }
 {
     match str::from_utf8(literal) {
-        Ok(literal) => P::accepts(place, literal),
+        Ok(literal) => P::accepts(placeholder, literal),
         Err(_) => false,
     }
 }
@@ -69,7 +70,7 @@ fn is_slot_good<P: PatternBackend>(pool: &[u8], slot: &[u8]) -> bool
     requires { length slot.now ≡ SLOT_LEN }
     ensures { result ≡ is_pattern P.accepted (pattern_in pool.now slot.now) }
 {
-    is_good_pattern::<P>(place_of(slot), literal_of(pool, slot))
+    is_good_pattern::<P>(placeholder_of(slot), literal_of(pool, slot))
 }
 
 /// Checks a slot, and returns the length of the literals up to its own.
@@ -106,7 +107,7 @@ fn check_slot<P: PatternBackend>(
     if start + len > pool.len() {
         return Err(Damaged { byte: at + 3 });
     }
-    if is_place_wrong(slot) {
+    if is_placeholder_wrong(slot) {
         return Err(Damaged { byte: at + 5 });
     }
     if !is_slot_good::<P>(pool, slot) {
@@ -153,12 +154,12 @@ fn slot(bytes: &[u8], index: usize) -> &[u8]
 }
 
 /// Whether the places in two slots are the same.
-fn is_same_place(a: &[u8], b: &[u8]) -> bool
+fn is_same_placeholder(a: &[u8], b: &[u8]) -> bool
     requires a { length a.now ≡ SLOT_LEN }
     requires b { length b.now ≡ SLOT_LEN }
-    ensures { result ≡ option_eq nat_eq (place_in a.now) (place_in b.now) }
+    ensures { result ≡ option_eq nat_eq (placeholder_in a.now) (placeholder_in b.now) }
 {
-    place_of(a) == place_of(b)
+    placeholder_of(a) == placeholder_of(b)
 }
 
 /// Whether the literals of two slots are the same.
@@ -177,7 +178,7 @@ fn is_same_pattern(pool: &[u8], a: &[u8], b: &[u8]) -> bool
     requires b { length b.now ≡ SLOT_LEN }
     ensures { result ≡ same_pattern (pattern_in pool.now a.now) (pattern_in pool.now b.now) }
 {
-    is_same_place(a, b) && is_same_literal(pool, a, b)
+    is_same_placeholder(a, b) && is_same_literal(pool, a, b)
 }
 
 /// Whether two slots are the same: both absent, or of the same pattern.

@@ -10,7 +10,7 @@ ghost use Rattle.icu_pattern.specs.Refs.{text_of_ref};
 ghost use Rattle.icu_decimal_data.specs.TableReading.{IsTableBytes, IsSearchable, count_in, entry_of, pool_in, slot_of};
 
 use crate::table_bytes::{
-    ABSENT, HEAD_LEN, RECORD_LEN, SLOT_LEN, SLOTS_START, literal_of, number_at, place_of,
+    ABSENT, HEAD_LEN, RECORD_LEN, SLOT_LEN, SLOTS_START, literal_of, number_at, placeholder_of,
 };
 use icu_pattern::{PatternBackend, PatternRef};
 use icu_plurals::{PluralOperands, PluralRules};
@@ -83,7 +83,7 @@ pub(crate) fn pattern_at<P: PatternBackend>(
         return None;
     }
     let literal = unsafe { str::from_utf8_unchecked(literal_of(pool_of(bytes), found)) };
-    match PatternRef::try_new(place_of(found), literal) {
+    match PatternRef::try_new(placeholder_of(found), literal) {
         Ok(pattern) => Some(pattern),
         Err(_) => unreachable!(),
     }

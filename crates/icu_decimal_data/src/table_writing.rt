@@ -7,13 +7,13 @@ ghost use Rattle.std.specs.List.Sorted.{IsStrictlySortedBy};
 ghost use Rattle.std.specs.Map.{keys_of};
 ghost use Rattle.std.specs.Ordering.{nat_cmp};
 ghost use Rattle.icu_plurals.specs.Elements.{slots};
-ghost use Rattle.icu_decimal_data.specs.Kept.{given, kept, at};
+ghost use Rattle.icu_decimal_data.specs.Kept.{as_table, kept, at};
 ghost use Rattle.icu_decimal_data.specs.PackedTable.{ArePatterns, AreWritable, literal_of, slot_literals, literals};
 ghost use Rattle.icu_decimal_data.specs.TableBytes.{number_bytes, slot_bytes, slots_bytes, records_bytes, table_bytes};
 
 use crate::kept::{Elements, stays};
 use crate::table_bytes::{
-    ABSENT, HEAD_LEN, RECORD_LEN, SLOT_LEN, WITH_PLACE, WITHOUT_PLACE, are_below_256,
+    ABSENT, HEAD_LEN, RECORD_LEN, SLOT_LEN, WITH_PLACEHOLDER, WITHOUT_PLACEHOLDER, are_below_256,
 };
 use icu_pattern::{Pattern, PatternBackend};
 use std::alloc::{AllocError, Global};
@@ -48,14 +48,14 @@ fn push_slot<P: PatternBackend>(
     };
     let pattern = pattern.as_ref();
     let literal = pattern.literal().as_bytes();
-    let (kind, place) = match pattern.place() {
-        Some(place) => (WITH_PLACE, place),
-        None => (WITHOUT_PLACE, 0),
+    let (kind, placeholder) = match pattern.placeholder() {
+        Some(placeholder) => (WITH_PLACEHOLDER, placeholder),
+        None => (WITHOUT_PLACEHOLDER, 0),
     };
     records.push(kind)?;
     push_number(records, pool.len())?;
     push_number(records, literal.len())?;
-    push_number(records, place)?;
+    push_number(records, placeholder)?;
     pool.extend_from_slice(literal)
 }
 
@@ -84,13 +84,13 @@ fn records_and_pool<P: PatternBackend>(
     map: &BTreeMap<u8, (u8, Elements<P>)>,
     zero_magnitude: Option<&Elements<P>>,
 ) -> Result<(Vec<u8>, Vec<u8>), AllocError>
-    requires { length (literals (kept (at zero_magnitude) (given map.now.entries))) < 2 ^ 16 }
+    requires { length (literals (kept (at zero_magnitude) (as_table map.now.entries))) < 2 ^ 16 }
     ensures records { IfOk result (λ p.
-        p.0.items ≡ records_bytes 0 (kept (at zero_magnitude.entry) (given map.now.entries))) }
+        p.0.items ≡ records_bytes 0 (kept (at zero_magnitude.entry) (as_table map.now.entries))) }
     ensures pool { IfOk result (λ p.
-        p.1.items ≡ literals (kept (at zero_magnitude.entry) (given map.now.entries))) }
+        p.1.items ≡ literals (kept (at zero_magnitude.entry) (as_table map.now.entries))) }
     ensures writable { IfOk result (λ _.
-        AreWritable P.accepted (kept (at zero_magnitude.entry) (given map.now.entries))) }
+        AreWritable P.accepted (kept (at zero_magnitude.entry) (as_table map.now.entries))) }
     ensures sorted { IsStrictlySortedBy nat_cmp (keys_of map.now.entries) }
 {
     let mut records = Vec::new(alloc);
@@ -115,11 +115,11 @@ pub(crate) fn table_of<P: PatternBackend>(
     map: &BTreeMap<u8, (u8, Elements<P>)>,
     zero_magnitude: Option<&Elements<P>>,
 ) -> Result<Vec<u8>, AllocError>
-    requires { length (literals (kept (at zero_magnitude) (given map.now.entries))) < 2 ^ 16 }
+    requires { length (literals (kept (at zero_magnitude) (as_table map.now.entries))) < 2 ^ 16 }
     ensures bytes { IfOk result (λ b.
-        b.items ≡ table_bytes (kept (at zero_magnitude.entry) (given map.now.entries))) }
+        b.items ≡ table_bytes (kept (at zero_magnitude.entry) (as_table map.now.entries))) }
     ensures writable { IfOk result (λ _.
-        AreWritable P.accepted (kept (at zero_magnitude.entry) (given map.now.entries))) }
+        AreWritable P.accepted (kept (at zero_magnitude.entry) (as_table map.now.entries))) }
     ensures are_bytes { IfOk result (λ b. (i : ℕ) → slice_index b.items i < 256) }
     ensures sorted { IsStrictlySortedBy nat_cmp (keys_of map.now.entries) }
 {

@@ -50,12 +50,12 @@ plain_again f u v n m h k same = size_is f v m k ∙ same
 -- the size of what is shown is the nearest compact number
 shown_nearest : (format : CompactFormat) (u : Unsigned) (n : Shown) → ShowsCompact format u n → IsNearestCompact format.table (size u) (size_shown n)
 shown_nearest format u n h =
-    let same : h.is_shown.shown ≡ size_shown n = sym h.is_shown.displayed.scaled ∙ ap (λ e. size n.significand * 10 ^ e) (sym h.is_shown.exponent_is) in
-    subst (λ (y : ℕ). IsNearestCompact format.table (size u) y) same h.is_shown.displayed.nearest
+    let same : h.is_shown.shown ≡ size_shown n = sym h.is_shown.decomposed.scaled ∙ ap (λ e. size n.significand * 10 ^ e) (sym h.is_shown.exponent_is) in
+    subst (λ (y : ℕ). IsNearestCompact format.table (size u) y) same h.is_shown.decomposed.nearest
 
 -- the significand of a compact number is a decimal
 pub compact_is_decimal : (format : CompactFormat) (u : Unsigned) (n : Shown) → IsUnsigned u → ShowsCompact format u n → IsUnsigned n.significand
-compact_is_decimal format u n is h = h.is_shown.displayed.is_decimal
+compact_is_decimal format u n is h = h.is_shown.decomposed.is_decimal
 
 -- the nearest to 0 is 0
 nearest_to_zero : (format : CompactFormat) (x y : ℕ) → IsNearestCompact format.table x y → x ≡ 0 → y ≡ 0

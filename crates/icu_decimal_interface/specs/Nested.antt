@@ -14,5 +14,5 @@ abbrev pub BothSuch : (Shown → Type 0) → (Shown → Type 0) → ShownPair �
 BothSuch First Second p = First p.first × Second p.second
 
 -- what is written of both in a frame, which is a function of their operands and their events
-abbrev pub pair_shown : (Operands → List Event → Operands → List Event → List Event) → ShownPair → List Event
-pair_shown framed p = framed (operands_shown p.first) p.first.events (operands_shown p.second) p.second.events
+abbrev pub pair_events : (Operands → List Event → Operands → List Event → List Event) → ShownPair → List Event
+pair_events framed p = framed (operands_shown p.first) p.first.events (operands_shown p.second) p.second.events

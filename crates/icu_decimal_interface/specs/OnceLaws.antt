@@ -32,7 +32,7 @@ around_stands before after {written} h = record {
         ap (λ l. a ++ l) (append_assoc b (e ++ c) d ∙ ap (λ l. b ++ l) (append_assoc e c d)) ∙ sym (append_assoc a b (e ++ (c ++ d)))
 
 -- a pattern, unless it has no placeholder
-pub placed_stands : (literal : List ℕ) (place : Option ℕ) {written : List Event → List Event} → StandsOnce written →
-    StandsOnce (λ (es : List Event). around literal place (written es)) ⊎ (place ≡ None)
-placed_stands literal None h = inr refl
-placed_stands literal (Some k) {written} h = inl (around_stands (text_events (take k literal)) (text_events (drop k literal)) h)
+pub pattern_stands : (literal : List ℕ) (placeholder : Option ℕ) {written : List Event → List Event} → StandsOnce written →
+    StandsOnce (λ (es : List Event). around literal placeholder (written es)) ⊎ (placeholder ≡ None)
+pattern_stands literal None h = inr refl
+pattern_stands literal (Some k) {written} h = inl (around_stands (text_events (take k literal)) (text_events (drop k literal)) h)

@@ -30,8 +30,8 @@ abbrev pub picked : {T : Type 0} → List Rule → Elements T → Operands → T
 picked rules elements operands = selected elements operands (category_of rules operands)
 
 -- what is written in a frame, which is a function of the operands and the events
-abbrev pub framed_shown : (Operands → List Event → List Event) → Shown → List Event
-framed_shown framed n = framed (operands_shown n) n.events
+abbrev pub framed_events : (Operands → List Event → List Event) → Shown → List Event
+framed_events framed n = framed (operands_shown n) n.events
 
 -- what a plain formatter shows for a number: its digits as they are given
 abbrev pub plain_shown : DecimalFormat → Unsigned → Shown

@@ -16,9 +16,9 @@ digits_text format significand = characters (unsigned_events format significand)
 
 -- A text in a pattern: what stands before the place, the text, what stands after it; the literal alone where the pattern
 -- has no place.
-abbrev pub placed : Option ℕ → List ℕ → List ℕ → List ℕ
-placed None literal text = chars literal
-placed (Some k) literal text = chars (take k literal) ++ (text ++ chars (drop k literal))
+abbrev pub in_pattern : Option ℕ → List ℕ → List ℕ → List ℕ
+in_pattern None literal text = chars literal
+in_pattern (Some k) literal text = chars (take k literal) ++ (text ++ chars (drop k literal))
 
 -- the entry by which something is shown: that of the magnitude of its size; none where the table has none there
 abbrev pub entry_shown : CompactFormat → Shown → Option TableEntry
@@ -32,7 +32,8 @@ pattern_shown format n = pattern_of format (entry_shown format n) n.significand
 -- and the exponent is the one that the entry of this pattern names.
 pub record Spells (format : CompactFormat) (n : Shown) : Type 0 where
   pub exponent_is : n.exponent ≡ exponent_of (entry_shown format n)
-  pub spelled : characters n.events ≡ placed (pattern_shown format n).placeholder (pattern_shown format n).literal (digits_text format.decimal n.significand)
+  pub spelled : characters n.events ≡ in_pattern (pattern_shown format n).placeholder (pattern_shown format n).literal
+      (digits_text format.decimal n.significand)
 
 -- a plain format as one with exponents: it has none
 abbrev pub without_table : DecimalFormat → CompactFormat

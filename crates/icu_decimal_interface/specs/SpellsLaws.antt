@@ -13,7 +13,7 @@ use Rattle.writeable.proofs.EventLemmas.{characters-map_Char}
 use Rattle.icu_decimal.specs.CompactFormat.{CompactFormat, filled_events}
 use Rattle.icu_decimal.specs.Decimal.{DecimalFormat, unsigned_events}
 use Rattle.icu_decimal_interface.specs.Shown.{Shown, ShowsCompact, plain_shown, size_shown}
-use Rattle.icu_decimal_interface.specs.Spells.{Spells, digits_text, entry_shown, pattern_shown, placed, without_table}
+use Rattle.icu_decimal_interface.specs.Spells.{Spells, digits_text, entry_shown, pattern_shown, in_pattern, without_table}
 
 -- without parts the characters are the same
 pub characters-without_parts : (es : List Event) → characters (without_parts es) ≡ characters es
@@ -23,10 +23,10 @@ characters-without_parts (Open category value ∷ es) = characters-without_parts
 characters-without_parts (Close ∷ es) = characters-without_parts es
 
 -- the characters of events in a pattern are the events' characters in it
-characters-placed : (literal : List ℕ) (place : Option ℕ) (es : List Event) →
-    characters (around literal place es) ≡ placed place literal (characters es)
-characters-placed literal None es = characters-map_Char (chars literal)
-characters-placed literal (Some k) es =
+characters-in_pattern : (literal : List ℕ) (placeholder : Option ℕ) (es : List Event) →
+    characters (around literal placeholder es) ≡ in_pattern placeholder literal (characters es)
+characters-in_pattern literal None es = characters-map_Char (chars literal)
+characters-in_pattern literal (Some k) es =
     characters-append (text_events (take k literal)) (es ++ text_events (drop k literal))
     ∙ ap₂ ◌++◌ (characters-map_Char (chars (take k literal)))
     (characters-append es (text_events (drop k literal)) ∙ ap (λ l. characters es ++ l) (characters-map_Char (chars (drop k literal))))
@@ -40,12 +40,12 @@ plain_spells f u n is = rw is (record { exponent_is = refl; spelled = sym (appen
 pub compact_spells : (format : CompactFormat) (u : Unsigned) (n : Shown) → ShowsCompact format u n → Spells format n
 compact_spells format u n h =
     let shown = h.is_shown in
-    let same_size : shown.shown ≡ size_shown n = sym shown.displayed.scaled ∙ ap (λ e. size n.significand * 10 ^ e) (sym shown.exponent_is) in
-    let same_entry : shown.entry ≡ entry_shown format n = shown.displayed.entry_is ∙ ap (λ y. entry_for format.table (magnitude_place y)) same_size in
+    let same_size : shown.shown ≡ size_shown n = sym shown.decomposed.scaled ∙ ap (λ e. size n.significand * 10 ^ e) (sym shown.exponent_is) in
+    let same_entry : shown.entry ≡ entry_shown format n = shown.decomposed.entry_is ∙ ap (λ y. entry_for format.table (magnitude_place y)) same_size in
     record {
       exponent_is = shown.exponent_is ∙ ap exponent_of same_entry;
       spelled =
           ap characters shown.events_are ∙ characters-without_parts (filled_events format shown.entry n.significand)
           ∙ ap (λ entry. characters (filled_events format entry n.significand)) same_entry
-          ∙ characters-placed (pattern_shown format n).literal (pattern_shown format n).placeholder (unsigned_events format.decimal n.significand);
+          ∙ characters-in_pattern (pattern_shown format n).literal (pattern_shown format n).placeholder (unsigned_events format.decimal n.significand);
     }

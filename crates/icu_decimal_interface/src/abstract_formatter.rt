@@ -4,7 +4,7 @@ ghost use Rattle.std.specs.Prelude.{◌≡◌, ◌≢◌, ◌↔◌, ◌≤◌, 
 ghost use Rattle.fixed_decimal.specs.Size.{size};
 ghost use Rattle.fixed_decimal.specs.Unsigned.{IsUnsigned, Unsigned};
 ghost use Rattle.icu_decimal_data.specs.declared.decimal_symbols.DecimalSymbols.{DecimalSymbols};
-ghost use Rattle.icu_decimal_interface.specs.Shown.{Shown, framed_shown, operands_shown, size_shown};
+ghost use Rattle.icu_decimal_interface.specs.Shown.{Shown, framed_events, operands_shown, size_shown};
 ghost use Rattle.icu_decimal_interface.specs.ShownLaws.{IsAtTheLimit, IsShownNear};
 ghost use Rattle.icu_decimal.specs.Signed.{affixes_for};
 ghost use Rattle.icu_decimal.specs.CompactFormat.{CompactFormat};
@@ -80,7 +80,7 @@ pub trait AbstractFormatter: Sealed {
         out: &mut K,
     ) -> Result<(), FormatError>
         ensures written { WroteSuch K.wrote out.old result (shows self.now value.now)
-            (framed_shown (T.framed frame.now)) out.new }
+            (framed_events (T.framed frame.now)) out.new }
         ensures overflow { IsErrOf result FormatError.Overflow ↔ overflows self.now value.now }
         ensures memory { IsErrOf result FormatError.OutOfMemory → takes_memory self.now }
     {
@@ -192,9 +192,9 @@ pub trait AbstractFormatter: Sealed {
         sink: &mut S,
     ) -> Result<(), FormatError>
         ensures written { WritesSuch S.events S.failures sink.old result (shows self.now value.now)
-            (framed_shown (T.framed frame.now)) sink.new }
+            (framed_events (T.framed frame.now)) sink.new }
         ensures limited { KeepsLimitSuch S.events S.limit S.refusals sink.old result
-            (shows self.now value.now) (framed_shown (T.framed frame.now)) sink.new }
+            (shows self.now value.now) (framed_events (T.framed frame.now)) sink.new }
         ensures overflow { IsErrOf result FormatError.Overflow ↔ overflows self.now value.now }
         ensures memory { IsErrOf result FormatError.OutOfMemory → takes_memory self.now }
     {
@@ -213,7 +213,7 @@ pub trait AbstractFormatter: Sealed {
         frame: &T,
     ) -> Result<String, FormatError>
         ensures text { IfOk result (λ t. (n : Shown) × shows self.now value.now n
-            × (string_bytes t ≡ text_of (framed_shown (T.framed frame.now) n))) }
+            × (string_bytes t ≡ text_of (framed_events (T.framed frame.now) n))) }
         ensures overflow { IsErrOf result FormatError.Overflow ↔ overflows self.now value.now }
         ensures no_sink { IfErr result (λ e. e ≢ FormatError.Sink) }
     {

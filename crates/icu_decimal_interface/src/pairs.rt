@@ -4,7 +4,7 @@ ghost use Rattle.std.specs.Prelude.{◌≡◌, ◌↔◌, ◌⊎◌, List, Resul
 ghost use Rattle.writeable.specs.Events.{Event};
 ghost use Rattle.icu_plurals.specs.Operands.{Operands};
 ghost use Rattle.icu_decimal_interface.specs.Shown.{operands_shown};
-ghost use Rattle.icu_decimal_interface.specs.Nested.{BothSuch, pair_shown};
+ghost use Rattle.icu_decimal_interface.specs.Nested.{BothSuch, pair_events};
 ghost use Rattle.icu_decimal_interface.specs.UsesShown.{WroteSuch};
 
 use crate::abstract_formatter::AbstractFormatter;
@@ -152,7 +152,7 @@ pub fn write_pair_into<F: AbstractFormatter, G: AbstractFormatter, T: PairFrame,
 ) -> Result<(), FormatError>
     ensures written { WroteSuch K.wrote out.old result
         (BothSuch (F.shows formatter.now first.now) (G.shows inner.now second.now))
-        (pair_shown (T.framed frame.now)) out.new }
+        (pair_events (T.framed frame.now)) out.new }
     ensures overflow { IsErrOf result FormatError.Overflow
         ↔ (F.overflows formatter.now first.now
         ⊎ (¬ (IsErrOf result FormatError.OutOfMemory) × G.overflows inner.now second.now)) }

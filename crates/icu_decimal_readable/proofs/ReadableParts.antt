@@ -4,8 +4,8 @@ use Rattle.std.proofs.Common.{IsTrue}
 use Rattle.std.proofs.lemmas.Str.{chars-nil}
 use Rattle.fixed_decimal.specs.declared.signs.Sign.{Sign}
 use Rattle.fixed_decimal.specs.declared.signs.Sign.TheVariants.{Negative, Positive, None as NoSign}
-use Rattle.icu_decimal_data.specs.Symbols.{SymbolTexts}
-use Rattle.icu_decimal_readable.specs.Readable.{Surroundings, affixes, IsFreeOfDigits, IsFreeThroughout, SeparatorsTold, SignsDiffer, IsReadable}
+use Rattle.icu_decimal_symbols.specs.Symbols.{SymbolTexts}
+use Rattle.icu_decimal_readable.specs.Readable.{Surroundings, affixes, IsFreeOfDigits, IsFreeThroughout, SeparatorsDistinct, SignsDiffer, IsReadable}
 
 -- the characters of both texts
 abbrev pub pair : List ℕ → List ℕ → Surroundings
@@ -35,33 +35,33 @@ parts : (a b : Surroundings) → a ≡ b → (a.before ≡ b.before) × (a.after
 parts a b e = (ap (λ (x : Surroundings). x.before) e, ap (λ (x : Surroundings). x.after) e)
 
 -- affixes that differ determine their sign
-pub signs_told : (f : SymbolTexts)
+pub signs_distinct : (f : SymbolTexts)
     → ((chars f.minus_sign_prefix ≡ chars []) × (chars f.minus_sign_suffix ≡ chars []) → ⊥)
     → ((chars f.plus_sign_prefix ≡ chars []) × (chars f.plus_sign_suffix ≡ chars []) → ⊥)
     → ((chars f.minus_sign_prefix ≡ chars f.plus_sign_prefix) × (chars f.minus_sign_suffix ≡ chars f.plus_sign_suffix) → ⊥)
     → SignsDiffer f
-signs_told f m p b NoSign NoSign e = refl
-signs_told f m p b NoSign Negative e = absurd (m (parts (affixes f Negative) (pair [] []) (sym e ∙ nothing f)))
-signs_told f m p b NoSign Positive e = absurd (p (parts (affixes f Positive) (pair [] []) (sym e ∙ nothing f)))
-signs_told f m p b Negative NoSign e = absurd (m (parts (affixes f Negative) (pair [] []) (e ∙ nothing f)))
-signs_told f m p b Negative Negative e = refl
-signs_told f m p b Negative Positive e = absurd (b (parts (affixes f Negative) (affixes f Positive) e))
-signs_told f m p b Positive NoSign e = absurd (p (parts (affixes f Positive) (pair [] []) (e ∙ nothing f)))
-signs_told f m p b Positive Negative e = absurd (b (parts (affixes f Negative) (affixes f Positive) (sym e)))
-signs_told f m p b Positive Positive e = refl
+signs_distinct f m p b NoSign NoSign e = refl
+signs_distinct f m p b NoSign Negative e = absurd (m (parts (affixes f Negative) (pair [] []) (sym e ∙ nothing f)))
+signs_distinct f m p b NoSign Positive e = absurd (p (parts (affixes f Positive) (pair [] []) (sym e ∙ nothing f)))
+signs_distinct f m p b Negative NoSign e = absurd (m (parts (affixes f Negative) (pair [] []) (e ∙ nothing f)))
+signs_distinct f m p b Negative Negative e = refl
+signs_distinct f m p b Negative Positive e = absurd (b (parts (affixes f Negative) (affixes f Positive) e))
+signs_distinct f m p b Positive NoSign e = absurd (p (parts (affixes f Positive) (pair [] []) (e ∙ nothing f)))
+signs_distinct f m p b Positive Negative e = absurd (b (parts (affixes f Negative) (affixes f Positive) (sym e)))
+signs_distinct f m p b Positive Positive e = refl
 
 -- readability in its parts
 pub readable_of : (f : SymbolTexts) (digits : List ℕ) → length digits ≡ 10 → AllPairs (λ c d. c ≢ d) digits → IsFreeThroughout f digits →
-    SeparatorsTold f → SignsDiffer f → IsReadable f digits
-readable_of f digits ten different free told signs = record {
+    SeparatorsDistinct f → SignsDiffer f → IsReadable f digits
+readable_of f digits ten different free distinct signs = record {
   ten = ten;
   different = different;
   affixes_free = affixes_free;
   decimal_free = free.decimal_free;
   grouping_free = free.grouping_free;
-  decimal_some = told.decimal_some;
-  separators_differ = told.separators_differ;
-  sign_told = signs;
+  decimal_some = distinct.decimal_some;
+  separators_differ = distinct.separators_differ;
+  sign_distinct = signs;
 }
   where
     affixes_free : (s : Sign) → IsFreeOfDigits digits (affixes f s)

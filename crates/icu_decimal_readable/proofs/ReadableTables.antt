@@ -14,22 +14,24 @@ use Rattle.icu_pattern.specs.Patterns.{PatternText, placeholder_alone}
 use Rattle.icu_decimal_data.specs.CompactTable.{PatternElements, TableEntry}
 use Rattle.icu_decimal_readable.specs.Readable.{Surroundings, sides, HasNoDigit, HasPattern, IsFreeOfDigits, IsReadableTable}
 use Rattle.icu_decimal_readable.specs.declared.readable_table.Number.{Number}
-use Rattle.icu_decimal_readable.specs.ReadableTable.{surroundings_of, AreTold, HasPlaceAndNoDigit, HoldsOfEntry, HoldsThroughout, IsToldFrom, IsToldThroughout}
+use Rattle.icu_decimal_readable.specs.ReadableTable.{surroundings_of, AreDistinct, HasPlaceholderAndNoDigit, HoldsOfEntry, HoldsThroughout, IsDistinctFrom}
+use Rattle.icu_decimal_readable.specs.ReadableTable.{IsDistinctThroughout}
 use Rattle.icu_decimal_readable.specs.ReadableTable.{TellsNumbers}
-use Rattle.icu_decimal_data.specs.Symbols.{SymbolTexts}
+use Rattle.icu_decimal_symbols.specs.Symbols.{SymbolTexts}
 
 -- a pattern with a place and no digit
-pub placed_of : (digits : List ℕ) (p : PatternText) (a : Surroundings) → a ≡ sides p → IsSome p.placeholder → HasNoDigit digits a.before →
-    HasNoDigit digits a.after → HasPlaceAndNoDigit digits p
-placed_of digits p a is some before after = record {
-  placed = some;
+pub has_placeholder_of : (digits : List ℕ) (p : PatternText) (a : Surroundings) → a ≡ sides p → IsSome p.placeholder → HasNoDigit digits a.before →
+    HasNoDigit digits a.after → HasPlaceholderAndNoDigit digits p
+has_placeholder_of digits p a is some before after = record {
+  has_placeholder = some;
   sides_free =
       subst (IsFreeOfDigits digits) is (record { before_free = before; after_free = after });
 }
 
 -- a pattern with a place and no digit has none around its place
-pub sides_of_placed : (digits : List ℕ) (p : PatternText) (a : Surroundings) → a ≡ sides p → HasPlaceAndNoDigit digits p → IsFreeOfDigits digits a
-sides_of_placed digits p a is h = subst (IsFreeOfDigits digits) (sym is) h.sides_free
+pub sides_with_placeholder : (digits : List ℕ) (p : PatternText) (a : Surroundings) → a ≡ sides p → HasPlaceholderAndNoDigit digits p
+    → IsFreeOfDigits digits a
+sides_with_placeholder digits p a is h = subst (IsFreeOfDigits digits) (sym is) h.sides_free
 
 -- the patterns of an entry are those in its slots
 if_some : (P : PatternText → Type 0) (o : Option PatternText) → ((p : PatternText) → o ≡ Some p → P p) → IfSome o P
@@ -115,23 +117,24 @@ module _ (P : ℕ → PatternText → Type 0) where
   entry_passed (Some e) b t h = h.0 t
 
 -- readability in its parts
-pub readable_table_of : (texts : SymbolTexts) (digits : List ℕ) (table : List TableEntry) → HoldsThroughout (λ m p. HasPlaceAndNoDigit digits p) table →
+pub readable_table_of : (texts : SymbolTexts) (digits : List ℕ) (table : List TableEntry)
+    → HoldsThroughout (λ m p. HasPlaceholderAndNoDigit digits p) table →
     HoldsThroughout (TellsNumbers texts table) table → IsReadableTable texts digits table
-readable_table_of texts digits table placed told = record {
-  placed = λ by p h. (placed by p h).placed;
-  sides_free = λ by p h. (placed by p h).sides_free;
-  told = λ s t by to p q h i e. told by p h s to q i t e;
+readable_table_of texts digits table has_placeholder distinct = record {
+  has_placeholder = λ by p h. (has_placeholder by p h).has_placeholder;
+  sides_free = λ by p h. (has_placeholder by p h).sides_free;
+  distinct = λ s t by to p q h i e. distinct by p h s to q i t e;
 }
 
 -- in a readable table each pattern has a place and no digit
-pub placed_throughout : (texts : SymbolTexts) (digits : List ℕ) (table : List TableEntry) → IsReadableTable texts digits table →
-    HoldsThroughout (λ m p. HasPlaceAndNoDigit digits p) table
-placed_throughout texts digits table h = λ by p is. record { placed = h.placed by p is; sides_free = h.sides_free by p is }
+pub has_placeholder_throughout : (texts : SymbolTexts) (digits : List ℕ) (table : List TableEntry) → IsReadableTable texts digits table →
+    HoldsThroughout (λ m p. HasPlaceholderAndNoDigit digits p) table
+has_placeholder_throughout texts digits table h = λ by p is. record { has_placeholder = h.has_placeholder by p is; sides_free = h.sides_free by p is }
 
 -- a readable table determines the numbers in each of its patterns
-pub told_throughout : (texts : SymbolTexts) (digits : List ℕ) (table : List TableEntry) → IsReadableTable texts digits table →
+pub distinct_throughout : (texts : SymbolTexts) (digits : List ℕ) (table : List TableEntry) → IsReadableTable texts digits table →
     HoldsThroughout (TellsNumbers texts table) table
-told_throughout texts digits table h = λ by p is s to q i t e. h.told s t by to p q is i e
+distinct_throughout texts digits table h = λ by p is s to q i t e. h.distinct s t by to p q is i e
 
 -- what holds of all three signs
 pub each_sign : (P : Sign → Type 0) → P NoSign → P Negative → P Positive → (s : Sign) → P s
@@ -140,36 +143,37 @@ each_sign P n m p Negative = m
 each_sign P n m p Positive = p
 
 -- by what stands on a pattern's two sides
-pub told_of : (texts : SymbolTexts) (table : List TableEntry) (s : Sign) (m : ℕ) (p : PatternText) (a : Surroundings) → a ≡ sides p →
-    IsToldThroughout texts table s m a → IsToldThroughout texts table s m (sides p)
-told_of texts table s m p a is h = let T : Surroundings → Type 0 = IsToldThroughout texts table s m in subst T is h
+pub distinct_of : (texts : SymbolTexts) (table : List TableEntry) (s : Sign) (m : ℕ) (p : PatternText) (a : Surroundings) → a ≡ sides p →
+    IsDistinctThroughout texts table s m a → IsDistinctThroughout texts table s m (sides p)
+distinct_of texts table s m p a is h = let T : Surroundings → Type 0 = IsDistinctThroughout texts table s m in subst T is h
 
 -- a pattern that determines its numbers differs from every other by what stands around its place
-pub told_by_sides : (texts : SymbolTexts) (table : List TableEntry) (s : Sign) (m : ℕ) (p : PatternText) (a : Surroundings) → a ≡ sides p →
-    TellsNumbers texts table m p → IsToldThroughout texts table s m a
-told_by_sides texts table s m p a is h = let T : Surroundings → Type 0 = IsToldThroughout texts table s m in subst T (sym is) (h s)
+pub distinct_by_sides : (texts : SymbolTexts) (table : List TableEntry) (s : Sign) (m : ℕ) (p : PatternText) (a : Surroundings) → a ≡ sides p →
+    TellsNumbers texts table m p → IsDistinctThroughout texts table s m a
+distinct_by_sides texts table s m p a is h = let T : Surroundings → Type 0 = IsDistinctThroughout texts table s m in subst T (sym is) (h s)
 
 -- that two patterns are distinguished is said of what stands around their places
-pub told_from_of : (texts : SymbolTexts) (s : Sign) (m : ℕ) (a : Surroundings) (n : ℕ) (q : PatternText) (b : Surroundings) (r : Bool) → b ≡ sides q →
-    (IsTrue r ↔ IsToldFrom texts s m a n b) → IsTrue r ↔ IsToldFrom texts s m a n (sides q)
-told_from_of texts s m a n q b r is h = let T : Surroundings → Type 0 = λ x. IsTrue r ↔ IsToldFrom texts s m a n x in subst T is h
+pub distinct_from_of : (texts : SymbolTexts) (s : Sign) (m : ℕ) (a : Surroundings) (n : ℕ) (q : PatternText) (b : Surroundings) (r : Bool) → b ≡ sides q
+    →
+    (IsTrue r ↔ IsDistinctFrom texts s m a n b) → IsTrue r ↔ IsDistinctFrom texts s m a n (sides q)
+distinct_from_of texts s m a n q b r is h = let T : Surroundings → Type 0 = λ x. IsTrue r ↔ IsDistinctFrom texts s m a n x in subst T is h
 
 -- what is determined with symbols is determined with equal symbols
-pub told_with : (texts given : SymbolTexts) (table : List TableEntry) → given ≡ texts → HoldsThroughout (TellsNumbers given table) table →
+pub distinct_with : (texts given : SymbolTexts) (table : List TableEntry) → given ≡ texts → HoldsThroughout (TellsNumbers given table) table →
     HoldsThroughout (TellsNumbers texts table) table
-told_with texts given table is h = let T : SymbolTexts → Type 0 = λ x. HoldsThroughout (TellsNumbers x table) table in subst T is h
+distinct_with texts given table is h = let T : SymbolTexts → Type 0 = λ x. HoldsThroughout (TellsNumbers x table) table in subst T is h
 
 -- by a number that was made with another sign
-pub told_as : (texts : SymbolTexts) (first made meant : Number) (r : Bool) → made ≡ meant
-    → (IsTrue r ↔ AreTold texts first.sign first.exponent (surroundings_of first.sides) made.sign made.exponent (surroundings_of made.sides))
-    → IsTrue r ↔ AreTold texts first.sign first.exponent (surroundings_of first.sides) meant.sign meant.exponent (surroundings_of meant.sides)
-told_as texts first made meant r is h =
-    let T : Number → Type 0 = λ x. IsTrue r ↔ AreTold texts first.sign first.exponent (surroundings_of first.sides) x.sign x.exponent
+pub distinct_as : (texts : SymbolTexts) (first made meant : Number) (r : Bool) → made ≡ meant
+    → (IsTrue r ↔ AreDistinct texts first.sign first.exponent (surroundings_of first.sides) made.sign made.exponent (surroundings_of made.sides))
+    → IsTrue r ↔ AreDistinct texts first.sign first.exponent (surroundings_of first.sides) meant.sign meant.exponent (surroundings_of meant.sides)
+distinct_as texts first made meant r is h =
+    let T : Number → Type 0 = λ x. IsTrue r ↔ AreDistinct texts first.sign first.exponent (surroundings_of first.sides) x.sign x.exponent
     (surroundings_of x.sides) in subst T is h
 
 -- what is determined of a number is determined of an equal number
-pub told_throughout_as : (texts : SymbolTexts) (table : List TableEntry) (made meant : Number) (r : Bool) → made ≡ meant
-    → (IsTrue r ↔ IsToldThroughout texts table made.sign made.exponent (surroundings_of made.sides))
-    → IsTrue r ↔ IsToldThroughout texts table meant.sign meant.exponent (surroundings_of meant.sides)
-told_throughout_as texts table made meant r is h =
-    let T : Number → Type 0 = λ x. IsTrue r ↔ IsToldThroughout texts table x.sign x.exponent (surroundings_of x.sides) in subst T is h
+pub distinct_throughout_as : (texts : SymbolTexts) (table : List TableEntry) (made meant : Number) (r : Bool) → made ≡ meant
+    → (IsTrue r ↔ IsDistinctThroughout texts table made.sign made.exponent (surroundings_of made.sides))
+    → IsTrue r ↔ IsDistinctThroughout texts table meant.sign meant.exponent (surroundings_of meant.sides)
+distinct_throughout_as texts table made meant r is h =
+    let T : Number → Type 0 = λ x. IsTrue r ↔ IsDistinctThroughout texts table x.sign x.exponent (surroundings_of x.sides) in subst T is h

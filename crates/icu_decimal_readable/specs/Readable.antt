@@ -5,7 +5,7 @@ use Rattle.fixed_decimal.specs.declared.signs.Sign.{Sign}
 use Rattle.fixed_decimal.specs.declared.signs.Sign.TheVariants.{Negative, Positive, None as NoSign}
 use Rattle.icu_pattern.specs.Patterns.{PatternText, placeholder_alone}
 use Rattle.icu_decimal_data.specs.CompactTable.{PatternElements, TableEntry, exponent_of}
-use Rattle.icu_decimal_data.specs.Symbols.{SymbolTexts}
+use Rattle.icu_decimal_symbols.specs.Symbols.{SymbolTexts}
 
 -- the characters before a number and after it
 pub record Surroundings : Type 0 where
@@ -41,7 +41,7 @@ pub record IsReadable (texts : SymbolTexts) (digits : List ℕ) : Type 0 where
   pub grouping_free : HasNoDigit digits (chars texts.grouping_separator)
   pub decimal_some : chars texts.decimal_separator ≢ []
   pub separators_differ : chars texts.decimal_separator ≢ chars texts.grouping_separator
-  pub sign_told : SignsDiffer texts
+  pub sign_distinct : SignsDiffer texts
 
 -- ---- parts of this, each with a test of its own
 
@@ -55,7 +55,7 @@ pub record IsFreeThroughout (texts : SymbolTexts) (digits : List ℕ) : Type 0 w
   pub grouping_free : HasNoDigit digits (chars texts.grouping_separator)
 
 -- the decimal separator isn't empty, and differs from the grouping separator
-pub record SeparatorsTold (texts : SymbolTexts) : Type 0 where
+pub record SeparatorsDistinct (texts : SymbolTexts) : Type 0 where
   pub decimal_some : chars texts.decimal_separator ≢ []
   pub separators_differ : chars texts.decimal_separator ≢ chars texts.grouping_separator
 
@@ -94,7 +94,7 @@ IsPatternBy table (Some e) p = Contains table e × HasPattern e.elements p
 -- What a compact table adds: each pattern has a place and no digit; and the affixes and the sides of the pattern together
 -- determine the sign and the exponent.
 pub record IsReadableTable (texts : SymbolTexts) (digits : List ℕ) (table : List TableEntry) : Type 0 where
-  pub placed : (by : Option TableEntry) (p : PatternText) → IsPatternBy table by p → IsSome p.placeholder
+  pub has_placeholder : (by : Option TableEntry) (p : PatternText) → IsPatternBy table by p → IsSome p.placeholder
   pub sides_free : (by : Option TableEntry) (p : PatternText) → IsPatternBy table by p → IsFreeOfDigits digits (sides p)
-  pub told : (s t : Sign) (by to : Option TableEntry) (p q : PatternText) → IsPatternBy table by p → IsPatternBy table to q
+  pub distinct : (s t : Sign) (by to : Option TableEntry) (p q : PatternText) → IsPatternBy table by p → IsPatternBy table to q
       → surroundings texts s p ≡ surroundings texts t q → (s ≡ t) × (exponent_of by ≡ exponent_of to)

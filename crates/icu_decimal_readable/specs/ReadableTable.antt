@@ -5,7 +5,7 @@ use Rattle.fixed_decimal.specs.declared.signs.Sign.{Sign}
 use Rattle.icu_pattern.specs.Patterns.{PatternText}
 use Rattle.icu_decimal_data.specs.CompactTable.{TableEntry, exponent_of}
 use Rattle.icu_decimal_readable.specs.Readable.{Surroundings, affixes, sides, HasPattern, IsFreeOfDigits, IsPatternBy}
-use Rattle.icu_decimal_data.specs.Symbols.{SymbolTexts}
+use Rattle.icu_decimal_symbols.specs.Symbols.{SymbolTexts}
 use Rattle.icu_decimal_readable.specs.declared.readable_table.Sides.{Sides}
 
 -- the characters of two texts
@@ -20,8 +20,8 @@ around texts sign a = record {
 }
 
 -- a pattern has a place and no digit
-pub record HasPlaceAndNoDigit (digits : List ℕ) (p : PatternText) : Type 0 where
-  pub placed : IsSome p.placeholder
+pub record HasPlaceholderAndNoDigit (digits : List ℕ) (p : PatternText) : Type 0 where
+  pub has_placeholder : IsSome p.placeholder
   pub sides_free : IsFreeOfDigits digits (sides p)
 
 -- a property of exponents and patterns holds of each pattern of an entry
@@ -34,17 +34,17 @@ HoldsThroughout P table = (by : Option TableEntry) (p : PatternText) → IsPatte
 
 -- two numbers with these signs, exponents and sides have the same characters around them only if they have the same sign
 -- and exponent
-abbrev pub AreTold : SymbolTexts → Sign → ℕ → Surroundings → Sign → ℕ → Surroundings → Type 0
-AreTold texts s m a t n b = around texts s a ≡ around texts t b → (s ≡ t) × (m ≡ n)
+abbrev pub AreDistinct : SymbolTexts → Sign → ℕ → Surroundings → Sign → ℕ → Surroundings → Type 0
+AreDistinct texts s m a t n b = around texts s a ≡ around texts t b → (s ≡ t) × (m ≡ n)
 
 -- a number is distinguished from a second one, whatever the sign of that
-abbrev pub IsToldFrom : SymbolTexts → Sign → ℕ → Surroundings → ℕ → Surroundings → Type 0
-IsToldFrom texts s m a n b = (t : Sign) → AreTold texts s m a t n b
+abbrev pub IsDistinctFrom : SymbolTexts → Sign → ℕ → Surroundings → ℕ → Surroundings → Type 0
+IsDistinctFrom texts s m a n b = (t : Sign) → AreDistinct texts s m a t n b
 
 -- a number is distinguished from those of each pattern
-abbrev pub IsToldThroughout : SymbolTexts → List TableEntry → Sign → ℕ → Surroundings → Type 0
-IsToldThroughout texts table s m a = HoldsThroughout (λ n q. IsToldFrom texts s m a n (sides q)) table
+abbrev pub IsDistinctThroughout : SymbolTexts → List TableEntry → Sign → ℕ → Surroundings → Type 0
+IsDistinctThroughout texts table s m a = HoldsThroughout (λ n q. IsDistinctFrom texts s m a n (sides q)) table
 
 -- the numbers of a pattern with this exponent are distinguished from those of each pattern, whatever their sign
 abbrev pub TellsNumbers : SymbolTexts → List TableEntry → ℕ → PatternText → Type 0
-TellsNumbers texts table m p = (s : Sign) → IsToldThroughout texts table s m (sides p)
+TellsNumbers texts table m p = (s : Sign) → IsDistinctThroughout texts table s m (sides p)

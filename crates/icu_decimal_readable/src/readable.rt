@@ -1,10 +1,10 @@
 //! Whether the texts of numbers determine the numbers.
 
 ghost use Rattle.std.specs.Prelude.{◌≡◌, ◌≢◌, ◌↔◌, ◌<◌, ℕ, IsTrue, AllPairs, chars, length, slice_index_or};
-ghost use Rattle.icu_decimal_data.specs.Given.{texts_given};
-ghost use Rattle.icu_decimal_readable.specs.Readable.{HasNoDigit, IsFreeThroughout, IsReadable, SeparatorsTold, SignsDiffer};
+ghost use Rattle.icu_decimal_symbols.specs.LentTexts.{lent_texts};
+ghost use Rattle.icu_decimal_readable.specs.Readable.{HasNoDigit, IsFreeThroughout, IsReadable, SeparatorsDistinct, SignsDiffer};
 
-use icu_decimal_data::{DecimalSymbolStrsBuilder, DecimalSymbols};
+use icu_decimal_symbols::{DecimalSymbolStrsBuilder, DecimalSymbols};
 
 /// Whether no character of the text is one of the digits.
 pub(crate) fn has_no_digit(digits: &[char], text: &str) -> bool
@@ -60,7 +60,7 @@ fn are_same_pair(a: &str, b: &str, c: &str, d: &str) -> bool
 
 /// Whether no two signs have the same affixes.
 fn signs_differ(texts: &DecimalSymbolStrsBuilder<'_>) -> bool
-    ensures { IsTrue result ↔ SignsDiffer (texts_given texts.now) }
+    ensures { IsTrue result ↔ SignsDiffer (lent_texts texts.now) }
 {
     if are_same_pair(texts.minus_sign_prefix, texts.minus_sign_suffix, "", "") {
         return false;
@@ -78,7 +78,7 @@ fn signs_differ(texts: &DecimalSymbolStrsBuilder<'_>) -> bool
 
 /// Whether no affix and no separator has a digit.
 fn is_free_of_digits(texts: &DecimalSymbolStrsBuilder<'_>, digits: &[char]) -> bool
-    ensures { IsTrue result ↔ IsFreeThroughout (texts_given texts.now) digits.now }
+    ensures { IsTrue result ↔ IsFreeThroughout (lent_texts texts.now) digits.now }
 {
     if !has_no_digit(digits, texts.minus_sign_prefix) {
         return false;
@@ -99,8 +99,8 @@ fn is_free_of_digits(texts: &DecimalSymbolStrsBuilder<'_>, digits: &[char]) -> b
 }
 
 /// Whether the decimal separator has a character and differs from the grouping separator.
-fn are_separators_told(texts: &DecimalSymbolStrsBuilder<'_>) -> bool
-    ensures { IsTrue result ↔ SeparatorsTold (texts_given texts.now) }
+fn are_separators_distinct(texts: &DecimalSymbolStrsBuilder<'_>) -> bool
+    ensures { IsTrue result ↔ SeparatorsDistinct (lent_texts texts.now) }
 {
     if has_same_characters(texts.decimal_separator, "") {
         return false;
@@ -110,7 +110,7 @@ fn are_separators_told(texts: &DecimalSymbolStrsBuilder<'_>) -> bool
 
 /// Whether numbers with these texts and digits are readable.
 fn are_readable(texts: &DecimalSymbolStrsBuilder<'_>, digits: &[char; 10]) -> bool
-    ensures { IsTrue result ↔ IsReadable (texts_given texts.now) digits.now }
+    ensures { IsTrue result ↔ IsReadable (lent_texts texts.now) digits.now }
 {
     if !are_different(digits) {
         return false;
@@ -118,7 +118,7 @@ fn are_readable(texts: &DecimalSymbolStrsBuilder<'_>, digits: &[char; 10]) -> bo
     if !is_free_of_digits(texts, digits) {
         return false;
     }
-    if !are_separators_told(texts) {
+    if !are_separators_distinct(texts) {
         return false;
     }
     signs_differ(texts)

@@ -3,14 +3,15 @@
 ghost use Rattle.std.specs.Prelude.{◌≡◌, ◌↔◌, ◌++◌, ◌<◌, ℕ, IsTrue, IfSome, None, chars, length, slice_get, slice_index_or};
 ghost use Rattle.icu_plurals.specs.Elements.{slots};
 ghost use Rattle.icu_pattern.specs.Patterns.{PatternText, PlaceholderFits};
-ghost use Rattle.icu_decimal_data.specs.Given.{texts_given};
+ghost use Rattle.icu_decimal_symbols.specs.LentTexts.{lent_texts};
 ghost use Rattle.icu_decimal_readable.specs.Readable.{affixes, sides_at, sides, IsReadableTable};
-ghost use Rattle.icu_decimal_readable.specs.ReadableTable.{surroundings_of, around, AreTold, HasPlaceAndNoDigit, HoldsOfEntry, HoldsThroughout};
-ghost use Rattle.icu_decimal_readable.specs.ReadableTable.{IsToldFrom, IsToldThroughout, TellsNumbers};
+ghost use Rattle.icu_decimal_readable.specs.ReadableTable.{surroundings_of, around, AreDistinct, HasPlaceholderAndNoDigit, HoldsOfEntry, HoldsThroughout};
+ghost use Rattle.icu_decimal_readable.specs.ReadableTable.{IsDistinctFrom, IsDistinctThroughout, TellsNumbers};
 
 use crate::readable::has_no_digit;
 use fixed_decimal::Sign;
-use icu_decimal_data::{CompactPatterns, DecimalSymbolStrsBuilder, DecimalSymbols};
+use icu_decimal_data::CompactPatterns;
+use icu_decimal_symbols::{DecimalSymbolStrsBuilder, DecimalSymbols};
 use icu_pattern::SinglePlaceholder;
 
 /// What stands before a number and after it.
@@ -21,14 +22,14 @@ struct Sides<'a> {
 }
 
 /// The literal of a pattern before and after its place; without a place all of it is before.
-fn sides_of<'a>(place: Option<usize>, literal: &'a str) -> Sides<'a>
-    requires { PlaceholderFits (record { placeholder = place; literal = literal.now }) }
-    ensures { surroundings_of result ≡ sides_at place literal.now }
+fn sides_of<'a>(placeholder: Option<usize>, literal: &'a str) -> Sides<'a>
+    requires { PlaceholderFits (record { placeholder = placeholder; literal = literal.now }) }
+    ensures { surroundings_of result ≡ sides_at placeholder literal.now }
 {
-    match place {
-        Some(place) => Sides {
-            before: &literal[..place],
-            after: &literal[place..],
+    match placeholder {
+        Some(placeholder) => Sides {
+            before: &literal[..placeholder],
+            after: &literal[placeholder..],
         },
         None => Sides {
             before: literal,
@@ -39,7 +40,7 @@ fn sides_of<'a>(place: Option<usize>, literal: &'a str) -> Sides<'a>
 
 /// The affixes of a sign.
 fn affixes<'a>(texts: &DecimalSymbolStrsBuilder<'a>, sign: Sign) -> Sides<'a>
-    ensures { surroundings_of result ≡ affixes (texts_given texts.now) sign }
+    ensures { surroundings_of result ≡ affixes (lent_texts texts.now) sign }
 {
     match sign {
         Sign::None => Sides {
@@ -104,8 +105,8 @@ fn have_same_surroundings(
     first: Number<'_>,
     second: Number<'_>,
 ) -> bool
-    ensures { IsTrue result ↔ (around (texts_given texts.now) first.entry.sign
-        (surroundings_of first.entry.sides) ≡ around (texts_given texts.now) second.entry.sign
+    ensures { IsTrue result ↔ (around (lent_texts texts.now) first.entry.sign
+        (surroundings_of first.entry.sides) ≡ around (lent_texts texts.now) second.entry.sign
         (surroundings_of second.entry.sides)) }
 {
     let (a, b) = (affixes(texts, first.sign), first.sides);
@@ -122,10 +123,14 @@ trait PatternTest {
     ghost holds: { Self → ℕ → PatternText → Type 0 };
 
     /// Whether a pattern passes the test.
-    fn passes(&self, exponent: u8, place: Option<usize>, literal: &str) -> bool
-        requires { PlaceholderFits (record { placeholder = place; literal = literal.now }) }
+    fn passes(&self, exponent: u8, placeholder: Option<usize>, literal: &str) -> bool
+        requires { PlaceholderFits (record { placeholder = placeholder; literal = literal.now }) }
         ensures { IsTrue result
-            ↔ holds self.now exponent (record { placeholder = place; literal = literal.now }) };
+            ↔ holds self.now exponent (record {
+              placeholder = placeholder;
+              literal =
+                  literal.now;
+            }) };
 }
 
 /// Whether the pattern in a slot of an entry passes a test, if there is one.
@@ -141,7 +146,11 @@ fn slot_passes<T: PatternTest>(
         ↔ IfSome (slice_index_or (slots e.elements) slot None) (T.holds test.now e.exponent)) }
 {
     match patterns.slot(index, slot) {
-        Some(pattern) => test.passes(patterns.exponent(index), pattern.place(), pattern.literal()),
+        Some(pattern) => test.passes(
+            patterns.exponent(index),
+            pattern.placeholder(),
+            pattern.literal(),
+        ),
         None => true,
     }
 }
@@ -181,18 +190,18 @@ fn all_pass<T: PatternTest>(patterns: &CompactPatterns<SinglePlaceholder>, test:
 
 /// Tests that a pattern has a place and no digit.
 #[derive(Clone, Copy)]
-struct Placed<'a> {
+struct WithPlaceholder<'a> {
     digits: &'a [char],
 }
 
-impl PatternTest for Placed<'_> {
-    ghost use Rattle.icu_decimal_readable.specs.ReadableTable.{HasPlaceAndNoDigit};
+impl PatternTest for WithPlaceholder<'_> {
+    ghost use Rattle.icu_decimal_readable.specs.ReadableTable.{HasPlaceholderAndNoDigit};
 
-    ghost holds = { λ t m p. HasPlaceAndNoDigit t.digits.now p };
+    ghost holds = { λ t m p. HasPlaceholderAndNoDigit t.digits.now p };
 
-    fn passes(&self, _exponent: u8, place: Option<usize>, literal: &str) -> bool {
-        let sides = sides_of(place, literal);
-        if place.is_none() {
+    fn passes(&self, _exponent: u8, placeholder: Option<usize>, literal: &str) -> bool {
+        let sides = sides_of(placeholder, literal);
+        if placeholder.is_none() {
             return false;
         }
         if !has_no_digit(self.digits, sides.before) {
@@ -203,8 +212,9 @@ impl PatternTest for Placed<'_> {
 }
 
 /// Whether two numbers have the same sign and exponent, or different characters around them.
-fn are_told(texts: &DecimalSymbolStrsBuilder<'_>, first: Number<'_>, second: Number<'_>) -> bool
-    ensures { IsTrue result ↔ AreTold (texts_given texts.now) first.entry.sign first.entry.exponent
+fn are_distinct(texts: &DecimalSymbolStrsBuilder<'_>, first: Number<'_>, second: Number<'_>) -> bool
+    ensures { IsTrue result ↔ AreDistinct (lent_texts texts.now) first.entry.sign
+        first.entry.exponent
         (surroundings_of first.entry.sides) second.entry.sign second.entry.exponent
         (surroundings_of second.entry.sides) }
 {
@@ -215,86 +225,90 @@ fn are_told(texts: &DecimalSymbolStrsBuilder<'_>, first: Number<'_>, second: Num
 }
 
 /// Whether a number is distinguished from the second number, whatever the sign of that.
-fn is_told_from(texts: &DecimalSymbolStrsBuilder<'_>, first: Number<'_>, second: Number<'_>) -> bool
-    ensures { IsTrue result ↔ IsToldFrom
-        (texts_given texts.now) first.entry.sign first.entry.exponent
+fn is_distinct_from(
+    texts: &DecimalSymbolStrsBuilder<'_>,
+    first: Number<'_>,
+    second: Number<'_>,
+) -> bool
+    ensures { IsTrue result ↔ IsDistinctFrom
+        (lent_texts texts.now) first.entry.sign first.entry.exponent
         (surroundings_of first.entry.sides) second.entry.exponent
         (surroundings_of second.entry.sides) }
 {
-    if !are_told(texts, first, second.with_sign(Sign::None)) {
+    if !are_distinct(texts, first, second.with_sign(Sign::None)) {
         return false;
     }
-    if !are_told(texts, first, second.with_sign(Sign::Negative)) {
+    if !are_distinct(texts, first, second.with_sign(Sign::Negative)) {
         return false;
     }
-    are_told(texts, first, second.with_sign(Sign::Positive))
+    are_distinct(texts, first, second.with_sign(Sign::Positive))
 }
 
 /// Tests that a number is distinguished from all numbers that have the pattern.
 #[derive(Clone, Copy)]
-struct ToldFrom<'a> {
+struct DistinctFrom<'a> {
     texts: &'a DecimalSymbolStrsBuilder<'a>,
     number: Number<'a>,
 }
 
-impl PatternTest for ToldFrom<'_> {
-    ghost use Rattle.icu_decimal_data.specs.Given.{texts_given};
+impl PatternTest for DistinctFrom<'_> {
+    ghost use Rattle.icu_decimal_symbols.specs.LentTexts.{lent_texts};
     ghost use Rattle.icu_decimal_readable.specs.Readable.{sides};
-    ghost use Rattle.icu_decimal_readable.specs.ReadableTable.{surroundings_of, IsToldFrom};
+    ghost use Rattle.icu_decimal_readable.specs.ReadableTable.{surroundings_of, IsDistinctFrom};
 
-    ghost holds = { λ t n q. IsToldFrom (texts_given t.texts.now) t.number.sign t.number.exponent
+    ghost holds = { λ t n q. IsDistinctFrom (lent_texts t.texts.now) t.number.sign t.number.exponent
         (surroundings_of t.number.sides) n (sides q) };
 
-    fn passes(&self, exponent: u8, place: Option<usize>, literal: &str) -> bool {
+    fn passes(&self, exponent: u8, placeholder: Option<usize>, literal: &str) -> bool {
         let second = Number {
             sign: Sign::None,
             exponent,
-            sides: sides_of(place, literal),
+            sides: sides_of(placeholder, literal),
         };
-        is_told_from(self.texts, self.number, second)
+        is_distinct_from(self.texts, self.number, second)
     }
 }
 
 /// Whether a number is distinguished from all numbers that have a pattern of the table.
-fn is_told(
+fn is_distinct(
     texts: &DecimalSymbolStrsBuilder<'_>,
     patterns: &CompactPatterns<SinglePlaceholder>,
     number: Number<'_>,
 ) -> bool
-    ensures { IsTrue result ↔ IsToldThroughout
-        (texts_given texts.now) patterns.now number.entry.sign number.entry.exponent
+    ensures { IsTrue result ↔ IsDistinctThroughout
+        (lent_texts texts.now) patterns.now number.entry.sign number.entry.exponent
         (surroundings_of number.entry.sides) }
 {
-    all_pass(patterns, &ToldFrom { texts, number })
+    all_pass(patterns, &DistinctFrom { texts, number })
 }
 
 /// Tests that all numbers that have the pattern are distinguished from those of each pattern of the
 /// table.
 #[derive(Clone, Copy)]
-struct Told<'a> {
+struct Distinct<'a> {
     texts: &'a DecimalSymbolStrsBuilder<'a>,
     patterns: &'a CompactPatterns<SinglePlaceholder>,
 }
 
-impl PatternTest for Told<'_> {
-    ghost use Rattle.icu_decimal_data.specs.Given.{texts_given};
+impl PatternTest for Distinct<'_> {
+    ghost use Rattle.icu_decimal_symbols.specs.LentTexts.{lent_texts};
     ghost use Rattle.icu_decimal_readable.specs.ReadableTable.{TellsNumbers};
 
-    ghost holds = { λ t m p. TellsNumbers (texts_given t.texts.now) t.patterns.now m p };
+    ghost holds = { λ t m p. TellsNumbers (lent_texts t.texts.now) t.patterns.now m p };
 
-    fn passes(&self, exponent: u8, place: Option<usize>, literal: &str) -> bool {
+    fn passes(&self, exponent: u8, placeholder: Option<usize>, literal: &str) -> bool {
         let number = Number {
             sign: Sign::None,
             exponent,
-            sides: sides_of(place, literal),
+            sides: sides_of(placeholder, literal),
         };
-        if !is_told(self.texts, self.patterns, number) {
+        if !is_distinct(self.texts, self.patterns, number) {
             return false;
         }
-        if !is_told(self.texts, self.patterns, number.with_sign(Sign::Negative)) {
+        if !is_distinct(self.texts, self.patterns, number.with_sign(Sign::Negative)) {
             return false;
         }
-        is_told(self.texts, self.patterns, number.with_sign(Sign::Positive))
+        is_distinct(self.texts, self.patterns, number.with_sign(Sign::Positive))
     }
 }
 
@@ -314,10 +328,10 @@ pub fn is_table_readable(
 ) -> bool
     ensures { IsTrue result ↔ IsReadableTable symbols.now.strings digits.now table.now }
 {
-    if !all_pass(table, &Placed { digits }) {
+    if !all_pass(table, &WithPlaceholder { digits }) {
         return false;
     }
     let texts = &DecimalSymbolStrsBuilder::from(&symbols.strings);
     let patterns = table;
-    all_pass(table, &Told { texts, patterns })
+    all_pass(table, &Distinct { texts, patterns })
 }

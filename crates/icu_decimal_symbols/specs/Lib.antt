@@ -1,5 +1,5 @@
 pub mod Symbols
 pub mod SymbolBytes
-pub mod SymbolsShown
-pub mod Given
+pub mod ViewedSymbols
+pub mod LentTexts
 pub mod DecimalSymbols

@@ -32,7 +32,7 @@ pub struct DecimalSymbolStrsBuilder<'data> {
 }
 
 impl<'data> DecimalSymbolStrsBuilder<'data> {
-    ghost use Rattle.icu_decimal_symbols.specs.Given.{texts_given};
+    ghost use Rattle.icu_decimal_symbols.specs.LentTexts.{lent_texts};
 
     /// Symbols with copies of these texts. Both errors are checked before memory is allocated, so
     /// they are reported even when no memory is left.
@@ -43,12 +43,12 @@ impl<'data> DecimalSymbolStrsBuilder<'data> {
     // promise: Else a name that is none is a `BadNumberingSystem`.
     // mutations: build_system_not_judged
     pub fn build(&self, alloc: Global) -> Result<DecimalSymbolsStrs, SymbolsError>
-        ensures made { IfOk result (λ symbols. symbols ≡ texts_given self.now) }
-        ensures accepted { IsOk result → IsSymbolTexts (texts_given self.now) }
-        ensures too_large { IsErrOf result TooLarge ↔ (255 < total_len (texts_given self.now)) }
+        ensures made { IfOk result (λ symbols. symbols ≡ lent_texts self.now) }
+        ensures accepted { IsOk result → IsSymbolTexts (lent_texts self.now) }
+        ensures too_large { IsErrOf result TooLarge ↔ (255 < total_len (lent_texts self.now)) }
         ensures bad_numbering_system { IsErrOf result BadNumberingSystem
-            ↔ ((total_len (texts_given self.now) ≤ 255)
-            × (¬ IsNumberingSystem (texts_given self.now).numsys)) }
+            ↔ ((total_len (lent_texts self.now) ≤ 255)
+            × (¬ IsNumberingSystem (lent_texts self.now).numsys)) }
     {
         let texts = [
             self.minus_sign_prefix,
@@ -162,11 +162,11 @@ impl DecimalSymbolsStrs {
 
 impl<'data> From<&'data DecimalSymbolsStrs> for DecimalSymbolStrsBuilder<'data> {
     ghost use Rattle.std.specs.Prelude.{◌≡◌};
-    ghost use Rattle.icu_decimal_symbols.specs.Given.{texts_given};
+    ghost use Rattle.icu_decimal_symbols.specs.LentTexts.{lent_texts};
     ghost use Rattle.icu_decimal_symbols.specs.Symbols.{IsSymbolTexts};
 
     /// The seven texts, from which symbols can be built.
-    ghost from_gives = { λ s b. (texts_given b ≡ s.now) × IsSymbolTexts s.now };
+    ghost from_gives = { λ s b. (lent_texts b ≡ s.now) × IsSymbolTexts s.now };
 
     fn from(symbols: &'data DecimalSymbolsStrs) -> DecimalSymbolStrsBuilder<'data> {
         let bytes = symbols.bytes.as_slice();

@@ -32,7 +32,7 @@ impl Clone for SymbolsView<'_> {
 impl Copy for SymbolsView<'_> {}
 
 impl<'a> SymbolsView<'a> {
-    ghost use Rattle.icu_decimal_symbols.specs.SymbolsShown.{texts_shown};
+    ghost use Rattle.icu_decimal_symbols.specs.ViewedSymbols.{viewed_texts};
 
     /// The symbols with these bytes.
     ///
@@ -48,10 +48,10 @@ impl<'a> SymbolsView<'a> {
     // mutations: parse_damage_a_byte_off
     #[tactic(auto, using(crate::proofs::SymbolDamage::damage))]
     pub fn parse(bytes: &'a [u8]) -> Result<Self, Damaged>
-        ensures found { IfOk result (λ v. IsSymbolTexts (texts_shown v)
-            × (bytes.now ≡ symbol_bytes (texts_shown v))) }
+        ensures found { IfOk result (λ v. IsSymbolTexts (viewed_texts v)
+            × (bytes.now ≡ symbol_bytes (viewed_texts v))) }
         ensures every { (s : SymbolTexts) → IsSymbolTexts s → bytes.now ≡ symbol_bytes s
-            → IsOkAnd result (λ v. texts_shown v ≡ s) }
+            → IsOkAnd result (λ v. viewed_texts v ≡ s) }
         ensures damaged { MatchResult result (λ _. first_damage bytes.now ≡ None) (λ e.
             first_damage bytes.now ≡ Some e.byte) }
     {
@@ -61,49 +61,49 @@ impl<'a> SymbolsView<'a> {
 
     /// What stands before a negative number.
     pub fn minus_sign_prefix(&self) -> &'a str
-        ensures { result.now ≡ (texts_shown self.now).minus_sign_prefix }
+        ensures { result.now ≡ (viewed_texts self.now).minus_sign_prefix }
     {
         text(self.bytes, 0)
     }
 
     /// What stands after a negative number.
     pub fn minus_sign_suffix(&self) -> &'a str
-        ensures { result.now ≡ (texts_shown self.now).minus_sign_suffix }
+        ensures { result.now ≡ (viewed_texts self.now).minus_sign_suffix }
     {
         text(self.bytes, 1)
     }
 
     /// What stands before a number that is marked as positive.
     pub fn plus_sign_prefix(&self) -> &'a str
-        ensures { result.now ≡ (texts_shown self.now).plus_sign_prefix }
+        ensures { result.now ≡ (viewed_texts self.now).plus_sign_prefix }
     {
         text(self.bytes, 2)
     }
 
     /// What stands after a number that is marked as positive.
     pub fn plus_sign_suffix(&self) -> &'a str
-        ensures { result.now ≡ (texts_shown self.now).plus_sign_suffix }
+        ensures { result.now ≡ (viewed_texts self.now).plus_sign_suffix }
     {
         text(self.bytes, 3)
     }
 
     /// What stands between the integer and the fraction.
     pub fn decimal_separator(&self) -> &'a str
-        ensures { result.now ≡ (texts_shown self.now).decimal_separator }
+        ensures { result.now ≡ (viewed_texts self.now).decimal_separator }
     {
         text(self.bytes, 4)
     }
 
     /// What stands between groups of integer digits.
     pub fn grouping_separator(&self) -> &'a str
-        ensures { result.now ≡ (texts_shown self.now).grouping_separator }
+        ensures { result.now ≡ (viewed_texts self.now).grouping_separator }
     {
         text(self.bytes, 5)
     }
 
     /// The numbering system whose digits are used unless another is asked for.
     pub fn numsys(&self) -> &'a str
-        ensures text { result.now ≡ (texts_shown self.now).numsys }
+        ensures text { result.now ≡ (viewed_texts self.now).numsys }
         ensures valid { IsNumberingSystem result.now }
     {
         text(self.bytes, 6)

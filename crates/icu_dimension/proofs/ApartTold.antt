@@ -2,10 +2,10 @@
 use Rattle.std.proofs.Common.{◌≡◌, sym, subst}
 use Rattle.writeable.specs.Events.{characters}
 use Rattle.icu_decimal.specs.Decimal.{DecimalFormat}
-use Rattle.icu_decimal.proofs.TextsTold.{same_characters}
+use Rattle.icu_decimal.proofs.TextsDistinct.{same_characters}
 use Rattle.icu_dimension.specs.MoneyLaws.{plain_money}
 use Rattle.icu_dimension.specs.ToldApart.{ToldApartShareNoCharacters, ToldApartShareNoText}
-use Rattle.icu_dimension.proofs.MoneyTold.{around_tells}
+use Rattle.icu_dimension.proofs.MoneyDistinct.{around_tells}
 
 pub share_no_characters : ToldApartShareNoCharacters
 share_no_characters f g s t c d h hc hd e =

@@ -49,17 +49,17 @@ signs_tested p s t a b r is are test =
     (λ e. same.0 (lent.0 e), λ h. lent.1 (same.1 h))
 
 -- three surroundings that differ determine their sign
-pub sign_told_around : (p : Signed) → money_surroundings p NoSign ≢ money_surroundings p Negative →
+pub sign_distinct_around : (p : Signed) → money_surroundings p NoSign ≢ money_surroundings p Negative →
     money_surroundings p NoSign ≢ money_surroundings p Positive → money_surroundings p Negative ≢ money_surroundings p Positive → SignsDifferAround p
-sign_told_around p m n b NoSign NoSign e = refl
-sign_told_around p m n b NoSign Negative e = absurd (m e)
-sign_told_around p m n b NoSign Positive e = absurd (n e)
-sign_told_around p m n b Negative NoSign e = absurd (m (sym e))
-sign_told_around p m n b Negative Negative e = refl
-sign_told_around p m n b Negative Positive e = absurd (b e)
-sign_told_around p m n b Positive NoSign e = absurd (n (sym e))
-sign_told_around p m n b Positive Negative e = absurd (b (sym e))
-sign_told_around p m n b Positive Positive e = refl
+sign_distinct_around p m n b NoSign NoSign e = refl
+sign_distinct_around p m n b NoSign Negative e = absurd (m e)
+sign_distinct_around p m n b NoSign Positive e = absurd (n e)
+sign_distinct_around p m n b Negative NoSign e = absurd (m (sym e))
+sign_distinct_around p m n b Negative Negative e = refl
+sign_distinct_around p m n b Negative Positive e = absurd (b e)
+sign_distinct_around p m n b Positive NoSign e = absurd (n (sym e))
+sign_distinct_around p m n b Positive Negative e = absurd (b (sym e))
+sign_distinct_around p m n b Positive Positive e = refl
 
 -- what stands around numbers of a sign differs from what the others have around theirs, whatever the sign
 abbrev pub DiffersFromEach : Signed → Signed → Sign → Type 0

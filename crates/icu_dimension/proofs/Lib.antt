@@ -3,12 +3,12 @@ pub mod AroundFree
 pub mod AroundTested
 pub mod EntryShown
 pub mod Hundred
-pub mod MarksTold
-pub mod MoneySymbolTold
-pub mod MoneyTold
-pub mod PercentsTold
+pub mod MarksDistinct
+pub mod MoneySymbolDistinct
+pub mod MoneyDistinct
+pub mod PercentsDistinct
 pub mod PointMoved
 pub mod SinkWrites
-pub mod SymbolTold
+pub mod SymbolDistinct
 pub mod UnitLiterals
 pub mod WorkedMoney

@@ -61,7 +61,7 @@ characters-literal bytes = characters-unit_literal (chars bytes) ∙ sym (charac
 pub unit_keeps_characters : (p : PatternText) (es : List Event) → characters (unit_interpolated p es) ≡ characters (interpolated p es)
 unit_keeps_characters p es = go p.literal p.placeholder
   where
-    go : (literal : List ℕ) (place : Option ℕ) → characters (unit_around literal place es) ≡ characters (around literal place es)
+    go : (literal : List ℕ) (placeholder : Option ℕ) → characters (unit_around literal placeholder es) ≡ characters (around literal placeholder es)
     go literal None = characters-literal literal
     go literal (Some k) =
         let before = take k literal in

@@ -9,7 +9,7 @@ use Rattle.fixed_decimal.specs.declared.signs.Sign.{Sign}
 use Rattle.fixed_decimal.specs.declared.signs.Sign.TheVariants.{Negative, Positive, None as NoSign}
 use Rattle.fixed_decimal.specs.Unsigned.{Unsigned, IsUnsigned}
 use Rattle.writeable.specs.Events.{characters}
-use Rattle.icu_decimal_data.specs.DecimalSymbols.{english_symbols}
+use Rattle.icu_decimal_symbols.specs.DecimalSymbols.{english_symbols}
 use Rattle.icu_decimal_options.specs.declared.options.DecimalFormatterOptions.{DecimalFormatterOptions}
 use Rattle.icu_decimal.specs.Decimal.{DecimalFormat}
 use Rattle.icu_decimal.proofs.WorkedReadable.{digits, english_readable, none_of}
@@ -19,9 +19,9 @@ use Rattle.icu_dimension_data.specs.Patterns.{Affixes, PatternText}
 use Rattle.icu_dimension_data.specs.Reading.{pattern_of, reading_from}
 use Rattle.icu_dimension_data.specs.Resolved.{Signed, Texts, resolved}
 use Rattle.icu_dimension.specs.MoneyReadable.{AffixesHaveNoDigit, IsReadableMoney, StandsForNoDigit, TextsHaveNoDigit}
-use Rattle.icu_dimension.specs.MoneySymbol.{HasSymbolPlace, IsToldSymbol, MarksTellSign, TellsSymbols, beside_symbol, marks_around, with_symbol}
+use Rattle.icu_dimension.specs.MoneySymbol.{HasSymbolPlaceholder, IsDistinctSymbol, MarksTellSign, TellsSymbols, beside_symbol, marks_around, with_symbol}
 use Rattle.icu_dimension.specs.SymbolLaws.{plain_amount}
-use Rattle.icu_dimension.proofs.MoneySymbolTold.{money_tells_symbol, readable_with_symbol}
+use Rattle.icu_dimension.proofs.MoneySymbolDistinct.{money_tells_symbol, readable_with_symbol}
 
 -- the symbol in front of the number
 abbrev pub symbol_first : Affixes
@@ -94,12 +94,12 @@ minus_is_not_plus same = omega arith
 parenthesis_is_not_plus : ◌≢◌ {A = ℕ} 40 43
 parenthesis_is_not_plus same = omega arith
 
-sign_told : MarksTellSign digits marks dollar_pattern dollar_texts
-sign_told s t e =
+sign_distinct : MarksTellSign digits marks dollar_pattern dollar_texts
+sign_distinct s t e =
     mark_tells 45 43 minus_is_not_plus s t (sym (mark_before s) ∙ ap (λ (a : Surroundings). a.before) e ∙ mark_before t)
 
-accounts_sign_told : MarksTellSign digits marks accounts_pattern dollar_texts
-accounts_sign_told s t e =
+accounts_sign_distinct : MarksTellSign digits marks accounts_pattern dollar_texts
+accounts_sign_distinct s t e =
     mark_tells 40 43 parenthesis_is_not_plus s t (sym (accounts_mark_before s) ∙ ap (λ (a : Surroundings). a.before) e ∙ accounts_mark_before t)
 
 -- ---- no digit, and no space
@@ -135,7 +135,7 @@ space_no_digit = free_of 160 (none_of digits (160 ∷ []) refl)
 space_no_mark : ¬ (Contains marks 160)
 space_no_mark has = none_of marks (160 ∷ []) refl 0 160 (omega arith) has
 
-symbol_shown : HasSymbolPlace symbol_first
+symbol_shown : HasSymbolPlaceholder symbol_first
 symbol_shown = inl (0, omega arith, refl)
 
 -- ---- what they determine
@@ -143,7 +143,7 @@ symbol_shown = inl (0, omega arith, refl)
 pub dollars_tell_symbols : TellsSymbols digits marks dollar_pattern dollar_texts
 dollars_tell_symbols = record {
   shown = record { first_shows = symbol_shown; second_shows = tt };
-  sign_told = sign_told;
+  sign_distinct = sign_distinct;
   space_no_mark = space_no_mark;
   pattern_free = record { first_free = symbol_free; second_free = tt };
   signs_free = texts_free;
@@ -153,24 +153,24 @@ dollars_tell_symbols = record {
 pub accounts_tell_symbols : TellsSymbols digits marks accounts_pattern dollar_texts
 accounts_tell_symbols = record {
   shown = record { first_shows = symbol_shown; second_shows = inl (1, omega arith, refl) };
-  sign_told = accounts_sign_told;
+  sign_distinct = accounts_sign_distinct;
   space_no_mark = space_no_mark;
   pattern_free = record { first_free = symbol_free; second_free = parentheses_free };
   signs_free = texts_free;
   space_no_digit = space_no_digit;
 }
 
-dollar_told : IsToldSymbol digits marks (codes "$")
+dollar_distinct : IsDistinctSymbol digits marks (codes "$")
 unfolding chars
-dollar_told = record {
+dollar_distinct = record {
   no_digit = none_of digits (codes "$") refl;
   no_mark = none_of marks (codes "$") refl;
   no_space = record { first_other = λ e. cc; last_other = λ e. cc };
 }
 
-francs_told : IsToldSymbol digits marks (codes "CHF")
+francs_distinct : IsDistinctSymbol digits marks (codes "CHF")
 unfolding chars
-francs_told = record {
+francs_distinct = record {
   no_digit = none_of digits (codes "CHF") refl;
   no_mark = none_of marks (codes "CHF") refl;
   no_space = record { first_other = λ e. cc; last_other = λ e. cc };
@@ -183,7 +183,7 @@ english options = record { symbols = english_symbols; digits = digits; options =
 -- English money in dollars is readable, whatever the groups
 pub english_money_readable : (options : DecimalFormatterOptions) → IsReadableMoney (record { formatter = english options; patterns = dollars })
 english_money_readable options =
-    readable_with_symbol (english options) marks dollar_pattern dollar_texts (codes "$") english_readable dollars_tell_symbols dollar_told
+    readable_with_symbol (english options) marks dollar_pattern dollar_texts (codes "$") english_readable dollars_tell_symbols dollar_distinct
 
 chars_differ : chars (codes "$") ≢ chars (codes "CHF")
 unfolding chars
@@ -195,4 +195,4 @@ pub dollars_are_no_francs : (options : DecimalFormatterOptions) (s t : Sign) (c 
     ≢ characters (plain_amount (english options) accounts_pattern dollar_texts (codes "CHF") t d)
 dollars_are_no_francs options s t c d hc hd e =
     chars_differ (money_tells_symbol (english options) marks accounts_pattern dollar_texts (codes "$") (codes "CHF") s t c d
-    english_readable accounts_tell_symbols dollar_told francs_told hc hd e).2
+    english_readable accounts_tell_symbols dollar_distinct francs_distinct hc hd e).2

@@ -7,7 +7,7 @@ use Rattle.fixed_decimal.specs.Size.{place}
 use Rattle.writeable.specs.Events.{Event}
 use Rattle.icu_plurals.specs.Rules.{Rule}
 use Rattle.icu_decimal_data.specs.CompactTable.{TableEntry, entry_for}
-use Rattle.icu_decimal.specs.CompactFormat.{CompactFormat, FormattedCompact, compact_shown, magnitude_with, significand_of}
+use Rattle.icu_decimal.specs.CompactFormat.{CompactFormat, FormattedCompact, compact_number_events, magnitude_with, significand_of}
 use Rattle.icu_decimal.specs.Decimal.{DecimalFormat}
 use Rattle.icu_dimension_data.specs.Resolved.{Signed}
 use Rattle.icu_dimension.specs.Money.{SignedFormat, sign_framed}
@@ -34,7 +34,7 @@ entry_shown table number = entry_for table (place (magnitude_with (significand_o
 -- sign in it; else its characters in the pattern of the sign
 abbrev pub compact_events : List TableEntry → Signed → Sign → FormattedCompact → List Event
 compact_events table patterns sign number =
-    if is_some (entry_shown table number) then compact_shown number else sign_framed patterns sign (compact_shown number)
+    if is_some (entry_shown table number) then compact_number_events number else sign_framed patterns sign (compact_number_events number)
 
 -- a compact formatter with a table
 abbrev pub with_table : DecimalFormat → List Rule → List TableEntry → CompactFormat

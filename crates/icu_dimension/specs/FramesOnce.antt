@@ -76,7 +76,7 @@ units_once symbols rules elements sign operands =
     let pattern = picked rules elements operands in
     go pattern.literal pattern.placeholder
   where
-    go : (literal : List ℕ) (place : Option ℕ) →
-        StandsOnce (λ (es : List Event). unit_around literal place (signed_events symbols sign es)) ⊎ (place ≡ None)
+    go : (literal : List ℕ) (placeholder : Option ℕ) →
+        StandsOnce (λ (es : List Event). unit_around literal placeholder (signed_events symbols sign es)) ⊎ (placeholder ≡ None)
     go literal None = inr refl
     go literal (Some k) = inl (around_stands (unit_literal (chars (take k literal))) (unit_literal (chars (drop k literal))) (signed_stands symbols sign))

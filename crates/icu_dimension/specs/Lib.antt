@@ -1,7 +1,7 @@
 pub mod CompactMoney
 pub mod CurrencyData
 pub mod FramesOnce
-pub mod GivenNames
+pub mod LentNames
 pub mod Loaded
 pub mod Money
 pub mod MoneyLaws

@@ -30,7 +30,7 @@ SignsDifferAround patterns = (s t : Sign) → money_surroundings patterns s ≡ 
 -- What stands around numbers with these digits is readable: no digit is in it, and it determines the sign.
 pub record IsReadableAround (digits : List ℕ) (patterns : Signed) : Type 0 where
   pub free : HasNoDigitAround digits patterns
-  pub sign_told : SignsDifferAround patterns
+  pub sign_distinct : SignsDifferAround patterns
 
 -- Money by this formatter, or percents, is readable: its numbers are, and what stands around them is.
 pub record IsReadableMoney (f : SignedFormat DecimalFormat) : Type 0 where

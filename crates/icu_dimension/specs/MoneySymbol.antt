@@ -21,13 +21,13 @@ with_symbol texts currency = record {
 -- ---- what determines the symbol
 
 -- its place stands before the number or after it
-abbrev pub HasSymbolPlace : Affixes → Type 0
-HasSymbolPlace a = Contains a.before CurrencySymbol ⊎ Contains a.after CurrencySymbol
+abbrev pub HasSymbolPlaceholder : Affixes → Type 0
+HasSymbolPlaceholder a = Contains a.before CurrencySymbol ⊎ Contains a.after CurrencySymbol
 
 -- each subpattern has it
 pub record ShowsSymbol (p : PatternText) : Type 0 where
-  pub first_shows : HasSymbolPlace p.first
-  pub second_shows : IfSome p.second HasSymbolPlace
+  pub first_shows : HasSymbolPlaceholder p.first
+  pub second_shows : IfSome p.second HasSymbolPlaceholder
 
 -- The symbol neither begins nor ends with U+00A0, which stands between the number and some symbols that don't.
 pub record SymbolEndsInNoSpace (currency : List ℕ) : Type 0 where
@@ -63,14 +63,14 @@ HasNoMark marks cs = All (λ c. ¬ (Contains marks c)) cs
 -- and `(`, determine the sign, and U+00A0 is none of them; neither the pattern nor a sign has one of the digits.
 pub record TellsSymbols (digits marks : List ℕ) (p : PatternText) (texts : Texts) : Type 0 where
   pub shown : ShowsSymbol p
-  pub sign_told : MarksTellSign digits marks p texts
+  pub sign_distinct : MarksTellSign digits marks p texts
   pub space_no_mark : ¬ (Contains marks 160)
   pub pattern_free : PatternHasNoDigit digits p
   pub signs_free : TextsHaveNoDigit digits (with_symbol texts [])
   pub space_no_digit : ¬ (Contains digits 160)
 
 -- It determines this symbol, which has none of the digits, none of the marks, and U+00A0 at neither end.
-pub record IsToldSymbol (digits marks currency : List ℕ) : Type 0 where
+pub record IsDistinctSymbol (digits marks currency : List ℕ) : Type 0 where
   pub no_digit : HasNoDigit digits (chars currency)
   pub no_mark : HasNoMark marks (chars currency)
   pub no_space : SymbolEndsInNoSpace currency

@@ -10,7 +10,7 @@ use Rattle.icu_decimal_readable.specs.Readable.{IsReadable}
 use Rattle.icu_dimension_data.specs.Patterns.{PatternText}
 use Rattle.icu_dimension_data.specs.Resolved.{Texts, resolved}
 use Rattle.icu_dimension.specs.MoneyReadable.{HasNoDigitAround, IsReadableMoney}
-use Rattle.icu_dimension.specs.MoneySymbol.{IsToldSymbol, ShowsSymbol, SymbolEndsInNoSpace, TellsSymbols, with_symbol}
+use Rattle.icu_dimension.specs.MoneySymbol.{IsDistinctSymbol, ShowsSymbol, SymbolEndsInNoSpace, TellsSymbols, with_symbol}
 use Rattle.icu_dimension.specs.MoneyLaws.{plain_money}
 
 -- what is written for an amount of a currency, over a plain formatter
@@ -21,7 +21,8 @@ plain_amount f p texts currency sign u = plain_money f (resolved f.digits p (wit
 -- digits and symbol.
 abbrev pub MoneyTextTellsSymbol : Type 0
 MoneyTextTellsSymbol = (f : DecimalFormat) (marks : List ℕ) (p : PatternText) (texts : Texts) (one other : List ℕ) (s t : Sign) (c d : Unsigned) →
-    IsReadable f.symbols.strings f.digits → TellsSymbols f.digits marks p texts → IsToldSymbol f.digits marks one → IsToldSymbol f.digits marks other →
+    IsReadable f.symbols.strings f.digits → TellsSymbols f.digits marks p texts → IsDistinctSymbol f.digits marks one
+    → IsDistinctSymbol f.digits marks other →
     IsUnsigned c → IsUnsigned d
     → characters (plain_amount f p texts one s c) ≡ characters (plain_amount f p texts other t d)
     → (s ≡ t) × (c ≡ d) × (chars one ≡ chars other)
@@ -29,8 +30,8 @@ MoneyTextTellsSymbol = (f : DecimalFormat) (marks : List ℕ) (p : PatternText) 
 -- So do equal texts, byte for byte.
 abbrev pub EqualMoneyTextsTellSymbol : Type 0
 EqualMoneyTextsTellSymbol = (f : DecimalFormat) (marks : List ℕ) (p : PatternText) (texts : Texts) (one other : List ℕ) (s t : Sign) (c d : Unsigned)
-    (first second : List ℕ) → IsReadable f.symbols.strings f.digits → TellsSymbols f.digits marks p texts → IsToldSymbol f.digits marks one →
-    IsToldSymbol f.digits marks other → IsUtf8 one → IsUtf8 other → IsUnsigned c → IsUnsigned d
+    (first second : List ℕ) → IsReadable f.symbols.strings f.digits → TellsSymbols f.digits marks p texts → IsDistinctSymbol f.digits marks one →
+    IsDistinctSymbol f.digits marks other → IsUtf8 one → IsUtf8 other → IsUnsigned c → IsUnsigned d
     → first ≡ text_of (plain_amount f p texts one s c) → second ≡ text_of (plain_amount f p texts other t d) → first ≡ second
     → (s ≡ t) × (c ≡ d) × (one ≡ other)
 
@@ -56,5 +57,5 @@ EqualMoneyTextsOfOneSignTellSymbol = (f : DecimalFormat) (p : PatternText) (text
 -- Where money determines a symbol, money with that symbol is readable, if its numbers are.
 abbrev pub MoneyThatTellsSymbolsIsReadable : Type 0
 MoneyThatTellsSymbolsIsReadable = (f : DecimalFormat) (marks : List ℕ) (p : PatternText) (texts : Texts) (currency : List ℕ) →
-    IsReadable f.symbols.strings f.digits → TellsSymbols f.digits marks p texts → IsToldSymbol f.digits marks currency
+    IsReadable f.symbols.strings f.digits → TellsSymbols f.digits marks p texts → IsDistinctSymbol f.digits marks currency
     → IsReadableMoney (record { formatter = f; patterns = resolved f.digits p (with_symbol texts currency) })

@@ -67,7 +67,7 @@ fn copied(
 }
 
 /// The index of the entry by which a compact number is displayed.
-fn displayed_index(
+fn decomposed_index(
     formatter: &CompactDecimalFormatter,
     number: &FormattedUnsignedCompactDecimal<'_>,
 ) -> Option<usize>
@@ -133,7 +133,7 @@ impl CompactCurrencyFormatter {
     pub fn has_entry(&self, sign: Sign, number: &FormattedUnsignedCompactDecimal<'_>) -> bool
         ensures { result ≡ is_some (entry_shown (formatter_of self.now sign).table number.now) }
     {
-        displayed_index(self.for_sign(sign), number).is_some()
+        decomposed_index(self.for_sign(sign), number).is_some()
     }
 
     /// Writes an amount into any writer: the characters of the nearest compact number and, if no

@@ -41,7 +41,7 @@ pub fn money_text_tells()
 
 /// Money in two currencies, by one plain formatter whose numbers are readable, in one pattern and
 /// with the same signs: equal texts mean equal sign, range, digits and symbol, under the premises
-/// `TellsSymbols` of the pattern and `IsToldSymbol` of both symbols.
+/// `TellsSymbols` of the pattern and `IsDistinctSymbol` of both symbols.
 ///
 /// | premise | what is untold without it |
 /// |---|---|

@@ -2,7 +2,7 @@
 
 use crate::currency_data::{CurrencyPatterns, CurrencySymbols};
 use crate::name_pattern::NamePattern;
-use icu_decimal_data::DecimalSymbols;
+use icu_decimal_symbols::DecimalSymbols;
 use icu_dimension_data::{CompactRows, CurrencyDigits, SignedPatterns};
 use icu_pattern::{Pattern, SinglePlaceholder};
 use icu_plurals::PluralElements;

@@ -63,12 +63,12 @@ impl<'a, W> Model for Named<'a, W> {
 
 impl NamePattern {
     ghost use Rattle.std.specs.Prelude.{◌≡◌, IfOk};
-    ghost use Rattle.icu_dimension.specs.GivenNames.{name_given};
+    ghost use Rattle.icu_dimension.specs.LentNames.{lent_name};
     ghost use Rattle.icu_dimension.specs.Names.{name_events, name_then_number, number_then_name, with_name};
 
     /// The pattern of these texts.
     pub fn new(alloc: Global, texts: &NameTexts<'_>) -> Result<Self, AllocError>
-        ensures { IfOk result (λ p. p ≡ name_given texts.now) }
+        ensures { IfOk result (λ p. p ≡ lent_name texts.now) }
     {
         Ok(NamePattern {
             number_first: texts.number_first,

@@ -1,6 +1,6 @@
 //! How amounts of money are written (ICU4X, `CurrencyFormatterOptions`).
 
-use icu_decimal::options::DecimalFormatterOptions;
+use icu_decimal_options::options::DecimalFormatterOptions;
 
 /// Which symbol a currency has.
 #[derive(Clone, Copy, Debug, PartialEq, Eq)]

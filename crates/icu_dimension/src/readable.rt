@@ -9,8 +9,8 @@ ghost use Rattle.icu_dimension.specs.ToldApart.{AreToldApart, DifferAround};
 
 use fixed_decimal::Sign;
 use icu_decimal::DecimalFormatter;
-use icu_decimal_data::DecimalSymbols;
 use icu_decimal_options::options::DecimalFormatterOptions;
+use icu_decimal_symbols::DecimalSymbols;
 use icu_dimension_data::{SignedPattern, SignedPatterns};
 
 /// Whether none of the digits stands around numbers, whatever their sign.

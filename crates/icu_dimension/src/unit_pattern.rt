@@ -58,10 +58,10 @@ pub(crate) fn write_unit<W: Writeable, K: EventWriter>(
 {
     let pattern = pattern.as_ref();
     let literal = pattern.literal();
-    let Some(place) = pattern.place() else {
+    let Some(placeholder) = pattern.placeholder() else {
         return write_literal(literal, out);
     };
-    let (before, behind) = literal.split_at(place);
+    let (before, behind) = literal.split_at(placeholder);
     write_literal(before, out)?;
     value.write_events(out)?;
     write_literal(behind, out)

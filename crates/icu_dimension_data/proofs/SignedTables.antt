@@ -9,7 +9,7 @@ use Rattle.std.specs.Option.{MatchOption}
 use Rattle.std.specs.Result.{IsErrOf, IsOkUnless}
 use Rattle.icu_decimal_data.specs.CompactFaults.{fault_of}
 use Rattle.icu_decimal_data.specs.CompactTable.{PatternElements, TableEntry, exponent_for}
-use Rattle.icu_decimal_data.specs.Kept.{given, kept}
+use Rattle.icu_decimal_data.specs.Kept.{as_table, kept}
 use Rattle.icu_decimal_data.specs.declared.error.CompactError.{CompactError}
 use Rattle.icu_decimal_data.specs.declared.error.CompactError.TheVariants.{ExponentsFall, ExponentAboveType, TooManyZeros, TooLarge, OutOfMemory}
 use Rattle.icu_dimension_data.specs.SignedTables.{HasExponents, compact_refusal, entry_for, has_exponents, repeated_refusal, table_for}
@@ -28,8 +28,8 @@ pub rows_from : (rows : List CompactRow) (i : ℕ) (x : CompactRow) → x ≡ ge
 rows_from rows i x e lt = drop-cons rows i x lt ∙ rw (← e, add-one) refl
 
 -- one more entry of a map stands behind the others
-pub one_more : (es : Pairs) (k : ℕ) (v : ℕ × PatternElements) (left total : List TableEntry) → given es ++ (given_entry (k, v) ∷ left) ≡ total
-    → given (es ++ (k, v) ∷ []) ++ left ≡ total
+pub one_more : (es : Pairs) (k : ℕ) (v : ℕ × PatternElements) (left total : List TableEntry) → as_table es ++ (given_entry (k, v) ∷ left) ≡ total
+    → as_table (es ++ (k, v) ∷ []) ++ left ≡ total
 one_more es k v left total h = rw (map-append given_entry es ((k, v) ∷ []), append_assoc) h
 
 module _ (rows : List CompactRow) (entries : List TableEntry) where

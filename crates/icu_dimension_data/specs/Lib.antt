@@ -5,7 +5,7 @@ pub mod Stepping
 pub mod Reading
 pub mod Resolved
 pub mod Flat
-pub mod Given
+pub mod LentTexts
 pub mod Surrounding
 pub mod ByCategory
 pub mod CompactRows

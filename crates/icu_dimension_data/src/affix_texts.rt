@@ -42,11 +42,11 @@ impl Model for KeptTexts {
 
 impl AffixTexts<'_> {
     ghost use Rattle.std.specs.Prelude.{◌≡◌, IfOk};
-    ghost use Rattle.icu_dimension_data.specs.Given.{texts_given};
+    ghost use Rattle.icu_dimension_data.specs.LentTexts.{lent_texts};
 
     /// The texts, with memory of their own.
     pub(crate) fn keep(&self, alloc: Global) -> Result<KeptTexts, AllocError>
-        ensures { IfOk result (λ t. t ≡ texts_given self.now) }
+        ensures { IfOk result (λ t. t ≡ lent_texts self.now) }
     {
         Ok(KeptTexts {
             minus_sign: String::from_str(alloc, self.minus_sign)?,

@@ -42,9 +42,9 @@ impl SignedPattern<'_> {
         let SignedPattern { affixes, texts } = self;
         let affixes: &Subpattern = affixes;
         let mut literal = texts.text_of(alloc, &affixes.before)?;
-        let place = literal.len();
+        let placeholder = literal.len();
         let after = texts.text_of(alloc, &affixes.after)?;
         literal.push_str(after.as_str())?;
-        Pattern::try_new(alloc, Some(place), literal.as_str())
+        Pattern::try_new(alloc, Some(placeholder), literal.as_str())
     }
 }

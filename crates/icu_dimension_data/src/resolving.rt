@@ -82,7 +82,7 @@ impl Subpattern {
 
 impl CldrPattern {
     ghost use Rattle.std.specs.Prelude.{◌≡◌, IfOk};
-    ghost use Rattle.icu_dimension_data.specs.Given.{texts_given};
+    ghost use Rattle.icu_dimension_data.specs.LentTexts.{lent_texts};
     ghost use Rattle.icu_dimension_data.specs.Resolved.{minus_affixes, plus_affixes, resolved};
 
     /// What stands around negative numbers.
@@ -127,7 +127,7 @@ impl CldrPattern {
         texts: &AffixTexts<'_>,
         digits: &[char; 10],
     ) -> Result<SignedPatterns, AllocError>
-        ensures { IfOk result (λ p. p ≡ resolved digits.now self.now (texts_given texts.now)) }
+        ensures { IfOk result (λ p. p ≡ resolved digits.now self.now (lent_texts texts.now)) }
     {
         let none = self.first.copy(alloc)?;
         let minus = self.minus(alloc)?;

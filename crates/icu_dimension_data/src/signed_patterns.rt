@@ -31,12 +31,12 @@ impl Model for SignedPatterns {
 
 impl SignedPatterns {
     ghost use Rattle.std.specs.Prelude.{◌≡◌};
-    ghost use Rattle.icu_dimension_data.specs.Given.{texts_given};
+    ghost use Rattle.icu_dimension_data.specs.LentTexts.{lent_texts};
     ghost use Rattle.icu_dimension_data.specs.Resolved.{affixes_of};
 
     /// The texts in the patterns. It takes no memory.
     pub fn texts(&self) -> AffixTexts<'_>
-        ensures { texts_given result ≡ self.now.texts }
+        ensures { lent_texts result ≡ self.now.texts }
     {
         AffixTexts {
             minus_sign: self.texts.minus_sign.as_str(),

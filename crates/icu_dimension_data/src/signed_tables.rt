@@ -5,10 +5,10 @@ ghost use Rattle.fixed_decimal.specs.Size.{place};
 ghost use Rattle.std.specs.BTreeMap.{insert_entry};
 ghost use Rattle.std.specs.Ordering.{nat_cmp};
 ghost use Rattle.icu_decimal_data.specs.CompactTable.{exponent_for};
-ghost use Rattle.icu_decimal_data.specs.Kept.{given};
+ghost use Rattle.icu_decimal_data.specs.Kept.{as_table};
 ghost use Rattle.icu_dimension_data.specs.ByCategory.{elements_map};
 ghost use Rattle.icu_dimension_data.specs.CompactRows.{RowsRise};
-ghost use Rattle.icu_dimension_data.specs.Given.{texts_given};
+ghost use Rattle.icu_dimension_data.specs.LentTexts.{lent_texts};
 ghost use Rattle.icu_dimension_data.specs.SignedTables.{compact_refusal, entry_for, has_exponents, pattern_for, table_for, tables_for, with_exponents};
 ghost use Rattle.icu_provider.specs.Answer.{Answers};
 
@@ -37,7 +37,7 @@ fn pattern_for(
     sign: Sign,
 ) -> Result<Pattern<SinglePlaceholder>, AllocError>
     ensures { IfOk result (λ p.
-        p ≡ pattern_for digits.now (texts_given texts.now) sign pattern.now) }
+        p ≡ pattern_for digits.now (lent_texts texts.now) sign pattern.now) }
 {
     let signed = pattern.resolve(alloc, texts, digits)?;
     match signed.for_sign(sign).to_pattern(alloc) {
@@ -60,15 +60,15 @@ impl SlotMaker for PatternsFor<'_, '_> {
 
     ghost use Rattle.std.specs.Prelude.{None, option_map, slice_index_or};
     ghost use Rattle.icu_plurals.specs.Elements.{slots};
-    ghost use Rattle.icu_dimension_data.specs.Given.{texts_given};
+    ghost use Rattle.icu_dimension_data.specs.LentTexts.{lent_texts};
     ghost use Rattle.icu_dimension_data.specs.SignedTables.{pattern_for};
 
     ghost in_slot = { λ p slot. option_map
-        (pattern_for p.digits.now (texts_given p.texts.now) p.sign)
+        (pattern_for p.digits.now (lent_texts p.texts.now) p.sign)
         (slice_index_or (slots p.patterns.now) slot None) };
 
     ghost for_others = { λ p.
-        pattern_for p.digits.now (texts_given p.texts.now) p.sign p.patterns.now.other };
+        pattern_for p.digits.now (lent_texts p.texts.now) p.sign p.patterns.now.other };
 
     fn make(
         &self,
@@ -99,7 +99,7 @@ fn patterns_for(
     sign: Sign,
 ) -> Result<Patterns, AllocError>
     ensures { IfOk result (λ e.
-        e ≡ elements_map (pattern_for digits.now (texts_given texts.now) sign)
+        e ≡ elements_map (pattern_for digits.now (lent_texts texts.now) sign)
         row.now.patterns) }
 {
     let patterns = &row.patterns;
@@ -140,7 +140,7 @@ fn entries_for(
 ) -> Result<BTreeMap<u8, (u8, Patterns)>, AllocError>
     requires { RowsRise None rows.now }
     ensures { IfOk result (λ m.
-        given m.entries ≡ map (entry_for digits.now (texts_given texts.now) sign) rows.now) }
+        as_table m.entries ≡ map (entry_for digits.now (lent_texts texts.now) sign) rows.now) }
 {
     let mut entries = BTreeMap::new(alloc);
     for index in 0..rows.len() {
@@ -217,7 +217,7 @@ fn table_for(
     sign: Sign,
 ) -> Result<CompactPatterns<SinglePlaceholder>, DataError>
     requires { RowsRise None rows.now }
-    ensures { Answers result (table_for digits.now (texts_given texts.now) rows.now sign) }
+    ensures { Answers result (table_for digits.now (lent_texts texts.now) rows.now sign) }
 {
     let Ok(entries) = entries_for(alloc, rows, texts, digits, sign) else {
         return Err(DataErrorKind::OutOfMemory.into());
@@ -249,7 +249,7 @@ impl CompactRows {
         digits: &[char; 10],
     ) -> Result<CompactCurrencyPatterns, DataError>
         ensures answer { Answers result
-            (tables_for digits.now (texts_given texts.now) self.now) }
+            (tables_for digits.now (lent_texts texts.now) self.now) }
         ensures exponents { IfOk result (λ t.
             (s : Sign) → HasExponents (table_of t s) self.now) }
     {

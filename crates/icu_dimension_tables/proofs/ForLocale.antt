@@ -26,7 +26,7 @@ use Rattle.icu_table_entries.specs.declared.error.Key.{Key}
 use Rattle.icu_table_entries.specs.declared.error.Key.TheVariants.{Percents, Units, Currencies, CurrencySymbols, CurrencyDecimals}
 use Rattle.icu_table_entries.specs.declared.error.Key.TheVariants.{CurrencyDigits, CurrencyCompact}
 use Rattle.icu_table_entries.specs.declared.error.Key.TheVariants.{Symbols, Digits, Rules, Short, Long}
-use Rattle.icu_tables.specs.ForLocale.{Adds, FoundData, Holds, IsFor, IsOnce}
+use Rattle.icu_tables.specs.ForLocale.{AddsMembers, FoundData, Holds, IsFor, IsOnce}
 use Rattle.icu_tables.specs.Symbols.{symbols_at}
 use Rattle.icu_tables.specs.Tables.{TablesData, tables_of}
 use Rattle.icu_tables.proofs.ForLocale.{HoldsAt-here, HoldsAt-other, KeptOf, adds_other, apart, filter-all}
@@ -40,8 +40,8 @@ use Rattle.icu_dimension_tables.specs.CurrencySymbols.{LocaleCurrencies, Currenc
 use Rattle.icu_dimension_tables.specs.DimensionTables.{DimensionData, dimension_tables_at, dimension_tables_of}
 use Rattle.icu_dimension_tables.specs.ForLocale.{AllFoundData, HoldsAll, IsAllFor, IsDimensionFor}
 use Rattle.icu_dimension_tables.specs.ForLocale.{currencies_are_of, unit_is_of}
-use Rattle.icu_dimension_tables.specs.Money.{LocaleMoney, currencies_at, filed_part, patterns_filed, places_filed}
-use Rattle.icu_dimension_tables.specs.NamePlaces.{NamePlaces}
+use Rattle.icu_dimension_tables.specs.Money.{LocaleMoney, currencies_at, filed_part, patterns_filed, placeholders_filed}
+use Rattle.icu_dimension_tables.specs.NamePlaceholders.{NamePlaceholders}
 use Rattle.icu_dimension_tables.specs.Percents.{percents_at}
 use Rattle.icu_dimension_tables.specs.Units.{UnitPatterns, first_unit, units_at}
 use Rattle.icu_dimension_tables.specs.declared.currency_digits.DigitsRow.{DigitsRow}
@@ -128,12 +128,12 @@ module _ (locale : List ℕ) (id : Identifier) (same : id.locale ≡ locale) whe
   currencies_same (Some kept) (Some all) is = rw is (ap or_not_found (part-filter (λ m. m.patterns) locale id same all))
 
   -- the names of a row in places, or none
-  abbrev found : Option (Option (Elements NamePlaces)) → Option CurrencyRow → Result (Elements NameText) Refusal
-  found places row = or_not_found (names_found places (option_map (λ (r : CurrencyRow). r.names) row))
+  abbrev found : Option (Option (Elements NamePlaceholders)) → Option CurrencyRow → Result (Elements NameText) Refusal
+  found placeholders row = or_not_found (names_found placeholders (option_map (λ (r : CurrencyRow). r.names) row))
 
   names_same : (kept all : Option (List (NamedEntry LocaleMoney))) (some every : Option (List LocaleCurrencies)) → KeptOf (is_of locale) kept all
       → KeptOf (currencies_are_of locale) some every
-      → names_answer (option_map places_filed kept) some id ≡ names_answer (option_map places_filed all) every id
+      → names_answer (option_map placeholders_filed kept) some id ≡ names_answer (option_map placeholders_filed all) every id
   names_same None None some every is are = refl
   names_same None (Some all) some every is are = absurd is
   names_same (Some kept) None some every is are = absurd is
@@ -141,10 +141,10 @@ module _ (locale : List ℕ) (id : Identifier) (same : id.locale ≡ locale) whe
   names_same (Some kept) (Some all) None (Some every) is are = absurd are
   names_same (Some kept) (Some all) (Some some) None is are = absurd are
   names_same (Some kept) (Some all) (Some some) (Some every) is are =
-      let places = part-filter (λ m. m.places) locale (record { system = None; locale = id.locale }) same all in
+      let placeholders = part-filter (λ m. m.placeholders) locale (record { system = None; locale = id.locale }) same all in
       let rows = row_filed-filter locale id same every in
-      rw (is, are) (ap (λ p. found p (row_filed id (filter (currencies_are_of locale) every))) places
-      ∙ ap (found (first_filed (record { system = None; locale = id.locale }) (places_filed all))) rows)
+      rw (is, are) (ap (λ p. found p (row_filed id (filter (currencies_are_of locale) every))) placeholders
+      ∙ ap (found (first_filed (record { system = None; locale = id.locale }) (placeholders_filed all))) rows)
 
 -- rows that were all kept
 digits_same : (kept all : Option (List DigitsRow)) → KeptOf (λ entry. true) kept all
@@ -158,14 +158,14 @@ digits_same (Some kept) (Some all) is = ap (λ rows. Some (currency_digits_of ro
 
 -- one member more of all tables
 abbrev pub AddsAll : List ℕ → List ℕ → List Token → AllFoundData → AllFoundData → List Token → Type 0
-AddsAll = Adds (λ l ds f. HoldsAll l ds f)
+AddsAll = AddsMembers (λ l ds f. HoldsAll l ds f)
 
 -- a member that is none of the tables of money, percents and units
 pub adds_numbers : (locale name : List ℕ) (ts rest : List Token) (f : AllFoundData) (after : FoundData)
     → (name_of CurrencyDigits ≡ name → ⊥) → (name_of Percents ≡ name → ⊥) → (name_of Units ≡ name → ⊥)
     → (name_of Currencies ≡ name → ⊥) → (name_of CurrencySymbols ≡ name → ⊥)
     → (name_of CurrencyDecimals ≡ name → ⊥) → (name_of CurrencyCompact ≡ name → ⊥)
-    → Adds (λ l ds f. Holds l ds f) locale name ts f.numbers after rest
+    → AddsMembers (λ l ds f. Holds l ds f) locale name ts f.numbers after rest
     → AddsAll locale name ts f (record f { numbers = after }) rest
 adds_numbers locale name ts rest f after digits percents units money symbols decimals compact (d, is, adds) = (
   d,
@@ -336,7 +336,7 @@ dimension_read : (ds : Members) (digits : Option (List DigitsRow)) (percents : O
       percents = percents;
       units = units;
       currencies = option_map patterns_filed money;
-      places = option_map places_filed money;
+      placeholders = option_map placeholders_filed money;
       symbols = symbols;
       decimals = decimals;
       compact = compact;
@@ -357,7 +357,7 @@ pub dimension_for : (locale text : List ℕ) (ds : Members) (f : AllFoundData) (
       percents = f.percents;
       units = f.units;
       currencies = option_map patterns_filed f.money;
-      places = option_map places_filed f.money;
+      placeholders = option_map placeholders_filed f.money;
       symbols = f.symbols;
       decimals = f.decimals;
       compact = f.compact;
@@ -376,7 +376,7 @@ dimension_for locale text ds f digits are holds reads =
       percents = p.0;
       units = u.0;
       currencies = option_map patterns_filed m.0;
-      places = option_map places_filed m.0;
+      placeholders = option_map placeholders_filed m.0;
       symbols = s.0;
       decimals = n.0;
       compact = c.0;

@@ -9,12 +9,12 @@ use Rattle.icu_dimension_data.specs.declared.error.PatternFault.TheVariants.{NoN
 use Rattle.icu_dimension_data.specs.declared.error.PatternFault.TheVariants.{OutOfMemory}
 use Rattle.icu_dimension_tables.specs.NumberPatterns.{number_pattern_of, pattern_or_refused, pattern_refusal}
 use Rattle.icu_table_entries.specs.Reading.{Fails}
-use Rattle.icu_table_entries.specs.declared.error.Place.{Place}
+use Rattle.icu_table_entries.specs.declared.error.Position.{Position}
 
 -- a pattern is read
-pub pattern_read : (place : Place) (text : List ℕ) (p : PatternText) → pattern_of text ≡ Ok p → number_pattern_of place text ≡ Ok p
+pub pattern_read : (position : Position) (text : List ℕ) (p : PatternText) → pattern_of text ≡ Ok p → number_pattern_of position text ≡ Ok p
 unfolding number_pattern_of
-pattern_read place text p h = ap (pattern_or_refused place) h
+pattern_read position text p h = ap (pattern_or_refused position) h
 
 -- the answer of a fault
 abbrev pub fault_answer : PatternFault → Result PatternText PatternFault
@@ -28,17 +28,17 @@ told : (fault : PatternFault) (r : Result PatternText PatternFault) → Answers 
 told fault (Ok p) h other = let same : fault ≡ OutOfMemory = cc in absurd (other same)
 told fault (Err f) h other = let same : f ≡ fault = cc in ap Err same
 
-refused : (place : Place) (text : List ℕ) (fault : PatternFault) → Answers fault (pattern_of text) → (fault ≡ OutOfMemory → ⊥)
-    → number_pattern_of place text ≡ Err (pattern_refusal place fault)
+refused : (position : Position) (text : List ℕ) (fault : PatternFault) → Answers fault (pattern_of text) → (fault ≡ OutOfMemory → ⊥)
+    → number_pattern_of position text ≡ Err (pattern_refusal position fault)
 unfolding number_pattern_of
-refused place text fault h other = ap (pattern_or_refused place) (told fault (pattern_of text) h other)
+refused position text fault h other = ap (pattern_or_refused position) (told fault (pattern_of text) h other)
 
 -- a fault is that of the pattern, but because memory ran out
-pub pattern_failed : (place : Place) (text : List ℕ) (fault : PatternFault) → Answers fault (pattern_of text)
-    → Fails {Y = PatternText} (pattern_refusal place fault) (number_pattern_of place text)
-pattern_failed place text (NoNumber byte) h = refused place text (NoNumber byte) h (λ same. absurd cc)
-pattern_failed place text (TwoNumbers byte) h = refused place text (TwoNumbers byte) h (λ same. absurd cc)
-pattern_failed place text (UnclosedQuote byte) h = refused place text (UnclosedQuote byte) h (λ same. absurd cc)
-pattern_failed place text (ThirdSubpattern byte) h = refused place text (ThirdSubpattern byte) h (λ same. absurd cc)
-pattern_failed place text (Reserved byte) h = refused place text (Reserved byte) h (λ same. absurd cc)
-pattern_failed place text OutOfMemory h = tt
+pub pattern_failed : (position : Position) (text : List ℕ) (fault : PatternFault) → Answers fault (pattern_of text)
+    → Fails {Y = PatternText} (pattern_refusal position fault) (number_pattern_of position text)
+pattern_failed position text (NoNumber byte) h = refused position text (NoNumber byte) h (λ same. absurd cc)
+pattern_failed position text (TwoNumbers byte) h = refused position text (TwoNumbers byte) h (λ same. absurd cc)
+pattern_failed position text (UnclosedQuote byte) h = refused position text (UnclosedQuote byte) h (λ same. absurd cc)
+pattern_failed position text (ThirdSubpattern byte) h = refused position text (ThirdSubpattern byte) h (λ same. absurd cc)
+pattern_failed position text (Reserved byte) h = refused position text (Reserved byte) h (λ same. absurd cc)
+pattern_failed position text OutOfMemory h = tt

@@ -11,7 +11,7 @@ use Rattle.icu_dimension_tables.specs.CurrencyCompact.{first_repeated, repeats}
 use Rattle.icu_plurals.specs.Elements.{Elements, same_elements, without_explicit_one}
 use Rattle.icu_table_entries.specs.PatternTexts.{texts_lent}
 use Rattle.icu_tables.proofs.Maps.{entries_from}
-use Rattle.icu_tables.specs.declared.compact.GivenEntry.{GivenEntry}
+use Rattle.icu_tables.specs.declared.compact.ListedEntry.{ListedEntry}
 
 -- whether two lent texts are the same
 abbrev same_text : Bor (List ℕ) → Bor (List ℕ) → Bool
@@ -35,7 +35,7 @@ same_lent a b =
     (both (same_option a.one b.one) (both (same_option a.two b.two) (both (same_option a.few b.few) (both (same_option a.many b.many) refl))))))
 
 -- under another exponent the texts decide
-pub repeats_by_texts : (before e : GivenEntry) (a b : Elements (Bor (List ℕ))) → texts_lent a ≡ before.texts → texts_lent b ≡ e.texts →
+pub repeats_by_texts : (before e : ListedEntry) (a b : Elements (Bor (List ℕ))) → texts_lent a ≡ before.texts → texts_lent b ≡ e.texts →
     (before.exponent ≡ e.exponent → ⊥) → same_elements same_text (without_explicit_one a) b ≡ repeats before e
 repeats_by_texts before e a b is are differ =
     let test : not (before.exponent == e.exponent) ≡ true = grind (arith, nat_tests, differ) in
@@ -43,14 +43,14 @@ repeats_by_texts before e a b is are differ =
     same_lent a b ∙ ap₂ (λ x y. same_elements (pointwise nat_eq) (without_explicit_one x) y) is are ∙ sym (ap (λ (t : Bool). t && texts) test)
 
 -- the entries from the one before an index on
-from_before : (es : List GivenEntry) (i : ℕ) (before e : GivenEntry) → 0 < i → before ≡ get_or es (i - 1) before → e ≡ get_or es i e
+from_before : (es : List ListedEntry) (i : ℕ) (before e : ListedEntry) → 0 < i → before ≡ get_or es (i - 1) before → e ≡ get_or es i e
     → i < length es
     → drop (i - 1) es ≡ before ∷ e ∷ drop (i + 1) es
 from_before es i before e positive is are lt =
     let next : (i - 1) + 1 ≡ i = omega arith in
     entries_from es (i - 1) before is (omega arith) ∙ ap (λ n. before ∷ drop n es) next ∙ ap (λ l. before ∷ l) (entries_from es i e are lt)
 
-module _ (es : List GivenEntry) (i : ℕ) (before e : GivenEntry) (positive : 0 < i) (is : before ≡ get_or es (i - 1) before) (are : e ≡ get_or es i e)
+module _ (es : List ListedEntry) (i : ℕ) (before e : ListedEntry) (positive : 0 < i) (is : before ≡ get_or es (i - 1) before) (are : e ≡ get_or es i e)
     (lt : i < length es) (so_far : first_repeated (drop (i - 1) es) ≡ first_repeated es) where
   -- an entry that repeats the one before it is the first
   pub repeated_here : true ≡ repeats before e → Some e.log10_type ≡ first_repeated es
@@ -68,12 +68,12 @@ module _ (es : List GivenEntry) (i : ℕ) (before e : GivenEntry) (positive : 0 
       ∙ ap (λ (t : Bool). if t then Some e.log10_type else rest) h
       ∙ ap first_repeated (sym (from_before es i before e positive is are lt)) ∙ so_far
 
-one_alone : (es : List GivenEntry) → length es ≤ 1 → first_repeated es ≡ None
+one_alone : (es : List ListedEntry) → length es ≤ 1 → first_repeated es ≡ None
 one_alone [] few = refl
 one_alone (e ∷ []) few = refl
 one_alone (e ∷ f ∷ es) few = absurd (omega arith)
 
 -- behind the last entry none is left
-pub repeated_nowhere : (es : List GivenEntry) (i : ℕ) → length es ≤ i → first_repeated (drop (i - 1) es) ≡ first_repeated es →
+pub repeated_nowhere : (es : List ListedEntry) (i : ℕ) → length es ≤ i → first_repeated (drop (i - 1) es) ≡ first_repeated es →
     None ≡ first_repeated es
 repeated_nowhere es i ended so_far = sym (one_alone (drop (i - 1) es) (omega (arith, length-drop (i - 1) es))) ∙ so_far

@@ -7,7 +7,7 @@ use Rattle.std.specs.Str.Pattern.{FindsText, LacksTextAt, SplitsAroundMatch}
 use Rattle.std.proofs.lemmas.Bool.{cases_Bool}
 use Rattle.std.proofs.lemmas.Bool.Decides.{Decides-eqb}
 use Rattle.std.proofs.lemmas.Slice.Eq.{starts_is}
-use Rattle.icu_dimension_tables.specs.NamePlaces.{split_at}
+use Rattle.icu_dimension_tables.specs.NamePlaceholders.{split_at}
 
 -- a text without the mark at its start
 not_start : (mark s : List ℕ) → LacksTextAt mark s 0 → starts_with eqb s mark ≡ false

@@ -11,7 +11,7 @@ use Rattle.icu_dimension.specs.CurrencyData.{SymbolTexts}
 use Rattle.icu_dimension.specs.Names.{NameText}
 use Rattle.icu_dimension_tables.specs.CurrencyNames.{names_found}
 use Rattle.icu_dimension_tables.specs.CurrencySymbols.{LocaleCurrencies, row_filed}
-use Rattle.icu_dimension_tables.specs.NamePlaces.{NamePlaces}
+use Rattle.icu_dimension_tables.specs.NamePlaceholders.{NamePlaceholders}
 use Rattle.icu_dimension_tables.specs.Units.{UnitPatterns, first_unit}
 use Rattle.icu_dimension_tables.specs.declared.units.UnitWidth.{UnitWidth}
 use Rattle.icu_table_entries.specs.Answering.{filed_answer, or_not_found}
@@ -35,7 +35,7 @@ symbols_answer (Some entries) id = or_not_found (option_map (λ row. row.symbols
 
 -- The names of a currency by its code in the locale, in the places that the locale's entry without a numbering system has, if it
 -- has any. Without one of the two keys there are none for any identifier.
-abbrev pub names_answer : Option (List (NamedEntry (Option (Elements NamePlaces)))) → Option (List LocaleCurrencies) → Identifier
+abbrev pub names_answer : Option (List (NamedEntry (Option (Elements NamePlaceholders)))) → Option (List LocaleCurrencies) → Identifier
     → Result (Elements NameText) Refusal
 names_answer None currencies id = refused MarkerNotFound
 names_answer (Some entries) None id = refused MarkerNotFound

@@ -12,33 +12,33 @@ use Rattle.icu_table_entries.specs.Named.{refused}
 use Rattle.icu_table_entries.specs.Reading.{◌>>=◌, byte_in, entries_in, optional_at, text_in, triple_in}
 use Rattle.icu_table_entries.specs.declared.error.EntryFault.TheVariants.{BadCurrencyCode, TooManyDigits}
 use Rattle.icu_table_entries.specs.declared.error.Key.TheVariants as key
-use Rattle.icu_table_entries.specs.declared.error.Place.{Place}
+use Rattle.icu_table_entries.specs.declared.error.Position.{Position}
 use Rattle.icu_table_entries.specs.declared.error.TableError.{TableError}
 
 -- the code of a currency
-unfoldable pub currency_code_of : Place → List ℕ → Result (List ℕ) TableError
-currency_code_of place text = if is_currency_code text then Ok text else refused place BadCurrencyCode
+unfoldable pub currency_code_of : Position → List ℕ → Result (List ℕ) TableError
+currency_code_of position text = if is_currency_code text then Ok text else refused position BadCurrencyCode
 
 -- the code of a currency, or none for `DEFAULT`, which is for all others
-unfoldable pub code_or_default : Place → List ℕ → Result (Option (List ℕ)) TableError
-code_or_default place text = if pointwise nat_eq text (codes "DEFAULT") then Ok None else (do
-  code ← currency_code_of place text
+unfoldable pub code_or_default : Position → List ℕ → Result (Option (List ℕ)) TableError
+code_or_default position text = if pointwise nat_eq text (codes "DEFAULT") then Ok None else (do
+  code ← currency_code_of position text
   Ok (Some code))
 
 -- that many fraction digits, at most 15
-unfoldable pub fraction_digits_of : Place → ℕ → Result ℕ TableError
-fraction_digits_of place n = if nat_lt 15 n then refused place TooManyDigits else Ok n
+unfoldable pub fraction_digits_of : Position → ℕ → Result ℕ TableError
+fraction_digits_of position n = if nat_lt 15 n then refused position TooManyDigits else Ok n
 
 -- an entry: a list of a code, its digits and its digits in cash; first their kinds, then what they say
-unfoldable pub digits_row_at : Place → Data → Result DigitsRow TableError
-digits_row_at place d = do
-  triple ← triple_in place.key d
-  text ← text_in place.key triple.0
-  standard ← byte_in place.key triple.1.0
-  cash ← byte_in place.key triple.1.1
-  code ← code_or_default place text
-  standard ← fraction_digits_of place standard
-  cash ← fraction_digits_of place cash
+unfoldable pub digits_row_at : Position → Data → Result DigitsRow TableError
+digits_row_at position d = do
+  triple ← triple_in position.key d
+  text ← text_in position.key triple.0
+  standard ← byte_in position.key triple.1.0
+  cash ← byte_in position.key triple.1.1
+  code ← code_or_default position text
+  standard ← fraction_digits_of position standard
+  cash ← fraction_digits_of position cash
   Ok (record { code = code; digits = record { standard = standard; cash = cash } })
 
 -- the currency of an entry with its digits, if the entry is that of one currency

@@ -10,7 +10,7 @@ use Rattle.icu_table_entries.specs.CategoryTexts.{category_texts_in}
 use Rattle.icu_table_entries.specs.Named.{locale_of}
 use Rattle.icu_table_entries.specs.Reading.{◌>>=◌, entries_at, four_in, list_at, object_in, text_at, text_in}
 use Rattle.icu_table_entries.specs.declared.error.Key.TheVariants.{Locale, Symbols}
-use Rattle.icu_table_entries.specs.declared.error.Place.{Place}
+use Rattle.icu_table_entries.specs.declared.error.Position.{Position}
 use Rattle.icu_table_entries.specs.declared.error.TableError.{TableError}
 
 -- a currency's symbols and its names in a locale
@@ -25,28 +25,28 @@ pub record LocaleCurrencies : Type 0 where
   pub rows : List CurrencyRow
 
 -- a row: a list of the currency's code, its symbol, its narrow symbol and its names; first their kinds, then the code
-unfoldable pub currency_row_at : Place → Data → Result CurrencyRow TableError
-currency_row_at place d = do
+unfoldable pub currency_row_at : Position → Data → Result CurrencyRow TableError
+currency_row_at position d = do
   four ← four_in Symbols d
   code ← text_in Symbols four.0
   short ← text_in Symbols four.1.0
   narrow ← text_in Symbols four.1.1.0
   names ← category_texts_in Symbols four.1.1.1
-  code ← currency_code_of place code
+  code ← currency_code_of position code
   Ok (record { code = code; symbols = record { short = short; narrow = narrow }; names = names })
 
 -- each row in turn; a fault of one is reported as the entry's
-abbrev pub currency_rows_at : Place → List Data → Result (List CurrencyRow) TableError
-currency_rows_at place ds = entries_at (λ _. currency_row_at place) Symbols 0 ds
+abbrev pub currency_rows_at : Position → List Data → Result (List CurrencyRow) TableError
+currency_rows_at position ds = entries_at (λ _. currency_row_at position) Symbols 0 ds
 
 -- an entry: first the kinds of its fields, then its locale, then row by row
-unfoldable pub currency_symbols_at : Place → Data → Result LocaleCurrencies TableError
-currency_symbols_at place d = do
-  d ← object_in place.key d
+unfoldable pub currency_symbols_at : Position → Data → Result LocaleCurrencies TableError
+currency_symbols_at position d = do
+  d ← object_in position.key d
   locale ← text_at Locale d
   values ← list_at Symbols d
-  locale ← locale_of place locale
-  rows ← currency_rows_at place values
+  locale ← locale_of position locale
+  rows ← currency_rows_at position values
   Ok (record { locale = locale; rows = rows })
 
 -- the first row of a currency

@@ -8,8 +8,8 @@ use Rattle.icu_dimension_data.specs.Resolved.{Signed}
 use Rattle.icu_dimension_tables.specs.CurrencyCompact.{currency_compact_at}
 use Rattle.icu_dimension_tables.specs.CurrencyDigits.{currency_digits_under}
 use Rattle.icu_dimension_tables.specs.CurrencySymbols.{LocaleCurrencies, currency_symbols_at}
-use Rattle.icu_dimension_tables.specs.Money.{currencies_at, patterns_filed, places_filed}
-use Rattle.icu_dimension_tables.specs.NamePlaces.{NamePlaces}
+use Rattle.icu_dimension_tables.specs.Money.{currencies_at, patterns_filed, placeholders_filed}
+use Rattle.icu_dimension_tables.specs.NamePlaceholders.{NamePlaceholders}
 use Rattle.icu_dimension_tables.specs.Percents.{percents_at}
 use Rattle.icu_dimension_tables.specs.Units.{UnitPatterns, units_at}
 use Rattle.icu_dimension_data.specs.declared.compact_rows.CompactRow.{CompactRow}
@@ -26,7 +26,7 @@ pub record DimensionData : Type 0 where
   pub percents : Option (List (NamedEntry Signed))
   pub units : Option (List UnitPatterns)
   pub currencies : Option (List (NamedEntry MoneyPatterns))
-  pub places : Option (List (NamedEntry (Option (Elements NamePlaces))))
+  pub placeholders : Option (List (NamedEntry (Option (Elements NamePlaceholders))))
   pub symbols : Option (List LocaleCurrencies)
   pub decimals : Option (List (NamedEntry DecimalSymbols))
   pub compact : Option (List (NamedEntry (List CompactRow)))
@@ -47,7 +47,7 @@ dimension_tables_at d = do
     percents = percents;
     units = units;
     currencies = option_map patterns_filed money;
-    places = option_map places_filed money;
+    placeholders = option_map placeholders_filed money;
     symbols = symbols;
     decimals = decimals;
     compact = compact;

@@ -36,7 +36,7 @@ pub record DimensionAnswersAs (locale : List ℕ) (kept all : DimensionData) : T
   pub units : (width : UnitWidth) (id : Identifier) → id.locale ≡ locale → unit_answer width kept.units id ≡ unit_answer width all.units id
   pub currencies : (id : Identifier) → id.locale ≡ locale → optional_answer kept.currencies id ≡ optional_answer all.currencies id
   pub symbols : (id : Identifier) → id.locale ≡ locale → symbols_answer kept.symbols id ≡ symbols_answer all.symbols id
-  pub names : (id : Identifier) → id.locale ≡ locale → names_answer kept.places kept.symbols id ≡ names_answer all.places all.symbols id
+  pub names : (id : Identifier) → id.locale ≡ locale → names_answer kept.placeholders kept.symbols id ≡ names_answer all.placeholders all.symbols id
   pub decimals : (id : Identifier) → id.locale ≡ locale → decimals_answer kept.decimals id ≡ decimals_answer all.decimals id
   pub compact : (id : Identifier) → id.locale ≡ locale → optional_answer kept.compact id ≡ optional_answer all.compact id
 

@@ -3,7 +3,7 @@ pub mod ByCategory
 pub mod MoneyPattern
 pub mod CurrencyCompact
 pub mod SignTexts
-pub mod NamePlaces
+pub mod NamePlaceholders
 pub mod CurrencyDigits
 pub mod Percents
 pub mod Units

@@ -5,7 +5,7 @@ use Rattle.icu_dimension_tables.specs.NumberPatterns.{number_pattern_of}
 use Rattle.icu_table_entries.specs.Named.{refused}
 use Rattle.icu_table_entries.specs.Reading.{◌>>=◌}
 use Rattle.icu_table_entries.specs.declared.error.EntryFault.TheVariants.{NoPercentPlace, NoSymbolPlace}
-use Rattle.icu_table_entries.specs.declared.error.Place.{Place}
+use Rattle.icu_table_entries.specs.declared.error.Position.{Position}
 use Rattle.icu_table_entries.specs.declared.error.TableError.{TableError}
 
 -- What a character of a pattern changes of whether it stands in a quote and whether a mark stood in the subpattern so far; nothing,
@@ -35,13 +35,13 @@ abbrev pub percent_mark : ℕ
 percent_mark = 37
 
 -- the pattern of a text that has the symbol's place in each subpattern
-unfoldable pub money_pattern_of : Place → List ℕ → Result PatternText TableError
-money_pattern_of place text = do
-  pattern ← number_pattern_of place text
-  if mark_in_each symbol_mark false false (chars text) then Ok pattern else refused place NoSymbolPlace
+unfoldable pub money_pattern_of : Position → List ℕ → Result PatternText TableError
+money_pattern_of position text = do
+  pattern ← number_pattern_of position text
+  if mark_in_each symbol_mark false false (chars text) then Ok pattern else refused position NoSymbolPlace
 
 -- the pattern of a text that has the percent sign's place in each subpattern
-unfoldable pub percent_pattern_of : Place → List ℕ → Result PatternText TableError
-percent_pattern_of place text = do
-  pattern ← number_pattern_of place text
-  if mark_in_each percent_mark false false (chars text) then Ok pattern else refused place NoPercentPlace
+unfoldable pub percent_pattern_of : Position → List ℕ → Result PatternText TableError
+percent_pattern_of position text = do
+  pattern ← number_pattern_of position text
+  if mark_in_each percent_mark false false (chars text) then Ok pattern else refused position NoPercentPlace

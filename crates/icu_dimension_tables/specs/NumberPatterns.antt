@@ -5,24 +5,24 @@ use Rattle.icu_dimension_data.specs.Reading.{pattern_of}
 use Rattle.icu_dimension_data.specs.declared.error.PatternFault.{PatternFault}
 use Rattle.icu_dimension_data.specs.declared.error.PatternFault.TheVariants as pattern
 use Rattle.icu_table_entries.specs.declared.error.EntryFault.TheVariants.{NoNumber, TwoNumbers, UnclosedQuote, ThirdSubpattern, ReservedCharacter}
-use Rattle.icu_table_entries.specs.declared.error.Place.{Place}
+use Rattle.icu_table_entries.specs.declared.error.Position.{Position}
 use Rattle.icu_table_entries.specs.declared.error.TableError.{TableError}
 use Rattle.icu_table_entries.specs.declared.error.TableError.TheVariants.{Entry, OutOfMemory}
 
 -- how an entry is rejected for the first fault of a pattern
-abbrev pub pattern_refusal : Place → PatternFault → TableError
-pattern_refusal place (pattern.NoNumber byte) = Entry place.key place.index (NoNumber byte)
-pattern_refusal place (pattern.TwoNumbers byte) = Entry place.key place.index (TwoNumbers byte)
-pattern_refusal place (pattern.UnclosedQuote byte) = Entry place.key place.index (UnclosedQuote byte)
-pattern_refusal place (pattern.ThirdSubpattern byte) = Entry place.key place.index (ThirdSubpattern byte)
-pattern_refusal place (pattern.Reserved byte) = Entry place.key place.index (ReservedCharacter byte)
-pattern_refusal place pattern.OutOfMemory = OutOfMemory
+abbrev pub pattern_refusal : Position → PatternFault → TableError
+pattern_refusal position (pattern.NoNumber byte) = Entry position.key position.index (NoNumber byte)
+pattern_refusal position (pattern.TwoNumbers byte) = Entry position.key position.index (TwoNumbers byte)
+pattern_refusal position (pattern.UnclosedQuote byte) = Entry position.key position.index (UnclosedQuote byte)
+pattern_refusal position (pattern.ThirdSubpattern byte) = Entry position.key position.index (ThirdSubpattern byte)
+pattern_refusal position (pattern.Reserved byte) = Entry position.key position.index (ReservedCharacter byte)
+pattern_refusal position pattern.OutOfMemory = OutOfMemory
 
 -- the pattern that was read, or the error of the entry
-abbrev pub pattern_or_refused : Place → Result PatternText PatternFault → Result PatternText TableError
-pattern_or_refused place (Ok pattern) = Ok pattern
-pattern_or_refused place (Err fault) = Err (pattern_refusal place fault)
+abbrev pub pattern_or_refused : Position → Result PatternText PatternFault → Result PatternText TableError
+pattern_or_refused position (Ok pattern) = Ok pattern
+pattern_or_refused position (Err fault) = Err (pattern_refusal position fault)
 
 -- the pattern of a text
-unfoldable pub number_pattern_of : Place → List ℕ → Result PatternText TableError
-number_pattern_of place text = pattern_or_refused place (pattern_of text)
+unfoldable pub number_pattern_of : Position → List ℕ → Result PatternText TableError
+number_pattern_of position text = pattern_or_refused position (pattern_of text)

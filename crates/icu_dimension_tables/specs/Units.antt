@@ -12,7 +12,7 @@ use Rattle.icu_table_entries.specs.Named.{locale_of, refused}
 use Rattle.icu_table_entries.specs.Reading.{◌>>=◌, member_at, object_in, text_at}
 use Rattle.icu_table_entries.specs.declared.error.EntryFault.TheVariants.{BadWidth}
 use Rattle.icu_table_entries.specs.declared.error.Key.TheVariants.{Locale, Width, Unit, Patterns}
-use Rattle.icu_table_entries.specs.declared.error.Place.{Place}
+use Rattle.icu_table_entries.specs.declared.error.Position.{Position}
 use Rattle.icu_table_entries.specs.declared.error.TableError.{TableError}
 
 -- the patterns of a unit in a width; the unit is what the identifier has besides the locale
@@ -22,25 +22,25 @@ pub record UnitPatterns : Type 0 where
   pub patterns : Elements PatternText
 
 -- the width of a name
-unfoldable pub width_of : Place → List ℕ → Result UnitWidth TableError
-width_of place name =
+unfoldable pub width_of : Position → List ℕ → Result UnitWidth TableError
+width_of position name =
     if pointwise nat_eq name (codes "long") then Ok Long
     else if pointwise nat_eq name (codes "short") then Ok Short
     else if pointwise nat_eq name (codes "narrow") then Ok Narrow
-    else refused place BadWidth
+    else refused position BadWidth
 
 -- an entry: first the kinds of all its fields, then its locale, its width and its patterns
-unfoldable pub units_at : Place → Data → Result UnitPatterns TableError
-units_at place d = do
-  d ← object_in place.key d
+unfoldable pub units_at : Position → Data → Result UnitPatterns TableError
+units_at position d = do
+  d ← object_in position.key d
   locale ← text_at Locale d
   width ← text_at Width d
   unit ← text_at Unit d
   patterns ← member_at Patterns d
   texts ← category_texts_in Patterns patterns
-  locale ← locale_of place locale
-  width ← width_of place width
-  patterns ← patterns_of place texts
+  locale ← locale_of position locale
+  width ← width_of position width
+  patterns ← patterns_of position texts
   Ok (record { identifier = record { system = Some unit; locale = locale }; width = width; patterns = patterns })
 
 -- whether two widths are the same

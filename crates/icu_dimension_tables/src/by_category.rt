@@ -7,13 +7,13 @@ ghost use Rattle.icu_dimension_data.specs.ByCategory.{elements_map};
 ghost use Rattle.icu_dimension_tables.specs.ByCategory.{elements_read, optional_read};
 ghost use Rattle.icu_table_entries.specs.CategoryTexts.{category_texts_in};
 ghost use Rattle.icu_table_entries.specs.Reading.{Gives};
-ghost use Rattle.icu_table_entries.specs.declared.error.Place.{Place};
+ghost use Rattle.icu_table_entries.specs.declared.error.Position.{Position};
 ghost use Rattle.icu_table_entries.specs.declared.error.TableError.{TableError};
 
 use icu_dimension_data::by_category::other_of;
 use icu_plurals::PluralElements;
 use icu_table_entries::fields::{object_in, optional_text_at, text_at};
-use icu_table_entries::{Key, Place, TableError};
+use icu_table_entries::{Key, Position, TableError};
 use serde_json::Value;
 use std::alloc::Global;
 
@@ -23,11 +23,11 @@ pub trait TextKind {
     type Read: Drop;
 
     /// What a text reads as.
-    ghost read_text: { Place → List ℕ → Result Self.Read TableError };
+    ghost read_text: { Position → List ℕ → Result Self.Read TableError };
 
     /// What a text reads as, or its fault.
-    fn from_text(alloc: Global, place: Place, text: &str) -> Result<Self::Read, TableError>
-        ensures { Gives (λ x. x) result (read_text place text.now) };
+    fn from_text(alloc: Global, position: Position, text: &str) -> Result<Self::Read, TableError>
+        ensures { Gives (λ x. x) result (read_text position text.now) };
 }
 
 /// The texts of an object, by plural category.
@@ -51,16 +51,16 @@ pub fn texts_in(value: &Value, key: Key) -> Result<PluralElements<&str>, TableEr
 #[tactic(auto, unfolding(crate::specs::ByCategory::optional_read))]
 fn slot_read<T: TextKind>(
     alloc: Global,
-    place: Place,
+    position: Position,
     texts: &PluralElements<&str>,
     slot: u8,
 ) -> Result<Option<T::Read>, TableError>
     requires { slot < 8 }
-    ensures { Gives (λ x. x) result (optional_read T.read_text place
+    ensures { Gives (λ x. x) result (optional_read T.read_text position
         (option_map (λ s. s.now) (slice_index_or (slots texts.now) slot None))) }
 {
     match texts.slot(slot) {
-        Some(text) => Ok(Some(T::from_text(alloc, place, text)?)),
+        Some(text) => Ok(Some(T::from_text(alloc, position, text)?)),
         None => Ok(None),
     }
 }
@@ -69,19 +69,19 @@ fn slot_read<T: TextKind>(
 #[tactic(auto, unfolding(crate::specs::ByCategory::elements_read))]
 pub fn elements_read<T: TextKind>(
     alloc: Global,
-    place: Place,
+    position: Position,
     texts: &PluralElements<&str>,
 ) -> Result<PluralElements<T::Read>, TableError>
     ensures { Gives (λ x. x) result
-        (elements_read T.read_text place (elements_map (λ s. s.now) texts.now)) }
+        (elements_read T.read_text position (elements_map (λ s. s.now) texts.now)) }
 {
-    let elements = PluralElements::new(T::from_text(alloc, place, other_of(texts))?)
-        .with_explicit_zero_value(slot_read::<T>(alloc, place, texts, 0)?)
-        .with_explicit_one_value(slot_read::<T>(alloc, place, texts, 1)?)
-        .with_zero_value(slot_read::<T>(alloc, place, texts, 2)?)
-        .with_one_value(slot_read::<T>(alloc, place, texts, 3)?)
-        .with_two_value(slot_read::<T>(alloc, place, texts, 4)?)
-        .with_few_value(slot_read::<T>(alloc, place, texts, 5)?)
-        .with_many_value(slot_read::<T>(alloc, place, texts, 6)?);
+    let elements = PluralElements::new(T::from_text(alloc, position, other_of(texts))?)
+        .with_explicit_zero_value(slot_read::<T>(alloc, position, texts, 0)?)
+        .with_explicit_one_value(slot_read::<T>(alloc, position, texts, 1)?)
+        .with_zero_value(slot_read::<T>(alloc, position, texts, 2)?)
+        .with_one_value(slot_read::<T>(alloc, position, texts, 3)?)
+        .with_two_value(slot_read::<T>(alloc, position, texts, 4)?)
+        .with_few_value(slot_read::<T>(alloc, position, texts, 5)?)
+        .with_many_value(slot_read::<T>(alloc, position, texts, 6)?);
     Ok(elements)
 }

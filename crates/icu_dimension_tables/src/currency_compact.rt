@@ -15,8 +15,8 @@ use icu_provider::DataLocale;
 use icu_table_entries::entries::EntryKind;
 use icu_table_entries::fields::{list_at, object_in, optional_text_at, text_at};
 use icu_table_entries::named::{NamedEntry, name_of};
-use icu_table_entries::{EntryFault, Key, Place, TableError};
-use icu_tables::compact::{GivenEntry, given_entries_in};
+use icu_table_entries::{EntryFault, Key, Position, TableError};
+use icu_tables::compact::{ListedEntry, listed_entries_in};
 use serde_json::Value;
 use std::alloc::Global;
 
@@ -26,17 +26,22 @@ const MOST_ABOVE: u8 = 15;
 /// The exponent, if it isn't below the one before it, nor above its type, nor more than 15 below
 /// it.
 #[tactic(auto, unfolding(crate::specs::CurrencyCompact::exponent_of))]
-fn exponent_of(place: Place, before: u8, log10_type: u8, exponent: u8) -> Result<u8, TableError>
-    ensures { Gives (λ x. x) result (exponent_of place before log10_type exponent) }
+fn exponent_of(
+    position: Position,
+    before: u8,
+    log10_type: u8,
+    exponent: u8,
+) -> Result<u8, TableError>
+    ensures { Gives (λ x. x) result (exponent_of position before log10_type exponent) }
 {
     if exponent < before {
-        return Err(place.refusal(EntryFault::ExponentsFall));
+        return Err(position.refusal(EntryFault::ExponentsFall));
     }
     if log10_type < exponent {
-        return Err(place.refusal(EntryFault::ExponentAboveType));
+        return Err(position.refusal(EntryFault::ExponentAboveType));
     }
     if log10_type - exponent > MOST_ABOVE {
-        return Err(place.refusal(EntryFault::TooManyZeros));
+        return Err(position.refusal(EntryFault::TooManyZeros));
     }
     Ok(exponent)
 }
@@ -45,15 +50,15 @@ fn exponent_of(place: Place, before: u8, log10_type: u8, exponent: u8) -> Result
 #[tactic(auto, unfolding(crate::specs::CurrencyCompact::compact_row_of))]
 fn compact_row_of(
     alloc: Global,
-    place: Place,
+    position: Position,
     before: u8,
-    entry: &GivenEntry<'_>,
+    entry: &ListedEntry<'_>,
 ) -> Result<CompactRow, TableError>
-    ensures { Gives (λ x. x) result (compact_row_of place before entry.now) }
+    ensures { Gives (λ x. x) result (compact_row_of position before entry.now) }
 {
-    let exponent = exponent_of(place, before, entry.log10_type, entry.exponent)?;
+    let exponent = exponent_of(position, before, entry.log10_type, entry.exponent)?;
     let texts = entry.texts.elements();
-    let patterns = elements_read::<MoneyPattern>(alloc, place, &texts)?;
+    let patterns = elements_read::<MoneyPattern>(alloc, position, &texts)?;
     Ok(CompactRow {
         log10_type: entry.log10_type,
         exponent,
@@ -64,17 +69,17 @@ fn compact_row_of(
 /// Each row in turn.
 fn compact_rows_of(
     alloc: Global,
-    place: Place,
-    entries: &[GivenEntry<'_>],
+    position: Position,
+    entries: &[ListedEntry<'_>],
 ) -> Result<Vec<CompactRow>, TableError>
     requires { Rise None entries.now }
-    ensures rows { Gives (λ v. v.items) result (compact_rows_of place 0 entries.now) }
+    ensures rows { Gives (λ v. v.items) result (compact_rows_of position 0 entries.now) }
     ensures rise { IfOk result (λ v. RowsRise None v.items) }
 {
     let mut found = Vec::new(alloc);
     let mut before = 0;
     for index in 0..entries.len() {
-        let row = compact_row_of(alloc, place, before, &entries[index])?;
+        let row = compact_row_of(alloc, position, before, &entries[index])?;
         before = row.exponent;
         found.push(row)?;
     }
@@ -83,7 +88,7 @@ fn compact_rows_of(
 
 /// Whether an entry has another exponent than the one before it, and the same texts, that one's
 /// text for exactly one taken away.
-fn repeats(before: &GivenEntry<'_>, entry: &GivenEntry<'_>) -> bool
+fn repeats(before: &ListedEntry<'_>, entry: &ListedEntry<'_>) -> bool
     ensures { result ≡ repeats before.now entry.now }
 {
     let texts = before.texts.elements();
@@ -91,7 +96,7 @@ fn repeats(before: &GivenEntry<'_>, entry: &GivenEntry<'_>) -> bool
 }
 
 /// The type of the first entry that repeats the one before it so.
-fn first_repeated(entries: &[GivenEntry<'_>]) -> Option<u8>
+fn first_repeated(entries: &[ListedEntry<'_>]) -> Option<u8>
     ensures { result ≡ first_repeated entries.now }
 {
     for index in 1..entries.len() {
@@ -106,14 +111,14 @@ fn first_repeated(entries: &[GivenEntry<'_>]) -> Option<u8>
 /// The rows, unless a type repeats the one before it: a table would drop it, and amounts would be
 /// shown by the power of ten of the one before.
 fn unless_repeated(
-    place: Place,
+    position: Position,
     repeated: Option<u8>,
     rows: CompactRows,
 ) -> Result<CompactRows, TableError>
-    ensures { Gives (λ x. x) result (unless_repeated place repeated rows) }
+    ensures { Gives (λ x. x) result (unless_repeated position repeated rows) }
 {
     match repeated {
-        Some(log10_type) => Err(place.refusal(EntryFault::RepeatedPatterns { log10_type })),
+        Some(log10_type) => Err(position.refusal(EntryFault::RepeatedPatterns { log10_type })),
         None => Ok(rows),
     }
 }
@@ -134,14 +139,18 @@ impl EntryKind for CurrencyCompactEntry {
     // promise: Texts that are repeated with a new exponent are rejected.
     // mutations: repeated_texts_let_through
     #[tactic(auto, unfolding(crate::specs::CurrencyCompact::currency_compact_at))]
-    fn from_entry(alloc: Global, place: Place, value: &Value) -> Result<Self::Entry, TableError> {
-        let value = object_in(value, place.key)?;
+    fn from_entry(
+        alloc: Global,
+        position: Position,
+        value: &Value,
+    ) -> Result<Self::Entry, TableError> {
+        let value = object_in(value, position.key)?;
         let locale = text_at(value, Key::Locale)?;
         let system = optional_text_at(value, Key::System)?;
-        let given = given_entries_in(alloc, list_at(value, Key::Patterns)?)?;
-        let name = name_of(place, locale, system)?;
-        let rows = compact_rows_of(alloc, place, &given)?;
-        let content = unless_repeated(place, first_repeated(&given), CompactRows { rows })?;
+        let listed = listed_entries_in(alloc, list_at(value, Key::Patterns)?)?;
+        let name = name_of(position, locale, system)?;
+        let rows = compact_rows_of(alloc, position, &listed)?;
+        let content = unless_repeated(position, first_repeated(&listed), CompactRows { rows })?;
         Ok(NamedEntry { name, content })
     }
 

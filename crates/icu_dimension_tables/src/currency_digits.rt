@@ -11,7 +11,7 @@ use icu_dimension_data::{CurrencyCode, CurrencyDigits, CurrencyEntry, FractionDi
 use icu_provider::DataLocale;
 use icu_table_entries::entries::{EntryKind, optional_entries};
 use icu_table_entries::fields::{byte_in, text_in, triple_in};
-use icu_table_entries::{EntryFault, Key, Place, TableError};
+use icu_table_entries::{EntryFault, Key, Position, TableError};
 use serde_json::Value;
 use std::alloc::{AllocError, Global};
 
@@ -26,33 +26,33 @@ pub struct DigitsRow {
 
 /// The code of a currency.
 #[tactic(auto, unfolding(crate::specs::CurrencyDigits::currency_code_of))]
-pub fn currency_code_of(place: Place, text: &str) -> Result<CurrencyCode, TableError>
-    ensures { Gives (λ x. x) result (currency_code_of place text.now) }
+pub fn currency_code_of(position: Position, text: &str) -> Result<CurrencyCode, TableError>
+    ensures { Gives (λ x. x) result (currency_code_of position text.now) }
 {
     match CurrencyCode::try_from_str(text) {
         Ok(code) => Ok(code),
-        Err(_) => Err(place.refusal(EntryFault::BadCurrencyCode)),
+        Err(_) => Err(position.refusal(EntryFault::BadCurrencyCode)),
     }
 }
 
 /// The code of a currency, or none for `DEFAULT`.
 #[tactic(auto, unfolding(crate::specs::CurrencyDigits::code_or_default))]
-fn code_or_default(place: Place, text: &str) -> Result<Option<CurrencyCode>, TableError>
-    ensures { Gives (λ x. x) result (code_or_default place text.now) }
+fn code_or_default(position: Position, text: &str) -> Result<Option<CurrencyCode>, TableError>
+    ensures { Gives (λ x. x) result (code_or_default position text.now) }
 {
     if text == "DEFAULT" {
         return Ok(None);
     }
-    Ok(Some(currency_code_of(place, text)?))
+    Ok(Some(currency_code_of(position, text)?))
 }
 
 /// That many fraction digits, if they are 15 at most.
 #[tactic(auto, unfolding(crate::specs::CurrencyDigits::fraction_digits_of))]
-fn fraction_digits_of(place: Place, digits: u8) -> Result<u8, TableError>
-    ensures { Gives (λ x. x) result (fraction_digits_of place digits) }
+fn fraction_digits_of(position: Position, digits: u8) -> Result<u8, TableError>
+    ensures { Gives (λ x. x) result (fraction_digits_of position digits) }
 {
     if digits > 15 {
-        return Err(place.refusal(EntryFault::TooManyDigits));
+        return Err(position.refusal(EntryFault::TooManyDigits));
     }
     Ok(digits)
 }
@@ -71,15 +71,19 @@ impl EntryKind for DigitsRowEntry {
     ghost serves = { λ locale entry. true };
 
     #[tactic(auto, unfolding(crate::specs::CurrencyDigits::digits_row_at))]
-    fn from_entry(alloc: Global, place: Place, value: &Value) -> Result<Self::Entry, TableError> {
-        let (text, (standard, cash)) = triple_in(value, place.key)?;
-        let text = text_in(text, place.key)?;
-        let standard = byte_in(standard, place.key)?;
-        let cash = byte_in(cash, place.key)?;
-        let code = code_or_default(place, text)?;
+    fn from_entry(
+        alloc: Global,
+        position: Position,
+        value: &Value,
+    ) -> Result<Self::Entry, TableError> {
+        let (text, (standard, cash)) = triple_in(value, position.key)?;
+        let text = text_in(text, position.key)?;
+        let standard = byte_in(standard, position.key)?;
+        let cash = byte_in(cash, position.key)?;
+        let code = code_or_default(position, text)?;
         let digits = FractionDigits {
-            standard: fraction_digits_of(place, standard)?,
-            cash: fraction_digits_of(place, cash)?,
+            standard: fraction_digits_of(position, standard)?,
+            cash: fraction_digits_of(position, cash)?,
         };
         Ok(DigitsRow { code, digits })
     }

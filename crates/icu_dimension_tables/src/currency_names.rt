@@ -2,9 +2,9 @@
 
 ghost use Rattle.std.specs.Prelude.{◌≡◌, IfOk};
 ghost use Rattle.icu_dimension_data.specs.ByCategory.{elements_map};
-ghost use Rattle.icu_dimension_tables.specs.CurrencyNames.{name_in, names_placed};
+ghost use Rattle.icu_dimension_tables.specs.CurrencyNames.{name_in, names_with_placeholders};
 
-use crate::name_places::NamePlaces;
+use crate::name_placeholders::NamePlaceholders;
 use icu_dimension::{NamePattern, NameTexts};
 use icu_dimension_data::by_category::{SlotMaker, elements_made, other_of};
 use icu_plurals::PluralElements;
@@ -28,7 +28,7 @@ impl Model for CurrencyName {
 
 /// Texts that are names.
 #[derive(Drop)]
-struct NamesGiven<'a, 't> {
+struct NamesListed<'a, 't> {
     texts: &'a PluralElements<&'t str>,
 }
 
@@ -40,7 +40,7 @@ fn name_of(alloc: Global, text: &str) -> Result<CurrencyName, AllocError>
     Ok(CurrencyName { text })
 }
 
-impl SlotMaker for NamesGiven<'_, '_> {
+impl SlotMaker for NamesListed<'_, '_> {
     type Made = CurrencyName;
 
     ghost use Rattle.std.specs.Prelude.{None, option_map, slice_index_or};
@@ -64,28 +64,28 @@ impl SlotMaker for NamesGiven<'_, '_> {
 }
 
 /// The names that are given.
-pub fn names_given(
+pub fn names_listed(
     alloc: Global,
     texts: &PluralElements<&str>,
 ) -> Result<PluralElements<CurrencyName>, AllocError>
     ensures { IfOk result (λ e. e ≡ elements_map (λ s. s.now) texts.now) }
 {
-    elements_made(alloc, &NamesGiven { texts })
+    elements_made(alloc, &NamesListed { texts })
 }
 
 /// A name in its place.
 fn name_in(
     alloc: Global,
-    places: &NamePlaces,
+    placeholders: &NamePlaceholders,
     name: &CurrencyName,
 ) -> Result<NamePattern, AllocError>
-    ensures { IfOk result (λ p. p ≡ name_in places.now name.now) }
+    ensures { IfOk result (λ p. p ≡ name_in placeholders.now name.now) }
 {
     let texts = NameTexts {
-        number_first: places.amount_first,
-        before: places.before.as_str(),
-        between: places.between.as_str(),
-        after: places.after.as_str(),
+        number_first: placeholders.amount_first,
+        before: placeholders.before.as_str(),
+        between: placeholders.between.as_str(),
+        after: placeholders.after.as_str(),
         name: name.text.as_str(),
     };
     NamePattern::new(alloc, &texts)
@@ -93,45 +93,51 @@ fn name_in(
 
 /// Names and their places.
 #[derive(Drop)]
-struct NamesPlaced<'a> {
-    places: &'a PluralElements<NamePlaces>,
+struct NamesWithPlaceholders<'a> {
+    placeholders: &'a PluralElements<NamePlaceholders>,
     names: &'a PluralElements<CurrencyName>,
 }
 
-impl SlotMaker for NamesPlaced<'_> {
+impl SlotMaker for NamesWithPlaceholders<'_> {
     type Made = NamePattern;
 
     ghost use Rattle.icu_dimension_tables.specs.CurrencyNames.{name_in, named_at};
 
-    ghost in_slot = { λ n. named_at n.places.now n.names.now };
+    ghost in_slot = { λ n. named_at n.placeholders.now n.names.now };
 
-    ghost for_others = { λ n. name_in n.places.now.other n.names.now.other };
+    ghost for_others = { λ n. name_in n.placeholders.now.other n.names.now.other };
 
     /// What a slot has: its places and its name, where it has either, or those for all other
     /// numbers.
     #[tactic(auto, unfolding(crate::specs::CurrencyNames::slot_named))]
     fn make(&self, alloc: Global, slot: u8) -> Result<Option<NamePattern>, AllocError> {
-        let (places, name) = match (self.places.slot(slot), self.names.slot(slot)) {
+        let (placeholders, name) = match (self.placeholders.slot(slot), self.names.slot(slot)) {
             (None, None) => return Ok(None),
-            (None, Some(name)) => (other_of(self.places), name),
+            (None, Some(name)) => (other_of(self.placeholders), name),
             (Some(own), None) => (own, other_of(self.names)),
             (Some(own), Some(name)) => (own, name),
         };
-        Ok(Some(name_in(alloc, places, name)?))
+        Ok(Some(name_in(alloc, placeholders, name)?))
     }
 
     fn make_other(&self, alloc: Global) -> Result<NamePattern, AllocError> {
-        name_in(alloc, other_of(self.places), other_of(self.names))
+        name_in(alloc, other_of(self.placeholders), other_of(self.names))
     }
 }
 
 /// The names of a currency, each in its place.
-pub fn names_placed(
+pub fn names_with_placeholders(
     alloc: Global,
-    places: &PluralElements<NamePlaces>,
+    placeholders: &PluralElements<NamePlaceholders>,
     names: &PluralElements<CurrencyName>,
 ) -> Result<PluralElements<NamePattern>, AllocError>
-    ensures { IfOk result (λ e. e ≡ names_placed places.now names.now) }
+    ensures { IfOk result (λ e. e ≡ names_with_placeholders placeholders.now names.now) }
 {
-    elements_made(alloc, &NamesPlaced { places, names })
+    elements_made(
+        alloc,
+        &NamesWithPlaceholders {
+            placeholders,
+            names,
+        },
+    )
 }

@@ -8,7 +8,7 @@ ghost use Rattle.icu_provider.specs.Identifier.{identifier_of};
 
 use crate::by_category::texts_in;
 use crate::currency_digits::currency_code_of;
-use crate::currency_names::{CurrencyName, names_given};
+use crate::currency_names::{CurrencyName, names_listed};
 use icu_dimension::provider::CurrencySymbols;
 use icu_dimension_data::CurrencyCode;
 use icu_plurals::PluralElements;
@@ -16,7 +16,7 @@ use icu_provider::{DataIdentifierBorrowed, DataLocale};
 use icu_table_entries::entries::EntryKind;
 use icu_table_entries::fields::{four_in, list_at, object_in, text_at, text_in};
 use icu_table_entries::named::locale_of;
-use icu_table_entries::{Key, Place, TableError};
+use icu_table_entries::{Key, Position, TableError};
 use serde_json::Value;
 use std::alloc::{AllocError, Global};
 use std::marker::Model;
@@ -79,19 +79,23 @@ impl Model for LocaleCurrencies {
 
 /// The row of a list of four values.
 #[tactic(auto, unfolding(crate::specs::CurrencySymbols::currency_row_at))]
-fn currency_row_at(alloc: Global, place: Place, value: &Value) -> Result<CurrencyRow, TableError>
-    ensures { Gives (λ x. x) result (currency_row_at place (view value.now)) }
+fn currency_row_at(
+    alloc: Global,
+    position: Position,
+    value: &Value,
+) -> Result<CurrencyRow, TableError>
+    ensures { Gives (λ x. x) result (currency_row_at position (view value.now)) }
 {
     let (code, (short, (narrow, names))) = four_in(value, Key::Symbols)?;
     let code = text_in(code, Key::Symbols)?;
     let short = text_in(short, Key::Symbols)?;
     let narrow = text_in(narrow, Key::Symbols)?;
     let names = texts_in(names, Key::Symbols)?;
-    let code = currency_code_of(place, code)?;
+    let code = currency_code_of(position, code)?;
     let short = String::from_str(alloc, short)?;
     let narrow = String::from_str(alloc, narrow)?;
     let symbols = SymbolTexts { short, narrow };
-    let names = names_given(alloc, &names)?;
+    let names = names_listed(alloc, &names)?;
     Ok(CurrencyRow {
         code,
         symbols,
@@ -102,14 +106,14 @@ fn currency_row_at(alloc: Global, place: Place, value: &Value) -> Result<Currenc
 /// Each row in turn.
 fn currency_rows_at(
     alloc: Global,
-    place: Place,
+    position: Position,
     values: &[Value],
 ) -> Result<Vec<CurrencyRow>, TableError>
-    ensures { Gives (λ v. v.items) result (currency_rows_at place (map view values.now)) }
+    ensures { Gives (λ v. v.items) result (currency_rows_at position (map view values.now)) }
 {
     let mut found = Vec::new(alloc);
     for index in 0..values.len() {
-        found.push(currency_row_at(alloc, place, &values[index])?)?;
+        found.push(currency_row_at(alloc, position, &values[index])?)?;
     }
     Ok(found)
 }
@@ -129,12 +133,16 @@ impl EntryKind for CurrencySymbolsEntry {
     ghost serves = { λ locale entry. pointwise nat_eq locale entry.locale };
 
     #[tactic(auto, unfolding(crate::specs::CurrencySymbols::currency_symbols_at))]
-    fn from_entry(alloc: Global, place: Place, value: &Value) -> Result<Self::Entry, TableError> {
-        let value = object_in(value, place.key)?;
+    fn from_entry(
+        alloc: Global,
+        position: Position,
+        value: &Value,
+    ) -> Result<Self::Entry, TableError> {
+        let value = object_in(value, position.key)?;
         let locale = text_at(value, Key::Locale)?;
         let values = list_at(value, Key::Symbols)?;
-        let locale = locale_of(place, locale)?;
-        let rows = currency_rows_at(alloc, place, values)?;
+        let locale = locale_of(position, locale)?;
+        let rows = currency_rows_at(alloc, position, values)?;
         Ok(LocaleCurrencies { locale, rows })
     }
 

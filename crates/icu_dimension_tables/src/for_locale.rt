@@ -14,7 +14,7 @@ use crate::money::{CurrenciesEntry, LocaleMoney};
 use crate::percents::PercentsEntry;
 use crate::tables::DimensionTables;
 use crate::units::{UnitEntry, UnitPatterns};
-use icu_decimal_data::DecimalSymbols;
+use icu_decimal_symbols::DecimalSymbols;
 use icu_dimension_data::{CompactRows, SignedPatterns};
 use icu_provider::DataLocale;
 use icu_table_entries::named::NamedEntry;

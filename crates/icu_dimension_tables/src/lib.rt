@@ -11,7 +11,7 @@ mod currency_symbols;
 mod for_locale;
 mod money;
 mod money_pattern;
-mod name_places;
+mod name_placeholders;
 mod number_patterns;
 mod percents;
 mod provider;

@@ -5,11 +5,11 @@ ghost use Rattle.serde_json.specs.View.{view};
 ghost use Rattle.icu_provider.specs.Identifier.{identifier_of};
 ghost use Rattle.icu_table_entries.specs.Named.{first_filed};
 ghost use Rattle.icu_table_entries.specs.Reading.{Gives};
-ghost use Rattle.icu_dimension_tables.specs.Money.{money_patterns_of, money_texts_at, patterns_filed, places_filed, places_of};
+ghost use Rattle.icu_dimension_tables.specs.Money.{money_patterns_of, money_texts_at, patterns_filed, placeholders_filed, placeholders_of};
 
 use crate::by_category::elements_read;
 use crate::money_pattern::money_pattern_of;
-use crate::name_places::{NamePattern, NamePlaces};
+use crate::name_placeholders::{NamePattern, NamePlaceholders};
 use crate::sign_texts::sign_text_of;
 use icu_dimension::provider::CurrencyPatterns;
 use icu_dimension_data::CldrPattern;
@@ -19,7 +19,7 @@ use icu_table_entries::entries::EntryKind;
 use icu_table_entries::fields::{object_in, optional_text_at, text_at};
 use icu_table_entries::named::{NamedEntry, first_filed, name_of};
 use icu_table_entries::texts::{Texts, optional_texts_at};
-use icu_table_entries::{Key, Place, TableError};
+use icu_table_entries::{Key, Position, TableError};
 use serde_json::Value;
 use std::alloc::{AllocError, Global};
 use std::marker::Model;
@@ -104,15 +104,15 @@ fn money_texts_at(value: &Value) -> Result<MoneyTexts<'_>, TableError>
 #[tactic(auto, unfolding(crate::specs::Money::money_patterns_of))]
 fn money_patterns_of(
     alloc: Global,
-    place: Place,
+    position: Position,
     texts: &MoneyTexts<'_>,
 ) -> Result<MoneyPatterns, TableError>
-    ensures { Gives (λ x. x) result (money_patterns_of place texts.now) }
+    ensures { Gives (λ x. x) result (money_patterns_of position texts.now) }
 {
-    let standard = money_pattern_of(alloc, place, texts.standard)?;
-    let accounting = money_pattern_of(alloc, place, texts.accounting)?;
-    let minus_sign = sign_text_of(alloc, place, Key::Minus, texts.minus_sign)?;
-    let plus_sign = sign_text_of(alloc, place, Key::Plus, texts.plus_sign)?;
+    let standard = money_pattern_of(alloc, position, texts.standard)?;
+    let accounting = money_pattern_of(alloc, position, texts.accounting)?;
+    let minus_sign = sign_text_of(alloc, position, Key::Minus, texts.minus_sign)?;
+    let plus_sign = sign_text_of(alloc, position, Key::Plus, texts.plus_sign)?;
     Ok(MoneyPatterns {
         standard,
         accounting,
@@ -122,18 +122,18 @@ fn money_patterns_of(
 }
 
 /// The places of texts that may be absent.
-#[tactic(auto, unfolding(crate::specs::Money::places_of))]
-fn places_of(
+#[tactic(auto, unfolding(crate::specs::Money::placeholders_of))]
+fn placeholders_of(
     alloc: Global,
-    place: Place,
+    position: Position,
     names: &Option<Texts<'_>>,
-) -> Result<Option<PluralElements<NamePlaces>>, TableError>
-    ensures { Gives (λ x. x) result (places_of place names.now) }
+) -> Result<Option<PluralElements<NamePlaceholders>>, TableError>
+    ensures { Gives (λ x. x) result (placeholders_of position names.now) }
 {
     match names {
         Some(names) => {
-            let places = elements_read::<NamePattern>(alloc, place, &names.elements())?;
-            Ok(Some(places))
+            let placeholders = elements_read::<NamePattern>(alloc, position, &names.elements())?;
+            Ok(Some(placeholders))
         }
         None => Ok(None),
     }
@@ -143,7 +143,7 @@ fn places_of(
 #[derive(Drop)]
 pub struct LocaleMoney {
     pub patterns: MoneyPatterns,
-    pub places: Option<PluralElements<NamePlaces>>,
+    pub placeholders: Option<PluralElements<NamePlaceholders>>,
 }
 
 impl Model for LocaleMoney {
@@ -151,7 +151,7 @@ impl Model for LocaleMoney {
 
     ghost Value = { MoneyOfLocale };
 
-    ghost view = { λ m. record { patterns = m.patterns; places = m.places } };
+    ghost view = { λ m. record { patterns = m.patterns; placeholders = m.placeholders } };
 }
 
 /// How a locale writes amounts, under its name.
@@ -168,16 +168,23 @@ impl EntryKind for CurrenciesEntry {
     ghost serves = { is_of };
 
     #[tactic(auto, unfolding(crate::specs::Money::currencies_at))]
-    fn from_entry(alloc: Global, place: Place, value: &Value) -> Result<Self::Entry, TableError> {
-        let value = object_in(value, place.key)?;
+    fn from_entry(
+        alloc: Global,
+        position: Position,
+        value: &Value,
+    ) -> Result<Self::Entry, TableError> {
+        let value = object_in(value, position.key)?;
         let locale = text_at(value, Key::Locale)?;
         let system = optional_text_at(value, Key::System)?;
         let texts = money_texts_at(value)?;
         let names = optional_texts_at(value, Key::Names)?;
-        let name = name_of(place, locale, system)?;
-        let patterns = money_patterns_of(alloc, place, &texts)?;
-        let places = places_of(alloc, place, &names)?;
-        let content = LocaleMoney { patterns, places };
+        let name = name_of(position, locale, system)?;
+        let patterns = money_patterns_of(alloc, position, &texts)?;
+        let placeholders = placeholders_of(alloc, position, &names)?;
+        let content = LocaleMoney {
+            patterns,
+            placeholders,
+        };
         Ok(NamedEntry { name, content })
     }
 
@@ -219,16 +226,16 @@ pub fn filed_in_locale<'a, T>(
 /// The places of names of the first entry with the identifier's locale and no numbering system,
 /// which may have none.
 #[tactic(auto, using(crate::proofs::Filed::first_part))]
-pub fn places_filed<'a>(
+pub fn placeholders_filed<'a>(
     entries: &'a [NamedEntry<LocaleMoney>],
     id: &DataIdentifierBorrowed<'_>,
-) -> Option<&'a Option<PluralElements<NamePlaces>>>
+) -> Option<&'a Option<PluralElements<NamePlaceholders>>>
     ensures { option_map (λ x. x.now) result
         ≡ first_filed (record { system = None; locale = (identifier_of id.now).locale })
-        (places_filed entries.now) }
+        (placeholders_filed entries.now) }
 {
     match filed_in_locale(entries, id) {
-        Some(money) => Some(&money.places),
+        Some(money) => Some(&money.placeholders),
         None => None,
     }
 }

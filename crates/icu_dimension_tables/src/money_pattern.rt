@@ -7,7 +7,7 @@ ghost use Rattle.icu_dimension_tables.specs.MoneyPattern.{mark_in_each, mark_ste
 use crate::by_category::TextKind;
 use crate::number_patterns::number_pattern_of;
 use icu_dimension_data::CldrPattern;
-use icu_table_entries::{EntryFault, Place, TableError};
+use icu_table_entries::{EntryFault, Position, TableError};
 use std::alloc::{AllocError, Global};
 
 /// The characters of a text.
@@ -51,14 +51,18 @@ fn mark_in_each(mark: char, characters: &[char]) -> bool
 // promise: A pattern of money without its `¤` is rejected.
 // mutations: place_of_the_symbol_not_asked_for
 #[tactic(auto, unfolding(crate::specs::MoneyPattern::money_pattern_of))]
-pub fn money_pattern_of(alloc: Global, place: Place, text: &str) -> Result<CldrPattern, TableError>
-    ensures { Gives (λ x. x) result (money_pattern_of place text.now) }
+pub fn money_pattern_of(
+    alloc: Global,
+    position: Position,
+    text: &str,
+) -> Result<CldrPattern, TableError>
+    ensures { Gives (λ x. x) result (money_pattern_of position text.now) }
 {
-    let pattern = number_pattern_of(alloc, place, text)?;
+    let pattern = number_pattern_of(alloc, position, text)?;
     if mark_in_each('¤', &characters(alloc, text)?) {
         Ok(pattern)
     } else {
-        Err(place.refusal(EntryFault::NoSymbolPlace))
+        Err(position.refusal(EntryFault::NoSymbolPlace))
     }
 }
 
@@ -66,16 +70,16 @@ pub fn money_pattern_of(alloc: Global, place: Place, text: &str) -> Result<CldrP
 #[tactic(auto, unfolding(crate::specs::MoneyPattern::percent_pattern_of))]
 pub fn percent_pattern_of(
     alloc: Global,
-    place: Place,
+    position: Position,
     text: &str,
 ) -> Result<CldrPattern, TableError>
-    ensures { Gives (λ x. x) result (percent_pattern_of place text.now) }
+    ensures { Gives (λ x. x) result (percent_pattern_of position text.now) }
 {
-    let pattern = number_pattern_of(alloc, place, text)?;
+    let pattern = number_pattern_of(alloc, position, text)?;
     if mark_in_each('%', &characters(alloc, text)?) {
         Ok(pattern)
     } else {
-        Err(place.refusal(EntryFault::NoPercentPlace))
+        Err(position.refusal(EntryFault::NoPercentPlace))
     }
 }
 
@@ -89,7 +93,7 @@ impl TextKind for MoneyPattern {
 
     ghost read_text = { money_pattern_of };
 
-    fn from_text(alloc: Global, place: Place, text: &str) -> Result<CldrPattern, TableError> {
-        money_pattern_of(alloc, place, text)
+    fn from_text(alloc: Global, position: Position, text: &str) -> Result<CldrPattern, TableError> {
+        money_pattern_of(alloc, position, text)
     }
 }

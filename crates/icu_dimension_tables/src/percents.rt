@@ -1,7 +1,7 @@
 //! Entries of percents.
 
 ghost use Rattle.serde_json.specs.View.{view};
-ghost use Rattle.icu_dimension_data.specs.Given.{texts_given};
+ghost use Rattle.icu_dimension_data.specs.LentTexts.{lent_texts};
 ghost use Rattle.icu_table_entries.specs.Reading.{Gives};
 ghost use Rattle.icu_dimension_tables.specs.Percents.{percent_texts_at, percent_texts_of};
 
@@ -12,7 +12,7 @@ use icu_provider::DataLocale;
 use icu_table_entries::entries::EntryKind;
 use icu_table_entries::fields::{object_in, optional_text_at, text_at};
 use icu_table_entries::named::{NamedEntry, name_of};
-use icu_table_entries::{Key, Place, TableError};
+use icu_table_entries::{Key, Position, TableError};
 use serde_json::Value;
 use std::alloc::Global;
 use writeable::ASCII_DIGITS;
@@ -20,7 +20,7 @@ use writeable::ASCII_DIGITS;
 /// The texts of the signs and of the percent sign.
 #[tactic(auto, unfolding(crate::specs::Percents::percent_texts_at))]
 fn percent_texts_at(value: &Value) -> Result<AffixTexts<'_>, TableError>
-    ensures { Gives texts_given result (percent_texts_at (view value.now)) }
+    ensures { Gives lent_texts result (percent_texts_at (view value.now)) }
 {
     Ok(AffixTexts {
         minus_sign: text_at(value, Key::Minus)?,
@@ -32,13 +32,13 @@ fn percent_texts_at(value: &Value) -> Result<AffixTexts<'_>, TableError>
 
 /// The texts, of which none is empty but that of the currency.
 #[tactic(auto, unfolding(crate::specs::Percents::percent_texts_of))]
-fn judged<'a>(place: Place, texts: AffixTexts<'a>) -> Result<AffixTexts<'a>, TableError>
-    ensures { Gives texts_given result (percent_texts_of place (texts_given texts.entry)) }
+fn judged<'a>(position: Position, texts: AffixTexts<'a>) -> Result<AffixTexts<'a>, TableError>
+    ensures { Gives lent_texts result (percent_texts_of position (lent_texts texts.entry)) }
 {
     Ok(AffixTexts {
-        minus_sign: judge_sign(place, Key::Minus, texts.minus_sign)?,
-        plus_sign: judge_sign(place, Key::Plus, texts.plus_sign)?,
-        percent_sign: judge_sign(place, Key::Percent, texts.percent_sign)?,
+        minus_sign: judge_sign(position, Key::Minus, texts.minus_sign)?,
+        plus_sign: judge_sign(position, Key::Plus, texts.plus_sign)?,
+        percent_sign: judge_sign(position, Key::Percent, texts.percent_sign)?,
         currency: texts.currency,
     })
 }
@@ -57,15 +57,19 @@ impl EntryKind for PercentsEntry {
     ghost serves = { is_of };
 
     #[tactic(auto, unfolding(crate::specs::Percents::percents_at))]
-    fn from_entry(alloc: Global, place: Place, value: &Value) -> Result<Self::Entry, TableError> {
-        let value = object_in(value, place.key)?;
+    fn from_entry(
+        alloc: Global,
+        position: Position,
+        value: &Value,
+    ) -> Result<Self::Entry, TableError> {
+        let value = object_in(value, position.key)?;
         let locale = text_at(value, Key::Locale)?;
         let system = optional_text_at(value, Key::System)?;
         let text = text_at(value, Key::Pattern)?;
         let texts = percent_texts_at(value)?;
-        let name = name_of(place, locale, system)?;
-        let pattern = percent_pattern_of(alloc, place, text)?;
-        let texts = judged(place, texts)?;
+        let name = name_of(position, locale, system)?;
+        let pattern = percent_pattern_of(alloc, position, text)?;
+        let texts = judged(position, texts)?;
         let content = pattern.resolve(alloc, &texts, &ASCII_DIGITS)?;
         Ok(NamedEntry { name, content })
     }

@@ -7,18 +7,19 @@ ghost use Rattle.icu_dimension_tables.specs.Answering.{unit_answer};
 
 use crate::all_tables::AllTables;
 use crate::copying::patterns_copy;
-use crate::currency_names::names_placed;
+use crate::currency_names::names_with_placeholders;
 use crate::currency_symbols::row_filed;
-use crate::money::{patterns_filed, places_filed};
+use crate::money::{patterns_filed, placeholders_filed};
 use crate::units::{UnitPatterns, UnitWidth, first_unit};
-use icu_decimal_data::{DecimalDigitsV1, DecimalSymbols, DecimalSymbolsV1};
+use icu_decimal_data::{DecimalDigitsV1, DecimalSymbolsV1};
+use icu_decimal_symbols::DecimalSymbols;
 use icu_dimension::NamePattern;
 use icu_dimension::provider::{
-    CompactRows, CurrencyCompactShortV1, CurrencyDecimalSymbolsV1, CurrencyDigitsV1,
-    CurrencyNamesV1, CurrencyPatterns, CurrencyPatternsV1, CurrencySymbols, CurrencySymbolsV1,
-    PercentPatternsV1, UnitsLongV1, UnitsNarrowV1, UnitsShortV1,
+    CurrencyCompactShortV1, CurrencyDecimalSymbolsV1, CurrencyDigitsV1, CurrencyNamesV1,
+    CurrencyPatterns, CurrencyPatternsV1, CurrencySymbols, CurrencySymbolsV1, PercentPatternsV1,
+    UnitsLongV1, UnitsNarrowV1, UnitsShortV1,
 };
-use icu_dimension_data::{CurrencyDigits, SignedPatterns};
+use icu_dimension_data::{CompactRows, CurrencyDigits, SignedPatterns};
 use icu_plurals::{PluralElements, PluralRules, PluralsCardinalV1};
 use icu_provider::{
     DataError, DataErrorKind, DataIdentifierBorrowed, DataLocale, DataProvider, DataRequest,
@@ -189,7 +190,7 @@ impl DataProvider<CurrencyNamesV1> for AllTables {
     ghost use Rattle.icu_dimension_tables.specs.Answering.{names_answer};
 
     ghost answer = { λ tables id.
-        names_answer tables.dimension.places tables.dimension.symbols id };
+        names_answer tables.dimension.placeholders tables.dimension.symbols id };
 
     /// The names of the first row with the currency's code, the identifier's system, in the first
     /// entry of `currency_symbols` with the identifier's locale, in the places that the first entry
@@ -208,10 +209,14 @@ impl DataProvider<CurrencyNamesV1> for AllTables {
             return Err(DataErrorKind::MarkerNotFound.into());
         };
         match (
-            places_filed(money, &request.id),
+            placeholders_filed(money, &request.id),
             row_filed(currencies, &request.id),
         ) {
-            (Some(Some(places)), Some(row)) => answered(names_placed(alloc, places, &row.names)),
+            (Some(Some(placeholders)), Some(row)) => answered(names_with_placeholders(
+                alloc,
+                placeholders,
+                &row.names,
+            )),
             _ => Err(DataErrorKind::IdentifierNotFound.into()),
         }
     }

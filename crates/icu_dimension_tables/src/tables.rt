@@ -10,7 +10,7 @@ use crate::currency_symbols::{CurrencySymbolsEntry, LocaleCurrencies};
 use crate::money::{CurrenciesEntry, LocaleMoney};
 use crate::percents::PercentsEntry;
 use crate::units::{UnitEntry, UnitPatterns};
-use icu_decimal_data::DecimalSymbols;
+use icu_decimal_symbols::DecimalSymbols;
 use icu_dimension_data::{CompactRows, CurrencyDigits, SignedPatterns};
 use icu_table_entries::entries::optional_entries;
 use icu_table_entries::fields::object_in;
@@ -38,7 +38,7 @@ pub struct DimensionTables {
 impl Model for DimensionTables {
     ghost use Rattle.std.specs.Prelude.{option_map};
     ghost use Rattle.icu_dimension_tables.specs.DimensionTables.{DimensionData};
-    ghost use Rattle.icu_dimension_tables.specs.Money.{patterns_filed, places_filed};
+    ghost use Rattle.icu_dimension_tables.specs.Money.{patterns_filed, placeholders_filed};
 
     ghost Value = { DimensionData };
 
@@ -47,7 +47,7 @@ impl Model for DimensionTables {
       percents = option_map (λ v. v.items) t.percents;
       units = option_map (λ v. v.items) t.units;
       currencies = option_map patterns_filed (option_map (λ v. v.items) t.money);
-      places = option_map places_filed (option_map (λ v. v.items) t.money);
+      placeholders = option_map placeholders_filed (option_map (λ v. v.items) t.money);
       symbols = option_map (λ v. v.items) t.symbols;
       decimals = option_map (λ v. v.items) t.decimals;
       compact = option_map (λ v. v.items) t.compact;

@@ -10,7 +10,7 @@ use icu_table_entries::entries::EntryKind;
 use icu_table_entries::fields::{member_at, object_in, text_at};
 use icu_table_entries::named::locale_of;
 use icu_table_entries::texts::{Patterns, category_texts_in, patterns_of};
-use icu_table_entries::{EntryFault, Key, Place, TableError};
+use icu_table_entries::{EntryFault, Key, Position, TableError};
 use serde_json::Value;
 use std::alloc::Global;
 use std::marker::Model;
@@ -42,14 +42,14 @@ impl UnitWidth {
 
 /// The width of a name.
 #[tactic(auto, unfolding(crate::specs::Units::width_of))]
-fn width_of(place: Place, name: &str) -> Result<UnitWidth, TableError>
-    ensures { Gives (λ x. x) result (width_of place name.now) }
+fn width_of(position: Position, name: &str) -> Result<UnitWidth, TableError>
+    ensures { Gives (λ x. x) result (width_of position name.now) }
 {
     match name {
         "long" => Ok(UnitWidth::Long),
         "short" => Ok(UnitWidth::Short),
         "narrow" => Ok(UnitWidth::Narrow),
-        _ => Err(place.refusal(EntryFault::BadWidth)),
+        _ => Err(position.refusal(EntryFault::BadWidth)),
     }
 }
 
@@ -100,16 +100,20 @@ impl EntryKind for UnitEntry {
     ghost serves = { λ locale entry. pointwise nat_eq locale entry.identifier.locale };
 
     #[tactic(auto, unfolding(crate::specs::Units::units_at))]
-    fn from_entry(alloc: Global, place: Place, value: &Value) -> Result<Self::Entry, TableError> {
-        let value = object_in(value, place.key)?;
+    fn from_entry(
+        alloc: Global,
+        position: Position,
+        value: &Value,
+    ) -> Result<Self::Entry, TableError> {
+        let value = object_in(value, position.key)?;
         let locale = text_at(value, Key::Locale)?;
         let width = text_at(value, Key::Width)?;
         let unit = text_at(value, Key::Unit)?;
         let patterns = member_at(value, Key::Patterns)?;
         let texts = category_texts_in(patterns, Key::Patterns)?;
-        let locale = locale_of(place, locale)?;
-        let width = width_of(place, width)?;
-        let patterns = patterns_of(alloc, place, &texts)?;
+        let locale = locale_of(position, locale)?;
+        let width = width_of(position, width)?;
+        let patterns = patterns_of(alloc, position, &texts)?;
         let unit = String::from_str(alloc, unit)?;
         Ok(UnitPatterns {
             locale,

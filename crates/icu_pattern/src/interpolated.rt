@@ -58,7 +58,7 @@ impl<P: PatternBackend, W: Writeable> Writeable for Interpolated<'_, P, W> {
     // mutations: filled_prefix_after_the_value, filled_value_left_out
     fn write_events<K: EventWriter>(&self, out: &mut K) -> Result<(), WriteFault> {
         let literal = self.pattern.literal();
-        let Some(placeholder) = self.pattern.place() else {
+        let Some(placeholder) = self.pattern.placeholder() else {
             return out.text(literal);
         };
         out.text(&literal[..placeholder])?;

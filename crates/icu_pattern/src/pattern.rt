@@ -185,8 +185,8 @@ impl<'a, P: PatternBackend> PatternRef<'a, P> {
 
     /// The placeholder, if the pattern has one: how many bytes of the literal stand before the
     /// value.
-    pub fn place(&self) -> Option<usize>
-        ensures place { result ≡ (text_of_ref self.now).placeholder }
+    pub fn placeholder(&self) -> Option<usize>
+        ensures placeholder { result ≡ (text_of_ref self.now).placeholder }
         ensures accepted { IsTrue (P.accepted (text_of_ref self.now)) }
     {
         self.placeholder

@@ -17,27 +17,27 @@ pub record Rule : Type 0 where
   pub condition : Condition
 
 -- a rule as it is given: a category and the text of a condition
-pub record GivenRule : Type 0 where
+pub record SpelledRule : Type 0 where
   pub category : PluralCategory
   pub text : List ℕ
 
 -- a category and a text as a rule that is given
-abbrev pub given_rule : PluralCategory × Bor (List ℕ) → GivenRule
-given_rule r = record { category = r.0; text = r.1.now }
+abbrev pub spelled_rule : PluralCategory × Bor (List ℕ) → SpelledRule
+spelled_rule r = record { category = r.0; text = r.1.now }
 
 -- such rules in their order
-abbrev pub given_rules : List (PluralCategory × Bor (List ℕ)) → List GivenRule
-given_rules rs = map given_rule rs
+abbrev pub spelled_rules : List (PluralCategory × Bor (List ℕ)) → List SpelledRule
+spelled_rules rs = map spelled_rule rs
 
 -- the rule has the category that is given, and the condition that the text spells
-pub record IsReadFrom (g : GivenRule) (r : Rule) : Type 0 where
+pub record IsReadFrom (g : SpelledRule) (r : Rule) : Type 0 where
   pub category : r.category ≡ g.category
   pub condition : IsTextOf g.text r.condition
 
 -- each rule before this one is in the grammar, and this one isn't, with its first fault at the byte
-pub record IsFirstBadRule (gs : List GivenRule) (rule byte : ℕ) : Type 0 where
+pub record IsFirstBadRule (gs : List SpelledRule) (rule byte : ℕ) : Type 0 where
   pub before : AllByRecursion (λ g. IsConditionText g.text) (take rule gs)
-  pub bad : GivenRule
+  pub bad : SpelledRule
   pub found : slice_get gs rule ≡ Some bad
   pub fault : IsTextFault bad.text byte
 
@@ -51,6 +51,6 @@ abbrev pub rule_of : OwnedRule → Rule
 rule_of r = record { category = r.category; condition = condition_in r.condition }
 
 -- The first rule with a fault, from the k-th on, and its byte: how `IsFirstBadRule` is sought.
-abbrev pub bad_rule_from : ℕ → List GivenRule → Option (ℕ × ℕ)
+abbrev pub bad_rule_from : ℕ → List SpelledRule → Option (ℕ × ℕ)
 bad_rule_from k [] = None
 bad_rule_from k (g ∷ gs) = elim (fault_byte (condition_of g.text)) [ None ↦ bad_rule_from (suc k) gs | Some byte ↦ Some (k, byte) ]

@@ -2,7 +2,7 @@
 ghost use Rattle.std.specs.Prelude.{◌≡◌, ◌↔◌, ◌<◌, ℕ, true, None, IfOk, IsOkUnless, IsErrOf, map, slice_index_or, false};
 ghost use Rattle.std.specs.List.{AllZip};
 ghost use Rattle.icu_plurals.specs.Elements.{selected_slot};
-ghost use Rattle.icu_plurals.specs.Rules.{given_rules, IsReadFrom, IsFirstBadRule, category_of, rule_of, bad_rule_from};
+ghost use Rattle.icu_plurals.specs.Rules.{spelled_rules, IsReadFrom, IsFirstBadRule, category_of, rule_of, bad_rule_from};
 
 use crate::category::PluralCategory;
 use crate::elements::PluralElements;
@@ -38,7 +38,7 @@ impl Model for PluralRules {
 
 /// The first rule whose text isn't in the grammar, and the byte of its first fault.
 fn first_bad_rule(rules: &[(PluralCategory, &str)]) -> Option<(usize, usize)>
-    ensures { result ≡ bad_rule_from 0 (given_rules rules.now) }
+    ensures { result ≡ bad_rule_from 0 (spelled_rules rules.now) }
 {
     for index in 0..rules.len() {
         let (_, text) = rules[index];
@@ -51,8 +51,8 @@ fn first_bad_rule(rules: &[(PluralCategory, &str)]) -> Option<(usize, usize)>
 
 /// The rules, where each text is in the grammar.
 fn read_rules(alloc: Global, rules: &[(PluralCategory, &str)]) -> Result<PluralRules, RulesError>
-    requires { bad_rule_from 0 (given_rules rules.now) ≡ None }
-    ensures read { IfOk result (λ r. AllZip IsReadFrom (given_rules rules.now) r) }
+    requires { bad_rule_from 0 (spelled_rules rules.now) ≡ None }
+    ensures read { IfOk result (λ r. AllZip IsReadFrom (spelled_rules rules.now) r) }
     ensures memory { IsOkUnless result RulesError.OutOfMemory }
 {
     let mut read = Vec::new(alloc);
@@ -103,9 +103,9 @@ impl PluralRules {
     // promise: `BadRule` has the first bad rule, and its fault's byte.
     // mutations: from_rules_bad_rule_told_as_the_first
     pub fn from_rules(alloc: Global, rules: &[(PluralCategory, &str)]) -> Result<Self, RulesError>
-        ensures read { IfOk result (λ r. AllZip IsReadFrom (given_rules rules.now) r) }
+        ensures read { IfOk result (λ r. AllZip IsReadFrom (spelled_rules rules.now) r) }
         ensures refused { (rule byte : ℕ) → IsErrOf result (RulesError.BadRule rule byte)
-            ↔ IsFirstBadRule (given_rules rules.now) rule byte }
+            ↔ IsFirstBadRule (spelled_rules rules.now) rule byte }
     {
         if let Some((rule, byte)) = first_bad_rule(rules) {
             return Err(RulesError::BadRule { rule, byte });

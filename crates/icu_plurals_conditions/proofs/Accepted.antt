@@ -18,7 +18,7 @@ use Rattle.icu_plurals_conditions.specs.declared.progress.Progress.{Progress}
 use Rattle.icu_plurals_conditions.specs.declared.progress.Progress.TheVariants.{Nothing, Joined, AfterOperand, Divided, Reduced, Listed, Valued, Ranged, Ended}
 use Rattle.icu_plurals_conditions.specs.Grammar.{Relation, IsRelation, IsWellFormed, Condition}
 use Rattle.icu_plurals_conditions.specs.Grammar.{separated, item_tokens, modulus_tokens, sign_of, relation_tokens}
-use Rattle.icu_plurals_conditions.specs.Grammar.{tokens_of, Placed, kinds}
+use Rattle.icu_plurals_conditions.specs.Grammar.{tokens_of, PositionedToken, kinds}
 use Rattle.icu_plurals_conditions.specs.Drafts.{Drafted, made, last_relation, with_relation, with_alternative, with_token, completed, empty_draft}
 use Rattle.icu_plurals_conditions.specs.Reading.{next_progress, may_end, reading_from, reading}
 use Rattle.icu_plurals_conditions.proofs.Answered.{some}
@@ -27,7 +27,7 @@ use Rattle.icu_plurals_conditions.proofs.Steps.{goes_on, at_end}
 
 -- reading ends in c, after what was read so, by these tokens
 Reads : ℕ → Progress → Drafted → List Token → Condition → Type 0
-Reads end g d ks c = (ts : List Placed) → kinds ts ≡ ks → reading_from end g d ts ≡ Ok c
+Reads end g d ks c = (ts : List PositionedToken) → kinds ts ≡ ks → reading_from end g d ts ≡ Ok c
 
 -- one token more at the front
 by_step : (end : ℕ) (g n : Progress) (d : Drafted) (k : Token) (ks : List Token) (c : Condition) → next_progress g k ≡ some n →
@@ -191,7 +191,7 @@ module _ (end : ℕ) where
       (λ n e k. by_step end n Joined e Or (tokens_of (q ∷ qs)) _ k.by_or (after_or (with_alternative e) k.opens))
 
 -- what spells a condition is read as it
-pub spelled_is_read : (end : ℕ) (ts : List Placed) (c : Condition) → IsWellFormed c → kinds ts ≡ tokens_of c → reading end ts ≡ Ok c
+pub spelled_is_read : (end : ℕ) (ts : List PositionedToken) (c : Condition) → IsWellFormed c → kinds ts ≡ tokens_of c → reading end ts ≡ Ok c
 unfolding Reads reading
 spelled_is_read end ts [] h e = by_end end Nothing empty_draft [] refl refl ts e
 spelled_is_read end ts (rs ∷ more) h e =

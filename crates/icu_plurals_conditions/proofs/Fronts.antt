@@ -11,20 +11,21 @@ use Rattle.std.proofs.lemmas.Grind.{common_steps}
 use Rattle.icu_plurals_conditions.specs.declared.lexer.Token.{Token}
 use Rattle.icu_plurals_conditions.specs.declared.lexer.Token.TheVariants.{NotEquals, Dots}
 use Rattle.icu_plurals_conditions.specs.declared.lexer.Front.{Front}
-use Rattle.icu_plurals_conditions.specs.Tokens.{Written, word, digits, sign, differs, dots, is_letter, is_digit, is_space, written_from, tokens_from, token_of}
+use Rattle.icu_plurals_conditions.specs.Tokens.{SpelledToken, word, digits, sign, differs, dots, is_letter, is_digit, is_space, spelled_from, tokens_from}
+use Rattle.icu_plurals_conditions.specs.Tokens.{token_of}
 use Rattle.icu_plurals_conditions.specs.Tokens.{word_token, number_token, sign_token}
 use Rattle.icu_plurals_conditions.specs.Lexer.{has_front, IsFront, IsFound}
 use Rattle.icu_plurals_conditions.proofs.Runs.{word_run, digits_run, spaces_run, onto-sign, prefix-yes, prefix-no}
 
-abbrev tokens : List (ℕ × Written) → List (ℕ × Token)
+abbrev tokens : List (ℕ × SpelledToken) → List (ℕ × Token)
 tokens ts = map (λ t. (t.0, token_of t.1)) ts
 
-tokens_is : (p : ℕ) (bs : List ℕ) → tokens_from p bs ≡ tokens (written_from p bs)
+tokens_is : (p : ℕ) (bs : List ℕ) → tokens_from p bs ≡ tokens (spelled_from p bs)
 unfolding tokens_from
 tokens_is p bs = refl
 
 -- what is spelled first is the first token
-pub first_is : (p : ℕ) (bs : List ℕ) (w : Written) (q : ℕ) (cs : List ℕ) → written_from p bs ≡ (p, w) ∷ written_from q cs →
+pub first_is : (p : ℕ) (bs : List ℕ) (w : SpelledToken) (q : ℕ) (cs : List ℕ) → spelled_from p bs ≡ (p, w) ∷ spelled_from q cs →
     tokens_from p bs ≡ (p, token_of w) ∷ tokens_from q cs
 unfolding tokens_from
 first_is p bs w q cs h = ap (λ ts. tokens ts) h
@@ -34,9 +35,9 @@ letter_tokens : (at b : ℕ) (bs : List ℕ) → is_letter b ≡ true → (n : �
 letter_tokens at b bs h n e =
     let m = prefix_len is_letter bs in
     let here : suc m ≡ n = omega (arith, (rw h at e)) in
-    let place : at + 1 + m ≡ at + suc m = omega arith in
+    let offset : at + 1 + m ≡ at + suc m = omega arith in
     first_is at (b ∷ bs) (word (b ∷ take m bs)) (at + 1 + m) (drop m bs) (word_run at b bs h)
-    ∙ ap (λ k. (at, word_token (b ∷ take m bs)) ∷ tokens_from k (drop m bs)) place
+    ∙ ap (λ k. (at, word_token (b ∷ take m bs)) ∷ tokens_from k (drop m bs)) offset
     ∙ ap (λ k. (at, word_token (take k (b ∷ bs))) ∷ tokens_from (at + k) (drop k (b ∷ bs))) here
 
 digit_tokens : (at b : ℕ) (bs : List ℕ) → is_digit b ≡ true → (n : ℕ) → n ≡ prefix_len is_digit (b ∷ bs) →
@@ -44,9 +45,9 @@ digit_tokens : (at b : ℕ) (bs : List ℕ) → is_digit b ≡ true → (n : ℕ
 digit_tokens at b bs h n e =
     let m = prefix_len is_digit bs in
     let here : suc m ≡ n = omega (arith, (rw h at e)) in
-    let place : at + 1 + m ≡ at + suc m = omega arith in
+    let offset : at + 1 + m ≡ at + suc m = omega arith in
     first_is at (b ∷ bs) (digits (b ∷ take m bs)) (at + 1 + m) (drop m bs) (digits_run at b bs h)
-    ∙ ap (λ k. (at, number_token (b ∷ take m bs)) ∷ tokens_from k (drop m bs)) place
+    ∙ ap (λ k. (at, number_token (b ∷ take m bs)) ∷ tokens_from k (drop m bs)) offset
     ∙ ap (λ k. (at, number_token (take k (b ∷ bs))) ∷ tokens_from (at + k) (drop k (b ∷ bs))) here
 
 prefix-pos : (test : ℕ → Bool) (b : ℕ) (bs : List ℕ) → test b ≡ true → 0 < prefix_len test (b ∷ bs)
@@ -79,20 +80,20 @@ digits_are_front (b ∷ bs) t n l h e k =
     }
 
 written-dots : (p : ℕ) (b c : ℕ) (bs : List ℕ) → (b == 46 && c == 46) ≡ true →
-    written_from p (b ∷ c ∷ bs) ≡ (p, dots) ∷ written_from (p + 2) bs
-unfolding written_from
+    spelled_from p (b ∷ c ∷ bs) ≡ (p, dots) ∷ spelled_from (p + 2) bs
+unfolding spelled_from
 written-dots p b c bs h = simp h
 
 written-differs : (p : ℕ) (b c : ℕ) (bs : List ℕ) → (b == 33 && c == 61) ≡ true →
-    written_from p (b ∷ c ∷ bs) ≡ (p, differs) ∷ written_from (p + 2) bs
-unfolding written_from
+    spelled_from p (b ∷ c ∷ bs) ≡ (p, differs) ∷ spelled_from (p + 2) bs
+unfolding spelled_from
 written-differs p b c bs h =
     let other : (b == 46 && c == 46) ≡ false = grind (arith, common_steps) in
     simp (other, h)
 
 written-sign : (p b : ℕ) (bs : List ℕ) → has_front 46 46 (b ∷ bs) ≡ false → has_front 33 61 (b ∷ bs) ≡ false → is_space b ≡ false →
-    is_letter b ≡ false → is_digit b ≡ false → written_from p (b ∷ bs) ≡ (p, sign b) ∷ written_from (p + 1) bs
-unfolding written_from
+    is_letter b ≡ false → is_digit b ≡ false → spelled_from p (b ∷ bs) ≡ (p, sign b) ∷ spelled_from (p + 1) bs
+unfolding spelled_from
 written-sign p b [] d m h k l = onto-sign p b [] h k l
 written-sign p b (c ∷ cs) d m h k l = rw (d, m) (onto-sign p b _ h k l)
 
@@ -132,7 +133,7 @@ unfolding tokens_from
 tokens-spaces p bs = ap (λ ts. tokens ts) (spaces_run p bs)
 
 empty : (p : ℕ) → tokens_from p [] ≡ []
-unfolding tokens_from written_from
+unfolding tokens_from spelled_from
 empty p = refl
 
 -- a text of spaces has no token

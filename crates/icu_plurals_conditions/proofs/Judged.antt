@@ -5,7 +5,8 @@ use Rattle.std.specs.Prelude.{IfOk, IfSome, IfNone}
 use Rattle.std.proofs.lemmas.List.{take-append-drop, take-take}
 use Rattle.icu_plurals_conditions.specs.declared.lexer.Token.{Token}
 use Rattle.icu_plurals_conditions.specs.Tokens.{part_of}
-use Rattle.icu_plurals_conditions.specs.Grammar.{Condition, IsWellFormed, tokens_of, Placed, kinds, place_at, text_tokens, IsTextOf, IsConditionText, Begins}
+use Rattle.icu_plurals_conditions.specs.Grammar.{Condition, IsWellFormed, tokens_of, PositionedToken, kinds, offset_at, text_tokens, IsTextOf, IsConditionText}
+use Rattle.icu_plurals_conditions.specs.Grammar.{Begins}
 use Rattle.icu_plurals_conditions.specs.Grammar.{IsFirstFault, IsTextFault}
 use Rattle.icu_plurals_conditions.specs.Reading.{condition_of, fault_byte}
 use Rattle.icu_plurals_conditions.proofs.Spelled.{read_is_well_formed, read_is_spelled}
@@ -20,10 +21,10 @@ begins_before ks i j h b =
     ap (λ k. k ++ drop i (take j ks)) (sym (take-take i j ks h)) ∙ take-append-drop i (take j ks) in
     (drop i (take j ks) ++ b.0, b.1, b.2, sym (append_assoc (take i ks) (drop i (take j ks)) b.0) ∙ ap (λ k. k ++ b.0) cut ∙ b.3)
 
-no_earlier : (end : ℕ) (ts : List Placed) (a b : ℕ) (p : IsFirstFault end ts a) (q : IsFirstFault end ts b) → p.count < q.count → ⊥
+no_earlier : (end : ℕ) (ts : List PositionedToken) (a b : ℕ) (p : IsFirstFault end ts a) (q : IsFirstFault end ts b) → p.count < q.count → ⊥
 no_earlier end ts a b p q h = p.after (omega (arith, h, q.within)) (begins_before (kinds ts) (suc p.count) q.count (omega (arith, h)) q.before)
 
-same_count : (end : ℕ) (ts : List Placed) (a b : ℕ) (p : IsFirstFault end ts a) (q : IsFirstFault end ts b) → p.count ≡ q.count
+same_count : (end : ℕ) (ts : List PositionedToken) (a b : ℕ) (p : IsFirstFault end ts a) (q : IsFirstFault end ts b) → p.count ≡ q.count
 same_count end ts a b p q =
     let low : p.count < q.count → ⊥ = no_earlier end ts a b p q in
     let high : q.count < p.count → ⊥ = no_earlier end ts b a q p in
@@ -32,10 +33,11 @@ same_count end ts a b p q =
     by : (m n : ℕ) → (m < n → ⊥) → (n < m → ⊥) → m ≡ n
     by m n h k = omega (arith, h, k)
 
-one_fault : (end : ℕ) (ts : List Placed) (a b : ℕ) → IsFirstFault end ts a → IsFirstFault end ts b → a ≡ b
-one_fault end ts a b p q = p.place ∙ ap (place_at end ts) (same_count end ts a b p q) ∙ sym q.place
+one_fault : (end : ℕ) (ts : List PositionedToken) (a b : ℕ) → IsFirstFault end ts a → IsFirstFault end ts b → a ≡ b
+one_fault end ts a b p q = p.offset ∙ ap (offset_at end ts) (same_count end ts a b p q) ∙ sym q.offset
 
-no_condition : (end : ℕ) (ts : List Placed) (b : ℕ) → IsFirstFault end ts b → (c : Condition) → IsWellFormed c → kinds ts ≡ tokens_of c → ⊥
+no_condition : (end : ℕ) (ts : List PositionedToken) (b : ℕ) → IsFirstFault end ts b → (c : Condition) → IsWellFormed c → kinds ts ≡ tokens_of c
+    → ⊥
 no_condition end ts b p c h e =
     by p.count (length ts) p.within (λ lt. p.after lt (drop (suc p.count) (kinds ts), c, h, take-append-drop (suc p.count) (kinds ts) ∙ e))
     (λ is. p.whole is c h e)

@@ -17,7 +17,7 @@ use Rattle.icu_plurals_conditions.specs.declared.progress.Progress.{Progress}
 use Rattle.icu_plurals_conditions.specs.declared.progress.Progress.TheVariants.{Nothing, Joined, AfterOperand, Divided, Reduced, Listed, Valued, Ranged, Ended}
 use Rattle.icu_plurals_conditions.specs.Grammar.{Relation, IsRelation, IsWellFormed, Condition}
 use Rattle.icu_plurals_conditions.specs.Grammar.{separated, item_tokens, modulus_tokens, sign_of, relation_tokens}
-use Rattle.icu_plurals_conditions.specs.Grammar.{tokens_of, Placed, kinds}
+use Rattle.icu_plurals_conditions.specs.Grammar.{tokens_of, PositionedToken, kinds}
 use Rattle.icu_plurals_conditions.specs.Drafts.{Drafted, last_relation, with_relation, with_alternative, first_of, with_token, completed, empty_draft}
 use Rattle.icu_plurals_conditions.specs.Reading.{next_progress, may_end, reading_from, reading}
 use Rattle.icu_plurals_conditions.proofs.Answered.{done}
@@ -187,7 +187,7 @@ writes = record {
 -- ---- both, to the end
 
 -- the condition is well formed and spelled by the tokens read and those that are left
-record Spells (g : Progress) (d : Drafted) (ts : List Placed) (c : Condition) : Type 0 where
+record Spells (g : Progress) (d : Drafted) (ts : List PositionedToken) (c : Condition) : Type 0 where
   well_formed : IsWellFormed c
   spelled : written g d ++ kinds ts ≡ tokens_of c
 
@@ -205,7 +205,7 @@ finished Valued d h e = record {
 finished Ranged d h e = absurd cc
 finished Ended d h e = record { well_formed = is_finished d h.0 h.1; spelled = append-nil _ ∙ relation_ends d ∙ sym (finished_tokens d) }
 
-next_spells : (end : ℕ) (g : Progress) (d : Drafted) (t : Placed) (ts : List Placed) (c : Condition) → IsDraft g d
+next_spells : (end : ℕ) (g : Progress) (d : Drafted) (t : PositionedToken) (ts : List PositionedToken) (c : Condition) → IsDraft g d
     → ((n : Progress) (e : Drafted) → IsDraft n e → reading_from end n e ts ≡ done c → Spells n e ts c)
     → (o : Option Progress) → next_progress g t.1 ≡ o → read_on end d t ts g o ≡ done c → Spells g d (t ∷ ts) c
 next_spells end g d t ts c h rest None q e = absurd cc
@@ -219,7 +219,7 @@ next_spells end g d t ts c h rest (Some n) q e =
       spelled = sym (append_assoc (written g d) (t.1 ∷ []) (kinds ts)) ∙ ap (λ (k : List Token). k ++ kinds ts) (sym one) ∙ r.spelled;
     }
 
-reading_spells : (end : ℕ) (g : Progress) (d : Drafted) (ts : List Placed) (c : Condition) → IsDraft g d → reading_from end g d ts ≡ done c →
+reading_spells : (end : ℕ) (g : Progress) (d : Drafted) (ts : List PositionedToken) (c : Condition) → IsDraft g d → reading_from end g d ts ≡ done c →
     Spells g d ts c
 unfolding reading_from
 reading_spells end g d [] c h e =
@@ -227,14 +227,14 @@ reading_spells end g d [] c h e =
     rw (← k.1) (finished g d h k.0)
 reading_spells end g d (t ∷ ts) c h e = next_spells end g d t ts c h (λ n e' k r. reading_spells end n e' ts c k r) (next_progress g t.1) refl e
 
-read_spells : (end : ℕ) (ts : List Placed) (c : Condition) → reading end ts ≡ done c → Spells Nothing empty_draft ts c
+read_spells : (end : ℕ) (ts : List PositionedToken) (c : Condition) → reading end ts ≡ done c → Spells Nothing empty_draft ts c
 unfolding reading
 read_spells end ts c e = reading_spells end Nothing empty_draft ts c (refl, refl, refl) e
 
 -- what is read is well formed
-pub read_is_well_formed : (end : ℕ) (ts : List Placed) (c : Condition) → reading end ts ≡ Ok c → IsWellFormed c
+pub read_is_well_formed : (end : ℕ) (ts : List PositionedToken) (c : Condition) → reading end ts ≡ Ok c → IsWellFormed c
 read_is_well_formed end ts c e = (read_spells end ts c e).well_formed
 
 -- what is read is spelled by the tokens
-pub read_is_spelled : (end : ℕ) (ts : List Placed) (c : Condition) → reading end ts ≡ Ok c → kinds ts ≡ tokens_of c
+pub read_is_spelled : (end : ℕ) (ts : List PositionedToken) (c : Condition) → reading end ts ≡ Ok c → kinds ts ≡ tokens_of c
 read_is_spelled end ts c e = (read_spells end ts c e).spelled

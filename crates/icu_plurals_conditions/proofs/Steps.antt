@@ -11,7 +11,7 @@ use Rattle.icu_plurals_conditions.specs.declared.lexer.Found.{Found}
 use Rattle.icu_plurals_conditions.specs.declared.progress.Progress.{Progress}
 use Rattle.icu_plurals_conditions.specs.declared.progress.Progress.TheVariants.{Nothing}
 use Rattle.icu_plurals_conditions.specs.Tokens.{part_of, tokens_from}
-use Rattle.icu_plurals_conditions.specs.Grammar.{Condition, Placed}
+use Rattle.icu_plurals_conditions.specs.Grammar.{Condition, PositionedToken}
 use Rattle.icu_plurals_conditions.specs.Lexer.{IsFound}
 use Rattle.icu_plurals_conditions.specs.Drafts.{Drafted, empty_draft, with_token, completed}
 use Rattle.icu_plurals_conditions.specs.Owned.{condition_in}
@@ -19,17 +19,17 @@ use Rattle.icu_plurals_conditions.specs.Reading.{next_progress, may_end, reading
 use Rattle.icu_plurals_conditions.proofs.Answered.{none, none_is, done, fault}
 
 -- what is read behind a token, unless it can't stand there
-abbrev pub read_on : ℕ → Drafted → Placed → List Placed → Progress → Option Progress → Result Condition ℕ
+abbrev pub read_on : ℕ → Drafted → PositionedToken → List PositionedToken → Progress → Option Progress → Result Condition ℕ
 read_on end d t ts g o = elim o as (λ _. Result Condition ℕ) [ None ↦ Err t.0 | Some next ↦ reading_from end next (with_token g t.1 d) ts ]
 
 -- a token that can't stand there is rejected
-pub stuck : (end : ℕ) (g : Progress) (d : Drafted) (t : Placed) (ts : List Placed) → next_progress g t.1 ≡ None →
+pub stuck : (end : ℕ) (g : Progress) (d : Drafted) (t : PositionedToken) (ts : List PositionedToken) → next_progress g t.1 ≡ None →
     reading_from end g d (t ∷ ts) ≡ Err t.0
 unfolding reading_from
 stuck end g d t ts h = ap (λ (o : Option Progress). read_on end d t ts g o) h
 
 -- a token that may stand there is read, and reading goes on behind it
-pub goes_on : (end : ℕ) (g n : Progress) (d : Drafted) (t : Placed) (ts : List Placed) → next_progress g t.1 ≡ Some n →
+pub goes_on : (end : ℕ) (g n : Progress) (d : Drafted) (t : PositionedToken) (ts : List PositionedToken) → next_progress g t.1 ≡ Some n →
     reading_from end g d (t ∷ ts) ≡ reading_from end n (with_token g t.1 d) ts
 unfolding reading_from
 goes_on end g n d t ts h = ap (λ (o : Option Progress). read_on end d t ts g o) h
@@ -53,13 +53,13 @@ ended_ok false x c end e = absurd cc
 -- what is left of a text makes its condition, or has its fault
 pub record Left (text rest : List ℕ) (end at : ℕ) (g : Progress) (d : Drafted) : Type 0 where
   pub is_end : end ≡ length (part_of text)
-  pub place : at + length rest ≡ end
+  pub offset : at + length rest ≡ end
   pub read : reading_from end g d (tokens_from at rest) ≡ condition_of text
 
 left-start : (text part : List ℕ) (end : ℕ) (d : Drafted) → part ≡ part_of text → end ≡ length part → d ≡ empty_draft →
     Left text part end 0 Nothing d
 unfolding condition_of reading
-left-start text part end d e l h = rw (h, l, e) (record { is_end = refl; place = omega arith; read = refl })
+left-start text part end d e l h = rw (h, l, e) (record { is_end = refl; offset = omega arith; read = refl })
 
 -- the reading from a token on
 left-token : (text rest : List ℕ) (end at : ℕ) (g : Progress) (d : Drafted) (f : Found) → Left text rest end at g d → IsFound rest f →
@@ -71,7 +71,7 @@ left-next : (text rest after : List ℕ) (end at : ℕ) (g n : Progress) (d e : 
     → after ≡ drop f.end rest → e ≡ with_token g f.token d → Left text after end (at + f.end) n e
 left-next text rest after end at g n d e f h k next a b = rw (a, b) (record {
   is_end = h.is_end;
-  place = grind (arith, common_steps, h.place, k.within);
+  offset = grind (arith, common_steps, h.offset, k.within);
   read = sym (goes_on end g n d (at + f.start, f.token) (tokens_from (at + f.end) (drop f.end rest)) next) ∙ left-token text rest end at g d f h k;
 })
 

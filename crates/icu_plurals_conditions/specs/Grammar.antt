@@ -60,15 +60,15 @@ abbrev pub IsWellFormed : Condition → Type 0
 IsWellFormed c = AllByRecursion (λ rs. (rs ≢ []) × AllByRecursion IsRelation rs) c
 
 -- tokens with their places
-abbrev pub Placed : Type 0
-Placed = ℕ × Token
+abbrev pub PositionedToken : Type 0
+PositionedToken = ℕ × Token
 
 -- the tokens alone
-abbrev pub kinds : List Placed → List Token
+abbrev pub kinds : List PositionedToken → List Token
 kinds ts = map (λ t. t.1) ts
 
 -- the tokens of the part of a text that is read
-abbrev pub text_tokens : List ℕ → List Placed
+abbrev pub text_tokens : List ℕ → List PositionedToken
 text_tokens text = tokens_from 0 (part_of text)
 
 -- the text spells the condition
@@ -85,17 +85,17 @@ abbrev pub Begins : List Token → Type 0
 Begins ts = (more : List Token) × (c : Condition) × IsWellFormed c × (ts ++ more ≡ tokens_of c)
 
 -- the place of the token at an index, or the end
-abbrev pub place_at : ℕ → List Placed → ℕ → ℕ
-place_at end [] k = end
-place_at end (t ∷ ts) zero = t.0
-place_at end (t ∷ ts) (suc k) = place_at end ts k
+abbrev pub offset_at : ℕ → List PositionedToken → ℕ → ℕ
+offset_at end [] k = end
+offset_at end (t ∷ ts) zero = t.0
+offset_at end (t ∷ ts) (suc k) = offset_at end ts k
 
 -- The byte is the place of the first token that can't stand there, or the end where the text ends too early: the tokens
 -- before it begin a condition; with the next one they begin none, and if there is no next one they are none.
-pub record IsFirstFault (end : ℕ) (ts : List Placed) (byte : ℕ) : Type 0 where
+pub record IsFirstFault (end : ℕ) (ts : List PositionedToken) (byte : ℕ) : Type 0 where
   pub count : ℕ
   pub within : count ≤ length ts
-  pub place : byte ≡ place_at end ts count
+  pub offset : byte ≡ offset_at end ts count
   pub before : Begins (take count (kinds ts))
   pub after : count < length ts → ¬ (Begins (take (suc count) (kinds ts)))
   pub whole : count ≡ length ts → (c : Condition) → IsWellFormed c → ¬ (kinds ts ≡ tokens_of c)

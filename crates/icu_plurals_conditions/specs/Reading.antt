@@ -7,7 +7,7 @@ use Rattle.icu_plurals_conditions.specs.declared.lexer.Token.TheVariants.{Letter
 use Rattle.icu_plurals_conditions.specs.declared.progress.Progress.{Progress}
 use Rattle.icu_plurals_conditions.specs.declared.progress.Progress.TheVariants.{Nothing, Joined, AfterOperand, Divided, Reduced, Listed, Valued, Ranged, Ended}
 use Rattle.icu_plurals_conditions.specs.Tokens.{part_of}
-use Rattle.icu_plurals_conditions.specs.Grammar.{Condition, Placed, text_tokens}
+use Rattle.icu_plurals_conditions.specs.Grammar.{Condition, PositionedToken, text_tokens}
 use Rattle.icu_plurals_conditions.specs.Drafts.{Drafted, empty_draft, with_token, completed}
 
 -- an operand
@@ -75,12 +75,12 @@ may_end Ended = true
 may_end _ = false
 
 -- the condition that the tokens complete, or the place of the first token that may not follow
-unfoldable pub reading_from : ℕ → Progress → Drafted → List Placed → Result Condition ℕ
+unfoldable pub reading_from : ℕ → Progress → Drafted → List PositionedToken → Result Condition ℕ
 reading_from end g d [] = if may_end g then Ok (completed g d) else Err end
 reading_from end g d (t ∷ ts) = elim (next_progress g t.1) [ None ↦ Err t.0 | Some next ↦ reading_from end next (with_token g t.1 d) ts ]
 
 -- the condition of the tokens, or the place of the first token that may not follow
-unfoldable pub reading : ℕ → List Placed → Result Condition ℕ
+unfoldable pub reading : ℕ → List PositionedToken → Result Condition ℕ
 reading end ts = reading_from end Nothing empty_draft ts
 
 -- the condition of a text, or the byte of its first fault

@@ -8,12 +8,12 @@ use Rattle.icu_plurals_conditions.specs.declared.lexer.Token.{Token}
 use Rattle.icu_plurals_conditions.specs.declared.lexer.Token.TheVariants.{Letter, And, Or, Number, Percent, Equals, NotEquals, Comma, Dots, Unknown}
 
 -- What is spelled: a word of lower-case letters, a run of digits, `!=`, `..`, or any other byte by itself.
-pub data Written : Type 0 where
-  word : List ℕ → Written
-  digits : List ℕ → Written
-  sign : ℕ → Written
-  differs : Written
-  dots : Written
+pub data SpelledToken : Type 0 where
+  word : List ℕ → SpelledToken
+  digits : List ℕ → SpelledToken
+  sign : ℕ → SpelledToken
+  differs : SpelledToken
+  dots : SpelledToken
 
 -- bytes of ASCII by their names
 abbrev pub letter_a : ℕ
@@ -89,7 +89,7 @@ abbrev pub is_space : ℕ → Bool
 is_space b = b == space || b == tab
 
 -- a letter at place p makes one word with a word that begins just after it
-abbrev pub onto_word : ℕ → ℕ → List (ℕ × Written) → List (ℕ × Written)
+abbrev pub onto_word : ℕ → ℕ → List (ℕ × SpelledToken) → List (ℕ × SpelledToken)
 onto_word p b [] = (p, word (b ∷ [])) ∷ []
 onto_word p b ((q, word w) ∷ ts) = if q == p + 1 then (p, word (b ∷ w)) ∷ ts else (p, word (b ∷ [])) ∷ (q, word w) ∷ ts
 onto_word p b ((q, digits w) ∷ ts) = (p, word (b ∷ [])) ∷ (q, digits w) ∷ ts
@@ -98,7 +98,7 @@ onto_word p b ((q, differs) ∷ ts) = (p, word (b ∷ [])) ∷ (q, differs) ∷ 
 onto_word p b ((q, dots) ∷ ts) = (p, word (b ∷ [])) ∷ (q, dots) ∷ ts
 
 -- a digit at place p makes one run with digits that begin just after it
-abbrev pub onto_digits : ℕ → ℕ → List (ℕ × Written) → List (ℕ × Written)
+abbrev pub onto_digits : ℕ → ℕ → List (ℕ × SpelledToken) → List (ℕ × SpelledToken)
 onto_digits p b [] = (p, digits (b ∷ [])) ∷ []
 onto_digits p b ((q, digits w) ∷ ts) = if q == p + 1 then (p, digits (b ∷ w)) ∷ ts else (p, digits (b ∷ [])) ∷ (q, digits w) ∷ ts
 onto_digits p b ((q, word w) ∷ ts) = (p, digits (b ∷ [])) ∷ (q, word w) ∷ ts
@@ -107,17 +107,17 @@ onto_digits p b ((q, differs) ∷ ts) = (p, digits (b ∷ [])) ∷ (q, differs) 
 onto_digits p b ((q, dots) ∷ ts) = (p, digits (b ∷ [])) ∷ (q, dots) ∷ ts
 
 -- the byte at place p before the tokens that follow it: spaces and tabs are none, words and runs of digits are maximal
-abbrev pub onto : ℕ → ℕ → List (ℕ × Written) → List (ℕ × Written)
+abbrev pub onto : ℕ → ℕ → List (ℕ × SpelledToken) → List (ℕ × SpelledToken)
 onto p b ts = if is_space b then ts else (if is_letter b then onto_word p b ts else (if is_digit b then onto_digits p b ts else (p, sign b) ∷ ts))
 
 -- what is spelled from place p on
-unfoldable pub written_from : ℕ → List ℕ → List (ℕ × Written)
-written_from p [] = []
-written_from p (b ∷ []) = onto p b []
-written_from p (b ∷ c ∷ bs) =
-    if b == point && c == point then (p, dots) ∷ written_from (p + 2) bs
-    else (if b == exclamation_mark && c == equals_sign then (p, differs) ∷ written_from (p + 2) bs
-    else onto p b (written_from (p + 1) (c ∷ bs)))
+unfoldable pub spelled_from : ℕ → List ℕ → List (ℕ × SpelledToken)
+spelled_from p [] = []
+spelled_from p (b ∷ []) = onto p b []
+spelled_from p (b ∷ c ∷ bs) =
+    if b == point && c == point then (p, dots) ∷ spelled_from (p + 2) bs
+    else (if b == exclamation_mark && c == equals_sign then (p, differs) ∷ spelled_from (p + 2) bs
+    else onto p b (spelled_from (p + 1) (c ∷ bs)))
 
 -- any byte but `@`
 abbrev pub is_read : ℕ → Bool
@@ -167,7 +167,7 @@ abbrev pub sign_token : ℕ → Token
 sign_token b = if b == percent_sign then Percent else (if b == equals_sign then Equals else (if b == comma then Comma else Unknown))
 
 -- the token of what is spelled
-abbrev pub token_of : Written → Token
+abbrev pub token_of : SpelledToken → Token
 token_of (word w) = word_token w
 token_of (digits w) = number_token w
 token_of (sign b) = sign_token b
@@ -176,4 +176,4 @@ token_of dots = Dots
 
 -- the tokens from place p on, with their places
 unfoldable pub tokens_from : ℕ → List ℕ → List (ℕ × Token)
-tokens_from p text = map (λ t. (t.0, token_of t.1)) (written_from p text)
+tokens_from p text = map (λ t. (t.0, token_of t.1)) (spelled_from p text)

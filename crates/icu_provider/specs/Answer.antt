@@ -29,14 +29,14 @@ Answers (Ok x) answer = answer ≡ Ok x
 Answers (Err e) answer = Refuses e.kind e.context.now answer
 
 -- a result as an answer, with the kind and the text of its error
-abbrev pub told : {X : Type 0} → Result X DataError → Result X Refusal
-told (Ok x) = Ok x
-told (Err e) = Err (record { kind = e.kind; context = e.context.now })
+abbrev pub as_answer : {X : Type 0} → Result X DataError → Result X Refusal
+as_answer (Ok x) = Ok x
+as_answer (Err e) = Err (record { kind = e.kind; context = e.context.now })
 
 -- each result is the answer that it is made into
-pub told_answers : {X : Type 0} → (result : Result X DataError) → Answers result (told result)
-told_answers {X} (Ok x) = refl
-told_answers {X} (Err e) = go e.kind
+pub as_answer_answers : {X : Type 0} → (result : Result X DataError) → Answers result (as_answer result)
+as_answer_answers {X} (Ok x) = refl
+as_answer_answers {X} (Err e) = go e.kind
   where
     go : (kind : DataErrorKind) → Refuses {X = X} kind e.context.now (Err (record { kind = kind; context = e.context.now }))
     go IdentifierNotFound = refl

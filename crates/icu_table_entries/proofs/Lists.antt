@@ -6,7 +6,7 @@ use Rattle.serde_json.specs.Data.{Data}
 use Rattle.serde_json.specs.View.{view, items_of}
 use Rattle.serde_json.specs.declared.value.Value.{Value}
 use Rattle.icu_table_entries.specs.declared.error.Key.{Key}
-use Rattle.icu_table_entries.specs.declared.error.Place.{Place}
+use Rattle.icu_table_entries.specs.declared.error.Position.{Position}
 use Rattle.icu_table_entries.specs.declared.error.TableError.{TableError}
 use Rattle.icu_table_entries.specs.declared.error.TableError.TheVariants.{NotJson, Float, Missing, WrongKind, Entry, OutOfMemory}
 use Rattle.icu_table_entries.specs.Reading.{◌>>=◌, Fails, list_of, entries_at}
@@ -38,7 +38,7 @@ failed (WrongKind key) r f h = rw h refl
 failed (Entry key index fault) r f h = rw h refl
 failed OutOfMemory r f h = tt
 
-module _ {A : Type 0} (read : Place → Data → Result A TableError) (key : Key) where
+module _ {A : Type 0} (read : Position → Data → Result A TableError) (key : Key) where
   -- an entry that is read is one more in front of the rest
   pub goes_on : (front : List A) (i : ℕ) (d : Data) (ds : List Data) (x : A) (total : Result (List A) TableError) →
       read (record { key = key; index = i }) d ≡ Ok x

@@ -8,7 +8,7 @@ use Rattle.icu_table_entries.specs.Reading.{◌>>=◌, object_in, optional_at, t
 use Rattle.icu_table_entries.specs.Spelling.{pattern_of, optional_pattern_of}
 use Rattle.icu_table_entries.specs.declared.error.Key.{Key}
 use Rattle.icu_table_entries.specs.declared.error.Key.TheVariants.{ExplicitZero, ExplicitOne, Zero, One, Two, Few, Many, Other}
-use Rattle.icu_table_entries.specs.declared.error.Place.{Place}
+use Rattle.icu_table_entries.specs.declared.error.Position.{Position}
 use Rattle.icu_table_entries.specs.declared.error.TableError.{TableError}
 
 -- whether members are one
@@ -37,38 +37,38 @@ category_texts_in key d = do
   Ok (record { explicit_zero = explicit_zero; explicit_one = explicit_one; zero = zero; one = one; two = two; few = few; many = many; other = other })
 
 -- the patterns of texts, in three parts: the one for all other numbers is judged first
-unfoldable pub first_patterns_of : Place → Texts → Result (Elements PatternText) TableError
-first_patterns_of place t = do
-  other ← pattern_of place t.other
-  explicit_zero ← optional_pattern_of place t.explicit_zero
-  explicit_one ← optional_pattern_of place t.explicit_one
-  zero ← optional_pattern_of place t.zero
+unfoldable pub first_patterns_of : Position → Texts → Result (Elements PatternText) TableError
+first_patterns_of position t = do
+  other ← pattern_of position t.other
+  explicit_zero ← optional_pattern_of position t.explicit_zero
+  explicit_one ← optional_pattern_of position t.explicit_one
+  zero ← optional_pattern_of position t.zero
   Ok (record { explicit_zero = explicit_zero; explicit_one = explicit_one; zero = zero; one = None; two = None; few = None; many = None; other = other })
 
 -- with those of the categories one and two
-unfoldable pub with_one_and_two : Place → Texts → Elements PatternText → Result (Elements PatternText) TableError
-with_one_and_two place t e = do
-  one ← optional_pattern_of place t.one
-  two ← optional_pattern_of place t.two
+unfoldable pub with_one_and_two : Position → Texts → Elements PatternText → Result (Elements PatternText) TableError
+with_one_and_two position t e = do
+  one ← optional_pattern_of position t.one
+  two ← optional_pattern_of position t.two
   Ok (record e { one = one; two = two })
 
 -- with those of the categories few and many
-unfoldable pub with_few_and_many : Place → Texts → Elements PatternText → Result (Elements PatternText) TableError
-with_few_and_many place t e = do
-  few ← optional_pattern_of place t.few
-  many ← optional_pattern_of place t.many
+unfoldable pub with_few_and_many : Position → Texts → Elements PatternText → Result (Elements PatternText) TableError
+with_few_and_many position t e = do
+  few ← optional_pattern_of position t.few
+  many ← optional_pattern_of position t.many
   Ok (record e { few = few; many = many })
 
 -- the patterns of texts, or their first fault
-unfoldable pub patterns_of : Place → Texts → Result (Elements PatternText) TableError
-patterns_of place t = do
-  e ← first_patterns_of place t
-  e ← with_one_and_two place t e
-  with_few_and_many place t e
+unfoldable pub patterns_of : Position → Texts → Result (Elements PatternText) TableError
+patterns_of position t = do
+  e ← first_patterns_of position t
+  e ← with_one_and_two position t e
+  with_few_and_many position t e
 
 -- the patterns of texts that may be absent
-unfoldable pub optional_patterns_of : Place → Option Texts → Result (Option (Elements PatternText)) TableError
-optional_patterns_of place t = elim t [
+unfoldable pub optional_patterns_of : Position → Option Texts → Result (Option (Elements PatternText)) TableError
+optional_patterns_of position t = elim t [
   | None ↦ Ok None
-  | Some texts ↦ (patterns_of place texts >>= λ patterns. Ok (Some patterns))
+  | Some texts ↦ (patterns_of position texts >>= λ patterns. Ok (Some patterns))
 ]

@@ -7,7 +7,7 @@ use Rattle.icu_provider.specs.NumberingSystem.{is_numbering_system}
 use Rattle.icu_table_entries.specs.Reading.{◌>>=◌}
 use Rattle.icu_table_entries.specs.declared.error.EntryFault.{EntryFault}
 use Rattle.icu_table_entries.specs.declared.error.EntryFault.TheVariants.{BadLocale, BadNumberingSystem}
-use Rattle.icu_table_entries.specs.declared.error.Place.{Place}
+use Rattle.icu_table_entries.specs.declared.error.Position.{Position}
 use Rattle.icu_table_entries.specs.declared.error.TableError.{TableError}
 use Rattle.icu_table_entries.specs.declared.error.TableError.TheVariants.{Entry}
 
@@ -17,29 +17,29 @@ pub record NamedEntry (A : Type 0) : Type 0 where
   pub content : A
 
 -- the entry at a place is rejected
-abbrev pub refused : {A : Type 0} → Place → EntryFault → Result A TableError
-refused place fault = Err (Entry place.key place.index fault)
+abbrev pub refused : {A : Type 0} → Position → EntryFault → Result A TableError
+refused position fault = Err (Entry position.key position.index fault)
 
 -- the text of a locale
-unfoldable pub locale_of : Place → List ℕ → Result (List ℕ) TableError
-locale_of place text = if is_locale text then Ok text else refused place BadLocale
+unfoldable pub locale_of : Position → List ℕ → Result (List ℕ) TableError
+locale_of position text = if is_locale text then Ok text else refused position BadLocale
 
 -- the name of a numbering system
-unfoldable pub system_of : Place → List ℕ → Result (List ℕ) TableError
-system_of place text = if is_numbering_system text then Ok text else refused place BadNumberingSystem
+unfoldable pub system_of : Position → List ℕ → Result (List ℕ) TableError
+system_of position text = if is_numbering_system text then Ok text else refused position BadNumberingSystem
 
 -- a name, or none
-unfoldable pub optional_system_of : Place → Option (List ℕ) → Result (Option (List ℕ)) TableError
-optional_system_of place None = Ok None
-optional_system_of place (Some text) = do
-  system ← system_of place text
+unfoldable pub optional_system_of : Position → Option (List ℕ) → Result (Option (List ℕ)) TableError
+optional_system_of position None = Ok None
+optional_system_of position (Some text) = do
+  system ← system_of position text
   Ok (Some system)
 
 -- the identifier of a locale and a numbering system or none; the locale is judged first
-unfoldable pub identifier_from : Place → List ℕ → Option (List ℕ) → Result Identifier TableError
-identifier_from place locale system = do
-  locale ← locale_of place locale
-  system ← optional_system_of place system
+unfoldable pub identifier_from : Position → List ℕ → Option (List ℕ) → Result Identifier TableError
+identifier_from position locale system = do
+  locale ← locale_of position locale
+  system ← optional_system_of position system
   Ok (record { system = system; locale = locale })
 
 -- the data of the first entry with an identifier

@@ -7,7 +7,7 @@ use Rattle.serde_json.specs.Read.{read}
 use Rattle.serde_json.specs.Written.{has_float}
 use Rattle.icu_table_entries.specs.Keys.{name_of}
 use Rattle.icu_table_entries.specs.declared.error.Key.{Key}
-use Rattle.icu_table_entries.specs.declared.error.Place.{Place}
+use Rattle.icu_table_entries.specs.declared.error.Position.{Position}
 use Rattle.icu_table_entries.specs.declared.error.TableError.{TableError}
 use Rattle.icu_table_entries.specs.declared.error.TableError.TheVariants.{NotJson, Float, Missing, WrongKind, Entry, OutOfMemory}
 
@@ -153,7 +153,7 @@ texts_at key d = do
   texts_in key x
 
 -- each entry in turn, with its place
-unfoldable pub entries_at : {A : Type 0} → (Place → Data → Result A TableError) → Key → ℕ → List Data → Result (List A) TableError
+unfoldable pub entries_at : {A : Type 0} → (Position → Data → Result A TableError) → Key → ℕ → List Data → Result (List A) TableError
 entries_at read key i [] = Ok []
 entries_at read key i (d ∷ ds) = do
   x ← read (record { key = key; index = i }) d
@@ -161,13 +161,13 @@ entries_at read key i (d ∷ ds) = do
   Ok (x ∷ xs)
 
 -- the entries of a list
-unfoldable pub entries_in : {A : Type 0} → (Place → Data → Result A TableError) → Key → Data → Result (List A) TableError
+unfoldable pub entries_in : {A : Type 0} → (Position → Data → Result A TableError) → Key → Data → Result (List A) TableError
 entries_in read key d = do
   values ← list_in key d
   entries_at read key 0 values
 
 -- the entries under a required key
-unfoldable pub entries_under : {A : Type 0} → (Place → Data → Result A TableError) → Key → Data → Result (List A) TableError
+unfoldable pub entries_under : {A : Type 0} → (Position → Data → Result A TableError) → Key → Data → Result (List A) TableError
 entries_under read key d = do
   x ← member_at key d
   entries_in read key x

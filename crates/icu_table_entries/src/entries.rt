@@ -4,10 +4,10 @@ ghost use Rattle.std.specs.Prelude.{◌≡◌, ℕ, Bool, List, Result, map, opt
 ghost use Rattle.serde_json.specs.Data.{Data};
 ghost use Rattle.serde_json.specs.View.{view};
 ghost use Rattle.icu_table_entries.specs.Reading.{Gives, entries_at, entries_in, entries_under, optional_at};
-ghost use Rattle.icu_table_entries.specs.declared.error.Place.{Place};
+ghost use Rattle.icu_table_entries.specs.declared.error.Position.{Position};
 ghost use Rattle.icu_table_entries.specs.declared.error.TableError.{TableError};
 
-use crate::error::{Key, Place, TableError};
+use crate::error::{Key, Position, TableError};
 use crate::fields::{list_in, member_at};
 use icu_provider::DataLocale;
 use serde_json::Value;
@@ -19,14 +19,18 @@ pub trait EntryKind {
     type Entry: Drop;
 
     /// What the value of an entry reads as.
-    ghost read_at: { Place → Data → Result Self.Entry TableError };
+    ghost read_at: { Position → Data → Result Self.Entry TableError };
 
     /// Whether an entry may answer a request in a locale.
     ghost serves: { List ℕ → Self.Entry → Bool };
 
     /// The entry of a value, or its first fault.
-    fn from_entry(alloc: Global, place: Place, value: &Value) -> Result<Self::Entry, TableError>
-        ensures { Gives (λ x. x) result (read_at place (view value.now)) };
+    fn from_entry(
+        alloc: Global,
+        position: Position,
+        value: &Value,
+    ) -> Result<Self::Entry, TableError>
+        ensures { Gives (λ x. x) result (read_at position (view value.now)) };
 
     /// Whether the entry may answer a request in this locale.
     fn serves(entry: &Self::Entry, locale: &DataLocale) -> bool
@@ -45,7 +49,7 @@ pub fn entries<T: EntryKind>(
 {
     let mut found = Vec::new(alloc);
     for (index, value) in values.iter().enumerate() {
-        found.push(T::from_entry(alloc, Place { key, index }, value)?)?;
+        found.push(T::from_entry(alloc, Position { key, index }, value)?)?;
     }
     Ok(found)
 }

@@ -262,12 +262,12 @@ impl<T: Drop> From<AllocFailed<T>> for TableError {
 
 /// Where an entry stands: under which key, and at which index of the list.
 #[derive(Clone, Copy, Debug)]
-pub struct Place {
+pub struct Position {
     pub key: Key,
     pub index: usize,
 }
 
-impl Place {
+impl Position {
     /// The error of the entry for a fault.
     pub fn refusal(self, fault: EntryFault) -> TableError
         ensures { result ≡ Entry self.key self.index fault }

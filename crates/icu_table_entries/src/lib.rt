@@ -10,4 +10,4 @@ pub mod pattern_text;
 pub mod texts;
 pub mod whole_numbers;
 
-pub use error::{EntryFault, Key, Place, TableError};
+pub use error::{EntryFault, Key, Position, TableError};

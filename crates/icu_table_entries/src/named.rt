@@ -6,7 +6,7 @@ ghost use Rattle.icu_provider.specs.Identifier.{identifier_of};
 ghost use Rattle.icu_table_entries.specs.Named.{locale_of, system_of, optional_system_of, identifier_from, first_filed};
 ghost use Rattle.icu_table_entries.specs.Reading.{Gives};
 
-use crate::error::{EntryFault, Place, TableError};
+use crate::error::{EntryFault, Position, TableError};
 use icu_provider::{DataIdentifierBorrowed, DataLocale, NumberingSystem};
 use std::marker::Model;
 
@@ -27,50 +27,50 @@ impl Model for Name {
 
 /// The locale of a text.
 #[tactic(auto, unfolding(crate::specs::Named::locale_of))]
-pub fn locale_of(place: Place, text: &str) -> Result<DataLocale, TableError>
-    ensures { Gives (λ x. x) result (locale_of place text.now) }
+pub fn locale_of(position: Position, text: &str) -> Result<DataLocale, TableError>
+    ensures { Gives (λ x. x) result (locale_of position text.now) }
 {
     match DataLocale::try_from_str(text) {
         Ok(locale) => Ok(locale),
-        Err(_) => Err(place.refusal(EntryFault::BadLocale)),
+        Err(_) => Err(position.refusal(EntryFault::BadLocale)),
     }
 }
 
 /// The numbering system of a text.
 #[tactic(auto, unfolding(crate::specs::Named::system_of))]
-pub fn system_of(place: Place, text: &str) -> Result<NumberingSystem, TableError>
-    ensures { Gives (λ x. x) result (system_of place text.now) }
+pub fn system_of(position: Position, text: &str) -> Result<NumberingSystem, TableError>
+    ensures { Gives (λ x. x) result (system_of position text.now) }
 {
     match NumberingSystem::try_from_str(text) {
         Ok(system) => Ok(system),
-        Err(_) => Err(place.refusal(EntryFault::BadNumberingSystem)),
+        Err(_) => Err(position.refusal(EntryFault::BadNumberingSystem)),
     }
 }
 
 /// The numbering system of a text, if there is one.
 #[tactic(auto, unfolding(crate::specs::Named::optional_system_of))]
 fn optional_system_of(
-    place: Place,
+    position: Position,
     text: Option<&str>,
 ) -> Result<Option<NumberingSystem>, TableError>
     ensures { Gives (λ x. x) result
-        (optional_system_of place (option_map (λ t. t.now) text.entry)) }
+        (optional_system_of position (option_map (λ t. t.now) text.entry)) }
 {
     match text {
-        Some(text) => Ok(Some(system_of(place, text)?)),
+        Some(text) => Ok(Some(system_of(position, text)?)),
         None => Ok(None),
     }
 }
 
 /// The name of these texts.
 #[tactic(auto, unfolding(crate::specs::Named::identifier_from))]
-pub fn name_of(place: Place, locale: &str, system: Option<&str>) -> Result<Name, TableError>
+pub fn name_of(position: Position, locale: &str, system: Option<&str>) -> Result<Name, TableError>
     ensures { Gives (λ x. x) result
-        (identifier_from place locale.now (option_map (λ t. t.now) system.entry)) }
+        (identifier_from position locale.now (option_map (λ t. t.now) system.entry)) }
 {
     Ok(Name {
-        locale: locale_of(place, locale)?,
-        system: optional_system_of(place, system)?,
+        locale: locale_of(position, locale)?,
+        system: optional_system_of(position, system)?,
     })
 }
 

@@ -5,7 +5,7 @@ ghost use Rattle.icu_pattern.specs.Patterns.{has_fitting_placeholder};
 ghost use Rattle.icu_table_entries.specs.Reading.{Gives};
 ghost use Rattle.icu_table_entries.specs.Spelling.{split_at_placeholder, pattern_of, optional_pattern_of};
 
-use crate::error::{EntryFault, Place, TableError};
+use crate::error::{EntryFault, Position, TableError};
 use icu_pattern::{Pattern, PatternError, SinglePlaceholder};
 use std::alloc::{AllocError, Global};
 
@@ -28,15 +28,16 @@ fn joined(alloc: Global, before: &str, after: &str) -> Result<String, AllocError
 /// The pattern of a placeholder that fits.
 fn fitting(
     alloc: Global,
-    place: Option<usize>,
+    placeholder: Option<usize>,
     literal: &str,
 ) -> Result<Pattern<SinglePlaceholder>, TableError>
-    requires { has_fitting_placeholder (record { placeholder = place; literal = literal.now })
+    requires { has_fitting_placeholder (record { placeholder = placeholder; literal = literal.now })
         ≡ true }
-    ensures given { IfOk result (λ p. p ≡ record { placeholder = place; literal = literal.now }) }
+    ensures given { IfOk result (λ p. p
+        ≡ record { placeholder = placeholder; literal = literal.now }) }
     ensures memory { IsOkUnless result TableError.OutOfMemory }
 {
-    match Pattern::try_new(alloc, place, literal) {
+    match Pattern::try_new(alloc, placeholder, literal) {
         Ok(pattern) => Ok(pattern),
         Err(PatternError::OutOfMemory) => Err(TableError::OutOfMemory),
         Err(PatternError::BadPlace) => unreachable!(),
@@ -64,16 +65,16 @@ fn around(
 #[tactic(auto, unfolding(crate::specs::Spelling::pattern_of))]
 pub fn pattern_of(
     alloc: Global,
-    place: Place,
+    position: Position,
     text: &str,
 ) -> Result<Pattern<SinglePlaceholder>, TableError>
-    ensures { Gives (λ x. x) result (pattern_of place text.now) }
+    ensures { Gives (λ x. x) result (pattern_of position text.now) }
 {
     let Some((before, after)) = split_at_placeholder(text) else {
         return fitting(alloc, None, text);
     };
     if split_at_placeholder(after).is_some() {
-        return Err(place.refusal(EntryFault::BadPlace));
+        return Err(position.refusal(EntryFault::BadPlace));
     }
     around(alloc, before, after)
 }
@@ -82,14 +83,14 @@ pub fn pattern_of(
 #[tactic(auto, unfolding(crate::specs::Spelling::optional_pattern_of))]
 pub fn optional_pattern_of(
     alloc: Global,
-    place: Place,
+    position: Position,
     text: Option<&str>,
 ) -> Result<Option<Pattern<SinglePlaceholder>>, TableError>
     ensures { Gives (λ x. x) result
-        (optional_pattern_of place (option_map (λ t. t.now) text.entry)) }
+        (optional_pattern_of position (option_map (λ t. t.now) text.entry)) }
 {
     match text {
-        Some(text) => Ok(Some(pattern_of(alloc, place, text)?)),
+        Some(text) => Ok(Some(pattern_of(alloc, position, text)?)),
         None => Ok(None),
     }
 }

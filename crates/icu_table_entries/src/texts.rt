@@ -7,7 +7,7 @@ ghost use Rattle.icu_table_entries.specs.Spelling.{optional_pattern_of};
 ghost use Rattle.icu_table_entries.specs.Reading.{Gives, ◌>>=◌ as ◌and_then◌, optional_at};
 ghost use Rattle.std.specs.Prelude.{◌≡◌, Ok, option_map};
 
-use crate::error::{Key, Place, TableError};
+use crate::error::{Key, Position, TableError};
 use crate::fields::{object_in, optional_text_at, text_at};
 use crate::pattern_text::{optional_pattern_of, pattern_of};
 use icu_pattern::{Pattern, SinglePlaceholder};
@@ -132,13 +132,17 @@ pub type Patterns = PluralElements<Pattern<SinglePlaceholder>>;
 
 /// The patterns of the categories other and zero, and those for exactly zero and one.
 #[tactic(auto, unfolding(crate::specs::CategoryTexts::first_patterns_of))]
-fn first_patterns_of(alloc: Global, place: Place, texts: &Texts<'_>) -> Result<Patterns, TableError>
-    ensures { Gives (λ x. x) result (first_patterns_of place texts.now) }
+fn first_patterns_of(
+    alloc: Global,
+    position: Position,
+    texts: &Texts<'_>,
+) -> Result<Patterns, TableError>
+    ensures { Gives (λ x. x) result (first_patterns_of position texts.now) }
 {
-    let other = pattern_of(alloc, place, texts.other)?;
-    let explicit_zero = optional_pattern_of(alloc, place, texts.explicit_zero)?;
-    let explicit_one = optional_pattern_of(alloc, place, texts.explicit_one)?;
-    let zero = optional_pattern_of(alloc, place, texts.zero)?;
+    let other = pattern_of(alloc, position, texts.other)?;
+    let explicit_zero = optional_pattern_of(alloc, position, texts.explicit_zero)?;
+    let explicit_one = optional_pattern_of(alloc, position, texts.explicit_one)?;
+    let zero = optional_pattern_of(alloc, position, texts.zero)?;
     Ok(
         PluralElements::new(other)
             .with_explicit_zero_value(explicit_zero)
@@ -150,7 +154,7 @@ fn first_patterns_of(alloc: Global, place: Place, texts: &Texts<'_>) -> Result<P
 /// The patterns of two texts that may be absent.
 fn pair_of(
     alloc: Global,
-    place: Place,
+    position: Position,
     first: Option<&str>,
     second: Option<&str>,
 ) -> Result<
@@ -161,12 +165,12 @@ fn pair_of(
     TableError,
 >
     ensures { Gives (λ x. x) result
-        (optional_pattern_of place (option_map (λ t. t.now) first.entry) and_then
-        λ x. optional_pattern_of place (option_map (λ t. t.now) second.entry) and_then
+        (optional_pattern_of position (option_map (λ t. t.now) first.entry) and_then
+        λ x. optional_pattern_of position (option_map (λ t. t.now) second.entry) and_then
         λ y. Ok (x, y)) }
 {
-    let first = optional_pattern_of(alloc, place, first)?;
-    let second = optional_pattern_of(alloc, place, second)?;
+    let first = optional_pattern_of(alloc, position, first)?;
+    let second = optional_pattern_of(alloc, position, second)?;
     Ok((first, second))
 }
 
@@ -174,13 +178,13 @@ fn pair_of(
 #[tactic(auto, unfolding(crate::specs::CategoryTexts::with_one_and_two))]
 fn with_one_and_two(
     alloc: Global,
-    place: Place,
+    position: Position,
     texts: &Texts<'_>,
     patterns: Patterns,
 ) -> Result<Patterns, TableError>
-    ensures { Gives (λ x. x) result (with_one_and_two place texts.now patterns) }
+    ensures { Gives (λ x. x) result (with_one_and_two position texts.now patterns) }
 {
-    match pair_of(alloc, place, texts.one, texts.two) {
+    match pair_of(alloc, position, texts.one, texts.two) {
         Ok((one, two)) => Ok(patterns.with_one_value(one).with_two_value(two)),
         Err(error) => Err(error),
     }
@@ -190,13 +194,13 @@ fn with_one_and_two(
 #[tactic(auto, unfolding(crate::specs::CategoryTexts::with_few_and_many))]
 fn with_few_and_many(
     alloc: Global,
-    place: Place,
+    position: Position,
     texts: &Texts<'_>,
     patterns: Patterns,
 ) -> Result<Patterns, TableError>
-    ensures { Gives (λ x. x) result (with_few_and_many place texts.now patterns) }
+    ensures { Gives (λ x. x) result (with_few_and_many position texts.now patterns) }
 {
-    match pair_of(alloc, place, texts.few, texts.many) {
+    match pair_of(alloc, position, texts.few, texts.many) {
         Ok((few, many)) => Ok(patterns.with_few_value(few).with_many_value(many)),
         Err(error) => Err(error),
     }
@@ -204,25 +208,29 @@ fn with_few_and_many(
 
 /// The patterns of these texts.
 #[tactic(auto, unfolding(crate::specs::CategoryTexts::patterns_of))]
-pub fn patterns_of(alloc: Global, place: Place, texts: &Texts<'_>) -> Result<Patterns, TableError>
-    ensures { Gives (λ x. x) result (patterns_of place texts.now) }
+pub fn patterns_of(
+    alloc: Global,
+    position: Position,
+    texts: &Texts<'_>,
+) -> Result<Patterns, TableError>
+    ensures { Gives (λ x. x) result (patterns_of position texts.now) }
 {
-    let patterns = first_patterns_of(alloc, place, texts)?;
-    let patterns = with_one_and_two(alloc, place, texts, patterns)?;
-    with_few_and_many(alloc, place, texts, patterns)
+    let patterns = first_patterns_of(alloc, position, texts)?;
+    let patterns = with_one_and_two(alloc, position, texts, patterns)?;
+    with_few_and_many(alloc, position, texts, patterns)
 }
 
 /// The patterns of these texts, if there are any.
 #[tactic(auto, unfolding(crate::specs::CategoryTexts::optional_patterns_of))]
 pub fn optional_patterns_of(
     alloc: Global,
-    place: Place,
+    position: Position,
     texts: &Option<Texts<'_>>,
 ) -> Result<Option<Patterns>, TableError>
-    ensures { Gives (λ x. x) result (optional_patterns_of place texts.now) }
+    ensures { Gives (λ x. x) result (optional_patterns_of position texts.now) }
 {
     match texts {
-        Some(texts) => Ok(Some(patterns_of(alloc, place, texts)?)),
+        Some(texts) => Ok(Some(patterns_of(alloc, position, texts)?)),
         None => Ok(None),
     }
 }

@@ -29,7 +29,7 @@ use Rattle.icu_decimal_data.specs.CompactTable.{TableEntry}
 use Rattle.icu_plurals.specs.Rules.{Rule}
 use Rattle.icu_provider.specs.Identifier.{Identifier}
 use Rattle.icu_table_entries.specs.Answering.{filed_answer, optional_answer, or_not_found}
-use Rattle.icu_tables.specs.ForLocale.{Adds, AnswersAs, AreEntries, FoundData, Holds, HoldsAt, IsFor, IsOnce, IsServed}
+use Rattle.icu_tables.specs.ForLocale.{AddsMembers, AnswersAs, AreEntries, FoundData, Holds, HoldsAt, IsFor, IsOnce, IsServed}
 use Rattle.icu_tables.specs.Compact.{compact_at}
 use Rattle.icu_tables.specs.Digits.{SystemDigits, digits_at, system_answer}
 use Rattle.icu_table_entries.specs.Keys.{name_of}
@@ -41,7 +41,7 @@ use Rattle.icu_tables.specs.Symbols.{symbols_at}
 use Rattle.icu_tables.specs.Tables.{tables_at, tables_in, tables_of}
 use Rattle.icu_table_entries.specs.declared.error.Key.{Key}
 use Rattle.icu_table_entries.specs.declared.error.Key.TheVariants.{Symbols, Digits, Rules, Short, Long}
-use Rattle.icu_table_entries.specs.declared.error.Place.{Place}
+use Rattle.icu_table_entries.specs.declared.error.Position.{Position}
 use Rattle.icu_table_entries.specs.declared.error.TableError.{TableError}
 use Rattle.icu_table_entries.specs.declared.error.TableError.TheVariants.{NotJson}
 use Rattle.icu_table_entries.proofs.Lists.{list_of-items_of}
@@ -63,13 +63,13 @@ pub kept_unless : {A : Type 0} (xs : List A) (x : A) (b : Bool) → b ≡ false 
 kept_unless xs x b serves = rw serves (sym (append-nil xs))
 
 -- What was read and kept so far: whatever the items from the index on are, they go on with it.
-abbrev pub GoesOn : {A : Type 0} → (Place → Data → Result A TableError) → (A → Bool) → Key → List Token → ℕ → List Token
+abbrev pub GoesOn : {A : Type 0} → (Position → Data → Result A TableError) → (A → Bool) → Key → List Token → ℕ → List Token
     → List A → Type 0
 GoesOn {A} read serves key start i ts kept =
     (before : List Data) × (front : List A) × (kept ≡ filter serves front) × ItemsGoOn 125 start ts before
     × ((ds : List Data) (xs : List A) → entries_at read key i ds ≡ Ok xs → entries_at read key 0 (before ++ ds) ≡ Ok (front ++ xs))
 
-module _ {A : Type 0} (read : Place → Data → Result A TableError) (serves : A → Bool) (key : Key) (start : List Token) where
+module _ {A : Type 0} (read : Position → Data → Result A TableError) (serves : A → Bool) (key : Key) (start : List Token) where
   -- before the first entry nothing was read
   pub begins : GoesOn read serves key start 0 start []
   begins = ([], [], refl, ItemsGoOn-start 125 start, λ ds xs are. are)
@@ -109,7 +109,7 @@ module _ {A : Type 0} (read : Place → Data → Result A TableError) (serves : 
 pub apart : (a b : List ℕ) → pointwise nat_eq a b ≡ false → a ≡ b → ⊥
 apart a b tells same = true≢false (sym (nat_list_eq_equiv.refl a) ∙ ap (λ x. pointwise nat_eq a x) same ∙ tells)
 
-module _ {A : Type 0} (read : Place → Data → Result A TableError) (serves : A → Bool) (key : Key) where
+module _ {A : Type 0} (read : Position → Data → Result A TableError) (serves : A → Bool) (key : Key) where
   -- what was kept under a key stays, where a member of another name is put
   pub HoldsAt-other : (name : List ℕ) (d : Data) (ds : Members) (kept : Option (List A)) → (name_of key ≡ name → ⊥)
       → HoldsAt read serves key (get_member (name_of key) ds) kept → HoldsAt read serves key (get_member (name_of key) (put name d ds)) kept
@@ -177,7 +177,7 @@ KeptOf serves (Some kept) None = ⊥
 KeptOf serves (Some kept) (Some all) = kept ≡ filter serves all
 
 -- a list that may be absent
-pub optional_read : {A : Type 0} (read : Place → Data → Result A TableError) (serves : A
+pub optional_read : {A : Type 0} (read : Position → Data → Result A TableError) (serves : A
     → Bool) (key : Key) (o : Option Data) (kept : Option (List A)) → HoldsAt read serves key o kept
     → (all : Option (List A)) × (optional (entries_in read key) o ≡ Ok all) × KeptOf serves kept all
 optional_read read serves key None None holds = (None, refl, tt)
@@ -217,7 +217,8 @@ adds_other locale name d ds f none symbols digits rules short long holds = recor
 module _ (locale : List ℕ) (ts : List Token) (f : FoundData) (rest : List Token) where
   -- the first member with symbols
   pub adds_symbols : (name : List ℕ) (slot : Option (List (NamedEntry DecimalSymbols))) → name ≡ name_of Symbols
-      → IsOnce symbols_at (is_of locale) Symbols ts f.symbols slot rest → Adds (λ l ds f. Holds l ds f) locale name ts f (record f { symbols = slot }) rest
+      → IsOnce symbols_at (is_of locale) Symbols ts f.symbols slot rest
+      → AddsMembers (λ l ds f. Holds l ds f) locale name ts f (record f { symbols = slot }) rest
   adds_symbols name slot named (fresh, kept, same, (d, is, served)) = rw named (
     d,
     is,
@@ -233,7 +234,8 @@ module _ (locale : List ℕ) (ts : List Token) (f : FoundData) (rest : List Toke
 
   -- the first member with digits
   pub adds_digits : (name : List ℕ) (slot : Option (List (SystemDigits))) → name ≡ name_of Digits
-      → IsOnce digits_at (λ entry. true) Digits ts f.digits slot rest → Adds (λ l ds f. Holds l ds f) locale name ts f (record f { digits = slot }) rest
+      → IsOnce digits_at (λ entry. true) Digits ts f.digits slot rest
+      → AddsMembers (λ l ds f. Holds l ds f) locale name ts f (record f { digits = slot }) rest
   adds_digits name slot named (fresh, kept, same, (d, is, served)) = rw named (
     d,
     is,
@@ -249,7 +251,7 @@ module _ (locale : List ℕ) (ts : List Token) (f : FoundData) (rest : List Toke
 
   -- the first member with rules
   pub adds_rules : (name : List ℕ) (slot : Option (List (NamedEntry (List Rule)))) → name ≡ name_of Rules
-      → IsOnce rules_at (is_of locale) Rules ts f.rules slot rest → Adds (λ l ds f. Holds l ds f) locale name ts f (record f { rules = slot }) rest
+      → IsOnce rules_at (is_of locale) Rules ts f.rules slot rest → AddsMembers (λ l ds f. Holds l ds f) locale name ts f (record f { rules = slot }) rest
   adds_rules name slot named (fresh, kept, same, (d, is, served)) = rw named (
     d,
     is,
@@ -265,7 +267,8 @@ module _ (locale : List ℕ) (ts : List Token) (f : FoundData) (rest : List Toke
 
   -- the first member with short patterns
   pub adds_short : (name : List ℕ) (slot : Option (List (NamedEntry (List TableEntry)))) → name ≡ name_of Short
-      → IsOnce compact_at (is_of locale) Short ts f.short slot rest → Adds (λ l ds f. Holds l ds f) locale name ts f (record f { short = slot }) rest
+      → IsOnce compact_at (is_of locale) Short ts f.short slot rest
+      → AddsMembers (λ l ds f. Holds l ds f) locale name ts f (record f { short = slot }) rest
   adds_short name slot named (fresh, kept, same, (d, is, served)) = rw named (
     d,
     is,
@@ -281,7 +284,7 @@ module _ (locale : List ℕ) (ts : List Token) (f : FoundData) (rest : List Toke
 
   -- the first member with long patterns
   pub adds_long : (name : List ℕ) (slot : Option (List (NamedEntry (List TableEntry)))) → name ≡ name_of Long
-      → IsOnce compact_at (is_of locale) Long ts f.long slot rest → Adds (λ l ds f. Holds l ds f) locale name ts f (record f { long = slot }) rest
+      → IsOnce compact_at (is_of locale) Long ts f.long slot rest → AddsMembers (λ l ds f. Holds l ds f) locale name ts f (record f { long = slot }) rest
   adds_long name slot named (fresh, kept, same, (d, is, served)) = rw named (
     d,
     is,
@@ -299,13 +302,13 @@ module _ {F : Type 0} (holds : List ℕ → Members → F → Type 0) where
   -- what is found is of one member more, and the others go on with it
   pub members_step : (locale : List ℕ) (before after : F) (ts s r start : List Token) (k : List ℕ)
       → ((ds : Members) × holds locale ds before × MembersGoOn 126 start ts ds) → read_key ts ≡ Some (Some k, s)
-      → Adds holds locale k s before after r → (ds : Members) × holds locale ds after × MembersGoOn 126 start r ds
+      → AddsMembers holds locale k s before after r → (ds : Members) × holds locale ds after × MembersGoOn 126 start r ds
   members_step locale before after ts s r start k (ds, held, on) key (d, is, adds) =
       (put k d ds, adds ds held, MembersGoOn-member 126 start ds ts s r k d key is on)
 
   -- a member that is added takes a token at least
   pub members_smaller : (locale : List ℕ) (before after : F) (ts s r : List Token) (k : List ℕ) → read_key ts ≡ Some (Some k, s)
-      → Adds holds locale k s before after r → length r < length ts
+      → AddsMembers holds locale k s before after r → length r < length ts
   members_smaller locale before after ts s r k key (d, is, adds) =
       omega (arith, read_key-shorter ts (Some k) s key, IsValue-shorter 126 s d r is)
 

@@ -9,9 +9,9 @@ use Rattle.std.proofs.lemmas.List.{append-nil}
 use Rattle.icu_decimal_data.specs.CompactTable.{PatternElements, TableEntry}
 use Rattle.icu_tables.specs.Compact.{IsAbove, Rise, entries_of}
 use Rattle.icu_table_entries.specs.CategoryTexts.{patterns_of}
-use Rattle.icu_tables.specs.declared.compact.GivenEntry.{GivenEntry}
+use Rattle.icu_tables.specs.declared.compact.ListedEntry.{ListedEntry}
 use Rattle.icu_table_entries.specs.Reading.{◌>>=◌, Fails}
-use Rattle.icu_table_entries.specs.declared.error.Place.{Place}
+use Rattle.icu_table_entries.specs.declared.error.Position.{Position}
 use Rattle.icu_table_entries.specs.declared.error.TableError.{TableError}
 use Rattle.icu_table_entries.proofs.Lists.{with_front, regroup, failed}
 
@@ -29,7 +29,7 @@ AreUpTo None es = es ≡ []
 AreUpTo (Some before) es = AllByRecursion (λ p. p.0 ≤ before) es
 
 -- what is left rises after the keys of the map
-abbrev pub GoesOn : Pairs → List GivenEntry → Type 0
+abbrev pub GoesOn : Pairs → List ListedEntry → Type 0
 GoesOn es left = (before : Option ℕ) × AreUpTo before es × Rise before left
 
 insert_last : (es : Pairs) (k : ℕ) (v : ℕ × PatternElements) → AllByRecursion (λ p. p.0 < k) es → insert_entry nat_cmp es k v ≡ es ++ (k, v) ∷ []
@@ -51,61 +51,62 @@ are_below es None k up_to above = rw up_to tt
 are_below es (Some before) k up_to above = all_below es before k above up_to
 
 -- an insert of a key above all others appends
-pub put_last : (es : Pairs) (e : GivenEntry) (left : List GivenEntry) (v : ℕ × PatternElements) → GoesOn es (e ∷ left) →
+pub put_last : (es : Pairs) (e : ListedEntry) (left : List ListedEntry) (v : ℕ × PatternElements) → GoesOn es (e ∷ left) →
     insert_entry nat_cmp es e.log10_type v ≡ es ++ (e.log10_type, v) ∷ []
 put_last es e left v (before, up_to, (above, rise)) = insert_last es e.log10_type v (are_below es before e.log10_type up_to above)
 
 -- a map goes on with one more entry
-pub still_goes_on : (es : Pairs) (e : GivenEntry) (left : List GivenEntry) (v : ℕ × PatternElements) → GoesOn es (e ∷ left) →
+pub still_goes_on : (es : Pairs) (e : ListedEntry) (left : List ListedEntry) (v : ℕ × PatternElements) → GoesOn es (e ∷ left) →
     GoesOn (es ++ (e.log10_type, v) ∷ []) left
 still_goes_on es e left v (before, up_to, (above, rise)) = (Some e.log10_type, all_up_to es e.log10_type v (are_below es before e.log10_type up_to above), rise)
 
 -- the type of the last entry, or the one before them
-abbrev pub last_type : Option ℕ → List GivenEntry → Option ℕ
+abbrev pub last_type : Option ℕ → List ListedEntry → Option ℕ
 last_type before [] = before
 last_type before (e ∷ es) = last_type (Some e.log10_type) es
 
 -- one entry more that is above the last one
-pub rise_on : (before : Option ℕ) (es : List GivenEntry) (e : GivenEntry) → Rise before es → IsAbove (last_type before es) e.log10_type →
+pub rise_on : (before : Option ℕ) (es : List ListedEntry) (e : ListedEntry) → Rise before es → IsAbove (last_type before es) e.log10_type →
     Rise before (es ++ e ∷ [])
 rise_on before [] e h above = (above, tt)
 rise_on before (x ∷ es) e h above = (h.0, rise_on (Some x.log10_type) es e h.1 above)
 
 -- the last type with one more entry
-pub last_on : (before : Option ℕ) (es : List GivenEntry) (e : GivenEntry) → last_type before (es ++ e ∷ []) ≡ Some e.log10_type
+pub last_on : (before : Option ℕ) (es : List ListedEntry) (e : ListedEntry) → last_type before (es ++ e ∷ []) ≡ Some e.log10_type
 last_on before [] e = refl
 last_on before (x ∷ es) e = last_on (Some x.log10_type) es e
 
 -- the entries from an index on
-pub entries_from : (es : List GivenEntry) (i : ℕ) (x : GivenEntry) → x ≡ get_or es i x → i < length es → drop i es ≡ x ∷ drop (i + 1) es
+pub entries_from : (es : List ListedEntry) (i : ℕ) (x : ListedEntry) → x ≡ get_or es i x → i < length es → drop i es ≡ x ∷ drop (i + 1) es
 entries_from es i x e lt = drop-cons es i x lt ∙ rw (← e, add-one) refl
 
 -- the entry that is made of patterns
-abbrev entry_with : GivenEntry → PatternElements → TableEntry
+abbrev entry_with : ListedEntry → PatternElements → TableEntry
 entry_with e v = record { log10_type = e.log10_type; exponent = e.exponent; elements = v }
 
 -- one more entry is made, and the rest goes on
-pub made_goes_on : (place : Place) (front : List TableEntry) (e : GivenEntry) (es : List GivenEntry) (v : PatternElements)
+pub made_goes_on : (position : Position) (front : List TableEntry) (e : ListedEntry) (es : List ListedEntry) (v : PatternElements)
     (total : Result (List TableEntry) TableError)
-    → patterns_of place e.texts ≡ Ok v → with_front front (entries_of place (e ∷ es)) ≡ total
-    → with_front (front ++ record { log10_type = e.log10_type; exponent = e.exponent; elements = v } ∷ []) (entries_of place es) ≡ total
+    → patterns_of position e.texts ≡ Ok v → with_front front (entries_of position (e ∷ es)) ≡ total
+    → with_front (front ++ record { log10_type = e.log10_type; exponent = e.exponent; elements = v } ∷ []) (entries_of position es) ≡ total
 unfolding entries_of
-made_goes_on place front e es v total h so_far =
-    let one : with_front front (entries_of place (e ∷ es)) ≡ with_front (front ++ entry_with e v ∷ []) (entries_of place es) =
-    rw h (regroup front (entry_with e v) (entries_of place es)) in
+made_goes_on position front e es v total h so_far =
+    let one : with_front front (entries_of position (e ∷ es)) ≡ with_front (front ++ entry_with e v ∷ []) (entries_of position es) =
+    rw h (regroup front (entry_with e v) (entries_of position es)) in
     sym one ∙ so_far
 
 -- an entry that is rejected rejects all
-pub made_fails : (fault : TableError) (place : Place) (front : List TableEntry) (e : GivenEntry) (es : List GivenEntry)
+pub made_fails : (fault : TableError) (position : Position) (front : List TableEntry) (e : ListedEntry) (es : List ListedEntry)
     (total : Result (List TableEntry) TableError)
-    → Fails fault (patterns_of place e.texts) → with_front front (entries_of place (e ∷ es)) ≡ total → Fails fault total
+    → Fails fault (patterns_of position e.texts) → with_front front (entries_of position (e ∷ es)) ≡ total → Fails fault total
 unfolding entries_of
-made_fails fault place front e es total h so_far =
+made_fails fault position front e es total h so_far =
     rw (← so_far) (failed fault _ (λ xs. Ok (front ++ xs))
-    (failed fault (patterns_of place e.texts) (λ v. entries_of place es >>= λ xs. Ok (entry_with e v ∷ xs)) h))
+    (failed fault (patterns_of position e.texts) (λ v. entries_of position es >>= λ xs. Ok (entry_with e v ∷ xs)) h))
 
 -- without entries left all are made
-pub made_ends : (place : Place) (front : List TableEntry) (total : Result (List TableEntry) TableError) → with_front front (entries_of place []) ≡ total →
+pub made_ends : (position : Position) (front : List TableEntry) (total : Result (List TableEntry) TableError) → with_front front (entries_of position [])
+    ≡ total →
     total ≡ Ok front
 unfolding entries_of
-made_ends place front total so_far = sym so_far ∙ ap Ok (append-nil front)
+made_ends position front total so_far = sym so_far ∙ ap Ok (append-nil front)

@@ -9,7 +9,7 @@ use Rattle.icu_table_entries.specs.Answering.{or_not_found}
 use Rattle.icu_table_entries.specs.Named.{system_of}
 use Rattle.icu_table_entries.specs.Reading.{◌>>=◌, text_in, pair_in}
 use Rattle.icu_table_entries.specs.declared.error.Key.{Key}
-use Rattle.icu_table_entries.specs.declared.error.Place.{Place}
+use Rattle.icu_table_entries.specs.declared.error.Position.{Position}
 use Rattle.icu_table_entries.specs.declared.error.TableError.{TableError}
 use Rattle.icu_table_entries.specs.declared.error.TableError.TheVariants.{WrongKind}
 
@@ -23,13 +23,13 @@ unfoldable pub ten_in : Key → List ℕ → Result (List ℕ) TableError
 ten_in key text = if length (chars text) == 10 then Ok (chars text) else Err (WrongKind key)
 
 -- an entry: a list of a name and a text of ten characters
-unfoldable pub digits_at : Place → Data → Result SystemDigits TableError
-digits_at place d = do
-  pair ← pair_in place.key d
-  system ← text_in place.key pair.0
-  text ← text_in place.key pair.1
-  digits ← ten_in place.key text
-  system ← system_of place system
+unfoldable pub digits_at : Position → Data → Result SystemDigits TableError
+digits_at position d = do
+  pair ← pair_in position.key d
+  system ← text_in position.key pair.0
+  text ← text_in position.key pair.1
+  digits ← ten_in position.key text
+  system ← system_of position system
   Ok (record { system = system; digits = digits })
 
 -- the digits of the first entry of a numbering system

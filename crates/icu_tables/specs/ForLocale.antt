@@ -21,7 +21,7 @@ use Rattle.icu_tables.specs.Symbols.{symbols_at}
 use Rattle.icu_tables.specs.Tables.{TablesData}
 use Rattle.icu_table_entries.specs.declared.error.Key.{Key}
 use Rattle.icu_table_entries.specs.declared.error.Key.TheVariants.{Symbols, Digits, Rules, Short, Long}
-use Rattle.icu_table_entries.specs.declared.error.Place.{Place}
+use Rattle.icu_table_entries.specs.declared.error.Position.{Position}
 use Rattle.icu_table_entries.specs.declared.error.TableError.{TableError}
 
 -- For each identifier of the locale the kept tables answer what all tables answer, and for digits in any locale.
@@ -42,21 +42,22 @@ GivesFor locale (Ok kept) read = IsFor locale kept read
 GivesFor locale (Err e) read = Fails e read
 
 -- the entries of a list under a key that serve
-abbrev pub IsServed : {A : Type 0} → (Place → Data → Result A TableError) → (A → Bool) → Key → Data → List A → Type 0
+abbrev pub IsServed : {A : Type 0} → (Position → Data → Result A TableError) → (A → Bool) → Key → Data → List A → Type 0
 IsServed {A} read serves key d kept = (all : List A) × (entries_in read key d ≡ Ok all) × (kept ≡ filter serves all)
 
 -- the same of the value in front of tokens, and what stands behind it
-abbrev pub AreEntries : {A : Type 0} → (Place → Data → Result A TableError) → (A → Bool) → Key → List Token → List A → List Token → Type 0
+abbrev pub AreEntries : {A : Type 0} → (Position → Data → Result A TableError) → (A → Bool) → Key → List Token → List A → List Token
+    → Type 0
 AreEntries read serves key ts kept rest = (d : Data) × IsValue 126 ts d rest × IsServed read serves key d kept
 
 -- the same, where nothing was before
-abbrev pub IsOnce : {A : Type 0} → (Place → Data → Result A TableError) → (A → Bool) → Key → List Token → Option (List A)
+abbrev pub IsOnce : {A : Type 0} → (Position → Data → Result A TableError) → (A → Bool) → Key → List Token → Option (List A)
     → Option (List A) → List Token → Type 0
 IsOnce {A} read serves key ts before after rest =
     (before ≡ None) × (kept : List A) × (after ≡ Some kept) × AreEntries read serves key ts kept rest
 
 -- what is kept of a member, or that there is none
-abbrev pub HoldsAt : {A : Type 0} → (Place → Data → Result A TableError) → (A → Bool) → Key → Option Data → Option (List A) → Type 0
+abbrev pub HoldsAt : {A : Type 0} → (Position → Data → Result A TableError) → (A → Bool) → Key → Option Data → Option (List A) → Type 0
 HoldsAt read serves key None None = Unit {0}
 HoldsAt read serves key None (Some kept) = ⊥
 HoldsAt read serves key (Some d) None = ⊥
@@ -80,6 +81,6 @@ pub record Holds (locale : List ℕ) (ds : Members) (f : FoundData) : Type 0 whe
   pub whole : members_have_float ds ≡ false
 
 -- one member more, whose value is in front of tokens
-abbrev pub Adds : {F : Type 0} → (List ℕ → Members → F → Type 0) → List ℕ → List ℕ → List Token → F → F → List Token → Type 0
-Adds holds locale name ts before after rest =
+abbrev pub AddsMembers : {F : Type 0} → (List ℕ → Members → F → Type 0) → List ℕ → List ℕ → List Token → F → F → List Token → Type 0
+AddsMembers holds locale name ts before after rest =
     (d : Data) × IsValue 126 ts d rest × ((ds : Members) → holds locale ds before → holds locale (put name d ds) after)

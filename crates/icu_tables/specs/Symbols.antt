@@ -2,7 +2,7 @@
 use Rattle.std.specs.Prelude.{ℕ, List, Option, Result, Ok, nat_lt, if◌then◌else◌}
 use Rattle.serde_json.specs.Data.{Data}
 use Rattle.icu_provider.specs.NumberingSystem.{is_numbering_system}
-use Rattle.icu_decimal_data.specs.Symbols.{SymbolTexts, total_len}
+use Rattle.icu_decimal_symbols.specs.Symbols.{SymbolTexts, total_len}
 use Rattle.icu_decimal_data.specs.declared.decimal_symbols.DecimalSymbols.{DecimalSymbols}
 use Rattle.icu_decimal_data.specs.declared.grouping_sizes.GroupingSizes.{GroupingSizes}
 use Rattle.icu_table_entries.specs.Named.{NamedEntry, refused, identifier_from}
@@ -10,7 +10,7 @@ use Rattle.icu_table_entries.specs.Reading.{◌>>=◌, member_at, object_in, opt
 use Rattle.icu_table_entries.specs.declared.error.EntryFault.TheVariants.{SymbolsTooLarge, BadSymbolsNumberingSystem}
 use Rattle.icu_table_entries.specs.declared.error.Key.{Key}
 use Rattle.icu_table_entries.specs.declared.error.Key.TheVariants.{Locale, System, Minus, Plus, Decimal, Group, Numsys, Sizes}
-use Rattle.icu_table_entries.specs.declared.error.Place.{Place}
+use Rattle.icu_table_entries.specs.declared.error.Position.{Position}
 use Rattle.icu_table_entries.specs.declared.error.TableError.{TableError}
 
 -- what an entry says, not yet judged
@@ -59,16 +59,16 @@ symbol_fields_at key d = do
   Ok (record { locale = locale; system = system; strings = strings; grouping_sizes = sizes })
 
 -- The symbols, which are at most 255 bytes together and name a numbering system.
-unfoldable pub symbols_of : Place → SymbolTexts → GroupingSizes → Result DecimalSymbols TableError
-symbols_of place strings sizes =
-    if nat_lt 255 (total_len strings) then refused place SymbolsTooLarge
+unfoldable pub symbols_of : Position → SymbolTexts → GroupingSizes → Result DecimalSymbols TableError
+symbols_of position strings sizes =
+    if nat_lt 255 (total_len strings) then refused position SymbolsTooLarge
     else if is_numbering_system strings.numsys then Ok (record { strings = strings; grouping_sizes = sizes })
-    else refused place BadSymbolsNumberingSystem
+    else refused position BadSymbolsNumberingSystem
 
 -- an entry: first the kinds of all its fields, then its name, then its symbols
-unfoldable pub symbols_at : Place → Data → Result (NamedEntry DecimalSymbols) TableError
-symbols_at place d = do
-  fields ← symbol_fields_at place.key d
-  identifier ← identifier_from place fields.locale fields.system
-  symbols ← symbols_of place fields.strings fields.grouping_sizes
+unfoldable pub symbols_at : Position → Data → Result (NamedEntry DecimalSymbols) TableError
+symbols_at position d = do
+  fields ← symbol_fields_at position.key d
+  identifier ← identifier_from position fields.locale fields.system
+  symbols ← symbols_of position fields.strings fields.grouping_sizes
   Ok (record { identifier = identifier; content = symbols })

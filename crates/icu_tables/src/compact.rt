@@ -4,8 +4,8 @@ ghost use Rattle.std.specs.Prelude.{◌≡◌, IfOk, OnOk, IsOkUnless, map, None
 ghost use Rattle.std.specs.Ordering.{nat_cmp};
 ghost use Rattle.std.specs.BTreeMap.{insert_entry};
 ghost use Rattle.serde_json.specs.View.{view};
-ghost use Rattle.icu_decimal_data.specs.Kept.{given};
-ghost use Rattle.icu_tables.specs.Compact.{rises, given_entry_in, given_entries_in, given_table_at, entries_of, table_of_entries, table_of};
+ghost use Rattle.icu_decimal_data.specs.Kept.{as_table};
+ghost use Rattle.icu_tables.specs.Compact.{rises, listed_entry_in, listed_entries_in, listed_table_at, entries_of, table_of_entries, table_of};
 ghost use Rattle.icu_tables.specs.Compact.{compact_in, IsAbove, Rise};
 ghost use Rattle.icu_table_entries.specs.Reading.{Gives};
 
@@ -21,7 +21,7 @@ use icu_table_entries::texts::{
     Patterns, Texts, category_texts_in, optional_patterns_of, optional_texts_at, patterns_of,
 };
 use icu_table_entries::whole_numbers::has_float;
-use icu_table_entries::{EntryFault, Key, Place, TableError};
+use icu_table_entries::{EntryFault, Key, Position, TableError};
 use serde_json::Value;
 use std::alloc::Global;
 use std::collections::BTreeMap;
@@ -29,7 +29,7 @@ use std::marker::Model;
 
 /// A type, its exponent and the texts of its patterns, not yet judged.
 #[derive(Drop)]
-pub struct GivenEntry<'a> {
+pub struct ListedEntry<'a> {
     /// The power of ten at which the entry begins.
     pub log10_type: u8,
     /// The power of ten that its patterns name.
@@ -50,13 +50,13 @@ fn rising(before: Option<u8>, log10_type: u8) -> Result<u8, TableError>
 }
 
 /// The entry of a list of three values.
-#[tactic(auto, unfolding(crate::specs::Compact::given_entry_in))]
-fn given_entry_in(before: Option<u8>, value: &Value) -> Result<GivenEntry<'_>, TableError>
-    ensures read { Gives (λ x. x) result (given_entry_in before (view value.now)) }
+#[tactic(auto, unfolding(crate::specs::Compact::listed_entry_in))]
+fn listed_entry_in(before: Option<u8>, value: &Value) -> Result<ListedEntry<'_>, TableError>
+    ensures read { Gives (λ x. x) result (listed_entry_in before (view value.now)) }
     ensures above { IfOk result (λ e. IsAbove before e.log10_type) }
 {
     let (log10_type, (exponent, texts)) = triple_in(value, Key::Patterns)?;
-    Ok(GivenEntry {
+    Ok(ListedEntry {
         log10_type: rising(before, byte_in(log10_type, Key::Patterns)?)?,
         exponent: byte_in(exponent, Key::Patterns)?,
         texts: category_texts_in(texts, Key::Patterns)?,
@@ -64,14 +64,17 @@ fn given_entry_in(before: Option<u8>, value: &Value) -> Result<GivenEntry<'_>, T
 }
 
 /// Each entry in turn: a list of its type, above the one before it, its exponent and its texts.
-pub fn given_entries_in(alloc: Global, values: &[Value]) -> Result<Vec<GivenEntry<'_>>, TableError>
-    ensures entries { Gives (λ v. v.items) result (given_entries_in None (map view values.now)) }
+pub fn listed_entries_in(
+    alloc: Global,
+    values: &[Value],
+) -> Result<Vec<ListedEntry<'_>>, TableError>
+    ensures entries { Gives (λ v. v.items) result (listed_entries_in None (map view values.now)) }
     ensures rise { IfOk result (λ v. Rise None v.items) }
 {
     let mut found = Vec::new(alloc);
     let mut before = None;
     for index in 0..values.len() {
-        let entry = given_entry_in(before, &values[index])?;
+        let entry = listed_entry_in(before, &values[index])?;
         before = Some(entry.log10_type);
         found.push(entry)?;
     }
@@ -80,14 +83,14 @@ pub fn given_entries_in(alloc: Global, values: &[Value]) -> Result<Vec<GivenEntr
 
 /// What an object says about a table, not yet judged.
 #[derive(Drop)]
-pub struct GivenTable<'a> {
-    entries: Vec<GivenEntry<'a>>,
+pub struct ListedTable<'a> {
+    entries: Vec<ListedEntry<'a>>,
     zero: Option<Texts<'a>>,
 }
 
-impl<'a> Model for GivenTable<'a> {
+impl<'a> Model for ListedTable<'a> {
     ghost use Rattle.std.specs.Prelude.{None};
-    ghost use Rattle.icu_tables.specs.Compact.{GivenTable as TableData, Rise};
+    ghost use Rattle.icu_tables.specs.Compact.{ListedTable as TableData, Rise};
 
     ghost Value = { TableData };
 
@@ -97,12 +100,12 @@ impl<'a> Model for GivenTable<'a> {
 }
 
 /// What an object says about a table.
-#[tactic(auto, unfolding(crate::specs::Compact::given_table_at))]
-pub fn given_table_at(alloc: Global, value: &Value) -> Result<GivenTable<'_>, TableError>
-    ensures { Gives (λ x. x) result (given_table_at (view value.now)) }
+#[tactic(auto, unfolding(crate::specs::Compact::listed_table_at))]
+pub fn listed_table_at(alloc: Global, value: &Value) -> Result<ListedTable<'_>, TableError>
+    ensures { Gives (λ x. x) result (listed_table_at (view value.now)) }
 {
-    Ok(GivenTable {
-        entries: given_entries_in(alloc, list_at(value, Key::Patterns)?)?,
+    Ok(ListedTable {
+        entries: listed_entries_in(alloc, list_at(value, Key::Patterns)?)?,
         zero: optional_texts_at(value, Key::Zero)?,
     })
 }
@@ -127,16 +130,16 @@ fn with_entry(
 /// The map of these entries.
 fn entries_of(
     alloc: Global,
-    place: Place,
-    entries: &[GivenEntry<'_>],
+    position: Position,
+    entries: &[ListedEntry<'_>],
 ) -> Result<BTreeMap<u8, (u8, Patterns)>, TableError>
     requires { Rise None entries.now }
-    ensures { Gives (λ m. given m.entries) result (entries_of place entries.now) }
+    ensures { Gives (λ m. as_table m.entries) result (entries_of position entries.now) }
 {
     let mut map = BTreeMap::new(alloc);
     for index in 0..entries.len() {
         let entry = &entries[index];
-        let patterns = patterns_of(alloc, place, &entry.texts)?;
+        let patterns = patterns_of(alloc, position, &entry.texts)?;
         with_entry(&mut map, entry.log10_type, entry.exponent, patterns)?;
     }
     Ok(map)
@@ -145,20 +148,21 @@ fn entries_of(
 /// The table of a map and of the patterns of numbers that aren't shortened.
 fn table_of_entries(
     alloc: Global,
-    place: Place,
+    position: Position,
     entries: BTreeMap<u8, (u8, Patterns)>,
     zero: &Option<Patterns>,
 ) -> Result<CompactPatterns<SinglePlaceholder>, TableError>
-    ensures { Gives (λ x. x) result (table_of_entries place zero.now (given entries.entries)) }
+    ensures { Gives (λ x. x) result
+        (table_of_entries position zero.now (as_table entries.entries)) }
 {
     match CompactPatterns::new(alloc, entries, zero.as_ref()) {
         Ok(table) => Ok(table),
-        Err(CompactError::ExponentsFall) => Err(place.refusal(EntryFault::ExponentsFall)),
+        Err(CompactError::ExponentsFall) => Err(position.refusal(EntryFault::ExponentsFall)),
         Err(CompactError::ExponentAboveType) => {
-            Err(place.refusal(EntryFault::ExponentAboveType))
+            Err(position.refusal(EntryFault::ExponentAboveType))
         }
-        Err(CompactError::TooManyZeros) => Err(place.refusal(EntryFault::TooManyZeros)),
-        Err(CompactError::TooLarge) => Err(place.refusal(EntryFault::PatternsTooLarge)),
+        Err(CompactError::TooManyZeros) => Err(position.refusal(EntryFault::TooManyZeros)),
+        Err(CompactError::TooLarge) => Err(position.refusal(EntryFault::PatternsTooLarge)),
         Err(CompactError::OutOfMemory) => Err(TableError::OutOfMemory),
     }
 }
@@ -167,14 +171,14 @@ fn table_of_entries(
 #[tactic(auto, unfolding(crate::specs::Compact::table_of))]
 fn table_of(
     alloc: Global,
-    place: Place,
-    given: &GivenTable<'_>,
+    position: Position,
+    listed: &ListedTable<'_>,
 ) -> Result<CompactPatterns<SinglePlaceholder>, TableError>
-    ensures { Gives (λ x. x) result (table_of place given.now) }
+    ensures { Gives (λ x. x) result (table_of position listed.now) }
 {
-    let entries = entries_of(alloc, place, &given.entries)?;
-    let zero = optional_patterns_of(alloc, place, &given.zero)?;
-    table_of_entries(alloc, place, entries, &zero)
+    let entries = entries_of(alloc, position, &listed.entries)?;
+    let zero = optional_patterns_of(alloc, position, &listed.zero)?;
+    table_of_entries(alloc, position, entries, &zero)
 }
 
 /// A compact table under its name.
@@ -191,13 +195,17 @@ impl EntryKind for CompactEntry {
     ghost serves = { is_of };
 
     #[tactic(auto, unfolding(crate::specs::Compact::compact_at))]
-    fn from_entry(alloc: Global, place: Place, value: &Value) -> Result<Self::Entry, TableError> {
-        let value = object_in(value, place.key)?;
+    fn from_entry(
+        alloc: Global,
+        position: Position,
+        value: &Value,
+    ) -> Result<Self::Entry, TableError> {
+        let value = object_in(value, position.key)?;
         let locale = text_at(value, Key::Locale)?;
         let system = optional_text_at(value, Key::System)?;
-        let given = given_table_at(alloc, value)?;
-        let name = name_of(place, locale, system)?;
-        let content = table_of(alloc, place, &given)?;
+        let listed = listed_table_at(alloc, value)?;
+        let name = name_of(position, locale, system)?;
+        let content = table_of(alloc, position, &listed)?;
         Ok(NamedEntry { name, content })
     }
 
@@ -225,10 +233,10 @@ pub fn compact_from_value(
     if has_float(value) {
         return Err(TableError::Float);
     }
-    let given = given_table_at(alloc, object_in(value, Key::Document)?)?;
-    let place = Place {
+    let listed = listed_table_at(alloc, object_in(value, Key::Document)?)?;
+    let position = Position {
         key: Key::Document,
         index: 0,
     };
-    table_of(alloc, place, &given)
+    table_of(alloc, position, &listed)
 }

@@ -9,7 +9,7 @@ use icu_provider::{DataLocale, NumberingSystem};
 use icu_table_entries::entries::EntryKind;
 use icu_table_entries::fields::{pair_in, text_in};
 use icu_table_entries::named::system_of;
-use icu_table_entries::{Key, Place, TableError};
+use icu_table_entries::{Key, Position, TableError};
 use serde_json::Value;
 use std::alloc::{AllocError, Global};
 use std::marker::Model;
@@ -62,12 +62,16 @@ impl EntryKind for DigitsEntry {
     ghost serves = { λ locale entry. true };
 
     #[tactic(auto, unfolding(crate::specs::Digits::digits_at))]
-    fn from_entry(alloc: Global, place: Place, value: &Value) -> Result<Self::Entry, TableError> {
-        let (system, text) = pair_in(value, place.key)?;
-        let system = text_in(system, place.key)?;
-        let text = text_in(text, place.key)?;
-        let digits = ten_in(alloc, text, place.key)?;
-        let system = system_of(place, system)?;
+    fn from_entry(
+        alloc: Global,
+        position: Position,
+        value: &Value,
+    ) -> Result<Self::Entry, TableError> {
+        let (system, text) = pair_in(value, position.key)?;
+        let system = text_in(system, position.key)?;
+        let text = text_in(text, position.key)?;
+        let digits = ten_in(alloc, text, position.key)?;
+        let system = system_of(position, system)?;
         Ok(SystemDigits { system, digits })
     }
 

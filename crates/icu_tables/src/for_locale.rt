@@ -3,7 +3,7 @@
 ghost use Rattle.std.specs.Prelude.{◌≡◌, ℕ, IfOk, List, OnOk, Some, option_map};
 ghost use Rattle.serde_json.specs.Data.{Members, no_members, object};
 ghost use Rattle.serde_json.specs.Read.{read};
-ghost use Rattle.icu_tables.specs.ForLocale.{Adds, AreEntries, Holds, IsFor, IsOnce};
+ghost use Rattle.icu_tables.specs.ForLocale.{AddsMembers, AreEntries, Holds, IsFor, IsOnce};
 ghost use Rattle.icu_tables.specs.Owned.{AreMembersOf};
 ghost use Rattle.icu_tables.specs.Tables.{tables_of};
 
@@ -13,13 +13,14 @@ use crate::rules::RulesEntry;
 use crate::symbols::SymbolsEntry;
 use crate::tables::Tables;
 use crate::tokens::{Unread, owned};
-use icu_decimal_data::{CompactPatterns, DecimalSymbols};
+use icu_decimal_data::CompactPatterns;
+use icu_decimal_symbols::DecimalSymbols;
 use icu_pattern::SinglePlaceholder;
 use icu_plurals::PluralRules;
 use icu_provider::DataLocale;
 use icu_table_entries::entries::EntryKind;
 use icu_table_entries::named::NamedEntry;
-use icu_table_entries::{Key, Place, TableError};
+use icu_table_entries::{Key, Position, TableError};
 use json::{Reader, Scratch, Token};
 use std::alloc::Global;
 use std::marker::Model;
@@ -48,7 +49,7 @@ pub trait Kept: Drop + Sized {
         reader: &mut Reader<'_>,
     ) -> Result<(), Unread>
         ensures { OnOk result
-            (Adds holds locale.now name.now reader.old self.old self.new reader.new) };
+            (AddsMembers holds locale.now name.now reader.old self.old self.new reader.new) };
 }
 
 /// What is kept of the members of tables of numbers.
@@ -95,7 +96,7 @@ fn served<T: EntryKind>(
             return Ok(found);
         }
         let value = owned(alloc, reader, MOST_NESTED_ENTRY)?;
-        let entry = T::from_entry(alloc, Place { key, index }, &value)?;
+        let entry = T::from_entry(alloc, Position { key, index }, &value)?;
         if T::serves(&entry, locale) {
             found.push(entry)?;
         }

@@ -9,9 +9,9 @@ ghost use Rattle.icu_tables.specs.Digits.{system_answer};
 use crate::digits::first_digits;
 use crate::tables::Tables;
 use icu_decimal_data::{
-    CompactPatterns, DecimalCompactLongV1, DecimalCompactShortV1, DecimalDigitsV1, DecimalSymbols,
-    DecimalSymbolsV1,
+    CompactPatterns, DecimalCompactLongV1, DecimalCompactShortV1, DecimalDigitsV1, DecimalSymbolsV1,
 };
+use icu_decimal_symbols::DecimalSymbols;
 use icu_pattern::SinglePlaceholder;
 use icu_plurals::{PluralRules, PluralsCardinalV1};
 use icu_provider::{DataError, DataErrorKind, DataIdentifierBorrowed, DataProvider, DataRequest};

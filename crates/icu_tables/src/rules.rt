@@ -2,16 +2,17 @@
 
 ghost use Rattle.std.specs.Prelude.{◌≡◌, map};
 ghost use Rattle.serde_json.specs.View.{view};
-ghost use Rattle.icu_plurals.specs.Rules.{given_rule, given_rules};
+ghost use Rattle.icu_plurals.specs.Rules.{spelled_rule, spelled_rules};
 ghost use Rattle.icu_table_entries.specs.Reading.{Gives};
-ghost use Rattle.icu_tables.specs.Rules.{category_named, given_rule_in, given_rules_in, rules_from};
+ghost use Rattle.icu_tables.specs.Rules.{category_named, spelled_rule_in, spelled_rules_in, rules_from};
 
-use icu_plurals::{PluralCategory, PluralRules, RulesError};
+use icu_plurals::{PluralCategory, PluralRules};
+use icu_plurals_conditions::RulesError;
 use icu_provider::DataLocale;
 use icu_table_entries::entries::EntryKind;
 use icu_table_entries::fields::{list_at, object_in, pair_in, text_at, text_in};
 use icu_table_entries::named::{NamedEntry, name_of};
-use icu_table_entries::{EntryFault, Key, Place, TableError};
+use icu_table_entries::{EntryFault, Key, Position, TableError};
 use serde_json::Value;
 use std::alloc::Global;
 
@@ -32,9 +33,9 @@ fn category_named(name: &str) -> Option<PluralCategory>
 }
 
 /// A category and the text of a condition, which isn't judged yet.
-#[tactic(auto, unfolding(crate::specs::Rules::given_rule_in))]
-fn given_rule_in(value: &Value) -> Result<(PluralCategory, &str), TableError>
-    ensures { Gives given_rule result (given_rule_in (view value.now)) }
+#[tactic(auto, unfolding(crate::specs::Rules::spelled_rule_in))]
+fn spelled_rule_in(value: &Value) -> Result<(PluralCategory, &str), TableError>
+    ensures { Gives spelled_rule result (spelled_rule_in (view value.now)) }
 {
     let (name, text) = pair_in(value, Key::Rules)?;
     let name = text_in(name, Key::Rules)?;
@@ -45,16 +46,16 @@ fn given_rule_in(value: &Value) -> Result<(PluralCategory, &str), TableError>
 }
 
 /// Each rule in turn.
-#[tactic(auto, unfolding(crate::specs::Rules::given_rules_in))]
-fn given_rules_in(
+#[tactic(auto, unfolding(crate::specs::Rules::spelled_rules_in))]
+fn spelled_rules_in(
     alloc: Global,
     values: &[Value],
 ) -> Result<Vec<(PluralCategory, &str)>, TableError>
-    ensures { Gives (λ v. given_rules v.items) result (given_rules_in (map view values.now)) }
+    ensures { Gives (λ v. spelled_rules v.items) result (spelled_rules_in (map view values.now)) }
 {
     let mut found = Vec::new(alloc);
     for index in 0..values.len() {
-        found.push(given_rule_in(&values[index])?)?;
+        found.push(spelled_rule_in(&values[index])?)?;
     }
     Ok(found)
 }
@@ -62,15 +63,15 @@ fn given_rules_in(
 /// The rules that are given.
 fn rules_of(
     alloc: Global,
-    place: Place,
-    given: &[(PluralCategory, &str)],
+    position: Position,
+    spelled: &[(PluralCategory, &str)],
 ) -> Result<PluralRules, TableError>
-    ensures { Gives (λ x. x) result (rules_from place 0 (given_rules given.now)) }
+    ensures { Gives (λ x. x) result (rules_from position 0 (spelled_rules spelled.now)) }
 {
-    match PluralRules::from_rules(alloc, given) {
+    match PluralRules::from_rules(alloc, spelled) {
         Ok(rules) => Ok(rules),
         Err(RulesError::BadRule { rule, byte }) => {
-            Err(place.refusal(EntryFault::BadRule { rule, byte }))
+            Err(position.refusal(EntryFault::BadRule { rule, byte }))
         }
         Err(RulesError::OutOfMemory) => Err(TableError::OutOfMemory),
     }
@@ -90,13 +91,17 @@ impl EntryKind for RulesEntry {
     ghost serves = { is_of };
 
     #[tactic(auto, unfolding(crate::specs::Rules::rules_at))]
-    fn from_entry(alloc: Global, place: Place, value: &Value) -> Result<Self::Entry, TableError> {
-        let value = object_in(value, place.key)?;
+    fn from_entry(
+        alloc: Global,
+        position: Position,
+        value: &Value,
+    ) -> Result<Self::Entry, TableError> {
+        let value = object_in(value, position.key)?;
         let locale = text_at(value, Key::Locale)?;
         let rules = list_at(value, Key::Rules)?;
-        let given = given_rules_in(alloc, rules)?;
-        let name = name_of(place, locale, None)?;
-        let content = rules_of(alloc, place, &given)?;
+        let spelled = spelled_rules_in(alloc, rules)?;
+        let name = name_of(position, locale, None)?;
+        let content = rules_of(alloc, position, &spelled)?;
         Ok(NamedEntry { name, content })
     }
 

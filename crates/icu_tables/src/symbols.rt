@@ -2,18 +2,19 @@
 
 ghost use Rattle.std.specs.Prelude.{option_map};
 ghost use Rattle.serde_json.specs.View.{view};
-ghost use Rattle.icu_decimal_data.specs.Given.{texts_given};
+ghost use Rattle.icu_decimal_symbols.specs.LentTexts.{lent_texts};
 ghost use Rattle.icu_table_entries.specs.Reading.{Gives};
 ghost use Rattle.icu_tables.specs.Symbols.{symbols_of, sizes_at, strings_at, symbol_fields_at};
 
-use icu_decimal_data::{DecimalSymbolStrsBuilder, DecimalSymbols, GroupingSizes, SymbolsError};
+use icu_decimal_data::SymbolsError;
+use icu_decimal_symbols::{DecimalSymbolStrsBuilder, DecimalSymbols, GroupingSizes};
 use icu_provider::DataLocale;
 use icu_table_entries::entries::EntryKind;
 use icu_table_entries::fields::{
     byte_in, member_at, object_in, optional_text_at, text_at, texts_at, triple_in,
 };
 use icu_table_entries::named::{NamedEntry, name_of};
-use icu_table_entries::{EntryFault, Key, Place, TableError};
+use icu_table_entries::{EntryFault, Key, Position, TableError};
 use serde_json::Value;
 use std::alloc::Global;
 
@@ -45,7 +46,7 @@ fn sizes_at(value: &Value) -> Result<GroupingSizes, TableError>
 /// The seven texts.
 #[tactic(auto, unfolding(crate::specs::Symbols::strings_at))]
 fn strings_at(value: &Value) -> Result<DecimalSymbolStrsBuilder<'_>, TableError>
-    ensures { Gives texts_given result (strings_at (view value.now)) }
+    ensures { Gives lent_texts result (strings_at (view value.now)) }
 {
     let (minus_sign_prefix, minus_sign_suffix) = texts_at(value, Key::Minus)?;
     let (plus_sign_prefix, plus_sign_suffix) = texts_at(value, Key::Plus)?;
@@ -66,7 +67,7 @@ fn symbol_fields_at(value: &Value, key: Key) -> Result<SymbolFields<'_>, TableEr
     ensures { Gives (λ f. record {
       locale = f.locale.now;
       system = option_map (λ s. s.now) f.system;
-      strings = texts_given f.strings;
+      strings = lent_texts f.strings;
       grouping_sizes = f.grouping_sizes;
     }) result
         (symbol_fields_at key (view value.now)) }
@@ -84,20 +85,20 @@ fn symbol_fields_at(value: &Value, key: Key) -> Result<SymbolFields<'_>, TableEr
 #[tactic(auto, unfolding(crate::specs::Symbols::symbols_of))]
 fn symbols_of(
     alloc: Global,
-    place: Place,
+    position: Position,
     strings: &DecimalSymbolStrsBuilder<'_>,
     grouping_sizes: GroupingSizes,
 ) -> Result<DecimalSymbols, TableError>
-    ensures { Gives (λ x. x) result (symbols_of place (texts_given strings.now) grouping_sizes) }
+    ensures { Gives (λ x. x) result (symbols_of position (lent_texts strings.now) grouping_sizes) }
 {
     match strings.build(alloc) {
         Ok(strings) => Ok(DecimalSymbols {
             strings,
             grouping_sizes,
         }),
-        Err(SymbolsError::TooLarge) => Err(place.refusal(EntryFault::SymbolsTooLarge)),
+        Err(SymbolsError::TooLarge) => Err(position.refusal(EntryFault::SymbolsTooLarge)),
         Err(SymbolsError::BadNumberingSystem) => {
-            Err(place.refusal(EntryFault::BadSymbolsNumberingSystem))
+            Err(position.refusal(EntryFault::BadSymbolsNumberingSystem))
         }
         Err(SymbolsError::OutOfMemory) => Err(TableError::OutOfMemory),
     }
@@ -117,10 +118,14 @@ impl EntryKind for SymbolsEntry {
     ghost serves = { is_of };
 
     #[tactic(auto, unfolding(crate::specs::Symbols::symbols_at))]
-    fn from_entry(alloc: Global, place: Place, value: &Value) -> Result<Self::Entry, TableError> {
-        let fields = symbol_fields_at(value, place.key)?;
-        let name = name_of(place, fields.locale, fields.system)?;
-        let content = symbols_of(alloc, place, &fields.strings, fields.grouping_sizes)?;
+    fn from_entry(
+        alloc: Global,
+        position: Position,
+        value: &Value,
+    ) -> Result<Self::Entry, TableError> {
+        let fields = symbol_fields_at(value, position.key)?;
+        let name = name_of(position, fields.locale, fields.system)?;
+        let content = symbols_of(alloc, position, &fields.strings, fields.grouping_sizes)?;
         Ok(NamedEntry { name, content })
     }
 

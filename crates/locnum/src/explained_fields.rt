@@ -5,7 +5,7 @@ use crate::streams::Streams;
 use crate::words::{joined, nothing};
 use locnum_explain::explain_at;
 use locnum_lines::{
-    FoundNumber, LineSettings, NumberFinder, RecordPlace, Report, RunError, Source, behind_mark,
+    FoundNumber, LineSettings, NumberFinder, RecordState, Report, RunError, Source, behind_mark,
 };
 use std::io::{BufReader, Stdin, Write};
 
@@ -23,8 +23,8 @@ fn explain_found(
     } = explainer;
     let mut out = Vec::new(rt.alloc());
     let mut report = nothing(rt.alloc());
-    for FoundNumber { place, text } in found {
-        let explained = explain_at(rt.alloc(), settings, form, place, text, &mut out);
+    for FoundNumber { position, text } in found {
+        let explained = explain_at(rt.alloc(), settings, form, position, text, &mut out);
         let Ok(is_refused) = explained else {
             return Err(RunError::OutOfMemory);
         };
@@ -81,7 +81,7 @@ fn read_record(
     record: &mut Vec<u8>,
 ) -> Result<bool, RunError> {
     record.clear();
-    let mut place = RecordPlace::new();
+    let mut state = RecordState::new();
     for _ in 0..u64::MAX {
         let start = record.len();
         if read_line(streams, reader, lines.end, record)? == 0 {
@@ -91,14 +91,14 @@ fn read_record(
             return Ok(!bytes_behind(record, 0, is_first).is_empty());
         }
         record.pop();
-        place.pass(lines, bytes_behind(record, start, is_first));
-        if !place.is_open() {
+        state.pass(lines, bytes_behind(record, start, is_first));
+        if !state.is_open() {
             return Ok(true);
         }
         let Ok(()) = record.push(lines.end) else {
             return Err(RunError::OutOfMemory);
         };
-        place.pass(lines, &[lines.end]);
+        state.pass(lines, &[lines.end]);
     }
     Ok(true)
 }

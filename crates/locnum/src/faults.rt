@@ -2,7 +2,7 @@
 
 use crate::entries::entry_at_fault;
 use crate::held::{code_of, list_of, text_of};
-use crate::places::push_not_json;
+use crate::positions::push_not_json;
 use icu_table_entries::{EntryFault, Key, TableError};
 use itoa::Buffer;
 use locnum_forms::push_reported;
@@ -40,21 +40,23 @@ fn push_field(
 }
 
 /// The number at a place of a row.
-fn number_at(row: &Value, place: usize) -> u64 {
-    row.get(place).and_then(Value::as_u64).unwrap_or(0)
+fn number_at(row: &Value, index: usize) -> u64 {
+    row.get(index).and_then(Value::as_u64).unwrap_or(0)
 }
 
 /// How often `{0}` stands in a text.
-fn count_places(text: &str) -> usize {
+fn count_placeholders(text: &str) -> usize {
     text.matches("{0}").count()
 }
 
 /// Whether a text among elements has a second place.
-fn has_second_place(elements: &Value) -> bool {
+fn has_second_placeholder(elements: &Value) -> bool {
     let Some(elements) = elements.as_object() else {
         return false;
     };
-    elements.values().any(|text| text.as_str().is_some_and(|text| count_places(text) > 1))
+    elements.values().any(|text| text
+        .as_str()
+        .is_some_and(|text| count_placeholders(text) > 1))
 }
 
 /// Whether a row of a compact table has a fault by itself, or behind an exponent.
@@ -67,7 +69,7 @@ fn is_at_fault(row: &Value, before: u64, fault: EntryFault) -> bool {
         EntryFault::RepeatedPatterns { log10_type: later } => log10_type == u64::from(later),
         EntryFault::BadPlace => row
             .get(2)
-            .is_some_and(|elements| has_second_place(elements)),
+            .is_some_and(|elements| has_second_placeholder(elements)),
         _ => false,
     }
 }
@@ -109,7 +111,12 @@ fn push_row(entry: &Value, fault: EntryFault, out: &mut Vec<u8>) -> Result<(), A
 }
 
 /// Appends where an entry stands: its locale, the key of its list, and what it is for.
-fn push_place(key: &str, entry: &Value, index: usize, out: &mut Vec<u8>) -> Result<(), AllocError> {
+fn push_position(
+    key: &str,
+    entry: &Value,
+    index: usize,
+    out: &mut Vec<u8>,
+) -> Result<(), AllocError> {
     push_field(b"locale ", entry, "locale", out)?;
     if text_of(entry, "locale").is_some() {
         out.extend_from_slice(b", ")?;
@@ -153,7 +160,7 @@ fn push_entry(
     out: &mut Vec<u8>,
 ) -> Result<(), AllocError> {
     if let Some(entry) = list_of(tables, key.name()).get(index) {
-        push_place(key.name(), entry, index, out)?;
+        push_position(key.name(), entry, index, out)?;
         push_row(entry, fault, out)?;
         out.extend_from_slice(b": ")?;
     }
@@ -170,7 +177,7 @@ fn push_entry_at_fault(
     let Some(entry) = entry_at_fault(alloc, tables, error)? else {
         return Ok(());
     };
-    push_place(entry.key, entry.value, entry.index, out)?;
+    push_position(entry.key, entry.value, entry.index, out)?;
     out.extend_from_slice(b": ")
 }
 

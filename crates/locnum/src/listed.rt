@@ -5,7 +5,7 @@ use serde_json::Value;
 use std::alloc::{AllocError, Global};
 
 /// What is listed.
-#[derive(Clone, Copy, Debug)]
+#[derive(Clone, Copy)]
 pub(crate) enum Listed {
     Locales,
     Systems,

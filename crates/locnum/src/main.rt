@@ -16,7 +16,7 @@ mod lone_locale;
 mod mistakes;
 mod near;
 mod options;
-mod places;
+mod positions;
 mod read_tables;
 mod running;
 mod streams;
@@ -37,11 +37,11 @@ use std::io::Write;
 use std::process::ExitCode;
 use std::{env, str};
 use streams::status_of_output;
-use tables::{ListAnswer, TablesFile, heading, list, note_of_failure, note_of_system};
+use tables::{ListResult, TablesFile, heading, list, note_of_failure, note_of_system};
 use words::{marked, numbers_given};
 
 /// Why the program ends early.
-#[derive(Clone, Copy, Debug)]
+#[derive(Clone, Copy)]
 enum Failure {
     OutOfMemory,
     Words,
@@ -155,8 +155,8 @@ fn list_asked(
         None
     };
     match list(rt.alloc(), file, word, locale)? {
-        ListAnswer::Lines(lines) => Ok(status_of_output(rt, rt.stdout().write_all(&lines))),
-        ListAnswer::Note(note) => Err(put_note(rt, &note)),
+        ListResult::Lines(lines) => Ok(status_of_output(rt, rt.stdout().write_all(&lines))),
+        ListResult::Note(note) => Err(put_note(rt, &note)),
     }
 }
 

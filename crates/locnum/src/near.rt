@@ -27,11 +27,11 @@ fn by_likeness<'a>(
 
 /// Appends names with commas between them; two dots where there are more.
 fn push_names(names: &[(f64, &str)], out: &mut Vec<u8>) -> Result<(), AllocError> {
-    for (place, entry) in names.iter().enumerate() {
-        if place > 0 {
+    for (index, entry) in names.iter().enumerate() {
+        if index > 0 {
             out.extend_from_slice(b", ")?;
         }
-        if place == MOST {
+        if index == MOST {
             return out.extend_from_slice(b"..");
         }
         push_reported(entry.1.as_bytes(), out)?;

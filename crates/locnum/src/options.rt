@@ -1,7 +1,7 @@
 //! The table of options: names, letters, texts, headings, and what each does.
 
 /// What stands behind the name of an option.
-#[derive(Clone, Copy, Debug)]
+#[derive(Clone, Copy)]
 pub(crate) enum Takes {
     /// Nothing: the option is given, or it isn't.
     Nothing,
@@ -12,7 +12,7 @@ pub(crate) enum Takes {
 }
 
 /// An option of the program.
-#[derive(Clone, Copy, Debug)]
+#[derive(Clone, Copy)]
 pub(crate) struct OptionEntry {
     /// The heading under which `--help` shows it.
     pub(crate) heading: &'static str,

@@ -190,7 +190,7 @@ fn note_of_file(alloc: Global, file: TablesFile<'_>) -> Result<Vec<u8>, AllocErr
 
 /// What a list has to say.
 #[derive(Drop)]
-pub(crate) enum ListAnswer {
+pub(crate) enum ListResult {
     /// The names, each in a line.
     Lines(Vec<u8>),
     /// The note that says why there are none.
@@ -203,19 +203,19 @@ pub(crate) fn list(
     file: TablesFile<'_>,
     word: &str,
     locale: Option<&str>,
-) -> Result<ListAnswer, AllocError> {
+) -> Result<ListResult, AllocError> {
     let Some(listed) = listed_named(word) else {
         let note = b"locnum: --list: locales, systems, currencies or units\n";
-        return Ok(ListAnswer::Note(Vec::from_slice(alloc, note)?));
+        return Ok(ListResult::Note(Vec::from_slice(alloc, note)?));
     };
     let Some(tables) = document_of(alloc, file.bytes) else {
-        return Ok(ListAnswer::Note(note_of_file(alloc, file)?));
+        return Ok(ListResult::Note(note_of_file(alloc, file)?));
     };
     match locale {
         Some(locale) if !has_locale(&tables, "symbols", locale) => {
             let note = note_of_locale(alloc, &tables, file, locale)?;
-            Ok(ListAnswer::Note(note))
+            Ok(ListResult::Note(note))
         }
-        locale => Ok(ListAnswer::Lines(lines_of(alloc, &tables, listed, locale)?)),
+        locale => Ok(ListResult::Lines(lines_of(alloc, &tables, listed, locale)?)),
     }
 }

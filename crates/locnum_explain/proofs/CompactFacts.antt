@@ -12,8 +12,8 @@ use Rattle.decimal_lines.proofs.Displaying.{number-nearest, past-number}
 use Rattle.icu_dimension.specs.CompactMoney.{CompactMoney, entry_shown, formatter_of}
 use Rattle.fixed_decimal.specs.declared.signs.Sign.{Sign}
 use Rattle.locnum_forms.proofs.CompactMoney.{compacted-told}
-use Rattle.locnum_explain.specs.Compact.{compact_facts, displayed_lines, entry_lines, frame_for, frame_line, has_entry, is_past, showable_line}
-use Rattle.locnum_explain.proofs.Entries.{displayed-given}
+use Rattle.locnum_explain.specs.Compact.{compact_facts, decomposed_lines, entry_lines, frame_for, frame_line, has_entry, is_past, showable_line}
+use Rattle.locnum_explain.proofs.Entries.{decomposed-given}
 
 module _ (format : CompactFormat) (d : Unsigned) where
   -- nothing is said where the nearest compact number is past the limits
@@ -22,19 +22,19 @@ module _ (format : CompactFormat) (d : Unsigned) where
   facts-past past = go (nat_le (ten_to (pos 32768)) (nearest_number format.table (size d))) refl
     where
       go : (b : Bool) → nat_le (ten_to (pos 32768)) (nearest_number format.table (size d)) ≡ b
-          → (if b then [] else showable_line format.table d ++ displayed_lines format d (nearest_number format.table (size d))) ≡ []
+          → (if b then [] else showable_line format.table d ++ decomposed_lines format d (nearest_number format.table (size d))) ≡ []
       go true e = refl
       go false e = let large = past-number format.table (size d) past in absurd (grind (arith, nat_tests))
 
   -- the values around it and what it is displayed by where that is within them
   facts-within : ¬ (ShowsPastLimits format.table (size d))
-      → compact_facts format d ≡ showable_line format.table d ++ displayed_lines format d (nearest_number format.table (size d))
+      → compact_facts format d ≡ showable_line format.table d ++ decomposed_lines format d (nearest_number format.table (size d))
   unfolding compact_facts
   facts-within within = go (nat_le (ten_to (pos 32768)) (nearest_number format.table (size d))) refl
     where
       go : (b : Bool) → nat_le (ten_to (pos 32768)) (nearest_number format.table (size d)) ≡ b
-          → (if b then [] else showable_line format.table d ++ displayed_lines format d (nearest_number format.table (size d)))
-          ≡ showable_line format.table d ++ displayed_lines format d (nearest_number format.table (size d))
+          → (if b then [] else showable_line format.table d ++ decomposed_lines format d (nearest_number format.table (size d)))
+          ≡ showable_line format.table d ++ decomposed_lines format d (nearest_number format.table (size d))
       go true e = absurd (within (nearest_number format.table (size d), number-nearest format.table (size d), grind (arith, nat_tests)))
       go false e = refl
 
@@ -44,9 +44,9 @@ module _ (format : CompactFormat) (d : Unsigned) where
       → second ≡ first ++ entry_lines format (place (magnitude_with (significand_of value) value.exponent)) (significand_of value)
       → second ≡ old ++ compact_facts format d
   facts-appended value number old first second same compacted table valid within a b =
-      let lines : List ℕ = displayed_lines format d (nearest_number format.table (size d)) in
+      let lines : List ℕ = decomposed_lines format d (nearest_number format.table (size d)) in
       b ∙ ap (λ (v : FormattedCompact). first ++ entry_lines format (place (magnitude_with (significand_of v) v.exponent)) (significand_of v)) same
-      ∙ ap (λ (xs : List ℕ). first ++ xs) (displayed-given format d number compacted table valid within)
+      ∙ ap (λ (xs : List ℕ). first ++ xs) (decomposed-given format d number compacted table valid within)
       ∙ ap (λ (xs : List ℕ). xs ++ lines) a ∙ regroup old (showable_line format.table d) lines
       ∙ ap (λ (xs : List ℕ). old ++ xs) (sym (facts-within within))
     where

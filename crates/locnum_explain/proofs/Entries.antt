@@ -17,16 +17,16 @@ use Rattle.icu_decimal_data.specs.CompactTable.{IsCompactTable, IsIndex, TableEn
 use Rattle.icu_decimal_data.specs.Faithful.{pattern_for}
 use Rattle.icu_decimal.specs.CompactFormat.{CompactFormat, FormattedCompact, IsCompacted, magnitude_with, pattern_of, significand_of}
 use Rattle.icu_decimal.specs.CompactNumber.{ShowsPastLimits, rounding_place}
-use Rattle.icu_decimal.specs.Displayed.{displayed_entry}
+use Rattle.icu_decimal.specs.Decomposed.{decomposed_entry}
 use Rattle.icu_decimal.proofs.CompactCore.{exponent_le_magnitude}
-use Rattle.icu_decimal.proofs.DisplayedOnce.{displayed_is_one}
+use Rattle.icu_decimal.proofs.DecomposedOnce.{decomposed_is_one}
 use Rattle.icu_decimal.proofs.PowerPlaces.{place_is}
-use Rattle.decimal_lines.proofs.Displaying.{number-displayed}
+use Rattle.decimal_lines.proofs.Displaying.{number-decomposed}
 use Rattle.decimal_lines.specs.Computed.{nearest_number, significand_shown}
 use Rattle.locnum_explain.specs.Around.{around_line}
 use Rattle.locnum_explain.specs.Facts.{entry_line, pattern_line}
 use Rattle.locnum_explain.specs.Operands.{operands_line}
-use Rattle.locnum_explain.specs.Compact.{displayed_lines, entry_lines, showable_line}
+use Rattle.locnum_explain.specs.Compact.{decomposed_lines, entry_lines, showable_line}
 
 -- the pattern of an entry that there is
 pub pattern-at : (table : List TableEntry) (i : ℕ) (operands : Operands) (category : PluralCategory) (p : PatternText) → i < length table
@@ -77,10 +77,10 @@ together : (m e : ℕ) → place ((pos m -ℤ pos finest) +ℤ pos e) ≡ m + e
 together m e = place_is ((pos m -ℤ pos finest) +ℤ pos e) (m + e) (omega (arith, ints))
 
 -- the place of that magnitude is the one that the displayed size has
-displayed_place : (table : List TableEntry) (s : Unsigned) (y : ℕ) (entry : Option TableEntry) → IsCompactTable table →
+decomposed_place : (table : List TableEntry) (s : Unsigned) (y : ℕ) (entry : Option TableEntry) → IsCompactTable table →
     entry ≡ entry_for table (magnitude_place y) → size s * 10 ^ exponent_of entry ≡ y →
     place (magnitude_with s (exponent_of entry)) ≡ magnitude_place y
-displayed_place table s y entry t is scaled = together (magnitude_place (size s)) (exponent_of entry) ∙ go (cases_eq (size s) 0)
+decomposed_place table s y entry t is scaled = together (magnitude_place (size s)) (exponent_of entry) ∙ go (cases_eq (size s) 0)
   where
     go : (size s ≡ 0) ⊎ (¬ (size s ≡ 0)) → magnitude_place (size s) + exponent_of entry ≡ magnitude_place y
     go (inr some) = sym (magnitude_place_times (size s) (exponent_of entry) (omega arith)) ∙ ap magnitude_place scaled
@@ -98,17 +98,17 @@ displayed_place table s y entry t is scaled = together (magnitude_place (size s)
         no_exponent (inr h) f = omega arith
 
 -- the lines of a formatted number are those by which its decimal is displayed
-pub displayed-given : (format : CompactFormat) (d : Unsigned) (number : FormattedCompact) → IsCompacted format d number → IsCompactTable format.table
+pub decomposed-given : (format : CompactFormat) (d : Unsigned) (number : FormattedCompact) → IsCompacted format d number → IsCompactTable format.table
     → IsUnsigned d → ¬ (ShowsPastLimits format.table (size d))
     → entry_lines format (place (magnitude_with (significand_of number) number.exponent)) (significand_of number)
-    ≡ displayed_lines format d (nearest_number format.table (size d))
-displayed-given format d number w t valid within =
+    ≡ decomposed_lines format d (nearest_number format.table (size d))
+decomposed-given format d number w t valid within =
     let y : ℕ = nearest_number format.table (size d) in
-    let one = displayed_is_one format.table d w.shown y w.entry (displayed_entry format.table y) (significand_of number)
-    (significand_shown format.table d y) w.displayed (number-displayed format.table d valid t within) in
+    let one = decomposed_is_one format.table d w.shown y w.entry (decomposed_entry format.table y) (significand_of number)
+    (significand_shown format.table d y) w.decomposed (number-decomposed format.table d valid t within) in
     let at : place (magnitude_with (significand_of number) number.exponent) ≡ magnitude_place w.shown =
     ap (λ (e : ℕ). place (magnitude_with (significand_of number) e)) w.exponent_is
-    ∙ displayed_place format.table (significand_of number) w.shown w.entry t w.displayed.entry_is w.displayed.scaled in
+    ∙ decomposed_place format.table (significand_of number) w.shown w.entry t w.decomposed.entry_is w.decomposed.scaled in
     ap (λ (m : ℕ). entry_lines format m (significand_of number)) (at ∙ ap magnitude_place one.0) ∙ ap (entry_lines format (magnitude_place y)) one.2
 
 -- the line of the values around a number, by its magnitude and the exponent for that

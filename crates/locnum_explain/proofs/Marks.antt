@@ -5,21 +5,21 @@ use Rattle.fixed_decimal.specs.Unsigned.{Unsigned}
 use Rattle.fixed_decimal.specs.declared.signs.Sign.{Sign}
 use Rattle.fixed_decimal.specs.declared.signs.Sign.TheVariants.{None as NoSign}
 use Rattle.writeable.specs.Events.{Event}
-use Rattle.icu_decimal.specs.CompactFormat.{CompactFormat, FormattedCompact, IsCompacted, given_events, significand_of}
+use Rattle.icu_decimal.specs.CompactFormat.{CompactFormat, FormattedCompact, IsCompacted, events_with_exponent, significand_of}
 use Rattle.icu_dimension.specs.CompactMoney.{CompactMoney, entry_shown, formatter_of}
 use Rattle.icu_dimension.specs.Money.{sign_framed}
 use Rattle.locnum_forms.proofs.CompactMoney.{compacted-told}
-use Rattle.locnum_explain.specs.Marks.{amount_marks, given_marks, number_marks}
+use Rattle.locnum_explain.specs.Marks.{amount_marks, marks_with_exponent, number_marks}
 
 -- the parts of the compact number that was made of a decimal, by its significand and its exponent
 pub number-marked : (format : CompactFormat) (d : Unsigned) (number value : FormattedCompact) → IsCompacted format d number → value ≡ number
     → (sign given : Sign) (absolute : Unsigned) (exponent : ℕ) → given ≡ sign → absolute ≡ significand_of value → exponent ≡ value.exponent
-    → given_events format given absolute exponent ≡ number_marks format sign d
+    → events_with_exponent format given absolute exponent ≡ number_marks format sign d
 number-marked format d number value is same sign given absolute exponent signs digits power =
-    ap (λ (s : Sign). given_events format s absolute exponent) signs
-    ∙ ap (λ (u : Unsigned). given_events format sign u exponent) (digits ∙ ap significand_of same)
-    ∙ ap (λ (n : ℕ). given_events format sign (significand_of number) n) (power ∙ ap (λ (v : FormattedCompact). v.exponent) same)
-    ∙ ap (given_marks format sign) (sym (compacted-told format d number is))
+    ap (λ (s : Sign). events_with_exponent format s absolute exponent) signs
+    ∙ ap (λ (u : Unsigned). events_with_exponent format sign u exponent) (digits ∙ ap significand_of same)
+    ∙ ap (λ (n : ℕ). events_with_exponent format sign (significand_of number) n) (power ∙ ap (λ (v : FormattedCompact). v.exponent) same)
+    ∙ ap (marks_with_exponent format sign) (sym (compacted-told format d number is))
 
 module _ (f : CompactMoney) (sign : Sign) (d : Unsigned) (number value : FormattedCompact) (is : IsCompacted (formatter_of f sign) d number)
     (same : value ≡ number) (b : Bool) (entry : b ≡ is_some (entry_shown (formatter_of f sign).table value)) where

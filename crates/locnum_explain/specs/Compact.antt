@@ -21,8 +21,8 @@ entry_lines format m significand =
     entry_line format.table m ++ operands_line format.rules significand ++ pattern_line (pattern_of format (entry_for format.table m) significand)
 
 -- those by which d is displayed as the size y
-abbrev pub displayed_lines : CompactFormat → Unsigned → ℕ → List ℕ
-displayed_lines format d y = entry_lines format (magnitude_place y) (significand_shown format.table d y)
+abbrev pub decomposed_lines : CompactFormat → Unsigned → ℕ → List ℕ
+decomposed_lines format d y = entry_lines format (magnitude_place y) (significand_shown format.table d y)
 
 -- the two values around d that are shown at its magnitude: the multiples of ten to the rounding place of that magnitude
 unfoldable pub showable_line : List TableEntry → Unsigned → List ℕ
@@ -36,7 +36,7 @@ is_past table d = nat_le (ten_to (pos 32768)) (nearest_number table (size d))
 unfoldable pub compact_facts : CompactFormat → Unsigned → List ℕ
 compact_facts format d =
     if is_past format.table d then []
-    else showable_line format.table d ++ displayed_lines format d (nearest_number format.table (size d))
+    else showable_line format.table d ++ decomposed_lines format d (nearest_number format.table (size d))
 
 -- whether the compact number nearest to d is displayed by an entry of the table
 abbrev pub has_entry : CompactFormat → Unsigned → Bool

@@ -28,14 +28,14 @@ unfoldable pub entry_line : List TableEntry → ℕ → List ℕ
 entry_line table m = codes "  entry      " ++ entry_text (entry_for table m) ++ codes "\n"
 
 -- a literal with `{0}` behind its first k bytes; without an offset the literal alone
-abbrev pub with_place : List ℕ → Option ℕ → List ℕ
-with_place literal None = literal
-with_place literal (Some k) = take k literal ++ codes "{0}" ++ drop k literal
+abbrev pub with_placeholder : List ℕ → Option ℕ → List ℕ
+with_placeholder literal None = literal
+with_placeholder literal (Some k) = take k literal ++ codes "{0}" ++ drop k literal
 
 -- the line of a literal and an offset
-unfoldable pub placed_line : List ℕ → Option ℕ → List ℕ
-placed_line literal place = codes "  pattern    " ++ with_place literal place ++ codes "\n"
+unfoldable pub placeholder_line : List ℕ → Option ℕ → List ℕ
+placeholder_line literal placeholder = codes "  pattern    " ++ with_placeholder literal placeholder ++ codes "\n"
 
 -- a pattern, with `{0}` where the number stands
 unfoldable pub pattern_line : PatternText → List ℕ
-pattern_line p = placed_line p.literal p.placeholder
+pattern_line p = placeholder_line p.literal p.placeholder

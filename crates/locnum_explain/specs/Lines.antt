@@ -8,7 +8,7 @@ use Rattle.decimal_lines.specs.SingleText.{decimal_read}
 use Rattle.decimal_lines.specs.declared.single_text.TextError.{TextError}
 use Rattle.decimal_lines.specs.declared.single_text.TextError.TheVariants.{NotDecimal, TooManyDigits, Overflow, OutOfMemory}
 use Rattle.decimal_lines.specs.declared.mode.Mode.TheVariants.{Plain, Compact}
-use Rattle.locnum_forms.specs.Decimals.{decimal_written}
+use Rattle.locnum_forms.specs.Decimals.{shown_decimal}
 use Rattle.locnum_forms.specs.Forms.{FormData, form_events}
 use Rattle.locnum_forms.specs.declared.form.Formatter.{Formatter}
 use Rattle.locnum_forms.specs.declared.form.Formatter.TheVariants.{Numbers, Money, MoneyNamed, MoneyShort, Percent, Units}
@@ -53,8 +53,8 @@ fact_lines by formatter text read (Err error) = []
 -- what is written, with its parts, and what is said of the decimal that is written
 abbrev pub written_lines : Settings → FormData → List ℕ → List Event → List ℕ
 written_lines settings form text events =
-    marked_lines settings.width events (marks_of form.formatter events (decimal_written form text))
-    ++ fact_lines settings.digits form.formatter text (decimal_read text) (decimal_written form text)
+    marked_lines settings.width events (marks_of form.formatter events (shown_decimal form text))
+    ++ fact_lines settings.digits form.formatter text (decimal_read text) (shown_decimal form text)
 
 -- the text and what is written of it; or the text as notes show it, and why nothing is written
 abbrev pub outcome_lines : Settings → FormData → List ℕ → Result (List Event) TextError → List ℕ

@@ -6,7 +6,7 @@ use Rattle.fixed_decimal.specs.Unsigned.{Unsigned}
 use Rattle.fixed_decimal.specs.declared.signs.Sign.{Sign}
 use Rattle.fixed_decimal.specs.declared.signs.Sign.TheVariants.{None as NoSign}
 use Rattle.writeable.specs.Events.{Event}
-use Rattle.icu_decimal.specs.CompactFormat.{CompactFormat, FormattedCompact, given_events, significand_of}
+use Rattle.icu_decimal.specs.CompactFormat.{CompactFormat, FormattedCompact, events_with_exponent, significand_of}
 use Rattle.icu_dimension.specs.CompactMoney.{CompactMoney, formatter_of}
 use Rattle.icu_dimension.specs.Money.{sign_framed}
 use Rattle.decimal_lines.specs.Computed.{nearest_number}
@@ -18,12 +18,12 @@ use Rattle.locnum_forms.specs.declared.form.Formatter.TheVariants.{Numbers, Mone
 use Rattle.locnum_explain.specs.Compact.{has_entry}
 
 -- a compact number as `format_with_exponent` writes its significand and its exponent, with the number's parts
-abbrev pub given_marks : CompactFormat → Sign → FormattedCompact → List Event
-given_marks format sign number = given_events format sign (significand_of number) number.exponent
+abbrev pub marks_with_exponent : CompactFormat → Sign → FormattedCompact → List Event
+marks_with_exponent format sign number = events_with_exponent format sign (significand_of number) number.exponent
 
 -- that of the compact number nearest to d
 abbrev pub number_marks : CompactFormat → Sign → Unsigned → List Event
-number_marks format sign d = given_marks format sign (compacted format d (nearest_number format.table (size d)))
+number_marks format sign d = marks_with_exponent format sign (compacted format d (nearest_number format.table (size d)))
 
 -- that of an amount, whose sign stands in the patterns: in the pattern of money where no entry displays it
 abbrev pub amount_marks : CompactMoney → Sign → Unsigned → List Event

@@ -17,17 +17,17 @@ unfoldable pub written_line : List Event → List ℕ
 written_line events = codes "  pattern    " ++ text_of events ++ codes "\n"
 
 -- what stands in the place of the number
-abbrev pub number_place : List Event
-number_place = text_events (codes "{0}")
+abbrev pub number_placeholder : List Event
+number_placeholder = text_events (codes "{0}")
 
 -- the pattern of numbers of a sign
 abbrev pub signed_line : Signed → Sign → List ℕ
-signed_line patterns sign = written_line (sign_framed patterns sign number_place)
+signed_line patterns sign = written_line (sign_framed patterns sign number_placeholder)
 
 -- the pattern that a number picks among those with the name of a currency
 abbrev pub name_line : List Rule → Elements NameText → Unsigned → List ℕ
-name_line rules elements d = written_line (with_name (picked rules elements (operands_of d 0)) number_place)
+name_line rules elements d = written_line (with_name (picked rules elements (operands_of d 0)) number_placeholder)
 
 -- and among those with a unit
 abbrev pub unit_line : List Rule → Elements PatternText → Unsigned → List ℕ
-unit_line rules elements d = written_line (interpolated (picked rules elements (operands_of d 0)) number_place)
+unit_line rules elements d = written_line (interpolated (picked rules elements (operands_of d 0)) number_placeholder)

@@ -35,5 +35,5 @@ abbrev pub is_one_refused : FormData → List (List ℕ) → Bool
 is_one_refused form lines = list_any (is_line_refused form) lines
 
 -- the explanation of a text that stands somewhere, under a line that says where
-abbrev pub placed_explanation : Settings → FormData → List ℕ → List ℕ → List ℕ
-placed_explanation settings form place text = place ++ codes "\n" ++ form_explanation settings form text
+abbrev pub positioned_explanation : Settings → FormData → List ℕ → List ℕ → List ℕ
+positioned_explanation settings form position text = position ++ codes "\n" ++ form_explanation settings form text

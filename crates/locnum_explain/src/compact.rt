@@ -23,7 +23,7 @@ use std::alloc::{AllocError, Global};
 
 /// Appends the line of the pattern of an entry for a significand; of the number alone without an
 /// entry.
-#[tactic(auto, unfolding(crate::specs::Facts::pattern_line, crate::specs::Facts::placed_line))]
+#[tactic(auto, unfolding(crate::specs::Facts::pattern_line, crate::specs::Facts::placeholder_line))]
 fn push_pattern_at(
     formatter: &CompactDecimalFormatter,
     index: Option<usize>,
@@ -62,7 +62,7 @@ fn push_entry_lines(
 }
 
 /// Appends what a compact number is displayed by.
-fn push_displayed(
+fn push_decomposed(
     formatter: &CompactDecimalFormatter,
     number: &FormattedUnsignedCompactDecimal<'_>,
     out: &mut Vec<u8>,
@@ -121,7 +121,7 @@ pub(crate) fn push_compact(
     match formatter.format(alloc, decimal) {
         Ok(formatted) => {
             push_showable(alloc, formatter, &decimal.absolute, out)?;
-            push_displayed(formatter, formatted.value(), out)
+            push_decomposed(formatter, formatted.value(), out)
         }
         Err(FormatError::Overflow) => Ok(()),
         Err(FormatError::OutOfMemory | FormatError::Sink) => Err(AllocError),

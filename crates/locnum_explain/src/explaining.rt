@@ -4,7 +4,7 @@ ghost use Rattle.std.specs.Prelude.{◌≡◌, ◌≢◌, ◌++◌, IfOk, Ok, On
 ghost use Rattle.std.specs.Result.{is_err};
 ghost use Rattle.fixed_decimal.specs.Unsigned.{IsUnsigned};
 ghost use Rattle.decimal_lines.specs.SingleText.{decimal_read};
-ghost use Rattle.locnum_forms.specs.Decimals.{decimal_written};
+ghost use Rattle.locnum_forms.specs.Decimals.{shown_decimal};
 ghost use Rattle.locnum_forms.specs.Forms.{form_events, formatter_events};
 ghost use Rattle.locnum_forms.specs.Reported.{reported};
 ghost use Rattle.locnum_forms.specs.declared.form.Formatter.TheVariants.{MoneyNamed, Units};
@@ -17,11 +17,11 @@ use crate::operands::push_operands;
 use crate::patterns::{push_name, push_signed, push_unit};
 use crate::rounding::push_rounding;
 use crate::settings::{DigitsBy, Settings};
-use decimal_lines::Mode;
+use decimal_lines::{Mode, TextError};
 use fixed_decimal::Decimal;
 use icu_decimal::DecimalFormatter;
 use icu_dimension::{LongCurrencyFormatter, UnitsFormatter};
-use locnum_forms::{Form, Formatter, Prepared, TextError, push_reported};
+use locnum_forms::{Form, Formatter, Prepared, push_reported};
 use std::alloc::{AllocError, Global};
 use writeable::PartsText;
 
@@ -121,7 +121,7 @@ fn push_written(
 ) -> Result<(), AllocError>
     requires read { decimal_read text.now
         ≡ Ok (prepared.now.read.sign, prepared.now.read.absolute) }
-    requires written { decimal_written form.now text.now
+    requires written { shown_decimal form.now text.now
         ≡ Ok (prepared.now.written.sign, prepared.now.written.absolute) }
     ensures { OnOk result (out.new.items ≡ out.old.items
         ++ written_lines settings.now form.now text.now marked.now.events) }
@@ -156,7 +156,7 @@ fn explain_prepared(
 ) -> Result<bool, AllocError>
     requires read { decimal_read text.now
         ≡ Ok (prepared.now.read.sign, prepared.now.read.absolute) }
-    requires written { decimal_written form.now text.now
+    requires written { shown_decimal form.now text.now
         ≡ Ok (prepared.now.written.sign, prepared.now.written.absolute) }
     ensures lines { OnOk result (out.new.items ≡ out.old.items
         ++ outcome_lines settings.now form.now text.now (formatter_events form.now.formatter

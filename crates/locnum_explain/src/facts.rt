@@ -5,7 +5,7 @@ ghost use Rattle.fixed_decimal.specs.Size.{place};
 ghost use Rattle.fixed_decimal.specs.Unsigned.{IsUnsigned};
 ghost use Rattle.icu_decimal_data.specs.CompactTable.{IsIndex, entry_at};
 ghost use Rattle.icu_pattern.specs.Refs.{text_of_ref};
-ghost use Rattle.locnum_explain.specs.Facts.{entry_line, entry_text, fact, magnitude_line, pattern_line, placed_line, type_and_exponent, with_place};
+ghost use Rattle.locnum_explain.specs.Facts.{entry_line, entry_text, fact, magnitude_line, pattern_line, placeholder_line, type_and_exponent, with_placeholder};
 
 use fixed_decimal::UnsignedDecimal;
 use icu_decimal_data::CompactPatterns;
@@ -103,33 +103,35 @@ pub fn push_entry(
 }
 
 /// Appends a literal, with `{0}` behind that many of its first bytes.
-fn push_with_place(
+fn push_with_placeholder(
     literal: &[u8],
-    place: Option<usize>,
+    placeholder: Option<usize>,
     out: &mut Vec<u8>,
 ) -> Result<(), AllocError>
-    ensures { OnOk result (out.new.items ≡ out.old.items ++ with_place literal.now place) }
+    ensures { OnOk result (out.new.items ≡ out.old.items
+        ++ with_placeholder literal.now placeholder) }
 {
-    let Some(place) = place else {
+    let Some(placeholder) = placeholder else {
         return out.extend_from_slice(literal);
     };
-    let (before, behind) = literal.split_at(place.min(literal.len()));
+    let (before, behind) = literal.split_at(placeholder.min(literal.len()));
     out.extend_from_slice(before)?;
     out.extend_from_slice(b"{0}")?;
     out.extend_from_slice(behind)
 }
 
 /// Appends the line of a literal, with `{0}` behind that many of its first bytes.
-#[tactic(auto, unfolding(crate::specs::Facts::placed_line))]
-fn push_placed_line(
+#[tactic(auto, unfolding(crate::specs::Facts::placeholder_line))]
+fn push_placeholder_line(
     literal: &[u8],
-    place: Option<usize>,
+    placeholder: Option<usize>,
     out: &mut Vec<u8>,
 ) -> Result<(), AllocError>
-    ensures { OnOk result (out.new.items ≡ out.old.items ++ placed_line literal.now place) }
+    ensures { OnOk result (out.new.items ≡ out.old.items
+        ++ placeholder_line literal.now placeholder) }
 {
     out.extend_from_slice(b"  pattern    ")?;
-    push_with_place(literal, place, out)?;
+    push_with_placeholder(literal, placeholder, out)?;
     out.push(b'\n')?;
     Ok(())
 }
@@ -144,5 +146,5 @@ pub fn push_pattern(
     ensures { OnOk result (out.new.items ≡ out.old.items
         ++ pattern_line (text_of_ref pattern.entry)) }
 {
-    push_placed_line(pattern.literal().as_bytes(), pattern.place(), out)
+    push_placeholder_line(pattern.literal().as_bytes(), pattern.placeholder(), out)
 }

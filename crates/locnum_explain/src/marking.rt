@@ -2,7 +2,7 @@
 
 ghost use Rattle.std.specs.Prelude.{◌≡◌, ◌++◌, IfOk, List, OnOk, option_map, unwrap_or};
 ghost use Rattle.writeable.specs.Events.{Event};
-ghost use Rattle.icu_decimal.specs.CompactFormat.{given_events, significand_of};
+ghost use Rattle.icu_decimal.specs.CompactFormat.{events_with_exponent, significand_of};
 ghost use Rattle.icu_dimension_data.specs.Surrounding.{surrounded};
 ghost use Rattle.locnum_explain.specs.Lines.{marked_lines};
 ghost use Rattle.locnum_explain.specs.Marks.{amount_marks, marks_by, number_marks};
@@ -32,13 +32,13 @@ fn significand_of(
 }
 
 /// A significand with an exponent, as a compact formatter writes it with the number's parts.
-fn mark_given(
+fn mark_with_exponent(
     alloc: Global,
     formatter: &CompactDecimalFormatter,
     significand: &Decimal,
     exponent: u8,
 ) -> Result<PartsText, AllocError>
-    ensures { IfOk result (λ text. text.events ≡ given_events formatter.now
+    ensures { IfOk result (λ text. text.events ≡ events_with_exponent formatter.now
         significand.now.sign significand.now.absolute exponent) }
 {
     let Ok(given) = formatter.format_with_exponent(significand, exponent) else {
@@ -60,7 +60,8 @@ fn mark_framed<'a>(
     pattern: SignedPattern<'a>,
 ) -> Result<PartsText, AllocError>
     ensures { IfOk result (λ text. text.events ≡ surrounded pattern.entry
-        (given_events formatter.now significand.now.sign significand.now.absolute exponent)) }
+        (events_with_exponent formatter.now significand.now.sign significand.now.absolute
+        exponent)) }
 {
     let Ok(given) = formatter.format_with_exponent(significand, exponent) else {
         return Err(AllocError);
@@ -86,7 +87,7 @@ fn mark_number(
     };
     let number = formatted.value();
     let significand = significand_of(alloc, decimal.sign, number)?;
-    mark_given(alloc, formatter, &significand, number.exponent())
+    mark_with_exponent(alloc, formatter, &significand, number.exponent())
 }
 
 /// The compact amount nearest to a decimal.
@@ -105,7 +106,7 @@ fn mark_amount(
     let number = formatted.value();
     let significand = significand_of(alloc, Sign::None, number)?;
     if money.has_entry(decimal.sign, number) {
-        return mark_given(alloc, formatter, &significand, number.exponent());
+        return mark_with_exponent(alloc, formatter, &significand, number.exponent());
     }
     let pattern = money.patterns().for_sign(decimal.sign);
     mark_framed(alloc, formatter, &significand, number.exponent(), pattern)

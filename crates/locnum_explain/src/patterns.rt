@@ -12,7 +12,7 @@ use std::alloc::{AllocError, Global};
 use writeable::Writeable;
 
 /// What stands in the place of the number.
-const NUMBER_PLACE: &str = "{0}";
+const NUMBER_PLACEHOLDER: &str = "{0}";
 
 /// Appends the line of a pattern, by what it writes.
 #[tactic(auto, unfolding(crate::specs::Patterns::written_line))]
@@ -44,7 +44,7 @@ pub(crate) fn push_signed(
 {
     push_written(
         alloc,
-        &patterns.for_sign(sign).interpolate(NUMBER_PLACE),
+        &patterns.for_sign(sign).interpolate(NUMBER_PLACEHOLDER),
         out,
     )
 }
@@ -61,7 +61,7 @@ pub(crate) fn push_name(
 {
     let operands = PluralOperands::from_significand_and_exponent(value, 0);
     let pattern = formatter.elements().get(operands, formatter.plural_rules());
-    push_written(alloc, &pattern.interpolate(NUMBER_PLACE), out)
+    push_written(alloc, &pattern.interpolate(NUMBER_PLACEHOLDER), out)
 }
 
 /// Appends the pattern that a number picks among those with a unit.
@@ -76,5 +76,5 @@ pub(crate) fn push_unit(
 {
     let operands = PluralOperands::from_significand_and_exponent(value, 0);
     let pattern = formatter.elements().get(operands, formatter.plural_rules());
-    push_written(alloc, &pattern.interpolate(NUMBER_PLACE), out)
+    push_written(alloc, &pattern.interpolate(NUMBER_PLACEHOLDER), out)
 }

@@ -1,7 +1,7 @@
 //! Lines with a number each, explained.
 
 ghost use Rattle.std.specs.Prelude.{◌≡◌, ◌++◌, ◌&&◌, IfOk, OnOk, map};
-ghost use Rattle.locnum_explain.specs.Texts.{is_line_refused, is_one_refused, line_explained, lines_explained, placed_explanation, trimmed};
+ghost use Rattle.locnum_explain.specs.Texts.{is_line_refused, is_one_refused, line_explained, lines_explained, positioned_explanation, trimmed};
 ghost use Rattle.std.specs.Result.{is_err};
 ghost use Rattle.locnum_forms.specs.Forms.{form_events};
 
@@ -76,15 +76,15 @@ pub fn explain_at(
     alloc: Global,
     settings: &Settings<'_>,
     form: &Form,
-    place: &[u8],
+    position: &[u8],
     text: &[u8],
     out: &mut Vec<u8>,
 ) -> Result<bool, AllocError>
     ensures lines { OnOk result (out.new.items ≡ out.old.items
-        ++ placed_explanation settings.now form.now place.now text.now) }
+        ++ positioned_explanation settings.now form.now position.now text.now) }
     ensures refused { IfOk result (λ r. r ≡ is_err (form_events form.now text.now)) }
 {
-    out.extend_from_slice(place)?;
+    out.extend_from_slice(position)?;
     out.push(b'\n')?;
     explain(alloc, settings, form, text, out)
 }

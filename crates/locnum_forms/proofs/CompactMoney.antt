@@ -10,13 +10,13 @@ use Rattle.writeable.specs.Events.{Event}
 use Rattle.icu_decimal_data.specs.CompactTable.{exponent_of}
 use Rattle.icu_decimal.specs.CompactFormat.{CompactFormat, FilledNumber, FormattedCompact, IsCompacted, filled_by, significand_of}
 use Rattle.icu_decimal.specs.CompactNumber.{ShowsPastLimits}
-use Rattle.icu_decimal.specs.Displayed.{displayed_entry}
+use Rattle.icu_decimal.specs.Decomposed.{decomposed_entry}
 use Rattle.icu_decimal.specs.NearestLemmas.{nearest_compact_same}
 use Rattle.icu_dimension.specs.CompactMoney.{CompactMoney, compact_events, formatter_of}
 use Rattle.decimal_lines.specs.Computed.{nearest_number, significand_shown}
 use Rattle.decimal_lines.specs.declared.single_text.TextError.{TextError}
 use Rattle.decimal_lines.specs.declared.single_text.TextError.TheVariants.{Overflow}
-use Rattle.decimal_lines.proofs.Displaying.{displayed-told, number-nearest, past-number}
+use Rattle.decimal_lines.proofs.Displaying.{decomposed-told, number-nearest, past-number}
 use Rattle.locnum_forms.specs.CompactMoney.{compact_money_events, compacted}
 
 -- the compact number that `format` makes of d is the computed one
@@ -24,12 +24,12 @@ pub compacted-told : (format : CompactFormat) (d : Unsigned) (number : Formatted
     → compacted format d (nearest_number format.table (size d)) ≡ number
 compacted-told format d number is =
     let near : is.shown ≡ nearest_number format.table (size d) =
-    nearest_compact_same format.table (size d) (nearest_number format.table (size d)) is.shown (number-nearest format.table (size d)) is.displayed.nearest in
-    let filled : filled_by format (displayed_entry format.table is.shown) (significand_shown format.table d is.shown) ≡ number.filled =
-    ap (filled_by format (displayed_entry format.table is.shown)) (displayed-told format.table d is.shown is.entry (significand_of number) is.displayed)
-    ∙ ap (λ o. filled_by format o (significand_of number)) (sym is.displayed.entry_is) ∙ sym is.filled_is in
-    let exponent : exponent_of (displayed_entry format.table is.shown) ≡ number.exponent =
-    ap exponent_of (sym is.displayed.entry_is) ∙ sym is.exponent_is in
+    nearest_compact_same format.table (size d) (nearest_number format.table (size d)) is.shown (number-nearest format.table (size d)) is.decomposed.nearest in
+    let filled : filled_by format (decomposed_entry format.table is.shown) (significand_shown format.table d is.shown) ≡ number.filled =
+    ap (filled_by format (decomposed_entry format.table is.shown)) (decomposed-told format.table d is.shown is.entry (significand_of number) is.decomposed)
+    ∙ ap (λ o. filled_by format o (significand_of number)) (sym is.decomposed.entry_is) ∙ sym is.filled_is in
+    let exponent : exponent_of (decomposed_entry format.table is.shown) ≡ number.exponent =
+    ap exponent_of (sym is.decomposed.entry_is) ∙ sym is.exponent_is in
     let made : FilledNumber → ℕ → FormattedCompact = λ f e. record { filled = f; exponent = e } in
     ap (compacted format d) (sym near) ∙ ap₂ made filled exponent
 

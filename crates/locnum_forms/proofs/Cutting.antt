@@ -10,7 +10,7 @@ use Rattle.std.proofs.lemmas.Int.{ints, clamps}
 use Rattle.std.proofs.Math.Nat.{mul-mod_left}
 use Rattle.fixed_decimal.specs.Modes.{IsLeastFrom}
 use Rattle.fixed_decimal.specs.Nearest.{IsMultiple, IsNearest}
-use Rattle.fixed_decimal.specs.Padding.{IsWrittenWith}
+use Rattle.fixed_decimal.specs.Padding.{IsExactWith}
 use Rattle.fixed_decimal.specs.Rounding.{IsRounded, RoundsPastLimits}
 use Rattle.fixed_decimal.specs.Size.{finest, magnitude, size, ten_to, weighed}
 use Rattle.fixed_decimal.specs.Unsigned.{Unsigned, IsUnsigned, high, integer_count}
@@ -19,7 +19,7 @@ use Rattle.fixed_decimal.proofs.Magnitudes.{place_is, size_lt}
 use Rattle.fixed_decimal.proofs.Nearness.{nearest-unique}
 use Rattle.fixed_decimal.proofs.Rounds.{finest_large}
 use Rattle.fixed_decimal.proofs.Weights.{ten_mono, ten_pos, weighed_units}
-use Rattle.icu_decimal.proofs.DisplayedOnce.{digits_by_weight}
+use Rattle.icu_decimal.proofs.DecomposedOnce.{digits_by_weight}
 use Rattle.decimal_lines.specs.Computed.{count_up_to, digits_from, rounded_units, scale_of}
 use Rattle.decimal_lines.specs.SingleText.{IsRefusal}
 use Rattle.decimal_lines.specs.declared.single_text.TextError.{TextError}
@@ -133,7 +133,7 @@ module _ (least most : ℕ) (d : Unsigned) where
         (shown-told least d y rounded cut.valid cut.size_is cut.count_is (omega (arith, cut.scale_is, few)))
 
     -- as many digits as it needs below power 0, and the least at least
-    written : scale_of rounded ≤ 32768 → IsWrittenWith rounded (max least (scale_of rounded))
+    written : scale_of rounded ≤ 32768 → IsExactWith rounded (max least (scale_of rounded))
     written small = more (ten_multiple (finest - max least (scale_of rounded)) (finest - scale_of rounded) (omega arith))
         (rounded / 10 ^ (finest - scale_of rounded), whole)
       where
@@ -152,16 +152,16 @@ module _ (least most : ℕ) (d : Unsigned) where
         whole = let none = scale_of-enough rounded fits in omega (arith, none, ten_pos (finest - scale_of rounded))
 
         more : IsMultiple (unit (max least (scale_of rounded))) (unit (scale_of rounded)) → IsMultiple (unit (scale_of rounded)) rounded
-            → IsWrittenWith rounded (max least (scale_of rounded))
+            → IsExactWith rounded (max least (scale_of rounded))
         more (r, e) (q, f) = (q * r, f ∙ ap (λ u. q * u) e ∙ sym (mul_assoc q r (unit (max least (scale_of rounded)))))
 
     -- with as few as it needs, and the least at least
     pub with-shortened : (u : Unsigned) → IsUnsigned u → size u ≡ size y
         → high u ≡ int_max (int_max (pos 0) (pos (integer_count y) -ℤ pos 1)) (magnitude (size y))
-        → IsLeastFrom (IsWrittenWith (size y)) least u.scale → with_fraction least most d ≡ Ok u
+        → IsLeastFrom (IsExactWith (size y)) least u.scale → with_fraction least most d ≡ Ok u
     with-shortened u valid same top scale =
-        let needed : IsLeastFrom (IsWrittenWith rounded) least u.scale =
-        subst (λ (x : ℕ). IsLeastFrom (IsWrittenWith x) least u.scale) cut.size_is scale in
+        let needed : IsLeastFrom (IsExactWith rounded) least u.scale =
+        subst (λ (x : ℕ). IsLeastFrom (IsExactWith x) least u.scale) cut.size_is scale in
         let low : scale_of rounded ≤ u.scale = scale_of-at_most rounded u.scale needed.allowed in
         let small : u.scale ≤ max least (scale_of rounded) =
         needed.least (max least (scale_of rounded)) (written (omega (arith, low, valid.low_limit))) (omega arith) in

@@ -4,4 +4,4 @@ pub mod Served
 pub mod WrittenForms
 pub mod WrittenTexts
 pub mod ServedAll
-pub mod ShownTexts
+pub mod VisibleTexts

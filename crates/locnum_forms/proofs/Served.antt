@@ -12,7 +12,7 @@ use Rattle.decimal_lines.specs.ModeOfTables.{compact_options, plain_options}
 use Rattle.decimal_lines.proofs.OneLocale.{and_then_both, compact_loaded, loaded_same}
 use Rattle.locnum_forms.specs.Forms.{FormData}
 use Rattle.locnum_forms.specs.Loaded.{long_loaded, plain_loaded, short_loaded}
-use Rattle.locnum_forms.specs.Making.{Stops, read_then, start_error, started, table_error, with_tables}
+use Rattle.locnum_forms.specs.Making.{StopsForm, read_then, start_error, started, table_error, with_tables}
 use Rattle.locnum_forms.specs.Wanted.{WantedData}
 use Rattle.locnum_forms.specs.declared.error.StartError.{StartError}
 
@@ -42,7 +42,7 @@ with_tables-for locale text kept load (all, read, answers) same = ap (λ (r : Re
 
 -- a rejected text makes nothing
 pub fails-stops : {X : Type 0} (e : TableError) (read : Result X TableError) (next : X → Result FormData StartError) → Fails e read
-    → Stops (table_error e) (read_then read next)
+    → StopsForm (table_error e) (read_then read next)
 fails-stops table.NotJson read next is = ap (λ r. read_then r next) is
 fails-stops table.Float read next is = ap (λ r. read_then r next) is
 fails-stops (table.Missing key) read next is = ap (λ r. read_then r next) is
@@ -52,7 +52,7 @@ fails-stops table.OutOfMemory read next is = tt
 
 -- why there is no form if the tables reject
 pub refuses-stops : (kind : DataErrorKind) (context : List ℕ) (answer : Result FormData Refusal) → Refuses kind context answer
-    → Stops (start_error kind) (started answer)
+    → StopsForm (start_error kind) (started answer)
 refuses-stops refusal.IdentifierNotFound context answer is = ap started is
 refuses-stops refusal.MarkerNotFound context answer is = ap started is
 refuses-stops refusal.InvalidRequest context answer is = ap started is

@@ -14,8 +14,8 @@ use Rattle.icu_decimal.specs.declared.error.FormatError.{FormatError}
 use Rattle.icu_decimal.specs.declared.error.FormatError.TheVariants as format
 use Rattle.icu_dimension.specs.Money.{SignedFormat, money_events}
 use Rattle.icu_dimension.specs.Percent.{hundredfold}
-use Rattle.decimal_lines.specs.SingleText.{WroteShown}
-use Rattle.decimal_lines.specs.LineAnswers.{is_within_limits}
+use Rattle.decimal_lines.specs.SingleText.{WroteEvents}
+use Rattle.decimal_lines.specs.LineResults.{is_within_limits}
 use Rattle.decimal_lines.specs.declared.single_text.TextError.{TextError}
 use Rattle.decimal_lines.specs.declared.single_text.TextError.TheVariants.{OutOfMemory, Overflow}
 use Rattle.decimal_lines.proofs.Answering.{is_within-limits, limits-is_within}
@@ -41,12 +41,12 @@ pub shown-written : {K N : Type 0} (wrote : K → Result (Unit {0}) WriteFault �
     (written : Result (Unit {0}) FormatError) (Such : N → Type 0) (text : N → List Event) (shown : Result (List Event) TextError)
     (result : Result (Unit {0}) TextError) → result ≡ written_or written → (IsOk written → IsOk shown)
     → ((n : N) → Such n → IsOk shown → shown ≡ Ok (text n))
-    → (IsErrOf written format.Overflow → shown ≡ Err Overflow) → WroteSuch wrote k written Such text l → WroteShown wrote k result shown l
+    → (IsErrOf written format.Overflow → shown ≡ Err Overflow) → WroteSuch wrote k written Such text l → WroteEvents wrote k result shown l
 shown-written {K} {N} wrote k l written Such text shown result is some fits past w =
-    subst (λ (r : Result (Unit {0}) TextError). WroteShown wrote k r shown l) (sym is) (go written some past w)
+    subst (λ (r : Result (Unit {0}) TextError). WroteEvents wrote k r shown l) (sym is) (go written some past w)
   where
     go : (r : Result (Unit {0}) FormatError) → (IsOk r → IsOk shown) → (IsErrOf r format.Overflow → shown ≡ Err Overflow)
-        → WroteSuch wrote k r Such text l → WroteShown wrote k (written_or r) shown l
+        → WroteSuch wrote k r Such text l → WroteEvents wrote k (written_or r) shown l
     go (Ok x) some past (n, such, w) = (text n, fits n such (some refl), w)
     go (Err format.Overflow) some past same = (inr (past refl), inl same)
     go (Err format.OutOfMemory) some past same = (inl refl, inl same)
@@ -56,7 +56,7 @@ shown-written {K} {N} wrote k l written Such text shown result is some fits past
 pub plain-written : {K : Type 0} (wrote : K → Result (Unit {0}) WriteFault → List Event → K → Type 0) (k l : K)
     (written : Result (Unit {0}) FormatError) (text : Shown → List Event) (shown : Shown) (result : Result (Unit {0}) TextError)
     → result ≡ written_or written → (IsErrOf written format.Overflow → ⊥) → WroteSuch wrote k written (λ n. n ≡ shown) text l
-    → WroteShown wrote k result (Ok (text shown)) l
+    → WroteEvents wrote k result (Ok (text shown)) l
 plain-written wrote k l written text shown result is no_overflow w = shown-written wrote k l written (λ n. n ≡ shown) text (Ok (text shown)) result
     is (λ some. refl) (λ n same some. ap (λ (m : Shown). Ok (text m)) (sym same)) (λ over. absurd (no_overflow over)) w
 

@@ -4,13 +4,13 @@ use Rattle.fixed_decimal.specs.declared.signs.Sign.{Sign}
 use Rattle.fixed_decimal.specs.Unsigned.{Unsigned}
 use Rattle.decimal_lines.specs.SingleText.{IsRefusal, decimal_read}
 use Rattle.decimal_lines.specs.declared.single_text.TextError.{TextError}
-use Rattle.locnum_forms.specs.Decimals.{decimal_written, events_at, rounded_decimal, signed_decimal}
+use Rattle.locnum_forms.specs.Decimals.{shown_decimal, events_at, rounded_decimal, signed_decimal}
 use Rattle.locnum_forms.specs.Forms.{FormData, digits_moved, form_events, read_events, rounded_events}
 use Rattle.locnum_forms.specs.Fractions.{in_range}
 
 module _ (form : FormData) (text : List ℕ) where
-  pub form_events-at : form_events form text ≡ events_at form.formatter (decimal_written form text)
-  unfolding form_events decimal_written
+  pub form_events-at : form_events form text ≡ events_at form.formatter (shown_decimal form text)
+  unfolding form_events shown_decimal
   form_events-at = go (decimal_read text)
     where
       signed : (sign : Sign) (rounded : Result Unsigned TextError)
@@ -23,6 +23,6 @@ module _ (form : FormData) (text : List ℕ) where
       go (Err error) = refl
 
   -- where no decimal is written, nothing is
-  pub form_events-refused : (error : TextError) → IsRefusal (decimal_written form text) error → IsRefusal (form_events form text) error
+  pub form_events-refused : (error : TextError) → IsRefusal (shown_decimal form text) error → IsRefusal (form_events form text) error
   form_events-refused error (inl memory) = inl memory
   form_events-refused error (inr is) = inr (form_events-at ∙ ap (events_at form.formatter) is)

@@ -12,12 +12,12 @@ abbrev pub is_hidden : ℕ → Bool
 is_hidden c = nat_lt c 32 || is_between 0x7f 0x9f c || c == 0x61c || is_between 0x200e 0x200f c || is_between 0x2028 0x202e c || is_between 0x2066 0x2069 c
 
 -- the character that is shown in the place of one: a question mark for such a character
-unfoldable pub shown : ℕ → ℕ
-shown c = if is_hidden c then 63 else c
+unfoldable pub visible : ℕ → ℕ
+visible c = if is_hidden c then 63 else c
 
 -- the bytes of characters as they are shown
-unfoldable pub shown_text : List ℕ → List ℕ
-shown_text cs = encode_utf8_all (map shown cs)
+unfoldable pub visible_text : List ℕ → List ℕ
+visible_text cs = encode_utf8_all (map visible cs)
 
 -- a byte of a text that isn't UTF-8, as a character: itself where it is ASCII, else a question mark
 abbrev pub from_byte : ℕ → ℕ

@@ -6,7 +6,7 @@ use Rattle.fixed_decimal.specs.Unsigned.{Unsigned}
 use Rattle.writeable.specs.Events.{Event}
 use Rattle.icu_decimal_data.specs.CompactTable.{exponent_of}
 use Rattle.icu_decimal.specs.CompactFormat.{CompactFormat, FormattedCompact, filled_by}
-use Rattle.icu_decimal.specs.Displayed.{displayed_entry}
+use Rattle.icu_decimal.specs.Decomposed.{decomposed_entry}
 use Rattle.icu_dimension_data.specs.Resolved.{Signed}
 use Rattle.icu_dimension.specs.CompactMoney.{CompactMoney, compact_events, formatter_of}
 use Rattle.decimal_lines.specs.Computed.{nearest_number, significand_shown}
@@ -16,8 +16,8 @@ use Rattle.decimal_lines.specs.declared.single_text.TextError.TheVariants.{Overf
 -- the compact number by which d is displayed as the size y
 abbrev pub compacted : CompactFormat → Unsigned → ℕ → FormattedCompact
 compacted format d y = record {
-  filled = filled_by format (displayed_entry format.table y) (significand_shown format.table d y);
-  exponent = exponent_of (displayed_entry format.table y);
+  filled = filled_by format (decomposed_entry format.table y) (significand_shown format.table d y);
+  exponent = exponent_of (decomposed_entry format.table y);
 }
 
 -- what a compact formatter writes for the compact number nearest to d, in the pattern of money of the sign where no entry displays it;

@@ -2,7 +2,7 @@
 use Rattle.std.specs.Prelude.{◌==◌, ℕ, List, Result, Ok, Err}
 use Rattle.fixed_decimal.specs.declared.signs.Sign.{Sign}
 use Rattle.fixed_decimal.specs.declared.signs.SignDisplay.{SignDisplay}
-use Rattle.fixed_decimal.specs.SignDisplay.{displayed_sign}
+use Rattle.fixed_decimal.specs.SignDisplay.{sign_by_display}
 use Rattle.fixed_decimal.specs.Size.{size}
 use Rattle.fixed_decimal.specs.Unsigned.{Unsigned}
 use Rattle.writeable.specs.Events.{Event}
@@ -14,7 +14,7 @@ use Rattle.locnum_forms.specs.declared.form.Formatter.{Formatter}
 
 -- a rounded number with the sign of its text, where that is shown, which depends on the rounded number
 abbrev pub signed_decimal : SignDisplay → Sign → Result Unsigned TextError → Result (Sign × Unsigned) TextError
-signed_decimal display sign (Ok d) = Ok (displayed_sign display (size d == 0) sign, d)
+signed_decimal display sign (Ok d) = Ok (sign_by_display display (size d == 0) sign, d)
 signed_decimal display sign (Err error) = Err error
 
 -- the decimal that is written for what was read
@@ -23,8 +23,8 @@ rounded_decimal form (Ok (sign, d)) = signed_decimal form.sign sign (in_range (d
 rounded_decimal form (Err error) = Err error
 
 -- the decimal that is written for a text
-unfoldable pub decimal_written : FormData → List ℕ → Result (Sign × Unsigned) TextError
-decimal_written form text = rounded_decimal form (decimal_read text)
+unfoldable pub shown_decimal : FormData → List ℕ → Result (Sign × Unsigned) TextError
+shown_decimal form text = rounded_decimal form (decimal_read text)
 
 -- what a formatter writes for the decimal that is written
 abbrev pub events_at : Formatter → Result (Sign × Unsigned) TextError → Result (List Event) TextError

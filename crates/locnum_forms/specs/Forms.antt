@@ -2,7 +2,7 @@
 use Rattle.std.specs.Prelude.{ℕ, ◌==◌, List, Option, Result, Ok, Err, if◌then◌else◌}
 use Rattle.fixed_decimal.specs.declared.signs.Sign.{Sign}
 use Rattle.fixed_decimal.specs.declared.signs.SignDisplay.{SignDisplay}
-use Rattle.fixed_decimal.specs.SignDisplay.{displayed_sign}
+use Rattle.fixed_decimal.specs.SignDisplay.{sign_by_display}
 use Rattle.fixed_decimal.specs.Size.{size}
 use Rattle.fixed_decimal.specs.Unsigned.{Unsigned}
 use Rattle.writeable.specs.Events.{Event}
@@ -13,7 +13,7 @@ use Rattle.icu_dimension.specs.Names.{names_events}
 use Rattle.icu_dimension.specs.Percent.{hundredfold}
 use Rattle.icu_dimension.specs.Units.{units_events}
 use Rattle.decimal_lines.specs.SingleText.{decimal_read, mode_events}
-use Rattle.decimal_lines.specs.LineAnswers.{is_within_limits}
+use Rattle.decimal_lines.specs.LineResults.{is_within_limits}
 use Rattle.decimal_lines.specs.declared.single_text.TextError.{TextError}
 use Rattle.decimal_lines.specs.declared.single_text.TextError.TheVariants.{Overflow}
 use Rattle.locnum_forms.specs.CompactMoney.{compact_money_events}
@@ -56,7 +56,7 @@ formatter_events (Units format) sign d =
 
 -- what is written for a rounded number and the sign of its text: whether the sign is shown depends on the rounded number
 abbrev pub rounded_events : FormData → Sign → Result Unsigned TextError → Result (List Event) TextError
-rounded_events form sign (Ok d) = formatter_events form.formatter (displayed_sign form.sign (size d == 0) sign) d
+rounded_events form sign (Ok d) = formatter_events form.formatter (sign_by_display form.sign (size d == 0) sign) d
 rounded_events form sign (Err error) = Err error
 
 -- what is written for what was read

@@ -119,7 +119,7 @@ money_loaded wanted code options is_cash tables dimension =
 unfoldable pub names_loaded : WantedData → List ℕ → TablesData → DimensionData → Result (PluralFormat DecimalFormat NameText) Refusal
 names_loaded wanted code tables dimension =
     loaded_plural (symbols_for_money tables dimension) (system_digits tables) (optional_answer tables.rules)
-    (names_answer dimension.places dimension.symbols) (preferences wanted) code (plain_options wanted.grouping)
+    (names_answer dimension.placeholders dimension.symbols) (preferences wanted) code (plain_options wanted.grouping)
     (λ f r x. record { formatter = f; rules = r; elements = x })
 
 -- amounts with the name of a currency

@@ -17,16 +17,16 @@ use Rattle.locnum_forms.specs.declared.error.StartError.TheVariants as start
 use Rattle.locnum_forms.specs.declared.wanted.Kind.TheVariants.{Plain, Short, Long, Money, MoneyNamed, MoneyShort, Percent, Unit as WithUnit}
 
 -- There is no form for this reason; `OutOfMemory` may be reported in place of any result.
-abbrev pub Stops : {X : Type 0} → StartError → Result X StartError → Type 0
-Stops start.NotUtf8 made = made ≡ Err start.NotUtf8
-Stops (start.Refused e) made = made ≡ Err (start.Refused e)
-Stops start.NoData made = made ≡ Err start.NoData
-Stops start.OutOfMemory made = Unit {0}
+abbrev pub StopsForm : {X : Type 0} → StartError → Result X StartError → Type 0
+StopsForm start.NotUtf8 made = made ≡ Err start.NotUtf8
+StopsForm (start.Refused e) made = made ≡ Err (start.Refused e)
+StopsForm start.NoData made = made ≡ Err start.NoData
+StopsForm start.OutOfMemory made = Unit {0}
 
 -- The result of a call is this; `OutOfMemory` may be reported in place of any result.
-abbrev pub Starts : {X : Type 0} → Result X StartError → Result X StartError → Type 0
-Starts (Ok x) made = made ≡ Ok x
-Starts (Err e) made = Stops e made
+abbrev pub StartsForm : {X : Type 0} → Result X StartError → Result X StartError → Type 0
+StartsForm (Ok x) made = made ≡ Ok x
+StartsForm (Err e) made = StopsForm e made
 
 -- why there is no form if the tables reject
 abbrev pub start_error : DataErrorKind → StartError

@@ -3,7 +3,7 @@ use Rattle.std.specs.Prelude.{ℕ, ◌-◌, nat_le, List, ◌++◌, length, map,
 use Rattle.std.specs.Char.{is_ascii_whitespace}
 use Rattle.std.specs.List.{list_all}
 use Rattle.std.specs.Str.{chars, is_utf8}
-use Rattle.locnum_forms.specs.Characters.{from_byte, shown_text}
+use Rattle.locnum_forms.specs.Characters.{from_byte, visible_text}
 
 -- how long a text is that is cut
 unfoldable pub length_text : ℕ → List ℕ
@@ -16,8 +16,8 @@ part_from start count cs = take count (drop start cs)
 -- at most 60 characters; of more the first 28, the last 28, and how many they are
 unfoldable pub shortened : List ℕ → List ℕ
 shortened cs =
-    if nat_le (length cs) 60 then shown_text cs
-    else shown_text (part_from 0 28 cs) ++ codes ".." ++ shown_text (part_from (length cs - 28) 28 cs) ++ length_text (length cs)
+    if nat_le (length cs) 60 then visible_text cs
+    else visible_text (part_from 0 28 cs) ++ codes ".." ++ visible_text (part_from (length cs - 28) 28 cs) ++ length_text (length cs)
 
 -- the characters of a text: those of UTF-8, or where it isn't UTF-8 one for each byte
 abbrev pub characters : List ℕ → List ℕ

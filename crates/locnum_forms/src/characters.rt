@@ -2,7 +2,7 @@
 
 ghost use Rattle.std.specs.Prelude.{◌≡◌, ◌<◌, ◌++◌, OnOk, chars, drop, map, take};
 ghost use Rattle.std.specs.Char.{encode_utf8};
-ghost use Rattle.locnum_forms.specs.Characters.{from_byte, is_hidden, shown, shown_text};
+ghost use Rattle.locnum_forms.specs.Characters.{from_byte, is_hidden, visible, visible_text};
 
 use std::alloc::AllocError;
 
@@ -22,19 +22,19 @@ fn is_hidden(character: char) -> bool
 }
 
 /// The character that is shown in the place of one.
-#[tactic(auto, unfolding(crate::specs::Characters::shown))]
-fn shown(character: char) -> char
-    ensures { result ≡ shown character }
+#[tactic(auto, unfolding(crate::specs::Characters::visible))]
+fn visible(character: char) -> char
+    ensures { result ≡ visible character }
 {
     if is_hidden(character) { '?' } else { character }
 }
 
 /// Appends a character as it is shown.
 fn push_character(character: char, out: &mut Vec<u8>) -> Result<(), AllocError>
-    ensures { OnOk result (out.new.items ≡ out.old.items ++ encode_utf8 (shown character)) }
+    ensures { OnOk result (out.new.items ≡ out.old.items ++ encode_utf8 (visible character)) }
 {
     let mut room = [0; 4];
-    out.extend_from_slice(shown(character).encode_utf8(&mut room).as_bytes())
+    out.extend_from_slice(visible(character).encode_utf8(&mut room).as_bytes())
 }
 
 /// Appends that many characters of a text from one on.
@@ -45,7 +45,7 @@ pub(crate) fn push_characters(
     out: &mut Vec<u8>,
 ) -> Result<(), AllocError>
     ensures { OnOk result (out.new.items ≡ out.old.items
-        ++ shown_text (take count (drop start (chars text.now)))) }
+        ++ visible_text (take count (drop start (chars text.now)))) }
 {
     for character in text.chars().skip(start).take(count) {
         push_character(character, out)?;
@@ -54,20 +54,21 @@ pub(crate) fn push_characters(
 }
 
 /// The byte that is shown in the place of one, where bytes aren't UTF-8.
-#[tactic(auto, unfolding(crate::specs::Characters::shown))]
-fn shown_byte(byte: u8) -> u8
+#[tactic(auto, unfolding(crate::specs::Characters::visible))]
+fn visible_byte(byte: u8) -> u8
     ensures small { result < 128 }
-    ensures value { result ≡ shown (from_byte byte) }
+    ensures value { result ≡ visible (from_byte byte) }
 {
     if byte < 32 || byte >= 127 { b'?' } else { byte }
 }
 
 /// Appends bytes that aren't UTF-8.
 pub(crate) fn push_bytes(bytes: &[u8], out: &mut Vec<u8>) -> Result<(), AllocError>
-    ensures { OnOk result (out.new.items ≡ out.old.items ++ shown_text (map from_byte bytes.now)) }
+    ensures { OnOk result (out.new.items ≡ out.old.items
+        ++ visible_text (map from_byte bytes.now)) }
 {
     for byte in bytes {
-        out.push(shown_byte(*byte))?;
+        out.push(visible_byte(*byte))?;
     }
     Ok(())
 }

@@ -20,7 +20,7 @@ pub struct Prepared {
 impl Form {
     ghost use Rattle.std.specs.Prelude.{◌≡◌, Ok, IfErr, IfOk};
     ghost use Rattle.decimal_lines.specs.SingleText.{IsRefusal, decimal_read};
-    ghost use Rattle.locnum_forms.specs.Decimals.{decimal_written, rounded_decimal};
+    ghost use Rattle.locnum_forms.specs.Decimals.{shown_decimal, rounded_decimal};
 
     /// What writes numbers whose digits and sign are given (this project's own).
     pub fn formatter(&self) -> &Formatter
@@ -49,12 +49,12 @@ impl Form {
     /// are rounded by what writes them, and not here.
     // promise: It is the decimal that is written, rounded, with its sign.
     // mutations: decimal_with_its_own_sign
-    #[tactic(auto, unfolding(crate::specs::Decimals::decimal_written))]
+    #[tactic(auto, unfolding(crate::specs::Decimals::shown_decimal))]
     pub fn decimal(&self, alloc: Global, text: &[u8]) -> Result<Decimal, TextError>
         ensures ok { IfOk result (λ d.
-            decimal_written self.now text.now ≡ Ok (d.sign, d.absolute)) }
+            shown_decimal self.now text.now ≡ Ok (d.sign, d.absolute)) }
         ensures refused { IfErr result (λ error.
-            IsRefusal (decimal_written self.now text.now) error) }
+            IsRefusal (shown_decimal self.now text.now) error) }
     {
         let decimal = read_decimal(alloc, text)?;
         self.rounded(alloc, decimal)
@@ -62,14 +62,14 @@ impl Form {
 
     /// The decimal of a text and the decimal that is written for it (this project's own), for
     /// callers that need both: the text is read once, and its number is rounded once.
-    #[tactic(auto, unfolding(crate::specs::Decimals::decimal_written))]
+    #[tactic(auto, unfolding(crate::specs::Decimals::shown_decimal))]
     pub fn prepare(&self, alloc: Global, text: &[u8]) -> Result<Prepared, TextError>
         ensures read { IfOk result (λ p.
             decimal_read text.now ≡ Ok (p.read.sign, p.read.absolute)) }
         ensures written { IfOk result (λ p.
-            decimal_written self.now text.now ≡ Ok (p.written.sign, p.written.absolute)) }
+            shown_decimal self.now text.now ≡ Ok (p.written.sign, p.written.absolute)) }
         ensures refused { IfErr result (λ error.
-            IsRefusal (decimal_written self.now text.now) error) }
+            IsRefusal (shown_decimal self.now text.now) error) }
     {
         let read = read_decimal(alloc, text)?;
         let Ok(copy) = read.copy(alloc) else {

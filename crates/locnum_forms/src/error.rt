@@ -1,6 +1,6 @@
 //! Why there is no form.
 
-use icu_tables::TableError;
+use icu_table_entries::TableError;
 use thiserror::Error;
 
 /// Why there is no form.

@@ -3,7 +3,7 @@
 ghost use Rattle.std.specs.Int.{int_max};
 ghost use Rattle.std.specs.Prelude.{◌≡◌, ◌+◌, ◌-ℤ◌, Ok, IfErr, IfOk, pos};
 ghost use Rattle.fixed_decimal.specs.Modes.{IsLeastFrom};
-ghost use Rattle.fixed_decimal.specs.Padding.{IsWrittenWith};
+ghost use Rattle.fixed_decimal.specs.Padding.{IsExactWith};
 ghost use Rattle.fixed_decimal.specs.Size.{magnitude, size};
 ghost use Rattle.fixed_decimal.specs.Unsigned.{IsUnsigned, high, integer_count};
 ghost use Rattle.decimal_lines.specs.SingleText.{IsRefusal};
@@ -42,7 +42,7 @@ fn shortened(alloc: Global, decimal: &Decimal, least: u8, moved: u8) -> Result<D
     ensures high { IfOk result (λ d. high d.absolute
         ≡ int_max (int_max (pos 0) (pos (integer_count decimal.now.absolute) -ℤ pos 1))
         (magnitude (size decimal.now.absolute))) }
-    ensures scale { IfOk result (λ d. IsLeastFrom (IsWrittenWith (size decimal.now.absolute))
+    ensures scale { IfOk result (λ d. IsLeastFrom (IsExactWith (size decimal.now.absolute))
         (least + moved) d.absolute.scale) }
     ensures valid { IfOk result (λ d. IsUnsigned d.absolute) }
     ensures sign { IfOk result (λ d. d.sign ≡ decimal.now.sign) }

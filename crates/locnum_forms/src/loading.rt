@@ -9,9 +9,11 @@ ghost use Rattle.locnum_forms.specs.Loaded.{plain_loaded, preferences, short_loa
 use crate::form::{Form, Formatter};
 use crate::wanted::{FractionRange, UnitWidth, Wanted};
 use decimal_lines::{Mode, compact_options, plain_options};
-use icu_decimal::options::{DecimalFormatterOptions, GroupingStrategy};
-use icu_decimal::preferences::{CompactDecimalFormatterPreferences, DecimalFormatterPreferences};
 use icu_decimal::{CompactDecimalFormatter, DecimalFormatter};
+use icu_decimal_options::options::{DecimalFormatterOptions, GroupingStrategy};
+use icu_decimal_options::preferences::{
+    CompactDecimalFormatterPreferences, DecimalFormatterPreferences,
+};
 use icu_dimension::options::CurrencyFormatterOptions;
 use icu_dimension::provider::{UnitsLongV1, UnitsNarrowV1, UnitsShortV1, load_currency_digits};
 use icu_dimension::{

@@ -8,7 +8,7 @@ ghost use Rattle.icu_dimension_tables.specs.AllTables.{AllData, all_tables_of};
 ghost use Rattle.icu_dimension_tables.specs.ForLocale.{IsAllFor};
 ghost use Rattle.locnum_forms.specs.Forms.{FormData};
 ghost use Rattle.locnum_forms.specs.Loaded.{long_loaded, money_loaded, money_options, money_short_loaded, named_loaded, percent_loaded, plain_loaded, short_loaded, unit_loaded};
-ghost use Rattle.locnum_forms.specs.Making.{Starts, Stops, form_of, read_then, start_error, started, table_error, with_all, with_tables};
+ghost use Rattle.locnum_forms.specs.Making.{StartsForm, StopsForm, form_of, read_then, start_error, started, table_error, with_all, with_tables};
 
 use crate::error::StartError;
 use crate::form::Form;
@@ -22,7 +22,8 @@ use icu_dimension::options::{CurrencyFormatterOptions, CurrencySign, Width};
 use icu_dimension_data::CurrencyCode;
 use icu_dimension_tables::AllTables;
 use icu_provider::{DataError, DataErrorKind};
-use icu_tables::{TableError, Tables};
+use icu_table_entries::TableError;
+use icu_tables::Tables;
 use std::alloc::Global;
 use std::str;
 
@@ -48,7 +49,7 @@ fn table_error(error: TableError) -> StartError
 
 /// The form that tables answer, or why there is none.
 fn started(loaded: Result<Form, DataError>) -> Result<Form, StartError>
-    ensures { (answer : Result FormData Refusal) → Answers loaded answer → Starts result
+    ensures { (answer : Result FormData Refusal) → Answers loaded answer → StartsForm result
         (started answer) }
 {
     match loaded {
@@ -61,7 +62,7 @@ fn started(loaded: Result<Form, DataError>) -> Result<Form, StartError>
 fn tables_in(alloc: Global, wanted: &Wanted<'_>, text: &str) -> Result<Tables, StartError>
     ensures tables { IfOk result (λ tables. IsFor wanted.now.locale tables (tables_of text.now)) }
     ensures refused { IfErr result (λ error. (next : TablesData → Result FormData StartError) →
-        Stops error (read_then (tables_of text.now) next)) }
+        StopsForm error (read_then (tables_of text.now) next)) }
 {
     match Tables::from_json_for_locale(alloc, text, &wanted.locale) {
         Ok(tables) => Ok(tables),
@@ -73,7 +74,7 @@ fn tables_in(alloc: Global, wanted: &Wanted<'_>, text: &str) -> Result<Tables, S
 fn all_in(alloc: Global, wanted: &Wanted<'_>, text: &str) -> Result<AllTables, StartError>
     ensures tables { IfOk result (λ all. IsAllFor wanted.now.locale all (all_tables_of text.now)) }
     ensures refused { IfErr result (λ error. (next : AllData → Result FormData StartError) →
-        Stops error (read_then (all_tables_of text.now) next)) }
+        StopsForm error (read_then (all_tables_of text.now) next)) }
 {
     match AllTables::from_json_for_locale(alloc, text, &wanted.locale) {
         Ok(all) => Ok(all),
@@ -83,7 +84,7 @@ fn all_in(alloc: Global, wanted: &Wanted<'_>, text: &str) -> Result<AllTables, S
 
 /// Numbers in full, by a text of tables.
 fn plain_form(alloc: Global, wanted: &Wanted<'_>, text: &str) -> Result<Form, StartError>
-    ensures { Starts result (with_tables text.now (plain_loaded wanted.now)) }
+    ensures { StartsForm result (with_tables text.now (plain_loaded wanted.now)) }
 {
     let tables = tables_in(alloc, wanted, text)?;
     started(load_plain(alloc, &tables, wanted))
@@ -91,7 +92,7 @@ fn plain_form(alloc: Global, wanted: &Wanted<'_>, text: &str) -> Result<Form, St
 
 /// Numbers shortened by the short patterns, by a text of tables.
 fn short_form(alloc: Global, wanted: &Wanted<'_>, text: &str) -> Result<Form, StartError>
-    ensures { Starts result (with_tables text.now (short_loaded wanted.now)) }
+    ensures { StartsForm result (with_tables text.now (short_loaded wanted.now)) }
 {
     let tables = tables_in(alloc, wanted, text)?;
     started(load_short(alloc, &tables, wanted))
@@ -99,7 +100,7 @@ fn short_form(alloc: Global, wanted: &Wanted<'_>, text: &str) -> Result<Form, St
 
 /// Numbers shortened by the long patterns, by a text of tables.
 fn long_form(alloc: Global, wanted: &Wanted<'_>, text: &str) -> Result<Form, StartError>
-    ensures { Starts result (with_tables text.now (long_loaded wanted.now)) }
+    ensures { StartsForm result (with_tables text.now (long_loaded wanted.now)) }
 {
     let tables = tables_in(alloc, wanted, text)?;
     started(load_long(alloc, &tables, wanted))
@@ -114,7 +115,7 @@ fn money_form(
     options: CurrencyFormatterOptions,
     is_cash: bool,
 ) -> Result<Form, StartError>
-    ensures { Starts result
+    ensures { StartsForm result
         (with_all text.now (money_loaded wanted.now code options is_cash)) }
 {
     let all = all_in(alloc, wanted, text)?;
@@ -129,7 +130,7 @@ fn named_form(
     code: CurrencyCode,
     is_cash: bool,
 ) -> Result<Form, StartError>
-    ensures { Starts result (with_all text.now (named_loaded wanted.now code is_cash)) }
+    ensures { StartsForm result (with_all text.now (named_loaded wanted.now code is_cash)) }
 {
     let all = all_in(alloc, wanted, text)?;
     started(load_named(alloc, &all, wanted, code, is_cash))
@@ -142,7 +143,7 @@ fn money_short_form(
     text: &str,
     code: CurrencyCode,
 ) -> Result<Form, StartError>
-    ensures { Starts result (with_all text.now (money_short_loaded wanted.now code)) }
+    ensures { StartsForm result (with_all text.now (money_short_loaded wanted.now code)) }
 {
     let all = all_in(alloc, wanted, text)?;
     started(load_money_short(alloc, &all, wanted, code))
@@ -150,7 +151,7 @@ fn money_short_form(
 
 /// Percents, by a text of tables.
 fn percent_form(alloc: Global, wanted: &Wanted<'_>, text: &str) -> Result<Form, StartError>
-    ensures { Starts result (with_all text.now (percent_loaded wanted.now)) }
+    ensures { StartsForm result (with_all text.now (percent_loaded wanted.now)) }
 {
     let all = all_in(alloc, wanted, text)?;
     started(load_percent(alloc, &all, wanted))
@@ -164,7 +165,7 @@ fn unit_form(
     name: &str,
     width: UnitWidth,
 ) -> Result<Form, StartError>
-    ensures { Starts result (with_all text.now (unit_loaded wanted.now name.now width)) }
+    ensures { StartsForm result (with_all text.now (unit_loaded wanted.now name.now width)) }
 {
     let all = all_in(alloc, wanted, text)?;
     started(load_unit(alloc, &all, wanted, name, width))
@@ -173,7 +174,7 @@ fn unit_form(
 /// The form that is wanted, by a text of tables.
 #[tactic(auto, unfolding(crate::specs::Making::form_of))]
 fn form_of(alloc: Global, wanted: &Wanted<'_>, text: &str) -> Result<Form, StartError>
-    ensures { Starts result (form_of wanted.now text.now) }
+    ensures { StartsForm result (form_of wanted.now text.now) }
 {
     match wanted.kind {
         Kind::Plain => plain_form(alloc, wanted, text),
@@ -209,7 +210,7 @@ fn money_options(wanted: &Wanted<'_>, width: Width, sign: CurrencySign) -> Curre
 impl Form {
     ghost use Rattle.std.specs.Prelude.{◌≡◌, Err};
     ghost use Rattle.std.specs.Str.{IsUtf8};
-    ghost use Rattle.locnum_forms.specs.Making.{Starts, form_of};
+    ghost use Rattle.locnum_forms.specs.Making.{StartsForm, form_of};
 
     /// The form that is wanted, by the bytes of a file of tables (this project's own).
     ///
@@ -219,7 +220,7 @@ impl Form {
     // promise: Options and tables determine the form, or why there is none.
     // mutations: money_digits_of_cash_exchanged
     pub fn make(alloc: Global, wanted: &Wanted<'_>, file: &[u8]) -> Result<Form, StartError>
-        ensures text { IsUtf8 file.now → Starts result (form_of wanted.now file.now) }
+        ensures text { IsUtf8 file.now → StartsForm result (form_of wanted.now file.now) }
         ensures no_text { ¬ (IsUtf8 file.now) → result ≡ Err StartError.NotUtf8 }
     {
         let Ok(text) = str::from_utf8(file) else {

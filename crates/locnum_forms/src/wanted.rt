@@ -1,7 +1,7 @@
 //! What a form is to be, besides the tables.
 
 use fixed_decimal::SignDisplay;
-use icu_decimal::options::GroupingStrategy;
+use icu_decimal_options::options::GroupingStrategy;
 use icu_dimension::options::{CurrencySign, Width};
 use icu_dimension_data::CurrencyCode;
 use icu_provider::{DataLocale, NumberingSystem};

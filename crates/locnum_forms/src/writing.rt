@@ -3,7 +3,7 @@
 ghost use Rattle.std.specs.Prelude.{◌≡◌, IfSome, None, Ok};
 ghost use Rattle.fixed_decimal.specs.SignDisplay.{minus_or_none};
 ghost use Rattle.writeable.specs.Sink.{Writes};
-ghost use Rattle.decimal_lines.specs.SingleText.{WroteShown, mode_events};
+ghost use Rattle.decimal_lines.specs.SingleText.{WroteEvents, mode_events};
 ghost use Rattle.locnum_forms.specs.Forms.{digits_moved, formatter_events};
 ghost use Rattle.locnum_forms.specs.WrittenOr.{written_or};
 ghost use Rattle.locnum_forms.specs.declared.form.Formatter.TheVariants.{Money, MoneyNamed, MoneyShort, Numbers, Percent, Units};
@@ -53,7 +53,7 @@ fn write_money<K: EventWriter>(
     decimal: &Decimal,
     out: &mut K,
 ) -> Result<(), TextError>
-    ensures { WroteShown K.wrote out.old result
+    ensures { WroteEvents K.wrote out.old result
         (formatter_events (Money formatter.now) decimal.now.sign decimal.now.absolute) out.new }
 {
     written_or(formatter.write_into(alloc, decimal, out))
@@ -66,7 +66,7 @@ fn write_money_named<K: EventWriter>(
     decimal: &Decimal,
     out: &mut K,
 ) -> Result<(), TextError>
-    ensures { WroteShown K.wrote out.old result
+    ensures { WroteEvents K.wrote out.old result
         (formatter_events (MoneyNamed formatter.now) decimal.now.sign decimal.now.absolute)
         out.new }
 {
@@ -80,7 +80,7 @@ fn write_money_short<K: EventWriter>(
     decimal: &Decimal,
     out: &mut K,
 ) -> Result<(), TextError>
-    ensures { WroteShown K.wrote out.old result
+    ensures { WroteEvents K.wrote out.old result
         (formatter_events (MoneyShort formatter.now) decimal.now.sign decimal.now.absolute)
         out.new }
 {
@@ -94,7 +94,7 @@ fn write_percent<K: EventWriter>(
     decimal: &Decimal,
     out: &mut K,
 ) -> Result<(), TextError>
-    ensures { WroteShown K.wrote out.old result
+    ensures { WroteEvents K.wrote out.old result
         (formatter_events (Percent formatter.now) decimal.now.sign decimal.now.absolute) out.new }
 {
     written_or(formatter.write_into(alloc, decimal, out))
@@ -107,7 +107,7 @@ fn write_units<K: EventWriter>(
     decimal: &Decimal,
     out: &mut K,
 ) -> Result<(), TextError>
-    ensures { WroteShown K.wrote out.old result
+    ensures { WroteEvents K.wrote out.old result
         (formatter_events (Units formatter.now) decimal.now.sign decimal.now.absolute) out.new }
 {
     written_or(formatter.write_into(alloc, decimal, out))
@@ -120,7 +120,7 @@ fn write_formatted<K: EventWriter>(
     decimal: &Decimal,
     out: &mut K,
 ) -> Result<(), TextError>
-    ensures { WroteShown K.wrote out.old result
+    ensures { WroteEvents K.wrote out.old result
         (formatter_events formatter.now decimal.now.sign decimal.now.absolute) out.new }
 {
     match formatter {
@@ -140,7 +140,7 @@ fn write_formatted_parts<S: PartsWrite>(
     decimal: &Decimal,
     sink: &mut S,
 ) -> Result<(), TextError>
-    ensures { WroteShown (Writes S.events S.failures) sink.old result
+    ensures { WroteEvents (Writes S.events S.failures) sink.old result
         (formatter_events formatter.now decimal.now.sign decimal.now.absolute) sink.new }
 {
     let mut out = WithParts { sink };
@@ -184,7 +184,7 @@ fn write_unchanged<K: EventWriter>(
     decimal: &mut Decimal,
     out: &mut K,
 ) -> Result<(), TextError>
-    ensures { WroteShown K.wrote out.old result
+    ensures { WroteEvents K.wrote out.old result
         (mode_events mode.now (minus_or_none decimal.old.sign) decimal.old.absolute) out.new }
 {
     decimal.sign = minus_or_none(decimal.sign);
@@ -193,7 +193,7 @@ fn write_unchanged<K: EventWriter>(
 
 impl Form {
     ghost use Rattle.std.specs.Prelude.{◌≡◌, ◌≢◌, IfErr, IfOk, Ok, OnOk};
-    ghost use Rattle.decimal_lines.specs.SingleText.{AppendsShown, IsRefusal, WroteShown};
+    ghost use Rattle.decimal_lines.specs.SingleText.{AppendsEvents, IsRefusal, WroteEvents};
     ghost use Rattle.writeable.specs.Sink.{Writes};
     ghost use Rattle.locnum_forms.specs.Forms.{form_events, formatter_events, read_events};
 
@@ -205,7 +205,7 @@ impl Form {
         decimal: Decimal,
         out: &mut K,
     ) -> Result<(), TextError>
-        ensures { WroteShown K.wrote out.old result
+        ensures { WroteEvents K.wrote out.old result
             (read_events self.now (Ok (decimal.sign, decimal.absolute))) out.new }
     {
         let moved = digits_moved(&self.formatter);
@@ -222,7 +222,7 @@ impl Form {
         text: &[u8],
         out: &mut K,
     ) -> Result<(), TextError>
-        ensures { WroteShown K.wrote out.old result (form_events self.now text.now) out.new }
+        ensures { WroteEvents K.wrote out.old result (form_events self.now text.now) out.new }
     {
         let mut decimal = read_decimal(alloc, text)?;
         match unchanging(self) {
@@ -238,7 +238,7 @@ impl Form {
         text: &[u8],
         sink: &mut S,
     ) -> Result<(), TextError>
-        ensures { WroteShown (Writes S.events S.failures) sink.old result
+        ensures { WroteEvents (Writes S.events S.failures) sink.old result
             (form_events self.now text.now) sink.new }
     {
         let mut out = WithParts { sink };
@@ -256,7 +256,7 @@ impl Form {
     // promise: The buffer grows by just what the form writes of the text.
     // mutations: sign_decided_before_rounding, compact_money_in_full
     pub fn push(&self, alloc: Global, text: &[u8], out: &mut Vec<u8>) -> Result<(), TextError>
-        ensures ok { OnOk result (AppendsShown (form_events self.now text.now) out.old.items
+        ensures ok { OnOk result (AppendsEvents (form_events self.now text.now) out.old.items
             out.new.items) }
         ensures refused { IfErr result (λ error. IsRefusal (form_events self.now text.now) error) }
         ensures unchanged { IfErr result (λ error. error ≢ TextError.OutOfMemory →

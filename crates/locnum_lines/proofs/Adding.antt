@@ -6,7 +6,7 @@ use Rattle.std.specs.Prelude.{◌||◌, max}
 use Rattle.std.proofs.Math.Nat.{max-zero, zero-max}
 use Rattle.std.proofs.lemmas.List.{append-nil}
 use Rattle.locnum_lines.specs.Gathered.{Adds, GatheredData}
-use Rattle.locnum_lines.specs.Ran.{Ran, counts, first_of, joined, then_runs, writes}
+use Rattle.locnum_lines.specs.Ran.{Ran, counts, first_of, joined_runs, then_runs, writes}
 use Rattle.locnum_lines.specs.Stage.{Stage}
 
 -- where nothing was there before, what is there now was added
@@ -41,8 +41,8 @@ pub max-assoc : (a b c : ℕ) → max (max a b) c ≡ max a (max b c)
 max-assoc a b c = omega arith
 
 -- nothing runs in front of a part
-pub joined-none : (r : Ran) → joined (writes []) r ≡ r
-joined-none r = ap (λ (k : ℕ). record r { most_fields = k }) (zero-max r.most_fields)
+pub joined_runs-none : (r : Ran) → joined_runs (writes []) r ≡ r
+joined_runs-none r = ap (λ (k : ℕ). record r { most_fields = k }) (zero-max r.most_fields)
 
 -- bytes were written
 pub Adds-writes : (old new : GatheredData) (bytes : List ℕ) → old.is_stopped ≡ false → new ≡ record old { output = old.output ++ bytes } →
@@ -58,9 +58,9 @@ Adds-writes old new bytes going e = record {
 }
 
 -- one part, which doesn't stop, and then another
-pub Adds-joined : (a b c : GatheredData) (r s : Ran) (n m : Stage) → Adds a b r n → r.is_stopped ≡ false → Adds b c s m →
-    Adds a c (joined r s) m
-Adds-joined a b c r s n m f going g = record {
+pub Adds-joined_runs : (a b c : GatheredData) (r s : Ran) (n m : Stage) → Adds a b r n → r.is_stopped ≡ false → Adds b c s m →
+    Adds a c (joined_runs r s) m
+Adds-joined_runs a b c r s n m f going g = record {
   output = g.output ∙ ap (λ (x : List ℕ). x ++ s.output) f.output ∙ append_assoc a.output r.output s.output;
   notes = g.notes ∙ ap (λ (x : List ℕ). x ++ s.notes) f.notes ∙ append_assoc a.notes r.notes s.notes;
   is_refused = g.is_refused ∙ ap (λ (p : Bool). p || s.is_refused) f.is_refused ∙ or_assoc a.is_refused r.is_refused s.is_refused;
@@ -72,13 +72,13 @@ Adds-joined a b c r s n m f going g = record {
 
 -- two parts within a record, which leave the run where it is
 pub Adds-within : (a b c : GatheredData) (r s : Ran) → Adds a b r a.stage → r.is_stopped ≡ false → Adds b c s b.stage →
-    Adds a c (joined r s) a.stage
+    Adds a c (joined_runs r s) a.stage
 Adds-within a b c r s f going g =
     let same : b.stage ≡ a.stage = f.stage (f.is_stopped ∙ going) in
-    Adds-joined a b c r s a.stage a.stage f going (subst (λ (k : Stage). Adds b c s k) same g)
+    Adds-joined_runs a b c r s a.stage a.stage f going (subst (λ (k : Stage). Adds b c s k) same g)
 
 -- behind a part that doesn't stop the next one runs
-pub then_runs-on : (r s : Ran) → r.is_stopped ≡ false → then_runs r s ≡ joined r s
+pub then_runs-on : (r s : Ran) → r.is_stopped ≡ false → then_runs r s ≡ joined_runs r s
 then_runs-on r s going = rw going refl
 
 -- and behind one that stops nothing does
@@ -87,7 +87,7 @@ then_runs-stopped r s stops = rw stops refl
 
 -- nothing more is added
 pub Adds-nothing : (a b : GatheredData) (r : Ran) (n : Stage) → Adds a b r n → r.is_stopped ≡ false →
-    Adds a b (joined r (joined (writes []) (writes []))) n
+    Adds a b (joined_runs r (joined_runs (writes []) (writes []))) n
 Adds-nothing a b r n f going = record {
   output = f.output ∙ ap (λ (k : List ℕ). a.output ++ k) (sym (append-nil r.output));
   notes = f.notes ∙ ap (λ (k : List ℕ). a.notes ++ k) (sym (append-nil r.notes));
@@ -99,8 +99,8 @@ Adds-nothing a b r n f going = record {
 }
 
 -- three parts
-pub joined-assoc : (r s t : Ran) → joined r (joined s t) ≡ joined (joined r s) t
-joined-assoc r s t = rw (
+pub joined_runs-assoc : (r s t : Ran) → joined_runs r (joined_runs s t) ≡ joined_runs (joined_runs r s) t
+joined_runs-assoc r s t = rw (
   append_assoc r.output s.output t.output,
   append_assoc r.notes s.notes t.notes,
   or_assoc r.is_refused s.is_refused t.is_refused,
@@ -142,10 +142,10 @@ then_runs-assoc r s t = go r.is_stopped refl s.is_stopped refl
   where
     go : (x : Bool) → r.is_stopped ≡ x → (y : Bool) → s.is_stopped ≡ y → then_runs r (then_runs s t) ≡ then_runs (then_runs r s) t
     go true e y f = then_runs-stopped r (then_runs s t) e ∙ sym (then_runs-stopped r t e) ∙ ap (λ k. then_runs k t) (sym (then_runs-stopped r s e))
-    go false e true f = then_runs-on r (then_runs s t) e ∙ ap (joined r) (then_runs-stopped s t f) ∙ sym (then_runs-stopped (joined r s) t f)
+    go false e true f = then_runs-on r (then_runs s t) e ∙ ap (joined_runs r) (then_runs-stopped s t f) ∙ sym (then_runs-stopped (joined_runs r s) t f)
         ∙ ap (λ k. then_runs k t) (sym (then_runs-on r s e))
-    go false e false f = then_runs-on r (then_runs s t) e ∙ ap (joined r) (then_runs-on s t f) ∙ joined-assoc r s t
-        ∙ sym (then_runs-on (joined r s) t f) ∙ ap (λ k. then_runs k t) (sym (then_runs-on r s e))
+    go false e false f = then_runs-on r (then_runs s t) e ∙ ap (joined_runs r) (then_runs-on s t f) ∙ joined_runs-assoc r s t
+        ∙ sym (then_runs-on (joined_runs r s) t f) ∙ ap (λ k. then_runs k t) (sym (then_runs-on r s e))
 
 -- lines are counted
 pub Adds-lines : (a b c : GatheredData) (r : Ran) (n : Stage) (k : ℕ) → Adds a b r n →
@@ -175,7 +175,7 @@ Adds-counted a b c r index n e counted f = record {
 
 -- and counting it once more adds nothing
 pub Adds-recounted : (a b : GatheredData) (r : Ran) (index : ℕ) (n : Stage) → index ≤ a.most_fields → Adds a b r n →
-    Adds a b (joined (counts index) r) n
+    Adds a b (joined_runs (counts index) r) n
 Adds-recounted a b r index n counted f = record {
   output = f.output;
   notes = f.notes;

@@ -5,9 +5,9 @@ use Rattle.std.proofs.Common.{◌≡◌, ℕ, zero, suc, ◌+◌, ◌-◌, ◌<�
 use Rattle.std.proofs.Common.{length, get_or, take, drop, refl, sym, ap, ◌∙◌, arith}
 use Rattle.std.specs.Prelude.{if◌then◌else◌}
 use Rattle.std.proofs.lemmas.List.{drop_all, drop_more, length-drop, length-take-le, take_more}
-use Rattle.locnum_lines.specs.Fields.{blanks_before, content_length, cut, ends_field, field_length, is_blank, is_blank_behind, next_place}
+use Rattle.locnum_lines.specs.Fields.{blanks_before, content_length, cut_field, ends_field, field_length, is_blank, is_blank_behind, next_state}
 use Rattle.locnum_lines.specs.Fields.{with_byte}
-use Rattle.locnum_lines.specs.declared.cutting.Place.{Place}
+use Rattle.locnum_lines.specs.declared.cutting.FieldState.{FieldState}
 use Rattle.locnum_lines.specs.declared.settings.Delimiter.{Delimiter}
 
 -- a blank more
@@ -27,22 +27,22 @@ unfolding blanks_before
 blanks_before-nothing = refl
 
 -- a byte more of a field
-pub field_length-step : (delimiter : Delimiter) (place : Place) (line : List ℕ) (n : ℕ) → n < length line →
-    ends_field delimiter place (get_or line n 0) ≡ false →
-    field_length delimiter place (drop n line) ≡ suc (field_length delimiter (next_place delimiter place (get_or line n 0)) (drop (n + 1) line))
+pub field_length-step : (delimiter : Delimiter) (state : FieldState) (line : List ℕ) (n : ℕ) → n < length line →
+    ends_field delimiter state (get_or line n 0) ≡ false →
+    field_length delimiter state (drop n line) ≡ suc (field_length delimiter (next_state delimiter state (get_or line n 0)) (drop (n + 1) line))
 unfolding field_length
-field_length-step delimiter place line n inside h = rw (drop_more line n 0 inside, h) refl
+field_length-step delimiter state line n inside h = rw (drop_more line n 0 inside, h) refl
 
 -- the end of a field
-pub field_length-end : (delimiter : Delimiter) (place : Place) (line : List ℕ) (n : ℕ) → n < length line →
-    ends_field delimiter place (get_or line n 0) ≡ true → field_length delimiter place (drop n line) ≡ 0
+pub field_length-end : (delimiter : Delimiter) (state : FieldState) (line : List ℕ) (n : ℕ) → n < length line →
+    ends_field delimiter state (get_or line n 0) ≡ true → field_length delimiter state (drop n line) ≡ 0
 unfolding field_length
-field_length-end delimiter place line n inside h = rw (drop_more line n 0 inside, h) refl
+field_length-end delimiter state line n inside h = rw (drop_more line n 0 inside, h) refl
 
 -- no line
-pub field_length-nothing : (delimiter : Delimiter) (place : Place) → field_length delimiter place [] ≡ 0
+pub field_length-nothing : (delimiter : Delimiter) (state : FieldState) → field_length delimiter state [] ≡ 0
 unfolding field_length
-field_length-nothing delimiter place = refl
+field_length-nothing delimiter state = refl
 
 -- a blank at the end
 pub content_length-blank : (xs : List ℕ) (b : ℕ) → is_blank_behind b ≡ true → content_length (xs ++ b ∷ []) ≡ content_length xs
@@ -66,9 +66,9 @@ pub blanks_before-past : (text : List ℕ) (n : ℕ) → length text ≤ n → b
 blanks_before-past text n past = rw (drop_all n text past) blanks_before-nothing
 
 -- behind the end of a line
-pub field_length-past : (delimiter : Delimiter) (place : Place) (line : List ℕ) (n : ℕ) → length line ≤ n →
-    field_length delimiter place (drop n line) ≡ 0
-field_length-past delimiter place line n past = rw (drop_all n line past) (field_length-nothing delimiter place)
+pub field_length-past : (delimiter : Delimiter) (state : FieldState) (line : List ℕ) (n : ℕ) → length line ≤ n →
+    field_length delimiter state (drop n line) ≡ 0
+field_length-past delimiter state line n past = rw (drop_all n line past) (field_length-nothing delimiter state)
 
 -- the last byte of the first n
 last_taken : (text : List ℕ) (n : ℕ) → n ≤ length text → 0 < n → take n text ≡ take (n - 1) text ++ get_or text (n - 1) 0 ∷ []
@@ -118,10 +118,10 @@ content_length-within (b ∷ bs) = go (content_length bs) (content_length-within
     go (suc n) i = omega (arith, i)
 
 -- a field in its three parts
-pub cut-is : (text before rest number behind : List ℕ) (n m : ℕ) → n ≡ blanks_before text → before ≡ take n text → rest ≡ drop n text →
+pub cut_field-is : (text before rest number behind : List ℕ) (n m : ℕ) → n ≡ blanks_before text → before ≡ take n text → rest ≡ drop n text →
     m ≡ content_length rest → number ≡ take m rest → behind ≡ drop m rest →
-    cut text ≡ record { before = before; number = number; behind = behind }
-cut-is text before rest number behind n m e1 e2 e3 e4 e5 e6 = rw (e5, e6, e4, e3, e2, e1) refl
+    cut_field text ≡ record { before = before; number = number; behind = behind }
+cut_field-is text before rest number behind n m e1 e2 e3 e4 e5 e6 = rw (e5, e6, e4, e3, e2, e1) refl
 
 -- what stands at n, and behind it
 pub seam : (line : List ℕ) (n b : ℕ) (rest : List ℕ) → drop n line ≡ b ∷ rest →

@@ -5,13 +5,13 @@ use Rattle.std.proofs.lemmas.Bool.{false≢true}
 use Rattle.std.proofs.lemmas.List.{append-nil}
 use Rattle.locnum_forms.specs.Forms.{FormData}
 use Rattle.locnum_lines.specs.Gathered.{Adds, Feeds, GatheredData}
-use Rattle.locnum_lines.specs.Ran.{joined}
+use Rattle.locnum_lines.specs.Ran.{joined_runs}
 use Rattle.locnum_lines.specs.RecordRuns.{record_ran, records_ran}
 use Rattle.locnum_lines.specs.Records.{IsPart, is_open, records_of}
 use Rattle.locnum_lines.specs.Settings.{SettingsData}
 use Rattle.locnum_lines.specs.Stage.{stage_after, stage_behind}
-use Rattle.locnum_lines.specs.declared.cutting.Place.TheVariants.{Front}
-use Rattle.locnum_lines.proofs.Adding.{Adds-end, Adds-joined, Adds-start, then_runs-on}
+use Rattle.locnum_lines.specs.declared.cutting.FieldState.TheVariants.{Front}
+use Rattle.locnum_lines.proofs.Adding.{Adds-end, Adds-joined_runs, Adds-start, then_runs-on}
 use Rattle.locnum_lines.proofs.Feeding.{record-ended, records_ran-append, records_ran-none, records_ran-one, stage_behind-append, stage_behind-none}
 use Rattle.locnum_lines.proofs.Feeding.{stage_behind-one}
 
@@ -72,10 +72,10 @@ module _ (settings : SettingsData) (form : FormData) where
       let second = records_ran settings form mid.stage s.records in
       let going : first.is_stopped ≡ false = sym f.adds.is_stopped ∙ on in
       let stage : mid.stage ≡ stage_behind settings old.stage f.records = f.adds.stage on in
-      let ran : records_ran settings form old.stage (f.records ++ s.records) ≡ joined first second =
+      let ran : records_ran settings form old.stage (f.records ++ s.records) ≡ joined_runs first second =
       records_ran-append settings form f.records s.records old.stage
       ∙ then_runs-on first (records_ran settings form (stage_behind settings old.stage f.records) s.records) going
-      ∙ ap (λ k. joined first (records_ran settings form k s.records)) (sym stage) in
+      ∙ ap (λ k. joined_runs first (records_ran settings form k s.records)) (sym stage) in
       record {
         records = f.records ++ s.records;
         whole = f.whole ++ s.whole;
@@ -87,7 +87,7 @@ module _ (settings : SettingsData) (form : FormData) where
             ∙ ap (λ (k : List ℕ). f.whole ++ (k ++ b)) (sym (f.is_held on)) ∙ ap (λ (k : List ℕ). f.whole ++ k) s.parts
             ∙ sym (append_assoc f.whole s.whole s.left);
         adds = rw (ran, stage_behind-append settings f.records s.records old.stage, ← stage)
-            (Adds-joined old mid new first second (stage_behind settings old.stage f.records) (stage_behind settings mid.stage s.records)
+            (Adds-joined_runs old mid new first second (stage_behind settings old.stage f.records) (stage_behind settings mid.stage s.records)
             f.adds going s.adds);
         is_held = s.is_held;
         is_part = s.is_part;

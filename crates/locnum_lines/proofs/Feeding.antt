@@ -13,12 +13,12 @@ use Rattle.locnum_forms.specs.Forms.{FormData}
 use Rattle.locnum_lines.specs.Fields.{is_quoted}
 use Rattle.locnum_lines.specs.Ran.{then_runs, writes}
 use Rattle.locnum_lines.specs.RecordRuns.{next_ran, open_ran, record_ran, records_ran}
-use Rattle.locnum_lines.specs.Records.{IsPart, IsPartLine, in_front, is_open, last_begun, place_after, place_behind, records_from}
+use Rattle.locnum_lines.specs.Records.{IsPart, IsPartLine, in_front, is_open, last_begun, state_after, state_behind, records_from}
 use Rattle.locnum_lines.specs.Settings.{SettingsData}
 use Rattle.locnum_lines.specs.Stage.{Stage, stage_after, stage_behind}
-use Rattle.locnum_lines.proofs.Adding.{joined-none, then_runs-assoc}
-use Rattle.locnum_lines.specs.declared.cutting.Place.{Place}
-use Rattle.locnum_lines.specs.declared.cutting.Place.TheVariants.{Front}
+use Rattle.locnum_lines.proofs.Adding.{joined_runs-none, then_runs-assoc}
+use Rattle.locnum_lines.specs.declared.cutting.FieldState.{FieldState}
+use Rattle.locnum_lines.specs.declared.cutting.FieldState.TheVariants.{Front}
 use Rattle.locnum_lines.specs.declared.settings.Delimiter.{Delimiter}
 
 -- a byte is the byte that it is
@@ -31,57 +31,57 @@ and_false false = refl
 
 module _ (delimiter : Delimiter) (end : ℕ) where
   -- a part of a record that is ended now
-  pub record-ended : (place : Place) (p rest : List ℕ) → IsPart delimiter end place p → is_quoted (place_behind delimiter place p) ≡ false →
-      records_from delimiter end place (p ++ end ∷ rest) ≡ p ∷ records_from delimiter end Front rest
-  unfolding records_from place_behind
-  record-ended place [] rest h closed = rw (eqb_same end, closed) refl
-  record-ended place (b ∷ bs) rest h closed = rw (h.0, record-ended (place_after delimiter place b) bs rest h.1 closed) refl
+  pub record-ended : (state : FieldState) (p rest : List ℕ) → IsPart delimiter end state p → is_quoted (state_behind delimiter state p) ≡ false →
+      records_from delimiter end state (p ++ end ∷ rest) ≡ p ∷ records_from delimiter end Front rest
+  unfolding records_from state_behind
+  record-ended state [] rest h closed = rw (eqb_same end, closed) refl
+  record-ended state (b ∷ bs) rest h closed = rw (h.0, record-ended (state_after delimiter state b) bs rest h.1 closed) refl
 
   -- a last record that isn't ended
-  pub record-last : (place : Place) (b : ℕ) (bs : List ℕ) → IsPart delimiter end place (b ∷ bs) →
-      records_from delimiter end place (b ∷ bs) ≡ (b ∷ bs) ∷ []
+  pub record-last : (state : FieldState) (b : ℕ) (bs : List ℕ) → IsPart delimiter end state (b ∷ bs) →
+      records_from delimiter end state (b ∷ bs) ≡ (b ∷ bs) ∷ []
   unfolding records_from
-  record-last place b [] h = rw h.0 refl
-  record-last place b (c ∷ bs) h = rw h.0 (ap (onto_first b) (record-last (place_after delimiter place b) c bs h.1))
+  record-last state b [] h = rw h.0 refl
+  record-last state b (c ∷ bs) h = rw h.0 (ap (onto_first b) (record-last (state_after delimiter state b) c bs h.1))
 
   -- no byte, no record
-  pub no_records : (place : Place) → records_from delimiter end place [] ≡ []
+  pub no_records : (state : FieldState) → records_from delimiter end state [] ≡ []
   unfolding records_from
-  no_records place = refl
+  no_records state = refl
 
   -- the place behind some bytes and others
-  pub place_behind-append : (place : Place) (p q : List ℕ) →
-      place_behind delimiter place (p ++ q) ≡ place_behind delimiter (place_behind delimiter place p) q
-  unfolding place_behind
-  place_behind-append place [] q = refl
-  place_behind-append place (b ∷ p) q = place_behind-append (place_after delimiter place b) p q
+  pub state_behind-append : (state : FieldState) (p q : List ℕ) →
+      state_behind delimiter state (p ++ q) ≡ state_behind delimiter (state_behind delimiter state p) q
+  unfolding state_behind
+  state_behind-append state [] q = refl
+  state_behind-append state (b ∷ p) q = state_behind-append (state_after delimiter state b) p q
 
   -- the place behind one byte more
-  pub place_behind-more : (place : Place) (p : List ℕ) (b : ℕ) →
-      place_behind delimiter place (p ++ b ∷ []) ≡ place_after delimiter (place_behind delimiter place p) b
-  unfolding place_behind
-  place_behind-more place p b = place_behind-append place p (b ∷ [])
+  pub state_behind-more : (state : FieldState) (p : List ℕ) (b : ℕ) →
+      state_behind delimiter state (p ++ b ∷ []) ≡ state_after delimiter (state_behind delimiter state p) b
+  unfolding state_behind
+  state_behind-more state p b = state_behind-append state p (b ∷ [])
 
   -- no byte leaves its place
-  pub place_behind-nothing : (place : Place) → place_behind delimiter place [] ≡ place
-  unfolding place_behind
-  place_behind-nothing place = refl
+  pub state_behind-nothing : (state : FieldState) → state_behind delimiter state [] ≡ state
+  unfolding state_behind
+  state_behind-nothing state = refl
 
   -- two parts of a record are one part
-  pub IsPart-append : (place : Place) (p q : List ℕ) → IsPart delimiter end place p → IsPart delimiter end (place_behind delimiter place p) q →
-      IsPart delimiter end place (p ++ q)
-  unfolding place_behind
-  IsPart-append place [] q h k = k
-  IsPart-append place (b ∷ p) q h k = (h.0, IsPart-append (place_after delimiter place b) p q h.1 k)
+  pub IsPart-append : (state : FieldState) (p q : List ℕ) → IsPart delimiter end state p → IsPart delimiter end (state_behind delimiter state p) q →
+      IsPart delimiter end state (p ++ q)
+  unfolding state_behind
+  IsPart-append state [] q h k = k
+  IsPart-append state (b ∷ p) q h k = (h.0, IsPart-append (state_after delimiter state b) p q h.1 k)
 
   -- a part of a line ends no record
-  pub IsPart-line : (place : Place) (p : List ℕ) → IsPartLine end p → IsPart delimiter end place p
-  IsPart-line place [] h = tt
-  IsPart-line place (b ∷ p) h = (rw h.0 refl, IsPart-line (place_after delimiter place b) p h.1)
+  pub IsPart-line : (state : FieldState) (p : List ℕ) → IsPartLine end p → IsPart delimiter end state p
+  IsPart-line state [] h = tt
+  IsPart-line state (b ∷ p) h = (rw h.0 refl, IsPart-line (state_after delimiter state b) p h.1)
 
   -- nor does the end of a line between quotes
-  pub IsPart-end : (place : Place) → is_quoted place ≡ true → IsPart delimiter end place (end ∷ [])
-  IsPart-end place quoted = (rw quoted (and_false (eqb end end)), tt)
+  pub IsPart-end : (state : FieldState) → is_quoted state ≡ true → IsPart delimiter end state (end ∷ [])
+  IsPart-end state quoted = (rw quoted (and_false (eqb end end)), tt)
 
 module _ (end : ℕ) where
   -- bytes of which none is the end of a line
@@ -134,7 +134,7 @@ module _ (settings : SettingsData) (form : FormData) where
   pub records_ran-append : (ls ms : List (List ℕ)) (stage : Stage) → records_ran settings form stage (ls ++ ms)
       ≡ then_runs (records_ran settings form stage ls) (records_ran settings form (stage_behind settings stage ls) ms)
   unfolding records_ran stage_behind
-  records_ran-append [] ms stage = sym (joined-none (records_ran settings form stage ms))
+  records_ran-append [] ms stage = sym (joined_runs-none (records_ran settings form stage ms))
   records_ran-append (l ∷ ls) ms stage =
       ap (then_runs (record_ran settings form stage l)) (records_ran-append ls ms (stage_after settings stage l))
       ∙ then_runs-assoc (record_ran settings form stage l) (records_ran settings form (stage_after settings stage l) ls)

@@ -5,7 +5,7 @@ use Rattle.locnum_lines.specs.RecordRuns.{unended_ran}
 use Rattle.locnum_lines.specs.Records.{is_open, last_begun}
 use Rattle.locnum_lines.specs.Settings.{SettingsData}
 use Rattle.locnum_lines.specs.Stage.{Stage}
-use Rattle.locnum_lines.specs.declared.cutting.Place.TheVariants.{Front}
+use Rattle.locnum_lines.specs.declared.cutting.FieldState.TheVariants.{Front}
 
 module _ (settings : SettingsData) (stage : Stage) (line : List ℕ) where
   -- of one whose quotes end

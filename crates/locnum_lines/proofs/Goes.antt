@@ -11,12 +11,12 @@ use Rattle.locnum_forms.specs.Forms.{FormData}
 use Rattle.locnum_lines.specs.FieldRuns.{field_ran, fields_ran, picked_ran}
 use Rattle.locnum_lines.specs.Fields.{Field, field_length, fields_from}
 use Rattle.locnum_lines.specs.Gathered.{Adds, GatheredData, GoesOn, IsFirstOf}
-use Rattle.locnum_lines.specs.Ran.{Ran, joined, then_runs, writes}
+use Rattle.locnum_lines.specs.Ran.{Ran, joined_runs, then_runs, writes}
 use Rattle.locnum_lines.specs.Settings.{SettingsData, is_chosen}
 use Rattle.locnum_lines.specs.Stage.{Stage, fields_of, header_passed}
-use Rattle.locnum_lines.specs.declared.cutting.Place.TheVariants.{Front}
+use Rattle.locnum_lines.specs.declared.cutting.FieldState.TheVariants.{Front}
 use Rattle.locnum_lines.specs.declared.settings.FieldRange.{FieldRange}
-use Rattle.locnum_lines.proofs.Adding.{Adds-counted, Adds-joined, Adds-nothing, Adds-within, Adds-writes, joined-assoc}
+use Rattle.locnum_lines.proofs.Adding.{Adds-counted, Adds-joined_runs, Adds-nothing, Adds-within, Adds-writes, joined_runs-assoc}
 use Rattle.locnum_lines.proofs.Adding.{then_runs-on, then_runs-stopped}
 use Rattle.locnum_lines.proofs.FirstField.{field_length-within, fields-first, fields-last}
 
@@ -24,7 +24,7 @@ module _ (settings : SettingsData) (form : FormData) (stage : Stage) (index : �
   -- the first of some fields
   fields_ran-first : (field : Field) (fields : List Field) → fields_ran settings form stage index (field ∷ fields)
       ≡ then_runs (field_ran settings form stage index field.text)
-      (joined (writes field.behind) (fields_ran settings form stage (suc index) fields))
+      (joined_runs (writes field.behind) (fields_ran settings form stage (suc index) fields))
   unfolding fields_ran
   fields_ran-first field fields = refl
 
@@ -49,7 +49,7 @@ module _ (settings : SettingsData) (form : FormData) (stage : Stage) (index : �
 
   -- the first field, and what comes behind it
   starts : (n ≡ length line) → fields_ran settings form stage index (fields_from settings.delimiter Front line)
-      ≡ then_runs r (joined (writes []) (writes []))
+      ≡ then_runs r (joined_runs (writes []) (writes []))
   starts e =
       let all : take n line ≡ line = take_whole line n e in
       ap (fields_ran settings form stage index) (fields-last settings.delimiter Front line (sym is ∙ e))
@@ -60,7 +60,7 @@ module _ (settings : SettingsData) (form : FormData) (stage : Stage) (index : �
       take_whole xs n e = rw e (take-length xs)
 
   goes : (n < length line) → fields_ran settings form stage index (fields_from settings.delimiter Front line)
-      ≡ then_runs r (joined (writes (get_or line n 0 ∷ [])) later)
+      ≡ then_runs r (joined_runs (writes (get_or line n 0 ∷ [])) later)
   goes inside = ap (fields_ran settings form stage index) (fields-first settings.delimiter Front line n is inside)
       ∙ fields_ran-first settings form stage index (record { text = take n line; behind = get_or line n 0 ∷ [] })
       (fields_from settings.delimiter Front (drop (n + 1) line))
@@ -84,9 +84,9 @@ module _ (settings : SettingsData) (form : FormData) (index : ℕ) (line : List 
     where
       ends : first.is_stopped ≡ true → (n ≡ length line) ⊎ (n < length line) →
           fields_ran settings form old.stage index (fields_from settings.delimiter Front line) ≡ first
-      ends stopped (inl e) = starts settings form old.stage index line n is e ∙ then_runs-stopped first (joined (writes []) (writes [])) stopped
+      ends stopped (inl e) = starts settings form old.stage index line n is e ∙ then_runs-stopped first (joined_runs (writes []) (writes [])) stopped
       ends stopped (inr inside) = goes settings form old.stage index line n is inside
-          ∙ then_runs-stopped first (joined (writes (get_or line n 0 ∷ [])) (later settings form old.stage index line n is)) stopped
+          ∙ then_runs-stopped first (joined_runs (writes (get_or line n 0 ∷ [])) (later settings form old.stage index line n is)) stopped
 
   -- the line has one field
   pub goes-last : new.is_stopped ≡ false → n ≡ length line → GoesOn settings form index old new line None
@@ -94,10 +94,10 @@ module _ (settings : SettingsData) (form : FormData) (index : ℕ) (line : List 
       let going : first.is_stopped ≡ false = sym adds.is_stopped ∙ on in
       let counted : index ≤ first.most_fields = field_ran-counted settings form old.stage index (take n line) in
       record {
-        ran = joined first (joined (writes []) (writes []));
+        ran = joined_runs first (joined_runs (writes []) (writes []));
         adds = Adds-nothing old new first old.stage adds going;
         counted = omega (arith, counted);
-        is_first = starts settings form old.stage index line n is e ∙ then_runs-on first (joined (writes []) (writes [])) going;
+        is_first = starts settings form old.stage index line n is e ∙ then_runs-on first (joined_runs (writes []) (writes [])) going;
         shorter = tt;
       }
 
@@ -110,10 +110,14 @@ module _ (settings : SettingsData) (form : FormData) (index : ℕ) (line : List 
       let sep = writes (get_or line n 0 ∷ []) in
       let rest = later settings form old.stage index line n is in
       record {
-        ran = joined first sep;
+        ran = joined_runs first sep;
         adds = Adds-within old new newer first sep adds going more;
         counted = omega (arith, counted);
-        is_first = (refl, goes settings form old.stage index line n is inside ∙ then_runs-on first (joined sep rest) going ∙ joined-assoc first sep rest);
+        is_first = (
+          refl,
+          goes settings form old.stage index line n is inside ∙ then_runs-on first (joined_runs sep rest) going
+              ∙ joined_runs-assoc first sep rest,
+        );
         shorter = omega (arith, length-drop (n + 1) line);
       }
 
@@ -144,7 +148,7 @@ module _ (settings : SettingsData) (form : FormData) (whole : Ran) (old mid new 
   pub InLine-goes : InLine settings form whole old mid index (Some line) → GoesOn settings form index mid new line rest → index' ≡ suc index →
       InLine settings form whole old new index' rest
   InLine-goes i g e = record {
-    ran = joined i.ran g.ran;
+    ran = joined_runs i.ran g.ran;
     adds = Adds-within old mid new i.ran g.ran i.adds i.is_first.0 g.adds;
     is_first = first rest (rw same at g.is_first);
   }
@@ -157,13 +161,13 @@ module _ (settings : SettingsData) (form : FormData) (whole : Ran) (old mid new 
 
       first : (k : Option (List ℕ)) → IsFirstOf g.ran (fields_ran settings form old.stage index (fields_from settings.delimiter Front line))
           (option_map (λ bytes. fields_ran settings form old.stage (suc index) (fields_from settings.delimiter Front bytes)) k) →
-          IsFirstOf (joined i.ran g.ran) whole
+          IsFirstOf (joined_runs i.ran g.ran) whole
           (option_map (λ bytes. fields_ran settings form old.stage index' (fields_from settings.delimiter Front bytes)) k)
-      first None h = i.is_first.1 ∙ ap (joined i.ran) h
+      first None h = i.is_first.1 ∙ ap (joined_runs i.ran) h
       first (Some bytes) h = (
         h.0,
-        rw e (i.is_first.1 ∙ ap (joined i.ran) h.1
-            ∙ joined-assoc i.ran g.ran (fields_ran settings form old.stage (suc index) (fields_from settings.delimiter Front bytes))),
+        rw e (i.is_first.1 ∙ ap (joined_runs i.ran) h.1
+            ∙ joined_runs-assoc i.ran g.ran (fields_ran settings form old.stage (suc index) (fields_from settings.delimiter Front bytes))),
       )
 
 -- at its end all of the line was run
@@ -174,13 +178,13 @@ InLine-ends settings form whole old new index i = rw i.is_first i.adds
 module _ (settings : SettingsData) (form : FormData) (last : ℕ) (line : List ℕ) (old : GatheredData) where
   -- a line of the header
   pub Adds-header : (new : GatheredData) → 0 < old.stage.left →
-      Adds old new (joined (writes (line ++ last ∷ [])) (named_ran settings old.stage line)) (header_passed settings old.stage line) →
+      Adds old new (joined_runs (writes (line ++ last ∷ [])) (named_ran settings old.stage line)) (header_passed settings old.stage line) →
       Adds old new (next_ran settings form old.stage last line) (header_passed settings old.stage line)
   unfolding next_ran
   Adds-header new some adds = rw (header old.stage.left some) adds
     where
       header : (left : ℕ) → 0 < left →
-          line_by settings form old.stage last left line ≡ joined (writes (line ++ last ∷ [])) (named_ran settings old.stage line)
+          line_by settings form old.stage last left line ≡ joined_runs (writes (line ++ last ∷ [])) (named_ran settings old.stage line)
       header zero some = absurd (omega arith)
       header (suc left) some = refl
 
@@ -243,8 +247,8 @@ module _ (settings : SettingsData) (form : FormData) (begun : ℕ) (old mid new 
   open-behind on stops f =
       let going : (next_ran settings form old.stage last front).is_stopped ≡ false = sym adds.is_stopped ∙ on in
       rw (then_runs-on (next_ran settings form old.stage last front) (unended_ran begun) going)
-      (Adds-any old new (joined (next_ran settings form old.stage last front) (unended_ran begun)) mid.stage after stops
-      (Adds-joined old mid new (next_ran settings form old.stage last front) (unended_ran begun)
+      (Adds-any old new (joined_runs (next_ran settings form old.stage last front) (unended_ran begun)) mid.stage after stops
+      (Adds-joined_runs old mid new (next_ran settings form old.stage last front) (unended_ran begun)
       (header_passed settings old.stage front) mid.stage adds going f))
 
   -- and where the run stops before

@@ -1,6 +1,6 @@
 pub mod Cuts
 pub mod Quotes
-pub mod Places
+pub mod States
 pub mod Adding
 pub mod Numbers
 pub mod Chosen
@@ -10,7 +10,7 @@ pub mod Naming
 pub mod Passing
 pub mod Feeding
 pub mod Skips
-pub mod LinePlaces
+pub mod LineEnds
 pub mod Fed
 pub mod Runs
 pub mod OneField

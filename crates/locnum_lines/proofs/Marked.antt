@@ -11,7 +11,7 @@ use Rattle.decimal_lines.specs.Written.{AppendsBeginning, AppendsProperBeginning
 use Rattle.decimal_lines.proofs.Known.{Appends-then, AppendsBeginning-more, AppendsBeginning-nothing, AppendsBeginning-then}
 use Rattle.locnum_forms.specs.Forms.{FormData}
 use Rattle.locnum_lines.specs.Front.{is_marked, mark_length}
-use Rattle.locnum_lines.specs.Ran.{Ran, joined, writes}
+use Rattle.locnum_lines.specs.Ran.{Ran, joined_runs, writes}
 use Rattle.locnum_lines.specs.RecordRuns.{behind_mark, input_ran, rest_ran}
 use Rattle.locnum_lines.specs.Reported.{Begins, Ends, ReportData}
 use Rattle.locnum_lines.specs.Settings.{SettingsData}
@@ -47,7 +47,7 @@ module _ (settings : SettingsData) (form : FormData) (front : List ℕ) (rest : 
   n = mark_length settings.source front
 
   -- what an input writes by its first bytes
-  pub input-marked : input_ran settings form (front ++ rest) ≡ joined (writes (take n front)) (rest_ran settings form (drop n front ++ rest))
+  pub input-marked : input_ran settings form (front ++ rest) ≡ joined_runs (writes (take n front)) (rest_ran settings form (drop n front ++ rest))
   unfolding input_ran
   input-marked =
       let within : n ≤ length front = mark_length-within settings.source front in
@@ -56,10 +56,10 @@ module _ (settings : SettingsData) (form : FormData) (front : List ℕ) (rest : 
 
 -- bytes were written, and what comes behind them
 pub ends-behind : (ran : Ran) (mark : List ℕ) (w w1 w2 n n2 : Option (List ℕ)) (report : ReportData) (left : Option (List ℕ)) →
-    Appends w w1 mark → Ends ran w1 w2 n n2 report left → Ends (joined (writes mark) ran) w w2 n n2 report left
+    Appends w w1 mark → Ends ran w1 w2 n n2 report left → Ends (joined_runs (writes mark) ran) w w2 n n2 report left
 ends-behind ran mark w w1 w2 n n2 report left p e = record {
   written = Appends-then w w1 w2 mark ran.output p e.written;
-  told = e.told;
+  reported = e.reported;
   is_refused = e.is_refused;
   is_stopped = e.is_stopped;
   most_fields = e.most_fields ∙ sym (zero-max ran.most_fields);
@@ -69,14 +69,14 @@ ends-behind ran mark w w1 w2 n n2 report left p e = record {
 
 -- or a beginning of that
 begins-behind : (ran : Ran) (mark : List ℕ) (w w1 w2 n n2 : Option (List ℕ)) → Appends w w1 mark → Begins ran w1 w2 n n2 →
-    Begins (joined (writes mark) ran) w w2 n n2
+    Begins (joined_runs (writes mark) ran) w w2 n n2
 begins-behind ran mark w w1 w2 n n2 p b =
-    record { written = AppendsBeginning-then w w1 w2 mark ran.output p b.written; told = b.told }
+    record { written = AppendsBeginning-then w w1 w2 mark ran.output p b.written; reported = b.reported }
 
 -- a beginning of the bytes
-begins-within : (ran : Ran) (mark : List ℕ) (w w1 n : Option (List ℕ)) → AppendsBeginning w w1 mark → Begins (joined (writes mark) ran) w w1 n n
+begins-within : (ran : Ran) (mark : List ℕ) (w w1 n : Option (List ℕ)) → AppendsBeginning w w1 mark → Begins (joined_runs (writes mark) ran) w w1 n n
 begins-within ran mark w w1 n b =
-    record { written = AppendsBeginning-more w w1 mark ran.output b; told = AppendsBeginning-nothing n ran.notes }
+    record { written = AppendsBeginning-more w w1 mark ran.output b; reported = AppendsBeginning-nothing n ran.notes }
 
 -- a proper beginning is a beginning
 pub any_beginning : (w w1 : Option (List ℕ)) (whole : List ℕ) → AppendsProperBeginning w w1 whole → AppendsBeginning w w1 whole
@@ -119,7 +119,7 @@ module _ (settings : SettingsData) (form : FormData) (front : List ℕ) where
             let ran : Ran = rest_ran settings form (drop marked front ++ rest) in
             let moved : Ends ran w1 w2 n n2 report left = record {
               written = f.written;
-              told = f.told;
+              reported = f.reported;
               is_refused = f.is_refused;
               is_stopped = f.is_stopped;
               most_fields = f.most_fields;
@@ -164,5 +164,5 @@ begins-unwritten settings form None w n = tt
 begins-unwritten settings form (Some input) w n =
     record {
       written = AppendsBeginning-nothing w (input_ran settings form input).output;
-      told = AppendsBeginning-nothing n (input_ran settings form input).notes;
+      reported = AppendsBeginning-nothing n (input_ran settings form input).notes;
     }

@@ -56,14 +56,14 @@ nearest-all wanted near = refl
 pub nearest-start : (wanted : List ℕ) (header : List (List ℕ)) → nearest wanted header ≡ nearest_of wanted [] header
 nearest-start wanted header = refl
 
--- a name is put in its place, and five are kept
+-- a name is put in its position, and five are kept
 pub name-inserted : {V : Type 0} (f : V → List ℕ) (wanted name : List ℕ) (near more kept : List V) (i : ℕ) (v : V) → f v ≡ name
     → with_name wanted name (map f near) ≡ take i (map f near) ++ name ∷ drop i (map f near)
     → more ≡ take i near ++ v ∷ drop i near → kept ≡ take 5 more → map f kept ≡ take 5 (with_name wanted name (map f near))
-name-inserted f wanted name near more kept i v is place inserted five =
+name-inserted f wanted name near more kept i v is position inserted five =
     let all : map f more ≡ with_name wanted name (map f near) =
     ap (map f) inserted ∙ map-append f (take i near) (v ∷ drop i near)
     ∙ ap (λ (k : List (List ℕ)). k ++ f v ∷ map f (drop i near)) (sym (take-map f i near))
     ∙ ap (λ (k : List (List ℕ)). take i (map f near) ++ f v ∷ k) (sym (drop-map f i near))
-    ∙ ap (λ (x : List ℕ). take i (map f near) ++ x ∷ drop i (map f near)) is ∙ sym place in
+    ∙ ap (λ (x : List ℕ). take i (map f near) ++ x ∷ drop i (map f near)) is ∙ sym position in
     ap (map f) five ∙ sym (take-map f 5 more) ∙ ap (λ (k : List (List ℕ)). take 5 k) all

@@ -5,14 +5,14 @@ use Rattle.std.specs.Prelude.{Result, Ok, Err, Option, option_map}
 use Rattle.std.proofs.Math.Nat.{max-zero}
 use Rattle.std.proofs.lemmas.List.{append-nil}
 use Rattle.writeable.specs.Events.{Event, text_of}
-use Rattle.decimal_lines.specs.SingleText.{AppendsShown, IsRefusal}
+use Rattle.decimal_lines.specs.SingleText.{AppendsEvents, IsRefusal}
 use Rattle.decimal_lines.specs.declared.single_text.TextError.{TextError}
 use Rattle.decimal_lines.specs.declared.single_text.TextError.TheVariants.{OutOfMemory}
 use Rattle.locnum_forms.specs.Forms.{FormData, form_events}
 use Rattle.locnum_lines.specs.FieldRuns.{blanks_kept, chosen_ran, csv_cut_ran, field_ran, held_by, picked_ran, refused_ran, writes_number}
 use Rattle.locnum_lines.specs.Csv.{as_field, core_length, is_in_quotes}
-use Rattle.locnum_lines.specs.Fields.{Cut, cut}
-use Rattle.locnum_lines.specs.Notes.{note, place_text}
+use Rattle.locnum_lines.specs.Fields.{Cut, cut_field}
+use Rattle.locnum_lines.specs.Notes.{note, position_text}
 use Rattle.locnum_lines.specs.Padding.{padded}
 use Rattle.locnum_lines.specs.Settings.{SettingsData, is_chosen}
 use Rattle.locnum_lines.specs.declared.settings.Delimiter.{Delimiter}
@@ -24,7 +24,7 @@ use Rattle.locnum_lines.specs.declared.padding.Width.{Width}
 use Rattle.locnum_lines.proofs.Adding.{Adds-recounted, Adds-within, Adds-writes, or_false}
 
 -- what is appended for a text has events
-pub shown-events : (shown : Result (List Event) TextError) (old new : List ℕ) → AppendsShown shown old new →
+pub shown-events : (shown : Result (List Event) TextError) (old new : List ℕ) → AppendsEvents shown old new →
     (events : List Event) × (shown ≡ Ok events) × (new ≡ old ++ text_of events)
 shown-events (Ok events) old new e = (events, refl, e)
 shown-events (Err error) old new e = absurd e
@@ -72,13 +72,13 @@ pub number-refused : (settings : SettingsData) (form : FormData) (index : ℕ) (
     old.is_stopped ≡ false → IsRefusal (form_events form field.number) error → error ≢ OutOfMemory →
     mid ≡ record old { output = old.output ++ field.before } →
     Adds mid new (refused_ran settings.refusals (field.number ++ field.behind)
-    (note (place_text settings.source mid.stage.lines mid.stage.names index) field.number error)) mid.stage →
+    (note (position_text settings.source mid.stage.lines mid.stage.names index) field.number error)) mid.stage →
     Adds old new (chosen_ran settings form old.stage index field) old.stage
 unfolding chosen_ran
 number-refused settings form index field old mid new error going (inl e) told same adds = absurd (told e)
 number-refused settings form index field old mid new error going (inr e) told same adds =
     let refused : Stage → Ran = λ (k : Stage). refused_ran settings.refusals (field.number ++ field.behind)
-    (note (place_text settings.source k.lines k.names index) field.number error) in
+    (note (position_text settings.source k.lines k.names index) field.number error) in
     let moved : Adds mid new (refused old.stage) mid.stage =
     subst (λ (k : Stage). Adds mid new (refused k) mid.stage) (ap (λ g. g.stage) same) adds in
     rw e (Adds-within old mid new (writes field.before) (refused old.stage) (Adds-writes old mid field.before going same) refl moved)
@@ -103,17 +103,17 @@ module _ (settings : SettingsData) (form : FormData) (stage after : Stage) (inde
 
 module _ (settings : SettingsData) (form : FormData) (stage after : Stage) (index : ℕ) (old new : GatheredData) where
   -- by the parts of its text
-  pub parts-chosen : (text before number behind : List ℕ) → cut text ≡ record { before = before; number = number; behind = behind } →
+  pub parts-chosen : (text before number behind : List ℕ) → cut_field text ≡ record { before = before; number = number; behind = behind } →
       Adds old new (chosen_ran settings form stage index (record { before = before; number = number; behind = behind })) after →
-      Adds old new (chosen_ran settings form stage index (cut text)) after
+      Adds old new (chosen_ran settings form stage index (cut_field text)) after
   parts-chosen text before number behind parts adds =
       subst (λ (field : Cut). Adds old new (chosen_ran settings form stage index field) after) (sym parts) adds
 
   module _ (delimiter : ℕ) (text : List ℕ) where
     -- of CSV by the parts of its content
-    pub parts-csv : (content before number behind : List ℕ) → cut content ≡ record { before = before; number = number; behind = behind } →
+    pub parts-csv : (content before number behind : List ℕ) → cut_field content ≡ record { before = before; number = number; behind = behind } →
         Adds old new (csv_cut_ran settings form stage index delimiter text (record { before = before; number = number; behind = behind })) after →
-        Adds old new (csv_cut_ran settings form stage index delimiter text (cut content)) after
+        Adds old new (csv_cut_ran settings form stage index delimiter text (cut_field content)) after
     parts-csv content before number behind parts adds =
         subst (λ (field : Cut). Adds old new (csv_cut_ran settings form stage index delimiter text field) after) (sym parts) adds
 
@@ -133,7 +133,7 @@ module _ (settings : SettingsData) (form : FormData) (stage after : Stage) (inde
     -- and one whose number is rejected
     pub csv-refused : (field : Cut) (error : TextError) → IsRefusal (form_events form field.number) error → error ≢ OutOfMemory →
         Adds old new (refused_ran settings.refusals text
-        (note (place_text settings.source stage.lines stage.names index) field.number error)) after →
+        (note (position_text settings.source stage.lines stage.names index) field.number error)) after →
         Adds old new (csv_cut_ran settings form stage index delimiter text field) after
     unfolding csv_cut_ran
     csv-refused field error (inl e) told adds = absurd (told e)

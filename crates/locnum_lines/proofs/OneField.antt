@@ -15,8 +15,8 @@ use Rattle.fixed_decimal.specs.declared.signs.Sign.{Sign}
 use Rattle.fixed_decimal.specs.declared.signs.Sign.TheVariants.{None as no_sign, Negative, Positive}
 use Rattle.fixed_decimal.specs.Reading.{Digits, after_integer, digit_before, leading_digits, reading, signed, unsigned_reading, with_fraction}
 use Rattle.fixed_decimal.specs.Unsigned.{Unsigned}
-use Rattle.locnum_lines.specs.Fields.{Cut, blanks_before, content_length, cut, ends_field, field_length, is_blank, is_blank_behind}
-use Rattle.locnum_lines.specs.Fields.{is_plain, next_place, with_byte}
+use Rattle.locnum_lines.specs.Fields.{Cut, blanks_before, content_length, cut_field, ends_field, field_length, is_blank, is_blank_behind}
+use Rattle.locnum_lines.specs.Fields.{is_plain, next_state, with_byte}
 use Rattle.locnum_lines.specs.FieldRuns.{blanks_kept, chosen_ran, field_ran, held_by}
 use Rattle.locnum_lines.specs.Gathered.{Adds, GatheredData, GoesOn}
 use Rattle.locnum_lines.specs.Padding.{padded}
@@ -27,9 +27,9 @@ use Rattle.locnum_lines.specs.Whole.{LeavesNumbers, is_of_numbers}
 use Rattle.locnum_lines.proofs.Goes.{goes-last}
 use Rattle.locnum_lines.proofs.Numbers.{field-picked, number-shown, parts-chosen, width}
 use Rattle.locnum_lines.specs.Widths.{width_by}
-use Rattle.locnum_lines.specs.declared.cutting.Place.TheVariants.{Front}
+use Rattle.locnum_lines.specs.declared.cutting.FieldState.TheVariants.{Front}
 use Rattle.locnum_lines.specs.declared.padding.Width.{Width}
-use Rattle.locnum_lines.specs.declared.cutting.Place.{Place}
+use Rattle.locnum_lines.specs.declared.cutting.FieldState.{FieldState}
 use Rattle.locnum_lines.specs.declared.settings.Delimiter.{Delimiter}
 use Rattle.locnum_lines.specs.declared.settings.Delimiter.TheVariants.{Blanks, Byte, Csv}
 
@@ -104,27 +104,27 @@ no-blank-behind : (b : ℕ) → is_of_numbers b ≡ true → is_blank_behind b �
 no-blank-behind b h = grind (arith, nat_tests)
 
 -- and ends no field
-goes-on : (delimiter : Delimiter) (place : Place) (b : ℕ) → LeavesNumbers delimiter → is_of_numbers b ≡ true →
-    ends_field delimiter place b ≡ false
-goes-on Blanks place b leaves h = rw (no-blank b h) (neither (is_plain place))
+goes-on : (delimiter : Delimiter) (state : FieldState) (b : ℕ) → LeavesNumbers delimiter → is_of_numbers b ≡ true →
+    ends_field delimiter state b ≡ false
+goes-on Blanks state b leaves h = rw (no-blank b h) (neither (is_plain state))
   where
     neither : (t : Bool) → (t && false) ≡ false
     neither true = refl
     neither false = refl
-goes-on (Byte delimiter) place b leaves h = go (b == delimiter) refl
+goes-on (Byte delimiter) state b leaves h = go (b == delimiter) refl
   where
     go : (t : Bool) → (b == delimiter) ≡ t → t ≡ false
     go true e = absurd (false≢true (sym leaves ∙ ap is_of_numbers (sym (eqb-true b delimiter e)) ∙ h))
     go false e = refl
-goes-on (Csv delimiter) place b leaves h = absurd leaves
+goes-on (Csv delimiter) state b leaves h = absurd leaves
 
 -- a number is a whole field
-pub whole-field : (delimiter : Delimiter) (place : Place) (text : List ℕ) → LeavesNumbers delimiter → AreOfNumbers text →
-    field_length delimiter place text ≡ length text
+pub whole-field : (delimiter : Delimiter) (state : FieldState) (text : List ℕ) → LeavesNumbers delimiter → AreOfNumbers text →
+    field_length delimiter state text ≡ length text
 unfolding field_length
-whole-field delimiter place [] leaves h = refl
-whole-field delimiter place (b ∷ bs) leaves h =
-    rw (goes-on delimiter place b leaves h.0) (ap suc (whole-field delimiter (next_place delimiter place b) bs leaves h.1))
+whole-field delimiter state [] leaves h = refl
+whole-field delimiter state (b ∷ bs) leaves h =
+    rw (goes-on delimiter state b leaves h.0) (ap suc (whole-field delimiter (next_state delimiter state b) bs leaves h.1))
 
 no-blanks-before : (text : List ℕ) → AreOfNumbers text → blanks_before text ≡ 0
 unfolding blanks_before
@@ -141,8 +141,8 @@ all-content (b ∷ bs) h = rw (all-content bs h.1) (last bs)
     last (x ∷ xs) = refl
 
 -- without blanks
-pub cut-whole : (text : List ℕ) → AreOfNumbers text → cut text ≡ record { before = []; number = text; behind = [] }
-cut-whole text h =
+pub cut_field-whole : (text : List ℕ) → AreOfNumbers text → cut_field text ≡ record { before = []; number = text; behind = [] }
+cut_field-whole text h =
     let none = no-blanks-before text h in
     let all = all-content text h in
     rw (none, all, take-length text, drop_all (length text) text (omega arith)) refl
@@ -189,13 +189,13 @@ whole-goes settings form index line old new leaves chosen counted going events s
       holding = first_of old.holding (held_by settings.delimiter (text_of events));
     } =
     rw (filled (width_by settings.delimiter settings.padding index [] line) (text_of events) stands) written in
-    let adds = parts-chosen settings form old.stage old.stage index old new line [] line [] (cut-whole line of_numbers)
+    let adds = parts-chosen settings form old.stage old.stage index old new line [] line [] (cut_field-whole line of_numbers)
     (number-shown settings form old.stage index field old new new events going shown first all) in
     let picked : Adds old new (field_ran settings form old.stage index line) old.stage = pick settings.delimiter leaves refl adds in
     goes-last settings form index line (length line) is old new (rw (take-length line) picked) (ap (λ g. g.is_stopped) written ∙ going) refl
   where
     pick : (delimiter : Delimiter) → LeavesNumbers delimiter → settings.delimiter ≡ delimiter →
-        Adds old new (chosen_ran settings form old.stage index (cut line)) old.stage →
+        Adds old new (chosen_ran settings form old.stage index (cut_field line)) old.stage →
         Adds old new (field_ran settings form old.stage index line) old.stage
     pick Blanks l e a = field-picked settings form old.stage old.stage index line chosen Blanks e old new counted a
     pick (Byte delimiter) l e a = field-picked settings form old.stage old.stage index line chosen (Byte delimiter) e old new counted a

@@ -9,7 +9,7 @@ use Rattle.locnum_lines.specs.Passed.{IsPassed}
 use Rattle.locnum_lines.specs.Records.{IsPartLine, lines_in}
 use Rattle.locnum_lines.specs.Settings.{SettingsData, is_chosen}
 use Rattle.locnum_lines.specs.Stage.{fields_of}
-use Rattle.locnum_lines.specs.declared.cutting.Place.TheVariants.{Front}
+use Rattle.locnum_lines.specs.declared.cutting.FieldState.TheVariants.{Front}
 use Rattle.locnum_lines.proofs.Adding.{Adds-writes}
 use Rattle.locnum_lines.proofs.Goes.{goes-last, goes-on}
 use Rattle.locnum_lines.proofs.Numbers.{field-passed}

@@ -4,21 +4,21 @@ use Rattle.std.proofs.Common.{◌∷◌, ◌++◌, length, get_or, drop, refl, s
 use Rattle.std.proofs.lemmas.Bool.{false≢true}
 use Rattle.std.proofs.lemmas.List.{drop_all, drop_more}
 use Rattle.locnum_lines.specs.Csv.{between_quotes, content_from, doubled, is_in_quotes, is_special, kept, wants_quotes}
-use Rattle.locnum_lines.specs.Fields.{csv_place}
+use Rattle.locnum_lines.specs.Fields.{csv_state}
 use Rattle.locnum_lines.specs.Records.{IsPartLine}
-use Rattle.locnum_lines.specs.declared.cutting.Place.{Place}
-use Rattle.locnum_lines.specs.declared.cutting.Place.TheVariants.{Front, Plain, Quoted}
+use Rattle.locnum_lines.specs.declared.cutting.FieldState.{FieldState}
+use Rattle.locnum_lines.specs.declared.cutting.FieldState.TheVariants.{Front, Plain, Quoted}
 
 -- a byte more of a field
-pub content-step : (place : Place) (text : List ℕ) (n : ℕ) → n < length text → content_from place (drop n text)
-    ≡ kept place (get_or text n 0) ++ content_from (csv_place place (get_or text n 0)) (drop (n + 1) text)
+pub content-step : (state : FieldState) (text : List ℕ) (n : ℕ) → n < length text → content_from state (drop n text)
+    ≡ kept state (get_or text n 0) ++ content_from (csv_state state (get_or text n 0)) (drop (n + 1) text)
 unfolding content_from
-content-step place text n inside = rw (drop_more text n 0 inside) refl
+content-step state text n inside = rw (drop_more text n 0 inside) refl
 
 -- its end
-pub content-end : (place : Place) (text : List ℕ) (n : ℕ) → length text ≤ n → content_from place (drop n text) ≡ []
+pub content-end : (state : FieldState) (text : List ℕ) (n : ℕ) → length text ≤ n → content_from state (drop n text) ≡ []
 unfolding content_from
-content-end place text n past = rw (drop_all n text past) refl
+content-end state text n past = rw (drop_all n text past) refl
 
 -- outside of quotes each byte is of the content
 content-plain : (text : List ℕ) → content_from Plain text ≡ text

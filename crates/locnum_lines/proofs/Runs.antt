@@ -12,13 +12,13 @@ use Rattle.decimal_lines.specs.Written.{AppendsBeginning}
 use Rattle.decimal_lines.proofs.Known.{Appends-nothing, Appends-then, AppendsBeginning-more, AppendsBeginning-then}
 use Rattle.locnum_forms.specs.Forms.{FormData}
 use Rattle.locnum_lines.specs.Gathered.{Adds, Feeds, GatheredData}
-use Rattle.locnum_lines.specs.Ran.{Ran, first_of, joined, then_runs, writes}
+use Rattle.locnum_lines.specs.Ran.{Ran, first_of, joined_runs, then_runs, writes}
 use Rattle.locnum_lines.specs.RecordRuns.{rest_ran, record_ran, records_ran}
 use Rattle.locnum_lines.specs.Records.{IsPart, records_of}
 use Rattle.locnum_lines.specs.Reported.{Begins, Ends, Finishes, ReportData}
 use Rattle.locnum_lines.specs.Settings.{SettingsData}
 use Rattle.locnum_lines.specs.Stage.{Stage, stage_behind, start_of}
-use Rattle.locnum_lines.specs.declared.cutting.Place.TheVariants.{Front}
+use Rattle.locnum_lines.specs.declared.cutting.FieldState.TheVariants.{Front}
 use Rattle.locnum_lines.proofs.Adding.{Adds-end, then_runs-on, then_runs-stopped}
 use Rattle.locnum_lines.proofs.Fed.{Feeds-nothing, Feeds-then}
 use Rattle.locnum_lines.proofs.Feeding.{no_records, record-last, records_ran-append, records_ran-none, records_ran-one}
@@ -48,10 +48,10 @@ pub begins-then : (a b : Ran) (w w2 n n2 : Option (List ℕ)) → AppendsBeginni
 begins-then a b w w2 n n2 p q = go a.is_stopped refl
   where
     go : (t : Bool) → a.is_stopped ≡ t → Begins (then_runs a b) w w2 n n2
-    go true e = rw (then_runs-stopped a b e) (record { written = p; told = q })
+    go true e = rw (then_runs-stopped a b e) (record { written = p; reported = q })
     go false e = rw (then_runs-on a b e) (record {
       written = AppendsBeginning-more w w2 a.output b.output p;
-      told = AppendsBeginning-more n n2 a.notes b.notes q;
+      reported = AppendsBeginning-more n n2 a.notes b.notes q;
     })
 
 module _ (settings : SettingsData) (form : FormData) where
@@ -110,7 +110,7 @@ pub record Went (settings : SettingsData) (form : FormData) (w w' n n' : Option 
   pub output : List ℕ
   pub notes : List ℕ
   pub written : Appends w w' output
-  pub told : Appends n n' notes
+  pub reported : Appends n n' notes
   pub feeds : Feeds settings form (start settings) (record now { output = output; notes = notes }) [] got held
 
 -- of an input that begins with bytes that were fed this much was run
@@ -134,7 +134,7 @@ module _ (settings : SettingsData) (form : FormData) (w n : Option (List ℕ)) w
     output = [];
     notes = [];
     written = Appends-nothing w;
-    told = Appends-nothing n;
+    reported = Appends-nothing n;
     feeds = Feeds-nothing settings form (start settings) [] refl tt;
   }
 
@@ -147,7 +147,7 @@ module _ (settings : SettingsData) (form : FormData) (w n : Option (List ℕ)) w
     output = went.output ++ next.output;
     notes = went.notes ++ next.notes;
     written = Appends-then w w1 w2 went.output next.output went.written p;
-    told = Appends-then n n1 n2 went.notes next.notes went.told q;
+    reported = Appends-then n n1 n2 went.notes next.notes went.reported q;
     feeds = Feeds-then settings form (start settings) (record now { output = went.output; notes = went.notes })
         (record next { output = went.output ++ next.output; notes = went.notes ++ next.notes }) [] got held chunk held' on went.feeds
         (Feeds-shift settings form now next held chunk held' went.output went.notes none none' f);
@@ -172,7 +172,7 @@ module _ (settings : SettingsData) (form : FormData) (w n : Option (List ℕ)) w
         rw (begins rest) (begins-then first
         (later rest)
         w w1 n n1 (rw went.feeds.adds.output at (whole_appended w w1 went.output went.written))
-        (rw went.feeds.adds.notes at (whole_appended n n1 went.notes went.told)))
+        (rw went.feeds.adds.notes at (whole_appended n n1 went.notes went.reported)))
 
     -- so reading may fail, or memory run out
     pub pauses : (r r' : Option (List ℕ)) → Consumes r r' got → IfSome r (λ input. Begins (rest_ran settings form input) w w1 n n1)
@@ -194,7 +194,7 @@ module _ (settings : SettingsData) (form : FormData) (w n : Option (List ℕ)) w
           then_runs-stopped first (later rest) stopped,
         ) (record {
           written = rw went.feeds.adds.output at went.written;
-          told = rw went.feeds.adds.notes at went.told;
+          reported = rw went.feeds.adds.notes at went.reported;
           is_refused = ap (λ k. k.is_refused) e ∙ went.feeds.adds.is_refused;
           is_stopped = ap (λ k. k.is_stopped) e ∙ went.feeds.adds.is_stopped;
           most_fields = ap (λ k. k.most_fields) e ∙ went.feeds.adds.most_fields ∙ zero-max first.most_fields;
@@ -207,7 +207,7 @@ module _ (settings : SettingsData) (form : FormData) (w n : Option (List ℕ)) w
       last = records_ran settings form now.stage (records_of settings.delimiter settings.end held)
 
       -- of an input that was read to its end this is all
-      all : rest_ran settings form got ≡ joined first last
+      all : rest_ran settings form got ≡ joined_runs first last
       all =
           let going : first.is_stopped ≡ false = sym went.feeds.adds.is_stopped ∙ on in
           let stage : now.stage ≡ stage_behind settings (start_of settings) went.feeds.records = went.feeds.adds.stage on in
@@ -224,7 +224,7 @@ module _ (settings : SettingsData) (form : FormData) (w n : Option (List ℕ)) w
           let e : input ≡ got = p ∙ ap (λ (k : List ℕ). got ++ k) q ∙ append-nil got in
           rw (e, all) (record {
             written = Appends-then w w1 w2 first.output last.output (rw went.feeds.adds.output at went.written) f.written;
-            told = Appends-then n n1 n2 first.notes last.notes (rw went.feeds.adds.notes at went.told) f.told;
+            reported = Appends-then n n1 n2 first.notes last.notes (rw went.feeds.adds.notes at went.reported) f.reported;
             is_refused = f.is_refused ∙ ap (λ k. k || last.is_refused) went.feeds.adds.is_refused;
             is_stopped = f.is_stopped;
             most_fields = f.most_fields ∙ ap (λ k. max k last.most_fields) (went.feeds.adds.most_fields ∙ zero-max first.most_fields);
@@ -241,7 +241,7 @@ module _ (settings : SettingsData) (form : FormData) (w n : Option (List ℕ)) w
           let e : input ≡ got = p ∙ ap (λ (k : List ℕ). got ++ k) q ∙ append-nil got in
           rw (e, all) (record {
             written = AppendsBeginning-then w w1 w2 first.output last.output (rw went.feeds.adds.output at went.written) f.written;
-            told = AppendsBeginning-then n n1 n2 first.notes last.notes (rw went.feeds.adds.notes at went.told) f.told;
+            reported = AppendsBeginning-then n n1 n2 first.notes last.notes (rw went.feeds.adds.notes at went.reported) f.reported;
           })
 
   -- a block was run, and not all of what it writes and reports was written
@@ -262,4 +262,4 @@ module _ (settings : SettingsData) (form : FormData) (w n : Option (List ℕ)) w
       (records_ran settings form (stage_behind settings (start_of settings) fed.records)
       (records_of settings.delimiter settings.end (fed.left ++ rest))) w w2 n n2
       (rw fed.adds.output at (AppendsBeginning-then w w1 w2 went.output next.output went.written a))
-      (rw fed.adds.notes at (AppendsBeginning-then n n1 n2 went.notes next.notes went.told b')))
+      (rw fed.adds.notes at (AppendsBeginning-then n n1 n2 went.notes next.notes went.reported b')))

@@ -1,8 +1,8 @@
 -- What a field of CSV contains, and how a text is written as one (RFC 4180).
 use Rattle.std.specs.Prelude.{ℕ, ◌-◌, Bool, true, false, ◌||◌, not, ◌==◌, List, [], ◌∷◌, ◌++◌, length, get_or, if◌then◌else◌}
-use Rattle.locnum_lines.specs.Fields.{csv_place}
-use Rattle.locnum_lines.specs.declared.cutting.Place.{Place}
-use Rattle.locnum_lines.specs.declared.cutting.Place.TheVariants.{Front, Plain, Quoted, AfterQuote}
+use Rattle.locnum_lines.specs.Fields.{csv_state}
+use Rattle.locnum_lines.specs.declared.cutting.FieldState.{FieldState}
+use Rattle.locnum_lines.specs.declared.cutting.FieldState.TheVariants.{Front, Plain, Quoted, AfterQuote}
 
 -- how long a field is without a carriage return at its end, which belongs to the end of the line
 abbrev pub core_length : List ℕ → ℕ
@@ -14,20 +14,20 @@ is_in_quotes [] = false
 is_in_quotes (b ∷ bs) = b == 34
 
 -- whether a byte at this place is of the content: all are but the quotes around it, and one of each two that stand for one
-abbrev pub is_content : Place → ℕ → Bool
+abbrev pub is_content : FieldState → ℕ → Bool
 is_content Front b = not (b == 34)
 is_content Plain b = true
 is_content Quoted b = not (b == 34)
 is_content AfterQuote b = true
 
 -- what this byte gives to the content
-abbrev pub kept : Place → ℕ → List ℕ
-kept place b = if is_content place b then b ∷ [] else []
+abbrev pub kept : FieldState → ℕ → List ℕ
+kept state b = if is_content state b then b ∷ [] else []
 
 -- the content of the rest of a field, from this place on
-unfoldable pub content_from : Place → List ℕ → List ℕ
-content_from place [] = []
-content_from place (b ∷ bs) = kept place b ++ content_from (csv_place place b) bs
+unfoldable pub content_from : FieldState → List ℕ → List ℕ
+content_from state [] = []
+content_from state (b ∷ bs) = kept state b ++ content_from (csv_state state b) bs
 
 -- a quote, the delimiter, or the byte that ends a line
 abbrev pub is_special : ℕ → ℕ → ℕ → Bool

@@ -1,24 +1,24 @@
 -- The numbers of records, each with where it stands, for a caller that doesn't write lines.
 use Rattle.std.specs.Prelude.{ℕ, zero, suc, ◌+◌, Bool, true, false, List, [], ◌∷◌, length, if◌then◌else◌}
-use Rattle.locnum_lines.specs.Fields.{cut}
-use Rattle.locnum_lines.specs.Notes.{place_text}
+use Rattle.locnum_lines.specs.Fields.{cut_field}
+use Rattle.locnum_lines.specs.Notes.{position_text}
 use Rattle.locnum_lines.specs.Ran.{Ran, counts}
 use Rattle.locnum_lines.specs.RecordRuns.{named_ran, unended_ran}
 use Rattle.locnum_lines.specs.Records.{is_open, last_begun}
 use Rattle.locnum_lines.specs.Settings.{SettingsData, is_chosen}
 use Rattle.locnum_lines.specs.Stage.{Stage, fields_of, names_in}
-use Rattle.locnum_lines.specs.declared.cutting.Place.TheVariants.{Front}
+use Rattle.locnum_lines.specs.declared.cutting.FieldState.TheVariants.{Front}
 
 -- where a number stands, as notes say it, and its text
 pub record FoundData : Type 0 where
-  pub place : List ℕ
+  pub position : List ℕ
   pub text : List ℕ
 
 -- the number of a field, by what the field contains
 abbrev pub found_at : SettingsData → Stage → ℕ → List ℕ → FoundData
 found_at settings stage index content = record {
-  place = place_text settings.source stage.lines stage.names index;
-  text = (cut content).number;
+  position = position_text settings.source stage.lines stage.names index;
+  text = (cut_field content).number;
 }
 
 -- a number in front of others, if its field is chosen

@@ -4,12 +4,12 @@ use Rattle.std.specs.Prelude.{Some, None, IfSome, option_map}
 use Rattle.locnum_forms.specs.Forms.{FormData}
 use Rattle.locnum_lines.specs.FieldRuns.{fields_ran}
 use Rattle.locnum_lines.specs.Fields.{fields_from}
-use Rattle.locnum_lines.specs.Ran.{Ran, first_of, joined}
+use Rattle.locnum_lines.specs.Ran.{Ran, first_of, joined_runs}
 use Rattle.locnum_lines.specs.RecordRuns.{records_ran}
 use Rattle.locnum_lines.specs.Records.{IsPart, records_of}
 use Rattle.locnum_lines.specs.Settings.{SettingsData}
 use Rattle.locnum_lines.specs.Stage.{Stage, stage_behind}
-use Rattle.locnum_lines.specs.declared.cutting.Place.TheVariants.{Front}
+use Rattle.locnum_lines.specs.declared.cutting.FieldState.TheVariants.{Front}
 
 -- output and notes, whether a number was rejected, whether the run stopped, the greatest number of a field, the first written
 -- number that holds the delimiter, and how far the run is
@@ -35,7 +35,7 @@ pub record Adds (old new : GatheredData) (ran : Ran) (after : Stage) : Type 0 wh
 -- all that is run is this part, or this part, which doesn't stop, and then the rest
 abbrev pub IsFirstOf : Ran → Ran → Option Ran → Type 0
 IsFirstOf ran all None = all ≡ ran
-IsFirstOf ran all (Some rest) = (ran.is_stopped ≡ false) × (all ≡ joined ran rest)
+IsFirstOf ran all (Some rest) = (ran.is_stopped ≡ false) × (all ≡ joined_runs ran rest)
 
 -- from this field on of a record some fields were run, and counted; the others are those of the rest, if there is one
 pub record GoesOn (settings : SettingsData) (form : FormData) (index : ℕ) (old new : GatheredData) (line : List ℕ)

@@ -23,14 +23,14 @@ column_text (Some (b ∷ bs)) = codes " (" ++ reported (b ∷ bs) ++ codes ")"
 
 -- where a field of this number stands in a record behind that many lines: the line on which the record begins, the number, and
 -- the name of the column; or which argument it is
-unfoldable pub place_text : Source → ℕ → List (List ℕ) → ℕ → List ℕ
-place_text Lines lines names index =
+unfoldable pub position_text : Source → ℕ → List (List ℕ) → ℕ → List ℕ
+position_text Lines lines names index =
     codes "line " ++ decimal (lines + 1) ++ codes ", field " ++ decimal index ++ column_text (slice_get names (index - 1))
-place_text (Word number) lines names index = codes "word " ++ decimal number
+position_text (Word number) lines names index = codes "word " ++ decimal number
 
 -- the line that says why a text at this place is rejected
 unfoldable pub note : List ℕ → List ℕ → TextError → List ℕ
-note place text error = codes "locnum: " ++ place ++ codes ": " ++ reported text ++ codes ": " ++ reason error ++ 10 ∷ []
+note position text error = codes "locnum: " ++ position ++ codes ": " ++ reported text ++ codes ": " ++ reason error ++ 10 ∷ []
 
 -- names behind another one
 abbrev pub others_text : List (List ℕ) → List ℕ

@@ -25,8 +25,8 @@ first_of [] other = other
 first_of (b ∷ bs) other = b ∷ bs
 
 -- two parts, the one behind the other
-abbrev pub joined : Ran → Ran → Ran
-joined a b = record {
+abbrev pub joined_runs : Ran → Ran → Ran
+joined_runs a b = record {
   output = a.output ++ b.output;
   notes = a.notes ++ b.notes;
   is_refused = a.is_refused || b.is_refused;
@@ -37,4 +37,4 @@ joined a b = record {
 
 -- a part, and another behind it unless the run stops there
 abbrev pub then_runs : Ran → Ran → Ran
-then_runs a b = if a.is_stopped then a else joined a b
+then_runs a b = if a.is_stopped then a else joined_runs a b

@@ -7,11 +7,11 @@ use Rattle.locnum_lines.specs.Fields.{fields_from}
 use Rattle.locnum_lines.specs.Front.{mark_length}
 use Rattle.locnum_lines.specs.Notes.{missing_note, unended_note}
 use Rattle.locnum_lines.specs.Named.{missing_name}
-use Rattle.locnum_lines.specs.Ran.{Ran, joined, then_runs, writes}
+use Rattle.locnum_lines.specs.Ran.{Ran, joined_runs, then_runs, writes}
 use Rattle.locnum_lines.specs.Records.{in_front, is_open, last_begun, records_of}
 use Rattle.locnum_lines.specs.Settings.{SettingsData}
 use Rattle.locnum_lines.specs.Stage.{Stage, names_in, stage_after, start_of}
-use Rattle.locnum_lines.specs.declared.cutting.Place.TheVariants.{Front}
+use Rattle.locnum_lines.specs.declared.cutting.FieldState.TheVariants.{Front}
 
 -- the fields of a record, and the byte behind it
 unfoldable pub line_ran : SettingsData → FormData → Stage → ℕ → List ℕ → Ran
@@ -34,7 +34,7 @@ named_ran settings stage line =
 -- a record and the byte behind it, in front of which that many records of the header are left: those of the header go through
 abbrev pub line_by : SettingsData → FormData → Stage → ℕ → ℕ → List ℕ → Ran
 line_by settings form stage last zero line = line_ran settings form stage last line
-line_by settings form stage last (suc left) line = joined (writes (line ++ last ∷ [])) (named_ran settings stage line)
+line_by settings form stage last (suc left) line = joined_runs (writes (line ++ last ∷ [])) (named_ran settings stage line)
 
 -- a record and the byte behind it
 unfoldable pub next_ran : SettingsData → FormData → Stage → ℕ → List ℕ → Ran
@@ -69,7 +69,7 @@ rest_ran settings form input = records_ran settings form (start_of settings) (re
 
 -- an input behind that many bytes, which go through as they are
 abbrev pub behind_mark : SettingsData → FormData → ℕ → List ℕ → Ran
-behind_mark settings form n input = joined (writes (take n input)) (rest_ran settings form (drop n input))
+behind_mark settings form n input = joined_runs (writes (take n input)) (rest_ran settings form (drop n input))
 
 -- an input: its byte order mark goes through and belongs to no field
 unfoldable pub input_ran : SettingsData → FormData → List ℕ → Ran

@@ -16,7 +16,7 @@ pub record ReportData : Type 0 where
 -- all of what was run was written and reported, and is reported; unless the run stopped, nothing is left to read
 pub record Ends (ran : Ran) (writer writer' notes notes' : Option (List ℕ)) (report : ReportData) (left : Option (List ℕ)) : Type 0 where
   pub written : Appends writer writer' ran.output
-  pub told : Appends notes notes' ran.notes
+  pub reported : Appends notes notes' ran.notes
   pub is_refused : report.is_refused ≡ ran.is_refused
   pub is_stopped : report.is_stopped ≡ ran.is_stopped
   pub most_fields : report.most_fields ≡ ran.most_fields
@@ -26,12 +26,12 @@ pub record Ends (ran : Ran) (writer writer' notes notes' : Option (List ℕ)) (r
 -- a beginning of what is to be written was, and a beginning of what is to be reported
 pub record Begins (ran : Ran) (writer writer' notes notes' : Option (List ℕ)) : Type 0 where
   pub written : AppendsBeginning writer writer' ran.output
-  pub told : AppendsBeginning notes notes' ran.notes
+  pub reported : AppendsBeginning notes notes' ran.notes
 
 -- the last lines of a run were written and reported, behind a part that was run before
 pub record Finishes (ran : Ran) (before : GatheredData) (writer writer' notes notes' : Option (List ℕ)) (report : ReportData) : Type 0 where
   pub written : Appends writer writer' ran.output
-  pub told : Appends notes notes' ran.notes
+  pub reported : Appends notes notes' ran.notes
   pub is_refused : report.is_refused ≡ (before.is_refused || ran.is_refused)
   pub is_stopped : report.is_stopped ≡ ran.is_stopped
   pub most_fields : report.most_fields ≡ max before.most_fields ran.most_fields

@@ -1,11 +1,11 @@
 -- How far a run is.
 use Rattle.std.specs.Prelude.{ℕ, ◌+◌, ◌-◌, ◌==◌, List, [], ◌∷◌, ◌++◌, map, take, Option, Some, None, if◌then◌else◌}
 use Rattle.locnum_lines.specs.Csv.{content_from, core_length}
-use Rattle.locnum_lines.specs.Fields.{Field, cut, fields_from}
+use Rattle.locnum_lines.specs.Fields.{Field, cut_field, fields_from}
 use Rattle.locnum_lines.specs.Named.{columns_named}
 use Rattle.locnum_lines.specs.Records.{lines_in}
 use Rattle.locnum_lines.specs.Settings.{SettingsData}
-use Rattle.locnum_lines.specs.declared.cutting.Place.TheVariants.{Front}
+use Rattle.locnum_lines.specs.declared.cutting.FieldState.TheVariants.{Front}
 use Rattle.locnum_lines.specs.declared.settings.Delimiter.{Delimiter}
 use Rattle.locnum_lines.specs.declared.settings.FieldRange.{FieldRange}
 use Rattle.locnum_lines.specs.declared.settings.Delimiter.TheVariants.{Blanks, Byte, Csv}
@@ -24,8 +24,8 @@ start_of settings = record { left = settings.header; lines = 0; names = []; colu
 
 -- the name that a field of the header gives: its content in CSV, else the field without the blanks around it
 abbrev pub name_in : Delimiter → List ℕ → List ℕ
-name_in Blanks text = (cut text).number
-name_in (Byte delimiter) text = (cut text).number
+name_in Blanks text = (cut_field text).number
+name_in (Byte delimiter) text = (cut_field text).number
 name_in (Csv delimiter) text = content_from Front (take (core_length text) text)
 
 -- the names that fields of the header give

@@ -3,14 +3,14 @@
 ghost use Rattle.std.specs.Prelude.{◌≡◌, ◌++◌, ◌∷◌, [], OnOk, false};
 ghost use Rattle.locnum_lines.specs.Gathered.{Adds, Feeds};
 ghost use Rattle.locnum_lines.specs.RecordRuns.{record_ran};
-ghost use Rattle.locnum_lines.specs.Records.{IsPart, IsPartLine, is_open, place_behind};
+ghost use Rattle.locnum_lines.specs.Records.{IsPart, IsPartLine, is_open, state_behind};
 ghost use Rattle.locnum_lines.specs.Stage.{stage_after};
-ghost use Rattle.locnum_lines.specs.declared.cutting.Place.TheVariants.{Front};
+ghost use Rattle.locnum_lines.specs.declared.cutting.FieldState.TheVariants.{Front};
 
-use crate::cutting::Place;
+use crate::cutting::FieldState;
 use crate::gathered::Gathered;
 use crate::line::push_record;
-use crate::records::{is_open_behind, lines_in, place_after, place_behind};
+use crate::records::{is_open_behind, lines_in, state_after, state_behind};
 use crate::settings::LineSettings;
 use locnum_forms::Form;
 use memchr::memchr_iter;
@@ -71,25 +71,25 @@ fn end_line(
     form: &Form,
     rest: &[u8],
     held: &mut Vec<u8>,
-    place: &mut Place,
+    state: &mut FieldState,
     gathered: &mut Gathered,
 ) -> Result<(), AllocError>
     requires going { gathered.old.is_stopped ≡ false }
     requires held_part { IsPart settings.now.delimiter settings.now.end Front held.old.items }
-    requires place_is { place.old ≡ place_behind settings.now.delimiter Front held.old.items }
+    requires state_is { state.old ≡ state_behind settings.now.delimiter Front held.old.items }
     requires rest_part { IsPartLine settings.now.end rest.now }
     ensures feeds { OnOk result (Feeds settings.now form.now gathered.old gathered.new
         held.old.items (rest.now ++ settings.now.end ∷ []) held.new.items) }
-    ensures place { OnOk result
-        (place.new ≡ place_behind settings.now.delimiter Front held.new.items) }
+    ensures state { OnOk result
+        (state.new ≡ state_behind settings.now.delimiter Front held.new.items) }
 {
-    if is_open_behind(settings.delimiter, *place, rest) {
-        *place = place_after(settings.delimiter, Place::Quoted, settings.end);
+    if is_open_behind(settings.delimiter, *state, rest) {
+        *state = state_after(settings.delimiter, FieldState::Quoted, settings.end);
         held.extend_from_slice(rest)?;
         held.push(settings.end)?;
         return Ok(());
     }
-    *place = Place::Front;
+    *state = FieldState::Front;
     end_record(alloc, settings, form, rest, held, gathered)
 }
 
@@ -101,28 +101,28 @@ pub(crate) fn take_block(
     form: &Form,
     block: &[u8],
     held: &mut Vec<u8>,
-    place: &mut Place,
+    state: &mut FieldState,
     gathered: &mut Gathered,
 ) -> Result<(), AllocError>
     requires going { gathered.old.is_stopped ≡ false }
     requires held_part { IsPart settings.now.delimiter settings.now.end Front held.old.items }
-    requires place_is { place.old ≡ place_behind settings.now.delimiter Front held.old.items }
+    requires state_is { state.old ≡ state_behind settings.now.delimiter Front held.old.items }
     ensures feeds { OnOk result (Feeds settings.now form.now gathered.old gathered.new
         held.old.items block.now held.new.items) }
-    ensures place { OnOk result (gathered.new.is_stopped ≡ false
-        → place.new ≡ place_behind settings.now.delimiter Front held.new.items) }
+    ensures state { OnOk result (gathered.new.is_stopped ≡ false
+        → state.new ≡ state_behind settings.now.delimiter Front held.new.items) }
 {
     let mut start = 0;
     for n in memchr_iter(settings.end, block) {
         let line = &block[start..n];
-        end_line(alloc, settings, form, line, held, place, gathered)?;
+        end_line(alloc, settings, form, line, held, state, gathered)?;
         if gathered.is_stopped {
             return Ok(());
         }
         start = n + 1;
     }
     let rest = &block[start..];
-    *place = place_behind(settings.delimiter, *place, rest);
+    *state = state_behind(settings.delimiter, *state, rest);
     held.extend_from_slice(rest)?;
     Ok(())
 }

@@ -2,9 +2,9 @@
 
 ghost use Rattle.std.specs.Prelude.{◌≡◌, ◌++◌, IfOk, IfSome, OnOk};
 ghost use Rattle.locnum_lines.specs.Csv.{between_quotes, content_from, core_length, doubled, is_content, is_in_quotes, is_special, kept, quoted, wants_quotes};
-ghost use Rattle.locnum_lines.specs.declared.cutting.Place.TheVariants.{Front};
+ghost use Rattle.locnum_lines.specs.declared.cutting.FieldState.TheVariants.{Front};
 
-use crate::cutting::{Place, csv_place};
+use crate::cutting::{FieldState, csv_state};
 use memchr::memchr;
 use std::alloc::{AllocError, Global};
 
@@ -31,20 +31,20 @@ pub(crate) fn is_in_quotes(text: &[u8]) -> bool
 }
 
 /// Whether a byte at this place is of the content.
-fn is_content(place: Place, byte: u8) -> bool
-    ensures { result ≡ is_content place byte }
+fn is_content(state: FieldState, byte: u8) -> bool
+    ensures { result ≡ is_content state byte }
 {
-    match place {
-        Place::Front | Place::Quoted => byte != b'"',
-        Place::Plain | Place::AfterQuote => true,
+    match state {
+        FieldState::Front | FieldState::Quoted => byte != b'"',
+        FieldState::Plain | FieldState::AfterQuote => true,
     }
 }
 
 /// Appends what this byte gives to the content.
-fn keep(place: Place, byte: u8, content: &mut Vec<u8>) -> Result<(), AllocError>
-    ensures { OnOk result (content.new.items ≡ content.old.items ++ kept place byte) }
+fn keep(state: FieldState, byte: u8, content: &mut Vec<u8>) -> Result<(), AllocError>
+    ensures { OnOk result (content.new.items ≡ content.old.items ++ kept state byte) }
 {
-    if is_content(place, byte) {
+    if is_content(state, byte) {
         content.push(byte)?;
     }
     Ok(())
@@ -71,10 +71,10 @@ pub(crate) fn content_of(alloc: Global, text: &[u8]) -> Result<Vec<u8>, AllocErr
     ensures { IfOk result (λ content. content.items ≡ content_from Front text.now) }
 {
     let mut content = Vec::new(alloc);
-    let mut place = Place::Front;
+    let mut state = FieldState::Front;
     for byte in text {
-        keep(place, *byte, &mut content)?;
-        place = csv_place(place, *byte);
+        keep(state, *byte, &mut content)?;
+        state = csv_state(state, *byte);
     }
     Ok(content)
 }

@@ -1,9 +1,9 @@
 //! Where fields end, and what of them is a number.
 
 ghost use Rattle.std.specs.Prelude.{◌≡◌, ◌+◌, ◌≤◌, drop, length};
-ghost use Rattle.locnum_lines.specs.Fields.{blanks_before, content_length, csv_place, ends_field, field_length, is_blank, is_blank_behind, is_plain, is_quoted};
-ghost use Rattle.locnum_lines.specs.Records.{place_behind};
-ghost use Rattle.locnum_lines.specs.declared.cutting.Place.TheVariants.{Front, Plain};
+ghost use Rattle.locnum_lines.specs.Fields.{blanks_before, content_length, csv_state, ends_field, field_length, is_blank, is_blank_behind, is_plain, is_quoted};
+ghost use Rattle.locnum_lines.specs.Records.{state_behind};
+ghost use Rattle.locnum_lines.specs.declared.cutting.FieldState.TheVariants.{Front, Plain};
 ghost use Rattle.locnum_lines.specs.declared.settings.Delimiter.TheVariants.{Blanks, Byte, Csv};
 
 use crate::settings::Delimiter;
@@ -11,7 +11,7 @@ use memchr::{memchr, memchr3};
 
 /// Where in a field a byte stands, by the bytes in front of it.
 #[derive(Clone, Copy, Debug, PartialEq, Eq)]
-pub(crate) enum Place {
+pub(crate) enum FieldState {
     /// In front of all of it but blanks.
     Front,
     /// In it, outside of quotes.
@@ -37,56 +37,56 @@ fn is_blank_behind(byte: u8) -> bool
 }
 
 /// Whether a place is in a field, outside of quotes.
-fn is_plain(place: Place) -> bool
-    ensures { result ≡ is_plain place }
+fn is_plain(state: FieldState) -> bool
+    ensures { result ≡ is_plain state }
 {
-    match place {
-        Place::Plain => true,
-        Place::Front | Place::Quoted | Place::AfterQuote => false,
+    match state {
+        FieldState::Plain => true,
+        FieldState::Front | FieldState::Quoted | FieldState::AfterQuote => false,
     }
 }
 
 /// Whether a place is between quotes.
-pub(crate) fn is_quoted(place: Place) -> bool
-    ensures { result ≡ is_quoted place }
+pub(crate) fn is_quoted(state: FieldState) -> bool
+    ensures { result ≡ is_quoted state }
 {
-    match place {
-        Place::Quoted => true,
-        Place::Front | Place::Plain | Place::AfterQuote => false,
+    match state {
+        FieldState::Quoted => true,
+        FieldState::Front | FieldState::Plain | FieldState::AfterQuote => false,
     }
 }
 
 /// Whether a byte at this place ends its field.
-pub(crate) fn ends_field(delimiter: Delimiter, place: Place, byte: u8) -> bool
-    ensures { result ≡ ends_field delimiter place byte }
+pub(crate) fn ends_field(delimiter: Delimiter, state: FieldState, byte: u8) -> bool
+    ensures { result ≡ ends_field delimiter state byte }
 {
     match delimiter {
-        Delimiter::Blanks => is_plain(place) && is_blank(byte),
+        Delimiter::Blanks => is_plain(state) && is_blank(byte),
         Delimiter::Byte(delimiter) => byte == delimiter,
-        Delimiter::Csv(delimiter) => !is_quoted(place) && byte == delimiter,
+        Delimiter::Csv(delimiter) => !is_quoted(state) && byte == delimiter,
     }
 }
 
 /// The place behind a byte of a field of CSV.
-pub(crate) fn csv_place(place: Place, byte: u8) -> Place
-    ensures { result ≡ csv_place place byte }
+pub(crate) fn csv_state(state: FieldState, byte: u8) -> FieldState
+    ensures { result ≡ csv_state state byte }
 {
-    match place {
-        Place::Front => if byte == b'"' {
-            Place::Quoted
+    match state {
+        FieldState::Front => if byte == b'"' {
+            FieldState::Quoted
         } else {
-            Place::Plain
+            FieldState::Plain
         },
-        Place::Plain => Place::Plain,
-        Place::Quoted => if byte == b'"' {
-            Place::AfterQuote
+        FieldState::Plain => FieldState::Plain,
+        FieldState::Quoted => if byte == b'"' {
+            FieldState::AfterQuote
         } else {
-            Place::Quoted
+            FieldState::Quoted
         },
-        Place::AfterQuote => if byte == b'"' {
-            Place::Quoted
+        FieldState::AfterQuote => if byte == b'"' {
+            FieldState::Quoted
         } else {
-            Place::Plain
+            FieldState::Plain
         },
     }
 }
@@ -122,17 +122,17 @@ fn blank_field_length(line: &[u8]) -> usize
 }
 
 /// How many bytes of a field of CSV stand at this place, and change nothing of it.
-pub(crate) fn unchanging_length(delimiter: u8, place: Place, text: &[u8]) -> usize
+pub(crate) fn unchanging_length(delimiter: u8, state: FieldState, text: &[u8]) -> usize
     ensures within { result ≤ length text.now }
-    ensures field { field_length (Csv delimiter) place text.now
-        ≡ result + field_length (Csv delimiter) place (drop result text.now) }
-    ensures place { place_behind (Csv delimiter) place text.now
-        ≡ place_behind (Csv delimiter) place (drop result text.now) }
+    ensures field { field_length (Csv delimiter) state text.now
+        ≡ result + field_length (Csv delimiter) state (drop result text.now) }
+    ensures state { state_behind (Csv delimiter) state text.now
+        ≡ state_behind (Csv delimiter) state (drop result text.now) }
 {
-    match place {
-        Place::Front | Place::AfterQuote => 0,
-        Place::Plain => bytes_before(delimiter, text),
-        Place::Quoted => bytes_before(b'"', text),
+    match state {
+        FieldState::Front | FieldState::AfterQuote => 0,
+        FieldState::Plain => bytes_before(delimiter, text),
+        FieldState::Quoted => bytes_before(b'"', text),
     }
 }
 
@@ -141,12 +141,12 @@ pub(crate) fn unchanging_length(delimiter: u8, place: Place, text: &[u8]) -> usi
 fn csv_field_length(delimiter: u8, line: &[u8]) -> usize
     ensures { result ≡ field_length (Csv delimiter) Front line.now }
 {
-    let mut place = Place::Front;
+    let mut state = FieldState::Front;
     let mut length = 0;
-    while length < line.len() && !ends_field(Delimiter::Csv(delimiter), place, line[length]) {
-        place = csv_place(place, line[length]);
+    while length < line.len() && !ends_field(Delimiter::Csv(delimiter), state, line[length]) {
+        state = csv_state(state, line[length]);
         length += 1;
-        length += unchanging_length(delimiter, place, &line[length..]);
+        length += unchanging_length(delimiter, state, &line[length..]);
     }
     length
 }

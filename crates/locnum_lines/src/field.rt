@@ -5,10 +5,10 @@ ghost use Rattle.decimal_lines.specs.SingleText.{IsRefusal};
 ghost use Rattle.locnum_forms.specs.Forms.{form_events};
 ghost use Rattle.locnum_lines.specs.FieldRuns.{blanks_kept, chosen_ran, csv_cut_ran, field_ran, held_by, refused_ran};
 ghost use Rattle.locnum_lines.specs.Csv.{as_field, content_from, core_length, is_in_quotes};
-ghost use Rattle.locnum_lines.specs.Fields.{cut};
-ghost use Rattle.locnum_lines.specs.declared.cutting.Place.TheVariants.{Front};
+ghost use Rattle.locnum_lines.specs.Fields.{cut_field};
+ghost use Rattle.locnum_lines.specs.declared.cutting.FieldState.TheVariants.{Front};
 ghost use Rattle.locnum_lines.specs.Gathered.{Adds};
-ghost use Rattle.locnum_lines.specs.Notes.{note, place_text};
+ghost use Rattle.locnum_lines.specs.Notes.{note, position_text};
 ghost use Rattle.locnum_lines.specs.Padding.{padded};
 ghost use Rattle.locnum_lines.specs.Ran.{first_of};
 ghost use Rattle.locnum_lines.specs.Settings.{is_chosen};
@@ -20,7 +20,8 @@ use crate::cutting::{blanks_before, content_length};
 use crate::gathered::Gathered;
 use crate::padding::{Width, padding_width, width_by};
 use crate::settings::{Delimiter, LineSettings, Refusals};
-use locnum_forms::{Form, TextError};
+use decimal_lines::TextError;
+use locnum_forms::Form;
 use std::alloc::{AllocError, Global};
 
 /// A number that is rejected in a field of this number, and what is behind it.
@@ -35,7 +36,7 @@ fn refuse(
     requires { gathered.old.is_stopped ≡ false }
     ensures { OnOk result (Adds gathered.old gathered.new
         (refused_ran settings.now.refusals (number.now ++ behind.now) (note
-        (place_text settings.now.source gathered.old.stage.lines gathered.old.stage.names index)
+        (position_text settings.now.source gathered.old.stage.lines gathered.old.stage.names index)
         number.now error)) gathered.old.stage) }
 {
     gathered.is_refused = true;
@@ -212,7 +213,7 @@ fn push_plain(
 ) -> Result<(), AllocError>
     requires { gathered.old.is_stopped ≡ false }
     ensures { OnOk result (Adds gathered.old gathered.new
-        (chosen_ran settings.now form.now gathered.old.stage index (cut text.now))
+        (chosen_ran settings.now form.now gathered.old.stage index (cut_field text.now))
         gathered.old.stage) }
 {
     let (before, rest) = text.split_at(blanks_before(text));
@@ -234,7 +235,7 @@ fn refuse_field(
     requires { gathered.old.is_stopped ≡ false }
     ensures { OnOk result (Adds gathered.old gathered.new
         (refused_ran settings.now.refusals text.now (note
-        (place_text settings.now.source gathered.old.stage.lines gathered.old.stage.names index)
+        (position_text settings.now.source gathered.old.stage.lines gathered.old.stage.names index)
         number.now error)) gathered.old.stage) }
 {
     gathered.is_refused = true;
@@ -306,7 +307,7 @@ fn push_content(
     requires { gathered.old.is_stopped ≡ false }
     ensures { OnOk result (Adds gathered.old gathered.new
         (csv_cut_ran settings.now form.now gathered.old.stage index delimiter text.now
-        (cut content.now)) gathered.old.stage) }
+        (cut_field content.now)) gathered.old.stage) }
 {
     let (before, rest) = content.split_at(blanks_before(content));
     let (number, behind) = rest.split_at(content_length(rest));
@@ -348,7 +349,8 @@ fn push_csv(
     requires { gathered.old.is_stopped ≡ false }
     ensures { OnOk result (Adds gathered.old gathered.new
         (csv_cut_ran settings.now form.now gathered.old.stage index delimiter text.now
-        (cut (content_from Front (take (core_length text.now) text.now)))) gathered.old.stage) }
+        (cut_field (content_from Front (take (core_length text.now) text.now))))
+        gathered.old.stage) }
 {
     let (core, _behind) = text.split_at(core_length(text));
     if let Some(content) = content_within(core) {

@@ -5,13 +5,13 @@ ghost use Rattle.locnum_lines.specs.Finding.{found_at, found_from, line_found, l
 ghost use Rattle.locnum_lines.specs.Gathered.{Adds};
 ghost use Rattle.locnum_lines.specs.Records.{is_open};
 ghost use Rattle.locnum_lines.specs.Stage.{header_passed, names_in, stage_after};
-ghost use Rattle.locnum_lines.specs.declared.cutting.Place.TheVariants.{Front};
+ghost use Rattle.locnum_lines.specs.declared.cutting.FieldState.TheVariants.{Front};
 
-use crate::cutting::{Place, is_quoted};
+use crate::cutting::{FieldState, is_quoted};
 use crate::gathered::Gathered;
 use crate::line::stop;
 use crate::names::{names_in, trimmed};
-use crate::records::{is_open_behind, last_begun, lines_in, place_behind};
+use crate::records::{is_open_behind, last_begun, lines_in, state_behind};
 use crate::settings::LineSettings;
 use std::alloc::{AllocError, Global};
 use std::marker::Model;
@@ -20,7 +20,7 @@ use std::marker::Model;
 #[derive(Debug, Drop)]
 pub struct FoundNumber {
     /// Where it stands, as notes say it: `line 2, field 3 (net)`.
-    pub place: Vec<u8>,
+    pub position: Vec<u8>,
     /// Its text: the field without the blanks around it, of CSV the field's content without them.
     pub text: Vec<u8>,
 }
@@ -30,7 +30,7 @@ impl Model for FoundNumber {
 
     ghost Value = { FoundData };
 
-    ghost view = { λ n. record { place = n.place.items; text = n.text.items } };
+    ghost view = { λ n. record { position = n.position.items; text = n.text.items } };
 }
 
 /// How far the bytes of a record are read, for a caller that cuts an input into records itself (this
@@ -38,30 +38,30 @@ impl Model for FoundNumber {
 ///
 /// A record ends at the end of a line, unless it is one of CSV in which quotes are open there.
 #[derive(Debug, Drop)]
-pub struct RecordPlace {
-    place: Place,
+pub struct RecordState {
+    state: FieldState,
 }
 
-impl Model for RecordPlace {
-    ghost use Rattle.locnum_lines.specs.declared.cutting.Place.{Place};
+impl Model for RecordState {
+    ghost use Rattle.locnum_lines.specs.declared.cutting.FieldState.{FieldState};
 
-    ghost Value = { Place };
+    ghost Value = { FieldState };
 
-    ghost view = { λ p. p.place };
+    ghost view = { λ p. p.state };
 }
 
-impl RecordPlace {
+impl RecordState {
     ghost use Rattle.std.specs.Prelude.{◌≡◌};
     ghost use Rattle.locnum_lines.specs.Fields.{is_quoted};
-    ghost use Rattle.locnum_lines.specs.Records.{place_behind};
-    ghost use Rattle.locnum_lines.specs.declared.cutting.Place.TheVariants.{Front};
+    ghost use Rattle.locnum_lines.specs.Records.{state_behind};
+    ghost use Rattle.locnum_lines.specs.declared.cutting.FieldState.TheVariants.{Front};
 
     /// In front of a record.
     pub fn new() -> Self
         ensures { result ≡ Front }
     {
-        RecordPlace {
-            place: Place::Front,
+        RecordState {
+            state: FieldState::Front,
         }
     }
 
@@ -69,16 +69,16 @@ impl RecordPlace {
     // promise: It says behind which bytes quotes of CSV are open.
     // mutations: place_of_a_record_begun_again
     pub fn pass(&mut self, settings: &LineSettings, bytes: &[u8])
-        ensures { self.new ≡ place_behind settings.now.delimiter self.old bytes.now }
+        ensures { self.new ≡ state_behind settings.now.delimiter self.old bytes.now }
     {
-        self.place = place_behind(settings.delimiter, self.place, bytes);
+        self.state = state_behind(settings.delimiter, self.state, bytes);
     }
 
     /// Whether quotes are open.
     pub fn is_open(&self) -> bool
         ensures { result ≡ is_quoted self.now }
     {
-        is_quoted(self.place)
+        is_quoted(self.state)
     }
 }
 
@@ -108,9 +108,9 @@ fn number_at(
     ensures { IfOk result (λ n. n ≡ found_at settings.now gathered.now.stage index content.now) }
 {
     let text = Vec::from_slice(alloc, trimmed(content))?;
-    let mut place = Vec::new(alloc);
-    gathered.push_place(settings.source, index, &mut place)?;
-    Ok(FoundNumber { place, text })
+    let mut position = Vec::new(alloc);
+    gathered.push_position(settings.source, index, &mut position)?;
+    Ok(FoundNumber { position, text })
 }
 
 /// The numbers of the chosen fields, by what each field contains.
@@ -216,7 +216,7 @@ fn numbers_or_note(
         (record_noted settings.now gathered.old.stage «record».now)
         (header_passed settings.now gathered.old.stage «record».now)) }
 {
-    if is_open_behind(settings.delimiter, Place::Front, record) {
+    if is_open_behind(settings.delimiter, FieldState::Front, record) {
         report_open(settings, record, gathered)?;
         return Ok(Vec::new(alloc));
     }
@@ -248,7 +248,7 @@ impl NumberFinder {
     ghost use Rattle.locnum_lines.specs.Gathered.{Adds};
     ghost use Rattle.locnum_lines.specs.Records.{is_open};
     ghost use Rattle.locnum_lines.specs.Stage.{stage_after, start_of};
-    ghost use Rattle.locnum_lines.specs.declared.cutting.Place.TheVariants.{Front};
+    ghost use Rattle.locnum_lines.specs.declared.cutting.FieldState.TheVariants.{Front};
 
     /// In front of an input, by the settings of its lines.
     pub fn new(alloc: Global, settings: &LineSettings) -> Self

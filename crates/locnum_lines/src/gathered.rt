@@ -2,10 +2,10 @@
 
 use crate::columns::push_columns;
 use crate::names::names_in;
-use crate::note::{push_missing_note, push_note, push_place};
+use crate::note::{push_missing_note, push_note, push_position};
 use crate::settings::{FieldRange, LineSettings, Source, is_chosen};
 use crate::whole::RestGuess;
-use locnum_forms::TextError;
+use decimal_lines::TextError;
 use std::alloc::{AllocError, Global};
 use std::marker::Model;
 use std::mem;
@@ -58,7 +58,7 @@ impl Model for Gathered {
 
 impl Gathered {
     ghost use Rattle.std.specs.Prelude.{◌≡◌, ◌≢◌, ◌<◌, ◌+◌, max, [], ◌∷◌, ◌++◌, List, false, IfErr, Ok, OnOk, Some, drop, length, take};
-    ghost use Rattle.locnum_lines.specs.Notes.{note, place_text};
+    ghost use Rattle.locnum_lines.specs.Notes.{note, position_text};
     ghost use Rattle.locnum_lines.specs.Gathered.{Adds};
     ghost use Rattle.locnum_lines.specs.RecordRuns.{named_ran};
     ghost use Rattle.locnum_lines.specs.Settings.{is_chosen};
@@ -205,7 +205,8 @@ impl Gathered {
     ) -> Result<(), AllocError>
         ensures { OnOk result (self.new ≡ record self.old {
           notes = self.old.notes
-              ++ note (place_text source self.old.stage.lines self.old.stage.names index) text.now
+              ++ note (position_text source self.old.stage.lines self.old.stage.names index)
+              text.now
               error;
         }) }
     {
@@ -221,16 +222,16 @@ impl Gathered {
     }
 
     /// Appends where a field of this number stands in the next record.
-    pub(crate) fn push_place(
+    pub(crate) fn push_position(
         &self,
         source: Source,
         index: usize,
         out: &mut Vec<u8>,
     ) -> Result<(), AllocError>
         ensures { OnOk result (out.new.items ≡ out.old.items
-            ++ place_text source self.now.stage.lines self.now.stage.names index) }
+            ++ position_text source self.now.stage.lines self.now.stage.names index) }
     {
-        push_place(source, self.lines, &self.names, index, out)
+        push_position(source, self.lines, &self.names, index, out)
     }
 
     /// Whether a field of this number is a number.

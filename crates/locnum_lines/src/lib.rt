@@ -22,7 +22,7 @@ mod settings;
 mod whole;
 mod writing;
 
-pub use finding::{FoundNumber, NumberFinder, RecordPlace};
+pub use finding::{FoundNumber, NumberFinder, RecordState};
 pub use front::behind_mark;
 pub use padding::{Alignment, Padding};
 pub use running::{Report, RunError, run};

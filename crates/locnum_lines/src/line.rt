@@ -5,14 +5,14 @@ ghost use Rattle.locnum_lines.specs.FieldRuns.{fields_ran};
 ghost use Rattle.locnum_lines.specs.Fields.{fields_from};
 ghost use Rattle.locnum_lines.specs.Gathered.{Adds, GoesOn};
 ghost use Rattle.locnum_lines.specs.Passed.{IsPassed};
-ghost use Rattle.locnum_lines.specs.Ran.{joined, writes};
-ghost use Rattle.locnum_lines.specs.Records.{in_front, is_open, last_begun, lines_in, place_behind};
-ghost use Rattle.locnum_lines.specs.declared.cutting.Place.TheVariants.{Front};
+ghost use Rattle.locnum_lines.specs.Ran.{joined_runs, writes};
+ghost use Rattle.locnum_lines.specs.Records.{in_front, is_open, last_begun, lines_in, state_behind};
+ghost use Rattle.locnum_lines.specs.declared.cutting.FieldState.TheVariants.{Front};
 ghost use Rattle.locnum_lines.specs.RecordRuns.{named_ran, next_ran, open_ran, record_ran, unended_ran};
 ghost use Rattle.locnum_lines.specs.Settings.{is_chosen};
 ghost use Rattle.locnum_lines.specs.Stage.{fields_of, header_passed, stage_after};
 
-use crate::cutting::{Place, field_length, is_quoted};
+use crate::cutting::{FieldState, field_length, is_quoted};
 use crate::field::push_field;
 use crate::gathered::Gathered;
 use crate::note::push_unended_note;
@@ -151,7 +151,7 @@ fn push_header(
     requires going { gathered.old.is_stopped ≡ false }
     requires some { 0 < gathered.old.stage.left }
     ensures { OnOk result (Adds gathered.old gathered.new
-        (joined (writes (line.now ++ last ∷ []))
+        (joined_runs (writes (line.now ++ last ∷ []))
         (named_ran settings.now gathered.old.stage line.now))
         (header_passed settings.now gathered.old.stage line.now)) }
 {
@@ -245,17 +245,17 @@ pub(crate) fn push_last(
     settings: &LineSettings,
     form: &Form,
     line: &[u8],
-    place: Place,
+    state: FieldState,
     gathered: &mut Gathered,
 ) -> Result<(), AllocError>
     requires going { gathered.old.is_stopped ≡ false }
-    requires place_is { place ≡ place_behind settings.now.delimiter Front line.now }
+    requires state_is { state ≡ state_behind settings.now.delimiter Front line.now }
     ensures { OnOk result (Adds gathered.old gathered.new
         (record_ran settings.now form.now gathered.old.stage line.now)
         (stage_after settings.now gathered.old.stage line.now)) }
 {
     let lines = lines_in(settings.end, line);
-    if !is_quoted(place) {
+    if !is_quoted(state) {
         return push_record(alloc, settings, form, line, lines, gathered);
     }
     let Some(first) = gathered.lines.checked_add(1) else {

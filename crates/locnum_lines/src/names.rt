@@ -2,9 +2,9 @@
 
 ghost use Rattle.std.specs.Prelude.{◌≡◌, ◌<◌, ◌∷◌, IfOk, IfSome, length, map, option_map, take};
 ghost use Rattle.locnum_lines.specs.Csv.{content_from, core_length};
-ghost use Rattle.locnum_lines.specs.Fields.{cut, fields_from};
+ghost use Rattle.locnum_lines.specs.Fields.{cut_field, fields_from};
 ghost use Rattle.locnum_lines.specs.Stage.{name_in, names_in, names_of, names_of_rest};
-ghost use Rattle.locnum_lines.specs.declared.cutting.Place.TheVariants.{Front};
+ghost use Rattle.locnum_lines.specs.declared.cutting.FieldState.TheVariants.{Front};
 
 use crate::csv::{content_of, core_length};
 use crate::cutting::{blanks_before, content_length, field_length};
@@ -13,7 +13,7 @@ use std::alloc::{AllocError, Global};
 
 /// A text without the blanks around it.
 pub(crate) fn trimmed(text: &[u8]) -> &[u8]
-    ensures { result.now ≡ (cut text.now).number }
+    ensures { result.now ≡ (cut_field text.now).number }
 {
     let (_before, rest) = text.split_at(blanks_before(text));
     rest.split_at(content_length(rest)).0

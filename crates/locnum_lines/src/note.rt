@@ -3,13 +3,14 @@
 
 ghost use Rattle.std.specs.Prelude.{◌≡◌, ◌++◌, ◌-◌, OnOk, codes, decimal, map, option_map};
 ghost use Rattle.std.specs.List.{slice_get};
-ghost use Rattle.locnum_lines.specs.Notes.{column_text, missing_note, names_text, note, others_text, place_text, reason, unended_note};
+ghost use Rattle.locnum_lines.specs.Notes.{column_text, missing_note, names_text, note, others_text, position_text, reason, unended_note};
 ghost use Rattle.locnum_lines.specs.declared.settings.Source.TheVariants.{Lines};
 
 use crate::nearest::nearest;
 use crate::settings::Source;
+use decimal_lines::TextError;
 use itoa::Buffer;
-use locnum_forms::{TextError, push_reported};
+use locnum_forms::push_reported;
 use std::alloc::{AllocError, Global};
 
 /// Why a text is rejected.
@@ -58,15 +59,15 @@ fn push_count(count: u64, notes: &mut Vec<u8>) -> Result<(), AllocError>
 }
 
 /// Appends where a field of this number stands in a record of lines behind that many.
-#[tactic(auto, unfolding(crate::specs::Notes::place_text))]
-fn push_field_place(
+#[tactic(auto, unfolding(crate::specs::Notes::position_text))]
+fn push_field_position(
     lines: u64,
     names: &[Vec<u8>],
     index: usize,
     notes: &mut Vec<u8>,
 ) -> Result<(), AllocError>
     ensures { OnOk result (notes.new.items ≡ notes.old.items
-        ++ place_text Lines lines (map (λ v. v.items) names.now) index) }
+        ++ position_text Lines lines (map (λ v. v.items) names.now) index) }
 {
     let Some(line) = lines.checked_add(1) else {
         return Err(AllocError);
@@ -79,8 +80,8 @@ fn push_field_place(
 }
 
 /// Appends which argument of the command line a number is.
-#[tactic(auto, unfolding(crate::specs::Notes::place_text))]
-fn push_word_place(number: u64, notes: &mut Vec<u8>) -> Result<(), AllocError>
+#[tactic(auto, unfolding(crate::specs::Notes::position_text))]
+fn push_word_position(number: u64, notes: &mut Vec<u8>) -> Result<(), AllocError>
     ensures { OnOk result (notes.new.items ≡ notes.old.items ++ (codes "word " ++ decimal number)) }
 {
     notes.extend_from_slice(b"word ")?;
@@ -88,8 +89,8 @@ fn push_word_place(number: u64, notes: &mut Vec<u8>) -> Result<(), AllocError>
 }
 
 /// Appends where a field of this number stands in a record behind that many lines.
-#[tactic(auto, unfolding(crate::specs::Notes::place_text))]
-pub(crate) fn push_place(
+#[tactic(auto, unfolding(crate::specs::Notes::position_text))]
+pub(crate) fn push_position(
     source: Source,
     lines: u64,
     names: &[Vec<u8>],
@@ -97,11 +98,11 @@ pub(crate) fn push_place(
     notes: &mut Vec<u8>,
 ) -> Result<(), AllocError>
     ensures { OnOk result (notes.new.items ≡ notes.old.items
-        ++ place_text source lines (map (λ v. v.items) names.now) index) }
+        ++ position_text source lines (map (λ v. v.items) names.now) index) }
 {
     match source {
-        Source::Lines => push_field_place(lines, names, index, notes),
-        Source::Word(number) => push_word_place(number, notes),
+        Source::Lines => push_field_position(lines, names, index, notes),
+        Source::Word(number) => push_word_position(number, notes),
     }
 }
 
@@ -118,10 +119,10 @@ pub(crate) fn push_note(
     notes: &mut Vec<u8>,
 ) -> Result<(), AllocError>
     ensures { OnOk result (notes.new.items ≡ notes.old.items
-        ++ note (place_text source lines (map (λ v. v.items) names.now) index) text.now error) }
+        ++ note (position_text source lines (map (λ v. v.items) names.now) index) text.now error) }
 {
     notes.extend_from_slice(b"locnum: ")?;
-    push_place(source, lines, names, index, notes)?;
+    push_position(source, lines, names, index, notes)?;
     notes.extend_from_slice(b": ")?;
     push_reported(text, notes)?;
     notes.extend_from_slice(b": ")?;

@@ -1,41 +1,41 @@
 //! Where records end, and in which line their last field begins.
 
 ghost use Rattle.std.specs.Prelude.{◌≡◌, ◌<◌, IfSome, false, get_or, length, option_map, take, true};
-ghost use Rattle.locnum_lines.specs.Records.{IsPartLine, begun_after, found_after, in_front, last_begun, line_after, line_end, lines_in, place_after, place_behind};
+ghost use Rattle.locnum_lines.specs.Records.{IsPartLine, begun_after, found_after, in_front, last_begun, line_after, line_end, lines_in, state_after, state_behind};
 ghost use Rattle.locnum_lines.specs.Fields.{is_quoted};
-ghost use Rattle.locnum_lines.specs.declared.cutting.Place.{Place};
-ghost use Rattle.locnum_lines.specs.declared.cutting.Place.TheVariants.{Front};
+ghost use Rattle.locnum_lines.specs.declared.cutting.FieldState.{FieldState};
+ghost use Rattle.locnum_lines.specs.declared.cutting.FieldState.TheVariants.{Front};
 ghost use Rattle.locnum_lines.specs.declared.settings.Delimiter.TheVariants.{Csv};
 
-use crate::cutting::{Place, csv_place, ends_field, is_quoted, unchanging_length};
+use crate::cutting::{FieldState, csv_state, ends_field, is_quoted, unchanging_length};
 use crate::settings::Delimiter;
 use memchr::memchr;
 
 /// The place behind a byte of a record of CSV.
-fn csv_place_after(delimiter: u8, place: Place, byte: u8) -> Place
-    ensures { result ≡ place_after (Csv delimiter) place byte }
+fn csv_state_after(delimiter: u8, state: FieldState, byte: u8) -> FieldState
+    ensures { result ≡ state_after (Csv delimiter) state byte }
 {
-    if ends_field(Delimiter::Csv(delimiter), place, byte) {
-        Place::Front
+    if ends_field(Delimiter::Csv(delimiter), state, byte) {
+        FieldState::Front
     } else {
-        csv_place(place, byte)
+        csv_state(state, byte)
     }
 }
 
 /// The place behind a byte of a record.
-pub(crate) fn place_after(delimiter: Delimiter, place: Place, byte: u8) -> Place
-    ensures { result ≡ place_after delimiter place byte }
+pub(crate) fn state_after(delimiter: Delimiter, state: FieldState, byte: u8) -> FieldState
+    ensures { result ≡ state_after delimiter state byte }
 {
     match delimiter {
-        Delimiter::Blanks | Delimiter::Byte(_) => place,
-        Delimiter::Csv(delimiter) => csv_place_after(delimiter, place, byte),
+        Delimiter::Blanks | Delimiter::Byte(_) => state,
+        Delimiter::Csv(delimiter) => csv_state_after(delimiter, state, byte),
     }
 }
 
 /// The place behind bytes of a record of CSV of which none is a quote.
-fn place_behind_unquoted(delimiter: u8, before: Place, bytes: &[u8]) -> Place
+fn state_behind_unquoted(delimiter: u8, before: FieldState, bytes: &[u8]) -> FieldState
     requires { IsPartLine 34 bytes.now }
-    ensures { result ≡ place_behind (Csv delimiter) before bytes.now }
+    ensures { result ≡ state_behind (Csv delimiter) before bytes.now }
 {
     if is_quoted(before) {
         return before;
@@ -43,46 +43,46 @@ fn place_behind_unquoted(delimiter: u8, before: Place, bytes: &[u8]) -> Place
     match bytes.split_last() {
         None => before,
         Some((last, _)) => if *last == delimiter {
-            Place::Front
+            FieldState::Front
         } else {
-            Place::Plain
+            FieldState::Plain
         },
     }
 }
 
 /// The place behind bytes of a record of CSV.
 #[inline(never)]
-fn csv_place_behind(delimiter: u8, before: Place, bytes: &[u8]) -> Place
-    ensures { result ≡ place_behind (Csv delimiter) before bytes.now }
+fn csv_state_behind(delimiter: u8, before: FieldState, bytes: &[u8]) -> FieldState
+    ensures { result ≡ state_behind (Csv delimiter) before bytes.now }
 {
     let Some(_) = memchr(b'"', bytes) else {
-        return place_behind_unquoted(delimiter, before, bytes);
+        return state_behind_unquoted(delimiter, before, bytes);
     };
-    let mut place = before;
-    let mut index = unchanging_length(delimiter, place, bytes);
+    let mut state = before;
+    let mut index = unchanging_length(delimiter, state, bytes);
     while index < bytes.len() {
-        place = csv_place_after(delimiter, place, bytes[index]);
+        state = csv_state_after(delimiter, state, bytes[index]);
         index += 1;
-        index += unchanging_length(delimiter, place, &bytes[index..]);
+        index += unchanging_length(delimiter, state, &bytes[index..]);
     }
-    place
+    state
 }
 
 /// The place behind bytes of a record.
-pub(crate) fn place_behind(delimiter: Delimiter, place: Place, bytes: &[u8]) -> Place
-    ensures { result ≡ place_behind delimiter place bytes.now }
+pub(crate) fn state_behind(delimiter: Delimiter, state: FieldState, bytes: &[u8]) -> FieldState
+    ensures { result ≡ state_behind delimiter state bytes.now }
 {
     match delimiter {
-        Delimiter::Blanks | Delimiter::Byte(_) => place,
-        Delimiter::Csv(delimiter) => csv_place_behind(delimiter, place, bytes),
+        Delimiter::Blanks | Delimiter::Byte(_) => state,
+        Delimiter::Csv(delimiter) => csv_state_behind(delimiter, state, bytes),
     }
 }
 
 /// Whether bytes end outside of quotes wherever they begin, since they end with a quote behind a
 /// byte that is neither one nor the delimiter.
 fn ends_outside(delimiter: u8, bytes: &[u8]) -> bool
-    ensures { result ≡ true → (place : Place) →
-        is_quoted (place_behind (Csv delimiter) place bytes.now) ≡ false }
+    ensures { result ≡ true → (state : FieldState) →
+        is_quoted (state_behind (Csv delimiter) state bytes.now) ≡ false }
 {
     let length = bytes.len();
     if length < 2 {
@@ -96,22 +96,22 @@ fn ends_outside(delimiter: u8, bytes: &[u8]) -> bool
 }
 
 /// Whether quotes are open behind bytes of a record of CSV.
-fn is_csv_open_behind(delimiter: u8, before: Place, bytes: &[u8]) -> bool
-    ensures { result ≡ is_quoted (place_behind (Csv delimiter) before bytes.now) }
+fn is_csv_open_behind(delimiter: u8, before: FieldState, bytes: &[u8]) -> bool
+    ensures { result ≡ is_quoted (state_behind (Csv delimiter) before bytes.now) }
 {
     if ends_outside(delimiter, bytes) {
         return false;
     }
-    is_quoted(csv_place_behind(delimiter, before, bytes))
+    is_quoted(csv_state_behind(delimiter, before, bytes))
 }
 
 /// Whether quotes are open behind bytes of a record.
-pub(crate) fn is_open_behind(delimiter: Delimiter, place: Place, bytes: &[u8]) -> bool
-    ensures { result ≡ is_quoted (place_behind delimiter place bytes.now) }
+pub(crate) fn is_open_behind(delimiter: Delimiter, state: FieldState, bytes: &[u8]) -> bool
+    ensures { result ≡ is_quoted (state_behind delimiter state bytes.now) }
 {
     match delimiter {
-        Delimiter::Blanks | Delimiter::Byte(_) => is_quoted(place),
-        Delimiter::Csv(delimiter) => is_csv_open_behind(delimiter, place, bytes),
+        Delimiter::Blanks | Delimiter::Byte(_) => is_quoted(state),
+        Delimiter::Csv(delimiter) => is_csv_open_behind(delimiter, state, bytes),
     }
 }
 
@@ -153,13 +153,13 @@ pub(crate) fn last_begun(delimiter: Delimiter, end: u8, first: u64, record: &[u8
     ensures { IfSome result (λ begun.
         begun ≡ last_begun delimiter end Front first first record.now) }
 {
-    let mut place = Place::Front;
+    let mut state = FieldState::Front;
     let mut begun = first;
     let mut line = first;
     for byte in record {
         line = line_after(end, line, *byte)?;
-        begun = begun_after(ends_field(delimiter, place, *byte), begun, line);
-        place = place_after(delimiter, place, *byte);
+        begun = begun_after(ends_field(delimiter, state, *byte), begun, line);
+        state = state_after(delimiter, state, *byte);
     }
     Some(begun)
 }
@@ -177,12 +177,12 @@ pub(crate) fn last_end(delimiter: Delimiter, record: &[u8]) -> Option<usize>
     ensures value { option_map (λ n. (take n record.now, get_or record.now n 0)) result
         ≡ in_front delimiter Front record.now }
 {
-    let mut place = Place::Front;
+    let mut state = FieldState::Front;
     let mut found = None;
     let mut index = 0;
     while index < record.len() {
-        found = found_after(ends_field(delimiter, place, record[index]), found, index);
-        place = place_after(delimiter, place, record[index]);
+        found = found_after(ends_field(delimiter, state, record[index]), found, index);
+        state = state_after(delimiter, state, record[index]);
         index += 1;
     }
     found

@@ -5,12 +5,12 @@ ghost use Rattle.std.specs.Io.KnownBytes.{Appends, prepend_known};
 ghost use Rattle.decimal_lines.specs.Written.{AppendsBeginning};
 ghost use Rattle.locnum_lines.specs.Gathered.{GatheredData};
 ghost use Rattle.locnum_lines.specs.RecordRuns.{input_ran, records_ran, rest_ran};
-ghost use Rattle.locnum_lines.specs.Records.{IsPart, place_behind, records_of};
+ghost use Rattle.locnum_lines.specs.Records.{IsPart, state_behind, records_of};
 ghost use Rattle.locnum_lines.specs.Reported.{Begins, Ends, Finishes};
-ghost use Rattle.locnum_lines.specs.declared.cutting.Place.TheVariants.{Front};
+ghost use Rattle.locnum_lines.specs.declared.cutting.FieldState.TheVariants.{Front};
 
 use crate::blocks::take_block;
-use crate::cutting::Place;
+use crate::cutting::FieldState;
 use crate::front::{mark_length, read_front, read_more};
 use crate::gathered::Gathered;
 use crate::line::push_last;
@@ -92,11 +92,11 @@ fn flush<W: Write, N: Write>(
     ensures ok { OnOk result (gathered.new ≡ record gathered.old { output = []; notes = [] }) }
     ensures written { OnOk result
         (Appends (W.contents writer.old) (W.contents writer.new) gathered.old.output) }
-    ensures told { OnOk result
+    ensures reported { OnOk result
         (Appends (N.contents notes.old) (N.contents notes.new) gathered.old.notes) }
     ensures err_written { OnErr result
         (AppendsBeginning (W.contents writer.old) (W.contents writer.new) gathered.old.output) }
-    ensures err_told { OnErr result
+    ensures err_reported { OnErr result
         (AppendsBeginning (N.contents notes.old) (N.contents notes.new) gathered.old.notes) }
 {
     let Ok(()) = write_piece(writer, &gathered.output) else {
@@ -115,7 +115,7 @@ fn finish<W: Write, N: Write>(
     settings: &LineSettings,
     form: &Form,
     held: &[u8],
-    place: Place,
+    state: FieldState,
     mut gathered: Gathered,
     writer: &mut W,
     notes: &mut N,
@@ -124,7 +124,7 @@ fn finish<W: Write, N: Write>(
     requires no_output { gathered.output ≡ [] }
     requires no_notes { gathered.notes ≡ [] }
     requires part { IsPart settings.now.delimiter settings.now.end Front held.now }
-    requires place_is { place ≡ place_behind settings.now.delimiter Front held.now }
+    requires state_is { state ≡ state_behind settings.now.delimiter Front held.now }
     ensures ok { IfOk result (λ report. Finishes
         (records_ran settings.now form.now gathered.stage
         (records_of settings.now.delimiter settings.now.end held.now))
@@ -139,7 +139,7 @@ fn finish<W: Write, N: Write>(
     if held.is_empty() {
         return Ok(reported(gathered));
     }
-    let Ok(()) = push_last(alloc, settings, form, held, place, &mut gathered) else {
+    let Ok(()) = push_last(alloc, settings, form, held, state, &mut gathered) else {
         return Err(RunError::OutOfMemory);
     };
     flush(&mut gathered, writer, notes)?;
@@ -170,12 +170,12 @@ fn run_by<R: Read, W: Write, N: Write>(
         (N.contents notes.old) (N.contents notes.new))) }
 {
     let mut held = Vec::new(alloc);
-    let mut place = Place::Front;
+    let mut state = FieldState::Front;
     let mut gathered = Gathered::new(alloc, settings.header);
     for _ in 0..=u64::MAX {
         let n = read_more(&mut rest, reader, block)?;
         if n == 0 {
-            return finish(alloc, settings, form, &held, place, gathered, writer, notes);
+            return finish(alloc, settings, form, &held, state, gathered, writer, notes);
         }
         let block = &block[..n];
         let taken = take_block(
@@ -184,7 +184,7 @@ fn run_by<R: Read, W: Write, N: Write>(
             form,
             block,
             &mut held,
-            &mut place,
+            &mut state,
             &mut gathered,
         );
         let Ok(()) = taken else {

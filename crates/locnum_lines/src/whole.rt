@@ -21,7 +21,8 @@ ghost use Rattle.writeable.specs.Events.{Event, text_of};
 use crate::gathered::Gathered;
 use crate::padding::columns_of;
 use crate::settings::{Delimiter, LineSettings};
-use locnum_forms::{Form, TextError};
+use decimal_lines::TextError;
+use locnum_forms::Form;
 use std::alloc::{AllocError, Global};
 
 /// How often the guess may still be wrong before it isn't made any more.

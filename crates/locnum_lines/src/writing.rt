@@ -5,7 +5,8 @@ use crate::gathered::Gathered;
 use crate::holding::hold;
 use crate::padding::{Alignment, Width, columns_of};
 use crate::settings::Delimiter;
-use locnum_forms::{Form, TextError};
+use decimal_lines::TextError;
+use locnum_forms::Form;
 use std::alloc::{AllocError, Global};
 
 impl Gathered {

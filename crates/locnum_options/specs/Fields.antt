@@ -4,15 +4,15 @@ use Rattle.locnum_lines.specs.declared.settings.FieldRange.{FieldRange}
 use Rattle.locnum_options.specs.Texts.{◌>>=◌, cut_at, number_named, parts_of}
 
 -- a number from 1 on, as that of a field
-unfoldable pub place_named : List ℕ → Option ℕ
-place_named text = do
+unfoldable pub positive_number_named : List ℕ → Option ℕ
+positive_number_named text = do
   number ← number_named text
   if nat_lt 0 number then Some number else None
 
 -- an end of a range; this one where it is missing
 unfoldable pub end_named : ℕ → List ℕ → Option ℕ
 end_named missing [] = Some missing
-end_named missing (byte ∷ bytes) = place_named (byte ∷ bytes)
+end_named missing (byte ∷ bytes) = positive_number_named (byte ∷ bytes)
 
 -- the range between two ends
 unfoldable pub ends_named : List ℕ → List ℕ → Option FieldRange
@@ -24,8 +24,8 @@ ends_named first last = do
 -- the range of a text that is cut at its first hyphen, if it has one
 abbrev pub range_at_hyphen : List ℕ → Option (List ℕ × List ℕ) → Option FieldRange
 range_at_hyphen text None = do
-  place ← place_named text
-  Some (record { first = place; last = place })
+  number ← positive_number_named text
+  Some (record { first = number; last = number })
 range_at_hyphen text (Some (first, last)) = ends_named first last
 
 -- the range of a text

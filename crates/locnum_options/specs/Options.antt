@@ -6,7 +6,7 @@ use Rattle.locnum_lines.specs.Settings.{SettingsData}
 use Rattle.locnum_lines.specs.declared.padding.Padding.{Padding}
 use Rattle.locnum_lines.specs.declared.settings.Source.TheVariants.{Lines}
 use Rattle.locnum_options.specs.Explained.{explain_given}
-use Rattle.locnum_options.specs.Fields.{place_named}
+use Rattle.locnum_options.specs.Fields.{positive_number_named}
 use Rattle.locnum_options.specs.Fraction.{fraction_named}
 use Rattle.locnum_options.specs.Given.{flag_of, text_of}
 use Rattle.locnum_options.specs.declared.explained.Explain.{Explain}
@@ -26,9 +26,9 @@ pub record OptionsData : Type 0 where
   pub explain : Explain
 
 -- The result of a call, seen by view, is this; `OutOfMemory` may be reported in place of any result.
-abbrev pub Gives : {X Y : Type 0} → (X → Y) → Result X OptionFault → Result Y OptionFault → Type 0
-Gives view (Ok x) asked = asked ≡ Ok (view x)
-Gives view (Err e) asked = (e ≡ fault.OutOfMemory) ⊎ (asked ≡ Err e)
+abbrev pub GivesOption : {X Y : Type 0} → (X → Y) → Result X OptionFault → Result Y OptionFault → Type 0
+GivesOption view (Ok x) asked = asked ≡ Ok (view x)
+GivesOption view (Err e) asked = (e ≡ fault.OutOfMemory) ⊎ (asked ≡ Err e)
 
 -- how many fraction digits; none by default
 unfoldable pub fraction_given : Option (List ℕ) → Result (Option FractionRange) OptionFault
@@ -40,7 +40,7 @@ fraction_given (Some text) = do
 -- how many lines are a header, one at least; none by default
 unfoldable pub header_given : Option (List ℕ) → Result ℕ OptionFault
 header_given None = Ok 0
-header_given (Some text) = ok_or (place_named text) fault.Header
+header_given (Some text) = ok_or (positive_number_named text) fault.Header
 
 -- how wide numbers are at least; as wide as they are by default
 unfoldable pub padding_given : Option (List ℕ) → Result (Option Padding) OptionFault

@@ -3,13 +3,13 @@ use Rattle.std.specs.Prelude.{ℕ, ◌==◌, nat_le, List, [], ◌∷◌, Option
 use Rattle.locnum_lines.specs.declared.padding.Alignment.{Alignment}
 use Rattle.locnum_lines.specs.declared.padding.Alignment.TheVariants.{Left, Right}
 use Rattle.locnum_lines.specs.declared.padding.Padding.{Padding}
-use Rattle.locnum_options.specs.Fields.{place_named}
+use Rattle.locnum_options.specs.Fields.{positive_number_named}
 use Rattle.locnum_options.specs.Texts.{◌>>=◌}
 
 -- columns of this count, from 1 to 65535
 unfoldable pub columns_named : Alignment → List ℕ → Option Padding
 columns_named alignment text = do
-  columns ← place_named text
+  columns ← positive_number_named text
   if nat_le columns 65535 then Some (record { columns = columns; alignment = alignment }) else None
 
 -- the columns of a text

@@ -1,8 +1,8 @@
 //! Which fields are asked for.
 
 ghost use Rattle.std.specs.Prelude.{◌≡◌};
-ghost use Rattle.locnum_options.specs.Fields.{end_named, ends_named, fields_named, place_named, range_named};
-ghost use Rattle.locnum_options.specs.Options.{Gives};
+ghost use Rattle.locnum_options.specs.Fields.{end_named, ends_named, fields_named, positive_number_named, range_named};
+ghost use Rattle.locnum_options.specs.Options.{GivesOption};
 ghost use Rattle.locnum_options.specs.Words.{ok_or};
 
 use crate::fault::OptionFault;
@@ -11,9 +11,9 @@ use locnum_lines::FieldRange;
 use std::alloc::Global;
 
 /// A number from 1 on, as that of a field.
-#[tactic(auto, unfolding(crate::specs::Fields::place_named))]
-pub(crate) fn place_named(text: &str) -> Option<usize>
-    ensures { result ≡ place_named text.now }
+#[tactic(auto, unfolding(crate::specs::Fields::positive_number_named))]
+pub(crate) fn positive_number_named(text: &str) -> Option<usize>
+    ensures { result ≡ positive_number_named text.now }
 {
     let number = number_named(text)?;
     if number == 0 {
@@ -30,7 +30,7 @@ fn end_named(missing: usize, text: &str) -> Option<usize>
     if text.is_empty() {
         return Some(missing);
     }
-    place_named(text)
+    positive_number_named(text)
 }
 
 /// The range between two ends.
@@ -54,10 +54,10 @@ fn range_named(text: &str) -> Option<FieldRange>
     match cut_at(text, '-') {
         Some((first, last)) => ends_named(first, last),
         None => {
-            let place = place_named(text)?;
+            let number = positive_number_named(text)?;
             Some(FieldRange {
-                first: place,
-                last: place,
+                first: number,
+                last: number,
             })
         }
     }
@@ -75,7 +75,7 @@ fn range_given(text: &str) -> Result<FieldRange, OptionFault>
 
 /// The ranges of a text that is cut at its commas.
 pub(crate) fn fields_named(alloc: Global, text: &str) -> Result<Vec<FieldRange>, OptionFault>
-    ensures { Gives (λ v. v.items) result (ok_or (fields_named text.now) OptionFault.Fields) }
+    ensures { GivesOption (λ v. v.items) result (ok_or (fields_named text.now) OptionFault.Fields) }
 {
     let mut fields = Vec::new(alloc);
     let mut rest = text;

@@ -2,7 +2,7 @@
 
 ghost use Rattle.std.specs.Prelude.{◌≡◌, ◌++◌, ◌<◌, ◌∷◌, IfOk, IfSome, Ok, OnOk, codes, length, map, option_map};
 ghost use Rattle.locnum_options.specs.Locale.{before_mark, cased, cased_byte, environment_locale, environment_text, is_mark, is_no_locale, is_separator, locale_given, locale_named, locale_text, set_or, subtags_left, subtags_of};
-ghost use Rattle.locnum_options.specs.Options.{Gives};
+ghost use Rattle.locnum_options.specs.Options.{GivesOption};
 
 use crate::fault::OptionFault;
 use crate::given::{Environment, Given};
@@ -21,9 +21,9 @@ fn is_mark(byte: u8) -> bool
 fn before_mark(text: &[u8]) -> &[u8]
     ensures { result.now ≡ before_mark text.now }
 {
-    for (place, byte) in text.iter().enumerate() {
+    for (index, byte) in text.iter().enumerate() {
         if is_mark(*byte) {
-            return &text[..place];
+            return &text[..index];
         }
     }
     text
@@ -42,9 +42,9 @@ fn next_subtag(text: &[u8]) -> (&[u8], Option<&[u8]>)
         ≡ result.0.now ∷ subtags_left (option_map (λ t. t.now) result.1) }
     ensures shorter { IfSome result.1 (λ t. length t.now < length text.now) }
 {
-    for (place, byte) in text.iter().enumerate() {
+    for (index, byte) in text.iter().enumerate() {
         if is_separator(*byte) {
-            return (&text[..place], Some(&text[place + 1..]));
+            return (&text[..index], Some(&text[index + 1..]));
         }
     }
     (text, None)
@@ -112,7 +112,7 @@ fn locale_text(alloc: Global, text: &[u8]) -> Result<Vec<u8>, AllocError>
 /// The locale of a text.
 #[tactic(auto, unfolding(crate::specs::Locale::locale_named))]
 fn locale_named(alloc: Global, text: &str) -> Result<DataLocale, OptionFault>
-    ensures { Gives (λ x. x) result (locale_named text.now) }
+    ensures { GivesOption (λ x. x) result (locale_named text.now) }
 {
     let bytes = locale_text(alloc, text.as_bytes())?;
     let Ok(text) = str::from_utf8(&bytes) else {
@@ -165,7 +165,7 @@ fn english() -> Result<DataLocale, OptionFault>
 /// The locale of the environment.
 #[tactic(auto, unfolding(crate::specs::Locale::environment_locale))]
 fn environment_locale(alloc: Global, environment: &Environment) -> Result<DataLocale, OptionFault>
-    ensures { Gives (λ x. x) result (environment_locale environment.now) }
+    ensures { GivesOption (λ x. x) result (environment_locale environment.now) }
 {
     let text = environment_text(environment);
     if is_no_locale(before_mark(text.as_bytes())) {
@@ -179,7 +179,7 @@ fn environment_locale(alloc: Global, environment: &Environment) -> Result<DataLo
 // mutations: locale_region_left_small, locale_of_an_empty_variable
 #[tactic(auto, unfolding(crate::specs::Locale::locale_given))]
 pub(crate) fn locale_given(alloc: Global, given: &Given) -> Result<DataLocale, OptionFault>
-    ensures { Gives (λ x. x) result (locale_given given.now) }
+    ensures { GivesOption (λ x. x) result (locale_given given.now) }
 {
     match given.text("locale") {
         None => english(),

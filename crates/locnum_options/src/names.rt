@@ -2,7 +2,7 @@
 
 ghost use Rattle.std.specs.Prelude.{◌≡◌, ◌∷◌, [], IfOk, map, string_bytes};
 ghost use Rattle.locnum_options.specs.Names.{are_names, chosen_given, chosen_named, headed, is_range_byte, is_range_text};
-ghost use Rattle.locnum_options.specs.Options.{Gives};
+ghost use Rattle.locnum_options.specs.Options.{GivesOption};
 ghost use Rattle.locnum_options.specs.Texts.{parts_of};
 
 use crate::fault::OptionFault;
@@ -89,7 +89,7 @@ fn owned(alloc: Global, parts: &[&str]) -> Result<Vec<String>, AllocError>
 /// The fields of a list of ranges, or of names.
 #[tactic(auto, unfolding(crate::specs::Names::chosen_named))]
 fn chosen_named(alloc: Global, text: &str) -> Result<Chosen, OptionFault>
-    ensures { Gives (λ x. x) result (chosen_named text.now) }
+    ensures { GivesOption (λ x. x) result (chosen_named text.now) }
 {
     let parts = parts_of(alloc, text)?;
     if are_names(&parts) {
@@ -131,7 +131,7 @@ fn headed(is_header: bool, chosen: Chosen) -> Result<Chosen, OptionFault>
 /// The fields that are numbers; the first one by default.
 #[tactic(auto, unfolding(crate::specs::Names::chosen_given))]
 pub(crate) fn chosen_given(alloc: Global, given: &Given) -> Result<Chosen, OptionFault>
-    ensures { Gives (λ x. x) result (chosen_given given.now) }
+    ensures { GivesOption (λ x. x) result (chosen_given given.now) }
 {
     match given.text("field") {
         None => Ok(first_field(alloc)?),

@@ -1,11 +1,11 @@
 //! What the options ask for.
 
 ghost use Rattle.std.specs.Prelude.{◌≡◌, option_map};
-ghost use Rattle.locnum_options.specs.Options.{Gives, end_of, fraction_given, header_given, options_of, padding_given};
+ghost use Rattle.locnum_options.specs.Options.{GivesOption, end_of, fraction_given, header_given, options_of, padding_given};
 
 use crate::explained::{Explain, explain_given};
 use crate::fault::OptionFault;
-use crate::fields::place_named;
+use crate::fields::positive_number_named;
 use crate::fraction::fraction_named;
 use crate::given::Given;
 use crate::kinds::kind_given;
@@ -63,7 +63,7 @@ fn header_given(text: Option<&str>) -> Result<u64, OptionFault>
     let Some(text) = text else {
         return Ok(0);
     };
-    match place_named(text) {
+    match positive_number_named(text) {
         Some(number) => Ok(number as u64),
         None => Err(OptionFault::Header),
     }
@@ -98,7 +98,7 @@ fn end_of(zero_terminated: bool) -> u8
 // mutations: options_header_judged_after_invalid
 #[tactic(auto, unfolding(crate::specs::Options::options_of))]
 pub fn parse_options<'a>(alloc: Global, given: &Given<'a>) -> Result<Options<'a>, OptionFault>
-    ensures { Gives (λ x. x) result (options_of given.now) }
+    ensures { GivesOption (λ x. x) result (options_of given.now) }
 {
     let locale = locale_given(alloc, given)?;
     let system = system_given(given.text("system"))?;

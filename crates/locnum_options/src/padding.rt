@@ -4,7 +4,7 @@ ghost use Rattle.std.specs.Prelude.{◌≡◌};
 ghost use Rattle.locnum_lines.specs.declared.padding.Alignment.{Alignment};
 ghost use Rattle.locnum_options.specs.Padding.{columns_named, padding_named};
 
-use crate::fields::place_named;
+use crate::fields::positive_number_named;
 use locnum_lines::{Alignment, Padding};
 
 /// Columns of this count.
@@ -12,7 +12,7 @@ use locnum_lines::{Alignment, Padding};
 fn columns_named(alignment: Alignment, text: &str) -> Option<Padding>
     ensures { result ≡ columns_named alignment text.now }
 {
-    let columns = place_named(text)?;
+    let columns = positive_number_named(text)?;
     if columns > 65535 {
         return None;
     }

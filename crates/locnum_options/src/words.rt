@@ -6,7 +6,7 @@ ghost use Rattle.locnum_options.specs.Words.{byte_named, csv_given, delimiter_gi
 use crate::fault::OptionFault;
 use crate::given::Given;
 use fixed_decimal::SignDisplay;
-use icu_decimal::options::GroupingStrategy;
+use icu_decimal_options::options::GroupingStrategy;
 use icu_provider::NumberingSystem;
 use locnum_lines::{Delimiter, Refusals};
 

@@ -12,13 +12,13 @@ use Rattle.fixed_decimal.proofs.Weights.{ten_pos}
 use Rattle.fixed_decimal.proofs.Magnitudes.{place-magnitude}
 use Rattle.fixed_decimal.proofs.Taken.{least-unique}
 use Rattle.icu_decimal_data.specs.CompactTable.{TableEntry, IsCompactTable, entry_for, exponent_for, exponent_of}
-use Rattle.icu_decimal.specs.Displayed.{displayed_entry}
+use Rattle.icu_decimal.specs.Decomposed.{decomposed_entry}
 use Rattle.skeleton_settings.specs.declared.settings.Precision.{Precision}
 use Rattle.number_rounding.specs.declared.rounding.Rounding.{Rounding}
 use Rattle.number_rounding.specs.Steps.{step, DividesOne}
 use Rattle.number_rounding.specs.Showable.{unit_at, FitsTable, IsShownBy, IsShownPastLimits}
 use Rattle.number_rounding.specs.Shown.{IsShown, ShowsPastLimits, IsFractionCount}
-use Rattle.fixed_decimal.specs.Padding.{IsWrittenWith}
+use Rattle.fixed_decimal.specs.Padding.{IsExactWith}
 use Rattle.number_rounding.proofs.Joined.{has_taken}
 use Rattle.number_rounding.proofs.Units.{units_joined, unit_pos, exponent_places, exponent_none}
 use Rattle.number_rounding.proofs.ShownSizes.{shown_from_multiple, shown_once}
@@ -48,7 +48,7 @@ exponent_within table x e power by is_table at is exponent =
 
 -- the entry that was looked up for a size is the displayed one
 pub entry_is : (table : List TableEntry) (y : ℕ) (power : ℤ) (by : Option TableEntry) → power ≡ magnitude y → by ≡ entry_for table (place power) →
-    by ≡ displayed_entry table y
+    by ≡ decomposed_entry table y
 entry_is table y power by at is = is ∙ ap (entry_for table) (ap place at ∙ place-magnitude y)
 
 module _ (rounding : Rounding) (table : List TableEntry) (minus : Bool) (d : Unsigned) (fits : FitsTable rounding.precision table) (e : ℕ) (power : ℤ)
@@ -82,14 +82,14 @@ module _ (rounding : Rounding) (table : List TableEntry) (minus : Bool) (d : Uns
 
     -- The size y was rounded to, by is its entry and s its significand.
     module _ (y e' : ℕ) (by : Option TableEntry) (shown : IsShownBy rounding.precision table rounding.mode minus (size d) y)
-        (displayed : by ≡ displayed_entry table y) (exponent' : e' ≡ exponent_of by)
+        (decomposed : by ≡ decomposed_entry table y) (exponent' : e' ≡ exponent_of by)
       where
         pub is_shown : (s : Unsigned) → size s * 10 ^ e' ≡ y → IsUnsigned s →
             high s ≡ int_max (int_max (pos 0) (pos rounding.integer_digits -ℤ pos 1)) (magnitude (size s)) →
             IsFractionCount rounding (size s) s.scale → IsShown rounding table minus (size d) y by s
         is_shown s scaled valid top count = record {
           taken = shown;
-          entry_is = displayed;
+          entry_is = decomposed;
           scaled = rw (← exponent') scaled;
           is_decimal = valid;
           high_is = top;
@@ -102,7 +102,7 @@ module _ (rounding : Rounding) (table : List TableEntry) (minus : Bool) (d : Uns
             minus (size d)
         past_written (inl many) = inr (inl many)
         past_written (inr (s, count, scaled, is, many)) =
-            let same : e' ≡ exponent_of (displayed_entry table y) = exponent' ∙ ap exponent_of displayed in
+            let same : e' ≡ exponent_of (decomposed_entry table y) = exponent' ∙ ap exponent_of decomposed in
             inr (inr (record { y = y; s = s; count = count; taken = shown; scaled = rw (← same) scaled; count_is = is; too_many = many }))
 
         -- and within the limits none of this is so
@@ -113,8 +113,8 @@ module _ (rounding : Rounding) (table : List TableEntry) (minus : Bool) (d : Uns
         within_limits s not_past few scaled valid count (inr (inl many)) = omega arith
         within_limits s not_past few scaled valid count (inr (inr h)) =
             let same : h.y ≡ y = shown_once rounding.precision table fits (size_mode rounding.mode minus) (size d) h.y y h.taken shown in
-            let exponents : exponent_of (displayed_entry table h.y) ≡ e' =
-            ap (λ z. exponent_of (displayed_entry table z)) same ∙ sym (exponent' ∙ ap exponent_of displayed) in
+            let exponents : exponent_of (decomposed_entry table h.y) ≡ e' =
+            ap (λ z. exponent_of (decomposed_entry table z)) same ∙ sym (exponent' ∙ ap exponent_of decomposed) in
             let both : h.s * 10 ^ e' ≡ size s * 10 ^ e' = rw exponents at h.scaled ∙ same ∙ sym scaled in
             let size_is : h.s ≡ size s = cancel h.s (size s) (10 ^ e') (ten_pos e') both in
             let count_is : IsFractionCount rounding (size s) h.count = rw size_is at h.count_is in
@@ -125,4 +125,4 @@ module _ (rounding : Rounding) (table : List TableEntry) (minus : Bool) (d : Uns
             cancel a b u positive same = grind arith
 
             counts : (s : Unsigned) (n : ℕ) → IsFractionCount rounding (size s) n → IsFractionCount rounding (size s) s.scale → n ≡ s.scale
-            counts s n p q = least-unique (IsWrittenWith (size s)) _ n s.scale p q
+            counts s n p q = least-unique (IsExactWith (size s)) _ n s.scale p q

@@ -11,7 +11,7 @@ use Rattle.std.proofs.lemmas.List.Elements.{All-drop, All-get_or}
 use Rattle.fixed_decimal.specs.Unsigned.{Unsigned, IsUnsigned, integer_count, fraction, low, digit_at}
 use Rattle.fixed_decimal.specs.Size.{weighed, finest, size}
 use Rattle.fixed_decimal.specs.Modes.{IsLeastFrom}
-use Rattle.fixed_decimal.specs.Padding.{IsWrittenWith}
+use Rattle.fixed_decimal.specs.Padding.{IsExactWith}
 use Rattle.fixed_decimal.specs.Rounding.{zeros_at}
 use Rattle.fixed_decimal.specs.Scaling.{IsTimesTenTo, MovesPastLimits}
 use Rattle.fixed_decimal.specs.Trimming.{IsTrimmed}
@@ -37,11 +37,11 @@ times_down (negsuc n) e x y same times =
     rw n_is (omega (arith, times))
 
 -- that many digits below power 0, or one more
-written_more : (x n : ℕ) → (finest ≤ n) → IsWrittenWith x n
+written_more : (x n : ℕ) → (finest ≤ n) → IsExactWith x n
 written_more x n h = let none : finest - n ≡ 0 = omega arith in (x, let one : 10 ^ (finest - n) ≡ 1 = ap (λ p. 10 ^ p) none in rw one (omega arith))
 
 -- some least count of digits writes a size
-pub least_count : (steps x least : ℕ) → finest ≤ least + steps → (n : ℕ) × IsLeastFrom (IsWrittenWith x) least n
+pub least_count : (steps x least : ℕ) → finest ≤ least + steps → (n : ℕ) × IsLeastFrom (IsExactWith x) least n
 least_count zero x least h =
     (least, record { allowed = written_more x least (omega arith); from = omega arith; least = λ z _ le. le })
 least_count (suc steps) x least h = elim (cases_eq (x % 10 ^ (finest - least)) 0) [
@@ -60,7 +60,7 @@ least_count (suc steps) x least h = elim (cases_eq (x % 10 ^ (finest - least)) 0
       )
 ]
   where
-    not_here : IsWrittenWith x least → x % 10 ^ (finest - least) ≢ 0 → ⊥
+    not_here : IsExactWith x least → x % 10 ^ (finest - least) ≢ 0 → ⊥
     not_here (k, e) rest = rest (ap (λ n. n % 10 ^ (finest - least)) (let same : x ≡ k * 10 ^ (finest - least) + 0 = omega (arith, e) in same)
         ∙ mod-mul-add k (10 ^ (finest - least)) 0 (ten_pos (finest - least)))
 
@@ -73,7 +73,7 @@ module _ (t : Unsigned) (e : ℕ) (is : IsUnsigned t) (trimmed : IsTrimmed t) (s
 
   -- the size is ten to the exponent times a size that that many digits don't write
   pub too_many_below : (k : ℤ) → k ≡ pos 0 -ℤ pos e → MovesPastLimits t k →
-      (s : ℕ) × (s * 10 ^ e ≡ size t) × ((n : ℕ) → IsWrittenWith s n → 32768 < n)
+      (s : ℕ) × (s * 10 ^ e ≡ size t) × ((n : ℕ) → IsExactWith s n → 32768 < n)
   too_many_below k same past =
       let many : 32768 < t.scale + e = below_alone k same past in
       let fine : t.scale + e ≤ finest = omega (arith, finest_is, is.low_limit) in
@@ -86,7 +86,7 @@ module _ (t : Unsigned) (e : ℕ) (is : IsUnsigned t) (trimmed : IsTrimmed t) (s
         ],
       )
     where
-      fewer : t.scale + e ≤ finest → (n : ℕ) → IsWrittenWith (weighed (finest - (t.scale + e)) t.digits) n → n < t.scale + e → IsTrimmed t → ⊥
+      fewer : t.scale + e ≤ finest → (n : ℕ) → IsExactWith (weighed (finest - (t.scale + e)) t.digits) n → n < t.scale + e → IsTrimmed t → ⊥
       fewer fine n written h (inl none) = omega (arith, ints, below_alone k same past)
       fewer fine n written h (inr last) =
           let at : digit_at t (low t) ≡ get_or t.digits (length t.digits - 1) 0 =

@@ -4,10 +4,10 @@ ghost use Rattle.std.specs.Prelude.{◌≡◌, ◌↔◌, ◌≤◌, ◌<◌, �
 ghost use Rattle.std.specs.Int.{int_max};
 ghost use Rattle.fixed_decimal.specs.Unsigned.{IsUnsigned, high};
 ghost use Rattle.fixed_decimal.specs.Size.{finest, place, size, magnitude};
-ghost use Rattle.fixed_decimal.specs.Padding.{IsWrittenWith};
+ghost use Rattle.fixed_decimal.specs.Padding.{IsExactWith};
 ghost use Rattle.number_rounding.specs.LeastDigits.{significant_below, chosen_least, least_digits};
 ghost use Rattle.number_rounding.specs.Steps.{fraction_place, significant_place};
-ghost use Rattle.number_rounding.specs.Shown.{is_whole, least_written, IsFractionCount};
+ghost use Rattle.number_rounding.specs.Shown.{is_whole, least_fraction_digits, IsFractionCount};
 
 use crate::places::{FINEST, UNRESOLVED, fraction_place, place_of, significant_place};
 use crate::{Rounding, ShownError};
@@ -21,7 +21,7 @@ fn over_ten_to(value: UnsignedDecimal, exponent: u8) -> Result<UnsignedDecimal, 
     ensures size { IfOk result (λ s. size s * 10 ^ exponent ≡ size value) }
     ensures valid { IfOk result (λ s. IsUnsigned s) }
     ensures overflow { IsErrOf result ShownError.Overflow → (s : ℕ)
-        × (s * 10 ^ exponent ≡ size value) × ((n : ℕ) → IsWrittenWith s n → 32768 < n) }
+        × (s * 10 ^ exponent ≡ size value) × ((n : ℕ) → IsExactWith s n → 32768 < n) }
 {
     match value.trimmed_end().multiplied_pow10(-(exponent as i16)) {
         Ok(significand) => Ok(significand),
@@ -97,8 +97,8 @@ fn is_whole(value: &UnsignedDecimal) -> bool
 }
 
 /// How many digits below power 0 a significand has at least.
-fn least_written(rounding: &Rounding, significand: &UnsignedDecimal) -> usize
-    ensures { result ≡ least_written rounding.now (size significand.now) }
+fn least_fraction_digits(rounding: &Rounding, significand: &UnsignedDecimal) -> usize
+    ensures { result ≡ least_fraction_digits rounding.now (size significand.now) }
 {
     if rounding.hides_zeros_of_whole && is_whole(significand) {
         return 0;
@@ -129,7 +129,7 @@ pub(crate) fn significand_of(
         Ok(significand) => significand,
         Err(error) => return Err(error),
     };
-    let least = least_written(rounding, &significand);
+    let least = least_fraction_digits(rounding, &significand);
     match significand.padded(alloc, rounding.integer_digits as usize, least) {
         Ok(padded) => Ok(padded),
         Err(DecimalError::OutOfMemory) => Err(ShownError::OutOfMemory),

@@ -25,15 +25,15 @@ use Rattle.number_skeleton.specs.Fragments.{only_system, only_signs, only_decima
 use Rattle.number_skeleton.specs.Laws.{IsUnit, AreCounts, IsLimited, IsPrecision, IsSystem, AreSigns}
 use Rattle.number_skeleton.specs.Numbers.{scale_of, increment_of}
 use Rattle.number_skeleton.specs.Options.{ended, option_at, letters_of, unit_of, system_of, integer_digits_of}
-use Rattle.number_skeleton.specs.Results.{placed}
+use Rattle.number_skeleton.specs.Results.{located}
 use Rattle.number_skeleton.specs.Stems.{stem_of}
-use Rattle.number_skeleton.specs.Tokens.{Progress, fresh, stem_and_options, with_token, with_tokens, precision_place}
+use Rattle.number_skeleton.specs.Tokens.{Progress, fresh, stem_and_options, with_token, with_tokens, precision_offset}
 use Rattle.number_skeleton.specs.Values.{small, limits_of, fraction, significant, unlimited, both, is_w, digits_at, fraction_at, beside_counts, beside_end}
 use Rattle.number_skeleton.specs.Values.{beside_of}
 use Rattle.number_skeleton.specs.Values.{currency_at, unit_at, system_at, integer_at, scale_at as scale_value_at, increment_at, value_of}
 use Rattle.number_skeleton.proofs.Kept.{letters_kept, unit_kept, system_kept, integer_kept, scale_kept, increment_kept, small_kept, limits_kept, IsBeside}
 use Rattle.number_skeleton.proofs.Kept.{beside_counts_kept}
-use Rattle.number_skeleton.proofs.Orders.{taken, allowed, one_value, placed_ok, ended_anywhere, one_anywhere, digits_anywhere}
+use Rattle.number_skeleton.proofs.Orders.{taken, allowed, one_value, located_ok, ended_anywhere, one_anywhere, digits_anywhere}
 use Rattle.number_skeleton.proofs.Says.{fresh_unset}
 use Rattle.number_skeleton.proofs.Within.{IsStem, stem_within}
 
@@ -155,16 +155,16 @@ fraction_kept at options limits e counts limited h =
     (λ l. subst IsDraft (sym (ended_anywhere one.0.next one.0.next one.0.rest (only_digits (fraction limits) true) e l).1) (digits_fragment (fraction limits)
     true counts))
     (λ l.
-    let two = taken (placed one.0.at (beside_of one.0.word)) _ e l in
-    let b = beside_kept one.0.word two.0 (placed_ok one.0.at (beside_of one.0.word) two.0 two.1.0) in
+    let two = taken (located one.0.at (beside_of one.0.word)) _ e l in
+    let b = beside_kept one.0.word two.0 (located_ok one.0.at (beside_of one.0.word) two.0 two.1.0) in
     digits_kept one.0.next one.0.rest (both limits two.0) e (counts, (limited, (b.some, (b.within, b.small)))) two.1.1) one.1.1) h
 
 increment_at_kept : (at : ℕ) (options : List ℕ) (e : DraftData) → increment_at at options ≡ Ok e → IsDraft e
 unfolding increment_at
 increment_at_kept at options e h =
     let one = taken (option_at at options) _ e h in
-    let two = taken (placed one.0.at (increment_of one.0.word)) _ e one.1.1 in
-    digits_kept one.0.next one.0.rest two.0 e (increment_kept one.0.word two.0 (placed_ok one.0.at (increment_of one.0.word) two.0 two.1.0)) two.1.1
+    let two = taken (located one.0.at (increment_of one.0.word)) _ e one.1.1 in
+    digits_kept one.0.next one.0.rest two.0 e (increment_kept one.0.word two.0 (located_ok one.0.at (increment_of one.0.word) two.0 two.1.0)) two.1.1
 
 latin_kept : IsSystem (Some (codes "latn"))
 unfolding system_of
@@ -281,11 +281,11 @@ pub token_kept : (at : ℕ) (token : List ℕ) (d next : DraftData) → IsDraft 
 unfolding with_token
 token_kept at token d next k h =
     let zero = allowed (get_or token 0 0 == 47) (stem_and_options at token d) next _ h in
-    let one = taken (placed at (stem_of (take (piece_len token) token))) _ next zero.1 in
+    let one = taken (located at (stem_of (take (piece_len token) token))) _ next zero.1 in
     let two = taken (fresh at one.0 d) _ next one.1.1 in
     let three = taken (value_of at (at + piece_len token) (drop (piece_len token) token) two.0) _ next two.1.1 in
     let same = (fresh_unset at one.0 two.0 d two.1.0).same in
-    let good = stem_within (take (piece_len token) token) one.0 (placed_ok at (stem_of (take (piece_len token) token)) one.0 one.1.0) in
+    let good = stem_within (take (piece_len token) token) one.0 (located_ok at (stem_of (take (piece_len token) token)) one.0 one.1.0) in
     let value = value_kept at (at + piece_len token) (drop (piece_len token) token) two.0 three.0 (subst IsStem (sym same) good) three.1.0 in
     subst IsDraft (sym (one_value (merged d three.0) next (Ok (merged d three.0)) refl three.1.1)) (merged_kept d three.0 k value)
 
@@ -294,4 +294,4 @@ unfolding with_tokens
 tokens_kept [] p q k h = subst (λ (x : Progress). IsDraft x.draft) (sym (one_value p q (Ok p) refl h)) k
 tokens_kept ((at, token) ∷ ts) p q k h =
     let one = taken (with_token at token p.draft) _ q h in
-    tokens_kept ts (record { draft = one.0; precision_at = precision_place at p }) q (token_kept at token p.draft one.0 k one.1.0) one.1.1
+    tokens_kept ts (record { draft = one.0; precision_at = precision_offset at p }) q (token_kept at token p.draft one.0 k one.1.0) one.1.1

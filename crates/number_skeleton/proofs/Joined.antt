@@ -13,7 +13,7 @@ use Rattle.number_skeleton.specs.Cuts.{blank_len, token_len, tokens_from}
 use Rattle.number_skeleton.specs.Data.{DraftData}
 use Rattle.number_skeleton.specs.Fragments.{nothing_data}
 use Rattle.number_skeleton.specs.Results.{◌>>=◌}
-use Rattle.number_skeleton.specs.Tokens.{Progress, with_token, with_tokens, at_start, precision_place}
+use Rattle.number_skeleton.specs.Tokens.{Progress, with_token, with_tokens, at_start, precision_offset}
 use Rattle.number_skeleton.proofs.Ascii.{and_left, and_right}
 use Rattle.number_skeleton.proofs.Cutting.{token_len-le, skipped}
 
@@ -145,9 +145,9 @@ with_tokens-append [] ys p = refl
 with_tokens-append ((at, token) ∷ xs) ys p = go (λ q. with_tokens-append xs ys q) (with_token at token p.draft)
   where
     go : ((q : Progress) → with_tokens (xs ++ ys) q ≡ (with_tokens xs q >>= with_tokens ys)) →
-        (r : Result DraftData SkeletonFault) → (r >>= λ d. with_tokens (xs ++ ys) (record { draft = d; precision_at = precision_place at p })) ≡
-        ((r >>= λ d. with_tokens xs (record { draft = d; precision_at = precision_place at p })) >>= with_tokens ys)
-    go rest (Ok d) = rest (record { draft = d; precision_at = precision_place at p })
+        (r : Result DraftData SkeletonFault) → (r >>= λ d. with_tokens (xs ++ ys) (record { draft = d; precision_at = precision_offset at p })) ≡
+        ((r >>= λ d. with_tokens xs (record { draft = d; precision_at = precision_offset at p })) >>= with_tokens ys)
+    go rest (Ok d) = rest (record { draft = d; precision_at = precision_offset at p })
     go rest (Err e) = refl
 
 -- a text that is read as a draft, and to which more may be written
@@ -194,6 +194,6 @@ written-more out token draft next w plain some reads =
     let last = spaced-tokens out token w.printed plain some in
     record {
       printed = spaced-printed out token w.printed plain;
-      place = precision_place last.0 (record { draft = draft; precision_at = w.place });
+      place = precision_offset last.0 (record { draft = draft; precision_at = w.place });
       read = rw (last.1, with_tokens-append (tokens_from 0 0 out) ((last.0, token) ∷ []) at_start, w.read, reads last.0) refl;
     }

@@ -10,7 +10,7 @@ use Rattle.number_skeleton.specs.Bytes.{piece_len}
 use Rattle.number_skeleton.specs.Data.{DraftData}
 use Rattle.number_skeleton.specs.Fragments.{only_digits}
 use Rattle.number_skeleton.specs.Options.{PieceData, ended, option_at}
-use Rattle.number_skeleton.specs.Results.{◌>>=◌, fault, placed}
+use Rattle.number_skeleton.specs.Results.{◌>>=◌, fault, located}
 use Rattle.number_skeleton.specs.Values.{is_w, digits_at}
 
 -- a step that was taken
@@ -31,9 +31,9 @@ pub one_value : {A E : Type 0} (x y : A) (r : Result A E) → r ≡ Ok x → r �
 one_value x y r h g = cc
 
 -- what was placed
-pub placed_ok : {A : Type 0} (at : ℕ) (r : Result A FaultKind) (x : A) → placed at r ≡ Ok x → r ≡ Ok x
-placed_ok at (Ok y) x h = cc
-placed_ok at (Err k) x h = absurd cc
+pub located_ok : {A : Type 0} (at : ℕ) (r : Result A FaultKind) (x : A) → located at r ≡ Ok x → r ≡ Ok x
+located_ok at (Ok y) x h = cc
+located_ok at (Err k) x h = absurd cc
 
 -- the end of options
 pub ended_anywhere : (at bt : ℕ) (options : List ℕ) (d e : DraftData) → ended at options d ≡ Ok e → (ended bt options d ≡ Ok e) × (e ≡ d)
@@ -66,19 +66,19 @@ option_anywhere at bt options p h =
 
 -- an option that a stem needs, and the end
 pub record OneOption {A : Type 0} (f : List ℕ → Result A FaultKind) (g : A → DraftData) (bt : ℕ) (options : List ℕ) (e : DraftData) : Type 0 where
-  pub is : (option_at bt options >>= λ piece. placed piece.at (f piece.word) >>= λ x. ended piece.next piece.rest (g x)) ≡ Ok e
+  pub is : (option_at bt options >>= λ piece. located piece.at (f piece.word) >>= λ x. ended piece.next piece.rest (g x)) ≡ Ok e
   pub value : A
   pub word : List ℕ
   pub reads : f word ≡ Ok value
   pub sets : e ≡ g value
 
 pub one_anywhere : {A : Type 0} (f : List ℕ → Result A FaultKind) (g : A → DraftData) (at bt : ℕ) (options : List ℕ) (e : DraftData) →
-    (option_at at options >>= λ piece. placed piece.at (f piece.word) >>= λ x. ended piece.next piece.rest (g x)) ≡ Ok e → OneOption f g bt options e
+    (option_at at options >>= λ piece. located piece.at (f piece.word) >>= λ x. ended piece.next piece.rest (g x)) ≡ Ok e → OneOption f g bt options e
 one_anywhere f g at bt options e h =
     let one = taken (option_at at options) _ e h in
-    let two = taken (placed one.0.at (f one.0.word)) _ e one.1.1 in
+    let two = taken (located one.0.at (f one.0.word)) _ e one.1.1 in
     let there = option_anywhere at bt options one.0 one.1.0 in
-    let reads = placed_ok one.0.at (f one.0.word) two.0 two.1.0 in
+    let reads = located_ok one.0.at (f one.0.word) two.0 two.1.0 in
     let end = ended_anywhere one.0.next there.piece.next one.0.rest (g two.0) e two.1.1 in
     record {
       is = rw (there.is, there.word, there.rest, reads) end.0;

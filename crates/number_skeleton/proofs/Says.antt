@@ -18,13 +18,13 @@ use Rattle.number_skeleton.specs.Fragments.{only_notation, only_unit, only_width
 use Rattle.number_skeleton.specs.Fragments.{only_system, only_signs, only_decimal, percent_times_hundred}
 use Rattle.number_skeleton.specs.Numbers.{scale_of, increment_of}
 use Rattle.number_skeleton.specs.Options.{PieceData, ended, option_at, letters_of, unit_of, system_of, integer_digits_of}
-use Rattle.number_skeleton.specs.Results.{◌>>=◌, placed}
+use Rattle.number_skeleton.specs.Results.{◌>>=◌, located}
 use Rattle.number_skeleton.specs.Stems.{stem_of}
 use Rattle.number_skeleton.specs.Tokens.{setting_of, other_setting_of, fresh, stem_and_options, with_token}
 use Rattle.number_skeleton.specs.Values.{small, small_most, limits_of, fraction, significant, unlimited, both, is_w, digits_at, fraction_at, beside_of}
 use Rattle.number_skeleton.specs.Values.{currency_at, unit_at, system_at, integer_at, scale_at, increment_at, value_of}
 use Rattle.number_skeleton.proofs.Commuting.{clashes, or_left, or_right}
-use Rattle.number_skeleton.proofs.Orders.{taken, allowed, one_value, placed_ok, ended_anywhere, Elsewhere, option_anywhere, one_anywhere, SomeDigits}
+use Rattle.number_skeleton.proofs.Orders.{taken, allowed, one_value, located_ok, ended_anywhere, Elsewhere, option_anywhere, one_anywhere, SomeDigits}
 use Rattle.number_skeleton.proofs.Orders.{digits_anywhere}
 
 -- counts of a stem
@@ -68,15 +68,15 @@ either_of false q r y h = inr (refl, h)
 module _ (at bt : ℕ) (options : List ℕ) (limits : Limits) (e : DraftData) (long : (length options == 0) ≡ false) (piece : PieceData)
     (there : Elsewhere bt options piece) where
   fraction_choice : ((is_w piece ≡ true) × (ended piece.next piece.rest (only_digits (fraction limits) true) ≡ Ok e)) ⊎
-      ((is_w piece ≡ false) × ((placed piece.at (beside_of piece.word) >>= λ beside. digits_at piece.next piece.rest (both limits beside)) ≡ Ok e)) →
+      ((is_w piece ≡ false) × ((located piece.at (beside_of piece.word) >>= λ beside. digits_at piece.next piece.rest (both limits beside)) ≡ Ok e)) →
       AnyDigits (fraction_at bt options limits) e
   unfolding fraction_at
   fraction_choice (inl h) =
       let end = ended_anywhere piece.next there.piece.next piece.rest (only_digits (fraction limits) true) e h.1 in
       record { is = rw (long, there.is, there.word, h.0, there.rest) end.0; precision = fraction limits; hides = true; sets = end.1 }
   fraction_choice (inr h) =
-      let one = taken (placed piece.at (beside_of piece.word)) _ e h.1 in
-      let is = placed_ok piece.at (beside_of piece.word) one.0 one.1.0 in
+      let one = taken (located piece.at (beside_of piece.word)) _ e h.1 in
+      let is = located_ok piece.at (beside_of piece.word) one.0 one.1.0 in
       let digits = digits_anywhere piece.next there.piece.next piece.rest (both limits one.0) e one.1.1 in
       record { is = rw (long, there.is, there.word, h.0, is, there.rest) digits.is; precision = both limits one.0; hides = digits.hides; sets = digits.sets }
 
@@ -84,7 +84,7 @@ fraction_either : (at bt : ℕ) (options : List ℕ) (limits : Limits) (e : Draf
     (((length options == 0) ≡ true) × (e ≡ only_digits (fraction limits) false)) ⊎
     (((length options == 0) ≡ false) × ((option_at at options >>= λ piece.
     if is_w piece then ended piece.next piece.rest (only_digits (fraction limits) true)
-    else placed piece.at (beside_of piece.word) >>= λ beside. digits_at piece.next piece.rest (both limits beside)) ≡ Ok e)) →
+    else located piece.at (beside_of piece.word) >>= λ beside. digits_at piece.next piece.rest (both limits beside)) ≡ Ok e)) →
     AnyDigits (fraction_at bt options limits) e
 unfolding fraction_at
 fraction_either at bt options limits e (inl h) = record { is = rw (h.0, h.1) refl; precision = fraction limits; hides = false; sets = h.1 }
@@ -92,7 +92,7 @@ fraction_either at bt options limits e (inr h) =
     let one = taken (option_at at options) _ e h.1 in
     fraction_choice at bt options limits e h.0 one.0 (option_anywhere at bt options one.0 one.1.0)
     (either_of (is_w one.0) (ended one.0.next one.0.rest (only_digits (fraction limits) true))
-    (placed one.0.at (beside_of one.0.word) >>= λ beside. digits_at one.0.next one.0.rest (both limits beside)) e one.1.1)
+    (located one.0.at (beside_of one.0.word) >>= λ beside. digits_at one.0.next one.0.rest (both limits beside)) e one.1.1)
 
 pub fraction_anywhere : (at bt : ℕ) (options : List ℕ) (limits : Limits) (e : DraftData) → fraction_at at options limits ≡ Ok e → AnyDigits
     (fraction_at bt options limits) e
@@ -105,9 +105,9 @@ pub increment_anywhere : (at bt : ℕ) (options : List ℕ) (e : DraftData) → 
 unfolding increment_at
 increment_anywhere at bt options e h =
     let one = taken (option_at at options) _ e h in
-    let two = taken (placed one.0.at (increment_of one.0.word)) _ e one.1.1 in
+    let two = taken (located one.0.at (increment_of one.0.word)) _ e one.1.1 in
     let there = option_anywhere at bt options one.0 one.1.0 in
-    let is = placed_ok one.0.at (increment_of one.0.word) two.0 two.1.0 in
+    let is = located_ok one.0.at (increment_of one.0.word) two.0 two.1.0 in
     let digits = digits_anywhere one.0.next there.piece.next one.0.rest two.0 e two.1.1 in
     record { is = rw (there.is, there.word, is, there.rest) digits.is; precision = two.0; hides = digits.hides; sets = digits.sets }
 
@@ -213,9 +213,9 @@ unfolding fresh
 unset_fresh at s d h =
     rw (or_right (is_set d (other_setting_of s)) (is_set d (setting_of s)) h, or_left (is_set d (other_setting_of s)) (is_set d (setting_of s)) h) refl
 
-placed_anywhere : {A : Type 0} (at bt : ℕ) (r : Result A FaultKind) (x : A) → placed at r ≡ Ok x → placed bt r ≡ Ok x
-placed_anywhere at bt (Ok y) x h = h
-placed_anywhere at bt (Err k) x h = absurd cc
+located_anywhere : {A : Type 0} (at bt : ℕ) (r : Result A FaultKind) (x : A) → located at r ≡ Ok x → located bt r ≡ Ok x
+located_anywhere at bt (Ok y) x h = h
+located_anywhere at bt (Err k) x h = absurd cc
 
 -- what a token says, wherever it stands and whatever else is set
 pub record Says (token : List ℕ) (e : DraftData) : Type 0 where
@@ -229,7 +229,7 @@ pub record Said (token : List ℕ) (d next : DraftData) : Type 0 where
   pub sets : next ≡ merged d fragment
 
 module _ (token : List ℕ) (no_slash : (get_or token 0 0 == 47) ≡ false) (at : ℕ) (s : Stem) (e : DraftData)
-    (stem_is : placed at (stem_of (take (piece_len token) token)) ≡ Ok s) (value_is : value_of at (at + piece_len token) (drop (piece_len token) token) s
+    (stem_is : located at (stem_of (take (piece_len token) token)) ≡ Ok s) (value_is : value_of at (at + piece_len token) (drop (piece_len token) token) s
     ≡ Ok e) where
   there : (bt : ℕ) → Value (value_of bt (bt + piece_len token) (drop (piece_len token) token) s) e s
   there bt = value_anywhere at (at + piece_len token) bt (bt + piece_len token) (drop (piece_len token) token) s e value_is
@@ -240,7 +240,7 @@ module _ (token : List ℕ) (no_slash : (get_or token 0 0 == 47) ≡ false) (at 
     says = λ bt d free.
         rw (
           no_slash,
-          placed_anywhere at bt (stem_of (take (piece_len token) token)) s stem_is,
+          located_anywhere at bt (stem_of (take (piece_len token) token)) s stem_is,
           unset_fresh bt s d (sym ((there bt).marks d) ∙ free),
           (there
               bt).is,
@@ -259,7 +259,7 @@ pub token_said : (at : ℕ) (token : List ℕ) (d next : DraftData) → with_tok
 unfolding with_token
 token_said at token d next h =
     let zero = allowed (get_or token 0 0 == 47) (stem_and_options at token d) next _ h in
-    let one = taken (placed at (stem_of (take (piece_len token) token))) _ next zero.1 in
+    let one = taken (located at (stem_of (take (piece_len token) token))) _ next zero.1 in
     let two = taken (fresh at one.0 d) _ next one.1.1 in
     let three = taken (value_of at (at + piece_len token) (drop (piece_len token) token) two.0) _ next two.1.1 in
     let unset = fresh_unset at one.0 two.0 d two.1.0 in

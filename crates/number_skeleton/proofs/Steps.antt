@@ -5,7 +5,7 @@ use Rattle.number_skeleton.specs.declared.fault.SkeletonFault.{SkeletonFault}
 use Rattle.number_skeleton.specs.Cuts.{blank_len, token_len, tokens_from}
 use Rattle.number_skeleton.specs.Data.{DraftData}
 use Rattle.number_skeleton.specs.Results.{◌>>=◌}
-use Rattle.number_skeleton.specs.Tokens.{Progress, with_token, with_tokens, at_start, checked, precision_place, skeleton_of}
+use Rattle.number_skeleton.specs.Tokens.{Progress, with_token, with_tokens, at_start, checked, precision_offset, skeleton_of}
 use Rattle.std.proofs.lemmas.List.{drop-drop, nil_from_length}
 use Rattle.number_skeleton.proofs.Cutting.{next_token, token_len-le, token_len-more}
 
@@ -48,7 +48,7 @@ module _ (text : List ℕ) (at : ℕ) (p : Progress) (reads : Reads text at p) (
 
     -- a token in front
     one : with_tokens (tokens_from 0 0 text) at_start ≡ (with_token (at + blanks) token p.draft >>= λ draft. with_tokens (tokens_from (at + blanks + len) 0
-        (drop len rest)) (record { draft = draft; precision_at = precision_place (at + blanks) p }))
+        (drop len rest)) (record { draft = draft; precision_at = precision_offset (at + blanks) p }))
     unfolding with_tokens
     one = left_reads ∙ rw (next_token (at + blanks) rest some (ap blank_len (sym behind_blanks) ∙ none), ← len_is, ← token_is) refl
 
@@ -60,6 +60,6 @@ module _ (text : List ℕ) (at : ℕ) (p : Progress) (reads : Reads text at p) (
     -- it is read
     pub reads-more : (next : DraftData) → with_token (at + blanks) token p.draft ≡ Ok next → Reads text (at + blanks + len) (record {
       draft = next;
-      precision_at = precision_place (at + blanks) p;
+      precision_at = precision_offset (at + blanks) p;
     })
     reads-more next e = record { within = token-within; same = one ∙ rw (e, rest_is, drop-drop len (at + blanks) text) refl }

@@ -108,11 +108,11 @@ exchanged (suc n) (a ∷ xs) = a ∷ exchanged n xs
 -- another order: neighbours change places, one pair after the other
 unfoldable pub reordered : {A : Type 0} → List ℕ → List A → List A
 reordered [] xs = xs
-reordered (place ∷ places) xs = reordered places (exchanged place xs)
+reordered (index ∷ indexes) xs = reordered indexes (exchanged index xs)
 
 -- a text of the same tokens in another order is read as the same settings
 abbrev pub OrderIsNothing : Type 0
-OrderIsNothing = (places text other : List ℕ) (s : SkeletonData) → words_of other ≡ reordered places (words_of text) → skeleton_of text ≡ Ok s →
+OrderIsNothing = (indexes text other : List ℕ) (s : SkeletonData) → words_of other ≡ reordered indexes (words_of text) → skeleton_of text ≡ Ok s →
     skeleton_of other ≡ Ok s
 
 -- what is read of any text is read again of its canonical text

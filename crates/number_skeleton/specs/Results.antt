@@ -14,6 +14,6 @@ abbrev pub fault : {A : Type 0} → FaultKind → ℕ → Result A SkeletonFault
 fault kind byte = Err (record { kind = kind; byte = byte })
 
 -- what was found, or a fault at a byte
-abbrev pub placed : {A : Type 0} → ℕ → Result A FaultKind → Result A SkeletonFault
-placed byte (Ok x) = Ok x
-placed byte (Err kind) = fault kind byte
+abbrev pub located : {A : Type 0} → ℕ → Result A FaultKind → Result A SkeletonFault
+located byte (Ok x) = Ok x
+located byte (Err kind) = fault kind byte

@@ -13,7 +13,7 @@ use Rattle.skeleton_settings.specs.Settings.{SkeletonData}
 use Rattle.number_skeleton.specs.Data.{DraftData}
 use Rattle.number_skeleton.specs.Drafts.{merged, is_set, finished, is_increment_of_compact}
 use Rattle.number_skeleton.specs.Fragments.{nothing_data}
-use Rattle.number_skeleton.specs.Results.{◌>>=◌, fault, placed}
+use Rattle.number_skeleton.specs.Results.{◌>>=◌, fault, located}
 use Rattle.number_skeleton.specs.Stems.{stem_of}
 use Rattle.number_skeleton.specs.Values.{value_of}
 
@@ -77,7 +77,7 @@ fresh at stem draft =
 -- its stem, then its options
 abbrev pub stem_and_options : ℕ → List ℕ → DraftData → Result DraftData SkeletonFault
 stem_and_options at token draft = do
-  stem ← placed at (stem_of (take (piece_len token) token))
+  stem ← located at (stem_of (take (piece_len token) token))
   stem ← fresh at stem draft
   value ← value_of at (at + piece_len token) (drop (piece_len token) token) stem
   Ok (merged draft value)
@@ -92,15 +92,15 @@ pub record Progress : Type 0 where
   pub precision_at : ℕ
 
 -- before a token, as long as no precision is set, the byte is that of the token
-abbrev pub precision_place : ℕ → Progress → ℕ
-precision_place at p = if is_some p.draft.digits then p.precision_at else at
+abbrev pub precision_offset : ℕ → Progress → ℕ
+precision_offset at p = if is_some p.draft.digits then p.precision_at else at
 
 -- one token after the other
 unfoldable pub with_tokens : List (ℕ × List ℕ) → Progress → Result Progress SkeletonFault
 with_tokens [] p = Ok p
 with_tokens ((at, token) ∷ tokens) p = do
   draft ← with_token at token p.draft
-  with_tokens tokens (record { draft = draft; precision_at = precision_place at p })
+  with_tokens tokens (record { draft = draft; precision_at = precision_offset at p })
 
 -- nothing is set
 abbrev pub at_start : Progress

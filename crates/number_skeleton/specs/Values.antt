@@ -21,7 +21,7 @@ use Rattle.number_skeleton.specs.Fragments.{only_notation, only_unit, only_width
 use Rattle.number_skeleton.specs.Fragments.{only_system, only_signs, only_decimal, percent_times_hundred}
 use Rattle.number_skeleton.specs.Numbers.{scale_of, increment_of}
 use Rattle.number_skeleton.specs.Options.{PieceData, ended, option_at, letters_of, unit_of, system_of, integer_digits_of}
-use Rattle.number_skeleton.specs.Results.{◌>>=◌, fault, placed}
+use Rattle.number_skeleton.specs.Results.{◌>>=◌, fault, located}
 
 -- a count of digits at a stem
 abbrev pub small : ℕ → ℕ → Result ℕ SkeletonFault
@@ -93,43 +93,43 @@ fraction_at at options limits =
     if length options == 0 then Ok (only_digits (fraction limits) false)
     else option_at at options >>= λ piece.
     if is_w piece then ended piece.next piece.rest (only_digits (fraction limits) true)
-    else placed piece.at (beside_of piece.word) >>= λ beside. digits_at piece.next piece.rest (both limits beside)
+    else located piece.at (beside_of piece.word) >>= λ beside. digits_at piece.next piece.rest (both limits beside)
 
 -- the option that a stem needs
 unfoldable pub currency_at : ℕ → List ℕ → Result DraftData SkeletonFault
 currency_at at options = do
   piece ← option_at at options
-  letters ← placed piece.at (letters_of piece.word)
+  letters ← located piece.at (letters_of piece.word)
   ended piece.next piece.rest (only_unit (currency letters))
 
 unfoldable pub unit_at : ℕ → List ℕ → Result DraftData SkeletonFault
 unit_at at options = do
   piece ← option_at at options
-  unit ← placed piece.at (unit_of piece.word)
+  unit ← located piece.at (unit_of piece.word)
   ended piece.next piece.rest (only_unit unit)
 
 unfoldable pub system_at : ℕ → List ℕ → Result DraftData SkeletonFault
 system_at at options = do
   piece ← option_at at options
-  name ← placed piece.at (system_of piece.word)
+  name ← located piece.at (system_of piece.word)
   ended piece.next piece.rest (only_system name)
 
 unfoldable pub integer_at : ℕ → List ℕ → Result DraftData SkeletonFault
 integer_at at options = do
   piece ← option_at at options
-  count ← placed piece.at (integer_digits_of piece.word)
+  count ← located piece.at (integer_digits_of piece.word)
   ended piece.next piece.rest (only_integer_digits count)
 
 unfoldable pub scale_at : ℕ → List ℕ → Result DraftData SkeletonFault
 scale_at at options = do
   piece ← option_at at options
-  power ← placed piece.at (scale_of piece.word)
+  power ← located piece.at (scale_of piece.word)
   ended piece.next piece.rest (only_scale power)
 
 unfoldable pub increment_at : ℕ → List ℕ → Result DraftData SkeletonFault
 increment_at at options = do
   piece ← option_at at options
-  p ← placed piece.at (increment_of piece.word)
+  p ← located piece.at (increment_of piece.word)
   digits_at piece.next piece.rest p
 
 -- What a stem and its options set. The stem begins at the first of the two places, and ends at the second.

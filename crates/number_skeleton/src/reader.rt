@@ -2,7 +2,7 @@
 
 ghost use Rattle.std.specs.Prelude.{◌≡◌};
 ghost use Rattle.number_skeleton.specs.Data.{draft_data, read};
-ghost use Rattle.number_skeleton.specs.Tokens.{skeleton_of, checked, precision_place};
+ghost use Rattle.number_skeleton.specs.Tokens.{skeleton_of, checked, precision_offset};
 
 use crate::bytes::{behind, front};
 use crate::cuts::{blanks_len, token_len};
@@ -26,8 +26,8 @@ fn checked(draft: Draft<'_>, precision_at: usize) -> Result<Skeleton<'_>, Skelet
 }
 
 /// The byte of the token that sets the precision, as far as it is known before a token.
-fn precision_place(at: usize, draft: Draft<'_>, precision_at: usize) -> usize
-    ensures { result ≡ precision_place at
+fn precision_offset(at: usize, draft: Draft<'_>, precision_at: usize) -> usize
+    ensures { result ≡ precision_offset at
         (record { draft = draft_data draft.entry; precision_at = precision_at }) }
 {
     if draft.digits.is_some() {
@@ -65,7 +65,7 @@ pub fn read_skeleton(text: &str) -> Result<Skeleton<'_>, SkeletonFault>
             return checked(draft, precision_at);
         }
         let len = token_len(rest);
-        precision_at = precision_place(at, draft, precision_at);
+        precision_at = precision_offset(at, draft, precision_at);
         draft = with_token(at, front(rest, len), draft)?;
         at += len;
     }

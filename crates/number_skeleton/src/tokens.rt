@@ -2,7 +2,7 @@
 
 ghost use Rattle.std.specs.Prelude.{◌≡◌, ◌+◌, ◌<◌, ◌^◌, length};
 ghost use Rattle.number_skeleton.specs.Data.{draft_data, drafted};
-ghost use Rattle.number_skeleton.specs.Results.{placed};
+ghost use Rattle.number_skeleton.specs.Results.{located};
 ghost use Rattle.number_skeleton.specs.Stems.{stem_of};
 ghost use Rattle.number_skeleton.specs.Tokens.{setting_of, other_setting_of, fresh, with_token};
 
@@ -67,7 +67,7 @@ fn fresh(at: usize, stem: Stem, draft: Draft<'_>) -> Result<Stem, SkeletonFault>
 
 /// The stem of a word, or a fault at its byte.
 fn stem_at(at: usize, word: &[u8]) -> Result<Stem, SkeletonFault>
-    ensures { result ≡ placed at (stem_of word.now) }
+    ensures { result ≡ located at (stem_of word.now) }
 {
     match stem_of(word) {
         Ok(stem) => Ok(stem),

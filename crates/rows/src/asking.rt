@@ -14,7 +14,7 @@ pub trait Calls {
     /// What a call answers for these arguments, as rows spell it; `None` if there is no such call,
     /// or if the arguments aren't what it takes. A call that reports that it is out of memory
     /// answers `Err`.
-    fn answer(
+    fn returned(
         &self,
         alloc: Global,
         documents: &Documents,
@@ -39,14 +39,14 @@ pub(crate) enum Outcome {
 /// What a row comes to that wants this text, by the answer of its call. A wrong answer is kept.
 // promise: A row is right exactly if its call answers what it wants.
 // mutations: any_answer_right, answer_lost
-fn judged(answer: Option<String>, wanted: &str) -> Outcome
-    ensures right { result ≡ Right ↔ (option_map string_bytes answer ≡ Some wanted.now) }
-    ensures wrong { (text : _) → result ≡ Wrong text → answer ≡ Some text }
-    ensures unreadable { result ≡ Unreadable ↔ (answer ≡ None) }
+fn judged(got: Option<String>, wanted: &str) -> Outcome
+    ensures right { result ≡ Right ↔ (option_map string_bytes got ≡ Some wanted.now) }
+    ensures wrong { (text : _) → result ≡ Wrong text → got ≡ Some text }
+    ensures unreadable { result ≡ Unreadable ↔ (got ≡ None) }
 {
-    match answer {
-        Some(answer) if answer.as_str() == wanted => Outcome::Right,
-        Some(answer) => Outcome::Wrong(answer),
+    match got {
+        Some(text) if text.as_str() == wanted => Outcome::Right,
+        Some(text) => Outcome::Wrong(text),
         None => Outcome::Unreadable,
     }
 }
@@ -58,21 +58,21 @@ pub(crate) fn asked(
     documents: &Documents,
     row: &Row,
 ) -> Outcome {
-    let answer = match calls.answer(alloc, documents, row.call.as_str(), &row.arguments) {
-        Ok(answer) => Ok(answer),
-        Err(_) => calls.answer(alloc, documents, row.call.as_str(), &row.arguments),
+    let returned = match calls.returned(alloc, documents, row.call.as_str(), &row.arguments) {
+        Ok(returned) => Ok(returned),
+        Err(_) => calls.returned(alloc, documents, row.call.as_str(), &row.arguments),
     };
-    match answer {
-        Ok(answer) => judged(answer, row.wanted.as_str()),
+    match returned {
+        Ok(returned) => judged(returned, row.wanted.as_str()),
         Err(_) => Outcome::OutOfMemory,
     }
 }
 
 /// What is printed below a row that isn't right.
-pub(crate) fn told(alloc: Global, outcome: &Outcome) -> Result<Option<String>, AllocError> {
+pub(crate) fn reported(alloc: Global, outcome: &Outcome) -> Result<Option<String>, AllocError> {
     match outcome {
         Outcome::Right => Ok(None),
-        Outcome::Wrong(answer) => Ok(Some(escaped(alloc, answer.as_str())?)),
+        Outcome::Wrong(returned) => Ok(Some(escaped(alloc, returned.as_str())?)),
         Outcome::Unreadable => Ok(Some(String::from_str(
             alloc,
             "there is no such call with such arguments",

@@ -10,7 +10,7 @@ pub(crate) struct Count {
 }
 
 /// Where a call stands among the counts.
-fn place_of(counts: &[Count], call: &str) -> Option<usize> {
+fn index_of(counts: &[Count], call: &str) -> Option<usize> {
     counts.iter().position(|count| count.call.as_str() == call)
 }
 
@@ -20,9 +20,9 @@ pub(crate) fn count_row(
     counts: &mut Vec<Count>,
     call: &str,
 ) -> Result<(), AllocError> {
-    match place_of(counts, call) {
-        Some(place) => {
-            if let Some(count) = counts.get_mut(place) {
+    match index_of(counts, call) {
+        Some(index) => {
+            if let Some(count) = counts.get_mut(index) {
                 count.rows = count.rows.saturating_add(1);
             }
             Ok(())

@@ -16,30 +16,30 @@ pub struct Row {
 
 /// Where in a line a character stands: in a quoted argument, or not.
 #[derive(Clone, Copy)]
-struct Place {
+struct WordState {
     quote: Option<char>,
     is_in_word: bool,
 }
 
 /// The place outside of any argument.
-const BETWEEN: Place = Place {
+const BETWEEN: WordState = WordState {
     quote: None,
     is_in_word: false,
 };
 
-impl Place {
+impl WordState {
     /// The place behind a character.
-    fn behind(self, character: char) -> Place {
+    fn behind(self, character: char) -> WordState {
         match self.quote {
             Some(quote) if quote == character => BETWEEN,
             Some(_) => self,
             None => match character {
                 ' ' => BETWEEN,
-                '"' | '\'' if !self.is_in_word => Place {
+                '"' | '\'' if !self.is_in_word => WordState {
                     quote: Some(character),
                     is_in_word: true,
                 },
-                _ => Place {
+                _ => WordState {
                     quote: None,
                     is_in_word: true,
                 },
@@ -50,16 +50,16 @@ impl Place {
 
 /// Where ` = ` begins, outside of quotes, or the ` =` at the end of a line.
 fn end_of_arguments(line: &str) -> Option<usize> {
-    let mut place = BETWEEN;
+    let mut state = BETWEEN;
     for (at, character) in line.char_indices() {
-        let is_end = place.quote.is_none()
+        let is_end = state.quote.is_none()
             && line
                 .get(at..)
                 .is_some_and(|rest| rest.starts_with(" = ") || rest == " =");
         if is_end {
             return Some(at);
         }
-        place = place.behind(character);
+        state = state.behind(character);
     }
     None
 }
@@ -68,21 +68,21 @@ fn end_of_arguments(line: &str) -> Option<usize> {
 fn words_of(alloc: Global, text: &str) -> Result<Vec<String>, AllocError> {
     let mut words = Vec::new(alloc);
     let mut word = String::new(alloc);
-    let mut place = BETWEEN;
+    let mut state = BETWEEN;
     for character in text.chars() {
-        let behind = place.behind(character);
+        let behind = state.behind(character);
         if behind.is_in_word {
             // the quote that begins an argument isn't of it
-            if place.is_in_word || behind.quote.is_none() {
+            if state.is_in_word || behind.quote.is_none() {
                 word.push(character)?;
             }
-        } else if place.is_in_word {
+        } else if state.is_in_word {
             words.push(decoded(alloc, word.as_str())?)?;
             word.clear();
         }
-        place = behind;
+        state = behind;
     }
-    if place.is_in_word {
+    if state.is_in_word {
         words.push(decoded(alloc, word.as_str())?)?;
     }
     Ok(words)

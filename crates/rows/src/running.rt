@@ -1,6 +1,6 @@
 //! The run of a program of rows.
 
-use crate::asking::{Calls, Outcome, asked, told};
+use crate::asking::{Calls, Outcome, asked, reported};
 use crate::counting::{Count, count_row};
 use crate::documents::{Document, Documents};
 use crate::reading::Row;
@@ -57,16 +57,16 @@ fn documents(rt: &HostRuntime, paths: &[String]) -> io::Result<Documents> {
 /// Prints what a row that isn't right answers. The error is that of the output.
 fn print_wrong(
     rt: &HostRuntime,
-    place: (&str, usize),
+    position: (&str, usize),
     line: &str,
     outcome: &Outcome,
 ) -> io::Result<()> {
-    let said = match told(rt.alloc(), outcome) {
+    let said = match reported(rt.alloc(), outcome) {
         Ok(said) => said,
-        Err(_) => told(rt.alloc(), outcome)?,
+        Err(_) => reported(rt.alloc(), outcome)?,
     };
     match said {
-        Some(said) => println!(rt; "{}:{}: {line}\n  answers {said}", place.0, place.1),
+        Some(said) => println!(rt; "{}:{}: {line}\n  answers {said}", position.0, position.1),
         None => Ok(()),
     }
 }
@@ -92,17 +92,17 @@ fn try_line(
     rt: &HostRuntime,
     calls: &impl Calls,
     documents: &Documents,
-    place: (&str, usize),
+    position: (&str, usize),
     line: &str,
     counts: &mut Vec<Count>,
 ) -> io::Result<()> {
     match row_of(rt.alloc(), line)? {
         Some(row) => {
             let outcome = asked(rt.alloc(), calls, documents, &row);
-            print_wrong(rt, place, line, &outcome)?;
+            print_wrong(rt, position, line, &outcome)?;
             Ok(count(rt.alloc(), counts, row.call.as_str())?)
         }
-        None => println!(rt; "{}:{}: {line}\n  isn't a row", place.0, place.1),
+        None => println!(rt; "{}:{}: {line}\n  isn't a row", position.0, position.1),
     }
 }
 
@@ -117,8 +117,8 @@ fn try_rows(
     let mut counts = Vec::new(rt.alloc());
     for (index, line) in text.lines().enumerate() {
         if !line.is_empty() && !line.starts_with('#') {
-            let place = (name, index.saturating_add(1));
-            try_line(rt, calls, documents, place, line, &mut counts)?;
+            let position = (name, index.saturating_add(1));
+            try_line(rt, calls, documents, position, line, &mut counts)?;
         }
     }
     for count in &counts {

@@ -1,8 +1,8 @@
 //! What formatters of money, percents and units write for a number.
 
+use crate::decimal::spelled::held;
 use crate::dimension_faults::Fault;
 use crate::dimension_making::decimal;
-use crate::parts;
 use fixed_decimal::Decimal;
 use icu_decimal::error::FormatError;
 use icu_decimal_interface::AbstractFormatter;
@@ -107,7 +107,7 @@ fn left(
     sink: &PartsText,
     written: Result<(), FormatError>,
 ) -> Result<String, Fault> {
-    let text = parts::spelled(alloc, sink)?;
+    let text = held(alloc, "", sink)?;
     match written {
         Ok(()) => Ok(text),
         Err(_) if sink.growth_refused() => Err(Fault::OutOfMemory),

@@ -98,9 +98,9 @@ fn made(
     types: &str,
 ) -> Result<CompactCurrencyFormatter, Fault> {
     let types = types_of(types).ok_or(Fault::Unreadable)?;
-    let tables = tables_of(alloc, symbol, types)?;
-    let money = money::made(alloc, (numbers, pattern, symbol))?;
     let rules = rules_of(alloc, "")?;
+    let money = money::made(alloc, (numbers, pattern, symbol))?;
+    let tables = tables_of(alloc, symbol, types)?;
     Ok(CompactCurrencyFormatter::from_parts(alloc, money, rules, tables)?)
 }
 
@@ -119,6 +119,17 @@ fn loaded(
     Ok(CompactCurrencyFormatter::try_new_unstable(alloc, tables, prefs, code, options)?)
 }
 
+/// What compact money by these tables answers.
+fn by_tables(
+    alloc: Global,
+    tables: &AllTables,
+    (locale, currency): (&str, &str),
+    number: &str,
+) -> Result<String, Fault> {
+    let formatter = loaded(alloc, tables, Asked::of(locale), currency)?;
+    asked(alloc, &formatter, "try_new_unstable", number)
+}
+
 /// What compact money by tables of a document answers.
 fn of_loaded(
     alloc: Global,
@@ -127,8 +138,7 @@ fn of_loaded(
     number: &str,
 ) -> Result<String, Fault> {
     let tables = tables_in(alloc, documents, document)?;
-    let formatter = loaded(alloc, &tables, Asked::of(locale), currency)?;
-    asked(alloc, &formatter, "try_new_unstable", number)
+    by_tables(alloc, &tables, (locale, currency), number)
 }
 
 /// What compact money that was made answers.
@@ -156,17 +166,17 @@ fn by_parts(
 }
 
 /// What a call of compact money answers.
-pub(crate) fn answer(
+pub(crate) fn returned(
     alloc: Global,
     documents: &Documents,
     call: &str,
     arguments: &[String],
 ) -> Result<String, Fault> {
-    match (call, arguments) {
-        ("try_new_unstable", [document, locale, currency, number]) => {
+    match arguments {
+        [document, locale, currency, number] if call == "try_new_unstable" => {
             of_loaded(alloc, documents, (document, locale, currency), number)
         }
-        (_, [numbers, pattern, symbol, types, word]) => {
+        [numbers, pattern, symbol, types, word] => {
             by_parts(alloc, (numbers, pattern, symbol), types, (call, word))
         }
         _ => Err(Fault::Unreadable),

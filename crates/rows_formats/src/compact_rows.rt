@@ -85,8 +85,8 @@ fn entry_text(
     pattern: Option<PatternRef<'_, SinglePlaceholder>>,
 ) -> Result<String, Fault> {
     let pattern = pattern.ok_or(Fault::Unreadable)?;
-    let place = pattern.place().ok_or(Fault::Unreadable)?;
-    let halves = pattern.literal().split_at_checked(place);
+    let placeholder = pattern.placeholder().ok_or(Fault::Unreadable)?;
+    let halves = pattern.literal().split_at_checked(placeholder);
     let (before, behind) = halves.ok_or(Fault::Unreadable)?;
     Ok(format!(in alloc; "{exponent} {before}{{0}}{behind}")?)
 }
@@ -127,10 +127,13 @@ fn entry_of(
 }
 
 /// What a call of compact rows answers.
-pub(crate) fn answer(alloc: Global, call: &str, arguments: &[String]) -> Result<String, Fault> {
-    match (call, arguments) {
-        ("resolve", [rows, texts, digits]) => judged(alloc, rows, texts, digits),
-        ("resolve", [rows, texts, digits, sign, magnitude]) => {
+pub(crate) fn returned(alloc: Global, call: &str, arguments: &[String]) -> Result<String, Fault> {
+    if call != "resolve" {
+        return Err(Fault::Unreadable);
+    }
+    match arguments {
+        [rows, texts, digits] => judged(alloc, rows, texts, digits),
+        [rows, texts, digits, sign, magnitude] => {
             entry_of(alloc, (rows, texts, digits), sign, magnitude)
         }
         _ => Err(Fault::Unreadable),

@@ -3,6 +3,7 @@
 //! Digits are spelled `DEFAULT 2 2; JPY 0 0`: those of all other currencies, and then of each code
 //! the digits and the digits in cash.
 
+use crate::decimal::compact::digits_of_number;
 use crate::dimension_faults::{Fault, said, yes_or_no};
 use crate::dimension_making::decimal;
 use crate::money::code_of;
@@ -98,30 +99,15 @@ fn of(alloc: Global, digits: &CurrencyDigits, code: &str) -> Result<String, Faul
     }
 }
 
-/// Appends digits, each a number from 0 to 9.
-fn push_digits(text: &mut String, digits: &[u8]) -> Result<(), Fault> {
-    for digit in digits {
-        let digit = char::from_digit(u32::from(*digit), 10).unwrap_or('?');
-        text.push(digit)?;
-    }
-    Ok(())
-}
-
 /// An amount as it is spelled.
 fn amount_text(alloc: Global, amount: &Decimal) -> Result<String, Fault> {
-    let mut text = String::new(alloc);
-    match amount.sign {
-        Sign::Negative => text.push('-')?,
-        Sign::Positive => text.push('+')?,
-        Sign::None => {}
-    }
-    push_digits(&mut text, amount.absolute.integer())?;
-    let fraction = amount.absolute.fraction();
-    if !fraction.is_empty() {
-        text.push('.')?;
-    }
-    push_digits(&mut text, fraction)?;
-    Ok(text)
+    let sign = match amount.sign {
+        Sign::Negative => "-",
+        Sign::Positive => "+",
+        Sign::None => "",
+    };
+    let digits = digits_of_number(alloc, &amount.absolute)?;
+    Ok(format!(in alloc; "{sign}{digits}")?)
 }
 
 /// An amount rounded to that many digits.
@@ -176,22 +162,43 @@ fn part_text(alloc: Global, name: &str) -> Result<String, Fault> {
     }
 }
 
+/// What a call with one argument answers.
+fn answer_of_one(alloc: Global, kind: &str, call: &str, word: &str) -> Result<String, Fault> {
+    match kind {
+        "CurrencyCode" if call == "try_from_str" => try_from_str(alloc, word),
+        "PatternFault" if call == "display" => displayed(alloc, word, ""),
+        "" if call == "rounded_to" => rounded_to(alloc, word),
+        "" if call == "parts" => part_text(alloc, word),
+        _ => Err(Fault::Unreadable),
+    }
+}
+
+/// What a call with two arguments answers.
+fn result_of_two(
+    alloc: Global,
+    kind: &str,
+    call: &str,
+    (one, other): (&str, &str),
+) -> Result<String, Fault> {
+    match kind {
+        "CurrencyCode" if call == "eq" => eq(alloc, one, other),
+        "CurrencyDigits" if call == "of" => by_digits(alloc, one, other),
+        "PatternFault" if call == "display" => displayed(alloc, one, other),
+        _ => Err(Fault::Unreadable),
+    }
+}
+
 /// What a call of codes and digits answers.
-pub(crate) fn answer(
+pub(crate) fn returned(
     alloc: Global,
     kind: &str,
     call: &str,
     arguments: &[String],
 ) -> Result<String, Fault> {
-    match (kind, call, arguments) {
-        ("CurrencyCode", "try_from_str", [text]) => try_from_str(alloc, text),
-        ("CurrencyCode", "eq", [one, other]) => eq(alloc, one, other),
-        ("CurrencyDigits", "of", [digits, code]) => by_digits(alloc, digits, code),
-        ("", "rounded_to", [word]) => rounded_to(alloc, word),
-        ("PatternFault", "display", [name, byte]) => displayed(alloc, name, byte),
-        ("PatternFault", "display", [name]) => displayed(alloc, name, ""),
-        ("BadCurrencyCode", "display", []) => bad_code(alloc),
-        ("", "parts", [name]) => part_text(alloc, name),
+    match arguments {
+        [] if kind == "BadCurrencyCode" && call == "display" => bad_code(alloc),
+        [word] => answer_of_one(alloc, kind, call, word),
+        [one, other] => result_of_two(alloc, kind, call, (one, other)),
         _ => Err(Fault::Unreadable),
     }
 }

@@ -4,25 +4,25 @@
 //! `limit=3`.
 
 pub(crate) mod asked;
-mod compact;
+pub(crate) mod compact;
 pub(crate) mod frames;
 pub(crate) mod making;
 mod plain;
 mod shown;
 pub(crate) mod spelled;
 
-use crate::Answer;
+use crate::CallResult;
 use asked::asked_of;
 use rows::Documents;
 use std::alloc::Global;
 
 /// What a call of a formatter answers.
-pub(crate) fn answer(
+pub(crate) fn returned(
     alloc: Global,
     documents: &Documents,
     call: &str,
     arguments: &[String],
-) -> Answer {
+) -> CallResult {
     match asked_of(arguments) {
         Some((asked, words)) => making::by_file(alloc, documents, &asked, (call, words)),
         None => Ok(None),

@@ -1,6 +1,6 @@
 //! Why a call of money, percents, names or their tables has no text for an answer.
 
-use crate::Answer;
+use crate::CallResult;
 use fixed_decimal::DecimalError;
 use icu_decimal::error::FormatError;
 use icu_dimension_data::PatternFault;
@@ -13,7 +13,7 @@ use writeable::{OutOfMemory, WriteFault};
 
 /// Why there is no text: the arguments aren't what the call takes, memory ran out, or an error that
 /// is the answer.
-#[derive(Clone, Copy, Debug)]
+#[derive(Clone, Copy)]
 pub(crate) enum Fault {
     Unreadable,
     OutOfMemory,
@@ -122,7 +122,7 @@ fn data_error(alloc: Global, error: DataError) -> Result<String, AllocError> {
 }
 
 /// An error of tables: its name, the key, and of an entry its index and its fault.
-fn table_error(alloc: Global, error: TableError) -> Result<String, AllocError> {
+pub(crate) fn table_error(alloc: Global, error: TableError) -> Result<String, AllocError> {
     match error {
         TableError::Missing(key) => format!(in alloc; "Missing {key:?}"),
         TableError::WrongKind(key) => format!(in alloc; "WrongKind {key:?}"),
@@ -134,7 +134,7 @@ fn table_error(alloc: Global, error: TableError) -> Result<String, AllocError> {
 }
 
 /// An error as rows spell it.
-fn named(alloc: Global, fault: Fault) -> Answer {
+fn named(alloc: Global, fault: Fault) -> CallResult {
     match fault {
         Fault::Unreadable => Ok(None),
         Fault::OutOfMemory => Err(AllocError),
@@ -146,8 +146,8 @@ fn named(alloc: Global, fault: Fault) -> Answer {
 }
 
 /// The answer of a call.
-pub(crate) fn told(alloc: Global, answer: Result<String, Fault>) -> Answer {
-    match answer {
+pub(crate) fn reported(alloc: Global, returned: Result<String, Fault>) -> CallResult {
+    match returned {
         Ok(text) => Ok(Some(text)),
         Err(fault) => named(alloc, fault),
     }

@@ -18,12 +18,12 @@ use std::alloc::{AllocError, Global};
 fn filled(
     alloc: Global,
     template: &str,
-    (place, other): (&str, &str),
+    (setting, other): (&str, &str),
 ) -> Result<String, AllocError> {
     let mut text = String::new(alloc);
     for (index, piece) in template.split('@').enumerate() {
         let shown = match piece.split_once('|') {
-            Some((name, _)) if index % 2 == 1 && name == place => other,
+            Some((name, _)) if index % 2 == 1 && name == setting => other,
             Some((_, given)) if index % 2 == 1 => given,
             _ => piece,
         };
@@ -36,9 +36,9 @@ fn filled(
 pub(crate) fn document(alloc: Global, documents: &Documents, word: &str) -> Result<String, Fault> {
     let (name, given) = word.split_once('@').unwrap_or((word, ""));
     if name.ends_with(".txt") {
-        let place = given.split_once('=').unwrap_or(("", ""));
+        let setting = given.split_once('=').unwrap_or(("", ""));
         let template = documents.text(name).ok_or(Fault::Unreadable)?;
-        return Ok(filled(alloc, template, place)?);
+        return Ok(filled(alloc, template, setting)?);
     }
     if word.ends_with(".json") {
         let text = documents.text(word).ok_or(Fault::Unreadable)?;

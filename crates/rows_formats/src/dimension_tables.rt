@@ -1,7 +1,7 @@
 //! Calls of `AllTables` and of `DimensionTables`.
 
-use crate::Answer;
-use crate::dimension_faults::{Fault, said, told};
+use crate::CallResult;
+use crate::dimension_faults::{Fault, reported, said};
 use crate::dimension_loading::{document, tables_in};
 use crate::money::code_of;
 use crate::tables::one_of;
@@ -10,14 +10,15 @@ use icu_dimension::provider::{
     CurrencyPatternsV1, CurrencySymbolsV1, PercentPatternsV1, UnitsLongV1, UnitsNarrowV1,
     UnitsShortV1, load_currency_digits,
 };
+use icu_dimension_data::CurrencyCode;
 use icu_dimension_tables::{AllTables, DimensionTables};
 use icu_provider::{DataError, DataIdentifierBorrowed, DataLocale, DataProvider, DataRequest};
 use rows::Documents;
 use std::alloc::Global;
 
 /// Why an answer is rejected, if it is.
-fn refusal<T: Drop>(answer: Result<T, DataError>) -> Result<(), DataError> {
-    match answer {
+fn refusal<T: Drop>(returned: Result<T, DataError>) -> Result<(), DataError> {
+    match returned {
         Ok(_) => Ok(()),
         Err(error) => Err(error),
     }
@@ -107,10 +108,10 @@ fn tables_alone(
 }
 
 /// Whether tables were read.
-fn read(alloc: Global, tables: Result<AllTables, Fault>) -> Answer {
+fn read(alloc: Global, tables: Result<AllTables, Fault>) -> CallResult {
     match tables {
-        Ok(_) => told(alloc, said(alloc, "accepted")),
-        Err(fault) => told(alloc, Err(fault)),
+        Ok(_) => reported(alloc, said(alloc, "accepted")),
+        Err(fault) => reported(alloc, Err(fault)),
     }
 }
 
@@ -121,7 +122,7 @@ fn load(
     marker: &str,
     locale: &DataLocale,
     name: &str,
-) -> Answer {
+) -> CallResult {
     let id = if name.is_empty() {
         DataIdentifierBorrowed::for_locale(locale)
     } else {
@@ -129,28 +130,32 @@ fn load(
     };
     let request = DataRequest { id, silent: false };
     match tables {
-        Ok(tables) => told(alloc, found(alloc, &tables, marker, &request)),
-        Err(fault) => told(alloc, Err(fault)),
+        Ok(tables) => reported(alloc, found(alloc, &tables, marker, &request)),
+        Err(fault) => reported(alloc, Err(fault)),
     }
 }
 
 /// The digits of a currency, and its digits in cash.
-fn digits(alloc: Global, documents: &Documents, word: &str, code: &str) -> Result<String, Fault> {
-    let tables = tables_in(alloc, documents, word)?;
-    let Some(code) = code_of(code) else {
-        return Err(Fault::Unreadable);
-    };
-    let digits = load_currency_digits(alloc, &tables)?;
-    let digits = digits.of(code);
+fn digits_of(alloc: Global, tables: &AllTables, code: CurrencyCode) -> Result<String, Fault> {
+    let digits = load_currency_digits(alloc, tables)?.of(code);
     Ok(format!(in alloc; "{} {}", digits.standard, digits.cash)?)
 }
 
+/// The same by a document, for the code of a word.
+fn digits(alloc: Global, documents: &Documents, word: &str, code: &str) -> Result<String, Fault> {
+    let Some(code) = code_of(code) else {
+        return Err(Fault::Unreadable);
+    };
+    let tables = tables_in(alloc, documents, word)?;
+    digits_of(alloc, &tables, code)
+}
+
 /// Whether a document is read as tables, and for English alone.
-fn read_twice(alloc: Global, documents: &Documents, word: &str) -> Answer {
+fn read_twice(alloc: Global, documents: &Documents, word: &str) -> CallResult {
     let locale = DataLocale::try_from_str("en").unwrap_or_default();
-    let all = tables_in(alloc, documents, word);
-    let alone = tables_alone(alloc, documents, word, &locale);
-    one_of(alloc, read(alloc, all), read(alloc, alone))
+    let all = read(alloc, tables_in(alloc, documents, word));
+    let alone = read(alloc, tables_alone(alloc, documents, word, &locale));
+    one_of(alloc, all, alone)
 }
 
 /// How the tables of a document answer. Those for the locale alone have to answer the same.
@@ -160,7 +165,7 @@ fn load_twice(
     word: &str,
     marker: &str,
     (locale, name): (&str, &str),
-) -> Answer {
+) -> CallResult {
     let locale = DataLocale::try_from_str(locale).unwrap_or_default();
     let all = tables_in(alloc, documents, word);
     let all = load(alloc, all, marker, &locale, name);
@@ -170,27 +175,29 @@ fn load_twice(
 }
 
 /// What a call of all tables answers, whose first argument is a document.
-pub(crate) fn answer_of_all(
+pub(crate) fn result_of_all(
     alloc: Global,
     documents: &Documents,
     call: &str,
     arguments: &[String],
-) -> Answer {
-    match (call, arguments) {
-        ("from_json", [word]) => read_twice(alloc, documents, word),
-        ("load", [word, marker, locale]) => {
+) -> CallResult {
+    match arguments {
+        [word] if call == "from_json" => read_twice(alloc, documents, word),
+        [word, code] if call == "load_currency_digits" => {
+            reported(alloc, digits(alloc, documents, word, code))
+        }
+        [word, marker, locale] if call == "load" => {
             load_twice(alloc, documents, word, marker, (locale, ""))
         }
-        ("load", [word, marker, locale, name]) => {
+        [word, marker, locale, name] if call == "load" => {
             load_twice(alloc, documents, word, marker, (locale, name))
         }
-        ("load_currency_digits", [word, code]) => told(alloc, digits(alloc, documents, word, code)),
         _ => Ok(None),
     }
 }
 
 /// What a call of the tables of money, percents and units answers, whose argument is a document.
-pub(crate) fn answer(
+pub(crate) fn returned(
     alloc: Global,
     documents: &Documents,
     call: &str,

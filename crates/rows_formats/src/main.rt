@@ -13,42 +13,41 @@ mod dimension_tables;
 mod measures;
 mod money;
 mod names;
-mod parts;
 mod percents;
 mod signed_patterns;
 mod surrounding;
 mod tables;
 mod units;
 
-use dimension_faults::{Fault, told};
+use dimension_faults::{Fault, reported};
 use rows::{Calls, Documents};
 use std::alloc::{AllocError, Global};
 use std::io;
 
 /// What a call answers; `None` if there is no such call.
-type Answer = Result<Option<String>, AllocError>;
+type CallResult = Result<Option<String>, AllocError>;
 
 /// The calls of formatters and of their tables.
 struct Formats;
 
 /// What a call of formatters of numbers, of units, and of their tables answers.
-fn answer_of_numbers(
+fn result_of_numbers(
     alloc: Global,
     documents: &Documents,
     call: &str,
     arguments: &[String],
-) -> Answer {
-    if let Some(answer) = decimal::answer(alloc, documents, call, arguments)? {
-        return Ok(Some(answer));
+) -> CallResult {
+    if let Some(returned) = decimal::returned(alloc, documents, call, arguments)? {
+        return Ok(Some(returned));
     }
-    if let Some(answer) = units::answer(alloc, documents, call, arguments)? {
-        return Ok(Some(answer));
+    if let Some(returned) = units::returned(alloc, documents, call, arguments)? {
+        return Ok(Some(returned));
     }
-    tables::answer(alloc, documents, call, arguments)
+    tables::returned(alloc, documents, call, arguments)
 }
 
 /// What a call of money, percents and their tables answers: of the type that its name begins with.
-fn answer_of_dimension(
+fn result_of_dimension(
     alloc: Global,
     documents: &Documents,
     call: &str,
@@ -56,20 +55,20 @@ fn answer_of_dimension(
 ) -> Result<String, Fault> {
     let (kind, call) = call.split_once("::").unwrap_or(("", call));
     match kind {
-        "CurrencyFormatter" => money::answer(alloc, documents, call, arguments),
-        "CompactCurrencyFormatter" => compact_money::answer(alloc, documents, call, arguments),
-        "PercentFormatter" => percents::answer(alloc, documents, call, arguments),
-        "LongCurrencyFormatter" => names::answer(alloc, documents, call, arguments),
-        "UnitsFormatter" => measures::answer(alloc, documents, call, arguments),
-        "DimensionTables" => dimension_tables::answer(alloc, documents, call, arguments),
-        "CldrPattern" | "SignedPattern" => signed_patterns::answer(alloc, call, arguments),
-        "CompactRows" => compact_rows::answer(alloc, call, arguments),
-        _ => currencies::answer(alloc, kind, call, arguments),
+        "CurrencyFormatter" => money::returned(alloc, documents, call, arguments),
+        "CompactCurrencyFormatter" => compact_money::returned(alloc, documents, call, arguments),
+        "PercentFormatter" => percents::returned(alloc, documents, call, arguments),
+        "LongCurrencyFormatter" => names::returned(alloc, documents, call, arguments),
+        "UnitsFormatter" => measures::returned(alloc, documents, call, arguments),
+        "DimensionTables" => dimension_tables::returned(alloc, documents, call, arguments),
+        "CldrPattern" | "SignedPattern" => signed_patterns::returned(alloc, call, arguments),
+        "CompactRows" => compact_rows::returned(alloc, call, arguments),
+        _ => currencies::returned(alloc, kind, call, arguments),
     }
 }
 
 impl Calls for Formats {
-    fn answer(
+    fn returned(
         &self,
         alloc: Global,
         documents: &Documents,
@@ -79,17 +78,17 @@ impl Calls for Formats {
         // the calls of money, percents and their tables have the type in front, and no other ones
         // but that of units
         if !call.contains("::") || call.starts_with("UnitFormatter::") {
-            let answer = answer_of_numbers(alloc, documents, call, arguments)?;
-            if answer.is_some() {
-                return Ok(answer);
+            let returned = result_of_numbers(alloc, documents, call, arguments)?;
+            if returned.is_some() {
+                return Ok(returned);
             }
         }
         if let Some(call) = call.strip_prefix("AllTables::") {
-            return dimension_tables::answer_of_all(alloc, documents, call, arguments);
+            return dimension_tables::result_of_all(alloc, documents, call, arguments);
         }
-        told(
+        reported(
             alloc,
-            answer_of_dimension(alloc, documents, call, arguments),
+            result_of_dimension(alloc, documents, call, arguments),
         )
     }
 }

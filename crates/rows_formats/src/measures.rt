@@ -4,7 +4,7 @@ use crate::amounts::asked;
 use crate::dimension_faults::Fault;
 use crate::dimension_loading::{Asked, tables_in};
 use crate::dimension_making::{decimal, numbers_of, pattern_of, plain, rules_of, with_value};
-use crate::surrounding::{PLACE, operands_of};
+use crate::surrounding::{PLACEHOLDER, operands_of};
 use icu_decimal::DecimalFormatter;
 use icu_dimension::UnitsFormatter;
 use icu_dimension::provider::{UnitsLongV1, UnitsNarrowV1, UnitsShortV1};
@@ -41,9 +41,9 @@ fn made(
     (numbers, rules, patterns): (&str, &str, &str),
 ) -> Result<UnitsFormatter<DecimalFormatter>, Fault> {
     let numbers = numbers_of(numbers).ok_or(Fault::Unreadable)?;
-    let elements = elements_of(alloc, patterns)?;
+    let plain = plain(alloc, numbers)?;
     let rules = rules_of(alloc, rules)?;
-    Ok(UnitsFormatter::new(plain(alloc, numbers)?, rules, elements))
+    Ok(UnitsFormatter::new(plain, rules, elements_of(alloc, patterns)?))
 }
 
 /// Numbers with a unit in a width by tables.
@@ -70,7 +70,19 @@ fn loaded(
     }
 }
 
-/// What numbers with a unit by tables answer.
+/// What numbers with a unit by these tables answer.
+fn by_tables(
+    alloc: Global,
+    tables: &AllTables,
+    locale: &str,
+    unit: (&str, &str),
+    number: &str,
+) -> Result<String, Fault> {
+    let formatter = loaded(alloc, tables, Asked::of(locale), unit)?;
+    asked(alloc, &formatter, "try_new_unstable", number)
+}
+
+/// What numbers with a unit by tables of a document answer.
 fn of_loaded(
     alloc: Global,
     documents: &Documents,
@@ -79,8 +91,7 @@ fn of_loaded(
     number: &str,
 ) -> Result<String, Fault> {
     let tables = tables_in(alloc, documents, document)?;
-    let formatter = loaded(alloc, &tables, Asked::of(locale), unit)?;
-    asked(alloc, &formatter, "try_new_unstable", number)
+    by_tables(alloc, &tables, locale, unit, number)
 }
 
 /// The pattern that is lent for a number.
@@ -92,7 +103,7 @@ fn lent(
     let number = decimal(alloc, number)?;
     let operands = operands_of(&number);
     let pattern = formatter.elements().get(operands, formatter.plural_rules());
-    Ok(pattern.interpolate(PLACE).write_to_string(alloc)?)
+    Ok(pattern.interpolate(PLACEHOLDER).write_to_string(alloc)?)
 }
 
 /// What numbers with a unit answer.
@@ -120,21 +131,21 @@ fn by_parts(
 }
 
 /// What a call of numbers with a unit answers.
-pub(crate) fn answer(
+pub(crate) fn returned(
     alloc: Global,
     documents: &Documents,
     call: &str,
     arguments: &[String],
 ) -> Result<String, Fault> {
-    match (call, arguments) {
-        ("try_new_unstable", [document, locale, width, unit, number]) => of_loaded(
+    match arguments {
+        [document, locale, width, unit, number] if call == "try_new_unstable" => of_loaded(
             alloc,
             documents,
             (document, locale),
             (width, unit),
             number,
         ),
-        (_, [numbers, rules, patterns, number]) => {
+        [numbers, rules, patterns, number] => {
             by_parts(alloc, (numbers, rules, patterns), call, number)
         }
         _ => Err(Fault::Unreadable),

@@ -22,8 +22,8 @@ pub(crate) fn made(
     (numbers, pattern, symbol): (&str, &str, &str),
 ) -> Result<CurrencyFormatter<DecimalFormatter>, Fault> {
     let numbers = numbers_of(numbers).ok_or(Fault::Unreadable)?;
-    let patterns = patterns(alloc, numbers, pattern, symbol)?;
-    Ok(CurrencyFormatter::new(plain(alloc, numbers)?, patterns))
+    let plain = plain(alloc, numbers)?;
+    Ok(CurrencyFormatter::new(plain, patterns(alloc, numbers, pattern, symbol)?))
 }
 
 /// The code of a currency.
@@ -62,7 +62,18 @@ fn loaded(
     Ok(CurrencyFormatter::try_new_unstable(alloc, tables, prefs, code, options)?)
 }
 
-/// What money by tables answers.
+/// What money by these tables answers.
+fn by_tables(
+    alloc: Global,
+    tables: &AllTables,
+    (locale, currency): (&str, &str),
+    number: &str,
+) -> Result<String, Fault> {
+    let formatter = loaded(alloc, tables, Asked::of(locale), currency)?;
+    asked(alloc, &formatter, "try_new_unstable", number)
+}
+
+/// What money by tables of a document answers.
 fn of_loaded(
     alloc: Global,
     documents: &Documents,
@@ -70,8 +81,7 @@ fn of_loaded(
     number: &str,
 ) -> Result<String, Fault> {
     let tables = tables_in(alloc, documents, document)?;
-    let formatter = loaded(alloc, &tables, Asked::of(locale), currency)?;
-    asked(alloc, &formatter, "try_new_unstable", number)
+    by_tables(alloc, &tables, (locale, currency), number)
 }
 
 /// The short formatter of numbers by tables.
@@ -88,30 +98,51 @@ fn short(
     Ok(CompactDecimalFormatter::try_new_short_unstable(alloc, tables, prefs, options)?)
 }
 
-/// Money of a symbol in a pattern, over short numbers by a document.
+/// The short formatter of numbers by the tables of a text.
+fn short_of(alloc: Global, text: &str, locale: &str) -> Result<CompactDecimalFormatter, Fault> {
+    let tables = Tables::from_json(alloc, text)?;
+    short(alloc, &tables, Asked::of(locale))
+}
+
+/// The short formatter of numbers by a document.
+fn short_in(
+    alloc: Global,
+    documents: &Documents,
+    (word, locale): (&str, &str),
+) -> Result<CompactDecimalFormatter, Fault> {
+    let text = document(alloc, documents, word)?;
+    short_of(alloc, text.as_str(), locale)
+}
+
+/// Money of a symbol in a pattern, over short numbers.
 fn over_short(
     alloc: Global,
-    text: &str,
-    locale: &str,
+    short: CompactDecimalFormatter,
     (pattern, symbol): (&str, &str),
 ) -> Result<CurrencyFormatter<CompactDecimalFormatter>, Fault> {
     let numbers = numbers_of(".,-").ok_or(Fault::Unreadable)?;
-    let tables = Tables::from_json(alloc, text)?;
-    let formatter = short(alloc, &tables, Asked::of(locale))?;
-    Ok(CurrencyFormatter::new(formatter, patterns(alloc, numbers, pattern, symbol)?))
+    Ok(CurrencyFormatter::new(short, patterns(alloc, numbers, pattern, symbol)?))
+}
+
+/// What money writes for the number of a word.
+fn text_of_number(
+    alloc: Global,
+    formatter: &CurrencyFormatter<CompactDecimalFormatter>,
+    number: &str,
+) -> Result<String, Fault> {
+    number_text(alloc, formatter, &decimal(alloc, number)?)
 }
 
 /// What money over short numbers writes.
 fn of_short(
     alloc: Global,
     documents: &Documents,
-    (word, locale): (&str, &str),
+    setting: (&str, &str),
     money: (&str, &str),
     number: &str,
 ) -> Result<String, Fault> {
-    let text = document(alloc, documents, word)?;
-    let formatter = over_short(alloc, text.as_str(), locale, money)?;
-    number_text(alloc, &formatter, &decimal(alloc, number)?)
+    let formatter = over_short(alloc, short_in(alloc, documents, setting)?, money)?;
+    text_of_number(alloc, &formatter, number)
 }
 
 /// What money that was made answers.
@@ -139,6 +170,16 @@ fn by_parts(
     of_made(alloc, &formatter, call, word)
 }
 
+/// Whether the texts of money show that it isn't of another kind.
+fn is_told_apart_from(
+    alloc: Global,
+    one: &CurrencyFormatter<DecimalFormatter>,
+    other: (&str, &str, &str),
+) -> Result<String, Fault> {
+    let other = made(alloc, other)?;
+    yes_or_no(alloc, one.is_told_apart_from(&other))
+}
+
 /// Whether the texts of money show which of two kinds it is.
 fn is_told_apart(
     alloc: Global,
@@ -146,36 +187,35 @@ fn is_told_apart(
     other: (&str, &str, &str),
 ) -> Result<String, Fault> {
     let one = made(alloc, one)?;
-    let other = made(alloc, other)?;
-    yes_or_no(alloc, one.is_told_apart_from(&other))
+    is_told_apart_from(alloc, &one, other)
 }
 
 /// What a call of money answers.
-pub(crate) fn answer(
+pub(crate) fn returned(
     alloc: Global,
     documents: &Documents,
     call: &str,
     arguments: &[String],
 ) -> Result<String, Fault> {
-    match (call, arguments) {
-        ("try_new_unstable", [document, locale, currency, number]) => {
+    match arguments {
+        [document, locale, currency, number] if call == "try_new_unstable" => {
             of_loaded(alloc, documents, (document, locale, currency), number)
         }
-        ("new", [document, locale, pattern, symbol, number]) => of_short(
+        [document, locale, pattern, symbol, number] if call == "new" => of_short(
             alloc,
             documents,
             (document, locale),
             (pattern, symbol),
             number,
         ),
-        ("is_readable", [numbers, pattern, symbol]) => {
+        [numbers, pattern, symbol] if call == "is_readable" => {
             by_parts(alloc, (numbers, pattern, symbol), call, "")
         }
-        ("is_told_apart_from", [numbers, pattern, symbol, others, other, another]) => {
-            is_told_apart(alloc, (numbers, pattern, symbol), (others, other, another))
-        }
-        (_, [numbers, pattern, symbol, word]) => {
+        [numbers, pattern, symbol, word] => {
             by_parts(alloc, (numbers, pattern, symbol), call, word)
+        }
+        [numbers, pattern, symbol, others, other, another] if call == "is_told_apart_from" => {
+            is_told_apart(alloc, (numbers, pattern, symbol), (others, other, another))
         }
         _ => Err(Fault::Unreadable),
     }

@@ -8,7 +8,7 @@ use crate::dimension_faults::Fault;
 use crate::dimension_loading::{Asked, tables_in};
 use crate::dimension_making::{decimal, numbers_of, plain, rules_of, with_value};
 use crate::money::code_of;
-use crate::surrounding::{PLACE, operands_of};
+use crate::surrounding::{PLACEHOLDER, operands_of};
 use icu_decimal::DecimalFormatter;
 use icu_dimension::{LongCurrencyFormatter, NamePattern, NameTexts};
 use icu_dimension_tables::AllTables;
@@ -72,9 +72,9 @@ fn made(
     (numbers, rules, names): (&str, &str, &str),
 ) -> Result<LongCurrencyFormatter<DecimalFormatter>, Fault> {
     let numbers = numbers_of(numbers).ok_or(Fault::Unreadable)?;
-    let elements = elements_of(alloc, names)?;
+    let plain = plain(alloc, numbers)?;
     let rules = rules_of(alloc, rules)?;
-    Ok(LongCurrencyFormatter::new(plain(alloc, numbers)?, rules, elements))
+    Ok(LongCurrencyFormatter::new(plain, rules, elements_of(alloc, names)?))
 }
 
 /// Amounts with names by tables.
@@ -92,7 +92,18 @@ fn loaded(
     Ok(LongCurrencyFormatter::try_new_unstable(alloc, tables, prefs, code, options)?)
 }
 
-/// What amounts with names by tables answer.
+/// What amounts with names by these tables answer.
+fn by_tables(
+    alloc: Global,
+    tables: &AllTables,
+    (locale, currency): (&str, &str),
+    number: &str,
+) -> Result<String, Fault> {
+    let formatter = loaded(alloc, tables, Asked::of(locale), currency)?;
+    asked(alloc, &formatter, "try_new_unstable", number)
+}
+
+/// What amounts with names by tables of a document answer.
 fn of_loaded(
     alloc: Global,
     documents: &Documents,
@@ -100,8 +111,7 @@ fn of_loaded(
     number: &str,
 ) -> Result<String, Fault> {
     let tables = tables_in(alloc, documents, document)?;
-    let formatter = loaded(alloc, &tables, Asked::of(locale), currency)?;
-    asked(alloc, &formatter, "try_new_unstable", number)
+    by_tables(alloc, &tables, (locale, currency), number)
 }
 
 /// The name that is lent for a number.
@@ -113,7 +123,7 @@ fn lent(
     let number = decimal(alloc, number)?;
     let operands = operands_of(&number);
     let pattern = formatter.elements().get(operands, formatter.plural_rules());
-    Ok(pattern.interpolate(PLACE).write_to_string(alloc)?)
+    Ok(pattern.interpolate(PLACEHOLDER).write_to_string(alloc)?)
 }
 
 /// What amounts with names answer.
@@ -141,17 +151,17 @@ fn by_parts(
 }
 
 /// What a call of amounts with names answers.
-pub(crate) fn answer(
+pub(crate) fn returned(
     alloc: Global,
     documents: &Documents,
     call: &str,
     arguments: &[String],
 ) -> Result<String, Fault> {
-    match (call, arguments) {
-        ("try_new_unstable", [document, locale, currency, number]) => {
+    match arguments {
+        [document, locale, currency, number] if call == "try_new_unstable" => {
             of_loaded(alloc, documents, (document, locale, currency), number)
         }
-        (_, [numbers, rules, names, number]) => {
+        [numbers, rules, names, number] => {
             by_parts(alloc, (numbers, rules, names), call, number)
         }
         _ => Err(Fault::Unreadable),

@@ -18,8 +18,8 @@ fn made(
     pattern: &str,
 ) -> Result<PercentFormatter<DecimalFormatter>, Fault> {
     let numbers = numbers_of(numbers).ok_or(Fault::Unreadable)?;
-    let patterns = patterns(alloc, numbers, pattern, "")?;
-    Ok(PercentFormatter::new(plain(alloc, numbers)?, patterns))
+    let plain = plain(alloc, numbers)?;
+    Ok(PercentFormatter::new(plain, patterns(alloc, numbers, pattern, "")?))
 }
 
 /// Percents by tables.
@@ -46,7 +46,18 @@ fn of_made(
     }
 }
 
-/// What percents by tables answer.
+/// What percents by these tables answer.
+fn by_tables(
+    alloc: Global,
+    tables: &AllTables,
+    locale: &str,
+    number: &str,
+) -> Result<String, Fault> {
+    let formatter = loaded(alloc, tables, Asked::of(locale))?;
+    asked(alloc, &formatter, "try_new_unstable", number)
+}
+
+/// What percents by tables of a document answer.
 fn of_loaded(
     alloc: Global,
     documents: &Documents,
@@ -54,8 +65,7 @@ fn of_loaded(
     number: &str,
 ) -> Result<String, Fault> {
     let tables = tables_in(alloc, documents, document)?;
-    let formatter = loaded(alloc, &tables, Asked::of(locale))?;
-    asked(alloc, &formatter, "try_new_unstable", number)
+    by_tables(alloc, &tables, locale, number)
 }
 
 /// What percents of these numbers in a pattern answer.
@@ -70,18 +80,20 @@ fn by_parts(
 }
 
 /// What a call of percents answers.
-pub(crate) fn answer(
+pub(crate) fn returned(
     alloc: Global,
     documents: &Documents,
     call: &str,
     arguments: &[String],
 ) -> Result<String, Fault> {
-    match (call, arguments) {
-        ("try_new_unstable", [document, locale, number]) => {
+    match arguments {
+        [numbers, pattern] if call == "is_readable" => {
+            by_parts(alloc, numbers, pattern, (call, ""))
+        }
+        [document, locale, number] if call == "try_new_unstable" => {
             of_loaded(alloc, documents, (document, locale), number)
         }
-        ("is_readable", [numbers, pattern]) => by_parts(alloc, numbers, pattern, (call, "")),
-        (_, [numbers, pattern, word]) => by_parts(alloc, numbers, pattern, (call, word)),
+        [numbers, pattern, word] => by_parts(alloc, numbers, pattern, (call, word)),
         _ => Err(Fault::Unreadable),
     }
 }

@@ -2,9 +2,9 @@
 //!
 //! Texts are the minus sign, the plus sign, the percent sign and a currency's symbol, as `-|+|%|$`.
 
+use crate::decimal::spelled::held;
 use crate::dimension_faults::{Fault, said, yes_or_no};
 use crate::dimension_making::sign_of;
-use crate::parts;
 use fixed_decimal::Sign;
 use icu_dimension_data::{AffixTexts, CldrPattern, SignedPattern, SignedPatterns};
 use std::alloc::{AllocError, Global};
@@ -111,10 +111,12 @@ fn text_of(
 
 /// A number without a sign, with a minus and with a plus.
 fn of_signs(alloc: Global, patterns: &SignedPatterns, number: &str) -> Result<String, Fault> {
-    let none = text_of(alloc, patterns, Sign::None, number)?;
-    let minus = text_of(alloc, patterns, Sign::Negative, number)?;
-    let plus = text_of(alloc, patterns, Sign::Positive, number)?;
-    Ok(format!(in alloc; "{none} | {minus} | {plus}")?)
+    let mut text = text_of(alloc, patterns, Sign::None, number)?;
+    for sign in [Sign::Negative, Sign::Positive] {
+        text.push_str(" | ")?;
+        text.push_str(text_of(alloc, patterns, sign, number)?.as_str())?;
+    }
+    Ok(text)
 }
 
 /// The same by a copy of patterns.
@@ -177,7 +179,7 @@ fn parts_text(alloc: Global, around: Around<'_>, number: &str) -> Result<String,
     pattern_of(around)
         .interpolate(number)
         .write_to_parts(&mut sink)?;
-    Ok(parts::spelled(alloc, &sink)?)
+    Ok(held(alloc, "", &sink)?)
 }
 
 /// Appends what a sink with room for that many events holds in the end; whether that is all.
@@ -214,11 +216,6 @@ fn beginnings(alloc: Global, around: Around<'_>, number: &str) -> Result<String,
     Ok(beginnings)
 }
 
-/// The pattern with one place, with `{0}` in that place.
-fn flat(alloc: Global, around: Around<'_>) -> Result<String, Fault> {
-    flat_text(alloc, around, "{0}")
-}
-
 /// The characters of a word.
 fn characters_of(alloc: Global, word: &str) -> Result<Vec<char>, Fault> {
     let mut characters = Vec::new(alloc);
@@ -245,10 +242,22 @@ fn of_pattern(
     match call {
         "write_to_parts" => parts_text(alloc, around, word),
         "write_limited" => beginnings(alloc, around, word),
-        "to_pattern" => flat(alloc, around),
+        "to_pattern" => flat_text(alloc, around, "{0}"),
         "has_none_of" => has_none_of(alloc, around, word),
         _ => Err(Fault::Unreadable),
     }
+}
+
+/// Whether a pattern puts the same characters around numbers as another one.
+fn has_those_of(
+    alloc: Global,
+    around: Around<'_>,
+    (other_pattern, other_texts, other_sign): (&str, &str, &str),
+) -> Result<String, Fault> {
+    let other_sign = sign_of(other_sign)?;
+    let other = patterns_of(alloc, other_pattern, other_texts)?;
+    let other = other.for_sign(other_sign);
+    yes_or_no(alloc, pattern_of(around).has_same_characters(&other))
 }
 
 /// Whether two patterns put the same characters around numbers.
@@ -257,11 +266,13 @@ fn has_same_characters(
     (pattern, texts, sign): (&str, &str, &str),
     (other_pattern, other_texts, other_sign): (&str, &str, &str),
 ) -> Result<String, Fault> {
+    let sign = sign_of(sign)?;
     let one = patterns_of(alloc, pattern, texts)?;
-    let other = patterns_of(alloc, other_pattern, other_texts)?;
-    let other = other.for_sign(sign_of(other_sign)?);
-    let same = one.for_sign(sign_of(sign)?).has_same_characters(&other);
-    yes_or_no(alloc, same)
+    has_those_of(
+        alloc,
+        (&one, sign),
+        (other_pattern, other_texts, other_sign),
+    )
 }
 
 /// A number in a pattern that stands in another one, with its parts.
@@ -277,7 +288,18 @@ fn nested(
         .for_sign(Sign::None)
         .interpolate(value)
         .write_to_parts(&mut sink)?;
-    Ok(parts::spelled(alloc, &sink)?)
+    Ok(held(alloc, "", &sink)?)
+}
+
+/// The same for the texts of the inner pattern.
+fn within(
+    alloc: Global,
+    outer: &SignedPatterns,
+    (inner, inner_texts): (&str, &str),
+    number: &str,
+) -> Result<String, Fault> {
+    let inner = patterns_of(alloc, inner, inner_texts)?;
+    nested(alloc, outer, &inner, number)
 }
 
 /// The same for texts of both patterns.
@@ -288,8 +310,7 @@ fn write_nested(
     number: &str,
 ) -> Result<String, Fault> {
     let outer = patterns_of(alloc, outer, outer_texts)?;
-    let inner = patterns_of(alloc, inner, inner_texts)?;
-    nested(alloc, &outer, &inner, number)
+    within(alloc, &outer, (inner, inner_texts), number)
 }
 
 /// Whether a text is read as a pattern.
@@ -301,21 +322,20 @@ pub(crate) fn parse(alloc: Global, text: &str) -> Result<String, Fault> {
 }
 
 /// What a call of patterns answers.
-pub(crate) fn answer(alloc: Global, call: &str, arguments: &[String]) -> Result<String, Fault> {
-    match (call, arguments) {
-        ("parse", [text]) => parse(alloc, text),
-        ("interpolate", [pattern, texts, number]) => interpolate(alloc, pattern, texts, number),
-        ("to_pattern", [pattern, texts, sign]) => {
-            by_text(alloc, (pattern, texts), call, (sign, ""))
-        }
-        ("has_same_characters", [one, texts, sign, other, other_texts, other_sign]) => {
-            has_same_characters(alloc, (one, texts, sign), (other, other_texts, other_sign))
-        }
-        ("write_nested", [outer, outer_texts, inner, inner_texts, number]) => {
+pub(crate) fn returned(alloc: Global, call: &str, arguments: &[String]) -> Result<String, Fault> {
+    match arguments {
+        [text] if call == "parse" => parse(alloc, text),
+        [pattern, texts, word] => match call {
+            "interpolate" => interpolate(alloc, pattern, texts, word),
+            "to_pattern" => by_text(alloc, (pattern, texts), call, (word, "")),
+            _ => Err(Fault::Unreadable),
+        },
+        [pattern, texts, sign, word] => by_text(alloc, (pattern, texts), call, (sign, word)),
+        [outer, outer_texts, inner, inner_texts, number] if call == "write_nested" => {
             write_nested(alloc, (outer, outer_texts), (inner, inner_texts), number)
         }
-        (_, [pattern, texts, sign, word]) => {
-            by_text(alloc, (pattern, texts), call, (sign, word))
+        [one, texts, sign, other, other_texts, other_sign] if call == "has_same_characters" => {
+            has_same_characters(alloc, (one, texts, sign), (other, other_texts, other_sign))
         }
         _ => Err(Fault::Unreadable),
     }

@@ -9,7 +9,7 @@ use std::alloc::Global;
 use writeable::Writeable;
 
 /// What stands in the place of the number.
-pub(crate) const PLACE: &str = "{0}";
+pub(crate) const PLACEHOLDER: &str = "{0}";
 
 /// What patterns put around numbers of the sign of a word.
 pub(crate) fn surrounding(
@@ -18,7 +18,7 @@ pub(crate) fn surrounding(
     sign: &str,
 ) -> Result<String, Fault> {
     let pattern = patterns.for_sign(sign_of(sign)?);
-    Ok(pattern.interpolate(PLACE).write_to_string(alloc)?)
+    Ok(pattern.interpolate(PLACEHOLDER).write_to_string(alloc)?)
 }
 
 /// The plural operands of a number.

@@ -1,8 +1,9 @@
 //! Calls of `icu_tables`. A document is a file of data, or its text.
 
-use crate::Answer;
+use crate::CallResult;
 use crate::decimal::asked::text_of;
 use crate::decimal::spelled::{followed, name_of, no_data, said};
+use crate::dimension_faults::table_error;
 use fixed_decimal::Decimal;
 use icu_decimal_data::{
     CompactPatterns, DecimalCompactLongV1, DecimalCompactShortV1, DecimalDigitsV1, DecimalSymbols,
@@ -11,35 +12,21 @@ use icu_decimal_data::{
 use icu_pattern::SinglePlaceholder;
 use icu_plurals::{PluralOperands, PluralRules, PluralsCardinalV1};
 use icu_provider::{DataIdentifierBorrowed, DataLocale, DataProvider, DataRequest};
-use icu_tables::{EntryFault, Key, TableError, Tables, compact_from_value};
+use icu_tables::{Key, TableError, Tables, compact_from_value};
 use rows::Documents;
 use serde_json::Value;
 use std::alloc::{AllocError, Global};
 
-/// The names of an error and of its key.
-fn of_key(alloc: Global, name: &str, key: Key) -> Answer {
-    Ok(Some(format!(in alloc; "{name} {key:?}")?))
-}
-
-/// The names of the key and of the fault of an entry.
-fn of_entry(alloc: Global, key: Key, index: usize, fault: EntryFault) -> Answer {
-    Ok(Some(format!(in alloc; "Entry {key:?} {index} {fault:?}")?))
-}
-
 /// The names of an error of tables, of the key and of the fault.
-pub(crate) fn refused(alloc: Global, error: TableError) -> Answer {
+pub(crate) fn refused(alloc: Global, error: TableError) -> CallResult {
     match error {
         TableError::OutOfMemory => Err(AllocError),
-        TableError::Missing(key) => of_key(alloc, "Missing", key),
-        TableError::WrongKind(key) => of_key(alloc, "WrongKind", key),
-        TableError::Entry { key, index, fault } => of_entry(alloc, key, index, fault),
-        TableError::NotJson => said(alloc, "NotJson"),
-        TableError::Float => said(alloc, "Float"),
+        _ => Ok(Some(table_error(alloc, error)?)),
     }
 }
 
 /// An answer, and behind it the other one if that is another.
-fn joined(alloc: Global, all: String, alone: &str) -> Answer {
+fn joined(alloc: Global, all: String, alone: &str) -> CallResult {
     if all.as_str() == alone {
         Ok(Some(all))
     } else {
@@ -48,7 +35,7 @@ fn joined(alloc: Global, all: String, alone: &str) -> Answer {
 }
 
 /// Two answers that have to be equal: the first, and behind it the second if it is another one.
-pub(crate) fn one_of(alloc: Global, all: Answer, alone: Answer) -> Answer {
+pub(crate) fn one_of(alloc: Global, all: CallResult, alone: CallResult) -> CallResult {
     match all?.zip(alone?) {
         Some((all, alone)) => joined(alloc, all, alone.as_str()),
         None => Ok(None),
@@ -56,7 +43,7 @@ pub(crate) fn one_of(alloc: Global, all: Answer, alone: Answer) -> Answer {
 }
 
 /// Whether a text is read as tables, or why it isn't.
-fn read_all(alloc: Global, text: &str) -> Answer {
+fn read_all(alloc: Global, text: &str) -> CallResult {
     match Tables::from_json(alloc, text) {
         Ok(_) => said(alloc, "read"),
         Err(error) => refused(alloc, error),
@@ -64,7 +51,7 @@ fn read_all(alloc: Global, text: &str) -> Answer {
 }
 
 /// The same for one locale.
-fn read_alone(alloc: Global, text: &str, locale: &DataLocale) -> Answer {
+fn read_alone(alloc: Global, text: &str, locale: &DataLocale) -> CallResult {
     match Tables::from_json_for_locale(alloc, text, locale) {
         Ok(_) => said(alloc, "read"),
         Err(error) => refused(alloc, error),
@@ -72,7 +59,7 @@ fn read_alone(alloc: Global, text: &str, locale: &DataLocale) -> Answer {
 }
 
 /// Whether a document is read as tables, and for English alone, or why it isn't.
-fn from_json(alloc: Global, documents: &Documents, arguments: &[String]) -> Answer {
+fn from_json(alloc: Global, documents: &Documents, arguments: &[String]) -> CallResult {
     let [document] = arguments else {
         return Ok(None);
     };
@@ -88,7 +75,7 @@ fn from_json(alloc: Global, documents: &Documents, arguments: &[String]) -> Answ
 }
 
 /// The decimal separator and the grouping separator of symbols.
-fn separators_of(alloc: Global, symbols: &DecimalSymbols) -> Answer {
+fn separators_of(alloc: Global, symbols: &DecimalSymbols) -> CallResult {
     Ok(Some(format!(in alloc;
         "{} {}",
         symbols.decimal_separator(),
@@ -97,7 +84,7 @@ fn separators_of(alloc: Global, symbols: &DecimalSymbols) -> Answer {
 }
 
 /// The separators of the symbols.
-fn symbols(alloc: Global, tables: &Tables, request: &DataRequest<'_>) -> Answer {
+fn symbols(alloc: Global, tables: &Tables, request: &DataRequest<'_>) -> CallResult {
     match <Tables as DataProvider<DecimalSymbolsV1>>::load(tables, alloc, request) {
         Ok(symbols) => separators_of(alloc, &symbols),
         Err(error) => no_data(alloc, error),
@@ -105,7 +92,7 @@ fn symbols(alloc: Global, tables: &Tables, request: &DataRequest<'_>) -> Answer 
 }
 
 /// The text of characters.
-fn text_of_characters(alloc: Global, characters: &[char]) -> Answer {
+fn text_of_characters(alloc: Global, characters: &[char]) -> CallResult {
     let mut text = String::new(alloc);
     for character in characters {
         text.push(*character)?;
@@ -114,7 +101,7 @@ fn text_of_characters(alloc: Global, characters: &[char]) -> Answer {
 }
 
 /// The digits.
-fn digits(alloc: Global, tables: &Tables, request: &DataRequest<'_>) -> Answer {
+fn digits(alloc: Global, tables: &Tables, request: &DataRequest<'_>) -> CallResult {
     match <Tables as DataProvider<DecimalDigitsV1>>::load(tables, alloc, request) {
         Ok(digits) => text_of_characters(alloc, &digits),
         Err(error) => no_data(alloc, error),
@@ -122,7 +109,7 @@ fn digits(alloc: Global, tables: &Tables, request: &DataRequest<'_>) -> Answer {
 }
 
 /// The category of one by rules.
-fn category_of_one(alloc: Global, rules: &PluralRules) -> Answer {
+fn category_of_one(alloc: Global, rules: &PluralRules) -> CallResult {
     match Decimal::from_u64(alloc, 1) {
         Ok(one) => {
             let operands = PluralOperands::from_significand_and_exponent(&one.absolute, 0);
@@ -133,7 +120,7 @@ fn category_of_one(alloc: Global, rules: &PluralRules) -> Answer {
 }
 
 /// The category of one by the rules.
-fn rules(alloc: Global, tables: &Tables, request: &DataRequest<'_>) -> Answer {
+fn rules(alloc: Global, tables: &Tables, request: &DataRequest<'_>) -> CallResult {
     match <Tables as DataProvider<PluralsCardinalV1>>::load(tables, alloc, request) {
         Ok(rules) => category_of_one(alloc, &rules),
         Err(error) => no_data(alloc, error),
@@ -141,7 +128,7 @@ fn rules(alloc: Global, tables: &Tables, request: &DataRequest<'_>) -> Answer {
 }
 
 /// The text of a table's first entry for all other numbers.
-fn first_of(alloc: Global, table: &CompactPatterns<SinglePlaceholder>) -> Answer {
+fn first_of(alloc: Global, table: &CompactPatterns<SinglePlaceholder>) -> CallResult {
     if table.is_empty() {
         return said(alloc, "empty");
     }
@@ -152,7 +139,7 @@ fn first_of(alloc: Global, table: &CompactPatterns<SinglePlaceholder>) -> Answer
 }
 
 /// The first text of the short patterns.
-fn short(alloc: Global, tables: &Tables, request: &DataRequest<'_>) -> Answer {
+fn short(alloc: Global, tables: &Tables, request: &DataRequest<'_>) -> CallResult {
     match <Tables as DataProvider<DecimalCompactShortV1>>::load(tables, alloc, request) {
         Ok(table) => first_of(alloc, &table),
         Err(error) => no_data(alloc, error),
@@ -160,7 +147,7 @@ fn short(alloc: Global, tables: &Tables, request: &DataRequest<'_>) -> Answer {
 }
 
 /// The first text of the long patterns.
-fn long(alloc: Global, tables: &Tables, request: &DataRequest<'_>) -> Answer {
+fn long(alloc: Global, tables: &Tables, request: &DataRequest<'_>) -> CallResult {
     match <Tables as DataProvider<DecimalCompactLongV1>>::load(tables, alloc, request) {
         Ok(table) => first_of(alloc, &table),
         Err(error) => no_data(alloc, error),
@@ -168,7 +155,7 @@ fn long(alloc: Global, tables: &Tables, request: &DataRequest<'_>) -> Answer {
 }
 
 /// What tables answer for a marker.
-fn load_of(alloc: Global, tables: &Tables, marker: &str, request: &DataRequest<'_>) -> Answer {
+fn load_of(alloc: Global, tables: &Tables, marker: &str, request: &DataRequest<'_>) -> CallResult {
     match marker {
         "symbols" => symbols(alloc, tables, request),
         "digits" => digits(alloc, tables, request),
@@ -180,7 +167,7 @@ fn load_of(alloc: Global, tables: &Tables, marker: &str, request: &DataRequest<'
 }
 
 /// What the tables of a text answer.
-fn load_all(alloc: Global, text: &str, marker: &str, request: &DataRequest<'_>) -> Answer {
+fn load_all(alloc: Global, text: &str, marker: &str, request: &DataRequest<'_>) -> CallResult {
     match Tables::from_json(alloc, text) {
         Ok(tables) => load_of(alloc, &tables, marker, request),
         Err(error) => refused(alloc, error),
@@ -194,7 +181,7 @@ fn load_alone(
     locale: &DataLocale,
     marker: &str,
     request: &DataRequest<'_>,
-) -> Answer {
+) -> CallResult {
     match Tables::from_json_for_locale(alloc, text, locale) {
         Ok(tables) => load_of(alloc, &tables, marker, request),
         Err(error) => refused(alloc, error),
@@ -203,7 +190,7 @@ fn load_alone(
 
 /// What the tables of a document answer for a marker, a locale and a numbering system or none; the
 /// tables for the locale alone have to answer the same.
-fn load(alloc: Global, text: &str, marker: &str, locale: &DataLocale, system: &str) -> Answer {
+fn load(alloc: Global, text: &str, marker: &str, locale: &DataLocale, system: &str) -> CallResult {
     let id = if system == "none" {
         DataIdentifierBorrowed::for_locale(locale)
     } else {
@@ -219,7 +206,7 @@ fn load(alloc: Global, text: &str, marker: &str, locale: &DataLocale, system: &s
 
 /// What the tables answer that the words of a row ask for: a marker, a document, a locale and a
 /// numbering system.
-fn load_by_words(alloc: Global, documents: &Documents, arguments: &[String]) -> Answer {
+fn load_by_words(alloc: Global, documents: &Documents, arguments: &[String]) -> CallResult {
     let [marker, document, locale, system] = arguments else {
         return Ok(None);
     };
@@ -233,7 +220,7 @@ fn load_by_words(alloc: Global, documents: &Documents, arguments: &[String]) -> 
 }
 
 /// How many entries the table of a value has, or why it has none.
-fn table_of(alloc: Global, value: &Value) -> Answer {
+fn table_of(alloc: Global, value: &Value) -> CallResult {
     match compact_from_value(alloc, value) {
         Ok(table) => Ok(Some(format!(in alloc; "{} entries", table.len())?)),
         Err(error) => refused(alloc, error),
@@ -241,7 +228,7 @@ fn table_of(alloc: Global, value: &Value) -> Answer {
 }
 
 /// The same of the value of a text.
-fn compact(alloc: Global, text: &str) -> Answer {
+fn compact(alloc: Global, text: &str) -> CallResult {
     match Value::from_str(alloc, text) {
         Ok(value) => table_of(alloc, &value),
         Err(_) => Err(AllocError),
@@ -249,7 +236,7 @@ fn compact(alloc: Global, text: &str) -> Answer {
 }
 
 /// The same of the value of a document.
-fn compact_from_document(alloc: Global, documents: &Documents, arguments: &[String]) -> Answer {
+fn compact_from_document(alloc: Global, documents: &Documents, arguments: &[String]) -> CallResult {
     let [document] = arguments else {
         return Ok(None);
     };
@@ -260,7 +247,7 @@ fn compact_from_document(alloc: Global, documents: &Documents, arguments: &[Stri
 }
 
 /// The name of a key, and behind it the key as it is displayed if that is something else.
-fn name(alloc: Global, key: Key) -> Answer {
+fn name(alloc: Global, key: Key) -> CallResult {
     let displayed = key.to_string(alloc)?;
     let name = key.name();
     if displayed.as_str() == name {
@@ -282,7 +269,7 @@ fn key_of(variant: &str) -> Option<Key> {
 }
 
 /// The name of the key of a variant.
-fn name_by_variant(alloc: Global, arguments: &[String]) -> Answer {
+fn name_by_variant(alloc: Global, arguments: &[String]) -> CallResult {
     let [variant] = arguments else {
         return Ok(None);
     };
@@ -293,12 +280,12 @@ fn name_by_variant(alloc: Global, arguments: &[String]) -> Answer {
 }
 
 /// What a call of tables answers.
-pub(crate) fn answer(
+pub(crate) fn returned(
     alloc: Global,
     documents: &Documents,
     call: &str,
     arguments: &[String],
-) -> Answer {
+) -> CallResult {
     match call {
         "from_json" => from_json(alloc, documents, arguments),
         "load" => load_by_words(alloc, documents, arguments),

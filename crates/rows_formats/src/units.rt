@@ -2,10 +2,10 @@
 //! behind numbers of the categories one and many and behind all other numbers; `none` stands for
 //! none.
 
-use crate::Answer;
+use crate::CallResult;
 use crate::decimal::asked::{Asked, asked_of, decimal_of, text_of};
 use crate::decimal::frames::behind_number;
-use crate::decimal::making::{Place, plain_of, rules_of};
+use crate::decimal::making::{Setting, plain_of, rules_of};
 use crate::decimal::spelled::{no_data, sink_of, written};
 use fixed_decimal::Decimal;
 use icu_decimal::CompactDecimalFormatter;
@@ -59,10 +59,10 @@ fn write<F: AbstractFormatter>(
     unit: &UnitFormatter<F>,
     decimal: &Decimal,
     limit: Option<usize>,
-) -> Answer {
+) -> CallResult {
     let mut sink = sink_of(alloc, limit);
-    let answer = unit.write(alloc, decimal, &mut sink);
-    written(alloc, &sink, answer)
+    let returned = unit.write(alloc, decimal, &mut sink);
+    written(alloc, &sink, returned)
 }
 
 /// The same of the number that a text spells.
@@ -71,7 +71,7 @@ fn write_number<F: AbstractFormatter>(
     unit: &UnitFormatter<F>,
     asked: &Asked<'_>,
     number: &str,
-) -> Answer {
+) -> CallResult {
     match decimal_of(alloc, number, asked.sign)? {
         Some(decimal) => write(alloc, unit, &decimal, asked.limit),
         None => Ok(None),
@@ -84,7 +84,7 @@ fn with_rules<F: AbstractFormatter + Drop>(
     asked: &Asked<'_>,
     (formatter, rules): (F, PluralRules),
     amount: Amount<'_>,
-) -> Answer {
+) -> CallResult {
     match elements_of(alloc, amount)? {
         Some(elements) => {
             let unit = UnitFormatter::new(formatter, rules, elements);
@@ -97,63 +97,63 @@ fn with_rules<F: AbstractFormatter + Drop>(
 /// What a unit over a formatter writes.
 fn over<F: AbstractFormatter + Drop>(
     alloc: Global,
-    place: Place<'_>,
+    setting: Setting<'_>,
     formatter: F,
     amount: Amount<'_>,
-) -> Answer {
-    match rules_of(alloc, place) {
-        Ok(rules) => with_rules(alloc, place.asked, (formatter, rules), amount),
+) -> CallResult {
+    match rules_of(alloc, setting) {
+        Ok(rules) => with_rules(alloc, setting.asked, (formatter, rules), amount),
         Err(error) => no_data(alloc, error),
     }
 }
 
-fn of_plain(alloc: Global, place: Place<'_>, amount: Amount<'_>) -> Answer {
-    match plain_of(alloc, place) {
-        Ok(formatter) => over(alloc, place, formatter, amount),
+fn of_plain(alloc: Global, setting: Setting<'_>, amount: Amount<'_>) -> CallResult {
+    match plain_of(alloc, setting) {
+        Ok(formatter) => over(alloc, setting, formatter, amount),
         Err(error) => no_data(alloc, error),
     }
 }
 
-fn of_short(alloc: Global, place: Place<'_>, amount: Amount<'_>) -> Answer {
+fn of_short(alloc: Global, setting: Setting<'_>, amount: Amount<'_>) -> CallResult {
     match CompactDecimalFormatter::try_new_short_unstable(
         alloc,
-        place.tables,
-        place.asked.preferences(),
-        place.asked.compact_options(),
+        setting.tables,
+        setting.asked.preferences(),
+        setting.asked.compact_options(),
     ) {
-        Ok(formatter) => over(alloc, place, formatter, amount),
+        Ok(formatter) => over(alloc, setting, formatter, amount),
         Err(error) => no_data(alloc, error),
     }
 }
 
-fn of_long(alloc: Global, place: Place<'_>, amount: Amount<'_>) -> Answer {
+fn of_long(alloc: Global, setting: Setting<'_>, amount: Amount<'_>) -> CallResult {
     match CompactDecimalFormatter::try_new_long_unstable(
         alloc,
-        place.tables,
-        place.asked.preferences(),
-        place.asked.compact_options(),
+        setting.tables,
+        setting.asked.preferences(),
+        setting.asked.compact_options(),
     ) {
-        Ok(formatter) => over(alloc, place, formatter, amount),
+        Ok(formatter) => over(alloc, setting, formatter, amount),
         Err(error) => no_data(alloc, error),
     }
 }
 
 /// What a unit by tables writes.
-fn by_tables(alloc: Global, place: Place<'_>, amount: Amount<'_>) -> Answer {
-    match place.asked.style {
-        "plain" => of_plain(alloc, place, amount),
-        "short" => of_short(alloc, place, amount),
-        "long" => of_long(alloc, place, amount),
+fn by_tables(alloc: Global, setting: Setting<'_>, amount: Amount<'_>) -> CallResult {
+    match setting.asked.style {
+        "plain" => of_plain(alloc, setting, amount),
+        "short" => of_short(alloc, setting, amount),
+        "long" => of_long(alloc, setting, amount),
         _ => Ok(None),
     }
 }
 
 /// What a unit by the tables of a text writes.
-fn by_text(alloc: Global, text: &str, asked: &Asked<'_>, amount: Amount<'_>) -> Answer {
+fn by_text(alloc: Global, text: &str, asked: &Asked<'_>, amount: Amount<'_>) -> CallResult {
     match Tables::from_json(alloc, text) {
         Ok(tables) => by_tables(
             alloc,
-            Place {
+            Setting {
                 tables: &tables,
                 asked,
             },
@@ -165,7 +165,12 @@ fn by_text(alloc: Global, text: &str, asked: &Asked<'_>, amount: Amount<'_>) -> 
 }
 
 /// What a unit by a file writes.
-fn by_words(alloc: Global, documents: &Documents, asked: &Asked<'_>, words: &[String]) -> Answer {
+fn by_words(
+    alloc: Global,
+    documents: &Documents,
+    asked: &Asked<'_>,
+    words: &[String],
+) -> CallResult {
     match (text_of(documents, asked.file), words) {
         (Some(text), [number, one, many, other]) => {
             let amount = Amount {
@@ -181,12 +186,12 @@ fn by_words(alloc: Global, documents: &Documents, asked: &Asked<'_>, words: &[St
 }
 
 /// What a call of units answers.
-pub(crate) fn answer(
+pub(crate) fn returned(
     alloc: Global,
     documents: &Documents,
     call: &str,
     arguments: &[String],
-) -> Answer {
+) -> CallResult {
     if call != "UnitFormatter::write" {
         return Ok(None);
     }

@@ -1,7 +1,7 @@
 //! Calls of `icu_decimal_data`.
 
 use crate::bytes::{self, bytes_of};
-use crate::compact_tables::{Unmade, spelled, spelled_view, table_of, table_without_place};
+use crate::compact_tables::{Unmade, spelled, spelled_view, table_of, table_without_placeholder};
 use crate::patterns::text_of;
 use crate::plural_rules::{operands_of, rules_of};
 use crate::words::{equal_or_different, said, yes_or_no};
@@ -29,12 +29,12 @@ fn name_of(error: CompactError) -> &'static str {
 }
 
 /// The answer of a call that may fail; an error by its name.
-fn told(
+fn reported(
     alloc: Global,
-    answer: Result<Option<String>, Unmade>,
+    returned: Result<Option<String>, Unmade>,
 ) -> Result<Option<String>, AllocError> {
-    match answer {
-        Ok(answer) => Ok(answer),
+    match returned {
+        Ok(returned) => Ok(returned),
         Err(Unmade::Unreadable) => Ok(None),
         Err(Unmade::Rejected(CompactError::OutOfMemory)) => Err(AllocError),
         Err(Unmade::Rejected(error)) => said(alloc, name_of(error)),
@@ -57,12 +57,12 @@ fn new(
 }
 
 /// The same for patterns without a place.
-fn new_without_place(
+fn new_without_placeholder(
     alloc: Global,
     documents: &Documents,
     text: &str,
 ) -> Result<Option<String>, Unmade> {
-    let table = table_without_place(alloc, documents, text)?;
+    let table = table_without_placeholder(alloc, documents, text)?;
     Ok(Some(spelled(alloc, &table)?))
 }
 
@@ -233,16 +233,16 @@ fn parse_beginnings(alloc: Global, bytes: Option<Vec<u8>>) -> Result<Option<Stri
     let Some(bytes) = bytes else {
         return Ok(None);
     };
-    let mut answer = String::new(alloc);
+    let mut returned = String::new(alloc);
     for len in 0..=bytes.len() {
         let beginning = bytes.get(..len).unwrap_or_default();
         let word = match CompactView::<SinglePlaceholder>::parse(beginning) {
             Ok(_) => String::from_str(alloc, "read")?,
             Err(damaged) => format!(in alloc; "{} ", damaged.byte)?,
         };
-        answer.push_str(word.as_str())?;
+        returned.push_str(word.as_str())?;
     }
-    Ok(Some(answer))
+    Ok(Some(returned))
 }
 
 /// The type and the exponent of a magnitude's entry, and the exponent of the magnitude.
@@ -269,7 +269,7 @@ fn entry_for_magnitude(
 }
 
 /// What a call of tables answers.
-fn answer_of_tables(
+fn result_of_tables(
     alloc: Global,
     documents: &Documents,
     call: &str,
@@ -277,7 +277,7 @@ fn answer_of_tables(
 ) -> Result<Option<String>, Unmade> {
     match arguments {
         [text] => match call {
-            "CompactPatterns::new_without_place" => new_without_place(alloc, documents, text),
+            "CompactPatterns::new_without_place" => new_without_placeholder(alloc, documents, text),
             "byte_count" => byte_count(alloc, documents, text),
             "is_table_readable" => readable(alloc, documents, text),
             _ => Ok(None),
@@ -303,26 +303,26 @@ fn answer_of_tables(
 }
 
 /// What a call of tables or of their bytes answers.
-pub(crate) fn answer(
+pub(crate) fn returned(
     alloc: Global,
     documents: &Documents,
     call: &str,
     arguments: &[String],
 ) -> Result<Option<String>, AllocError> {
-    match (call, arguments) {
-        ("CompactView::parse", [text, changes @ ..]) => {
+    match arguments {
+        [text, changes @ ..] if call == "CompactView::parse" => {
             parse::<SinglePlaceholder>(alloc, bytes_of(alloc, documents, text, changes)?)
         }
-        ("CompactView::parse_without_place", [text, changes @ ..]) => {
+        [text, changes @ ..] if call == "CompactView::parse_without_place" => {
             parse::<NoPlaceholder>(alloc, bytes_of(alloc, documents, text, changes)?)
         }
-        ("CompactView::parse_beginnings", [text]) => {
+        [text] if call == "CompactView::parse_beginnings" => {
             parse_beginnings(alloc, bytes_of(alloc, documents, text, &[])?)
         }
-        ("entry_for_magnitude", [text, magnitude]) => {
+        [text, magnitude] if call == "entry_for_magnitude" => {
             let bytes = bytes_of(alloc, documents, text, &[])?;
             entry_for_magnitude(alloc, bytes, magnitude)
         }
-        _ => told(alloc, answer_of_tables(alloc, documents, call, arguments)),
+        _ => reported(alloc, result_of_tables(alloc, documents, call, arguments)),
     }
 }

@@ -20,7 +20,7 @@ type Elements<P> = PluralElements<Pattern<P>>;
 type Map<P> = BTreeMap<u8, (u8, Elements<P>)>;
 
 /// Why an argument makes no table.
-#[derive(Debug, Drop)]
+#[derive(Drop)]
 pub(crate) enum Unmade {
     /// It spells none.
     Unreadable,
@@ -141,7 +141,7 @@ pub(crate) fn table_of(
 }
 
 /// The same for patterns without a place.
-pub(crate) fn table_without_place(
+pub(crate) fn table_without_placeholder(
     alloc: Global,
     documents: &Documents,
     text: &str,

@@ -113,15 +113,18 @@ fn copied(alloc: Global, text: &str) -> Result<Option<String>, AllocError> {
 }
 
 /// What a call of conditions answers.
-pub(crate) fn answer(
+pub(crate) fn returned(
     alloc: Global,
     call: &str,
     arguments: &[String],
 ) -> Result<Option<String>, AllocError> {
-    match (call, arguments) {
-        ("first_fault", [text]) => fault(alloc, text),
-        ("read_condition", [text]) => read(alloc, text),
-        ("Condition::copy", [text]) => copied(alloc, text),
+    let [text] = arguments else {
+        return Ok(None);
+    };
+    match call {
+        "first_fault" => fault(alloc, text),
+        "read_condition" => read(alloc, text),
+        "Condition::copy" => copied(alloc, text),
         _ => Ok(None),
     }
 }

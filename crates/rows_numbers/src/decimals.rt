@@ -1,6 +1,7 @@
 //! Calls of `fixed_decimal`. A decimal is spelled as text: its sign, its digits over the whole
 //! written range, and the point.
 
+use crate::powers::{multiplied_pow10, multiply_pow10};
 use crate::words::{equal_or_different, said, yes_or_no};
 use fixed_decimal::{Decimal, DecimalError, Sign, SignDisplay, UnsignedDecimal};
 use std::alloc::{AllocError, Global};
@@ -43,7 +44,7 @@ pub(crate) fn spelled(alloc: Global, decimal: &Decimal) -> Result<String, AllocE
 }
 
 /// The name of an error.
-fn name_of(error: DecimalError) -> &'static str {
+pub(crate) fn name_of(error: DecimalError) -> &'static str {
     match error {
         DecimalError::Syntax => "Syntax",
         DecimalError::Limit => "Limit",
@@ -52,12 +53,12 @@ fn name_of(error: DecimalError) -> &'static str {
 }
 
 /// The answer of a call that may fail; an error by its name.
-pub(crate) fn told(
+pub(crate) fn reported(
     alloc: Global,
-    answer: Result<Option<String>, DecimalError>,
+    returned: Result<Option<String>, DecimalError>,
 ) -> Result<Option<String>, AllocError> {
-    match answer {
-        Ok(answer) => Ok(answer),
+    match returned {
+        Ok(returned) => Ok(returned),
         Err(DecimalError::OutOfMemory) => Err(AllocError),
         Err(error) => said(alloc, name_of(error)),
     }
@@ -70,7 +71,7 @@ fn made(
 ) -> Result<Option<String>, AllocError> {
     match decimal {
         Ok(decimal) => Ok(Some(spelled(alloc, &decimal)?)),
-        Err(error) => told(alloc, Err(error)),
+        Err(error) => reported(alloc, Err(error)),
     }
 }
 
@@ -81,7 +82,7 @@ fn made_number(
 ) -> Result<Option<String>, AllocError> {
     match number {
         Ok(number) => Ok(Some(spelled_number(alloc, &number)?)),
-        Err(error) => told(alloc, Err(error)),
+        Err(error) => reported(alloc, Err(error)),
     }
 }
 
@@ -161,60 +162,95 @@ pub(crate) fn decimal_of(alloc: Global, text: &str) -> Result<Decimal, DecimalEr
 }
 
 /// Makes a number of an argument.
-fn number_of(alloc: Global, text: &str) -> Result<UnsignedDecimal, DecimalError> {
+pub(crate) fn number_of(alloc: Global, text: &str) -> Result<UnsignedDecimal, DecimalError> {
     Ok(decimal_of(alloc, text)?.absolute)
 }
 
-fn copy(alloc: Global, text: &str) -> Result<Option<String>, DecimalError> {
-    let decimal = decimal_of(alloc, text)?;
+fn copy_of(alloc: Global, decimal: &Decimal) -> Result<Option<String>, DecimalError> {
     let copy = decimal.copy(alloc)?;
-    let is_equal = equal_or_different(copy == decimal);
+    let is_equal = equal_or_different(copy == *decimal);
     let copy = spelled(alloc, &copy)?;
     Ok(Some(format!(in alloc; "{copy} | {is_equal}")?))
 }
 
-fn copy_number(alloc: Global, text: &str) -> Result<Option<String>, DecimalError> {
-    let number = number_of(alloc, text)?;
+fn copy_number(alloc: Global, number: &UnsignedDecimal) -> Result<Option<String>, DecimalError> {
     let copy = number.copy(alloc)?;
-    let is_equal = equal_or_different(copy == number);
+    let is_equal = equal_or_different(copy == *number);
     let copy = spelled_number(alloc, &copy)?;
     Ok(Some(format!(in alloc; "{copy} | {is_equal}")?))
 }
 
+fn copy(alloc: Global, text: &str) -> Result<Option<String>, DecimalError> {
+    let decimal = decimal_of(alloc, text)?;
+    copy_of(alloc, &decimal)
+}
+
+/// Whether a decimal equals that of a text.
+fn is_equal_to(alloc: Global, left: &Decimal, right: &str) -> Result<bool, DecimalError> {
+    let right = decimal_of(alloc, right)?;
+    Ok(*left == right)
+}
+
+/// Whether the decimals of two texts are equal.
+fn are_equal(alloc: Global, left: &str, right: &str) -> Result<bool, DecimalError> {
+    let left = decimal_of(alloc, left)?;
+    is_equal_to(alloc, &left, right)
+}
+
 fn eq(alloc: Global, left: &str, right: &str) -> Result<Option<String>, DecimalError> {
-    let is_equal = decimal_of(alloc, left)? == decimal_of(alloc, right)?;
+    let is_equal = are_equal(alloc, left, right)?;
     Ok(said(alloc, equal_or_different(is_equal))?)
 }
 
 /// The range of powers, the digits before the point and those behind it.
-fn digits(alloc: Global, text: &str) -> Result<Option<String>, DecimalError> {
-    let number = number_of(alloc, text)?;
+fn digits(alloc: Global, number: &UnsignedDecimal) -> Result<Option<String>, AllocError> {
     let range = number.magnitude_range();
-    let mut answer = format!(in alloc; "{} to {} | ", range.start(), range.end())?;
-    push_digits(&mut answer, number.integer())?;
-    answer.push_str(" | ")?;
-    push_digits(&mut answer, number.fraction())?;
-    Ok(Some(answer))
+    let mut returned = format!(in alloc; "{} to {} | ", range.start(), range.end())?;
+    push_digits(&mut returned, number.integer())?;
+    returned.push_str(" | ")?;
+    push_digits(&mut returned, number.fraction())?;
+    Ok(Some(returned))
+}
+
+/// What a call answers of a number alone, which it borrows.
+fn of_number(
+    alloc: Global,
+    call: &str,
+    number: &UnsignedDecimal,
+) -> Result<Option<String>, AllocError> {
+    match call {
+        "digits" => digits(alloc, number),
+        "nonzero_magnitude_start" => {
+            let magnitude = number.nonzero_magnitude_start();
+            Ok(Some(format!(in alloc; "{magnitude}")?))
+        }
+        "is_zero" => said(alloc, yes_or_no(number.is_zero())),
+        _ => Ok(None),
+    }
+}
+
+/// The same of the number of a text.
+fn of_text(alloc: Global, call: &str, text: &str) -> Result<Option<String>, DecimalError> {
+    let number = number_of(alloc, text)?;
+    match call {
+        "UnsignedDecimal::copy" => copy_number(alloc, &number),
+        _ => Ok(of_number(alloc, call, &number)?),
+    }
+}
+
+/// The digit of a number at a power.
+fn digit_of(alloc: Global, text: &str, power: i16) -> Result<u8, DecimalError> {
+    Ok(number_of(alloc, text)?.digit_at(power))
 }
 
 fn digit_at(alloc: Global, text: &str, power: &str) -> Result<Option<String>, DecimalError> {
     match power.parse() {
         Ok(power) => {
-            let digit = number_of(alloc, text)?.digit_at(power);
+            let digit = digit_of(alloc, text, power)?;
             Ok(Some(format!(in alloc; "{digit}")?))
         }
         Err(_) => Ok(None),
     }
-}
-
-fn magnitude(alloc: Global, text: &str) -> Result<Option<String>, DecimalError> {
-    let magnitude = number_of(alloc, text)?.nonzero_magnitude_start();
-    Ok(Some(format!(in alloc; "{magnitude}")?))
-}
-
-fn is_zero(alloc: Global, text: &str) -> Result<Option<String>, DecimalError> {
-    let is_zero = number_of(alloc, text)?.is_zero();
-    Ok(said(alloc, yes_or_no(is_zero))?)
 }
 
 fn trimmed_end(alloc: Global, text: &str) -> Result<Option<String>, DecimalError> {
@@ -298,45 +334,8 @@ fn rounded_significand(
     Ok(Some(spelled_number(alloc, &significand)?))
 }
 
-fn multiplied_pow10(
-    alloc: Global,
-    text: &str,
-    power: &str,
-) -> Result<Option<String>, DecimalError> {
-    match power.parse() {
-        Ok(power) => made_of_number(alloc, number_of(alloc, text)?.multiplied_pow10(power)),
-        Err(_) => Ok(None),
-    }
-}
-
-/// What each multiplication in place answers, and the decimal behind the last of them.
-fn multiply_pow10(
-    alloc: Global,
-    text: &str,
-    powers: &[String],
-) -> Result<Option<String>, DecimalError> {
-    let mut decimal = decimal_of(alloc, text)?;
-    let mut answer = String::new(alloc);
-    for power in powers {
-        let Ok(power) = power.as_str().parse() else {
-            return Ok(None);
-        };
-        match decimal.multiply_pow10(power) {
-            Ok(()) => answer.push_str("done ")?,
-            Err(DecimalError::OutOfMemory) => return Err(DecimalError::OutOfMemory),
-            Err(error) => {
-                answer.push_str(name_of(error))?;
-                answer.push(' ')?;
-            }
-        }
-    }
-    answer.push_str("| ")?;
-    answer.push_str(spelled(alloc, &decimal)?.as_str())?;
-    Ok(Some(answer))
-}
-
 /// What a call answers of the digits of a number.
-fn answer_of_digits(
+fn result_of_digits(
     alloc: Global,
     call: &str,
     arguments: &[String],
@@ -345,12 +344,11 @@ fn answer_of_digits(
         [text, powers @ ..] if call == "multiply_pow10" => multiply_pow10(alloc, text, powers),
         [text] => match call {
             "Decimal::copy" => copy(alloc, text),
-            "UnsignedDecimal::copy" => copy_number(alloc, text),
-            "digits" => digits(alloc, text),
-            "nonzero_magnitude_start" => magnitude(alloc, text),
-            "is_zero" => is_zero(alloc, text),
             "trimmed_end" => trimmed_end(alloc, text),
             "trimmed_start" => trimmed_start(alloc, text),
+            "UnsignedDecimal::copy" | "digits" | "nonzero_magnitude_start" | "is_zero" => {
+                of_text(alloc, call, text)
+            }
             _ => Ok(None),
         },
         [text, other] => match call {
@@ -371,7 +369,7 @@ fn answer_of_digits(
 }
 
 /// What a call of decimals answers.
-pub(crate) fn answer(
+pub(crate) fn returned(
     alloc: Global,
     call: &str,
     arguments: &[String],
@@ -384,8 +382,8 @@ pub(crate) fn answer(
             "from_u64" => from_u64(alloc, text),
             "from_i64" => from_i64(alloc, text),
             "UnsignedDecimal::from_u64" => unsigned_from_u64(alloc, text),
-            _ => told(alloc, answer_of_digits(alloc, call, arguments)),
+            _ => reported(alloc, result_of_digits(alloc, call, arguments)),
         },
-        _ => told(alloc, answer_of_digits(alloc, call, arguments)),
+        _ => reported(alloc, result_of_digits(alloc, call, arguments)),
     }
 }

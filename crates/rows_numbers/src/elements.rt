@@ -44,14 +44,14 @@ fn slots(alloc: Global, text: &str) -> Result<Option<String>, AllocError> {
     let Some(elements) = elements_of(text) else {
         return Ok(None);
     };
-    let mut answer = String::new(alloc);
+    let mut returned = String::new(alloc);
     for slot in 0..8 {
         if slot > 0 {
-            answer.push(' ')?;
+            returned.push(' ')?;
         }
-        answer.push_str(elements.slot(slot).copied().unwrap_or("-"))?;
+        returned.push_str(elements.slot(slot).copied().unwrap_or("-"))?;
     }
-    Ok(Some(answer))
+    Ok(Some(returned))
 }
 
 /// The value of elements with no other one.
@@ -102,7 +102,7 @@ fn get(
 }
 
 /// What a call of elements answers.
-pub(crate) fn answer(
+pub(crate) fn returned(
     alloc: Global,
     documents: &Documents,
     call: &str,

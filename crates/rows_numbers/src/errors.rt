@@ -53,26 +53,31 @@ fn display_kind(alloc: Global, name: &str) -> Result<Option<String>, AllocError>
     }
 }
 
+/// How the error of a name is displayed.
+fn display(alloc: Global, error: &str) -> Result<Option<String>, AllocError> {
+    match error {
+        "PatternError::BadPlace" => displayed(alloc, &PatternError::BadPlace),
+        "PatternError::OutOfMemory" => displayed(alloc, &PatternError::OutOfMemory),
+        "CompactError::ExponentsFall" => displayed(alloc, &CompactError::ExponentsFall),
+        "CompactError::TooManyZeros" => displayed(alloc, &CompactError::TooManyZeros),
+        "BadLocale" => displayed(alloc, &BadLocale),
+        "BadNumberingSystem" => displayed(alloc, &BadNumberingSystem),
+        other => match other.strip_prefix("DataErrorKind::") {
+            Some(name) => display_kind(alloc, name),
+            None => Ok(None),
+        },
+    }
+}
+
 /// What a call of errors answers.
-pub(crate) fn answer(
+pub(crate) fn returned(
     alloc: Global,
     call: &str,
     arguments: &[String],
 ) -> Result<Option<String>, AllocError> {
-    match (call, arguments) {
-        ("DataError::from", [kind]) => error_of(alloc, kind),
-        ("display", [error]) => match error.as_str() {
-            "PatternError::BadPlace" => displayed(alloc, &PatternError::BadPlace),
-            "PatternError::OutOfMemory" => displayed(alloc, &PatternError::OutOfMemory),
-            "CompactError::ExponentsFall" => displayed(alloc, &CompactError::ExponentsFall),
-            "CompactError::TooManyZeros" => displayed(alloc, &CompactError::TooManyZeros),
-            "BadLocale" => displayed(alloc, &BadLocale),
-            "BadNumberingSystem" => displayed(alloc, &BadNumberingSystem),
-            other => match other.strip_prefix("DataErrorKind::") {
-                Some(name) => display_kind(alloc, name),
-                None => Ok(None),
-            },
-        },
+    match arguments {
+        [kind] if call == "DataError::from" => error_of(alloc, kind),
+        [error] if call == "display" => display(alloc, error),
         _ => Ok(None),
     }
 }

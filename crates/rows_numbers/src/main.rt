@@ -12,6 +12,7 @@ mod errors;
 mod options;
 mod patterns;
 mod plural_rules;
+mod powers;
 mod providers;
 mod rounding;
 mod row_texts;
@@ -28,73 +29,73 @@ use std::io;
 struct Numbers;
 
 /// What a call of the crates that `icu_base` passes on answers.
-fn answer_of_base(
+fn result_of_base(
     alloc: Global,
     documents: &Documents,
     call: &str,
     arguments: &[String],
 ) -> Result<Option<String>, AllocError> {
-    if let Some(answer) = patterns::answer(alloc, call, arguments)? {
-        return Ok(Some(answer));
+    if let Some(returned) = patterns::returned(alloc, call, arguments)? {
+        return Ok(Some(returned));
     }
-    if let Some(answer) = providers::answer(alloc, call, arguments)? {
-        return Ok(Some(answer));
+    if let Some(returned) = providers::returned(alloc, call, arguments)? {
+        return Ok(Some(returned));
     }
-    if let Some(answer) = conditions::answer(alloc, call, arguments)? {
-        return Ok(Some(answer));
+    if let Some(returned) = conditions::returned(alloc, call, arguments)? {
+        return Ok(Some(returned));
     }
-    if let Some(answer) = plural_rules::answer(alloc, documents, call, arguments)? {
-        return Ok(Some(answer));
+    if let Some(returned) = plural_rules::returned(alloc, documents, call, arguments)? {
+        return Ok(Some(returned));
     }
-    if let Some(answer) = elements::answer(alloc, documents, call, arguments)? {
-        return Ok(Some(answer));
+    if let Some(returned) = elements::returned(alloc, documents, call, arguments)? {
+        return Ok(Some(returned));
     }
-    errors::answer(alloc, call, arguments)
+    errors::returned(alloc, call, arguments)
 }
 
 /// What a call of symbols, options, skeletons or tables answers.
-fn answer_of_data(
+fn result_of_data(
     alloc: Global,
     documents: &Documents,
     call: &str,
     arguments: &[String],
 ) -> Result<Option<String>, AllocError> {
-    if let Some(answer) = symbols::answer(alloc, documents, call, arguments)? {
-        return Ok(Some(answer));
+    if let Some(returned) = symbols::returned(alloc, documents, call, arguments)? {
+        return Ok(Some(returned));
     }
-    if let Some(answer) = options::answer(alloc, call, arguments)? {
-        return Ok(Some(answer));
+    if let Some(returned) = options::returned(alloc, call, arguments)? {
+        return Ok(Some(returned));
     }
-    if let Some(answer) = skeletons::answer(alloc, call, arguments)? {
-        return Ok(Some(answer));
+    if let Some(returned) = skeletons::returned(alloc, call, arguments)? {
+        return Ok(Some(returned));
     }
-    if let Some(answer) = shown_numbers::answer(alloc, documents, call, arguments)? {
-        return Ok(Some(answer));
+    if let Some(returned) = shown_numbers::returned(alloc, documents, call, arguments)? {
+        return Ok(Some(returned));
     }
-    compact::answer(alloc, documents, call, arguments)
+    compact::returned(alloc, documents, call, arguments)
 }
 
 impl Calls for Numbers {
-    fn answer(
+    fn returned(
         &self,
         alloc: Global,
         documents: &Documents,
         call: &str,
         arguments: &[String],
     ) -> Result<Option<String>, AllocError> {
-        if let Some(answer) = row_texts::answer(alloc, call, arguments)? {
-            return Ok(Some(answer));
+        if let Some(returned) = row_texts::returned(alloc, call, arguments)? {
+            return Ok(Some(returned));
         }
-        if let Some(answer) = decimals::answer(alloc, call, arguments)? {
-            return Ok(Some(answer));
+        if let Some(returned) = decimals::returned(alloc, call, arguments)? {
+            return Ok(Some(returned));
         }
-        if let Some(answer) = rounding::answer(alloc, call, arguments)? {
-            return Ok(Some(answer));
+        if let Some(returned) = rounding::returned(alloc, call, arguments)? {
+            return Ok(Some(returned));
         }
-        if let Some(answer) = answer_of_base(alloc, documents, call, arguments)? {
-            return Ok(Some(answer));
+        if let Some(returned) = result_of_base(alloc, documents, call, arguments)? {
+            return Ok(Some(returned));
         }
-        answer_of_data(alloc, documents, call, arguments)
+        result_of_data(alloc, documents, call, arguments)
     }
 }
 

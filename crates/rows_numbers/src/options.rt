@@ -51,18 +51,18 @@ fn separators(
     ) else {
         return Ok(None);
     };
-    let mut answer = String::new(alloc);
+    let mut returned = String::new(alloc);
     for magnitude in 0..=upper {
         if check(upper, magnitude, strategy, sizes) {
-            let separator = if answer.is_empty() { "" } else { " " };
+            let separator = if returned.is_empty() { "" } else { " " };
             let word = format!(in alloc; "{separator}{magnitude}")?;
-            answer.push_str(word.as_str())?;
+            returned.push_str(word.as_str())?;
         }
     }
-    if answer.is_empty() {
-        answer.push_str("none")?;
+    if returned.is_empty() {
+        returned.push_str("none")?;
     }
-    Ok(Some(answer))
+    Ok(Some(returned))
 }
 
 /// Whether a separator follows at a magnitude.
@@ -249,7 +249,7 @@ fn defaults(alloc: Global, call: &str) -> Result<Option<String>, AllocError> {
 }
 
 /// What a call with two arguments answers.
-fn answer_of_two(
+fn result_of_two(
     alloc: Global,
     call: &str,
     one: &str,
@@ -267,7 +267,7 @@ fn answer_of_two(
 }
 
 /// What a call with four arguments answers.
-fn answer_of_four(
+fn result_of_four(
     alloc: Global,
     call: &str,
     (one, other): (&str, &str),
@@ -285,7 +285,7 @@ fn answer_of_four(
 }
 
 /// What a call of groups, options or preferences answers.
-pub(crate) fn answer(
+pub(crate) fn returned(
     alloc: Global,
     call: &str,
     arguments: &[String],
@@ -293,11 +293,11 @@ pub(crate) fn answer(
     match arguments {
         [] => defaults(alloc, call),
         [sizes] if call == "secondary_size" => secondary(alloc, sizes),
-        [one, other] => answer_of_two(alloc, call, one, other),
+        [one, other] => result_of_two(alloc, call, one, other),
         [upper, strategy, sizes] if call == "check_each" => {
             separators(alloc, upper, strategy, sizes)
         }
-        [one, other, third, fourth] => answer_of_four(alloc, call, (one, other), (third, fourth)),
+        [one, other, third, fourth] => result_of_four(alloc, call, (one, other), (third, fourth)),
         _ => Ok(None),
     }
 }

@@ -41,10 +41,10 @@ pub(crate) fn text_of<P: PatternBackend>(
     pattern: PatternRef<'_, P>,
 ) -> Result<String, AllocError> {
     let literal = pattern.literal();
-    match pattern.place() {
-        Some(place) => {
-            let before = literal.get(..place).unwrap_or("?");
-            let behind = literal.get(place..).unwrap_or("?");
+    match pattern.placeholder() {
+        Some(placeholder) => {
+            let before = literal.get(..placeholder).unwrap_or("?");
+            let behind = literal.get(placeholder..).unwrap_or("?");
             format!(in alloc; "{before}{{0}}{behind}")
         }
         None => String::from_str(alloc, literal),
@@ -61,12 +61,12 @@ fn spelled<P: PatternBackend>(
 }
 
 /// The answer of a call that may fail; an error by its name.
-fn told(
+fn reported(
     alloc: Global,
-    answer: Result<Option<String>, PatternError>,
+    returned: Result<Option<String>, PatternError>,
 ) -> Result<Option<String>, AllocError> {
-    match answer {
-        Ok(answer) => Ok(answer),
+    match returned {
+        Ok(returned) => Ok(returned),
         Err(PatternError::OutOfMemory) => Err(AllocError),
         Err(PatternError::BadPlace) => said(alloc, "BadPlace"),
     }
@@ -87,12 +87,12 @@ pub(crate) fn pattern_of<P: PatternBackend>(
 }
 
 /// The place of an argument, or `none`; nothing if it is neither.
-fn place_of(argument: &str) -> Option<Option<usize>> {
+fn placeholder_of(argument: &str) -> Option<Option<usize>> {
     if argument == "none" {
         return Some(None);
     }
     match argument.parse() {
-        Ok(place) => Some(Some(place)),
+        Ok(placeholder) => Some(Some(placeholder)),
         Err(_) => None,
     }
 }
@@ -100,10 +100,10 @@ fn place_of(argument: &str) -> Option<Option<usize>> {
 /// The pattern that was made, or the name of the error.
 fn owned<P: PatternBackend>(
     alloc: Global,
-    place: Option<usize>,
+    placeholder: Option<usize>,
     literal: &str,
 ) -> Result<String, PatternError> {
-    match Pattern::<P>::try_new(alloc, place, literal) {
+    match Pattern::<P>::try_new(alloc, placeholder, literal) {
         Ok(pattern) => Ok(spelled(alloc, pattern.as_ref())?),
         Err(PatternError::OutOfMemory) => Err(PatternError::OutOfMemory),
         Err(PatternError::BadPlace) => Ok(String::from_str(alloc, "BadPlace")?),
@@ -113,10 +113,10 @@ fn owned<P: PatternBackend>(
 /// The same of a pattern that borrows its literal.
 fn borrowed<P: PatternBackend>(
     alloc: Global,
-    place: Option<usize>,
+    placeholder: Option<usize>,
     literal: &str,
 ) -> Result<String, PatternError> {
-    match PatternRef::<P>::try_new(place, literal) {
+    match PatternRef::<P>::try_new(placeholder, literal) {
         Ok(pattern) => Ok(spelled(alloc, pattern)?),
         Err(PatternError::OutOfMemory) => Err(PatternError::OutOfMemory),
         Err(PatternError::BadPlace) => Ok(String::from_str(alloc, "BadPlace")?),
@@ -126,15 +126,15 @@ fn borrowed<P: PatternBackend>(
 /// Whether the backend accepts, the pattern, and the pattern that borrows.
 fn try_new<P: PatternBackend>(
     alloc: Global,
-    place: &str,
+    placeholder: &str,
     literal: &str,
 ) -> Result<Option<String>, PatternError> {
-    let Some(place) = place_of(place) else {
+    let Some(placeholder) = placeholder_of(placeholder) else {
         return Ok(None);
     };
-    let accepts = yes_or_no(P::accepts(place, literal));
-    let owned = owned::<P>(alloc, place, literal)?;
-    let borrowed = borrowed::<P>(alloc, place, literal)?;
+    let accepts = yes_or_no(P::accepts(placeholder, literal));
+    let owned = owned::<P>(alloc, placeholder, literal)?;
+    let borrowed = borrowed::<P>(alloc, placeholder, literal)?;
     Ok(Some(format!(in alloc; "{accepts} | {owned} | {borrowed}")?))
 }
 
@@ -166,15 +166,15 @@ fn text_with_parts(alloc: Global, sink: &PartsText) -> Result<String, AllocError
         Ok(spans) => spans,
         Err(OutOfMemory) => return Err(AllocError),
     };
-    let mut answer = format!(in alloc; "{} |", sink.text())?;
+    let mut returned = format!(in alloc; "{} |", sink.text())?;
     if spans.is_empty() {
-        answer.push_str(" no parts")?;
+        returned.push_str(" no parts")?;
     }
     for (start, end, part) in &spans {
         let span = format!(in alloc; " {} {} {start}-{end}", part.category, part.value)?;
-        answer.push_str(span.as_str())?;
+        returned.push_str(span.as_str())?;
     }
-    Ok(answer)
+    Ok(returned)
 }
 
 /// What a sink with parts, or one without, holds of a value.
@@ -229,22 +229,22 @@ fn pass_through(alloc: Global, value: &str) -> Result<Option<String>, AllocError
 }
 
 /// What a call of patterns of a backend answers.
-fn answer_of<P: PatternBackend>(
+fn result_of<P: PatternBackend>(
     alloc: Global,
     call: &str,
     arguments: &[String],
 ) -> Result<Option<String>, PatternError> {
-    match (call, arguments) {
-        ("try_new", [place, literal]) => try_new::<P>(alloc, place, literal),
-        ("Pattern::copy", [text]) => copy::<P>(alloc, text),
-        ("Pattern::eq", [one, other]) => eq::<P>(alloc, one, other),
-        ("interpolate", [way, text, value]) => interpolate::<P>(alloc, way, text, value),
+    match arguments {
+        [text] if call == "Pattern::copy" => copy::<P>(alloc, text),
+        [placeholder, literal] if call == "try_new" => try_new::<P>(alloc, placeholder, literal),
+        [one, other] if call == "Pattern::eq" => eq::<P>(alloc, one, other),
+        [way, text, value] if call == "interpolate" => interpolate::<P>(alloc, way, text, value),
         _ => Ok(None),
     }
 }
 
 /// What a call of patterns answers. The first argument is the backend, `single` or `none`.
-pub(crate) fn answer(
+pub(crate) fn returned(
     alloc: Global,
     call: &str,
     arguments: &[String],
@@ -252,11 +252,11 @@ pub(crate) fn answer(
     match arguments {
         [value] if call == "pass_through" => pass_through(alloc, value),
         [backend, arguments @ ..] => match backend.as_str() {
-            "single" => told(
+            "single" => reported(
                 alloc,
-                answer_of::<SinglePlaceholder>(alloc, call, arguments),
+                result_of::<SinglePlaceholder>(alloc, call, arguments),
             ),
-            "none" => told(alloc, answer_of::<NoPlaceholder>(alloc, call, arguments)),
+            "none" => reported(alloc, result_of::<NoPlaceholder>(alloc, call, arguments)),
             _ => Ok(None),
         },
         _ => Ok(None),

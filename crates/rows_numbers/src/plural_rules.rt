@@ -243,22 +243,22 @@ fn slot_for(
 }
 
 /// What a call of plural rules answers.
-pub(crate) fn answer(
+pub(crate) fn returned(
     alloc: Global,
     documents: &Documents,
     call: &str,
     arguments: &[String],
 ) -> Result<Option<String>, AllocError> {
-    match (call, arguments) {
-        ("from_rules", [rules]) => from_rules(alloc, documents, rules),
-        ("raw", [number, exponent]) => raw(alloc, number, exponent),
-        ("category_for", [rules, number, exponent]) => {
+    match arguments {
+        [rules] if call == "from_rules" => from_rules(alloc, documents, rules),
+        [number, exponent] if call == "raw" => raw(alloc, number, exponent),
+        [rules, number, exponent] if call == "category_for" => {
             category_for(alloc, documents, false, rules, number, exponent)
         }
-        ("PluralRules::copy", [rules, number, exponent]) => {
+        [rules, number, exponent] if call == "PluralRules::copy" => {
             category_for(alloc, documents, true, rules, number, exponent)
         }
-        ("slot_for", [rules, number, exponent, slots @ ..]) => {
+        [rules, number, exponent, slots @ ..] if call == "slot_for" => {
             slot_for(alloc, documents, (rules, number, exponent), slots)
         }
         _ => Ok(None),

@@ -98,7 +98,7 @@ fn identifiers_eq(
 }
 
 /// What a call of locales, numbering systems or identifiers answers.
-pub(crate) fn answer(
+pub(crate) fn returned(
     alloc: Global,
     call: &str,
     arguments: &[String],

@@ -1,7 +1,7 @@
 //! Calls of `fixed_decimal` that round by a mode. A mode has the name of its variant, and an
 //! increment is a number.
 
-use crate::decimals::{decimal_of, made_of, made_of_number, told};
+use crate::decimals::{decimal_of, made_of, made_of_number, reported};
 use fixed_decimal::{
     DecimalError, RoundingIncrement, Sign, SignedRoundingMode, UnsignedRoundingMode,
 };
@@ -115,7 +115,7 @@ fn number_with_increment(
 }
 
 /// What a call answers that takes an increment.
-fn answer_of_increments(
+fn result_of_increments(
     alloc: Global,
     call: &str,
     text: &str,
@@ -136,7 +136,7 @@ fn answer_of_increments(
 }
 
 /// What a call answers that takes a mode.
-fn answer_of_modes(
+fn result_of_modes(
     alloc: Global,
     call: &str,
     arguments: &[String],
@@ -148,17 +148,17 @@ fn answer_of_modes(
             _ => Ok(None),
         },
         [text, power, mode, increment] => {
-            answer_of_increments(alloc, call, text, power, mode, increment)
+            result_of_increments(alloc, call, text, power, mode, increment)
         }
         _ => Ok(None),
     }
 }
 
 /// What a call that rounds by a mode answers.
-pub(crate) fn answer(
+pub(crate) fn returned(
     alloc: Global,
     call: &str,
     arguments: &[String],
 ) -> Result<Option<String>, AllocError> {
-    told(alloc, answer_of_modes(alloc, call, arguments))
+    reported(alloc, result_of_modes(alloc, call, arguments))
 }

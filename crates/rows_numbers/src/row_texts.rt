@@ -20,15 +20,18 @@ fn read_row(alloc: Global, line: &str) -> Result<String, AllocError> {
 }
 
 /// What a call of `rows` answers.
-pub(crate) fn answer(
+pub(crate) fn returned(
     alloc: Global,
     call: &str,
     arguments: &[String],
 ) -> Result<Option<String>, AllocError> {
-    match (call, arguments) {
-        ("read_row", [line]) => Ok(Some(read_row(alloc, line.as_str())?)),
-        ("decoded", [text]) => Ok(Some(decoded(alloc, text.as_str())?)),
-        ("escaped", [text]) => Ok(Some(escaped(alloc, text.as_str())?)),
+    let [text] = arguments else {
+        return Ok(None);
+    };
+    match call {
+        "read_row" => Ok(Some(read_row(alloc, text.as_str())?)),
+        "decoded" => Ok(Some(decoded(alloc, text.as_str())?)),
+        "escaped" => Ok(Some(escaped(alloc, text.as_str())?)),
         _ => Ok(None),
     }
 }

@@ -31,7 +31,7 @@ fn rounding_of(precision: &str, mode: &str, integer_digits: &str) -> Option<Roun
 }
 
 /// What is shown, as it is spelled.
-fn told(
+fn reported(
     alloc: Global,
     shown: Result<ShownNumber, ShownError>,
     has_table: bool,
@@ -52,7 +52,7 @@ fn told(
 /// A number without a table.
 fn plain(alloc: Global, rounding: &Rounding, text: &str) -> Result<Option<String>, DecimalError> {
     let decimal = decimal_of(alloc, text)?;
-    told(
+    reported(
         alloc,
         shown::<SinglePlaceholder>(alloc, rounding, None, &decimal),
         false,
@@ -76,11 +76,11 @@ fn by_table(
         Err(_) => return Ok(None),
     };
     let decimal = decimal_of(alloc, text)?;
-    told(alloc, shown(alloc, rounding, Some(&table), &decimal), true)
+    reported(alloc, shown(alloc, rounding, Some(&table), &decimal), true)
 }
 
 /// What the call answers.
-fn answer_of_shown(
+fn result_of_shown(
     alloc: Global,
     documents: &Documents,
     arguments: &[String],
@@ -99,7 +99,7 @@ fn answer_of_shown(
 }
 
 /// What the call of `number_rounding` answers.
-pub(crate) fn answer(
+pub(crate) fn returned(
     alloc: Global,
     documents: &Documents,
     call: &str,
@@ -108,5 +108,5 @@ pub(crate) fn answer(
     if call != "shown" {
         return Ok(None);
     }
-    crate::decimals::told(alloc, answer_of_shown(alloc, documents, arguments))
+    crate::decimals::reported(alloc, result_of_shown(alloc, documents, arguments))
 }

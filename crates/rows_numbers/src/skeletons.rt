@@ -39,7 +39,7 @@ fn canonical_or_byte(alloc: Global, text: &str) -> Result<Option<String>, AllocE
 }
 
 /// What a call of skeletons answers.
-pub(crate) fn answer(
+pub(crate) fn returned(
     alloc: Global,
     call: &str,
     arguments: &[String],

@@ -127,12 +127,12 @@ fn spelled_builder(
 }
 
 /// The answer of a call that may fail; an error by its name.
-fn told(
+fn reported(
     alloc: Global,
-    answer: Result<Option<String>, SymbolsError>,
+    returned: Result<Option<String>, SymbolsError>,
 ) -> Result<Option<String>, AllocError> {
-    match answer {
-        Ok(answer) => Ok(answer),
+    match returned {
+        Ok(returned) => Ok(returned),
         Err(SymbolsError::OutOfMemory) => Err(AllocError),
         Err(SymbolsError::TooLarge) => said(alloc, "TooLarge"),
         Err(SymbolsError::BadNumberingSystem) => said(alloc, "BadNumberingSystem"),
@@ -237,16 +237,16 @@ fn parse_beginnings(alloc: Global, bytes: Option<Vec<u8>>) -> Result<Option<Stri
     let Some(bytes) = bytes else {
         return Ok(None);
     };
-    let mut answer = String::new(alloc);
+    let mut returned = String::new(alloc);
     for len in 0..=bytes.len() {
         let beginning = bytes.get(..len).unwrap_or_default();
         let word = match SymbolsView::parse(beginning) {
             Ok(_) => String::from_str(alloc, "read")?,
             Err(damaged) => format!(in alloc; "{} ", damaged.byte)?,
         };
-        answer.push_str(word.as_str())?;
+        returned.push_str(word.as_str())?;
     }
-    Ok(Some(answer))
+    Ok(Some(returned))
 }
 
 /// The ten digits of a text.
@@ -275,7 +275,7 @@ fn readable(alloc: Global, digits: &str) -> Result<Option<String>, SymbolsError>
 }
 
 /// What a call of symbols answers.
-fn answer_of(
+fn result_of(
     alloc: Global,
     call: &str,
     arguments: &[String],
@@ -304,19 +304,19 @@ fn answer_of(
 }
 
 /// What a call of symbols or of their bytes answers.
-pub(crate) fn answer(
+pub(crate) fn returned(
     alloc: Global,
     documents: &Documents,
     call: &str,
     arguments: &[String],
 ) -> Result<Option<String>, AllocError> {
-    match (call, arguments) {
-        ("SymbolsView::parse", [text, changes @ ..]) => {
+    match arguments {
+        [text, changes @ ..] if call == "SymbolsView::parse" => {
             parse(alloc, bytes::bytes_of(alloc, documents, text, changes)?)
         }
-        ("SymbolsView::parse_beginnings", [text]) => {
+        [text] if call == "SymbolsView::parse_beginnings" => {
             parse_beginnings(alloc, bytes::bytes_of(alloc, documents, text, &[])?)
         }
-        _ => told(alloc, answer_of(alloc, call, arguments)),
+        _ => reported(alloc, result_of(alloc, call, arguments)),
     }
 }

@@ -1,6 +1,6 @@
 //! Calls of `locnum_explain`.
 
-use crate::Answer;
+use crate::CallResult;
 use crate::bytes::{appended, bytes_of};
 use crate::words::texts_of;
 use locnum_explain::{DigitsBy, Settings, explain, explain_at, explain_line, explain_lines};
@@ -11,7 +11,7 @@ use std::alloc::{AllocError, Global};
 /// What is explained: a text, that of a line, those of lines up to one that is rejected or all of
 /// them, or one under a place.
 #[derive(Clone, Copy)]
-enum Told<'a> {
+enum Subject<'a> {
     Text(&'a str),
     Line(&'a str),
     Lines(bool, &'a [String]),
@@ -22,26 +22,26 @@ enum Told<'a> {
 #[derive(Clone, Copy)]
 pub(crate) struct Explained<'a> {
     width: usize,
-    told: Told<'a>,
+    subject: Subject<'a>,
 }
 
 /// What a call explains by this word alone.
-fn told_by_one<'a>(call: &str, word: &'a str) -> Option<Told<'a>> {
+fn subject_by_one<'a>(call: &str, word: &'a str) -> Option<Subject<'a>> {
     match call {
-        "explain" => Some(Told::Text(word)),
-        "explain_line" => Some(Told::Line(word)),
+        "explain" => Some(Subject::Text(word)),
+        "explain_line" => Some(Subject::Line(word)),
         _ => None,
     }
 }
 
 /// What a call explains by this word and those behind it.
-fn told_by<'a>(call: &str, word: &'a str, others: &'a [String]) -> Option<Told<'a>> {
+fn subject_by<'a>(call: &str, word: &'a str, others: &'a [String]) -> Option<Subject<'a>> {
     if call == "explain_lines" {
-        return Some(Told::Lines(word == "stop", others));
+        return Some(Subject::Lines(word == "stop", others));
     }
     match others {
-        [] => told_by_one(call, word),
-        [text] if call == "explain_at" => Some(Told::At(word, text.as_str())),
+        [] => subject_by_one(call, word),
+        [text] if call == "explain_at" => Some(Subject::At(word, text.as_str())),
         _ => None,
     }
 }
@@ -54,8 +54,8 @@ impl<'a> Explained<'a> {
             return None;
         };
         let (word, others) = words.split_first()?;
-        let told = told_by(call, word.as_str(), others)?;
-        Some(Explained { width, told })
+        let subject = subject_by(call, word.as_str(), others)?;
+        Some(Explained { width, subject })
     }
 }
 
@@ -75,18 +75,18 @@ fn push(
     alloc: Global,
     settings: &Settings<'_>,
     form: &Form,
-    told: Told<'_>,
+    subject: Subject<'_>,
     out: &mut Vec<u8>,
 ) -> Result<bool, AllocError> {
-    match told {
-        Told::Text(text) => explain(alloc, settings, form, &bytes_of(alloc, text)?, out),
-        Told::Line(line) => explain_line(alloc, settings, form, &bytes_of(alloc, line)?, out),
-        Told::Lines(stops, lines) => {
+    match subject {
+        Subject::Text(text) => explain(alloc, settings, form, &bytes_of(alloc, text)?, out),
+        Subject::Line(line) => explain_line(alloc, settings, form, &bytes_of(alloc, line)?, out),
+        Subject::Lines(stops, lines) => {
             explain_lines(alloc, settings, stops, form, &texts_of(alloc, lines)?, out)
         }
-        Told::At(place, text) => {
+        Subject::At(position, text) => {
             let text = bytes_of(alloc, text)?;
-            explain_at(alloc, settings, form, place.as_bytes(), &text, out)
+            explain_at(alloc, settings, form, position.as_bytes(), &text, out)
         }
     }
 }
@@ -97,13 +97,13 @@ pub(crate) fn explanation(
     form: &Form,
     given: &Given<'_>,
     asked: Explained<'_>,
-) -> Answer {
+) -> CallResult {
     let settings = Settings {
         width: asked.width,
         digits: digits_by(given),
     };
     let mut out = Vec::from_slice(alloc, b">")?;
-    let is_refused = push(alloc, &settings, form, asked.told, &mut out)?;
+    let is_refused = push(alloc, &settings, form, asked.subject, &mut out)?;
     let mut text = appended(alloc, &out)?;
     if is_refused {
         text.push_str(" | rejected")?;

@@ -1,6 +1,6 @@
 //! Errors, as rows spell them.
 
-use crate::Answer;
+use crate::CallResult;
 use decimal_lines::{TablesFault, TextError};
 use icu_tables::TableError;
 use locnum_forms::StartError;
@@ -20,7 +20,7 @@ fn names(alloc: Global, error: TableError) -> Result<String, AllocError> {
 }
 
 /// Why tables are refused.
-fn refused(alloc: Global, error: TableError) -> Answer {
+fn refused(alloc: Global, error: TableError) -> CallResult {
     match error {
         TableError::OutOfMemory => Err(AllocError),
         _ => Ok(Some(names(alloc, error)?)),
@@ -28,7 +28,7 @@ fn refused(alloc: Global, error: TableError) -> Answer {
 }
 
 /// Why there is no form.
-pub(crate) fn no_form(alloc: Global, error: StartError) -> Answer {
+pub(crate) fn no_form(alloc: Global, error: StartError) -> CallResult {
     match error {
         StartError::OutOfMemory => Err(AllocError),
         StartError::Refused(error) => refused(alloc, error),
@@ -37,7 +37,7 @@ pub(crate) fn no_form(alloc: Global, error: StartError) -> Answer {
 }
 
 /// Why tables are rejected.
-pub(crate) fn no_tables(alloc: Global, fault: TablesFault) -> Answer {
+pub(crate) fn no_tables(alloc: Global, fault: TablesFault) -> CallResult {
     match fault {
         TablesFault::Refused(error) => refused(alloc, error),
         TablesFault::NotUtf8 => Ok(Some(format!(in alloc; "{fault:?}")?)),
@@ -45,7 +45,7 @@ pub(crate) fn no_tables(alloc: Global, fault: TablesFault) -> Answer {
 }
 
 /// Why a text isn't written.
-pub(crate) fn not_written(alloc: Global, error: TextError) -> Answer {
+pub(crate) fn not_written(alloc: Global, error: TextError) -> CallResult {
     match error {
         TextError::OutOfMemory => Err(AllocError),
         _ => Ok(Some(format!(in alloc; "{error:?}")?)),
@@ -53,7 +53,7 @@ pub(crate) fn not_written(alloc: Global, error: TextError) -> Answer {
 }
 
 /// Why options are rejected.
-pub(crate) fn no_options(alloc: Global, fault: OptionFault) -> Answer {
+pub(crate) fn no_options(alloc: Global, fault: OptionFault) -> CallResult {
     match fault {
         OptionFault::OutOfMemory => Err(AllocError),
         _ => Ok(Some(format!(in alloc; "{fault:?}")?)),
@@ -88,7 +88,7 @@ fn tables_fault(name: &str) -> Option<TablesFault> {
 }
 
 /// The text of a fault of options, or of tables.
-pub(crate) fn displayed(alloc: Global, kind: &str, name: &str) -> Answer {
+pub(crate) fn displayed(alloc: Global, kind: &str, name: &str) -> CallResult {
     match kind {
         "OptionFault" => match option_fault(name) {
             Some(fault) => Ok(Some(format!(in alloc; "{fault}")?)),

@@ -6,7 +6,7 @@ use crate::faults::{no_form, not_written};
 use crate::lines::{ran, reported};
 use crate::options::{parsed, settings_of};
 use crate::words::{Pair, file_of, given, options_of};
-use crate::{Answer, lines, parts, records};
+use crate::{CallResult, lines, parts, records};
 use decimal_lines::Mode;
 use fixed_decimal::{Decimal, Sign};
 use locnum_forms::{Form, Formatter, Wanted};
@@ -36,7 +36,7 @@ pub(crate) enum Question<'a> {
 }
 
 /// What `Form::push` answers; in front of an error stands what was written anyway.
-fn pushed(alloc: Global, form: &Form, text: &[u8]) -> Answer {
+fn pushed(alloc: Global, form: &Form, text: &[u8]) -> CallResult {
     let mut out = Vec::new(alloc);
     match form.push(alloc, text, &mut out) {
         Ok(()) => Ok(Some(text_of(alloc, &out)?)),
@@ -46,7 +46,7 @@ fn pushed(alloc: Global, form: &Form, text: &[u8]) -> Answer {
 }
 
 /// What `Form::mark` answers.
-fn marked(alloc: Global, form: &Form, text: &[u8]) -> Answer {
+fn marked(alloc: Global, form: &Form, text: &[u8]) -> CallResult {
     match form.mark(alloc, text) {
         Ok(text) => Ok(Some(parts::spelled(alloc, &text)?)),
         Err(error) => not_written(alloc, error),
@@ -84,7 +84,7 @@ fn decimal_text(alloc: Global, decimal: &Decimal) -> Result<String, AllocError> 
 }
 
 /// What `Form::decimal` answers.
-fn decimal_of(alloc: Global, form: &Form, text: &[u8]) -> Answer {
+fn decimal_of(alloc: Global, form: &Form, text: &[u8]) -> CallResult {
     match form.decimal(alloc, text) {
         Ok(decimal) => Ok(Some(decimal_text(alloc, &decimal)?)),
         Err(error) => not_written(alloc, error),
@@ -105,12 +105,12 @@ fn formatter_name(formatter: &Formatter) -> &'static str {
 }
 
 /// What a form answers.
-fn answer_of<'a>(
+fn result_of<'a>(
     alloc: Global,
     form: &Form,
     (options, lines): (&'a [Pair<'a>], &LineSettings),
     question: Question<'_>,
-) -> Answer {
+) -> CallResult {
     match question {
         Question::Made => Ok(Some(String::from_str(alloc, "made")?)),
         Question::Pushed(text) => pushed(alloc, form, &bytes_of(alloc, text)?),
@@ -131,9 +131,9 @@ fn by_form<'a>(
     file: &[u8],
     asked: (&'a [Pair<'a>], &LineSettings),
     question: Question<'_>,
-) -> Answer {
+) -> CallResult {
     match Form::make(alloc, wanted, file) {
-        Ok(form) => answer_of(alloc, &form, asked, question),
+        Ok(form) => result_of(alloc, &form, asked, question),
         Err(error) => no_form(alloc, error),
     }
 }
@@ -144,7 +144,7 @@ fn by_options<'a>(
     options: &'a [Pair<'a>],
     file: &[u8],
     question: Question<'_>,
-) -> Answer {
+) -> CallResult {
     match settings_of(alloc, options)? {
         Some(settings) => {
             let asked = (options, &settings.lines);
@@ -161,7 +161,7 @@ fn by_file<'a>(
     options: &'a [Pair<'a>],
     word: &str,
     question: Question<'_>,
-) -> Answer {
+) -> CallResult {
     match file_of(alloc, documents, word)? {
         Some(file) => by_options(alloc, options, &file, question),
         None => Ok(None),
@@ -199,19 +199,19 @@ fn question_of<'a>(call: &str, words: &'a [String]) -> Option<Question<'a>> {
 }
 
 /// What a call answers whose arguments end in options.
-pub(crate) fn answer(
+pub(crate) fn returned(
     alloc: Global,
     documents: &Documents,
     call: &str,
     words: &[String],
     options: &[String],
-) -> Answer {
+) -> CallResult {
     let Some(options) = options_of(alloc, options)? else {
         return Ok(None);
     };
     match call {
         "parse_options" => parsed(alloc, words, &options),
-        "find" | "is_open" | "behind_mark" => records::answer(alloc, call, words, &options),
+        "find" | "is_open" | "behind_mark" => records::returned(alloc, call, words, &options),
         _ => match words.split_first() {
             Some((file, words)) => match question_of(call, words) {
                 Some(question) => by_file(alloc, documents, &options, file.as_str(), question),

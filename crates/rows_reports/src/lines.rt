@@ -1,6 +1,6 @@
 //! Calls of `locnum_lines` over an input.
 
-use crate::Answer;
+use crate::CallResult;
 use crate::bytes::{push_behind, push_text, text_if};
 use crate::counts::at_once;
 use locnum_forms::Form;
@@ -53,7 +53,7 @@ fn ran_by(
 }
 
 /// What `run` leaves, however many bytes are read at once.
-pub(crate) fn ran(alloc: Global, form: &Form, settings: &LineSettings, input: &[u8]) -> Answer {
+pub(crate) fn ran(alloc: Global, form: &Form, settings: &LineSettings, input: &[u8]) -> CallResult {
     let whole = ran_by(alloc, form, settings, input, usize::MAX)?;
     for count in at_once(input, &[]) {
         let text = ran_by(alloc, form, settings, input, *count)?;
@@ -83,7 +83,7 @@ pub(crate) fn reported(
     form: &Form,
     settings: &LineSettings,
     input: &[u8],
-) -> Answer {
+) -> CallResult {
     let mut reader = input;
     let mut output = Vec::new(alloc);
     let mut notes = Vec::new(alloc);

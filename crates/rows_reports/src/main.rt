@@ -20,13 +20,13 @@ use std::alloc::{AllocError, Global};
 use std::io;
 
 /// What a call answers, if there is such a call with such arguments.
-pub(crate) type Answer = Result<Option<String>, AllocError>;
+pub(crate) type CallResult = Result<Option<String>, AllocError>;
 
 /// The calls of the crates that make reports, and of those that `locnum` stands on.
 struct Reports;
 
 impl Calls for Reports {
-    fn answer(
+    fn returned(
         &self,
         alloc: Global,
         documents: &Documents,
@@ -34,9 +34,9 @@ impl Calls for Reports {
         arguments: &[String],
     ) -> Result<Option<String>, AllocError> {
         let (given, options) = words::cut_at_options(arguments);
-        match forms::answer(alloc, documents, call, given, options)? {
-            Some(answer) => Ok(Some(answer)),
-            None => modes::answer(alloc, documents, call, arguments),
+        match forms::returned(alloc, documents, call, given, options)? {
+            Some(returned) => Ok(Some(returned)),
+            None => modes::returned(alloc, documents, call, arguments),
         }
     }
 }

@@ -6,7 +6,7 @@ use crate::faults::{displayed, no_tables, not_written};
 use crate::options::push_grouping;
 use crate::rooms::{Filling, filled};
 use crate::words::{file_of, texts_of};
-use crate::{Answer, parts, pieces};
+use crate::{CallResult, parts, pieces};
 use decimal_lines::{
     Mode, RunError, StartError, TextError, Words, compact_options, format_parts, judge_tables,
     mark_shown, parse_words, plain_options, read_decimal, run,
@@ -38,7 +38,7 @@ fn asked_by(alloc: Global, words: &Words<'_>) -> Result<String, AllocError> {
 }
 
 /// What `parse_words` answers.
-fn words_text(alloc: Global, words: &[String]) -> Answer {
+fn words_text(alloc: Global, words: &[String]) -> CallResult {
     match parse_words(&texts_of(alloc, words)?) {
         Some(words) => Ok(Some(asked_by(alloc, &words)?)),
         None => Ok(Some(String::from_str(alloc, "nothing")?)),
@@ -56,7 +56,7 @@ fn strategy_of(word: &str) -> Option<Option<GroupingStrategy>> {
 }
 
 /// The name of a strategy.
-fn strategy_text(alloc: Global, strategy: Option<GroupingStrategy>) -> Answer {
+fn strategy_text(alloc: Global, strategy: Option<GroupingStrategy>) -> CallResult {
     match strategy {
         Some(strategy) => Ok(Some(format!(in alloc; "{strategy:?}")?)),
         None => Ok(Some(String::from_str(alloc, "none")?)),
@@ -73,7 +73,7 @@ fn strategy_by(call: &str, asked: Option<GroupingStrategy>) -> Option<GroupingSt
 }
 
 /// The strategy that `plain_options` or `compact_options` has for that of a word.
-fn options_text(alloc: Global, call: &str, arguments: &[String]) -> Answer {
+fn options_text(alloc: Global, call: &str, arguments: &[String]) -> CallResult {
     let [word] = arguments else {
         return Ok(None);
     };
@@ -84,7 +84,7 @@ fn options_text(alloc: Global, call: &str, arguments: &[String]) -> Answer {
 }
 
 /// Whether `judge_tables` accepts a file.
-fn judgement(alloc: Global, file: &[u8]) -> Answer {
+fn judgement(alloc: Global, file: &[u8]) -> CallResult {
     match judge_tables(alloc, file) {
         Ok(()) => Ok(Some(String::from_str(alloc, "accepted")?)),
         Err(fault) => no_tables(alloc, fault),
@@ -92,7 +92,7 @@ fn judgement(alloc: Global, file: &[u8]) -> Answer {
 }
 
 /// What `judge_tables` answers.
-fn judged(alloc: Global, documents: &Documents, arguments: &[String]) -> Answer {
+fn judged(alloc: Global, documents: &Documents, arguments: &[String]) -> CallResult {
     let [file] = arguments else {
         return Ok(None);
     };
@@ -133,7 +133,7 @@ fn ran_by(alloc: Global, mode: &Mode, bytes: &[u8], at_once: usize) -> Result<St
 }
 
 /// What `run` leaves, however many bytes are read at once.
-fn ran(alloc: Global, mode: &Mode, input: &[u8]) -> Answer {
+fn ran(alloc: Global, mode: &Mode, input: &[u8]) -> CallResult {
     let whole = ran_by(alloc, mode, input, usize::MAX)?;
     for count in at_once(input, &[1]) {
         let text = ran_by(alloc, mode, input, *count)?;
@@ -145,7 +145,7 @@ fn ran(alloc: Global, mode: &Mode, input: &[u8]) -> Answer {
 }
 
 /// A text with its parts, or why there are none.
-fn parts_text(alloc: Global, marked: Result<writeable::PartsText, TextError>) -> Answer {
+fn parts_text(alloc: Global, marked: Result<writeable::PartsText, TextError>) -> CallResult {
     match marked {
         Ok(text) => Ok(Some(parts::spelled(alloc, &text)?)),
         Err(error) => not_written(alloc, error),
@@ -153,7 +153,7 @@ fn parts_text(alloc: Global, marked: Result<writeable::PartsText, TextError>) ->
 }
 
 /// What a mode shows for the decimal of a text, with its parts.
-fn shown(alloc: Global, mode: &Mode, text: &[u8]) -> Answer {
+fn shown(alloc: Global, mode: &Mode, text: &[u8]) -> CallResult {
     match read_decimal(alloc, text) {
         Ok(decimal) => parts_text(alloc, mark_shown(alloc, mode, &decimal)),
         Err(error) => not_written(alloc, error),
@@ -161,7 +161,7 @@ fn shown(alloc: Global, mode: &Mode, text: &[u8]) -> Answer {
 }
 
 /// What a mode answers.
-fn answer_of(alloc: Global, mode: &Mode, question: Question<'_>) -> Answer {
+fn result_of(alloc: Global, mode: &Mode, question: Question<'_>) -> CallResult {
     match question {
         Question::Made => Ok(Some(String::from_str(alloc, "made")?)),
         Question::Run(input) => ran(alloc, mode, &bytes_of(alloc, input)?),
@@ -174,16 +174,16 @@ fn answer_of(alloc: Global, mode: &Mode, question: Question<'_>) -> Answer {
 }
 
 /// What a mode answers, or why there is none.
-fn by_mode(alloc: Global, made: &Result<Mode, StartError>, question: Question<'_>) -> Answer {
+fn by_mode(alloc: Global, made: &Result<Mode, StartError>, question: Question<'_>) -> CallResult {
     match made {
-        Ok(mode) => answer_of(alloc, mode, question),
+        Ok(mode) => result_of(alloc, mode, question),
         Err(StartError::OutOfMemory) => Err(AllocError),
         Err(error) => Ok(Some(format!(in alloc; "{error:?}")?)),
     }
 }
 
 /// What the mode of words and of a file answers.
-fn by_words(alloc: Global, words: &[&str], file: &[u8], question: Question<'_>) -> Answer {
+fn by_words(alloc: Global, words: &[&str], file: &[u8], question: Question<'_>) -> CallResult {
     match parse_words(words) {
         Some(words) => by_mode(alloc, &Mode::make(alloc, &words, file), question),
         None => Ok(None),
@@ -196,7 +196,7 @@ fn by_texts(
     documents: &Documents,
     words: &[String],
     question: Question<'_>,
-) -> Answer {
+) -> CallResult {
     let Some(file) = words.first() else {
         return by_mode(alloc, &Mode::english(alloc), question);
     };
@@ -222,7 +222,12 @@ fn question_by<'a>(call: &str, words: &'a [String]) -> Option<(Question<'a>, &'a
 }
 
 /// What a call answers that asks a mode, whose words stand behind the other arguments.
-fn asked_of_mode(alloc: Global, documents: &Documents, call: &str, arguments: &[String]) -> Answer {
+fn asked_of_mode(
+    alloc: Global,
+    documents: &Documents,
+    call: &str,
+    arguments: &[String],
+) -> CallResult {
     if call == "make_mode" {
         return by_texts(alloc, documents, arguments, Question::Made);
     }
@@ -233,7 +238,7 @@ fn asked_of_mode(alloc: Global, documents: &Documents, call: &str, arguments: &[
 }
 
 /// The text of the fault that two words name.
-fn fault_text(alloc: Global, arguments: &[String]) -> Answer {
+fn fault_text(alloc: Global, arguments: &[String]) -> CallResult {
     match arguments {
         [kind, name] => displayed(alloc, kind.as_str(), name.as_str()),
         _ => Ok(None),
@@ -241,14 +246,14 @@ fn fault_text(alloc: Global, arguments: &[String]) -> Answer {
 }
 
 /// What a call answers whose arguments are words alone.
-pub(crate) fn answer(
+pub(crate) fn returned(
     alloc: Global,
     documents: &Documents,
     call: &str,
     arguments: &[String],
-) -> Answer {
+) -> CallResult {
     if call.starts_with("push_") {
-        return pieces::answer(alloc, call, arguments);
+        return pieces::returned(alloc, call, arguments);
     }
     match call {
         "parse_words" => words_text(alloc, arguments),

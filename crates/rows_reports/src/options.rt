@@ -1,6 +1,6 @@
 //! What options ask for.
 
-use crate::Answer;
+use crate::CallResult;
 use crate::bytes::{push_behind, text_if};
 use crate::faults::no_options;
 use crate::words::{Pair, environment_of, given};
@@ -185,7 +185,7 @@ pub(crate) fn parsed<'a>(
     alloc: Global,
     variables: &'a [String],
     options: &'a [Pair<'a>],
-) -> Answer {
+) -> CallResult {
     let Some(environment) = environment_of(variables) else {
         return Ok(None);
     };

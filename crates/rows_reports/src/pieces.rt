@@ -1,6 +1,6 @@
 //! Calls of `locnum_explain` for lines of explanations, and of `locnum_forms` for texts in notes.
 
-use crate::Answer;
+use crate::CallResult;
 use crate::bytes::{appended, bytes_of};
 use fixed_decimal::{Decimal, DecimalError};
 use icu_decimal::provider::CompactPatterns;
@@ -59,14 +59,14 @@ fn decimal_of(alloc: Global, text: &str) -> Result<Option<Decimal>, AllocError> 
 }
 
 /// What `push_parts` appends for parts.
-fn lines_of(alloc: Global, width: usize, text: &str, parts: &[(usize, usize, Part)]) -> Answer {
+fn lines_of(alloc: Global, width: usize, text: &str, parts: &[(usize, usize, Part)]) -> CallResult {
     let mut out = Vec::from_slice(alloc, b">")?;
     push_parts(width, text, parts, &mut out)?;
     Ok(Some(appended(alloc, &out)?))
 }
 
 /// What `push_parts` appends.
-fn parts_lines(alloc: Global, width: &str, text: &str, parts: &[String]) -> Answer {
+fn parts_lines(alloc: Global, width: &str, text: &str, parts: &[String]) -> CallResult {
     let Ok(width) = width.parse() else {
         return Ok(None);
     };
@@ -79,7 +79,7 @@ fn parts_lines(alloc: Global, width: &str, text: &str, parts: &[String]) -> Answ
 }
 
 /// What `push_magnitude` appends.
-fn magnitude_line(alloc: Global, number: &str) -> Answer {
+fn magnitude_line(alloc: Global, number: &str) -> CallResult {
     let Some(decimal) = decimal_of(alloc, number)? else {
         return Ok(None);
     };
@@ -89,7 +89,7 @@ fn magnitude_line(alloc: Global, number: &str) -> Answer {
 }
 
 /// What `push_operands` appends for a decimal.
-fn operands_by(alloc: Global, rules: &PluralRules, decimal: &Decimal) -> Answer {
+fn operands_by(alloc: Global, rules: &PluralRules, decimal: &Decimal) -> CallResult {
     let mut out = Vec::from_slice(alloc, b">")?;
     push_operands(rules, &decimal.absolute, &mut out)?;
     Ok(Some(appended(alloc, &out)?))
@@ -97,7 +97,7 @@ fn operands_by(alloc: Global, rules: &PluralRules, decimal: &Decimal) -> Answer 
 
 /// What `push_operands` appends for a decimal by rules with one condition, that of the category
 /// `one`.
-fn operands_of(alloc: Global, condition: &str, decimal: &Decimal) -> Answer {
+fn operands_of(alloc: Global, condition: &str, decimal: &Decimal) -> CallResult {
     match PluralRules::from_rules(alloc, &[(PluralCategory::One, condition)]) {
         Ok(rules) => operands_by(alloc, &rules, decimal),
         Err(_) => Err(AllocError),
@@ -105,7 +105,7 @@ fn operands_of(alloc: Global, condition: &str, decimal: &Decimal) -> Answer {
 }
 
 /// What `push_operands` appends by rules with one condition.
-fn operands_line(alloc: Global, condition: &str, number: &str) -> Answer {
+fn operands_line(alloc: Global, condition: &str, number: &str) -> CallResult {
     match decimal_of(alloc, number)? {
         Some(decimal) => operands_of(alloc, condition, &decimal),
         None => Ok(None),
@@ -113,13 +113,16 @@ fn operands_line(alloc: Global, condition: &str, number: &str) -> Answer {
 }
 
 /// What `push_pattern` appends for a literal with a number at this byte, or with none.
-fn pattern_line(alloc: Global, place: &str, literal: &str) -> Answer {
-    let place = if place == "none" {
+fn pattern_line(alloc: Global, placeholder: &str, literal: &str) -> CallResult {
+    let placeholder = if placeholder == "none" {
         None
     } else {
-        place.parse().ok()
+        placeholder.parse().ok()
     };
-    let pattern: PatternRef<'_, SinglePlaceholder> = match PatternRef::try_new(place, literal) {
+    let pattern: PatternRef<'_, SinglePlaceholder> = match PatternRef::try_new(
+        placeholder,
+        literal,
+    ) {
         Ok(pattern) => pattern,
         Err(_) => return Ok(None),
     };
@@ -129,14 +132,18 @@ fn pattern_line(alloc: Global, place: &str, literal: &str) -> Answer {
 }
 
 /// What `push_entry` appends for a magnitude.
-fn entry_of(alloc: Global, table: &CompactPatterns<SinglePlaceholder>, magnitude: i32) -> Answer {
+fn entry_of(
+    alloc: Global,
+    table: &CompactPatterns<SinglePlaceholder>,
+    magnitude: i32,
+) -> CallResult {
     let mut out = Vec::from_slice(alloc, b">")?;
     push_entry(table, magnitude, &mut out)?;
     Ok(Some(appended(alloc, &out)?))
 }
 
 /// What `push_entry` appends by a table without entries.
-fn entry_line(alloc: Global, magnitude: &str) -> Answer {
+fn entry_line(alloc: Global, magnitude: &str) -> CallResult {
     let Ok(magnitude) = magnitude.parse() else {
         return Ok(None);
     };
@@ -147,14 +154,14 @@ fn entry_line(alloc: Global, magnitude: &str) -> Answer {
 }
 
 /// What `push_around` appends for a decimal.
-fn around(alloc: Global, power: i32, decimal: &Decimal) -> Answer {
+fn around(alloc: Global, power: i32, decimal: &Decimal) -> CallResult {
     let mut out = Vec::from_slice(alloc, b">")?;
     push_around(alloc, power, &decimal.absolute, &mut out)?;
     Ok(Some(appended(alloc, &out)?))
 }
 
 /// What `push_around` appends.
-fn around_line(alloc: Global, power: &str, number: &str) -> Answer {
+fn around_line(alloc: Global, power: &str, number: &str) -> CallResult {
     let Ok(power) = power.parse() else {
         return Ok(None);
     };
@@ -165,14 +172,14 @@ fn around_line(alloc: Global, power: &str, number: &str) -> Answer {
 }
 
 /// What `push_reported` appends.
-fn reported(alloc: Global, text: &str) -> Answer {
+fn reported(alloc: Global, text: &str) -> CallResult {
     let mut out = Vec::from_slice(alloc, b">")?;
     push_reported(&bytes_of(alloc, text)?, &mut out)?;
     Ok(Some(appended(alloc, &out)?))
 }
 
 /// What a call of a piece of an explanation answers for one word.
-fn answer_by_one(alloc: Global, call: &str, word: &str) -> Answer {
+fn result_by_one(alloc: Global, call: &str, word: &str) -> CallResult {
     match call {
         "push_magnitude" => magnitude_line(alloc, word),
         "push_entry" => entry_line(alloc, word),
@@ -182,7 +189,7 @@ fn answer_by_one(alloc: Global, call: &str, word: &str) -> Answer {
 }
 
 /// What a call of a piece of an explanation answers for two words.
-fn answer_by_two(alloc: Global, call: &str, first: &str, second: &str) -> Answer {
+fn result_by_two(alloc: Global, call: &str, first: &str, second: &str) -> CallResult {
     match call {
         "push_operands" => operands_line(alloc, first, second),
         "push_pattern" => pattern_line(alloc, first, second),
@@ -192,13 +199,13 @@ fn answer_by_two(alloc: Global, call: &str, first: &str, second: &str) -> Answer
 }
 
 /// What a call of a piece of an explanation answers.
-pub(crate) fn answer(alloc: Global, call: &str, arguments: &[String]) -> Answer {
+pub(crate) fn returned(alloc: Global, call: &str, arguments: &[String]) -> CallResult {
     match arguments {
         [width, text, parts @ ..] if call == "push_parts" => {
             parts_lines(alloc, width.as_str(), text.as_str(), parts)
         }
-        [word] => answer_by_one(alloc, call, word.as_str()),
-        [first, second] => answer_by_two(alloc, call, first.as_str(), second.as_str()),
+        [word] => result_by_one(alloc, call, word.as_str()),
+        [first, second] => result_by_two(alloc, call, first.as_str(), second.as_str()),
         _ => Ok(None),
     }
 }

@@ -1,10 +1,10 @@
 //! Calls of `locnum_lines` for a caller that cuts an input itself.
 
-use crate::Answer;
+use crate::CallResult;
 use crate::bytes::{bytes_of, push_behind, push_text, text_if, text_of};
 use crate::options::settings_of;
 use crate::words::Pair;
-use locnum_lines::{FoundNumber, LineSettings, NumberFinder, RecordPlace, behind_mark};
+use locnum_lines::{FoundNumber, LineSettings, NumberFinder, RecordState, behind_mark};
 use std::alloc::{AllocError, Global};
 
 /// How many numbers are listed at most.
@@ -12,7 +12,7 @@ const MOST_LISTED: usize = 20;
 
 /// Appends a number and where it stands.
 fn push_number(number: &FoundNumber, text: &mut String) -> Result<(), AllocError> {
-    push_text(&number.place, text)?;
+    push_text(&number.position, text)?;
     text.push_str(": ")?;
     push_text(&number.text, text)?;
     text.push_str(" | ")
@@ -82,7 +82,7 @@ fn push_end(alloc: Global, finder: &NumberFinder, text: &mut String) -> Result<(
 }
 
 /// The numbers that `NumberFinder::find` finds in records, and what it leaves.
-fn found(alloc: Global, settings: &LineSettings, records: &[String]) -> Answer {
+fn found(alloc: Global, settings: &LineSettings, records: &[String]) -> CallResult {
     let mut finder = NumberFinder::new(alloc, settings);
     let mut text = String::new(alloc);
     push_records(alloc, settings, records, &mut finder, &mut text)?;
@@ -91,23 +91,23 @@ fn found(alloc: Global, settings: &LineSettings, records: &[String]) -> Answer {
 }
 
 /// Whether quotes are open behind pieces of a record.
-fn open_behind(alloc: Global, settings: &LineSettings, pieces: &[String]) -> Answer {
-    let mut place = RecordPlace::new();
+fn open_behind(alloc: Global, settings: &LineSettings, pieces: &[String]) -> CallResult {
+    let mut state = RecordState::new();
     for piece in pieces {
-        place.pass(settings, &bytes_of(alloc, piece.as_str())?);
+        state.pass(settings, &bytes_of(alloc, piece.as_str())?);
     }
-    let answer = if place.is_open() { "open" } else { "closed" };
-    Ok(Some(String::from_str(alloc, answer)?))
+    let returned = if state.is_open() { "open" } else { "closed" };
+    Ok(Some(String::from_str(alloc, returned)?))
 }
 
 /// What stands behind the mark of an input.
-fn behind(alloc: Global, settings: &LineSettings, text: &str) -> Answer {
+fn behind(alloc: Global, settings: &LineSettings, text: &str) -> CallResult {
     let bytes = bytes_of(alloc, text)?;
     Ok(Some(text_of(alloc, behind_mark(settings.source, &bytes))?))
 }
 
 /// What a call answers by settings.
-fn by_settings(alloc: Global, call: &str, words: &[String], settings: &LineSettings) -> Answer {
+fn by_settings(alloc: Global, call: &str, words: &[String], settings: &LineSettings) -> CallResult {
     match call {
         "find" => found(alloc, settings, words),
         "is_open" => open_behind(alloc, settings, words),
@@ -120,12 +120,12 @@ fn by_settings(alloc: Global, call: &str, words: &[String], settings: &LineSetti
 }
 
 /// What a call answers whose arguments end in options.
-pub(crate) fn answer<'a>(
+pub(crate) fn returned<'a>(
     alloc: Global,
     call: &str,
     words: &[String],
     options: &'a [Pair<'a>],
-) -> Answer {
+) -> CallResult {
     match settings_of(alloc, options)? {
         Some(settings) => by_settings(alloc, call, words, &settings.lines),
         None => Ok(None),

@@ -1,6 +1,6 @@
 //! Calls of `decimal_lines` that fill a room.
 
-use crate::Answer;
+use crate::CallResult;
 use crate::bytes::{bytes_of, text_of};
 use crate::faults::not_written;
 use decimal_lines::{FillError, Mode, format_lines, format_some, format_text};
@@ -48,13 +48,13 @@ fn outcome_name(outcome: Result<(), FillError>) -> Result<&'static str, AllocErr
 }
 
 /// An outcome, and what the room holds then.
-fn with_room(alloc: Global, outcome: &str, room: &[u8]) -> Answer {
+fn with_room(alloc: Global, outcome: &str, room: &[u8]) -> CallResult {
     let room = text_of(alloc, room)?;
     Ok(Some(format!(in alloc; "{outcome} | '{room}'")?))
 }
 
 /// What `format_text` answers, and what the room holds then.
-fn by_text(alloc: Global, mode: &Mode, text: &[u8], room: &mut [u8]) -> Answer {
+fn by_text(alloc: Global, mode: &Mode, text: &[u8], room: &mut [u8]) -> CallResult {
     match format_text(alloc, mode, text, room) {
         Ok(count) => with_room(alloc, format!(in alloc; "{count}")?.as_str(), room),
         Err(error) => match not_written(alloc, error)? {
@@ -65,7 +65,7 @@ fn by_text(alloc: Global, mode: &Mode, text: &[u8], room: &mut [u8]) -> Answer {
 }
 
 /// What `format_lines` answers, and what the room holds then.
-fn by_lines(alloc: Global, mode: &Mode, input: &[u8], room: &mut [u8]) -> Answer {
+fn by_lines(alloc: Global, mode: &Mode, input: &[u8], room: &mut [u8]) -> CallResult {
     let filled = format_lines(alloc, mode, input, room);
     let outcome = outcome_name(filled.outcome)?;
     let written = filled.written;
@@ -74,7 +74,7 @@ fn by_lines(alloc: Global, mode: &Mode, input: &[u8], room: &mut [u8]) -> Answer
 }
 
 /// What `format_some` answers, and what the room holds then.
-fn by_some(alloc: Global, mode: &Mode, input: &[u8], room: &mut [u8]) -> Answer {
+fn by_some(alloc: Global, mode: &Mode, input: &[u8], room: &mut [u8]) -> CallResult {
     let progress = format_some(alloc, mode, input, room);
     let outcome = outcome_name(progress.outcome)?;
     let consumed = progress.consumed;
@@ -87,7 +87,7 @@ fn by_some(alloc: Global, mode: &Mode, input: &[u8], room: &mut [u8]) -> Answer 
 }
 
 /// What a call answers that fills a room, and what the room holds then; before it holds `x`.
-pub(crate) fn filled(alloc: Global, mode: &Mode, filling: Filling<'_>) -> Answer {
+pub(crate) fn filled(alloc: Global, mode: &Mode, filling: Filling<'_>) -> CallResult {
     let input = bytes_of(alloc, filling.input)?;
     let mut room = Vec::from_elem(alloc, b'x', filling.room)?;
     match filling.by {

@@ -3,7 +3,7 @@ use Rattle.std.proofs.Common.{◌≡◌, ℕ, Bool, true, false, List, [], Ok, E
 use Rattle.std.specs.Prelude.{Option, Result, if◌then◌else◌}
 use Rattle.std.specs.Str.{IsUtf8, is_utf8}
 use Rattle.std.proofs.lemmas.Str.{IsUtf8-from_is_utf8}
-use Rattle.decimal_lines.specs.LineAnswers.{answer_to}
+use Rattle.decimal_lines.specs.LineResults.{text_result}
 use Rattle.decimal_lines.specs.ModeOfTables.{Stops, mode_of}
 use Rattle.decimal_lines.specs.Words.{WordsData}
 use Rattle.decimal_lines.specs.declared.mode.Mode.{Mode}
@@ -25,7 +25,7 @@ unstarted mode input old = record {
     rest = input;
     are_whole = inl refl;
     parts = refl;
-    filled = rw (output_of-nothing (answer_to mode)) (record { bytes = refl; count = refl; within = omega arith });
+    filled = rw (output_of-nothing (text_result mode)) (record { bytes = refl; count = refl; within = omega arith });
   };
   too_small = λ e. absurd (omega arith);
   full = λ e. absurd (omega arith);

@@ -1,6 +1,6 @@
 -- What a call from C leaves, by its status.
 use Rattle.std.specs.Prelude.{◌≡◌, ℕ, ◌<◌, ◌⊎◌, List, length, Option, Some, None, Result, Ok, Err}
-use Rattle.decimal_lines.specs.LineAnswers.{answer_to}
+use Rattle.decimal_lines.specs.LineResults.{text_result}
 use Rattle.decimal_lines.specs.Filled.{HasRoomLeft, HoldsAllThatFit, HoldsWholeLines, IsFilled}
 use Rattle.decimal_lines.specs.Lines.{output_of}
 use Rattle.decimal_lines.specs.Words.{WordsData}
@@ -38,11 +38,11 @@ status_of start.OutOfMemory = out_of_memory
 -- the whole and the next line's is longer than there is room. Out of memory is reported before the first line, or where a line
 -- and some room are left.
 pub record IsFormatted (mode : Mode) (input old new : List ℕ) (written status : ℕ) : Type 0 where
-  pub whole : status ≡ done → IsFilled old new (output_of (answer_to mode) input) written
-  pub stopped : ¬ (status ≡ done) → HoldsWholeLines (answer_to mode) input old new written
-  pub too_small : status ≡ output_too_small → length old < length (output_of (answer_to mode) input)
-  pub full : status ≡ output_too_small → HoldsAllThatFit (answer_to mode) input old new written
-  pub memory : status ≡ out_of_memory → (written ≡ 0) ⊎ HasRoomLeft (answer_to mode) input old new written
+  pub whole : status ≡ done → IsFilled old new (output_of (text_result mode) input) written
+  pub stopped : ¬ (status ≡ done) → HoldsWholeLines (text_result mode) input old new written
+  pub too_small : status ≡ output_too_small → length old < length (output_of (text_result mode) input)
+  pub full : status ≡ output_too_small → HoldsAllThatFit (text_result mode) input old new written
+  pub memory : status ≡ out_of_memory → (written ≡ 0) ⊎ HasRoomLeft (text_result mode) input old new written
   pub known : (status ≡ done) ⊎ ((status ≡ out_of_memory) ⊎ (status ≡ output_too_small))
 
 -- nothing is written

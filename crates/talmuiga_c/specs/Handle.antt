@@ -28,7 +28,7 @@ abbrev pub lent_shares : Ptr → Mode → Lft → Fml
 lent_shares p mode κ = lent_at the_row p mode κ
 
 -- what the pointer owns: nothing while its mode is lent, room, or a mode
-abbrev pub place_owns : Ptr → Option (Option Mode) → Fml
-place_owns p None = ftrue
-place_owns p (Some None) = room_at the_row p
-place_owns p (Some (Some mode)) = lent_owns p mode
+abbrev pub room_owns : Ptr → Option (Option Mode) → Fml
+room_owns p None = ftrue
+room_owns p (Some None) = room_at the_row p
+room_owns p (Some (Some mode)) = lent_owns p mode

@@ -1,8 +1,8 @@
 -- What calls with a formatter leave, by their status.
 use Rattle.std.specs.Prelude.{◌≡◌, ℕ, ◌<◌, ◌≤◌, ◌⊎◌, List, length, Option, Some, None, Result, Ok, Err}
-use Rattle.decimal_lines.specs.SingleText.{HoldsShown, events_of}
-use Rattle.decimal_lines.specs.LineAnswers.{answer_to}
-use Rattle.decimal_lines.specs.Progress.{AnswersFirst, NextNeeds}
+use Rattle.decimal_lines.specs.SingleText.{HoldsEvents, events_of}
+use Rattle.decimal_lines.specs.LineResults.{text_result}
+use Rattle.decimal_lines.specs.Progress.{WritesFirst, NextNeeds}
 use Rattle.decimal_lines.specs.Words.{WordsData}
 use Rattle.decimal_lines.specs.declared.single_text.TextError.{TextError}
 use Rattle.decimal_lines.specs.declared.single_text.TextError.TheVariants as refusal
@@ -41,17 +41,17 @@ Opens (Some words) tables held status = OpensIn (mode_asked words tables) held s
 
 -- How far an input is answered: what is written is the output of what is consumed. Done, that is all of it; else a line is
 -- left, because memory ran out, or since there is no room for its answer, whose length is returned.
-pub record IsAnsweredSoFar (mode : Mode) (input old new : List ℕ) (consumed written needed status : ℕ) : Type 0 where
-  pub holds : AnswersFirst (answer_to mode) input old new consumed written
+pub record IsWrittenSoFar (mode : Mode) (input old new : List ℕ) (consumed written needed status : ℕ) : Type 0 where
+  pub holds : WritesFirst (text_result mode) input old new consumed written
   pub whole : status ≡ done → consumed ≡ length input
   pub stopped : ¬ (status ≡ done) → consumed < length input
-  pub too_small : status ≡ output_too_small → NextNeeds (answer_to mode) input old consumed written needed
+  pub too_small : status ≡ output_too_small → NextNeeds (text_result mode) input old consumed written needed
   pub unneeded : ¬ (status ≡ output_too_small) → needed ≡ 0
   pub known : (status ≡ done) ⊎ ((status ≡ out_of_memory) ⊎ (status ≡ output_too_small))
 
 -- a text is shown: its length is returned, and it is written where it has room
 pub record IsWritten (mode : Mode) (text old new : List ℕ) (n status : ℕ) : Type 0 where
-  pub holds : HoldsShown (events_of mode text) old new n
+  pub holds : HoldsEvents (events_of mode text) old new n
   pub fits : n ≤ length old → status ≡ done
   pub too_long : length old < n → status ≡ output_too_small
 

@@ -4,7 +4,7 @@ use Rattle.std.specs.Prelude.{List, ◌++◌, length, drop, map, codes}
 use Rattle.std.specs.Cmp.Lexicographic.{pointwise}
 use Rattle.writeable.specs.Events.{Event}
 use Rattle.writeable.specs.Spans as writeable
-use Rattle.decimal_lines.specs.SingleText.{HoldsShown, events_of}
+use Rattle.decimal_lines.specs.SingleText.{HoldsEvents, events_of}
 use Rattle.decimal_lines.specs.declared.single_text.TextError.{TextError}
 use Rattle.decimal_lines.specs.declared.mode.Mode.{Mode}
 use Rattle.talmuiga_c.specs.Endings.{done, output_too_small}
@@ -39,7 +39,7 @@ HoldsParts (Err error) old new n = ⊥
 
 -- a text is shown with its parts: how long it is and how many these are is returned, and each is written where it has room
 pub record IsWrittenInParts (mode : Mode) (text old new : List ℕ) (n : ℕ) (old_spans new_spans : List Span) (m status : ℕ) : Type 0 where
-  pub holds : HoldsShown (events_of mode text) old new n
+  pub holds : HoldsEvents (events_of mode text) old new n
   pub parts : HoldsParts (events_of mode text) old_spans new_spans m
   pub fits : n ≤ length old → m ≤ length old_spans → status ≡ done
   pub too_long : length old < n → status ≡ output_too_small

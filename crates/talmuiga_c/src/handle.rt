@@ -3,7 +3,7 @@
 
 ghost use Rattle.std.specs.Prelude.{◌≡◌, Option};
 ghost use Rattle.decimal_lines.specs.declared.mode.Mode.{Mode};
-ghost use Rattle.talmuiga_c.specs.Handle.{away, empty, holding, lent_owns, lent_shares, place_owns};
+ghost use Rattle.talmuiga_c.specs.Handle.{away, empty, holding, lent_owns, lent_shares, room_owns};
 
 use decimal_lines::Mode;
 use std::marker::Model;
@@ -18,7 +18,7 @@ pub struct Formatter {
 }
 
 impl Model for Formatter {
-    ghost also_owns = { λ f. place_owns f.at f.held };
+    ghost also_owns = { λ f. room_owns f.at f.held };
 }
 
 impl Formatter {

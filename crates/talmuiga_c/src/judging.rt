@@ -5,7 +5,7 @@ ghost use Rattle.talmuiga_c.specs.Faults.{IsJudged};
 use crate::output::put_text;
 use crate::status;
 use decimal_lines::{TablesFault, judge_tables};
-use icu_tables::TableError;
+use icu_table_entries::TableError;
 use std::alloc::Global;
 
 /// Judges the bytes of a file of tables, and writes why they are rejected, if that fits; sets the

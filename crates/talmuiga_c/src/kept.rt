@@ -3,7 +3,7 @@
 ghost use Rattle.std.specs.Prelude.{◌≡◌};
 ghost use Rattle.talmuiga_c.specs.Asked.{mode_asked};
 ghost use Rattle.talmuiga_c.specs.Handle.{empty};
-ghost use Rattle.talmuiga_c.specs.Kept.{IsAnsweredSoFar, IsShown, OpensIn};
+ghost use Rattle.talmuiga_c.specs.Kept.{IsWrittenSoFar, IsShown, OpensIn};
 
 use crate::handle::Formatter;
 use crate::status::{self, status_of, text_status};
@@ -44,7 +44,7 @@ pub fn format_lines_in(
     output: &mut [u8],
     reached: &mut Reached,
 ) -> u32
-    ensures { IsAnsweredSoFar mode.now input.now output.old output.new reached.new.consumed
+    ensures { IsWrittenSoFar mode.now input.now output.old output.new reached.new.consumed
         reached.new.written reached.new.needed result }
 {
     let progress = format_some(alloc, mode, input, output);

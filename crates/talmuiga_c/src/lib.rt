@@ -19,7 +19,7 @@ ghost use Rattle.talmuiga_c.specs.Asked.{words_asked};
 ghost use Rattle.talmuiga_c.specs.Endings.{Ends, IsFormatted};
 ghost use Rattle.talmuiga_c.specs.Faults.{IsJudged};
 ghost use Rattle.talmuiga_c.specs.Handle.{empty, holding};
-ghost use Rattle.talmuiga_c.specs.Kept.{IsAnsweredSoFar, IsShown, Opens, OpensIn, version};
+ghost use Rattle.talmuiga_c.specs.Kept.{IsWrittenSoFar, IsShown, Opens, OpensIn, version};
 ghost use Rattle.talmuiga_c.specs.Marked.{IsShownInParts};
 ghost use Rattle.std.specs.Prelude.{◌≡◌, Ok};
 ghost use Rattle.std.specs.Mem.{type_size};
@@ -147,7 +147,7 @@ pub extern "C" fn talmuiga_formatter_format_sized(
 ) -> u32
     ghost mode: { Mode }
     requires open { formatter.old.held ≡ holding mode }
-    ensures answered { IsAnsweredSoFar mode input.now output.old output.new reached.new.consumed
+    ensures written { IsWrittenSoFar mode input.now output.old output.new reached.new.consumed
         reached.new.written reached.new.needed result }
     ensures handed_back { formatter.new.held ≡ holding mode }
 {

@@ -11,15 +11,15 @@ use Rattle.test_callers.specs.OneSize.{ShowOneSize}
 
 -- a significand times ten to its exponent is what is shown
 scaled : (f : CompactFormat) (s : Sign) (c x : Unsigned) (m : ℕ) (es : List Event) (h : IsCompactFormat f s c x m es) → size x * 10 ^ m ≡ h.shown
-scaled f s c x m es h = ap (λ e. size x * 10 ^ e) h.exponent_is ∙ h.displayed.scaled
+scaled f s c x m es h = ap (λ e. size x * 10 ^ e) h.exponent_is ∙ h.decomposed.scaled
 
 -- one shown size is the nearest of both
 pub of_shown : (f : CompactFormat) (s t : Sign) (c d x y : Unsigned) (m n : ℕ) (es fs : List Event)
     → (first : IsCompactFormat f s c x m es) (second : IsCompactFormat f t d y n fs) → first.shown ≡ second.shown → ShowOneSize f (size c) (size d)
 of_shown f s t c d x y m n es fs first second same = record {
   shown = first.shown;
-  of_one = first.displayed.nearest;
-  of_other = subst (λ (z : ℕ). IsNearestCompact f.table (size d) z) (sym same) second.displayed.nearest;
+  of_one = first.decomposed.nearest;
+  of_other = subst (λ (z : ℕ). IsNearestCompact f.table (size d) z) (sym same) second.decomposed.nearest;
 }
 
 -- so where significands and exponents are the same, one size is nearest to both
@@ -35,5 +35,5 @@ pub shown_same : (f : CompactFormat) (s t : Sign) (c d x y : Unsigned) (m n : �
 shown_same f s t c d x y m n es fs once first second both =
     let one = once f.table (size c) in
     let other = once f.table (size d) in
-    one.2 first.shown first.displayed.nearest ∙ sym (one.2 both.shown both.of_one)
-    ∙ other.2 both.shown both.of_other ∙ sym (other.2 second.shown second.displayed.nearest)
+    one.2 first.shown first.decomposed.nearest ∙ sym (one.2 both.shown both.of_one)
+    ∙ other.2 both.shown both.of_other ∙ sym (other.2 second.shown second.decomposed.nearest)

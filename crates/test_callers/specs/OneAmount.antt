@@ -8,7 +8,7 @@ use Rattle.icu_decimal_readable.specs.Readable.{IsReadable}
 use Rattle.icu_dimension_data.specs.Patterns.{PatternText}
 use Rattle.icu_dimension_data.specs.Resolved.{Texts, resolved}
 use Rattle.icu_dimension.specs.Money.{SignedFormat}
-use Rattle.icu_dimension.specs.MoneySymbol.{IsToldSymbol, TellsSymbols, with_symbol}
+use Rattle.icu_dimension.specs.MoneySymbol.{IsDistinctSymbol, TellsSymbols, with_symbol}
 
 -- money of a currency in a pattern, with the signs of these texts
 abbrev pub money_of : DecimalFormat → PatternText → Texts → List ℕ → SignedFormat DecimalFormat
@@ -18,8 +18,8 @@ money_of f p texts currency = record { formatter = f; patterns = resolved f.digi
 pub record TellsBoth (f : DecimalFormat) (marks : List ℕ) (p : PatternText) (texts : Texts) (one other : List ℕ) : Type 0 where
   pub readable : IsReadable f.symbols.strings f.digits
   pub tells : TellsSymbols f.digits marks p texts
-  pub one_told : IsToldSymbol f.digits marks one
-  pub other_told : IsToldSymbol f.digits marks other
+  pub one_told : IsDistinctSymbol f.digits marks one
+  pub other_told : IsDistinctSymbol f.digits marks other
   pub one_text : IsUtf8 one
   pub other_text : IsUtf8 other
 

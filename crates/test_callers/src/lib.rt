@@ -1,4 +1,4 @@
-//! The tests that are no rows: sinks, readers and writers that fail, providers of a test's own,
+//! The tests that are no rows: texts with parts, sinks, readers and writers that fail, providers of a test's own,
 //! callers of the laws, values under a width and a fill. The library itself offers nothing. The rows
 //! are in `rows_numbers`, `rows_formats` and `rows_reports`.
 //!
@@ -6,6 +6,8 @@
 //! memory, and the same call then gives its usual answer.
 #![tactic(auto)]
 
+#[cfg(test)]
+mod annotated;
 #[cfg(test)]
 mod decimal;
 #[cfg(test)]

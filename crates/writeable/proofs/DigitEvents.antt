@@ -14,7 +14,7 @@ pub digit_events-drop : (characters digits : List ℕ) (i : ℕ) → i < length 
 digit_events-drop characters digits i h = rw (drop_more digits i 0 h) refl
 
 -- the digits up to an index, with the one at it, are those before it and this one
-text_of-digits_more : (characters digits : List ℕ) (i : ℕ) → i < length digits →
+pub text_of-digits_more : (characters digits : List ℕ) (i : ℕ) → i < length digits →
     text_of (digit_events characters (take (i + 1) digits)) ≡ text_of (digit_events characters (take i digits))
     ++ encode_utf8 (get_or characters (get_or digits i 0) 0)
 text_of-digits_more characters digits i h =
@@ -67,6 +67,11 @@ pub one_byte : (bytes : List ℕ) → length bytes ≡ 1 → bytes ≡ get_or by
 one_byte [] e = absurd (omega arith)
 one_byte (b ∷ []) e = refl
 one_byte (b ∷ c ∷ bytes) e = absurd (omega arith)
+
+-- the text of one ASCII character is its byte
+pub one_ascii_byte : (bytes : List ℕ) → length bytes ≡ 1 → get_or bytes 0 0 < 128 → text_of (Char (get_or bytes 0 0) ∷ []) ≡ bytes
+one_ascii_byte bytes one small =
+    append-nil (encode_utf8 (get_or bytes 0 0)) ∙ encode_ascii (get_or bytes 0 0) small ∙ sym (one_byte bytes one)
 
 -- the first of four digits, three at most, are written by their characters, each one byte
 few_bytes : (characters digits : List ℕ) (n : ℕ) → 4 ≤ length digits → n ≤ 3 →

@@ -7,3 +7,5 @@ pub mod DigitEvents
 pub mod Groupings
 pub mod GroupSteps
 pub mod GroupTexts
+pub mod Utf8Texts
+pub mod WideDigits

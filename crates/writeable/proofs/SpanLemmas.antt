@@ -64,9 +64,9 @@ spans_from-only_chars at [] = refl
 spans_from-only_chars at (c ∷ cs) = spans_from-only_chars (at + length (encode_utf8 c)) cs
 
 -- the characters before a mark end at the byte of the mark
-place_of_mark : (from : ℕ) (text : List ℕ) (m : Mark) (ms : List Mark) → AreMarks from text (m ∷ ms) →
+offset_of_mark : (from : ℕ) (text : List ℕ) (m : Mark) (ms : List Mark) → AreMarks from text (m ∷ ms) →
     from + length (encode_utf8_all (chars (take (mark_at m - from) text))) ≡ mark_at m
-place_of_mark from text m ms h =
+offset_of_mark from text m ms h =
     let piece : List ℕ = take (mark_at m - from) text in
     let size : length (encode_utf8_all (chars piece)) ≡ mark_at m - from =
     ap length (encodes-chars piece h.2) ∙ length-take-le (mark_at m - from) text h.1 in
@@ -77,11 +77,11 @@ event_closes-marked : (from : ℕ) (text : List ℕ) (ms : List Mark) → AreMar
 event_closes-marked from text [] h = event_closes-only_chars from (chars text)
 event_closes-marked from text (Open at part ∷ ms) h =
     event_closes-chars from (chars (take (at - from) text)) _
-    ∙ ap (λ n. drop 1 (event_closes n (marked_events at (drop (at - from) text) ms))) (place_of_mark from text (Open at part) ms h)
+    ∙ ap (λ n. drop 1 (event_closes n (marked_events at (drop (at - from) text) ms))) (offset_of_mark from text (Open at part) ms h)
     ∙ ap (λ (l : List ℕ). drop 1 l) (event_closes-marked at (drop (at - from) text) ms h.3)
 event_closes-marked from text (Close at ∷ ms) h =
     event_closes-chars from (chars (take (at - from) text)) _
-    ∙ ap (λ n. n ∷ event_closes n (marked_events at (drop (at - from) text) ms)) (place_of_mark from text (Close at) ms h)
+    ∙ ap (λ n. n ∷ event_closes n (marked_events at (drop (at - from) text) ms)) (offset_of_mark from text (Close at) ms h)
     ∙ ap (λ (l : List ℕ). at ∷ l) (event_closes-marked at (drop (at - from) text) ms h.3)
 
 -- the spans of a text with marks are those of the marks
@@ -93,14 +93,14 @@ spans_from-marked from text (Open at part ∷ ms) h =
     let closed : end_of_part 0 at rest ≡ slice_get (mark_closes ms) 0 =
     end_of_part-event_closes 0 at rest ∙ ap (λ (l : List ℕ). slice_get l 0) (event_closes-marked at (drop (at - from) text) ms h.3) in
     spans_from-chars from (chars (take (at - from) text)) (mark_event (Open at part) ∷ rest)
-    ∙ ap (λ n. spans_from n (mark_event (Open at part) ∷ rest)) (place_of_mark from text (Open at part) ms h)
+    ∙ ap (λ n. spans_from n (mark_event (Open at part) ∷ rest)) (offset_of_mark from text (Open at part) ms h)
     ∙ ap (λ o. span_of at o part.category.now part.value.now ++ spans_from at rest) closed
     ∙ ap (λ (l : List Span). span_of at (slice_get (mark_closes ms) 0) part.category.now part.value.now ++ l)
     (spans_from-marked at (drop (at - from) text) ms h.3)
 spans_from-marked from text (Close at ∷ ms) h =
     let rest : List Event = marked_events at (drop (at - from) text) ms in
     spans_from-chars from (chars (take (at - from) text)) (ClosePart ∷ rest)
-    ∙ ap (λ n. spans_from n (ClosePart ∷ rest)) (place_of_mark from text (Close at) ms h)
+    ∙ ap (λ n. spans_from n (ClosePart ∷ rest)) (offset_of_mark from text (Close at) ms h)
     ∙ spans_from-marked at (drop (at - from) text) ms h.3
 
 -- mapping and reversing a list commute

@@ -1,6 +1,6 @@
 //! Digits in groups, as bytes: where each digit and the separator are one byte, room is asked for
 //! once.
-ghost use Rattle.std.specs.Prelude.{◌≡◌, ◌+◌, ◌*◌, ◌<◌, ◌≤◌, ◌∷◌, ◌++◌, [], All, IsTrue, OnOk, length, take, vec_len, vec_capacity};
+ghost use Rattle.std.specs.Prelude.{◌≡◌, ◌+◌, ◌*◌, ◌<◌, ◌≤◌, ◌∷◌, ◌++◌, [], All, IsTrue, OnErr, OnOk, length, take, vec_len, vec_capacity};
 ghost use Rattle.writeable.specs.Events.{digit_events, text_of};
 ghost use Rattle.writeable.specs.Groups.{cut, joined, group_texts};
 
@@ -31,8 +31,9 @@ pub(crate) fn push_byte_digits(
 ) -> Result<(), WriteFault>
     requires below_ten { All (λ d. d < 10) digits.now }
     requires ascii { All (λ c. c < 128) characters.now }
-    ensures { OnOk result (out.new.items ≡ out.old.items
+    ensures ok { OnOk result (out.new.items ≡ out.old.items
         ++ text_of (digit_events characters.now digits.now)) }
+    ensures err { OnErr result (out.new.items ≡ out.old.items) }
 {
     let Ok(()) = out.reserve(digits.len()) else {
         return Err(WriteFault);
@@ -56,9 +57,10 @@ pub(crate) fn push_byte_groups(
     requires secondary { 0 < secondary }
     requires below_ten { All (λ d. d < 10) digits.now }
     requires ascii { All (λ c. c < 128) characters.now }
-    ensures { OnOk result (out.new.items ≡ out.old.items
+    ensures ok { OnOk result (out.new.items ≡ out.old.items
         ++ joined (separator ∷ [])
         (group_texts characters.now (cut primary secondary digits.now))) }
+    ensures err { OnErr result (out.new.items ≡ out.old.items) }
 {
     // at most one separator stands before each digit
     let Ok(()) = out.reserve(2 * digits.len()) else {

@@ -29,6 +29,7 @@ pub mod parts_text;
 pub mod sink;
 mod text_buffer;
 mod text_writer;
+mod wide_digits;
 pub mod writeable;
 
 pub use error::OutOfMemory;
@@ -37,6 +38,3 @@ pub use groups::Grouping;
 pub use parts_text::PartsText;
 pub use sink::{Part, PartsWrite, WriteFault};
 pub use writeable::Writeable;
-
-#[cfg(test)]
-mod tests;

@@ -251,7 +251,7 @@ impl PartsWrite for PartsText {
 
 /// The mark at a byte for the opening of the part; without a part the mark of a close.
 fn mark_of(at: usize, opened: Option<Part>) -> Mark
-    ensures place { mark_at result ≡ at }
+    ensures offset { mark_at result ≡ at }
     ensures event { mark_event result ≡ mark_event_of opened }
 {
     match opened {

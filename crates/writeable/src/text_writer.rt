@@ -1,14 +1,18 @@
 //! A text as a writer: room for digits in groups is asked for once.
-ghost use Rattle.std.specs.Prelude.{◌≡◌, ◌<◌, ◌∷◌, ◌++◌, [], All, IsOk, OnOk};
-ghost use Rattle.std.specs.String.{string_bytes};
+ghost use Rattle.std.specs.Prelude.{◌≡◌, ◌+◌, ◌*◌, ◌<◌, ◌≤◌, ◌∷◌, ◌++◌, [], All, IsOk, OnOk, length};
+ghost use Rattle.std.specs.Char.{encode_utf8};
+ghost use Rattle.std.specs.String.{string_bytes, string_len, string_capacity};
 ghost use Rattle.writeable.specs.Events.{digit_events, text_of};
 ghost use Rattle.writeable.specs.Events.Event.{Char, Close, Open};
 ghost use Rattle.writeable.specs.Writes.{AppendsText-nothing, AppendsText-then, OnOk-stop};
 
-use crate::event_writer::EventWriter;
+use crate::byte_groups::{push_byte_digits, push_byte_groups};
+use crate::event_writer::{ASCII_DIGITS, EventWriter};
 use crate::groups::Grouping;
 use crate::sink::{Part, WriteFault};
 use crate::text_buffer::{TextBuffer, append_groups};
+use crate::wide_digits::{push_wide, widest};
+use std::mem;
 
 // On success the text of the events stands behind what the string held.
 impl EventWriter for String {
@@ -59,6 +63,39 @@ impl EventWriter for String {
         append_groups(self, digits, grouping, characters)
     }
 
+    /// Asks for room once. The bytes aren't tested to be UTF-8: that they are is proved.
+    fn ascii_digits(&mut self, digits: &[u8]) -> Result<(), WriteFault> {
+        let alloc = *self.allocator();
+        let taken = mem::replace(self, String::new(alloc));
+        let mut bytes = taken.into_bytes();
+        let result = push_byte_digits(&mut bytes, digits, &ASCII_DIGITS);
+        *self = unsafe { String::from_utf8_unchecked(bytes) };
+        result
+    }
+
+    /// Asks for room once, where the separator is one byte. The bytes aren't tested to be UTF-8:
+    /// that they are is proved.
+    fn ascii_groups(&mut self, digits: &[u8], grouping: &Grouping<'_>) -> Result<(), WriteFault> {
+        let separator = grouping.separator.as_bytes();
+        if separator.len() != 1 {
+            return self.groups(digits, grouping, &ASCII_DIGITS);
+        }
+        let (primary, secondary, separator) = (grouping.primary, grouping.secondary, separator[0]);
+        let alloc = *self.allocator();
+        let taken = mem::replace(self, String::new(alloc));
+        let mut bytes = taken.into_bytes();
+        let result = push_byte_groups(
+            &mut bytes,
+            digits,
+            primary,
+            secondary,
+            separator,
+            &ASCII_DIGITS,
+        );
+        *self = unsafe { String::from_utf8_unchecked(bytes) };
+        result
+    }
+
     fn open(&mut self, part: Part) -> Result<(), WriteFault>
         ensures wrote { OnOk result (string_bytes self.new ≡ string_bytes self.old
             ++ text_of (Open part.category.now part.value.now ∷ [])) }
@@ -81,16 +118,42 @@ impl EventWriter for String {
 impl TextBuffer for String {
     ghost bytes = { λ s. string_bytes s };
 
+    /// An empty text, as most affixes are, and one ASCII character, as most separators are, take no
+    /// copy of memory.
     fn append_text(&mut self, text: &str) -> Result<(), WriteFault> {
+        let bytes = text.as_bytes();
+        if bytes.is_empty() {
+            return Ok(());
+        }
+        if bytes.len() == 1 && bytes[0].is_ascii() {
+            return push_character(self, bytes[0] as char);
+        }
         self.push_str(text).map_err(|_| WriteFault)
     }
 
     fn append_digits(&mut self, digits: &[u8], characters: &[char; 10]) -> Result<(), WriteFault> {
-        for digit in digits {
-            push_character(self, characters[*digit as usize])?;
-        }
+        let width = widest(characters);
+        let Ok(()) = self.reserve(digits.len().saturating_mul(width)) else {
+            return Err(WriteFault);
+        };
+        let alloc = *self.allocator();
+        let taken = mem::replace(self, String::new(alloc));
+        *self = with_digits(taken, digits, characters, width);
         Ok(())
     }
+}
+
+/// A text with digits behind it, for which there is room. The bytes aren't checked to be UTF-8: that
+/// they are is proved.
+fn with_digits(text: String, digits: &[u8], characters: &[char; 10], width: usize) -> String
+    requires below_ten { All (λ d. d < 10) digits.now }
+    requires widths { All (λ c. length (encode_utf8 c) ≤ width) characters.now }
+    requires room { string_len text + length digits.now * width ≤ string_capacity text }
+    ensures { string_bytes result ≡ string_bytes text
+        ++ text_of (digit_events characters.now digits.now) }
+{
+    let bytes = push_wide(text.into_bytes(), digits, characters, width);
+    unsafe { String::from_utf8_unchecked(bytes) }
 }
 
 /// Appends a character.

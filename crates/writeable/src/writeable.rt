@@ -8,6 +8,9 @@ use crate::event_writer::{EventWriter, WithParts, WithoutParts};
 use crate::sink::{PartsWrite, WriteFault};
 use std::alloc::Global;
 
+/// How many bytes a text has room for when it begins: most numbers then take one block of memory.
+const SHORT_TEXT: usize = 32;
+
 /// A value that writes itself as text with parts.
 ///
 /// Only `write_events` says how a value is written: every output is its events.
@@ -61,7 +64,9 @@ pub trait Writeable {
     final fn write_to_string(&self, alloc: Global) -> Result<String, WriteFault>
         ensures { IfOk result (λ t. string_bytes t ≡ text_of (events self.now)) }
     {
-        let mut out = String::new(alloc);
+        let Ok(mut out) = String::with_capacity(alloc, SHORT_TEXT) else {
+            return Err(WriteFault);
+        };
         self.write_events(&mut out)?;
         Ok(out)
     }

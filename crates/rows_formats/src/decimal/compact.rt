@@ -1,16 +1,16 @@
 //! What compact formatters answer.
 
 use super::asked::decimal_of;
-use super::making::{Place, Question};
+use super::making::{Question, Setting};
 use super::shown;
 use super::spelled::{held_of, made, name_of, no_number, said, value, with_text, yes_or_no};
-use crate::Answer;
+use crate::CallResult;
 use fixed_decimal::{Decimal, UnsignedDecimal};
 use icu_decimal::{CompactDecimalFormatter, FormattedUnsignedCompactDecimal};
 use icu_plurals::PluralOperands;
 use std::alloc::{AllocError, Global};
 
-fn is_readable(alloc: Global, formatter: &CompactDecimalFormatter, words: &[String]) -> Answer {
+fn is_readable(alloc: Global, formatter: &CompactDecimalFormatter, words: &[String]) -> CallResult {
     match words {
         [] => said(alloc, yes_or_no(formatter.is_readable())),
         _ => Ok(None),
@@ -23,7 +23,7 @@ fn value_of(
     formatter: &CompactDecimalFormatter,
     decimal: &Decimal,
     limit: Option<usize>,
-) -> Answer {
+) -> CallResult {
     match formatter.format(alloc, decimal) {
         Ok(formatted) => value(alloc, &formatted, limit),
         Err(error) => no_number(alloc, error),
@@ -36,11 +36,11 @@ fn of_decimal(
     formatter: &CompactDecimalFormatter,
     decimal: &Decimal,
     limit: Option<usize>,
-) -> Answer {
-    let answer = value_of(alloc, formatter, decimal, limit);
+) -> CallResult {
+    let returned = value_of(alloc, formatter, decimal, limit);
     with_text(
         alloc,
-        answer,
+        returned,
         formatter.format_to_string(alloc, decimal),
         limit,
     )
@@ -48,15 +48,15 @@ fn of_decimal(
 
 fn format(
     alloc: Global,
-    place: Place<'_>,
+    setting: Setting<'_>,
     formatter: &CompactDecimalFormatter,
     words: &[String],
-) -> Answer {
+) -> CallResult {
     let [number] = words else {
         return Ok(None);
     };
-    match decimal_of(alloc, number.as_str(), place.asked.sign)? {
-        Some(decimal) => of_decimal(alloc, formatter, &decimal, place.asked.limit),
+    match decimal_of(alloc, number.as_str(), setting.asked.sign)? {
+        Some(decimal) => of_decimal(alloc, formatter, &decimal, setting.asked.limit),
         None => Ok(None),
     }
 }
@@ -70,7 +70,10 @@ fn push_digits(digits: &[u8], text: &mut String) -> Result<(), AllocError> {
 }
 
 /// A number as its digits and its point.
-fn digits_of(alloc: Global, number: &UnsignedDecimal) -> Result<String, AllocError> {
+pub(crate) fn digits_of_number(
+    alloc: Global,
+    number: &UnsignedDecimal,
+) -> Result<String, AllocError> {
     let mut text = String::new(alloc);
     push_digits(number.integer(), &mut text)?;
     let fraction = number.fraction();
@@ -82,8 +85,8 @@ fn digits_of(alloc: Global, number: &UnsignedDecimal) -> Result<String, AllocErr
 }
 
 /// The significand and the exponent of a compact number.
-fn parts_of(alloc: Global, number: &FormattedUnsignedCompactDecimal<'_>) -> Answer {
-    let significand = digits_of(alloc, number.significand())?;
+fn parts_of(alloc: Global, number: &FormattedUnsignedCompactDecimal<'_>) -> CallResult {
+    let significand = digits_of_number(alloc, number.significand())?;
     let exponent = number.exponent();
     Ok(Some(format!(in alloc; "{significand} exponent {exponent}")?))
 }
@@ -93,7 +96,7 @@ fn of_value(
     alloc: Global,
     value: &FormattedUnsignedCompactDecimal<'_>,
     condition: Option<&str>,
-) -> Answer {
+) -> CallResult {
     match condition {
         Some(condition) => said(alloc, held_of(alloc, condition, value.plural_operands())?),
         None => parts_of(alloc, value),
@@ -106,7 +109,7 @@ fn number_of(
     formatter: &CompactDecimalFormatter,
     decimal: &Decimal,
     condition: Option<&str>,
-) -> Answer {
+) -> CallResult {
     match formatter.format(alloc, decimal) {
         Ok(formatted) => of_value(alloc, formatted.value(), condition),
         Err(error) => no_number(alloc, error),
@@ -116,12 +119,12 @@ fn number_of(
 /// The same of the number that a text spells.
 fn number(
     alloc: Global,
-    place: Place<'_>,
+    setting: Setting<'_>,
     formatter: &CompactDecimalFormatter,
     number: &str,
     condition: Option<&str>,
-) -> Answer {
-    match decimal_of(alloc, number, place.asked.sign)? {
+) -> CallResult {
+    match decimal_of(alloc, number, setting.asked.sign)? {
         Some(decimal) => number_of(alloc, formatter, &decimal, condition),
         None => Ok(None),
     }
@@ -130,12 +133,12 @@ fn number(
 /// The significand and the exponent of the compact number of a text.
 fn significand(
     alloc: Global,
-    place: Place<'_>,
+    setting: Setting<'_>,
     formatter: &CompactDecimalFormatter,
     words: &[String],
-) -> Answer {
+) -> CallResult {
     match words {
-        [text] => number(alloc, place, formatter, text.as_str(), None),
+        [text] => number(alloc, setting, formatter, text.as_str(), None),
         _ => Ok(None),
     }
 }
@@ -143,15 +146,15 @@ fn significand(
 /// Whether a condition holds of the operands of the compact number of a text.
 fn operands_of_value(
     alloc: Global,
-    place: Place<'_>,
+    setting: Setting<'_>,
     formatter: &CompactDecimalFormatter,
     words: &[String],
-) -> Answer {
+) -> CallResult {
     match words {
         [text, condition] => {
             number(
                 alloc,
-                place,
+                setting,
                 formatter,
                 text.as_str(),
                 Some(condition.as_str()),
@@ -168,7 +171,7 @@ fn given_of(
     significand: &Decimal,
     exponent: u8,
     limit: Option<usize>,
-) -> Answer {
+) -> CallResult {
     match formatter.format_with_exponent(significand, exponent) {
         Ok(formatted) => value(alloc, &formatted, limit),
         Err(error) => Ok(Some(error.to_string(alloc)?)),
@@ -177,18 +180,18 @@ fn given_of(
 
 fn format_with_exponent(
     alloc: Global,
-    place: Place<'_>,
+    setting: Setting<'_>,
     formatter: &CompactDecimalFormatter,
     words: &[String],
-) -> Answer {
+) -> CallResult {
     let [significand, exponent] = words else {
         return Ok(None);
     };
     let Ok(exponent) = exponent.parse() else {
         return Ok(None);
     };
-    match decimal_of(alloc, significand.as_str(), place.asked.sign)? {
-        Some(decimal) => given_of(alloc, formatter, &decimal, exponent, place.asked.limit),
+    match decimal_of(alloc, significand.as_str(), setting.asked.sign)? {
+        Some(decimal) => given_of(alloc, formatter, &decimal, exponent, setting.asked.limit),
         None => Ok(None),
     }
 }
@@ -196,17 +199,17 @@ fn format_with_exponent(
 /// The category of a significand with an exponent by the formatter's own rules.
 fn plural_rules(
     alloc: Global,
-    place: Place<'_>,
+    setting: Setting<'_>,
     formatter: &CompactDecimalFormatter,
     words: &[String],
-) -> Answer {
+) -> CallResult {
     let [significand, exponent] = words else {
         return Ok(None);
     };
     let Ok(exponent) = exponent.parse() else {
         return Ok(None);
     };
-    match decimal_of(alloc, significand.as_str(), place.asked.sign)? {
+    match decimal_of(alloc, significand.as_str(), setting.asked.sign)? {
         Some(decimal) => {
             let operands = PluralOperands::from_significand_and_exponent(
                 &decimal.absolute,
@@ -222,7 +225,7 @@ fn plural_rules(
 }
 
 /// The type and the exponent of the entry of a magnitude in the formatter's table.
-fn patterns(alloc: Global, formatter: &CompactDecimalFormatter, words: &[String]) -> Answer {
+fn patterns(alloc: Global, formatter: &CompactDecimalFormatter, words: &[String]) -> CallResult {
     let [magnitude] = words else {
         return Ok(None);
     };
@@ -240,7 +243,7 @@ fn patterns(alloc: Global, formatter: &CompactDecimalFormatter, words: &[String]
     }
 }
 
-fn exponent_at(alloc: Global, formatter: &CompactDecimalFormatter, words: &[String]) -> Answer {
+fn exponent_at(alloc: Global, formatter: &CompactDecimalFormatter, words: &[String]) -> CallResult {
     let [magnitude] = words else {
         return Ok(None);
     };
@@ -252,22 +255,22 @@ fn exponent_at(alloc: Global, formatter: &CompactDecimalFormatter, words: &[Stri
 }
 
 /// What a compact formatter answers.
-pub(crate) fn answer(
+pub(crate) fn returned(
     alloc: Global,
-    place: Place<'_>,
+    setting: Setting<'_>,
     formatter: &CompactDecimalFormatter,
     (call, words): Question<'_>,
-) -> Answer {
+) -> CallResult {
     match call {
         "try_new_unstable" => made(alloc, words),
         "is_readable" => is_readable(alloc, formatter, words),
-        "format" => format(alloc, place, formatter, words),
-        "significand" => significand(alloc, place, formatter, words),
-        "operands_of_value" => operands_of_value(alloc, place, formatter, words),
+        "format" => format(alloc, setting, formatter, words),
+        "significand" => significand(alloc, setting, formatter, words),
+        "operands_of_value" => operands_of_value(alloc, setting, formatter, words),
         "compact_exponent_for_magnitude" => exponent_at(alloc, formatter, words),
         "patterns" => patterns(alloc, formatter, words),
-        "plural_rules" => plural_rules(alloc, place, formatter, words),
-        "format_with_exponent" => format_with_exponent(alloc, place, formatter, words),
-        _ => shown::answer(alloc, place, formatter, (call, words)),
+        "plural_rules" => plural_rules(alloc, setting, formatter, words),
+        "format_with_exponent" => format_with_exponent(alloc, setting, formatter, words),
+        _ => shown::returned(alloc, setting, formatter, (call, words)),
     }
 }

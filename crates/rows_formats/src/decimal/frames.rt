@@ -7,7 +7,7 @@ ghost use Rattle.icu_pattern.specs.Patterns.{interpolated};
 ghost use Rattle.icu_plurals.specs.Rules.{category_of};
 
 use super::spelled::{said, sink_of, text, with_text, written};
-use crate::Answer;
+use crate::CallResult;
 use fixed_decimal::UnsignedDecimal;
 use icu_decimal::error::FormatError;
 use icu_decimal_interface::{
@@ -82,7 +82,7 @@ pub(crate) fn write_pair<F: AbstractFormatter>(
     formatter: &F,
     first: &UnsignedDecimal,
     second: &UnsignedDecimal,
-) -> Answer {
+) -> CallResult {
     let mut out = String::new(alloc);
     match write_pair_into(alloc, formatter, first, formatter, second, &DASH, &mut out) {
         Ok(()) => Ok(Some(out)),
@@ -97,10 +97,10 @@ pub(crate) fn write_framed<F: AbstractFormatter>(
     formatter: &F,
     number: &UnsignedDecimal,
     limit: Option<usize>,
-) -> Answer {
+) -> CallResult {
     let mut sink = sink_of(alloc, limit);
-    let answer = formatter.write_framed(alloc, number, &BRACKETS, &mut sink);
-    written(alloc, &sink, answer)
+    let returned = formatter.write_framed(alloc, number, &BRACKETS, &mut sink);
+    written(alloc, &sink, returned)
 }
 
 /// The text of a number in brackets.
@@ -108,7 +108,7 @@ pub(crate) fn framed_to_string<F: AbstractFormatter>(
     alloc: Global,
     formatter: &F,
     number: &UnsignedDecimal,
-) -> Answer {
+) -> CallResult {
     text(alloc, formatter.framed_to_string(alloc, number, &BRACKETS))
 }
 
@@ -120,7 +120,7 @@ struct Marking<'a> {
 }
 
 impl Frame for Marking<'_> {
-    ghost use Rattle.icu_decimal_interface.specs.OnceLaws.{placed_stands, unparted_stands};
+    ghost use Rattle.icu_decimal_interface.specs.OnceLaws.{pattern_stands, unparted_stands};
 
     ghost framed = { λ f operands es. interpolated
         (selected f.patterns.now operands (category_of f.rules.now operands)) (without_parts es) };
@@ -128,7 +128,7 @@ impl Frame for Marking<'_> {
     ghost leaves_out = { λ f operands.
         (selected f.patterns.now operands (category_of f.rules.now operands)).placeholder ≡ None };
 
-    ghost once = { λ f operands. placed_stands
+    ghost once = { λ f operands. pattern_stands
         (selected f.patterns.now operands (category_of f.rules.now operands)).literal
         (selected f.patterns.now operands (category_of f.rules.now operands)).placeholder
         unparted_stands };
@@ -151,10 +151,10 @@ fn of_frame<F: AbstractFormatter>(
     formatter: &F,
     number: &UnsignedDecimal,
     frame: &Marking<'_>,
-) -> Answer {
+) -> CallResult {
     let mut sink = sink_of(alloc, None);
-    let answer = formatter.write_framed(alloc, number, frame, &mut sink);
-    let spelled = written(alloc, &sink, answer);
+    let returned = formatter.write_framed(alloc, number, frame, &mut sink);
+    let spelled = written(alloc, &sink, returned);
     with_text(
         alloc,
         spelled,
@@ -187,7 +187,7 @@ fn marked<F: AbstractFormatter>(
     formatter: &F,
     number: &UnsignedDecimal,
     rules: &PluralRules,
-) -> Answer {
+) -> CallResult {
     let patterns = marks(alloc)?;
     let frame = Marking {
         patterns: &patterns,
@@ -202,7 +202,7 @@ pub(crate) fn picked<F: AbstractFormatter>(
     formatter: &F,
     number: &UnsignedDecimal,
     condition: &str,
-) -> Answer {
+) -> CallResult {
     match PluralRules::from_rules(alloc, &[(PluralCategory::One, condition)]) {
         Ok(rules) => marked(alloc, formatter, number, &rules),
         Err(RulesError::OutOfMemory) => Err(AllocError),

@@ -3,7 +3,7 @@
 use super::asked::{Asked, text_of};
 use super::spelled::no_data;
 use super::{compact, plain};
-use crate::Answer;
+use crate::CallResult;
 use icu_decimal::options::DecimalFormatterOptions;
 use icu_decimal::preferences::DecimalFormatterPreferences;
 use icu_decimal::provider::{
@@ -22,7 +22,7 @@ pub(crate) type Question<'a> = (&'a str, &'a [String]);
 
 /// Tables, and what is asked of them.
 #[derive(Clone, Copy)]
-pub(crate) struct Place<'a> {
+pub(crate) struct Setting<'a> {
     pub(crate) tables: &'a Tables,
     pub(crate) asked: &'a Asked<'a>,
 }
@@ -33,7 +33,7 @@ pub(crate) fn by_file(
     documents: &Documents,
     asked: &Asked<'_>,
     question: Question<'_>,
-) -> Answer {
+) -> CallResult {
     match text_of(documents, asked.file) {
         Some(text) => by_text(alloc, text, asked, question),
         None => Ok(None),
@@ -41,11 +41,11 @@ pub(crate) fn by_file(
 }
 
 /// What a formatter by the tables of a text answers.
-fn by_text(alloc: Global, text: &str, asked: &Asked<'_>, question: Question<'_>) -> Answer {
+fn by_text(alloc: Global, text: &str, asked: &Asked<'_>, question: Question<'_>) -> CallResult {
     match Tables::from_json(alloc, text) {
         Ok(tables) => by_tables(
             alloc,
-            Place {
+            Setting {
                 tables: &tables,
                 asked,
             },
@@ -57,61 +57,61 @@ fn by_text(alloc: Global, text: &str, asked: &Asked<'_>, question: Question<'_>)
 }
 
 /// What a formatter by tables answers.
-fn by_tables(alloc: Global, place: Place<'_>, question: Question<'_>) -> Answer {
-    match place.asked.style {
-        "plain" => of_plain(alloc, place, question),
-        "short" => of_short(alloc, place, question),
-        "long" => of_long(alloc, place, question),
-        "parts" => of_parts(alloc, place, question),
-        "short_parts" => of_short_parts(alloc, place, question),
+fn by_tables(alloc: Global, setting: Setting<'_>, question: Question<'_>) -> CallResult {
+    match setting.asked.style {
+        "plain" => of_plain(alloc, setting, question),
+        "short" => of_short(alloc, setting, question),
+        "long" => of_long(alloc, setting, question),
+        "parts" => of_parts(alloc, setting, question),
+        "short_parts" => of_short_parts(alloc, setting, question),
         _ => Ok(None),
     }
 }
 
 /// The plain formatter.
-pub(crate) fn plain_of(alloc: Global, place: Place<'_>) -> Result<DecimalFormatter, DataError> {
-    let preferences = DecimalFormatterPreferences::from(&place.asked.preferences());
-    DecimalFormatter::try_new_unstable(alloc, place.tables, preferences, place.asked.options())
+pub(crate) fn plain_of(alloc: Global, setting: Setting<'_>) -> Result<DecimalFormatter, DataError> {
+    let preferences = DecimalFormatterPreferences::from(&setting.asked.preferences());
+    DecimalFormatter::try_new_unstable(alloc, setting.tables, preferences, setting.asked.options())
 }
 
-fn of_plain(alloc: Global, place: Place<'_>, question: Question<'_>) -> Answer {
-    match plain_of(alloc, place) {
-        Ok(formatter) => plain::answer(alloc, place, &formatter, question),
+fn of_plain(alloc: Global, setting: Setting<'_>, question: Question<'_>) -> CallResult {
+    match plain_of(alloc, setting) {
+        Ok(formatter) => plain::returned(alloc, setting, &formatter, question),
         Err(error) => no_data(alloc, error),
     }
 }
 
-fn of_short(alloc: Global, place: Place<'_>, question: Question<'_>) -> Answer {
+fn of_short(alloc: Global, setting: Setting<'_>, question: Question<'_>) -> CallResult {
     match CompactDecimalFormatter::try_new_short_unstable(
         alloc,
-        place.tables,
-        place.asked.preferences(),
-        place.asked.compact_options(),
+        setting.tables,
+        setting.asked.preferences(),
+        setting.asked.compact_options(),
     ) {
-        Ok(formatter) => compact::answer(alloc, place, &formatter, question),
+        Ok(formatter) => compact::returned(alloc, setting, &formatter, question),
         Err(error) => no_data(alloc, error),
     }
 }
 
-fn of_long(alloc: Global, place: Place<'_>, question: Question<'_>) -> Answer {
+fn of_long(alloc: Global, setting: Setting<'_>, question: Question<'_>) -> CallResult {
     match CompactDecimalFormatter::try_new_long_unstable(
         alloc,
-        place.tables,
-        place.asked.preferences(),
-        place.asked.compact_options(),
+        setting.tables,
+        setting.asked.preferences(),
+        setting.asked.compact_options(),
     ) {
-        Ok(formatter) => compact::answer(alloc, place, &formatter, question),
+        Ok(formatter) => compact::returned(alloc, setting, &formatter, question),
         Err(error) => no_data(alloc, error),
     }
 }
 
 /// The symbols of the locale.
-fn symbols_of(alloc: Global, place: Place<'_>) -> Result<DecimalSymbols, DataError> {
+fn symbols_of(alloc: Global, setting: Setting<'_>) -> Result<DecimalSymbols, DataError> {
     let request = DataRequest {
-        id: DataIdentifierBorrowed::for_locale(&place.asked.locale),
+        id: DataIdentifierBorrowed::for_locale(&setting.asked.locale),
         silent: false,
     };
-    <Tables as DataProvider<DecimalSymbolsV1>>::load(place.tables, alloc, &request)
+    <Tables as DataProvider<DecimalSymbolsV1>>::load(setting.tables, alloc, &request)
 }
 
 /// The digits of a numbering system.
@@ -124,9 +124,9 @@ fn digits_of(alloc: Global, tables: &Tables, system: &str) -> Result<[char; 10],
 }
 
 /// What the plain formatter of parts answers.
-fn of_parts(alloc: Global, place: Place<'_>, question: Question<'_>) -> Answer {
-    match symbols_of(alloc, place) {
-        Ok(symbols) => of_symbols(alloc, place, symbols, question),
+fn of_parts(alloc: Global, setting: Setting<'_>, question: Question<'_>) -> CallResult {
+    match symbols_of(alloc, setting) {
+        Ok(symbols) => of_symbols(alloc, setting, symbols, question),
         Err(error) => no_data(alloc, error),
     }
 }
@@ -134,50 +134,50 @@ fn of_parts(alloc: Global, place: Place<'_>, question: Question<'_>) -> Answer {
 /// What the plain formatter of these symbols answers.
 fn of_symbols(
     alloc: Global,
-    place: Place<'_>,
+    setting: Setting<'_>,
     symbols: DecimalSymbols,
     question: Question<'_>,
-) -> Answer {
-    match digits_of(alloc, place.tables, symbols.numsys()) {
+) -> CallResult {
+    match digits_of(alloc, setting.tables, symbols.numsys()) {
         Ok(digits) => {
-            let formatter = DecimalFormatter::from_parts(symbols, digits, place.asked.options());
-            plain::answer(alloc, place, &formatter, question)
+            let formatter = DecimalFormatter::from_parts(symbols, digits, setting.asked.options());
+            plain::returned(alloc, setting, &formatter, question)
         }
         Err(error) => no_data(alloc, error),
     }
 }
 
 /// The plain formatter in a compact one.
-fn inner_of(alloc: Global, place: Place<'_>) -> Result<DecimalFormatter, DataError> {
-    let preferences = DecimalFormatterPreferences::from(&place.asked.preferences());
-    let options = DecimalFormatterOptions::from(place.asked.compact_options());
-    DecimalFormatter::try_new_unstable(alloc, place.tables, preferences, options)
+fn inner_of(alloc: Global, setting: Setting<'_>) -> Result<DecimalFormatter, DataError> {
+    let preferences = DecimalFormatterPreferences::from(&setting.asked.preferences());
+    let options = DecimalFormatterOptions::from(setting.asked.compact_options());
+    DecimalFormatter::try_new_unstable(alloc, setting.tables, preferences, options)
 }
 
 /// The rules of the locale.
-pub(crate) fn rules_of(alloc: Global, place: Place<'_>) -> Result<PluralRules, DataError> {
+pub(crate) fn rules_of(alloc: Global, setting: Setting<'_>) -> Result<PluralRules, DataError> {
     let preferences = PluralRulesPreferences {
-        locale_preferences: place.asked.locale,
+        locale_preferences: setting.asked.locale,
     };
-    PluralRules::try_new_cardinal_unstable(alloc, place.tables, preferences)
+    PluralRules::try_new_cardinal_unstable(alloc, setting.tables, preferences)
 }
 
 /// The short patterns of the locale.
 fn short_table_of(
     alloc: Global,
-    place: Place<'_>,
+    setting: Setting<'_>,
 ) -> Result<CompactPatterns<SinglePlaceholder>, DataError> {
     let request = DataRequest {
-        id: DataIdentifierBorrowed::for_locale(&place.asked.locale),
+        id: DataIdentifierBorrowed::for_locale(&setting.asked.locale),
         silent: false,
     };
-    <Tables as DataProvider<DecimalCompactShortV1>>::load(place.tables, alloc, &request)
+    <Tables as DataProvider<DecimalCompactShortV1>>::load(setting.tables, alloc, &request)
 }
 
 /// What the compact formatter of parts answers.
-fn of_short_parts(alloc: Global, place: Place<'_>, question: Question<'_>) -> Answer {
-    match inner_of(alloc, place) {
-        Ok(inner) => over_inner(alloc, place, inner, question),
+fn of_short_parts(alloc: Global, setting: Setting<'_>, question: Question<'_>) -> CallResult {
+    match inner_of(alloc, setting) {
+        Ok(inner) => over_inner(alloc, setting, inner, question),
         Err(error) => no_data(alloc, error),
     }
 }
@@ -185,12 +185,12 @@ fn of_short_parts(alloc: Global, place: Place<'_>, question: Question<'_>) -> An
 /// What the compact formatter over a plain one answers.
 fn over_inner(
     alloc: Global,
-    place: Place<'_>,
+    setting: Setting<'_>,
     inner: DecimalFormatter,
     question: Question<'_>,
-) -> Answer {
-    match rules_of(alloc, place) {
-        Ok(rules) => with_rules(alloc, place, (inner, rules), question),
+) -> CallResult {
+    match rules_of(alloc, setting) {
+        Ok(rules) => with_rules(alloc, setting, (inner, rules), question),
         Err(error) => no_data(alloc, error),
     }
 }
@@ -198,14 +198,14 @@ fn over_inner(
 /// What the compact formatter over a plain one and with rules answers.
 fn with_rules(
     alloc: Global,
-    place: Place<'_>,
+    setting: Setting<'_>,
     (inner, rules): (DecimalFormatter, PluralRules),
     question: Question<'_>,
-) -> Answer {
-    match short_table_of(alloc, place) {
+) -> CallResult {
+    match short_table_of(alloc, setting) {
         Ok(table) => {
             let formatter = CompactDecimalFormatter::from_parts(inner, rules, table);
-            compact::answer(alloc, place, &formatter, question)
+            compact::returned(alloc, setting, &formatter, question)
         }
         Err(error) => no_data(alloc, error),
     }

@@ -1,10 +1,10 @@
 //! What plain formatters answer.
 
 use super::asked::decimal_of;
-use super::making::{Place, Question};
+use super::making::{Question, Setting};
 use super::shown;
 use super::spelled::{said, value, with_text, yes_or_no};
-use crate::Answer;
+use crate::CallResult;
 use fixed_decimal::Decimal;
 use icu_decimal::DecimalFormatter;
 use icu_decimal::error::FormatError;
@@ -16,19 +16,24 @@ fn of_decimal(
     formatter: &DecimalFormatter,
     decimal: &Decimal,
     limit: Option<usize>,
-) -> Answer {
-    let answer = value(alloc, &formatter.format(decimal), limit);
+) -> CallResult {
+    let returned = value(alloc, &formatter.format(decimal), limit);
     with_text(
         alloc,
-        answer,
+        returned,
         formatter.format_to_string(alloc, decimal),
         limit,
     )
 }
 
-fn format(alloc: Global, place: Place<'_>, formatter: &DecimalFormatter, number: &str) -> Answer {
-    match decimal_of(alloc, number, place.asked.sign)? {
-        Some(decimal) => of_decimal(alloc, formatter, &decimal, place.asked.limit),
+fn format(
+    alloc: Global,
+    setting: Setting<'_>,
+    formatter: &DecimalFormatter,
+    number: &str,
+) -> CallResult {
+    match decimal_of(alloc, number, setting.asked.sign)? {
+        Some(decimal) => of_decimal(alloc, formatter, &decimal, setting.asked.limit),
         None => Ok(None),
     }
 }
@@ -44,7 +49,7 @@ fn are_equal(
     one: &DecimalFormatter,
     other: &DecimalFormatter,
     number: &str,
-) -> Answer {
+) -> CallResult {
     match decimal_of(alloc, number, None)? {
         Some(decimal) => said(
             alloc,
@@ -59,7 +64,7 @@ fn are_equal(
 }
 
 /// Whether a formatter's copy gives an equal value of a decimal.
-fn copy(alloc: Global, formatter: &DecimalFormatter, number: &str) -> Answer {
+fn copy(alloc: Global, formatter: &DecimalFormatter, number: &str) -> CallResult {
     match formatter.copy(alloc) {
         Ok(copy) => are_equal(alloc, formatter, &copy, number),
         Err(FormatError::OutOfMemory) => Err(AllocError),
@@ -68,17 +73,20 @@ fn copy(alloc: Global, formatter: &DecimalFormatter, number: &str) -> Answer {
 }
 
 /// What a plain formatter answers.
-pub(crate) fn answer(
+pub(crate) fn returned(
     alloc: Global,
-    place: Place<'_>,
+    setting: Setting<'_>,
     formatter: &DecimalFormatter,
     (call, words): Question<'_>,
-) -> Answer {
-    match (call, words) {
-        ("try_new_unstable", []) => said(alloc, "made"),
-        ("is_readable", []) => said(alloc, yes_or_no(formatter.is_readable())),
-        ("format", [number]) => format(alloc, place, formatter, number.as_str()),
-        ("copy", [number]) => copy(alloc, formatter, number.as_str()),
-        _ => shown::answer(alloc, place, formatter, (call, words)),
+) -> CallResult {
+    match words {
+        [] => match call {
+            "try_new_unstable" => said(alloc, "made"),
+            "is_readable" => said(alloc, yes_or_no(formatter.is_readable())),
+            _ => Ok(None),
+        },
+        [number] if call == "format" => format(alloc, setting, formatter, number.as_str()),
+        [number] if call == "copy" => copy(alloc, formatter, number.as_str()),
+        _ => shown::returned(alloc, setting, formatter, (call, words)),
     }
 }

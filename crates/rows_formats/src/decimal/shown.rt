@@ -2,11 +2,11 @@
 
 use super::asked::decimal_of;
 use super::frames;
-use super::making::{Place, Question, rules_of};
+use super::making::{Question, Setting, rules_of};
 use super::spelled::{
     held_of, name_of, no_data, no_number, said, sink_of, value, with_condition, written,
 };
-use crate::Answer;
+use crate::CallResult;
 use fixed_decimal::{Decimal, Sign, UnsignedDecimal};
 use icu_decimal::error::FormatError;
 use icu_decimal_interface::AbstractFormatter;
@@ -19,10 +19,10 @@ fn write_unsigned<F: AbstractFormatter>(
     formatter: &F,
     number: &UnsignedDecimal,
     limit: Option<usize>,
-) -> Answer {
+) -> CallResult {
     let mut sink = sink_of(alloc, limit);
-    let answer = formatter.write_unsigned(alloc, number, &mut sink);
-    written(alloc, &sink, answer)
+    let returned = formatter.write_unsigned(alloc, number, &mut sink);
+    written(alloc, &sink, returned)
 }
 
 /// What `write_shown` leaves in a sink, and whether a condition holds of the operands that it
@@ -33,7 +33,7 @@ fn write_shown<F: AbstractFormatter>(
     number: &UnsignedDecimal,
     limit: Option<usize>,
     condition: &str,
-) -> Answer {
+) -> CallResult {
     let mut sink = sink_of(alloc, limit);
     match formatter.write_shown(alloc, number, &mut sink) {
         Ok(operands) => {
@@ -51,7 +51,7 @@ fn write_shown_into<F: AbstractFormatter>(
     formatter: &F,
     number: &UnsignedDecimal,
     condition: &str,
-) -> Answer {
+) -> CallResult {
     let mut out = String::new(alloc);
     match formatter.write_shown_into(alloc, number, &mut out) {
         Ok(operands) => {
@@ -66,12 +66,12 @@ fn write_shown_into<F: AbstractFormatter>(
 /// What stands in a text of two numbers with a dash between them.
 fn write_pair_into<F: AbstractFormatter>(
     alloc: Global,
-    place: Place<'_>,
+    setting: Setting<'_>,
     formatter: &F,
     first: &UnsignedDecimal,
     second: &str,
-) -> Answer {
-    match decimal_of(alloc, second, place.asked.sign)? {
+) -> CallResult {
+    match decimal_of(alloc, second, setting.asked.sign)? {
         Some(second) => frames::write_pair(alloc, formatter, first, &second.absolute),
         None => Ok(None),
     }
@@ -83,7 +83,7 @@ fn plural_operands<F: AbstractFormatter>(
     formatter: &F,
     number: &UnsignedDecimal,
     condition: &str,
-) -> Answer {
+) -> CallResult {
     match formatter.plural_operands(alloc, number) {
         Ok(operands) => said(alloc, held_of(alloc, condition, operands)?),
         Err(error) => no_number(alloc, error),
@@ -91,8 +91,8 @@ fn plural_operands<F: AbstractFormatter>(
 }
 
 /// The category of operands by the rules of the locale.
-fn category_of(alloc: Global, place: Place<'_>, operands: PluralOperands) -> Answer {
-    match rules_of(alloc, place) {
+fn category_of(alloc: Global, setting: Setting<'_>, operands: PluralOperands) -> CallResult {
+    match rules_of(alloc, setting) {
         Ok(rules) => said(alloc, name_of(rules.category_for(operands))),
         Err(error) => no_data(alloc, error),
     }
@@ -101,12 +101,12 @@ fn category_of(alloc: Global, place: Place<'_>, operands: PluralOperands) -> Ans
 /// The category of a number as it is shown, by the rules of the locale.
 fn category<F: AbstractFormatter>(
     alloc: Global,
-    place: Place<'_>,
+    setting: Setting<'_>,
     formatter: &F,
     number: &UnsignedDecimal,
-) -> Answer {
+) -> CallResult {
     match formatter.plural_operands(alloc, number) {
-        Ok(operands) => category_of(alloc, place, operands),
+        Ok(operands) => category_of(alloc, setting, operands),
         Err(error) => no_number(alloc, error),
     }
 }
@@ -114,15 +114,15 @@ fn category<F: AbstractFormatter>(
 /// What is asked of a number alone.
 fn of_number_alone<F: AbstractFormatter>(
     alloc: Global,
-    place: Place<'_>,
+    setting: Setting<'_>,
     formatter: &F,
     number: &UnsignedDecimal,
     call: &str,
-) -> Answer {
-    let limit = place.asked.limit;
+) -> CallResult {
+    let limit = setting.asked.limit;
     match call {
         "write_unsigned" => write_unsigned(alloc, formatter, number, limit),
-        "category" => category(alloc, place, formatter, number),
+        "category" => category(alloc, setting, formatter, number),
         "write_framed" => frames::write_framed(alloc, formatter, number, limit),
         "framed_to_string" => frames::framed_to_string(alloc, formatter, number),
         _ => Ok(None),
@@ -132,16 +132,16 @@ fn of_number_alone<F: AbstractFormatter>(
 /// What is asked of a number and a condition, or of two numbers.
 fn of_number_and_condition<F: AbstractFormatter>(
     alloc: Global,
-    place: Place<'_>,
+    setting: Setting<'_>,
     formatter: &F,
     number: &UnsignedDecimal,
     (call, condition): (&str, &str),
-) -> Answer {
-    let limit = place.asked.limit;
+) -> CallResult {
+    let limit = setting.asked.limit;
     match call {
         "write_shown" => write_shown(alloc, formatter, number, limit, condition),
         "write_shown_into" => write_shown_into(alloc, formatter, number, condition),
-        "write_pair_into" => write_pair_into(alloc, place, formatter, number, condition),
+        "write_pair_into" => write_pair_into(alloc, setting, formatter, number, condition),
         "plural_operands" => plural_operands(alloc, formatter, number, condition),
         "framed_to_string" => frames::picked(alloc, formatter, number, condition),
         _ => Ok(None),
@@ -151,15 +151,21 @@ fn of_number_and_condition<F: AbstractFormatter>(
 /// What is asked of a number.
 fn of_number<F: AbstractFormatter>(
     alloc: Global,
-    place: Place<'_>,
+    setting: Setting<'_>,
     formatter: &F,
     number: &UnsignedDecimal,
     (call, words): Question<'_>,
-) -> Answer {
+) -> CallResult {
     match words {
-        [] => of_number_alone(alloc, place, formatter, number, call),
+        [] => of_number_alone(alloc, setting, formatter, number, call),
         [condition] => {
-            of_number_and_condition(alloc, place, formatter, number, (call, condition.as_str()))
+            of_number_and_condition(
+                alloc,
+                setting,
+                formatter,
+                number,
+                (call, condition.as_str()),
+            )
         }
         _ => Ok(None),
     }
@@ -171,7 +177,7 @@ fn format_sign<F: AbstractFormatter>(
     formatter: &F,
     text: &str,
     sign: &str,
-) -> Answer {
+) -> CallResult {
     let sign = match sign {
         "Negative" => Sign::Negative,
         "Positive" => Sign::Positive,
@@ -183,13 +189,13 @@ fn format_sign<F: AbstractFormatter>(
 /// What is asked of the number of the first word.
 fn of_first<F: AbstractFormatter>(
     alloc: Global,
-    place: Place<'_>,
+    setting: Setting<'_>,
     formatter: &F,
     (call, words): Question<'_>,
-) -> Answer {
+) -> CallResult {
     match words.split_first() {
-        Some((number, words)) => match decimal_of(alloc, number.as_str(), place.asked.sign)? {
-            Some(decimal) => of_number(alloc, place, formatter, &decimal.absolute, (call, words)),
+        Some((number, words)) => match decimal_of(alloc, number.as_str(), setting.asked.sign)? {
+            Some(decimal) => of_number(alloc, setting, formatter, &decimal.absolute, (call, words)),
             None => Ok(None),
         },
         None => Ok(None),
@@ -197,16 +203,16 @@ fn of_first<F: AbstractFormatter>(
 }
 
 /// What a formatter answers.
-pub(crate) fn answer<F: AbstractFormatter>(
+pub(crate) fn returned<F: AbstractFormatter>(
     alloc: Global,
-    place: Place<'_>,
+    setting: Setting<'_>,
     formatter: &F,
     (call, words): Question<'_>,
-) -> Answer {
-    match (call, words) {
-        ("format_sign", [text, sign]) => {
+) -> CallResult {
+    match words {
+        [text, sign] if call == "format_sign" => {
             format_sign(alloc, formatter, text.as_str(), sign.as_str())
         }
-        _ => of_first(alloc, place, formatter, (call, words)),
+        _ => of_first(alloc, setting, formatter, (call, words)),
     }
 }

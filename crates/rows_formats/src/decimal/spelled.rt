@@ -1,6 +1,6 @@
 //! What was written, and errors, as rows spell them.
 
-use crate::Answer;
+use crate::CallResult;
 use icu_decimal::error::FormatError;
 use icu_plurals::{PluralCategory, PluralOperands, PluralRules, RulesError};
 use icu_provider::{DataError, DataErrorKind};
@@ -12,12 +12,12 @@ use writeable::{Part, PartsText, Writeable};
 const MOST_LISTED: usize = 20;
 
 /// An answer of fixed words.
-pub(crate) fn said(alloc: Global, words: &str) -> Answer {
+pub(crate) fn said(alloc: Global, words: &str) -> CallResult {
     Ok(Some(String::from_str(alloc, words)?))
 }
 
 /// What the making of a formatter answers, which takes no words.
-pub(crate) fn made(alloc: Global, words: &[String]) -> Answer {
+pub(crate) fn made(alloc: Global, words: &[String]) -> CallResult {
     match words {
         [] => said(alloc, "made"),
         _ => Ok(None),
@@ -89,15 +89,19 @@ fn push_spans(alloc: Global, spelled: &mut String, sink: &PartsText) -> Result<(
 
 /// Behind `before`, the text of a sink, and its parts in the order in which they open, each with
 /// the bytes at which it starts and ends; of more than twenty their count.
-fn held(alloc: Global, before: &str, sink: &PartsText) -> Result<String, AllocError> {
+pub(crate) fn held(alloc: Global, before: &str, sink: &PartsText) -> Result<String, AllocError> {
     let mut spelled = format!(in alloc; "{before}{} |", sink.text())?;
     push_spans(alloc, &mut spelled, sink)?;
     Ok(spelled)
 }
 
 /// What a sink holds after a call; in front of it stands why the call failed.
-pub(crate) fn written(alloc: Global, sink: &PartsText, answer: Result<(), FormatError>) -> Answer {
-    match answer {
+pub(crate) fn written(
+    alloc: Global,
+    sink: &PartsText,
+    returned: Result<(), FormatError>,
+) -> CallResult {
+    match returned {
         Ok(()) => Ok(Some(held(alloc, "", sink)?)),
         Err(FormatError::Overflow) => Ok(Some(held(alloc, "Overflow: ", sink)?)),
         Err(FormatError::OutOfMemory) => Err(AllocError),
@@ -107,13 +111,13 @@ pub(crate) fn written(alloc: Global, sink: &PartsText, answer: Result<(), Format
 }
 
 /// What a value leaves in a sink.
-fn in_a_sink<V: Writeable>(alloc: Global, value: &V, limit: Option<usize>) -> Answer {
+fn in_a_sink<V: Writeable>(alloc: Global, value: &V, limit: Option<usize>) -> CallResult {
     let mut sink = sink_of(alloc, limit);
-    let answer = match value.write_to_parts(&mut sink) {
+    let returned = match value.write_to_parts(&mut sink) {
         Ok(()) => Ok(()),
         Err(_) => Err(FormatError::Sink),
     };
-    written(alloc, &sink, answer)
+    written(alloc, &sink, returned)
 }
 
 /// Whether a spelled text begins with this text.
@@ -125,13 +129,13 @@ fn is_of(spelled: &str, text: &str) -> bool {
 }
 
 /// A text, and behind it another one with the name of what gave that.
-pub(crate) fn followed(alloc: Global, spelled: &str, name: &str, text: &str) -> Answer {
+pub(crate) fn followed(alloc: Global, spelled: &str, name: &str, text: &str) -> CallResult {
     Ok(Some(format!(in alloc; "{spelled} | {name} {text}")?))
 }
 
 /// An answer, and behind it a text that isn't the answer's, with the name of what gave it.
-fn with_other(alloc: Global, answer: Answer, name: &str, text: &str) -> Answer {
-    match answer? {
+fn with_other(alloc: Global, returned: CallResult, name: &str, text: &str) -> CallResult {
+    match returned? {
         Some(spelled) if is_of(spelled.as_str(), text) => Ok(Some(spelled)),
         Some(spelled) => followed(alloc, spelled.as_str(), name, text),
         None => Ok(None),
@@ -144,17 +148,17 @@ pub(crate) fn value<V: Writeable + Display>(
     alloc: Global,
     value: &V,
     limit: Option<usize>,
-) -> Answer {
-    let answer = in_a_sink(alloc, value, limit);
+) -> CallResult {
+    let returned = in_a_sink(alloc, value, limit);
     if limit.is_some() {
-        return answer;
+        return returned;
     }
     let displayed = value.to_string(alloc)?;
-    with_other(alloc, answer, "displayed", displayed.as_str())
+    with_other(alloc, returned, "displayed", displayed.as_str())
 }
 
 /// The name of an error of a number.
-pub(crate) fn no_number(alloc: Global, error: FormatError) -> Answer {
+pub(crate) fn no_number(alloc: Global, error: FormatError) -> CallResult {
     match error {
         FormatError::OutOfMemory => Err(AllocError),
         FormatError::Overflow => said(alloc, "Overflow"),
@@ -163,7 +167,7 @@ pub(crate) fn no_number(alloc: Global, error: FormatError) -> Answer {
 }
 
 /// A text, or the name of why there is none.
-pub(crate) fn text(alloc: Global, text: Result<String, FormatError>) -> Answer {
+pub(crate) fn text(alloc: Global, text: Result<String, FormatError>) -> CallResult {
     match text {
         Ok(text) => Ok(Some(text)),
         Err(error) => no_number(alloc, error),
@@ -174,22 +178,22 @@ pub(crate) fn text(alloc: Global, text: Result<String, FormatError>) -> Answer {
 /// limit, the text isn't compared.
 pub(crate) fn with_text(
     alloc: Global,
-    answer: Answer,
+    returned: CallResult,
     text: Result<String, FormatError>,
     limit: Option<usize>,
-) -> Answer {
+) -> CallResult {
     match text {
-        Ok(_) if limit.is_some() => answer,
-        Ok(text) => with_other(alloc, answer, "format_to_string", text.as_str()),
+        Ok(_) if limit.is_some() => returned,
+        Ok(text) => with_other(alloc, returned, "format_to_string", text.as_str()),
         Err(FormatError::OutOfMemory) => Err(AllocError),
-        Err(FormatError::Overflow) => same_error(alloc, answer, "Overflow"),
-        Err(FormatError::Sink) => same_error(alloc, answer, "Sink"),
+        Err(FormatError::Overflow) => same_error(alloc, returned, "Overflow"),
+        Err(FormatError::Sink) => same_error(alloc, returned, "Sink"),
     }
 }
 
 /// An answer that is an error's name, and else the name behind it.
-fn same_error(alloc: Global, answer: Answer, name: &str) -> Answer {
-    match answer? {
+fn same_error(alloc: Global, returned: CallResult, name: &str) -> CallResult {
+    match returned? {
         Some(spelled) if spelled.as_str() == name => Ok(Some(spelled)),
         Some(spelled) => followed(alloc, spelled.as_str(), "format_to_string", name),
         None => Ok(None),
@@ -197,7 +201,7 @@ fn same_error(alloc: Global, answer: Answer, name: &str) -> Answer {
 }
 
 /// The name of an error of a provider.
-pub(crate) fn no_data(alloc: Global, error: DataError) -> Answer {
+pub(crate) fn no_data(alloc: Global, error: DataError) -> CallResult {
     match error.kind {
         DataErrorKind::OutOfMemory => Err(AllocError),
         DataErrorKind::IdentifierNotFound => said(alloc, "IdentifierNotFound"),
@@ -221,8 +225,8 @@ pub(crate) fn held_of(
 }
 
 /// An answer, and behind it whether a condition holds.
-pub(crate) fn with_condition(alloc: Global, answer: Answer, held: &str) -> Answer {
-    match answer? {
+pub(crate) fn with_condition(alloc: Global, returned: CallResult, held: &str) -> CallResult {
+    match returned? {
         Some(spelled) => Ok(Some(format!(in alloc; "{spelled} | {held}")?)),
         None => Ok(None),
     }

@@ -2,7 +2,7 @@
 
 ghost use Rattle.std.specs.Prelude.{◌≡◌, Ok, find, option_map, unwrap_or};
 ghost use Rattle.std.specs.Option.{option_copied};
-ghost use Rattle.icu_provider.specs.Answer.{Answers, refused, told};
+ghost use Rattle.icu_provider.specs.Answer.{Answers, refused, as_answer};
 ghost use Rattle.icu_provider.specs.Identifier.{identifier_of, same_identifier};
 ghost use Rattle.icu_provider.specs.declared.error.DataErrorKind.TheVariants.{IdentifierNotFound};
 
@@ -50,14 +50,14 @@ fn entry_for<'a, T>(
 }
 
 /// The answer of the first entry for the identifier.
-#[tactic(auto, using(icu_provider::specs::Answer::told_answers))]
+#[tactic(auto, using(icu_provider::specs::Answer::as_answer_answers))]
 fn look_up<T: Kept>(
     alloc: Global,
     entries: &[Entry<T>],
     id: &DataIdentifierBorrowed<'_>,
 ) -> Result<T, DataError>
     ensures { Answers result
-        (unwrap_or (option_map (λ e. told e.answer)
+        (unwrap_or (option_map (λ e. as_answer e.answer)
         (find (λ e. same_identifier (record {
           system = option_map (λ s. s.now) e.system;
           locale = e.locale.now;
@@ -84,7 +84,7 @@ pub(super) struct Shelf {
 
 impl DataProvider<DecimalSymbolsV1> for Shelf {
     ghost answer = { λ shelf id.
-        unwrap_or (option_map (λ e. told e.answer)
+        unwrap_or (option_map (λ e. as_answer e.answer)
         (find (λ e. same_identifier (record {
           system = option_map (λ s. s.now) e.system;
           locale = e.locale.now;
@@ -97,7 +97,7 @@ impl DataProvider<DecimalSymbolsV1> for Shelf {
 
 impl DataProvider<DecimalDigitsV1> for Shelf {
     ghost answer = { λ shelf id.
-        unwrap_or (option_map (λ e. told e.answer)
+        unwrap_or (option_map (λ e. as_answer e.answer)
         (find (λ e. same_identifier (record {
           system = option_map (λ s. s.now) e.system;
           locale = e.locale.now;
@@ -110,7 +110,7 @@ impl DataProvider<DecimalDigitsV1> for Shelf {
 
 impl DataProvider<PluralsCardinalV1> for Shelf {
     ghost answer = { λ shelf id.
-        unwrap_or (option_map (λ e. told e.answer)
+        unwrap_or (option_map (λ e. as_answer e.answer)
         (find (λ e. same_identifier (record {
           system = option_map (λ s. s.now) e.system;
           locale = e.locale.now;
@@ -123,7 +123,7 @@ impl DataProvider<PluralsCardinalV1> for Shelf {
 
 impl DataProvider<DecimalCompactShortV1> for Shelf {
     ghost answer = { λ shelf id.
-        unwrap_or (option_map (λ e. told e.answer)
+        unwrap_or (option_map (λ e. as_answer e.answer)
         (find (λ e. same_identifier (record {
           system = option_map (λ s. s.now) e.system;
           locale = e.locale.now;
@@ -136,7 +136,7 @@ impl DataProvider<DecimalCompactShortV1> for Shelf {
 
 impl DataProvider<DecimalCompactLongV1> for Shelf {
     ghost answer = { λ shelf id.
-        unwrap_or (option_map (λ e. told e.answer)
+        unwrap_or (option_map (λ e. as_answer e.answer)
         (find (λ e. same_identifier (record {
           system = option_map (λ s. s.now) e.system;
           locale = e.locale.now;

@@ -1,7 +1,7 @@
 //! Tables of which some kinds of data are kept away.
 
 ghost use Rattle.std.specs.Prelude.{Err, if◌then◌else◌};
-ghost use Rattle.icu_provider.specs.Answer.{told};
+ghost use Rattle.icu_provider.specs.Answer.{as_answer};
 
 use icu_decimal::provider::{DecimalDigitsV1, DecimalSymbols, DecimalSymbolsV1};
 use icu_dimension::NamePattern;
@@ -76,7 +76,7 @@ type Patterns = PluralElements<Pattern<SinglePlaceholder>>;
 type Names = PluralElements<NamePattern>;
 
 impl DataProvider<DecimalSymbolsV1> for Withheld {
-    ghost answer = { λ w id. if w.kept.symbols then told (Err w.kept.error)
+    ghost answer = { λ w id. if w.kept.symbols then as_answer (Err w.kept.error)
         else ⟦<AllTables as DataProvider<DecimalSymbolsV1>>⟧.answer w.tables id };
 
     fn load(&self, alloc: Global, request: &DataRequest<'_>) -> Result<DecimalSymbols, DataError> {
@@ -96,7 +96,7 @@ impl DataProvider<DecimalDigitsV1> for Withheld {
 }
 
 impl DataProvider<PluralsCardinalV1> for Withheld {
-    ghost answer = { λ w id. if w.kept.rules then told (Err w.kept.error)
+    ghost answer = { λ w id. if w.kept.rules then as_answer (Err w.kept.error)
         else ⟦<AllTables as DataProvider<PluralsCardinalV1>>⟧.answer w.tables id };
 
     fn load(&self, alloc: Global, request: &DataRequest<'_>) -> Result<PluralRules, DataError> {
@@ -108,7 +108,7 @@ impl DataProvider<PluralsCardinalV1> for Withheld {
 }
 
 impl DataProvider<PercentPatternsV1> for Withheld {
-    ghost answer = { λ w id. if w.kept.patterns then told (Err w.kept.error)
+    ghost answer = { λ w id. if w.kept.patterns then as_answer (Err w.kept.error)
         else ⟦<AllTables as DataProvider<PercentPatternsV1>>⟧.answer w.tables id };
 
     fn load(&self, alloc: Global, request: &DataRequest<'_>) -> Result<SignedPatterns, DataError> {
@@ -128,7 +128,7 @@ impl DataProvider<UnitsLongV1> for Withheld {
 }
 
 impl DataProvider<CurrencyPatternsV1> for Withheld {
-    ghost answer = { λ w id. if w.kept.patterns then told (Err w.kept.error)
+    ghost answer = { λ w id. if w.kept.patterns then as_answer (Err w.kept.error)
         else ⟦<AllTables as DataProvider<CurrencyPatternsV1>>⟧.answer w.tables id };
 
     fn load(
@@ -144,7 +144,7 @@ impl DataProvider<CurrencyPatternsV1> for Withheld {
 }
 
 impl DataProvider<CurrencySymbolsV1> for Withheld {
-    ghost answer = { λ w id. if w.kept.currency then told (Err w.kept.error)
+    ghost answer = { λ w id. if w.kept.currency then as_answer (Err w.kept.error)
         else ⟦<AllTables as DataProvider<CurrencySymbolsV1>>⟧.answer w.tables id };
 
     fn load(&self, alloc: Global, request: &DataRequest<'_>) -> Result<CurrencySymbols, DataError> {
@@ -156,7 +156,7 @@ impl DataProvider<CurrencySymbolsV1> for Withheld {
 }
 
 impl DataProvider<CurrencyNamesV1> for Withheld {
-    ghost answer = { λ w id. if w.kept.currency then told (Err w.kept.error)
+    ghost answer = { λ w id. if w.kept.currency then as_answer (Err w.kept.error)
         else ⟦<AllTables as DataProvider<CurrencyNamesV1>>⟧.answer w.tables id };
 
     fn load(&self, alloc: Global, request: &DataRequest<'_>) -> Result<Names, DataError> {
@@ -177,7 +177,7 @@ impl DataProvider<CurrencyDecimalSymbolsV1> for Withheld {
 }
 
 impl DataProvider<CurrencyCompactShortV1> for Withheld {
-    ghost answer = { λ w id. if w.kept.compact then told (Err w.kept.error)
+    ghost answer = { λ w id. if w.kept.compact then as_answer (Err w.kept.error)
         else ⟦<AllTables as DataProvider<CurrencyCompactShortV1>>⟧.answer w.tables id };
 
     fn load(&self, alloc: Global, request: &DataRequest<'_>) -> Result<CompactRows, DataError> {

@@ -1,7 +1,7 @@
 //! The order in which a provider is asked, and which of its answers counts.
 
 ghost use Rattle.std.specs.Prelude.{Ok, [], if◌then◌else◌, bytes_eq, codes, length, unwrap_or, map, slice_index_or};
-ghost use Rattle.icu_provider.specs.Answer.{refused, told};
+ghost use Rattle.icu_provider.specs.Answer.{as_answer, refused};
 ghost use Rattle.icu_provider.specs.declared.error.DataErrorKind.TheVariants.{IdentifierNotFound};
 
 use icu_decimal_data::load_with_fallback;
@@ -33,7 +33,7 @@ struct Told {
 }
 
 impl DataProvider<NumberV1> for Told {
-    ghost answer = { λ keeper id. slice_index_or (map told keeper.answers.now)
+    ghost answer = { λ keeper id. slice_index_or (map as_answer keeper.answers.now)
         (length (unwrap_or id.system [])) (refused IdentifierNotFound) };
 
     fn load(&self, _alloc: Global, request: &DataRequest<'_>) -> Result<u8, DataError> {

@@ -22,11 +22,11 @@ type View<'a> = CompactView<'a, SinglePlaceholder>;
 /// A pattern; the call is repeated if memory ran out.
 fn pattern<P: PatternBackend>(
     alloc: Global,
-    place: Option<usize>,
+    placeholder: Option<usize>,
     literal: &str,
 ) -> Result<Pattern<P>, PatternError> {
-    match Pattern::try_new(alloc, place, literal) {
-        Err(PatternError::OutOfMemory) => Pattern::try_new(alloc, place, literal),
+    match Pattern::try_new(alloc, placeholder, literal) {
+        Err(PatternError::OutOfMemory) => Pattern::try_new(alloc, placeholder, literal),
         answered => answered,
     }
 }
@@ -52,7 +52,7 @@ fn pattern_of(
     requires { slot < 8 }
 {
     match entry.slot(slot) {
-        Some(shown) => pattern(alloc, shown.place(), shown.literal()),
+        Some(shown) => pattern(alloc, shown.placeholder(), shown.literal()),
         None => Err(PatternError::BadPlace),
     }
 }

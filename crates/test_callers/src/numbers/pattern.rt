@@ -8,11 +8,11 @@ use std::process::Abort;
 /// What is answered for a pattern; the call is repeated if memory ran out.
 fn judged<P: PatternBackend>(
     alloc: Global,
-    place: Option<usize>,
+    placeholder: Option<usize>,
     literal: &str,
 ) -> Result<Pattern<P>, PatternError> {
-    match Pattern::try_new(alloc, place, literal) {
-        Err(PatternError::OutOfMemory) => Pattern::try_new(alloc, place, literal),
+    match Pattern::try_new(alloc, placeholder, literal) {
+        Err(PatternError::OutOfMemory) => Pattern::try_new(alloc, placeholder, literal),
         answered => answered,
     }
 }
@@ -21,10 +21,10 @@ fn judged<P: PatternBackend>(
 fn pattern_of<P: PatternBackend>(
     rt: &impl Abort,
     alloc: Global,
-    place: Option<usize>,
+    placeholder: Option<usize>,
     literal: &str,
 ) -> Pattern<P> {
-    match judged(alloc, place, literal) {
+    match judged(alloc, placeholder, literal) {
         Ok(pattern) => pattern,
         Err(_) => panic!(rt; "the pattern was refused"),
     }

@@ -6,8 +6,8 @@ mod failing;
 
 use crate::reports::slow::{Full, SlowWriter};
 use decimal_lines::laws::{
-    each_line_is_answered, inputs_have_one_list_of_lines, lines_are_answered_apart, mode_has_table,
-    texts_have_one_answer,
+    each_line_has_its_result, inputs_have_one_list_of_lines, lines_run_apart, mode_has_table,
+    texts_have_one_result,
 };
 use decimal_lines::{Mode, RunError, StartError, run};
 use rows::SlowReader;
@@ -120,13 +120,13 @@ fn runs_again_after_want_of_memory(rt: HostRuntime) {
 
 #[test]
 fn states_the_laws(rt: HostRuntime) {
-    texts_have_one_answer();
+    texts_have_one_result();
     inputs_have_one_list_of_lines();
-    lines_are_answered_apart();
+    lines_run_apart();
     let mode = english(rt.alloc());
     assert!(rt; mode.is_ok());
     if let Ok(mode) = &mode {
         mode_has_table(mode);
-        each_line_is_answered(mode);
+        each_line_has_its_result(mode);
     }
 }

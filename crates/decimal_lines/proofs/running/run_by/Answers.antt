@@ -1,6 +1,6 @@
 use Rattle.std.proofs.Common.{refl, ◌++◌, [], List, ℕ, take, arith}
 use Rattle.std.proofs.lemmas.Result.{on_ok_weaker, on_err_weaker}
-use Rattle.decimal_lines.specs.LineAnswers.{answer_to}
+use Rattle.decimal_lines.specs.LineResults.{text_result}
 use Rattle.decimal_lines.specs.Written.{Feeds}
 use Rattle.decimal_lines.proofs.Known.{Consumes-then, Consumes-keeps, Consumes-nothing, Consumes-none}
 use Rattle.decimal_lines.proofs.Fed.{Feeds-nothing, Feeds-then, Feeds-breaks, Feeds-written, Feeds-unwritten}
@@ -78,7 +78,7 @@ loop-preserved g c =
 -- what holds after the last turn
 ends_so : (g : Over) (c : goal.After-drop-held-2 g) → (got : List ℕ)
     × Consumes (g.R.Read.remaining c.args.reader.now) (g.R.Read.remaining c.loop-test.reader) got
-    × Feeds (answer_to c.args.mode.now) (g.W.Write.contents c.args.writer.now) (g.W.Write.contents c.loop-test.writer) [] got c.loop-test.held.items
+    × Feeds (text_result c.args.mode.now) (g.W.Write.contents c.args.writer.now) (g.W.Write.contents c.loop-test.writer) [] got c.loop-test.held.items
 ends_so g c = elim c.loop-test.branch [
   | else-loop-test w ↦ rw (w.reader-is, w.writer-is, w.held-is) c.loop.invariant
   | then-loop-test+in-Ok+else-n-eq0+in-Ok-take_block+in-Ok-write_piece+else-counter-lt18446744073709551615 w ↦

@@ -1,4 +1,4 @@
-use Rattle.decimal_lines.proofs.ShownInto.{buffer-grows, buffer-refused, buffer-unchanged}
+use Rattle.decimal_lines.proofs.EventsInto.{buffer-grows, buffer-refused, buffer-unchanged}
 use Rattle.decimal_lines.proofs.showing.push_shown.Goals as goal
 
 pub returns-clause-ok : goal.returns-clause-ok

@@ -1,5 +1,5 @@
 use Rattle.std.proofs.Common.{rules}
-use Rattle.decimal_lines.proofs.ShownInto.{sink-writes}
+use Rattle.decimal_lines.proofs.EventsInto.{sink-writes}
 use Rattle.decimal_lines.proofs.showing.write_parts.Goals as goal
 
 pub returns : goal.returns

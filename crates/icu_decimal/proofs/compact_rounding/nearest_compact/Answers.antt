@@ -14,8 +14,8 @@ use Rattle.icu_decimal_data.specs.CompactTable.{entry_at}
 use Rattle.icu_decimal.specs.declared.error.FormatError.{FormatError}
 use Rattle.icu_decimal.specs.declared.error.FormatError.TheVariants.{Overflow}
 use Rattle.icu_decimal.proofs.ChangedEntries.{same_index, other_index}
-use Rattle.icu_decimal.proofs.DisplayedSteps.{entry_is_here, exponent_within, overflows, rounds_past, scaled_magnitude, displayed_same, other_within}
-use Rattle.icu_decimal.proofs.DisplayedSteps.{displayed_other, reached_within, not_refused}
+use Rattle.icu_decimal.proofs.DecomposedSteps.{entry_is_here, exponent_within, overflows, rounds_past, scaled_magnitude, decomposed_same, other_within}
+use Rattle.icu_decimal.proofs.DecomposedSteps.{decomposed_other, reached_within, not_refused}
 use Rattle.icu_decimal.proofs.compact_rounding.nearest_compact.Goals as goal
 
 pub significand_at-requires-clause-exponent : goal.significand_at-requires-clause-exponent
@@ -41,8 +41,8 @@ returns-in_err-significand-clause-overflow g c =
         IsErrOf r Overflow
     over_then is same refused = cc
 
-pub returns-then-eq-clause-displayed : goal.returns-then-eq-clause-displayed
-returns-then-eq-clause-displayed g c =
+pub returns-then-eq-clause-decomposed : goal.returns-then-eq-clause-decomposed
+returns-then-eq-clause-decomposed g c =
     let here = entry_is_here c.args.table.now c.args.value.now c.exponent_or_zero-exponent.result c.nonzero_magnitude_start-power.result _ _
     c.nonzero_magnitude_start-power.ensures.power (omega (arith, ints)) c.entry_index-index.ensures.entry c.exponent_or_zero-exponent.ensures in
     let e = c.exponent_or_zero-exponent.result in
@@ -54,7 +54,7 @@ returns-then-eq-clause-displayed g c =
     let has = c.in_ok-significand.ensures in
     let same = ap (entry_at c.args.table.now) (same_index _ _ (sym c.eq.ensures ∙ c.if-eq.true)) in (
       size s * 10 ^ e,
-      displayed_same here _ near _ _ (omega (arith, ints, reached)) c.reached_index-reached.ensures.entry same s refl has.valid has.trimmed has.high,
+      decomposed_same here _ near _ _ (omega (arith, ints, reached)) c.reached_index-reached.ensures.entry same s refl has.valid has.trimmed has.high,
     )
 
 pub returns-then-eq-clause-overflow : goal.returns-then-eq-clause-overflow
@@ -104,8 +104,8 @@ ten s k fits is = is ∙ ap ten_to (passed k fits)
 top : (s : Unsigned) (k : ℤ) → FitsSigned w16 k → high s ≡ to_z w16 (of_z w16 k) → high s ≡ k
 top s k fits is = is ∙ passed k fits
 
-pub returns-in-Ok-clause-displayed : goal.returns-in-Ok-clause-displayed
-returns-in-Ok-clause-displayed g c =
+pub returns-in-Ok-clause-decomposed : goal.returns-in-Ok-clause-decomposed
+returns-in-Ok-clause-decomposed g c =
     let here = entry_is_here c.args.table.now c.args.value.now c.exponent_or_zero-exponent.result c.nonzero_magnitude_start-power.result _ _
     c.nonzero_magnitude_start-power.ensures.power (omega (arith, ints)) c.entry_index-index.ensures.entry c.exponent_or_zero-exponent.ensures in
     let e = c.exponent_or_zero-exponent.result in
@@ -124,7 +124,7 @@ returns-in-Ok-clause-displayed g c =
     let valid : IsUnsigned c.in-Ok.ten = search rules in
     let trimmed : IsTrimmed c.in-Ok.ten = search rules in (
       size s * 10 ^ e,
-      displayed_other here _ near _ _ (omega (arith, ints, reached)) c.reached_index-reached.ensures.entry c.entry_index-index.ensures.table different
+      decomposed_other here _ near _ _ (omega (arith, ints, reached)) c.reached_index-reached.ensures.entry c.entry_index-index.ensures.table different
           c.in-Ok.ten c.exponent_or_zero-reached_exponent.result c.power_left-left.result c.exponent_or_zero-reached_exponent.ensures
           c.power_left-left.ensures.left
           (ten c.in-Ok.ten c.power_left-left.result fits size_is) valid trimmed (top c.in-Ok.ten c.power_left-left.result fits high_is),

@@ -1,5 +1,5 @@
-use Rattle.icu_decimal.proofs.CompactTold.{compact_tells}
-use Rattle.icu_decimal.proofs.ShownTold.{equal_compact_texts_tell}
+use Rattle.icu_decimal.proofs.CompactDistinct.{compact_tells}
+use Rattle.icu_decimal.proofs.ShownDistinct.{equal_compact_texts_tell}
 use Rattle.icu_decimal.proofs.WorkedEnglish.{english_long_readable, english_short_readable}
 use Rattle.icu_decimal.proofs.laws.compact_text_tells.Goals as goal
 

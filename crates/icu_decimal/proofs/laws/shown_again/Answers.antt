@@ -1,7 +1,7 @@
-use Rattle.icu_decimal.proofs.ShownAgain.{shown_again, shown_is_given}
-use Rattle.icu_decimal.proofs.ShownTold.{equal_shown_texts_tell, shown_tells}
+use Rattle.icu_decimal.proofs.ShownAgain.{shown_again, shown_is_accepted}
+use Rattle.icu_decimal.proofs.ShownDistinct.{equal_shown_texts_tell, shown_tells}
 use Rattle.icu_decimal.proofs.WorkedAgain.{million_written, ten_given}
-use Rattle.icu_decimal.proofs.WorkedCarry.{carry_told}
+use Rattle.icu_decimal.proofs.WorkedCarry.{carry_distinct}
 use Rattle.icu_decimal.proofs.WorkedPadding.{padding_is_needed}
 use Rattle.icu_decimal.proofs.laws.shown_again.Goals as goal
 
@@ -11,6 +11,6 @@ pub returns : goal.returns
 returns c =
     let written = million_written in
     let given = ten_given in
-    let carry = carry_told in
+    let carry = carry_distinct in
     let needed = padding_is_needed in
-    record { again = shown_again; given = shown_is_given; readable = shown_tells; texts = equal_shown_texts_tell }
+    record { again = shown_again; given = shown_is_accepted; readable = shown_tells; texts = equal_shown_texts_tell }

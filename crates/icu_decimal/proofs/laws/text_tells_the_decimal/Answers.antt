@@ -1,4 +1,4 @@
-use Rattle.icu_decimal.proofs.TextsTold.{equal_texts_tell, text_tells}
+use Rattle.icu_decimal.proofs.TextsDistinct.{equal_texts_tell, text_tells}
 use Rattle.icu_decimal.proofs.WorkedReadable.{english_readable}
 use Rattle.icu_decimal.proofs.laws.text_tells_the_decimal.Goals as goal
 

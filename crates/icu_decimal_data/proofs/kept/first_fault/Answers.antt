@@ -1,12 +1,12 @@
 use Rattle.std.proofs.Common.{rules, arith, refl}
 use Rattle.icu_decimal_data.specs.Kept.{at}
-use Rattle.icu_decimal_data.specs.Kept.{given}
+use Rattle.icu_decimal_data.specs.Kept.{as_table}
 use Rattle.icu_decimal_data.proofs.KeptSteps.{kept_since_start}
 use Rattle.icu_decimal_data.proofs.kept.first_fault.Goals as goal
 
 pub loop-log10_type-init : goal.loop-log10_type-init
 loop-log10_type-init g c =
-    rw (c.into_iter-log10_type-iterator.ensures.into_iter_gives.0, kept_since_start (at c.args.zero_magnitude) (given c.args.map.now.entries)) record
+    rw (c.into_iter-log10_type-iterator.ensures.into_iter_gives.0, kept_since_start (at c.args.zero_magnitude) (as_table c.args.map.now.entries)) record
     { faults = refl; size_left = omega arith; fits = omega arith }
 
 -- Goals that a search finds; it is not tried longer where one is false.

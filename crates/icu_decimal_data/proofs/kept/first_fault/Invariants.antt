@@ -1,6 +1,6 @@
 use Rattle.std.proofs.Common.{◌≡◌, ◌≤◌, ◌^◌, ◌+◌, ◌-◌, ℕ, min, List}
 use Rattle.icu_decimal_data.specs.CompactTable.{TableEntry}
-use Rattle.icu_decimal_data.specs.Kept.{given, kept}
+use Rattle.icu_decimal_data.specs.Kept.{as_table, kept}
 use Rattle.icu_decimal_data.specs.CompactFaults.{first_entry_fault, literals_size}
 use Rattle.icu_decimal_data.specs.KeptSince.{kept_since}
 use Rattle.icu_decimal_data.specs.Kept.{at}
@@ -13,5 +13,5 @@ pub record IsLeft (rest whole : List TableEntry) (size : ℕ) : Type 0 where
   pub fits : size ≤ 2 ^ 64 - 1
 
 abbrev pub invariant-loop-log10_type : goal.invariant-loop-log10_type
-invariant-loop-log10_type g l = IsLeft (kept_since (at l.zero_magnitude) (at l.last) (given l.log10_type-iterator))
-    (kept (at l.zero_magnitude) (given l.map.entries)) l.size
+invariant-loop-log10_type g l = IsLeft (kept_since (at l.zero_magnitude) (at l.last) (as_table l.log10_type-iterator))
+    (kept (at l.zero_magnitude) (as_table l.map.entries)) l.size

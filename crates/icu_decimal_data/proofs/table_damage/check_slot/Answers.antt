@@ -34,12 +34,12 @@ pub returns-then-start-len-clause-gives : goal.returns-then-start-len-clause-giv
 unfolding slot_step record_step table_step
 returns-then-start-len-clause-gives g c = search rules
 
-pub returns-then-is_place_wrong-clause-inside : goal.returns-then-is_place_wrong-clause-inside
-returns-then-is_place_wrong-clause-inside g c = search rules
+pub returns-then-is_placeholder_wrong-clause-inside : goal.returns-then-is_placeholder_wrong-clause-inside
+returns-then-is_placeholder_wrong-clause-inside g c = search rules
 
-pub returns-then-is_place_wrong-clause-gives : goal.returns-then-is_place_wrong-clause-gives
+pub returns-then-is_placeholder_wrong-clause-gives : goal.returns-then-is_placeholder_wrong-clause-gives
 unfolding slot_step record_step table_step
-returns-then-is_place_wrong-clause-gives g c = search rules
+returns-then-is_placeholder_wrong-clause-gives g c = search rules
 
 pub returns-then-not-is_slot_good-clause-inside : goal.returns-then-not-is_slot_good-clause-inside
 returns-then-not-is_slot_good-clause-inside g c = search rules

@@ -15,16 +15,17 @@ from_utf8_unchecked-literal-requires g c =
 
 pub unreachable-requires : goal.unreachable-requires
 unreachable-requires g c =
-    let p : PatternText = record { placeholder = c.place_of.result; literal = c.from_utf8_unchecked-literal.result.now } in
+    let p : PatternText = record { placeholder = c.placeholder_of.result; literal = c.from_utf8_unchecked-literal.result.now } in
     let yes : g.P.PatternBackend.accepted p ≡ true = accepted_is g.P.PatternBackend.accepted c.args.bytes.now c.args.index c.args.slot c.requires.table
     c.requires.inside c.requires.slot c.slot_of-found.result.now c.slot_of-found.ensures.bytes c.if-found-eq-ABSENT.false p c.pool_of.result.now
-    (λ i. record { placeholder = c.place_of.ensures i; literal = (c.from_utf8_unchecked-literal.ensures ∙ c.literal_of.ensures) i }) c.pool_of.ensures in
+    (λ i. record { placeholder = c.placeholder_of.ensures i; literal = (c.from_utf8_unchecked-literal.ensures ∙ c.literal_of.ensures) i }) c.pool_of.ensures
+    in
     search rules
 
 pub returns : goal.returns
 returns g c =
-    let p : PatternText = record { placeholder = c.place_of.result; literal = c.from_utf8_unchecked-literal.result.now } in
+    let p : PatternText = record { placeholder = c.placeholder_of.result; literal = c.from_utf8_unchecked-literal.result.now } in
     ap Some c.in-Ok.ensures.given
     ∙ stands_is g.P.PatternBackend.accepted c.args.bytes.now c.args.index c.args.slot c.requires.table c.requires.inside c.requires.slot
     c.slot_of-found.result.now c.slot_of-found.ensures.bytes c.if-found-eq-ABSENT.false p c.pool_of.result.now
-    (λ i. record { placeholder = c.place_of.ensures i; literal = (c.from_utf8_unchecked-literal.ensures ∙ c.literal_of.ensures) i }) c.pool_of.ensures
+    (λ i. record { placeholder = c.placeholder_of.ensures i; literal = (c.from_utf8_unchecked-literal.ensures ∙ c.literal_of.ensures) i }) c.pool_of.ensures

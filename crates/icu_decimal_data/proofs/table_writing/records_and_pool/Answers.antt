@@ -1,6 +1,6 @@
 use Rattle.std.proofs.Common.{rules, ◌≡◌, ◌∙◌, true, sym, ◌∷◌, arith}
 use Rattle.icu_decimal_data.specs.CompactTable.{TableEntry}
-use Rattle.icu_decimal_data.specs.Kept.{given, kept, at}
+use Rattle.icu_decimal_data.specs.Kept.{as_table, kept, at}
 use Rattle.icu_decimal_data.specs.KeptSince.{kept_since, stays}
 use Rattle.icu_decimal_data.proofs.KeptSteps.{kept_since_start}
 use Rattle.icu_decimal_data.proofs.TableWriting.{IsWritten, none_written, kept_room, kept_written}
@@ -12,17 +12,17 @@ loop-log10_type-init g c =
       c.new-records.ensures.items,
       c.new-pool.ensures.items,
       c.into_iter-log10_type-iterator.ensures.into_iter_gives.0,
-      kept_since_start (at c.args.zero_magnitude) (given c.args.map.now.entries),
+      kept_since_start (at c.args.zero_magnitude) (as_table c.args.map.now.entries),
     )
-    (none_written g.P.PatternBackend.accepted (kept (at c.args.zero_magnitude) (given c.args.map.now.entries)))
+    (none_written g.P.PatternBackend.accepted (kept (at c.args.zero_magnitude) (as_table c.args.map.now.entries)))
 
 pub push_slots-requires : goal.push_slots-requires
 push_slots-requires g c =
     let e : TableEntry = record { log10_type = c.in-Some.log10_type.now; exponent = c.in-Some.value.now.0; elements = c.in-Some.value.now.1 } in
     let zero_magnitude = at c.args.zero_magnitude in
     let last = at c.loop-log10_type.last in
-    let es = given c.next.new.self in
-    let whole = kept zero_magnitude (given c.args.map.now.entries) in
+    let es = as_table c.next.new.self in
+    let whole = kept zero_magnitude (as_table c.args.map.now.entries) in
     let left : IsWritten g.P.PatternBackend.accepted
     (kept_since zero_magnitude last (e ∷ es)) whole c.loop-log10_type.records.items c.loop-log10_type.pool.items =
     rw c.in-Some.ensures.steps at c.loop-log10_type.invariant in
@@ -34,8 +34,8 @@ loop-log10_type-preserved-then-stays g c =
     let e : TableEntry = record { log10_type = c.in-Some.log10_type.now; exponent = c.in-Some.value.now.0; elements = c.in-Some.value.now.1 } in
     let zero_magnitude = at c.args.zero_magnitude in
     let last = at c.loop-log10_type.last in
-    let es = given c.next.new.self in
-    let whole = kept zero_magnitude (given c.args.map.now.entries) in
+    let es = as_table c.next.new.self in
+    let whole = kept zero_magnitude (as_table c.args.map.now.entries) in
     let left : IsWritten g.P.PatternBackend.accepted
     (kept_since zero_magnitude last (e ∷ es)) whole c.loop-log10_type.records.items c.loop-log10_type.pool.items =
     rw c.in-Some.ensures.steps at c.loop-log10_type.invariant in

@@ -1,6 +1,6 @@
 use Rattle.std.proofs.Common.{rules, ◌≡◌, ◌++◌, ◌/◌, ◌∙◌, ap, sym, arith, length, ℕ, List}
 use Rattle.std.proofs.lemmas.Slice.{pushed}
-use Rattle.icu_decimal_data.specs.Kept.{given, kept, at}
+use Rattle.icu_decimal_data.specs.Kept.{as_table, kept, at}
 use Rattle.icu_decimal_data.specs.TableBytes.{number_bytes}
 use Rattle.icu_decimal_data.proofs.TableOfMap.{few_kept}
 use Rattle.icu_decimal_data.proofs.TableWriting.{count_is, whole_is}
@@ -8,7 +8,7 @@ use Rattle.icu_decimal_data.proofs.table_writing.table_of.Goals as goal
 
 pub push_number-requires : goal.push_number-requires
 push_number-requires g c =
-    let table = kept (at c.args.zero_magnitude) (given c.args.map.now.entries) in
+    let table = kept (at c.args.zero_magnitude) (as_table c.args.map.now.entries) in
     let count : c.len-3.result / 58 ≡ length table = ap (λ (n : ℕ). n / 58) (c.len-3.ensures ∙ c.in_ok-records.records.ok.0)
     ∙ count_is c.in_ok-records.records.items table c.in_ok-records.ensures.records in
     let few = few_kept (at c.args.zero_magnitude) c.args.map.now.entries g.P.PatternBackend.accepted c.records_and_pool.ensures.sorted
@@ -17,7 +17,7 @@ push_number-requires g c =
 
 pub returns-clause-bytes : goal.returns-clause-bytes
 returns-clause-bytes g c =
-    let table = kept (at c.args.zero_magnitude) (given c.args.map.now.entries) in
+    let table = kept (at c.args.zero_magnitude) (as_table c.args.map.now.entries) in
     let records = c.in_ok-records.records.items in
     let pool = c.in_ok-records.pool.items in
     let count : c.len-3.result / 58 ≡ length table = ap (λ (n : ℕ). n / 58) (c.len-3.ensures ∙ c.in_ok-records.records.ok.0)

@@ -18,10 +18,10 @@ returns-in-Some-strip_prefix c =
     let cut = c.in-Some-strip_prefix.ensures.cases in
     let m = c.in-Some-strip_prefix.middle.now in
     let is : c.args.a.now ≡ c.args.c.now ++ m = cut.1.1 ∙ ap (λ l. c.args.c.now ++ l) (sym cut.2) in
-    let told = c.is_joined-in-Some-strip_prefix.ensures in (
+    let distinct = c.is_joined-in-Some-strip_prefix.ensures in (
       λ e. same_characters c.args.a.now c.args.b.now c.args.c.now c.args.d.now c.utf8.a c.utf8.c
-          (sym (joined c.args.c.now c.args.d.now c.args.a.now c.args.b.now m is (told.0 e))),
-      λ e. told.1 (parted c.args.c.now c.args.d.now c.args.a.now c.args.b.now m is
+          (sym (joined c.args.c.now c.args.d.now c.args.a.now c.args.b.now m is (distinct.0 e))),
+      λ e. distinct.1 (parted c.args.c.now c.args.d.now c.args.a.now c.args.b.now m is
           (sym (same_bytes c.args.a.now c.args.b.now c.args.c.now c.args.d.now c.utf8.a c.utf8.b c.utf8.c c.utf8.d e))),
     )
 

@@ -18,7 +18,7 @@ returns-in-Ok-try_from_utf8-clause-within c =
     within_hundredfold c.args.value.now _ times c.in-Ok-try_from_utf8.ensures.valid
 
 pub returns-in-Err-Limit-clause-limit : goal.returns-in-Err-Limit-clause-limit
-returns-in-Err-Limit-clause-limit c = λ told.
+returns-in-Err-Limit-clause-limit c = λ distinct.
     let text = c.deref.ensures.value ∙ c.in-Ok.ensures.text in
     let is = reads_hundredfold c.deref.result.now c.args.value.now text c.in-Ok.ensures.integer c.in-Ok.ensures.fraction in
     past_hundredfold c.deref.result.now c.args.value.now is (c.in-Err-Limit.ensures.limit.0 (rw c.in-Err-Limit.field-0-is refl))

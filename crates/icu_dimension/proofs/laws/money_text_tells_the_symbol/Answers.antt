@@ -1,5 +1,5 @@
-use Rattle.icu_dimension.proofs.MoneySymbolTold.{equal_one_sign_texts_tell_symbol, equal_texts_tell_symbol, money_tells_symbol}
-use Rattle.icu_dimension.proofs.MoneySymbolTold.{one_sign_tells_symbol, readable_with_symbol}
+use Rattle.icu_dimension.proofs.MoneySymbolDistinct.{equal_one_sign_texts_tell_symbol, equal_texts_tell_symbol, money_tells_symbol}
+use Rattle.icu_dimension.proofs.MoneySymbolDistinct.{one_sign_tells_symbol, readable_with_symbol}
 use Rattle.icu_dimension.proofs.WorkedMoney.{accounts_pattern_read, dollars_are_no_francs, dollars_tell_symbols}
 use Rattle.icu_dimension.proofs.laws.money_text_tells_the_symbol.Goals as goal
 

@@ -22,8 +22,8 @@ returns c = (
     around_readable = record {
       free = subst (λ (ds : List ℕ). HasNoDigitAround ds c.args.patterns.now) c.digits.ensures
           (c.has_no_digit_around.ensures.0 c.if-not-has_no_digit_around.false);
-      sign_told = c.signs_differ.ensures.0 e;
+      sign_distinct = c.signs_differ.ensures.0 e;
     };
   },
-  λ h. c.signs_differ.ensures.1 h.around_readable.sign_told,
+  λ h. c.signs_differ.ensures.1 h.around_readable.sign_distinct,
 )

@@ -1,8 +1,8 @@
 use Rattle.std.proofs.Common.{◌+◌, ◌∙◌, ℕ, None, drop, map, refl, sym}
 use Rattle.std.proofs.lemmas.List.{append-nil, drop_all}
 use Rattle.icu_decimal_data.specs.CompactTable.{PatternElements}
-use Rattle.icu_decimal_data.specs.Kept.{given}
-use Rattle.icu_dimension_data.specs.Given.{texts_given}
+use Rattle.icu_decimal_data.specs.Kept.{as_table}
+use Rattle.icu_dimension_data.specs.LentTexts.{lent_texts}
 use Rattle.icu_dimension_data.specs.SignedTables.{entry_for}
 use Rattle.icu_dimension_data.proofs.RisingRows.{put_last, still_goes_on}
 use Rattle.icu_dimension_data.proofs.SignedTables.{one_more, rows_from}
@@ -23,7 +23,7 @@ loop-index-preserved c =
     let v : ℕ × PatternElements = (row.exponent, c.in_ok-patterns.patterns) in
     let added = c.in_ok-with_entry.ensures ∙ put_last before row left v rises in
     rw added (
-      one_more before row.log10_type v (map (entry_for c.args.digits.now (texts_given c.args.texts.now) c.args.sign) left) _
+      one_more before row.log10_type v (map (entry_for c.args.digits.now (lent_texts c.args.texts.now) c.args.sign) left) _
           (rw c.in_ok-patterns.ensures inv),
       still_goes_on before row left v rises,
     )
@@ -31,4 +31,4 @@ loop-index-preserved c =
 pub returns : goal.returns
 returns c =
     let none = drop_all c.loop-index.index c.args.rows.now c.loop-index-test.false in
-    sym (append-nil (given c.loop-index.entries.entries)) ∙ rw none at c.loop-index.invariant.0
+    sym (append-nil (as_table c.loop-index.entries.entries)) ∙ rw none at c.loop-index.invariant.0

@@ -11,7 +11,7 @@ returns-in_err-row-clause-rows c =
     let v = c.index-entries-index in
     let i = c.loop-index.index in
     let inv = rw (entries_from c.args.entries.now i v.result v.is c.loop-index-test.true) at c.loop-index.invariant in
-    rw (p.1, p.2) (rows_fail c.args.place c.loop-index.found.items c.loop-index.before v.result (drop (i + 1) c.args.entries.now) _
+    rw (p.1, p.2) (rows_fail c.args.position c.loop-index.found.items c.loop-index.before v.result (drop (i + 1) c.args.entries.now) _
     c.in_err-row.field-0.0 c.in_err-row.ensures inv)
 
 pub loop-index-preserved : goal.loop-index-preserved
@@ -19,11 +19,11 @@ loop-index-preserved c =
     let v = c.index-entries-index in
     let i = c.loop-index.index in
     let inv = rw (entries_from c.args.entries.now i v.result v.is c.loop-index-test.true) at c.loop-index.invariant in
-    rw c.in_ok-push.ensures.items (rows_go_on c.args.place c.loop-index.found.items c.loop-index.before v.result (drop (i + 1) c.args.entries.now) _
+    rw c.in_ok-push.ensures.items (rows_go_on c.args.position c.loop-index.found.items c.loop-index.before v.result (drop (i + 1) c.args.entries.now) _
     c.in_ok-row.row c.in_ok-row.ensures inv)
 
 pub returns : goal.returns
 returns c =
-    let read = rows_end c.args.place c.loop-index.found.items c.loop-index.before _
+    let read = rows_end c.args.position c.loop-index.found.items c.loop-index.before _
     (rw (drop_all c.loop-index.index c.args.entries.now c.loop-index-test.false) at c.loop-index.invariant) in
-    record { rows = read; rise = rows_rise c.args.place 0 None c.args.entries.now c.loop-index.found.items read c.requires }
+    record { rows = read; rise = rows_rise c.args.position 0 None c.args.entries.now c.loop-index.found.items read c.requires }

@@ -7,5 +7,5 @@ use Rattle.icu_table_entries.specs.Reading.{entries_at}
 use Rattle.icu_table_entries.specs.declared.error.Key.TheVariants.{Symbols}
 
 abbrev pub invariant-loop-index : goal.invariant-loop-index
-invariant-loop-index l = with_front l.found.items (entries_at (λ _. currency_row_at l.place) Symbols l.index (map view (drop l.index l.values)))
-    ≡ entries_at (λ _. currency_row_at l.place) Symbols 0 (map view l.values)
+invariant-loop-index l = with_front l.found.items (entries_at (λ _. currency_row_at l.position) Symbols l.index (map view (drop l.index l.values)))
+    ≡ entries_at (λ _. currency_row_at l.position) Symbols 0 (map view l.values)

@@ -6,13 +6,13 @@ pub loop-found-init : goal.loop-found-init
 loop-found-init c = looks-start _ _ _ c.part-part.ensures refl
 
 pub overflow_add-result : goal.overflow_add-result
-overflow_add-result c = omega (arith, c.loop-found.invariant.left.place, c.in-Some.ensures.begun, c.in-Some.ensures.within)
+overflow_add-result c = omega (arith, c.loop-found.invariant.left.offset, c.in-Some.ensures.begun, c.in-Some.ensures.within)
 
 pub returns-in-None : goal.returns-in-None
 returns-in-None c = looks-stop _ _ _ _ _ _ c.loop-found.invariant c.in-Some.ensures (sym c.next.ensures ∙ c.in-None.is)
 
 pub overflow_add-at : goal.overflow_add-at
-overflow_add-at c = omega (arith, c.loop-found.invariant.left.place, c.in-Some.ensures.within)
+overflow_add-at c = omega (arith, c.loop-found.invariant.left.offset, c.in-Some.ensures.within)
 
 pub loop-found-preserved : goal.loop-found-preserved
 loop-found-preserved c = looks-next _ _ _ _ _ _ _ _ c.loop-found.invariant c.in-Some.ensures (sym c.next.ensures ∙ c.in-Some-next.is) c.split_at.ensures.back

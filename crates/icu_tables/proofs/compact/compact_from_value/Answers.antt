@@ -7,9 +7,9 @@ pub returns : goal.returns
 unfolding compact_in
 returns c = search rules
 
-pub returns-in_err-given : goal.returns-in_err-given
+pub returns-in_err-listed : goal.returns-in_err-listed
 unfolding compact_in
-returns-in_err-given c = search rules
+returns-in_err-listed c = search rules
 
 pub returns-in_err-object_in : goal.returns-in_err-object_in
 unfolding compact_in

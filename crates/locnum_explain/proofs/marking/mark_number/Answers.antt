@@ -7,4 +7,4 @@ pub returns : goal.returns
 returns c =
     let is = number-marked c.args.formatter.now c.args.decimal.now.absolute c.in-Ok.formatted.value c.value-number.result.now c.in-Ok.ensures.value
     c.value-number.ensures c.args.decimal.now.sign _ _ _ c.in_ok-significand.ensures.0 c.in_ok-significand.ensures.1 c.exponent.ensures in
-    IfOk-weaker c.mark_given.result _ _ (λ text events. events ∙ is) c.mark_given.ensures
+    IfOk-weaker c.mark_with_exponent.result _ _ (λ text events. events ∙ is) c.mark_with_exponent.ensures

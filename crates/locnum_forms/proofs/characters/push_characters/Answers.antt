@@ -4,15 +4,15 @@ use Rattle.std.proofs.lemmas.List.{map-id}
 use Rattle.std.proofs.lemmas.Iterator.{YieldsList-from_chars, YieldsList-from_take}
 use Rattle.std.proofs.lemmas.Iterator.Adapters.{YieldsList-from_skip}
 use Rattle.std.proofs.lemmas.Iterator.Consumers.{YieldsList-at, YieldsList-end}
-use Rattle.locnum_forms.proofs.ShownTexts.{shown_text-nil, shown_text-push}
+use Rattle.locnum_forms.proofs.VisibleTexts.{visible_text-nil, visible_text-push}
 use Rattle.locnum_forms.proofs.characters.push_characters.Goals as goal
 
 pub loop-character-init : goal.loop-character-init
-loop-character-init c = rw shown_text-nil (sym (append-nil _))
+loop-character-init c = rw visible_text-nil (sym (append-nil _))
 
 pub loop-character-preserved : goal.loop-character-preserved
 loop-character-preserved c =
-    let more = shown_text-push c.loop-character.yielded c.in-Some.character in
+    let more = visible_text-push c.loop-character.yielded c.in-Some.character in
     grind (arith, common_steps)
 
 pub returns : goal.returns

@@ -2,7 +2,7 @@ use Rattle.std.proofs.Common.{rules, ◌≡◌, ◌+◌, Result, Ok, Err, ap, po
 use Rattle.std.specs.Int.{int_max}
 use Rattle.std.specs.Prelude.{IfOk}
 use Rattle.fixed_decimal.specs.Modes.{IsLeastFrom}
-use Rattle.fixed_decimal.specs.Padding.{IsWrittenWith}
+use Rattle.fixed_decimal.specs.Padding.{IsExactWith}
 use Rattle.fixed_decimal.specs.Size.{magnitude, size}
 use Rattle.fixed_decimal.specs.Unsigned.{Unsigned, IsUnsigned, high, integer_count}
 use Rattle.fixed_decimal.specs.declared.signed.Decimal.{Decimal}
@@ -30,7 +30,7 @@ returns-clause-ok c = go c.shortened.result c.shortened.ensures.size c.shortened
 
     go : (r : Result Decimal TextError) → IfOk r (λ u. size u.absolute ≡ size y)
         → IfOk r (λ u. high u.absolute ≡ int_max (int_max (pos 0) (pos (integer_count y) -ℤ pos 1)) (magnitude (size y)))
-        → IfOk r (λ u. IsLeastFrom (IsWrittenWith (size y)) (c.args.range.least + c.args.moved) u.absolute.scale)
+        → IfOk r (λ u. IsLeastFrom (IsExactWith (size y)) (c.args.range.least + c.args.moved) u.absolute.scale)
         → IfOk r (λ u. IsUnsigned u.absolute)
         → IfOk r (λ u. with_fraction (c.args.range.least + c.args.moved) (c.args.range.most + c.args.moved) c.args.decimal.absolute ≡ Ok u.absolute)
     go (Ok u) same top scale valid = with-shortened (c.args.range.least + c.args.moved) (c.args.range.most + c.args.moved) c.args.decimal.absolute y

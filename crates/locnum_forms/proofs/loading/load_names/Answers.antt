@@ -17,7 +17,7 @@ returns c =
     let dimension = c.args.all.now.dimension in
     let told : DecimalFormatterPreferences → DecimalFormatterOptions → Type 0 = λ prefs options. Answers c.try_new_unstable.result
     (loaded_plural (symbols_for_money tables dimension) (system_digits tables) (optional_answer tables.rules)
-    (names_answer dimension.places dimension.symbols) prefs c.args.code options (λ f r x. record { formatter = f; rules = r; elements = x })) in
+    (names_answer dimension.placeholders dimension.symbols) prefs c.args.code options (λ f r x. record { formatter = f; rules = r; elements = x })) in
     subst (told (preferences c.args.wanted.now))
     (c.plain_options-options.ensures ∙ ap (λ (w : WantedData). plain_options w.grouping) c.wanted.view_is)
     (subst (λ (prefs : DecimalFormatterPreferences). told prefs c.plain_options-options.result) c.preferences-prefs.ensures

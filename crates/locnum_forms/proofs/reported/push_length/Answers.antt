@@ -1,6 +1,6 @@
 use Rattle.std.proofs.Common.{codes, decimal}
 use Rattle.locnum_forms.specs.Reported.{length_text}
-use Rattle.locnum_forms.proofs.ShownTexts.{appended_three}
+use Rattle.locnum_forms.proofs.VisibleTexts.{appended_three}
 use Rattle.locnum_forms.proofs.reported.push_length.Goals as goal
 
 pub returns : goal.returns

@@ -2,7 +2,7 @@ use Rattle.std.proofs.Common.{◌≡◌, ℕ, List, Bool, true, false, refl, sym
 use Rattle.std.specs.Str.{IsUtf8, chars, is_utf8}
 use Rattle.std.proofs.lemmas.Str.{IsUtf8-from_is_utf8, is_utf8-from_IsUtf8}
 use Rattle.locnum_forms.specs.Reported.{shortened}
-use Rattle.locnum_forms.proofs.ShownTexts.{reported_bytes, reported_utf8}
+use Rattle.locnum_forms.proofs.VisibleTexts.{reported_bytes, reported_utf8}
 use Rattle.locnum_forms.proofs.reported.push_reported.Goals as goal
 
 pub returns-in-Ok : goal.returns-in-Ok

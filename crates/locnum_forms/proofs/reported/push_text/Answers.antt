@@ -1,7 +1,7 @@
 use Rattle.std.proofs.Common.{◌<◌, ◌≤◌, length, sym, arith}
 use Rattle.std.specs.Str.{chars}
 use Rattle.std.proofs.lemmas.List.{take_all}
-use Rattle.locnum_forms.proofs.ShownTexts.{appended, shortened-long, shortened-short}
+use Rattle.locnum_forms.proofs.VisibleTexts.{appended, shortened-long, shortened-short}
 use Rattle.locnum_forms.proofs.reported.push_text.Goals as goal
 
 pub returns-then-count-le-MOST : goal.returns-then-count-le-MOST

@@ -1,7 +1,7 @@
 use Rattle.std.proofs.Common.{◌<◌, ◌≤◌, length, map}
 use Rattle.std.proofs.lemmas.List.{length-map}
 use Rattle.locnum_forms.specs.Characters.{from_byte}
-use Rattle.locnum_forms.proofs.ShownTexts.{appended, back-bytes, front-bytes, shortened-long, shortened-short}
+use Rattle.locnum_forms.proofs.VisibleTexts.{appended, back-bytes, front-bytes, shortened-long, shortened-short}
 use Rattle.locnum_forms.proofs.reported.push_unreadable.Goals as goal
 
 pub returns-then-count-le-MOST : goal.returns-then-count-le-MOST

@@ -5,11 +5,11 @@ use Rattle.locnum_lines.proofs.csv.content_of.Goals as goal
 
 pub loop-byte-preserved : goal.loop-byte-preserved
 loop-byte-preserved c =
-    rw (c.csv_place-place.ensures, c.in_ok-keep.ensures) (c.loop-byte.invariant
-    ∙ ap (λ (k : List ℕ). c.loop-byte.content.items ++ k) (content-step c.loop-byte.place c.args.text.now c.loop-byte.byte-index c.loop-byte-test.true)
+    rw (c.csv_state-state.ensures, c.in_ok-keep.ensures) (c.loop-byte.invariant
+    ∙ ap (λ (k : List ℕ). c.loop-byte.content.items ++ k) (content-step c.loop-byte.state c.args.text.now c.loop-byte.byte-index c.loop-byte-test.true)
     ∙ sym (append_assoc c.loop-byte.content.items _ _))
 
 pub returns : goal.returns
 returns c = sym (c.loop-byte.invariant
-    ∙ ap (λ (k : List ℕ). c.loop-byte.content.items ++ k) (content-end c.loop-byte.place c.args.text.now c.loop-byte.byte-index c.loop-byte-test.false)
+    ∙ ap (λ (k : List ℕ). c.loop-byte.content.items ++ k) (content-end c.loop-byte.state c.args.text.now c.loop-byte.byte-index c.loop-byte-test.false)
     ∙ append-nil c.loop-byte.content.items)

@@ -1,6 +1,6 @@
 use Rattle.std.proofs.Common.{◌≡◌, arith}
 use Rattle.locnum_lines.specs.Fields.{blanks_before}
-use Rattle.locnum_lines.specs.declared.cutting.Place.TheVariants.{Plain}
+use Rattle.locnum_lines.specs.declared.cutting.FieldState.TheVariants.{Plain}
 use Rattle.locnum_lines.specs.declared.settings.Delimiter.TheVariants.{Blanks}
 use Rattle.locnum_lines.proofs.Cuts.{blanks_before-within}
 use Rattle.locnum_lines.proofs.FirstField.{field_length-within}

@@ -1,7 +1,7 @@
 use Rattle.std.proofs.Common.{◌≡◌, ◌++◌, ◌∷◌, [], drop, take, sym, ap, ◌∙◌, append_assoc, arith}
 use Rattle.std.proofs.lemmas.List.{length-take-le}
 use Rattle.locnum_lines.specs.Fields.{field_length}
-use Rattle.locnum_lines.specs.declared.cutting.Place.TheVariants.{Front}
+use Rattle.locnum_lines.specs.declared.cutting.FieldState.TheVariants.{Front}
 use Rattle.locnum_lines.specs.declared.settings.Delimiter.TheVariants.{Byte}
 use Rattle.locnum_lines.proofs.Feeding.{IsPartLine-all, IsPartLine-front, line_split}
 use Rattle.locnum_lines.proofs.Skips.{field_length-all, field_length-front}

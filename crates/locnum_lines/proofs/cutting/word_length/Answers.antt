@@ -1,6 +1,6 @@
 use Rattle.std.proofs.Common.{◌≡◌, ℕ, ◌<◌, Bool, true, false, get_or, length, refl, arith}
 use Rattle.locnum_lines.specs.Fields.{is_blank}
-use Rattle.locnum_lines.specs.declared.cutting.Place.TheVariants.{Plain}
+use Rattle.locnum_lines.specs.declared.cutting.FieldState.TheVariants.{Plain}
 use Rattle.locnum_lines.specs.declared.settings.Delimiter.TheVariants.{Blanks}
 use Rattle.locnum_lines.proofs.Cuts.{field_length-past}
 use Rattle.locnum_lines.proofs.Skips.{word-at, word-end}

@@ -8,7 +8,7 @@ use Rattle.locnum_lines.specs.FieldRuns.{blanks_kept}
 use Rattle.locnum_lines.specs.Padding.{padded}
 use Rattle.locnum_lines.specs.declared.padding.Width.{Width}
 use Rattle.locnum_lines.proofs.Adding.{only_added}
-use Rattle.locnum_lines.proofs.Cuts.{blanks_before-within, content_length-within, cut-is}
+use Rattle.locnum_lines.proofs.Cuts.{blanks_before-within, content_length-within, cut_field-is}
 use Rattle.locnum_lines.proofs.Numbers.{csv-refused, csv-shown, parts-csv}
 use Rattle.locnum_lines.proofs.field.push_content.Goals as goal
 
@@ -20,7 +20,7 @@ split_at-requires-2 c = rw c.content_length.ensures (content_length-within c.spl
 
 pub returns-in_ok-replace-in-Ok : goal.returns-in_ok-replace-in-Ok
 returns-in_ok-replace-in-Ok c =
-    let parts = cut-is c.args.content.now _ _ _ _ _ _ c.blanks_before.ensures c.split_at.ensures.front c.split_at.ensures.back
+    let parts = cut_field-is c.args.content.now _ _ _ _ _ _ c.blanks_before.ensures c.split_at.ensures.front c.split_at.ensures.back
     c.content_length.ensures c.split_at-2.ensures.front c.split_at-2.ensures.back in
     let shown = c.deref.ensures.value ∙ ap (λ g. g.output) c.apart.view_is
     ∙ only_added _ _ _ c.in-Ok.ensures.ok.2 (ap (λ g. g.output) c.apart-apart.ensures.nothing)
@@ -34,7 +34,7 @@ returns-in_ok-replace-in-Ok c =
 
 pub returns-else-eq : goal.returns-else-eq
 returns-else-eq c =
-    let parts = cut-is c.args.content.now _ _ _ _ _ _ c.blanks_before.ensures c.split_at.ensures.front c.split_at.ensures.back
+    let parts = cut_field-is c.args.content.now _ _ _ _ _ _ c.blanks_before.ensures c.split_at.ensures.front c.split_at.ensures.back
     c.content_length.ensures c.split_at-2.ensures.front c.split_at-2.ensures.back in
     let told : c.in-Err.error ≢ OutOfMemory = λ e. false≢true (c.if-eq.ensures ∙ rw e refl) in
     on_ok_weaker c.refuse_field.result (λ a. parts-csv c.args.settings.now c.args.form.now c.args.gathered.now.stage _ c.args.index _ _

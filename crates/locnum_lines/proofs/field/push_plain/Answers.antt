@@ -1,6 +1,6 @@
 use Rattle.std.proofs.Common.{arith}
 use Rattle.std.proofs.lemmas.Result.{on_ok_weaker}
-use Rattle.locnum_lines.proofs.Cuts.{blanks_before-within, content_length-within, cut-is}
+use Rattle.locnum_lines.proofs.Cuts.{blanks_before-within, content_length-within, cut_field-is}
 use Rattle.locnum_lines.proofs.Numbers.{parts-chosen}
 use Rattle.locnum_lines.proofs.field.push_plain.Goals as goal
 
@@ -16,7 +16,7 @@ push_chosen-requires-clause-within c =
 
 pub returns : goal.returns
 returns c =
-    let parts = cut-is c.args.text.now _ _ _ _ _ _ c.blanks_before.ensures c.split_at.ensures.front c.split_at.ensures.back
+    let parts = cut_field-is c.args.text.now _ _ _ _ _ _ c.blanks_before.ensures c.split_at.ensures.front c.split_at.ensures.back
     c.content_length.ensures c.split_at-2.ensures.front c.split_at-2.ensures.back in
     on_ok_weaker c.push_chosen.result (λ a. parts-chosen c.args.settings.now c.args.form.now c.args.gathered.now.stage _ c.args.index _ _
     c.args.text.now _ _ _ parts a)

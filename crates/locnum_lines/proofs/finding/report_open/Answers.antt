@@ -2,7 +2,7 @@ use Rattle.std.proofs.Common.{◌≡◌, ◌+◌, ap, ◌∙◌}
 use Rattle.std.proofs.lemmas.Result.{on_ok_weaker}
 use Rattle.locnum_lines.specs.Records.{last_begun}
 use Rattle.locnum_lines.specs.Stage.{header_passed}
-use Rattle.locnum_lines.specs.declared.cutting.Place.TheVariants.{Front}
+use Rattle.locnum_lines.specs.declared.cutting.FieldState.TheVariants.{Front}
 use Rattle.locnum_lines.proofs.Found.{noted-open}
 use Rattle.locnum_lines.proofs.Goes.{Adds-any}
 use Rattle.locnum_lines.proofs.finding.report_open.Goals as goal

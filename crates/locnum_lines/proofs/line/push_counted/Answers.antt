@@ -1,6 +1,6 @@
 use Rattle.std.proofs.Common.{sym, ◌∙◌}
 use Rattle.std.proofs.lemmas.Result.{IfOk-weaker}
-use Rattle.locnum_lines.specs.declared.cutting.Place.TheVariants.{Front}
+use Rattle.locnum_lines.specs.declared.cutting.FieldState.TheVariants.{Front}
 use Rattle.locnum_lines.proofs.FirstField.{field_length-within}
 use Rattle.locnum_lines.proofs.Passing.{passed-goes}
 use Rattle.locnum_lines.proofs.line.push_counted.Goals as goal

@@ -1,11 +1,11 @@
 use Rattle.std.proofs.Common.{◌≡◌, suc, [], refl, sym, arith}
 use Rattle.locnum_lines.specs.Ran.{writes}
-use Rattle.locnum_lines.proofs.Adding.{Adds-start, joined-none}
+use Rattle.locnum_lines.proofs.Adding.{Adds-start, joined_runs-none}
 use Rattle.locnum_lines.proofs.Goes.{InLine-ends, InLine-goes}
 use Rattle.locnum_lines.proofs.line.push_fields.Goals as goal
 
 pub loop-next-init : goal.loop-next-init
-loop-next-init c = record { ran = writes []; adds = Adds-start c.args.gathered.now c.requires; is_first = (refl, sym (joined-none _)) }
+loop-next-init c = record { ran = writes []; adds = Adds-start c.args.gathered.now c.requires; is_first = (refl, sym (joined_runs-none _)) }
 
 pub loop-next-preserved : goal.loop-next-preserved
 loop-next-preserved c =

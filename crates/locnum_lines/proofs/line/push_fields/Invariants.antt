@@ -2,7 +2,7 @@ use Rattle.std.proofs.Common.{ℕ, suc, List, length, Option, Some, None}
 use Rattle.std.specs.Prelude.{option_map}
 use Rattle.locnum_lines.specs.FieldRuns.{fields_ran}
 use Rattle.locnum_lines.specs.Fields.{fields_from}
-use Rattle.locnum_lines.specs.declared.cutting.Place.TheVariants.{Front}
+use Rattle.locnum_lines.specs.declared.cutting.FieldState.TheVariants.{Front}
 use Rattle.locnum_lines.proofs.Goes.{InLine}
 use Rattle.locnum_lines.proofs.line.push_fields.Given as goal
 

@@ -1,6 +1,6 @@
 use Rattle.std.proofs.Common.{◌≡◌, [], ◌∷◌, false, length, sym, ap, ◌∙◌, arith}
 use Rattle.locnum_lines.specs.Fields.{field_length}
-use Rattle.locnum_lines.specs.declared.cutting.Place.TheVariants.{Front}
+use Rattle.locnum_lines.specs.declared.cutting.FieldState.TheVariants.{Front}
 use Rattle.locnum_lines.proofs.FirstField.{field_length-within}
 use Rattle.locnum_lines.proofs.Adding.{Adds-writes}
 use Rattle.locnum_lines.proofs.Cuts.{seam}

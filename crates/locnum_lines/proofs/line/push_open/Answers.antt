@@ -4,7 +4,7 @@ use Rattle.locnum_lines.specs.Gathered.{Adds}
 use Rattle.locnum_lines.specs.RecordRuns.{open_ran}
 use Rattle.locnum_lines.specs.Records.{in_front}
 use Rattle.locnum_lines.specs.Stage.{header_passed}
-use Rattle.locnum_lines.specs.declared.cutting.Place.TheVariants.{Front}
+use Rattle.locnum_lines.specs.declared.cutting.FieldState.TheVariants.{Front}
 use Rattle.locnum_lines.proofs.Goes.{Adds-any, open-behind, open-stopped}
 use Rattle.locnum_lines.proofs.line.push_open.Goals as goal
 

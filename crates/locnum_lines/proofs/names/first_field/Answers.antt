@@ -1,5 +1,5 @@
 use Rattle.std.proofs.Common.{◌≡◌, length, sym, ◌∙◌, arith}
-use Rattle.locnum_lines.specs.declared.cutting.Place.TheVariants.{Front}
+use Rattle.locnum_lines.specs.declared.cutting.FieldState.TheVariants.{Front}
 use Rattle.locnum_lines.proofs.Cuts.{seam}
 use Rattle.locnum_lines.proofs.FirstField.{field_length-within}
 use Rattle.locnum_lines.proofs.Naming.{names-first, names-last}

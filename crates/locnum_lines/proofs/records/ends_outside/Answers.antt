@@ -10,10 +10,10 @@ turned true h = absurd (false≢true h)
 turned false h = refl
 
 pub returns : goal.returns
-returns c is place =
+returns c is state =
     let bytes = c.args.bytes.now in
     let k : ℕ = length bytes - 2 in
     let next : k + 1 ≡ length bytes - 1 = omega (arith, c.if-length-lt2.false) in
-    ends-outside c.args.delimiter bytes k place (omega (arith, c.if-length-lt2.false))
+    ends-outside c.args.delimiter bytes k state (omega (arith, c.if-length-lt2.false))
     (ap (λ i. get_or bytes i 0) next ∙ c.if-last-ne34.false) (ne_eqb (get_or bytes k 0) 34 c.if-before-eq34.false)
     (turned _ is)

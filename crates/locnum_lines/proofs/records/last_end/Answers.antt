@@ -1,8 +1,8 @@
 use Rattle.std.proofs.Common.{ℕ, ◌+◌, ◌<◌, ◌≤◌, Bool, true, false, Option, Some, None, sym, ◌∙◌, arith}
 use Rattle.std.specs.Prelude.{IfSome}
 use Rattle.locnum_lines.specs.Records.{found_after}
-use Rattle.locnum_lines.specs.declared.cutting.Place.TheVariants.{Front}
-use Rattle.locnum_lines.proofs.Places.{front-end, front-start, front-step}
+use Rattle.locnum_lines.specs.declared.cutting.FieldState.TheVariants.{Front}
+use Rattle.locnum_lines.proofs.States.{front-end, front-start, front-step}
 use Rattle.locnum_lines.proofs.records.last_end.Goals as goal
 
 -- what was found is in front
@@ -21,10 +21,10 @@ loop-index-init c = (omega arith, tt, front-start c.args.delimiter Front c.args.
 pub loop-index-preserved : goal.loop-index-preserved
 loop-index-preserved c =
     let i = c.loop-index.invariant in
-    rw (c.place_after-place.ensures, c.found_after-found.ensures, c.ends_field.ensures) (
+    rw (c.state_after-state.ensures, c.found_after-found.ensures, c.ends_field.ensures) (
       omega (arith, c.loop-index-test.true),
       found-within _ c.loop-index.found c.loop-index.index i.1,
-      i.2 ∙ front-step c.args.delimiter c.args.record.now c.loop-index.index c.loop-index.place c.loop-index.found c.loop-index-test.true,
+      i.2 ∙ front-step c.args.delimiter c.args.record.now c.loop-index.index c.loop-index.state c.loop-index.found c.loop-index-test.true,
     )
 
 pub returns : goal.returns
@@ -32,5 +32,5 @@ returns c =
     let i = c.loop-index.invariant in
     record {
       within = within c.loop-index.found c.loop-index.index _ i.0 i.1;
-      value = sym (i.2 ∙ front-end c.args.delimiter c.args.record.now c.loop-index.index c.loop-index.place _ c.loop-index-test.false);
+      value = sym (i.2 ∙ front-end c.args.delimiter c.args.record.now c.loop-index.index c.loop-index.state _ c.loop-index-test.false);
     }

@@ -2,8 +2,8 @@ use Rattle.std.proofs.Common.{◌++◌, [], List, ℕ, Option, take, sym, ap, �
 use Rattle.std.specs.Io.KnownBytes.{Consumes, prepend_known}
 use Rattle.std.proofs.lemmas.Result.{IfOk-weaker, on_err_weaker}
 use Rattle.decimal_lines.proofs.Known.{Consumes-none, Consumes-nothing, Consumes-then}
-use Rattle.locnum_lines.specs.declared.cutting.Place.TheVariants.{Front}
-use Rattle.locnum_lines.proofs.Feeding.{place_behind-nothing}
+use Rattle.locnum_lines.specs.declared.cutting.FieldState.TheVariants.{Front}
+use Rattle.locnum_lines.proofs.Feeding.{state_behind-nothing}
 use Rattle.locnum_lines.proofs.Marked.{prepend-end}
 use Rattle.locnum_lines.proofs.Runs.{Went, Went-start, Went-then, any_err, breaks, ends, ends_early, known-end, pauses, report_of, stops}
 use Rattle.locnum_lines.proofs.running.run_by.Given.{Over}
@@ -19,7 +19,7 @@ loop-init g c = (
   ap (λ k. k.output) c.new-gathered.ensures,
   ap (λ k. k.notes) c.new-gathered.ensures,
   ap (λ k. k.is_stopped) c.new-gathered.ensures,
-  rw c.new-held.ensures.items (sym (place_behind-nothing c.args.settings.now.delimiter c.args.settings.now.end Front)),
+  rw c.new-held.ensures.items (sym (state_behind-nothing c.args.settings.now.delimiter c.args.settings.now.end Front)),
 )
 
 pub returns-in_err-n-clause-err : goal.returns-in_err-n-clause-err
@@ -48,14 +48,14 @@ returns-in_err-flush-clause-err g c =
     let i = c.loop.invariant in
     let chunk = take c.in_ok-n.n c.read_more.new.block in
     any_err c.from_residual-in_err-flush.result (breaks _ _ _ _ _ _ _ _ _ _ _ _ i.0 _ chunk _ i.2 i.3 i.4 i.5 c.in-Ok.ensures.feeds
-    (Consumes-then _ _ _ i.0 _ i.1 c.in_ok-n.ensures.bytes) c.in_err-flush.ensures.err_written c.in_err-flush.ensures.err_told)
+    (Consumes-then _ _ _ i.0 _ i.1 c.in_ok-n.ensures.bytes) c.in_err-flush.ensures.err_written c.in_err-flush.ensures.err_reported)
 
 pub returns-then-gathered-clause-ok : goal.returns-then-gathered-clause-ok
 returns-then-gathered-clause-ok g c =
     let i = c.loop.invariant in
     let chunk = take c.in_ok-n.n c.read_more.new.block in
     let went = Went-then _ _ _ _ _ _ _ _ _ _ i.0 _ chunk _ i.2 i.3 i.4 i.5 c.in-Ok.ensures.feeds c.in_ok-flush.ensures.written
-    c.in_ok-flush.ensures.told in
+    c.in_ok-flush.ensures.reported in
     stops _ _ _ _ _ _ _ (i.0 ++ chunk) _ went _ _ _ c.reported.result (Consumes-then _ _ _ i.0 _ i.1 c.in_ok-n.ensures.bytes)
     (ap (λ k. k.is_stopped) (sym c.in_ok-flush.ensures.ok) ∙ ap (λ k. k.is_stopped) (sym c.gathered-in-loop-2.view_is) ∙ c.if-gathered.true)
     (c.reported.ensures ∙ ap report_of c.in_ok-flush.ensures.ok)
@@ -65,14 +65,14 @@ loop-preserved g c =
     let i = c.loop.invariant in
     let chunk = take c.in_ok-n.n c.read_more.new.block in
     let went = Went-then _ _ _ _ _ _ _ _ _ _ i.0 _ chunk _ i.2 i.3 i.4 i.5 c.in-Ok.ensures.feeds c.in_ok-flush.ensures.written
-    c.in_ok-flush.ensures.told in (
+    c.in_ok-flush.ensures.reported in (
       i.0 ++ chunk,
       Consumes-then _ _ _ i.0 _ i.1 c.in_ok-n.ensures.bytes,
       rw c.in_ok-flush.ensures.ok went,
       ap (λ k. k.output) c.in_ok-flush.ensures.ok,
       ap (λ k. k.notes) c.in_ok-flush.ensures.ok,
       ap (λ k. k.is_stopped) (sym c.gathered-in-loop-2.view_is) ∙ c.if-gathered.false,
-      c.in-Ok.ensures.place (ap (λ k. k.is_stopped) (sym c.in_ok-flush.ensures.ok) ∙ ap (λ k. k.is_stopped) (sym c.gathered-in-loop-2.view_is)
+      c.in-Ok.ensures.state (ap (λ k. k.is_stopped) (sym c.in_ok-flush.ensures.ok) ∙ ap (λ k. k.is_stopped) (sym c.gathered-in-loop-2.view_is)
           ∙ c.if-gathered.false),
     )
 
@@ -87,7 +87,7 @@ ends_so g c = elim c.loop-test.branch [
       let i = c.loop.invariant in
       let chunk = take w.in_ok-n.n w.read_more.new.block in
       let went = Went-then _ _ _ _ _ _ _ _ _ _ i.0 _ chunk _ i.2 i.3 i.4 i.5 w.in-Ok.ensures.feeds w.in_ok-flush.ensures.written
-      w.in_ok-flush.ensures.told in
+      w.in_ok-flush.ensures.reported in
       rw (w.writer-is, w.notes-is, w.held-is, w.gathered-is) (
         i.0 ++ chunk,
         (_, Consumes-then _ _ _ i.0 _ i.1 w.in_ok-n.ensures.bytes),
@@ -101,8 +101,8 @@ returns-clause-err g c = let i = ends_so g c in pauses _ _ _ _ _ _ _ i.0 _ i.2 _
 pub returns-in_default-clause-err : goal.returns-in_default-clause-err
 returns-in_default-clause-err g c = let i = c.loop.invariant in pauses _ _ _ _ _ _ _ i.0 _ i.2 _ _ i.1
 
-pub finish-requires-clause-place_is : goal.finish-requires-clause-place_is
-finish-requires-clause-place_is g c = rw c.deref.ensures.value c.loop.invariant.6
+pub finish-requires-clause-state_is : goal.finish-requires-clause-state_is
+finish-requires-clause-state_is g c = rw c.deref.ensures.value c.loop.invariant.6
 
-pub take_block-taken-requires-clause-place_is : goal.take_block-taken-requires-clause-place_is
-take_block-taken-requires-clause-place_is g c = c.loop.invariant.6
+pub take_block-taken-requires-clause-state_is : goal.take_block-taken-requires-clause-state_is
+take_block-taken-requires-clause-state_is g c = c.loop.invariant.6

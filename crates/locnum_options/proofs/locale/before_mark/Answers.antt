@@ -6,14 +6,14 @@ use Rattle.locnum_options.proofs.locale.before_mark.Goals as goal
 
 pub returns-then-is_mark : goal.returns-then-is_mark
 returns-then-is_mark c =
-    sym (c.loop-place.invariant ∙ before_mark-here c.args.text.now c.loop-place.place (omega arith) (sym c.is_mark.ensures ∙ c.if-is_mark.true))
+    sym (c.loop-index.invariant ∙ before_mark-here c.args.text.now c.loop-index.index (omega arith) (sym c.is_mark.ensures ∙ c.if-is_mark.true))
 
-pub loop-place-preserved : goal.loop-place-preserved
-loop-place-preserved c =
-    c.loop-place.invariant ∙ before_mark-step c.args.text.now c.loop-place.place (omega arith) (sym c.is_mark.ensures ∙ c.if-is_mark.false)
+pub loop-index-preserved : goal.loop-index-preserved
+loop-index-preserved c =
+    c.loop-index.invariant ∙ before_mark-step c.args.text.now c.loop-index.index (omega arith) (sym c.is_mark.ensures ∙ c.if-is_mark.false)
 
 pub returns : goal.returns
 unfolding before_mark
-returns c = sym (c.loop-place.invariant
-    ∙ rw (take_all c.loop-place.place c.args.text.now (omega arith), drop_all c.loop-place.place c.args.text.now (omega arith))
+returns c = sym (c.loop-index.invariant
+    ∙ rw (take_all c.loop-index.index c.args.text.now (omega arith), drop_all c.loop-index.index c.args.text.now (omega arith))
     (append-nil c.args.text.now))

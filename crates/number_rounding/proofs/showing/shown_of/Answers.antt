@@ -48,14 +48,14 @@ returns-in-Ok-significand_of-clause-shown g c =
     let taken = shown_size c.args.rounding.now (entries_of c.args.table) c.is_minus-minus.result c.args.decimal.absolute fits c.exponent_at-exponent.result
     c.nonzero_magnitude_start-power.result c.nonzero_magnitude_start-power.ensures.power exponent (size c.in-Ok.rounded) r.taken in
     let fits' : FitsSigned w16 c.nonzero_magnitude_start.result = omega (arith, ints, c.nonzero_magnitude_start.type_inv) in
-    let displayed = entry_is (entries_of c.args.table) (size c.in-Ok.rounded) c.nonzero_magnitude_start.result _ c.nonzero_magnitude_start.ensures.power
+    let decomposed = entry_is (entries_of c.args.table) (size c.in-Ok.rounded) c.nonzero_magnitude_start.result _ c.nonzero_magnitude_start.ensures.power
     (simp to_z-of_z at c.entry_index-entry.ensures).entry in
     let s = c.in-Ok-significand_of.ensures in
     rw (← c.is_minus-minus.ensures) (
       size c.in-Ok.rounded,
       is_shown c.args.rounding.now (entries_of c.args.table) c.is_minus-minus.result c.args.decimal.absolute fits c.exponent_at-exponent.result
           c.nonzero_magnitude_start-power.result c.nonzero_magnitude_start-power.ensures.power exponent (size c.in-Ok.rounded)
-          c.exponent_at-exponent-2.result _ taken displayed c.exponent_at-exponent-2.ensures c.in-Ok-significand_of.absolute s.size s.valid s.high s.scale,
+          c.exponent_at-exponent-2.result _ taken decomposed c.exponent_at-exponent-2.ensures c.in-Ok-significand_of.absolute s.size s.valid s.high s.scale,
     )
 
 pub returns-in-Ok-significand_of-clause-within : goal.returns-in-Ok-significand_of-clause-within
@@ -69,13 +69,13 @@ returns-in-Ok-significand_of-clause-within g c =
     let taken = shown_size c.args.rounding.now (entries_of c.args.table) c.is_minus-minus.result c.args.decimal.absolute fits c.exponent_at-exponent.result
     c.nonzero_magnitude_start-power.result c.nonzero_magnitude_start-power.ensures.power exponent (size c.in-Ok.rounded) r.taken in
     let fits' : FitsSigned w16 c.nonzero_magnitude_start.result = omega (arith, ints, c.nonzero_magnitude_start.type_inv) in
-    let displayed = entry_is (entries_of c.args.table) (size c.in-Ok.rounded) c.nonzero_magnitude_start.result _ c.nonzero_magnitude_start.ensures.power
+    let decomposed = entry_is (entries_of c.args.table) (size c.in-Ok.rounded) c.nonzero_magnitude_start.result _ c.nonzero_magnitude_start.ensures.power
     (simp to_z-of_z at c.entry_index-entry.ensures).entry in
     let s = c.in-Ok-significand_of.ensures in
     rw (← c.is_minus-minus.ensures) (within_limits c.args.rounding.now (entries_of c.args.table) c.is_minus-minus.result c.args.decimal.absolute fits
     c.exponent_at-exponent.result
     c.nonzero_magnitude_start-power.result c.nonzero_magnitude_start-power.ensures.power exponent (size c.in-Ok.rounded)
-    c.exponent_at-exponent-2.result _ taken displayed c.exponent_at-exponent-2.ensures c.in-Ok-significand_of.absolute
+    c.exponent_at-exponent-2.result _ taken decomposed c.exponent_at-exponent-2.ensures c.in-Ok-significand_of.absolute
     (λ past. answered c.in-Ok.rounded (r.overflow.1 past)) s.within s.size s.valid s.scale)
 
 pub returns-in-Err-significand_of-clause-overflow : goal.returns-in-Err-significand_of-clause-overflow
@@ -89,10 +89,10 @@ returns-in-Err-significand_of-clause-overflow g c over =
     let taken = shown_size c.args.rounding.now (entries_of c.args.table) c.is_minus-minus.result c.args.decimal.absolute fits c.exponent_at-exponent.result
     c.nonzero_magnitude_start-power.result c.nonzero_magnitude_start-power.ensures.power exponent (size c.in-Ok.rounded) r.taken in
     let fits' : FitsSigned w16 c.nonzero_magnitude_start.result = omega (arith, ints, c.nonzero_magnitude_start.type_inv) in
-    let displayed = entry_is (entries_of c.args.table) (size c.in-Ok.rounded) c.nonzero_magnitude_start.result _ c.nonzero_magnitude_start.ensures.power
+    let decomposed = entry_is (entries_of c.args.table) (size c.in-Ok.rounded) c.nonzero_magnitude_start.result _ c.nonzero_magnitude_start.ensures.power
     (simp to_z-of_z at c.entry_index-entry.ensures).entry in
     rw (← c.is_minus-minus.ensures) (past_written c.args.rounding.now (entries_of c.args.table) c.is_minus-minus.result c.args.decimal.absolute fits
     c.exponent_at-exponent.result
     c.nonzero_magnitude_start-power.result c.nonzero_magnitude_start-power.ensures.power exponent (size c.in-Ok.rounded)
-    c.exponent_at-exponent-2.result _ taken displayed c.exponent_at-exponent-2.ensures (c.in-Err-significand_of.ensures.overflow (alike
+    c.exponent_at-exponent-2.result _ taken decomposed c.exponent_at-exponent-2.ensures (c.in-Err-significand_of.ensures.overflow (alike
     c.in-Err-significand_of.error over)))

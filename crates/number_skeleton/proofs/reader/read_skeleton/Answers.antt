@@ -64,4 +64,4 @@ loop-bytes-preserved c =
     let more = reads-more _ _ _ c.loop-bytes.invariant _ _ _ c.behind.ensures b.within b.same b.none c.behind-rest.ensures some _ c.token_len-len.ensures _
     c.front.ensures
     (draft_data c.in_ok-draft.draft) (sym c.with_token.ensures ∙ ap drafted c.in_ok-draft.was) in
-    rw (c.precision_place-precision_at.ensures) more
+    rw (c.precision_offset-precision_at.ensures) more

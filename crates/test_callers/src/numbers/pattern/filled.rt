@@ -107,9 +107,9 @@ const CASES: [(Option<usize>, &str, &str); 4] = [
 fn is_unpadded(
     rt: &impl Abort,
     alloc: Global,
-    (place, literal, text): (Option<usize>, &str, &str),
+    (placeholder, literal, text): (Option<usize>, &str, &str),
 ) -> bool {
-    let pattern = pattern_of::<SinglePlaceholder>(rt, alloc, place, literal);
+    let pattern = pattern_of::<SinglePlaceholder>(rt, alloc, placeholder, literal);
     is_displayed_unpadded(alloc, &pattern.interpolate(Twelve), text)
 }
 

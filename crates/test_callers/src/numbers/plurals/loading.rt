@@ -1,7 +1,7 @@
 //! Rules from a provider of data: what it is asked by, and what it answers.
 
 ghost use Rattle.std.specs.Prelude.{Ok, Err, ◌&&◌, if◌then◌else◌, codes, bytes_eq, is_none};
-ghost use Rattle.icu_provider.specs.Answer.{told};
+ghost use Rattle.icu_provider.specs.Answer.{as_answer};
 
 use super::plural::{FRENCH, operands_of, rules_of};
 use icu_plurals::{PluralCategory, PluralRules, PluralRulesPreferences, PluralsCardinalV1};
@@ -22,7 +22,7 @@ struct FrenchRules {
 
 impl DataProvider<PluralsCardinalV1> for FrenchRules {
     ghost answer = { λ s id. if is_none id.system && bytes_eq id.locale (codes "fr") then Ok s.rules
-        else told (Err s.refusal) };
+        else as_answer (Err s.refusal) };
 
     fn load(&self, alloc: Global, request: &DataRequest<'_>) -> Result<PluralRules, DataError> {
         self.asked.set(self.asked.get().wrapping_add(1));

@@ -1,7 +1,7 @@
 use Rattle.std.proofs.Common.{◌≡◌, ◌+◌, ◌-◌, length, arith, ◌∙◌, ap, subst}
 use Rattle.fixed_decimal.specs.Size.{size}
 use Rattle.fixed_decimal.specs.Modes.{IsLeastFrom}
-use Rattle.fixed_decimal.specs.Padding.{IsWrittenWith}
+use Rattle.fixed_decimal.specs.Padding.{IsExactWith}
 use Rattle.fixed_decimal.proofs.Padded.{padded_size, padded_scale, padded_valid}
 use Rattle.fixed_decimal.proofs.unsigned.UnsignedDecimal.padded.Goals as goal
 
@@ -25,7 +25,7 @@ returns-clause-scale c =
     c.saturating_sub-back.ensures last in
     let same = ap size c.trimmed.view_is ∙ c.trimmed_end-trimmed.ensures.size ∙ c.trimmed_start.ensures.size
     ∙ ap size c.in_ok-copy.ensures.equal in
-    subst (λ x. IsLeastFrom (IsWrittenWith x) c.args.fraction (c.trimmed.inside.scale + c.saturating_sub-back.result)) same is
+    subst (λ x. IsLeastFrom (IsExactWith x) c.args.fraction (c.trimmed.inside.scale + c.saturating_sub-back.result)) same is
 
 pub returns-clause-valid : goal.returns-clause-valid
 returns-clause-valid c =

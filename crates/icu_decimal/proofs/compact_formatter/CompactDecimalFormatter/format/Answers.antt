@@ -6,6 +6,6 @@ use Rattle.icu_decimal.proofs.compact_formatter.CompactDecimalFormatter.format.G
 
 pub returns-clause-nearest : goal.returns-clause-nearest
 returns-clause-nearest c =
-    signed_compact _ _ _ _ c.in_ok-compact.compact c.in_ok-compact.ensures.nearest
+    signed_compact _ _ _ _ c.in_ok-number.number c.in_ok-number.ensures.nearest
     (c.format_sign.ensures ∙ ap (λ (f : CompactFormat). record
-    { affixes = affixes_for f.decimal.symbols c.args.value.now.sign; value = c.in_ok-compact.compact }) c.self.view_is)
+    { affixes = affixes_for f.decimal.symbols c.args.value.now.sign; value = c.in_ok-number.number }) c.self.view_is)

@@ -21,5 +21,5 @@ returns-clause-no_sink c = search rules
 pub returns-clause-value : goal.returns-clause-value
 returns-clause-value c =
     rw (← c.self.view_is)
-    (compacted_of _ _ _ _ _ _ c.format_unsigned-number.result _ c.in_ok-compacted.ensures.displayed.1 c.in_ok-compacted.ensures.exponent
+    (compacted_of _ _ _ _ _ _ c.format_unsigned-number.result _ c.in_ok-compacted.ensures.decomposed.1 c.in_ok-compacted.ensures.exponent
     (rw (← c.self.view_is) at c.pattern_of-pattern.ensures) c.format_unsigned-number.ensures)

@@ -1,6 +1,6 @@
 use Rattle.std.proofs.Common.{ap}
 use Rattle.writeable.specs.Annotated.{Annotated}
-use Rattle.decimal_lines.proofs.ShownInto.{parts-held}
+use Rattle.decimal_lines.proofs.EventsInto.{parts-held}
 use Rattle.locnum_forms.proofs.form.Form.mark.Goals as goal
 
 pub returns-clause-ok : goal.returns-clause-ok

@@ -1,6 +1,6 @@
 use Rattle.std.proofs.Common.{ap, sym, ◌∙◌}
 use Rattle.writeable.specs.Annotated.{Annotated}
-use Rattle.decimal_lines.proofs.ShownInto.{parts-held}
+use Rattle.decimal_lines.proofs.EventsInto.{parts-held}
 use Rattle.locnum_forms.specs.Forms.{FormData, formatter_events}
 use Rattle.locnum_forms.proofs.form.Form.mark_decimal.Goals as goal
 

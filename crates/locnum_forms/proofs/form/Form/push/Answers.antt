@@ -1,4 +1,4 @@
-use Rattle.decimal_lines.proofs.ShownInto.{buffer-grows, buffer-refused, buffer-unchanged}
+use Rattle.decimal_lines.proofs.EventsInto.{buffer-grows, buffer-refused, buffer-unchanged}
 use Rattle.locnum_forms.proofs.form.Form.push.Goals as goal
 
 pub returns-clause-ok : goal.returns-clause-ok

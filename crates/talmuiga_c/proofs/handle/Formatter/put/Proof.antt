@@ -12,7 +12,7 @@ use denote.Exit.{rest}
 use Rattle.std.proofs.VecSteps.Shapes.{after}
 use denote.Memory.{cell_at}
 use denote.RawPtr.{room_at}
-use Rattle.talmuiga_c.specs.Handle.{empty, holding, place_owns}
+use Rattle.talmuiga_c.specs.Handle.{empty, holding, room_owns}
 use Rattle.talmuiga_c.specs.contracts.handle.Formatter.put as f
 use Rattle.talmuiga_c.proofs.handle.Formatter.put.Statement.{statement}
 use Rattle.talmuiga_c.proofs.handle.Formatter.put.Code as code
@@ -49,7 +49,7 @@ put_spec 𝓤 𝓛 𝓜 𝓡 wired =
     rewrite ! 2 (λ (us : List Val). ‵ (Held.own_val m us)) one.1.0 refl $
     enter ! _ _ _ _ _ $ alloc_all ! (λ l. pass_all ! refl ((tt, tt), (typed, tt)) $ fsplit3 ! $ move ! (1 ∷ 2 ∷ 3 ∷ []) $ opens ! tt R b o (λ us.
     move ! (1 ∷ []) $ peeks ! R _ (shows 𝓛 R) h us (λ is. fsplit ! $ move ! (1 ∷ []) $
-    rewrite ! 0 (λ (x : Option (Option Mode)). ‵ (place_owns h.at x)) none refl $
+    rewrite ! 0 (λ (x : Option (Option Mode)). ‵ (room_owns h.at x)) none refl $
     in_a_block ! h.at (λ p. room_at Held p) (id⊢ 𝓤 _) (λ b' o' e.
     let word = lowers.val_is h us is ∙ ap (λ (p : Ptr). lowers.lowered (record h { at = p }) ∷ []) e in
     let Cell = λ (ws : List Val). ‵ (cell_at full_share R.mir ws b o) in

@@ -11,7 +11,7 @@ use types.ByLocal.{sets_last}
 use Rattle.std.proofs.VecSteps.Shapes.{after}
 use denote.Memory.{cell_at}
 use denote.RawPtr.{room_at}
-use Rattle.talmuiga_c.specs.Handle.{away, empty, place_owns}
+use Rattle.talmuiga_c.specs.Handle.{away, empty, room_owns}
 use Rattle.talmuiga_c.specs.contracts.handle.Formatter.take as f
 use Rattle.talmuiga_c.proofs.handle.Formatter.take.Statement.{statement}
 use Rattle.talmuiga_c.proofs.handle.Formatter.take.Code as code
@@ -40,7 +40,7 @@ take_spec 𝓤 𝓛 𝓜 𝓡 wired =
     keep ! (0 ∷ 2 ∷ []) $
     enter ! _ _ _ _ _ $ alloc_all ! (λ l. pass_all ! refl ((tt, tt), tt) $ fsplit3 ! $ move ! (1 ∷ 2 ∷ 3 ∷ []) $ opens ! tt R b o (λ us.
     move ! (1 ∷ []) $ peeks ! R _ (shows 𝓛 R) h us (λ is. fsplit ! $ move ! (1 ∷ []) $
-    rewrite ! 0 (λ (x : Option (Option Mode)). ‵ (place_owns h.at x)) found.1 refl $
+    rewrite ! 0 (λ (x : Option (Option Mode)). ‵ (room_owns h.at x)) found.1 refl $
     in_a_block ! h.at (λ p. lies_at Held full_share p m) (id⊢ 𝓤 _) (λ b' o' e.
     let word = lowers.val_is h us is ∙ ap (λ (p : Ptr). lowers.lowered (record h { at = p }) ∷ []) e in
     let Cell = λ (ws : List Val). ‵ (cell_at full_share R.mir ws b o) in

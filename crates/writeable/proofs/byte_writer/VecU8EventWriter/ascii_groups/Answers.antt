@@ -11,7 +11,7 @@ returns-then-separator-eq1 c =
     let separator = c.args.grouping.now.separator.now in
     let one : separator ≡ get_or bytes 0 0 ∷ [] = sym c.as_bytes-separator.ensures.value ∙ one_byte bytes (omega arith) in
     let utf8 : IsUtf8 separator = rw c.as_bytes-separator.ensures.value at c.as_bytes-separator.ensures.utf8 in
-    rw (text_of-grouped c.args.grouping.now ascii_characters c.args.digits.now utf8, one) c.push_byte_groups.ensures
+    rw (text_of-grouped c.args.grouping.now ascii_characters c.args.digits.now utf8, one) c.push_byte_groups.ensures.ok
 
 pub returns : goal.returns
 returns c =

@@ -10,7 +10,7 @@ returns-then-are_ascii c =
     let separator = c.args.grouping.now.separator.now in
     let one : separator ≡ get_or bytes 0 0 ∷ [] = sym c.as_bytes-separator.ensures.value ∙ one_byte bytes (omega arith) in
     let utf8 : IsUtf8 separator = rw c.as_bytes-separator.ensures.value at c.as_bytes-separator.ensures.utf8 in
-    rw (text_of-grouped c.args.grouping.now c.args.characters.now c.args.digits.now utf8, one) c.push_byte_groups.ensures
+    rw (text_of-grouped c.args.grouping.now c.args.characters.now c.args.digits.now utf8, one) c.push_byte_groups.ensures.ok
 
 pub returns : goal.returns
 returns c =

@@ -1,8 +1,0 @@
--- What a view of symbols shows.
-use Rattle.icu_decimal_symbols.specs.Symbols.{SymbolTexts}
-use Rattle.icu_decimal_symbols.specs.SymbolBytes.{texts_in}
-use Rattle.icu_decimal_symbols.specs.declared.symbols_view.SymbolsView.{SymbolsView}
-
--- the seven texts in its bytes
-abbrev pub texts_shown : SymbolsView → SymbolTexts
-texts_shown v = texts_in v.bytes.now
