@@ -26,8 +26,8 @@ import usage
 WRONG = "wrong.rows"
 # How the judge of rows compares an answer, and how it finds any answer right.
 JUDGE = "crates/rows/src/asking.rt"
-COMPARES = "Some(answer) if answer.as_str() == wanted => Outcome::Right,"
-NEVER_COMPARES = "Some(answer) if answer.len() < usize::MAX => Outcome::Right,"
+COMPARES = "Some(text) if text.as_str() == wanted => Outcome::Right,"
+NEVER_COMPARES = "Some(text) if text.len() < usize::MAX => Outcome::Right,"
 counts = {True: 0, False: 0}
 
 
