@@ -37,6 +37,7 @@ build_after_ci() {
     done
     (cd crates/talmuiga_c && "$kit/bin/rattle" build --crate-name talmuiga_c src/lib.rt --crate-type staticlib \
         --extern "std=$kit/rlibs/std.rlib" --extern "decimal_lines=$root/crates/decimal_lines/out/rlib/decimal_lines.rlib" \
+        --extern "icu_table_entries=$root/crates/icu_table_entries/out/rlib/icu_table_entries.rlib" \
         --extern "icu_tables=$root/crates/icu_tables/out/rlib/icu_tables.rlib" \
         --extern "writeable=$root/crates/writeable/out/rlib/writeable.rlib" \
         -L "dependency=$kit/rlibs" "${words[@]}" --antt-project "$kit/rattle/logic/antt-project.json" \
