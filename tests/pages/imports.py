@@ -6,9 +6,8 @@ from collections.abc import Iterator
 import edits
 from pages.judging import found, judge, read
 
-# Programs, tests, and the crate that passes items on for them.
-FACADE = "icu_base"
-PROGRAMS = ("decfmt", "locnum", "examples")
+# The crate that passes items on for programs and tests, and the library of tests.
+FACADE, TESTS = "icu_base", "test_callers"
 USE = re.compile(r"^ *(pub(?:\([a-z]+\))? )?use ([\w:]+(?:::\{[^;]*\})?|\w[^;]*);", re.M)
 GHOST = re.compile(r"\buse Rattle\.(\w+)\.specs\.([\w.]+?)\.\{")
 PASSED_ON = re.compile(r"^pub use Rattle\.(\w+)\.specs\.(\w+)$", re.M)
@@ -16,7 +15,7 @@ PASSED_ON = re.compile(r"^pub use Rattle\.(\w+)\.specs\.(\w+)$", re.M)
 
 def is_library(name: str) -> bool:
     """Whether a crate is neither a program, nor tests, nor the crate that passes items on."""
-    return name != FACADE and name not in PROGRAMS and not name.startswith(("rows_", "test_"))
+    return name not in (FACADE, TESTS) and os.path.exists(f"crates/{name}/src/lib.rt")
 
 
 def split_list(text: str) -> Iterator[str]:
@@ -58,7 +57,8 @@ def passed_on(source: str) -> dict[str, list[str]]:
 
 def home_of(path: list[str]) -> str:
     """The crate that defines the item at a path, which begins with a crate."""
-    name, folder, source = path[0], f"crates/{path[0]}/src", f"crates/{path[0]}/src/lib.rt"  # a module may have its crate's name
+    # a module may have the name of its crate
+    name, folder, source = path[0], f"crates/{path[0]}/src", f"crates/{path[0]}/src/lib.rt"
     for index, part in enumerate(path[1:], 1):
         names = passed_on(source) if os.path.exists(source) else {}
         if part in names:
