@@ -26,7 +26,7 @@ times() {
 
 # ended WORD..: the program with these words, its standard error in the file err and its status in the file status.
 ended() {
-    timeout 60 "$program" "$@" 2>"$folder/err"
+    timeout 300 "$program" "$@" 2>"$folder/err"
     echo $? >"$folder/status"
 }
 
@@ -148,7 +148,7 @@ tables '{"symbols":[],"digits":[],"short":[{"locale":"en","patterns":[[3,3,{"oth
 entry='{"locale":"a","minus":["",""],"plus":["",""],"decimal":".","group":",","numsys":"latn","sizes":[3,3,1]},'
 { printf '{"symbols":['; yes "$entry" | head -n 500000 | tr -d '\n'; printf '7],"digits":[]}'; } >"$folder/large.json"
 ends 'large tables' 3 "$rejected" "$folder/large.json" en - plain
-echo 5 | (ulimit -v 200000; exec timeout 20 "$program" "$folder/large.json" en - plain) >"$folder/out" 2>"$folder/err"
+echo 5 | (ulimit -v 200000; exec timeout 120 "$program" "$folder/large.json" en - plain) >"$folder/out" 2>"$folder/err"
 status=$?
 judge_run 'large tables in little memory' 1 '' "$memory"
 rm "$folder/large.json"
@@ -201,7 +201,7 @@ answers 'bn - long' '35357670\n' '৩.৫ কোটি\n'
 answers 'ja - long' '35357670\n' '3536万\n'
 
 # Many lines, more than a pipe or a block holds.
-times 200000 1234567 | timeout 20 "$program" 2>"$folder/err" | same_as times 200000 1,234,567 >"$folder/out"
+times 200000 1234567 | timeout 120 "$program" 2>"$folder/err" | same_as times 200000 1,234,567 >"$folder/out"
 status=${PIPESTATUS[1]}
 judge_run 'many lines' 0 'the same\n' ''
 
@@ -220,12 +220,12 @@ times 500000 1234567 | ended | head -n 1 >"$folder/out"
 status=$(cat "$folder/status")
 judge_run 'a closed reader' 1 '1,234,567\n' "$io_failed"
 
-echo 5 | timeout 20 "$program" >&- 2>"$folder/err"
+echo 5 | timeout 120 "$program" >&- 2>"$folder/err"
 status=$?
 : >"$folder/out"
 judge_run 'a closed standard output' 1 '' "$io_failed"
 
-timeout 20 "$program" </dev/null >&- 2>"$folder/err"
+timeout 120 "$program" </dev/null >&- 2>"$folder/err"
 status=$?
 : >"$folder/out"
 judge_run 'a closed standard output and no input' 0 '' ''
@@ -239,25 +239,25 @@ judge_run 'a folder as standard input' 1 '' "$io_failed"
 if [ ! -c /dev/full ]; then
     skipped 'there is no full device'
 else
-    echo 5 | timeout 20 "$program" >/dev/full 2>"$folder/err"
+    echo 5 | timeout 120 "$program" >/dev/full 2>"$folder/err"
     status=$?
     : >"$folder/out"
     judge_run 'a full device' 1 '' "$io_failed"
 fi
 
 # The status stands where the message can't be written.
-echo 5 | timeout 20 "$program" plain >"$folder/out" 2>&-
+echo 5 | timeout 120 "$program" plain >"$folder/out" 2>&-
 status=$?
 : >"$folder/err"
 judge_run 'a closed standard error' 2 '' ''
 
 # One line of 64 MB, where 40 MB of memory are allowed.
-head -c 64000000 /dev/zero | tr '\0' 1 | (ulimit -v 40000; exec timeout 20 "$program") >"$folder/out" 2>"$folder/err"
+head -c 64000000 /dev/zero | tr '\0' 1 | (ulimit -v 40000; exec timeout 120 "$program") >"$folder/out" 2>"$folder/err"
 status=$?
 judge_run 'out of memory' 1 '' "$memory"
 
 # Memory stays flat in the number of lines.
-times 2000000 1234567 | (ulimit -v 10000; exec timeout 20 "$program") 2>"$folder/err" | same_as times 2000000 1,234,567 >"$folder/out"
+times 2000000 1234567 | (ulimit -v 10000; exec timeout 120 "$program") 2>"$folder/err" | same_as times 2000000 1,234,567 >"$folder/out"
 status=${PIPESTATUS[1]}
 judge_run 'many lines in little memory' 0 'the same\n' ''
 
@@ -277,7 +277,7 @@ import os, pty, subprocess, sys
 typed, terminal = pty.openpty()
 program = subprocess.Popen(sys.argv[1:], stdin=terminal)
 os.write(typed, b"1234567\n-5\n\x04")
-sys.exit(program.wait(timeout=20))
+sys.exit(program.wait(timeout=120))
 END
 status=$?
 judge_run 'a terminal as standard input' 0 '1,234,567\n-5\n' ''
@@ -313,7 +313,7 @@ times 500000 1650 | ended "$sample" en - short | head -n 1 >"$folder/out"
 status=$(cat "$folder/status")
 judge_run 'short: a closed reader' 1 '1.6K\n' "$io_failed"
 
-echo 5 | timeout 20 "$program" "$sample" en - short >&- 2>"$folder/err"
+echo 5 | timeout 120 "$program" "$sample" en - short >&- 2>"$folder/err"
 status=$?
 : >"$folder/out"
 judge_run 'short: a closed standard output' 1 '' "$io_failed"
@@ -322,23 +322,23 @@ ran "$program" "$sample" en - short <&-
 judge_run 'short: a closed standard input' 1 '' "$io_failed"
 
 if [ -c /dev/full ]; then
-    echo 5 | timeout 20 "$program" "$sample" en - short >/dev/full 2>"$folder/err"
+    echo 5 | timeout 120 "$program" "$sample" en - short >/dev/full 2>"$folder/err"
     status=$?
     : >"$folder/out"
     judge_run 'short: a full device' 1 '' "$io_failed"
 fi
 
-head -c 64000000 /dev/zero | tr '\0' 1 | (ulimit -v 40000; exec timeout 20 "$program" "$sample" en - short) >"$folder/out" 2>"$folder/err"
+head -c 64000000 /dev/zero | tr '\0' 1 | (ulimit -v 40000; exec timeout 120 "$program" "$sample" en - short) >"$folder/out" 2>"$folder/err"
 status=$?
 judge_run 'short: out of memory' 1 '' "$memory"
 
-times 500000 1650 | (ulimit -v 40000; exec timeout 60 "$program" "$sample" en - short) 2>"$folder/err" | same_as times 500000 1.6K >"$folder/out"
+times 500000 1650 | (ulimit -v 40000; exec timeout 300 "$program" "$sample" en - short) 2>"$folder/err" | same_as times 500000 1.6K >"$folder/out"
 status=${PIPESTATUS[1]}
 judge_run 'short: many lines in little memory' 0 'the same\n' ''
 
 # Tables of 64 MB, where 40 MB of memory are allowed.
 { printf '{"symbols":"'; head -c 64000000 /dev/zero | tr '\0' 1; printf '"}'; } >"$folder/tables.json"
-(ulimit -v 40000; exec timeout 20 "$program" "$folder/tables.json" en - plain) </dev/null >"$folder/out" 2>"$folder/err"
+(ulimit -v 40000; exec timeout 120 "$program" "$folder/tables.json" en - plain) </dev/null >"$folder/out" 2>"$folder/err"
 status=$?
 judge_run 'tables: out of memory' 1 '' "$memory"
 

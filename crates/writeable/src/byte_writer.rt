@@ -1,6 +1,6 @@
-//! A buffer of bytes as a writer: room for digits is asked for once, where each is one byte.
-ghost use Rattle.std.specs.Prelude.{◌≡◌, ◌+◌, ◌<◌, ◌≤◌, ◌∷◌, ◌++◌, [], All, OnOk, IsOk, length, take, vec_len, vec_capacity};
-ghost use Rattle.writeable.specs.Events.{text_of, digit_events};
+//! A buffer of bytes as a writer: room for digits is asked for once.
+ghost use Rattle.std.specs.Prelude.{◌≡◌, ◌∷◌, ◌++◌, [], OnOk, IsOk};
+ghost use Rattle.writeable.specs.Events.{text_of};
 ghost use Rattle.writeable.specs.Events.Event.{Char, Open, Close};
 ghost use Rattle.writeable.specs.Writes.{AppendsText-nothing, AppendsText-then, OnOk-stop};
 
@@ -9,6 +9,7 @@ use crate::event_writer::{ASCII_DIGITS, EventWriter};
 use crate::groups::Grouping;
 use crate::sink::{Part, WriteFault};
 use crate::text_buffer::{TextBuffer, append_groups};
+use crate::wide_digits::{push_wide, widest};
 use std::mem;
 
 // On success the text of the events stands behind the bytes that the buffer held.
@@ -31,7 +32,7 @@ impl EventWriter for Vec<u8> {
     }
 
     fn digits(&mut self, digits: &[u8], characters: &[char; 10]) -> Result<(), WriteFault> {
-        self.append_digits(digits, characters)
+        self.append_digits(digits, characters, widest(characters))
     }
 
     /// Asks for room once, where each character is one byte.
@@ -46,7 +47,7 @@ impl EventWriter for Vec<u8> {
         if separator.len() == 1 && are_ascii(characters) {
             return push_byte_groups(self, digits, primary, secondary, separator[0], characters);
         }
-        append_groups(self, digits, grouping, characters)
+        append_groups(self, digits, grouping, characters, widest(characters))
     }
 
     /// Asks for room once.
@@ -67,7 +68,7 @@ impl EventWriter for Vec<u8> {
                 &ASCII_DIGITS,
             );
         }
-        append_groups(self, digits, grouping, &ASCII_DIGITS)
+        append_groups(self, digits, grouping, &ASCII_DIGITS, widest(&ASCII_DIGITS))
     }
 
     fn open(&mut self, part: Part) -> Result<(), WriteFault>
@@ -95,16 +96,19 @@ impl TextBuffer for Vec<u8> {
         push_bytes(self, text.as_bytes())
     }
 
-    /// Asks for room once, where the characters are ASCII.
-    fn append_digits(&mut self, digits: &[u8], characters: &[char; 10]) -> Result<(), WriteFault> {
-        let Ok(()) = self.reserve(digits.len()) else {
+    fn append_digits(
+        &mut self,
+        digits: &[u8],
+        characters: &[char; 10],
+        width: usize,
+    ) -> Result<(), WriteFault> {
+        let Ok(()) = self.reserve(digits.len().saturating_mul(width)) else {
             return Err(WriteFault);
         };
         let alloc = *self.allocator();
         let taken = mem::replace(self, Vec::new(alloc));
-        let (pushed, ascii) = push_ascii_digits(taken, digits, characters);
-        *self = pushed;
-        push_digits(self, digits.split_at(ascii).1, characters)
+        *self = push_wide(taken, digits, characters, width);
+        Ok(())
     }
 }
 
@@ -133,35 +137,4 @@ fn push_character(out: &mut Vec<u8>, character: char) -> Result<(), WriteFault>
     let encoded = character.encode_utf8(&mut buffer);
     out.extend_from_slice(encoded.as_bytes())
         .map_err(|_| WriteFault)
-}
-
-/// Appends the characters of the digits up to the first that is not ASCII, and answers how many.
-/// There is room for all.
-fn push_ascii_digits(mut out: Vec<u8>, digits: &[u8], characters: &[char; 10]) -> (Vec<u8>, usize)
-    requires below_ten { All (λ d. d < 10) digits.now }
-    requires room { vec_len out + length digits.now ≤ vec_capacity out }
-    ensures within { result.1 ≤ length digits.now }
-    ensures items { result.0.items ≡ out.items
-        ++ text_of (digit_events characters.now (take result.1 digits.now)) }
-{
-    for index in 0..digits.len() {
-        let character = characters[digits[index] as usize];
-        if !character.is_ascii() {
-            return (out, index);
-        }
-        out.push_reserved(character as u8);
-    }
-    (out, digits.len())
-}
-
-/// Appends the character of each digit.
-fn push_digits(out: &mut Vec<u8>, digits: &[u8], characters: &[char; 10]) -> Result<(), WriteFault>
-    requires { All (λ d. d < 10) digits.now }
-    ensures { OnOk result (out.new.items ≡ out.old.items
-        ++ text_of (digit_events characters.now digits.now)) }
-{
-    for digit in digits {
-        push_character(out, characters[*digit as usize])?;
-    }
-    Ok(())
 }

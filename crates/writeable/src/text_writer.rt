@@ -36,16 +36,12 @@ impl EventWriter for String {
         push_character(self, character)
     }
 
-    /// Asks for room once, where the characters are as long as the first.
+    /// Asks for room once, by the longest of the characters.
     fn digits(&mut self, digits: &[u8], characters: &[char; 10]) -> Result<(), WriteFault> {
-        let room = digits.len().saturating_mul(characters[0].len_utf8());
-        let Ok(()) = self.reserve(room) else {
-            return Err(WriteFault);
-        };
-        self.append_digits(digits, characters)
+        self.append_digits(digits, characters, widest(characters))
     }
 
-    /// Asks for room once, where the characters are as long as the first.
+    /// Asks for room once, by the longest of the characters.
     fn groups(
         &mut self,
         digits: &[u8],
@@ -55,12 +51,13 @@ impl EventWriter for String {
         let separator = grouping.separator.as_bytes();
         let before_last = digits.len().saturating_sub(grouping.primary);
         let separators = before_last.div_ceil(grouping.secondary);
-        let room = digits.len().saturating_mul(characters[0].len_utf8());
+        let width = widest(characters);
+        let room = digits.len().saturating_mul(width);
         let Ok(()) = self.reserve(room.saturating_add(separators.saturating_mul(separator.len())))
         else {
             return Err(WriteFault);
         };
-        append_groups(self, digits, grouping, characters)
+        append_groups(self, digits, grouping, characters, width)
     }
 
     /// Asks for room once. The bytes aren't tested to be UTF-8: that they are is proved.
@@ -131,8 +128,12 @@ impl TextBuffer for String {
         self.push_str(text).map_err(|_| WriteFault)
     }
 
-    fn append_digits(&mut self, digits: &[u8], characters: &[char; 10]) -> Result<(), WriteFault> {
-        let width = widest(characters);
+    fn append_digits(
+        &mut self,
+        digits: &[u8],
+        characters: &[char; 10],
+        width: usize,
+    ) -> Result<(), WriteFault> {
         let Ok(()) = self.reserve(digits.len().saturating_mul(width)) else {
             return Err(WriteFault);
         };
