@@ -310,6 +310,8 @@ if is_there "${compiler[0]}"; then
     judge 'C: rooms, errors and null' "$folder/rooms" "$sample"
     builds parts tests/c_parts.c "$folder/libtalmuiga.a" -O1 -g -fsanitize=address,undefined
     judge 'C: parts of a number' "$folder/parts" "$sample"
+    builds rows tests/c_rows.c "$folder/libtalmuiga.a" -O1 -g -fsanitize=address,undefined
+    judge 'C: rows of single calls' "$folder/rows"
     judge 'C: what the shared object exports' same '' \
         "$(nm -D --defined-only "$folder/libtalmuiga.so.0" | awk '{print $3}' | grep -v '^talmuiga_')"
     if [ -x crates/decfmt/out/decfmt ] && [ -x crates/locnum/out/locnum ]; then

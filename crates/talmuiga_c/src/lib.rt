@@ -10,8 +10,6 @@ mod kept;
 mod marked;
 mod output;
 mod status;
-#[cfg(test)]
-mod tests;
 
 ghost use Rattle.decimal_lines.specs.Plain.{english};
 ghost use Rattle.decimal_lines.specs.declared.mode.Mode.TheVariants.{Plain};
