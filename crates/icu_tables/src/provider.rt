@@ -1,10 +1,8 @@
 //! Tables as a provider.
 
-ghost use Rattle.std.specs.Prelude.{◌≡◌, IfOk, Ok, option_map};
+ghost use Rattle.std.specs.Prelude.{◌≡◌, [], IfErr, IfOk, None, Ok, Some};
 ghost use Rattle.icu_provider.specs.Answer.{Answers};
-ghost use Rattle.icu_provider.specs.Identifier.{identifier_of};
-ghost use Rattle.icu_table_entries.specs.Answering.{filed_answer, optional_answer};
-ghost use Rattle.icu_tables.specs.Digits.{system_answer};
+ghost use Rattle.icu_provider.specs.declared.error.DataErrorKind.TheVariants.{IdentifierNotFound, MarkerNotFound};
 
 use crate::digits::first_digits;
 use crate::tables::Tables;
@@ -14,8 +12,8 @@ use icu_decimal_data::{
 use icu_decimal_symbols::DecimalSymbols;
 use icu_pattern::SinglePlaceholder;
 use icu_plurals::{PluralRules, PluralsCardinalV1};
-use icu_provider::{DataError, DataErrorKind, DataIdentifierBorrowed, DataProvider, DataRequest};
-use icu_table_entries::named::{NamedEntry, first_filed};
+use icu_provider::{DataError, DataErrorKind, DataProvider, DataRequest};
+use icu_table_entries::named::first_filed;
 use std::alloc::Global;
 
 /// What a provider answers with a copy of its data.
@@ -28,57 +26,27 @@ pub fn answered<T, E: Drop>(copied: Result<T, E>) -> Result<T, DataError>
     }
 }
 
-/// Data that is copied for each answer.
-trait Copied: Sized {
-    /// An equal value with memory of its own.
-    fn copied(&self, alloc: Global) -> Result<Self, DataError>
-        ensures { Answers result (Ok self.now) };
-}
-
-impl Copied for DecimalSymbols {
-    fn copied(&self, alloc: Global) -> Result<Self, DataError> {
-        answered(self.copy(alloc))
-    }
-}
-
-impl Copied for PluralRules {
-    fn copied(&self, alloc: Global) -> Result<Self, DataError> {
-        answered(self.copy(alloc))
-    }
-}
-
-impl Copied for CompactPatterns<SinglePlaceholder> {
-    fn copied(&self, alloc: Global) -> Result<Self, DataError> {
-        answered(self.copy(alloc))
-    }
-}
-
-/// A copy of the first entry with the identifier.
-fn load_filed<T: Copied>(
-    alloc: Global,
-    entries: &[NamedEntry<T>],
-    id: &DataIdentifierBorrowed<'_>,
-) -> Result<T, DataError>
-    ensures { Answers result (filed_answer entries.now (identifier_of id.now)) }
+/// The data under a key of the document, which may be absent.
+pub fn present<T>(under_key: &Option<T>) -> Result<&T, DataError>
+    ensures value { IfOk result (λ x. under_key.now ≡ Some x.now) }
+    ensures absent { IfErr result (λ e. (under_key.now ≡ None) × (e.kind ≡ MarkerNotFound)
+        × (e.context.now ≡ [])) }
 {
-    match first_filed(entries, id) {
-        Some(content) => content.copied(alloc),
-        None => Err(DataErrorKind::IdentifierNotFound.into()),
-    }
-}
-
-/// The same under a key that may be absent.
-fn load_optional<T: Copied>(
-    alloc: Global,
-    entries: &Option<Vec<NamedEntry<T>>>,
-    id: &DataIdentifierBorrowed<'_>,
-) -> Result<T, DataError>
-    ensures { Answers result (optional_answer (option_map (λ v. v.items) entries.now)
-        (identifier_of id.now)) }
-{
-    match entries {
-        Some(entries) => load_filed(alloc, entries, id),
+    match under_key {
+        Some(data) => Ok(data),
         None => Err(DataErrorKind::MarkerNotFound.into()),
+    }
+}
+
+/// What a search for an identifier came to.
+pub fn found<T>(searched: Option<T>) -> Result<T, DataError>
+    ensures value { IfOk result (λ x. searched ≡ Some x) }
+    ensures absent { IfErr result (λ e. (searched ≡ None) × (e.kind ≡ IdentifierNotFound)
+        × (e.context.now ≡ [])) }
+{
+    match searched {
+        Some(data) => Ok(data),
+        None => Err(DataErrorKind::IdentifierNotFound.into()),
     }
 }
 
@@ -92,7 +60,8 @@ impl DataProvider<DecimalSymbolsV1> for Tables {
     // promise: Symbols are those of the first entry that matches.
     // mutations: another_entry_answers
     fn load(&self, alloc: Global, request: &DataRequest<'_>) -> Result<DecimalSymbols, DataError> {
-        load_filed(alloc, &self.symbols, &request.id)
+        let symbols = found(first_filed(&self.symbols, &request.id))?;
+        answered(symbols.copy(alloc))
     }
 }
 
@@ -107,10 +76,7 @@ impl DataProvider<DecimalDigitsV1> for Tables {
             Some(system) => first_digits(&self.digits, system),
             None => None,
         };
-        match digits {
-            Some(digits) => Ok(digits),
-            None => Err(DataErrorKind::IdentifierNotFound.into()),
-        }
+        found(digits)
     }
 }
 
@@ -122,7 +88,9 @@ impl DataProvider<PluralsCardinalV1> for Tables {
     /// A copy of the first entry of `rules` with the identifier's locale; none for an identifier
     /// with a numbering system.
     fn load(&self, alloc: Global, request: &DataRequest<'_>) -> Result<PluralRules, DataError> {
-        load_optional(alloc, &self.rules, &request.id)
+        let entries = present(&self.rules)?;
+        let rules = found(first_filed(entries, &request.id))?;
+        answered(rules.copy(alloc))
     }
 }
 
@@ -140,7 +108,9 @@ impl DataProvider<DecimalCompactShortV1> for Tables {
         alloc: Global,
         request: &DataRequest<'_>,
     ) -> Result<CompactPatterns<SinglePlaceholder>, DataError> {
-        load_optional(alloc, &self.short, &request.id)
+        let entries = present(&self.short)?;
+        let patterns = found(first_filed(entries, &request.id))?;
+        answered(patterns.copy(alloc))
     }
 }
 
@@ -156,6 +126,8 @@ impl DataProvider<DecimalCompactLongV1> for Tables {
         alloc: Global,
         request: &DataRequest<'_>,
     ) -> Result<CompactPatterns<SinglePlaceholder>, DataError> {
-        load_optional(alloc, &self.long, &request.id)
+        let entries = present(&self.long)?;
+        let patterns = found(first_filed(entries, &request.id))?;
+        answered(patterns.copy(alloc))
     }
 }
