@@ -4,7 +4,7 @@ use Rattle.std.proofs.Common.{append_assoc, ap, ◌∙◌, arith}
 use Rattle.std.proofs.Common.{get_or, length, sym, take}
 use Rattle.std.proofs.lemmas.Bool.Decides.{nat_tests}
 use Rattle.std.proofs.lemmas.Str.{length-encode}
-use Rattle.std.proofs.Math.Nat.{add-mul, one-mul}
+use Rattle.std.proofs.Math.Nat.{add-mul, mul-add, one-mul}
 use Rattle.std.proofs.Math.Utf8.{encode}
 use Rattle.std.specs.Char.{encode_utf8}
 use Rattle.writeable.specs.Events.{digit_events, text_of}
@@ -52,3 +52,18 @@ pub wide_digits_grow : (old out new characters digits : List ℕ) (i : ℕ) → 
 wide_digits_grow old out new characters digits i less e f =
     let c = get_or characters (get_or digits i 0) 0 in
     digits_grow old out new characters digits i less e (f ∙ ap (λ l. out ++ l) (sym (append-nil (encode_utf8 c))))
+
+-- the room for digits with a separator before each is enough for some digits, and for the rest with their separators
+pub first_fits : (len capacity n left all width separator : ℕ) → all ≡ n + left → len + all * (width + separator) ≤ capacity →
+    len + n * width + left * (width + separator) ≤ capacity
+first_fits len capacity n left all width separator e room =
+    omega (arith, add-mul n left (width + separator), mul-add n width separator, rw e at room)
+
+-- the same with a separator before these digits
+pub next_fits : (len capacity n left all width separator : ℕ) → 0 < n → all ≡ n + left → len + all * (width + separator) ≤ capacity →
+    len + separator + n * width + left * (width + separator) ≤ capacity
+next_fits len capacity n left all width separator some e room =
+    let one : n ≡ (n - 1) + 1 = omega arith in
+    let more : n * separator ≡ (n - 1) * separator + separator =
+    ap (λ k. k * separator) one ∙ omega (arith, add-mul (n - 1) 1 separator, one-mul separator) in
+    omega (arith, add-mul n left (width + separator), mul-add n width separator, more, rw e at room)

@@ -8,9 +8,7 @@ use crate::byte_groups::{are_ascii, push_byte_digits, push_byte_groups};
 use crate::event_writer::{ASCII_DIGITS, EventWriter};
 use crate::groups::Grouping;
 use crate::sink::{Part, WriteFault};
-use crate::text_buffer::{TextBuffer, append_groups};
-use crate::wide_digits::{push_wide, widest};
-use std::mem;
+use crate::wide_groups::{push_wide_digits, push_wide_groups};
 
 // On success the text of the events stands behind the bytes that the buffer held.
 impl EventWriter for Vec<u8> {
@@ -24,7 +22,7 @@ impl EventWriter for Vec<u8> {
 
     #[tactic(auto, using(crate::proofs::EventLemmas::text_steps))]
     fn text(&mut self, text: &str) -> Result<(), WriteFault> {
-        self.append_text(text)
+        push_bytes(self, text.as_bytes())
     }
 
     fn character(&mut self, character: char) -> Result<(), WriteFault> {
@@ -32,7 +30,7 @@ impl EventWriter for Vec<u8> {
     }
 
     fn digits(&mut self, digits: &[u8], characters: &[char; 10]) -> Result<(), WriteFault> {
-        self.append_digits(digits, characters, widest(characters))
+        push_wide_digits(self, digits, characters)
     }
 
     /// Asks for room once, where each character is one byte.
@@ -47,7 +45,7 @@ impl EventWriter for Vec<u8> {
         if separator.len() == 1 && are_ascii(characters) {
             return push_byte_groups(self, digits, primary, secondary, separator[0], characters);
         }
-        append_groups(self, digits, grouping, characters, widest(characters))
+        push_wide_groups(self, digits, grouping, characters)
     }
 
     /// Asks for room once.
@@ -68,7 +66,7 @@ impl EventWriter for Vec<u8> {
                 &ASCII_DIGITS,
             );
         }
-        append_groups(self, digits, grouping, &ASCII_DIGITS, widest(&ASCII_DIGITS))
+        push_wide_groups(self, digits, grouping, &ASCII_DIGITS)
     }
 
     fn open(&mut self, part: Part) -> Result<(), WriteFault>
@@ -84,30 +82,6 @@ impl EventWriter for Vec<u8> {
         ensures wrote { OnOk result (self.new.items ≡ self.old.items ++ text_of (Close ∷ [])) }
         ensures ok { IsOk result }
     {
-        Ok(())
-    }
-}
-
-// A buffer grows by the UTF-8 of the characters.
-impl TextBuffer for Vec<u8> {
-    ghost bytes = { λ b. b.items };
-
-    fn append_text(&mut self, text: &str) -> Result<(), WriteFault> {
-        push_bytes(self, text.as_bytes())
-    }
-
-    fn append_digits(
-        &mut self,
-        digits: &[u8],
-        characters: &[char; 10],
-        width: usize,
-    ) -> Result<(), WriteFault> {
-        let Ok(()) = self.reserve(digits.len().saturating_mul(width)) else {
-            return Err(WriteFault);
-        };
-        let alloc = *self.allocator();
-        let taken = mem::replace(self, Vec::new(alloc));
-        *self = push_wide(taken, digits, characters, width);
         Ok(())
     }
 }

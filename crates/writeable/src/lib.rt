@@ -27,9 +27,9 @@ pub mod groups;
 pub mod laws;
 pub mod parts_text;
 pub mod sink;
-mod text_buffer;
 mod text_writer;
 mod wide_digits;
+mod wide_groups;
 pub mod writeable;
 
 pub use error::OutOfMemory;

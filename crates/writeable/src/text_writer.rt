@@ -10,8 +10,7 @@ use crate::byte_groups::{push_byte_digits, push_byte_groups};
 use crate::event_writer::{ASCII_DIGITS, EventWriter};
 use crate::groups::Grouping;
 use crate::sink::{Part, WriteFault};
-use crate::text_buffer::{TextBuffer, append_groups};
-use crate::wide_digits::{push_wide, widest};
+use crate::wide_groups::{push_wide_digits, push_wide_groups};
 use std::mem;
 
 // On success the text of the events stands behind what the string held.
@@ -27,7 +26,7 @@ impl EventWriter for String {
 
     #[tactic(auto, using(crate::proofs::EventLemmas::text_steps))]
     fn text(&mut self, text: &str) -> Result<(), WriteFault> {
-        self.append_text(text)
+        push_text(self, text)
     }
 
     // promise: The character stands behind the text that was there.
@@ -36,28 +35,31 @@ impl EventWriter for String {
         push_character(self, character)
     }
 
-    /// Asks for room once, by the longest of the characters.
+    /// Asks for room once, by the longest of the characters. The bytes aren't tested to be UTF-8:
+    /// that they are is proved.
     fn digits(&mut self, digits: &[u8], characters: &[char; 10]) -> Result<(), WriteFault> {
-        self.append_digits(digits, characters, widest(characters))
+        let alloc = *self.allocator();
+        let taken = mem::replace(self, String::new(alloc));
+        let mut bytes = taken.into_bytes();
+        let result = push_wide_digits(&mut bytes, digits, characters);
+        *self = unsafe { String::from_utf8_unchecked(bytes) };
+        result
     }
 
-    /// Asks for room once, by the longest of the characters.
+    /// Asks for room once, by the longest of the characters. The bytes aren't tested to be UTF-8:
+    /// that they are is proved.
     fn groups(
         &mut self,
         digits: &[u8],
         grouping: &Grouping<'_>,
         characters: &[char; 10],
     ) -> Result<(), WriteFault> {
-        let separator = grouping.separator.as_bytes();
-        let before_last = digits.len().saturating_sub(grouping.primary);
-        let separators = before_last.div_ceil(grouping.secondary);
-        let width = widest(characters);
-        let room = digits.len().saturating_mul(width);
-        let Ok(()) = self.reserve(room.saturating_add(separators.saturating_mul(separator.len())))
-        else {
-            return Err(WriteFault);
-        };
-        append_groups(self, digits, grouping, characters, width)
+        let alloc = *self.allocator();
+        let taken = mem::replace(self, String::new(alloc));
+        let mut bytes = taken.into_bytes();
+        let result = push_wide_groups(&mut bytes, digits, grouping, characters);
+        *self = unsafe { String::from_utf8_unchecked(bytes) };
+        result
     }
 
     /// Asks for room once. The bytes aren't tested to be UTF-8: that they are is proved.
@@ -111,50 +113,19 @@ impl EventWriter for String {
     }
 }
 
-// A string grows by its own characters.
-impl TextBuffer for String {
-    ghost bytes = { λ s. string_bytes s };
-
-    /// An empty text, as most affixes are, and one ASCII character, as most separators are, take no
-    /// copy of memory.
-    fn append_text(&mut self, text: &str) -> Result<(), WriteFault> {
-        let bytes = text.as_bytes();
-        if bytes.is_empty() {
-            return Ok(());
-        }
-        if bytes.len() == 1 && bytes[0].is_ascii() {
-            return push_character(self, bytes[0] as char);
-        }
-        self.push_str(text).map_err(|_| WriteFault)
-    }
-
-    fn append_digits(
-        &mut self,
-        digits: &[u8],
-        characters: &[char; 10],
-        width: usize,
-    ) -> Result<(), WriteFault> {
-        let Ok(()) = self.reserve(digits.len().saturating_mul(width)) else {
-            return Err(WriteFault);
-        };
-        let alloc = *self.allocator();
-        let taken = mem::replace(self, String::new(alloc));
-        *self = with_digits(taken, digits, characters, width);
-        Ok(())
-    }
-}
-
-/// A text with digits behind it, for which there is room. The bytes aren't checked to be UTF-8: that
-/// they are is proved.
-fn with_digits(text: String, digits: &[u8], characters: &[char; 10], width: usize) -> String
-    requires below_ten { All (λ d. d < 10) digits.now }
-    requires widths { All (λ c. length (encode_utf8 c) ≤ width) characters.now }
-    requires room { string_len text + length digits.now * width ≤ string_capacity text }
-    ensures { string_bytes result ≡ string_bytes text
-        ++ text_of (digit_events characters.now digits.now) }
+/// Appends a text. An empty text, as most affixes are, and one ASCII character, as most separators
+/// are, take no copy of memory.
+fn push_text(out: &mut String, text: &str) -> Result<(), WriteFault>
+    ensures { OnOk result (string_bytes out.new ≡ string_bytes out.old ++ text.now) }
 {
-    let bytes = push_wide(text.into_bytes(), digits, characters, width);
-    unsafe { String::from_utf8_unchecked(bytes) }
+    let bytes = text.as_bytes();
+    if bytes.is_empty() {
+        return Ok(());
+    }
+    if bytes.len() == 1 && bytes[0].is_ascii() {
+        return push_character(out, bytes[0] as char);
+    }
+    out.push_str(text).map_err(|_| WriteFault)
 }
 
 /// Appends a character.

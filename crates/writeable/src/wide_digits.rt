@@ -29,6 +29,8 @@ pub(crate) fn push_wide(
     requires widths { All (λ c. length (encode_utf8 c) ≤ width) characters.now }
     requires room { vec_len out + length digits.now * width ≤ vec_capacity out }
     ensures items { result.items ≡ out.items ++ text_of (digit_events characters.now digits.now) }
+    ensures len { vec_len result ≤ vec_len out + length digits.now * width }
+    ensures capacity { vec_capacity result ≡ vec_capacity out }
     ensures is_text { IsUtf8 (text_of (digit_events characters.now digits.now)) }
 {
     for index in 0..digits.len() {

@@ -9,7 +9,7 @@ use crate::sink::{PartsWrite, WriteFault};
 use std::alloc::Global;
 
 /// How many bytes a text has room for when it begins: most numbers then take one block of memory.
-const SHORT_TEXT: usize = 32;
+const SHORT_TEXT: usize = 40;
 
 /// A value that writes itself as text with parts.
 ///

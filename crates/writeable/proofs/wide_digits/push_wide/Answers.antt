@@ -1,4 +1,4 @@
-use Rattle.std.proofs.Common.{◌≡◌, ◌-◌, ◌<◌, ◌≤◌, get_or, length, arith}
+use Rattle.std.proofs.Common.{◌≡◌, ◌-◌, ◌<◌, ◌≤◌, get_or, length, arith, refl}
 use Rattle.std.proofs.lemmas.Grind.{common_steps}
 use Rattle.std.proofs.lemmas.Str.{IsUtf8-append, IsUtf8-nil}
 use Rattle.std.specs.Char.{encode_utf8}
@@ -25,10 +25,11 @@ loop-index-preserved c =
           c.push_reserved_character-out.ensures.items;
       is_text = rw (text_of-digits_more c.args.characters.now c.args.digits.now c.loop-index.index (omega arith))
           (IsUtf8-append _ _ c.loop-index.invariant.is_text c.push_reserved_character-out.ensures.is_text);
-      room = omega arith;
+      len = omega arith;
+      capacity = omega arith;
     }
 
 pub loop-index-init : goal.loop-index-init
 loop-index-init c =
     let all : length c.args.digits.now - 0 ≡ length c.args.digits.now = omega arith in
-    record { items = grind (arith, common_steps); is_text = IsUtf8-nil; room = rw all c.requires.room }
+    record { items = grind (arith, common_steps); is_text = IsUtf8-nil; len = rw all (omega arith); capacity = refl }

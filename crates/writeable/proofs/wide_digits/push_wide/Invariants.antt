@@ -7,5 +7,6 @@ abbrev pub invariant-loop-index : goal.invariant-loop-index
 invariant-loop-index l = record {
   items : l.out.items ≡ l.initial.out.items ++ text_of (digit_events l.characters (take l.index l.digits));
   is_text : IsUtf8 (text_of (digit_events l.characters (take l.index l.digits)));
-  room : vec_len l.out + (length l.digits - l.index) * l.width ≤ vec_capacity l.out;
+  len : vec_len l.out + (length l.digits - l.index) * l.width ≤ vec_len l.initial.out + length l.digits * l.width;
+  capacity : vec_capacity l.out ≡ vec_capacity l.initial.out;
 }

@@ -16,4 +16,4 @@ returns-then-separator-eq1 c =
 pub returns : goal.returns
 returns c =
     let utf8 : IsUtf8 c.args.grouping.now.separator.now = rw c.as_bytes-separator.ensures.value at c.as_bytes-separator.ensures.utf8 in
-    rw (text_of-grouped c.args.grouping.now ascii_characters c.args.digits.now utf8) c.append_groups.ensures
+    rw (text_of-grouped c.args.grouping.now ascii_characters c.args.digits.now utf8) c.push_wide_groups.ensures.ok

@@ -15,4 +15,4 @@ returns-then-are_ascii c =
 pub returns : goal.returns
 returns c =
     let utf8 : IsUtf8 c.args.grouping.now.separator.now = rw c.as_bytes-separator.ensures.value at c.as_bytes-separator.ensures.utf8 in
-    rw (text_of-grouped c.args.grouping.now c.args.characters.now c.args.digits.now utf8) c.append_groups.ensures
+    rw (text_of-grouped c.args.grouping.now c.args.characters.now c.args.digits.now utf8) c.push_wide_groups.ensures.ok

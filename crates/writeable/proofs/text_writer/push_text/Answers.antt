@@ -3,7 +3,7 @@ use Rattle.std.proofs.lemmas.Bool.Decides.{nat_tests}
 use Rattle.writeable.specs.Events.{text_of}
 use Rattle.writeable.specs.Events.Event.{Char}
 use Rattle.writeable.proofs.DigitEvents.{one_ascii_byte}
-use Rattle.writeable.proofs.text_writer.StringTextBuffer.append_text.Goals as goal
+use Rattle.writeable.proofs.text_writer.push_text.Goals as goal
 
 pub returns-then-is_ascii : goal.returns-then-is_ascii
 returns-then-is_ascii c =
