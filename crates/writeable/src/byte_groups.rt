@@ -23,8 +23,37 @@ pub(crate) fn are_ascii(characters: &[char; 10]) -> bool
     ascii
 }
 
+/// Whether there is room for that many bytes more.
+#[inline(always)]
+fn has_room(out: &Vec<u8>, count: usize) -> bool
+    ensures { IsTrue result → vec_len out.now + count ≤ vec_capacity out.now }
+{
+    count <= out.capacity() - out.len()
+}
+
 /// Appends digits; room is asked for once.
 pub(crate) fn push_byte_digits(
+    out: &mut Vec<u8>,
+    digits: &[u8],
+    characters: &[char; 10],
+) -> Result<(), WriteFault>
+    requires below_ten { All (λ d. d < 10) digits.now }
+    requires ascii { All (λ c. c < 128) characters.now }
+    ensures ok { OnOk result (out.new.items ≡ out.old.items
+        ++ text_of (digit_events characters.now digits.now)) }
+    ensures err { OnErr result (out.new.items ≡ out.old.items) }
+{
+    if !has_room(out, digits.len()) {
+        return push_more_digits(out, digits, characters);
+    }
+    append_ascii(out, digits, characters);
+    Ok(())
+}
+
+/// Appends digits where room is missing. It is a function of its own, so that `push_byte_digits` is
+/// short.
+#[inline(never)]
+fn push_more_digits(
     out: &mut Vec<u8>,
     digits: &[u8],
     characters: &[char; 10],
@@ -38,10 +67,21 @@ pub(crate) fn push_byte_digits(
     let Ok(()) = out.reserve(digits.len()) else {
         return Err(WriteFault);
     };
+    append_ascii(out, digits, characters);
+    Ok(())
+}
+
+/// Appends digits, for which there is room.
+#[inline(always)]
+fn append_ascii(out: &mut Vec<u8>, digits: &[u8], characters: &[char; 10])
+    requires below_ten { All (λ d. d < 10) digits.now }
+    requires ascii { All (λ c. c < 128) characters.now }
+    requires room { vec_len out.old + length digits.now ≤ vec_capacity out.old }
+    ensures { out.new.items ≡ out.old.items ++ text_of (digit_events characters.now digits.now) }
+{
     let alloc = *out.allocator();
     let taken = mem::replace(out, Vec::new(alloc));
     *out = push_ascii(taken, digits, characters);
-    Ok(())
 }
 
 /// Appends digits in groups, with the separator between two; room is asked for once.

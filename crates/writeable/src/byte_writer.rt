@@ -87,16 +87,26 @@ impl EventWriter for Vec<u8> {
 }
 
 /// Appends bytes. An empty text, as most affixes are, and one byte, as most separators are, take no
-/// copy of memory.
+/// copy of memory, and no further call where there is room.
 fn push_bytes(out: &mut Vec<u8>, bytes: &[u8]) -> Result<(), WriteFault>
     ensures { OnOk result (out.new.items ≡ out.old.items ++ bytes.now) }
 {
     if bytes.is_empty() {
         return Ok(());
     }
-    if bytes.len() == 1 {
-        return out.push(bytes[0]).map_err(|_| WriteFault);
+    if bytes.len() == 1 && out.len() < out.capacity() {
+        out.push_reserved(bytes[0]);
+        return Ok(());
     }
+    copy_bytes(out, bytes)
+}
+
+/// Appends bytes by a copy of memory, with more room where it is needed. It is a function of its
+/// own, so that `push_bytes` is short.
+#[inline(never)]
+fn copy_bytes(out: &mut Vec<u8>, bytes: &[u8]) -> Result<(), WriteFault>
+    ensures { OnOk result (out.new.items ≡ out.old.items ++ bytes.now) }
+{
     out.extend_from_slice(bytes).map_err(|_| WriteFault)
 }
 
