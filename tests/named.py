@@ -3,9 +3,9 @@
 A file of definitions is cut into its items: a name with its equations, a record, a block of a module. A source is cut into
 what it says to other crates: types, each variant of an enum, traits, impls of a trait, functions. An item is named where its
 name is among the words so far, and its own words are added to these, until nothing is added. A function has to be called
-besides; an impl of a trait is named with its type; a definition has to be imported by any of the files so far, or to stand in a
-file of which another definition with its name among its words is taken. Items of sources are looked for whatever their module, so
-that two of one name are both taken.
+besides; an impl of a trait is named with its type, unless the trait is private to its module, so that other crates can't see it;
+a definition has to be imported by any of the files so far, or to stand in a file of which another definition with its name among
+its words is taken. Items of sources are looked for whatever their module, so that two of one name are both taken.
 """
 import dataclasses
 import functools
@@ -27,6 +27,7 @@ IMPORT = re.compile(r"^(?:pub )?use [^;]*;", re.M)
 MODIFIERS = {"abbrev", "pub", "unfoldable", "data", "record", "syntax", "ruleset"}
 FUNCTION = re.compile(r" *(?:pub )?(?:const )?(?:unsafe )?(?:final )?fn (\w+)")
 TYPE = re.compile(r"(?:pub(?:\(\w+\))? )?(struct|enum|trait|type|const|static|macro_rules!) ?(\w+)?")
+PRIVATE_TRAIT = re.compile(r"trait (\w+)")
 IMPL = re.compile(r"(?:unsafe )?impl\b(?:<(?:[^<>]|<[^<>]*>)*>)? ?(.*)")
 VARIANT = re.compile(r"    ([A-Z]\w*)")
 IDENTIFIER = re.compile(r"[A-Za-z_]\w*")
@@ -156,6 +157,15 @@ def self_names(header: str) -> set[str]:
     return names or set(IDENTIFIER.findall(trait))
 
 
+def is_of(traits: Collection[str], block: Iterable[str]) -> bool:
+    """Whether a block declares one of these traits, or is an impl of it."""
+    head = next((line for line in block if not line.startswith("#")), "")
+    declared = PRIVATE_TRAIT.match(head)
+    header = IMPL.match(head)
+    trait = IDENTIFIER.match(header[1].partition(" for ")[0]) if header and " for " in header[1] else None
+    return bool(declared and declared[1] in traits) or bool(trait and trait[0] in traits)
+
+
 def items_of_block(block: list[str]) -> Iterator[Item]:
     heads = [line for line in block if not line.startswith("#")]
     if not heads or heads[0].startswith(("use ", "pub use ", "ghost use ", "mod ", "pub mod ")):
@@ -190,8 +200,9 @@ def items_in(path: str) -> tuple[tuple[Item, ...], tuple[tuple[str, str], ...]]:
     aliases = tuple((new, old) for old, new in ALIAS.findall("\n".join(lines)))
     if path.endswith(".antt"):
         return tuple(definitions(lines)), aliases
-    lines = list(layout.without_bodies(lines))
-    return tuple(it for block in blocks_of(lines) for it in items_of_block(block)), aliases
+    blocks = list(blocks_of(layout.without_bodies(lines)))
+    private = {declared[1] for block in blocks for declared in map(PRIVATE_TRAIT.match, block) if declared}
+    return tuple(it for block in blocks if not is_of(private, block) for it in items_of_block(block)), aliases
 
 
 # What is named

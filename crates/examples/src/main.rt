@@ -115,13 +115,17 @@ fn of_icu_decimal_options(rt: &HostRuntime) -> Option<()> {
 }
 
 fn of_icu_decimal_data(rt: &HostRuntime) -> Option<()> {
-    let symbols = DecimalSymbols::new_en_for_testing(rt.alloc()).ok()?;
+    let Ok(symbols) = DecimalSymbols::new_en_for_testing(rt.alloc()) else {
+        return None;
+    };
     let view = SymbolsView::parse(symbols.strings.as_bytes()).ok()?;
     println!(rt; "between groups {}", view.grouping_separator()).ok()
 }
 
 fn of_icu_decimal_readable(rt: &HostRuntime) -> Option<()> {
-    let symbols = DecimalSymbols::new_en_for_testing(rt.alloc()).ok()?;
+    let Ok(symbols) = DecimalSymbols::new_en_for_testing(rt.alloc()) else {
+        return None;
+    };
     println!(rt;
         "readable: {}",
         are_numbers_readable(&symbols, &ASCII_DIGITS)
@@ -130,7 +134,9 @@ fn of_icu_decimal_readable(rt: &HostRuntime) -> Option<()> {
 }
 
 fn of_icu_decimal(rt: &HostRuntime) -> Option<()> {
-    let symbols = DecimalSymbols::new_en_for_testing(rt.alloc()).ok()?;
+    let Ok(symbols) = DecimalSymbols::new_en_for_testing(rt.alloc()) else {
+        return None;
+    };
     let formatter = DecimalFormatter::from_parts(
         symbols,
         ASCII_DIGITS,
@@ -183,7 +189,9 @@ fn of_icu_dimension_data(rt: &HostRuntime) -> Option<()> {
 }
 
 fn of_icu_dimension(rt: &HostRuntime) -> Option<()> {
-    let symbols = DecimalSymbols::new_en_for_testing(rt.alloc()).ok()?;
+    let Ok(symbols) = DecimalSymbols::new_en_for_testing(rt.alloc()) else {
+        return None;
+    };
     let formatter = DecimalFormatter::from_parts(
         symbols,
         ASCII_DIGITS,
@@ -205,7 +213,9 @@ fn of_icu_dimension(rt: &HostRuntime) -> Option<()> {
 }
 
 fn of_icu_unit(rt: &HostRuntime) -> Option<()> {
-    let symbols = DecimalSymbols::new_en_for_testing(rt.alloc()).ok()?;
+    let Ok(symbols) = DecimalSymbols::new_en_for_testing(rt.alloc()) else {
+        return None;
+    };
     let formatter = DecimalFormatter::from_parts(
         symbols,
         ASCII_DIGITS,

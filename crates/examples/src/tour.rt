@@ -14,7 +14,9 @@ use std::collections::BTreeMap;
 
 /// English symbols and digits.
 fn english(alloc: Global, options: DecimalFormatterOptions) -> Option<DecimalFormatter> {
-    let symbols = DecimalSymbols::new_en_for_testing(alloc).ok()?;
+    let Ok(symbols) = DecimalSymbols::new_en_for_testing(alloc) else {
+        return None;
+    };
     Some(DecimalFormatter::from_parts(symbols, ASCII_DIGITS, options))
 }
 

@@ -2,7 +2,9 @@
 //! `icu_decimal`.
 //!
 //! ```
-//! let symbols = DecimalSymbols::new_en_for_testing(rt.alloc()).ok()?;
+//! let Ok(symbols) = DecimalSymbols::new_en_for_testing(rt.alloc()) else {
+//!     return None;
+//! };
 //! let formatter = DecimalFormatter::from_parts(
 //!     symbols,
 //!     ASCII_DIGITS,

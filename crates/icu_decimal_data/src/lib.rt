@@ -2,7 +2,9 @@
 //! decimal formatter; their markers, and loading them by several identifiers in turn.
 //!
 //! ```
-//! let symbols = DecimalSymbols::new_en_for_testing(rt.alloc()).ok()?;
+//! let Ok(symbols) = DecimalSymbols::new_en_for_testing(rt.alloc()) else {
+//!     return None;
+//! };
 //! let view = SymbolsView::parse(symbols.strings.as_bytes()).ok()?;
 //! println!(rt; "between groups {}", view.grouping_separator()).ok()
 //! ```

@@ -1,7 +1,9 @@
 //! Whether a formatted number can be read back: tests of symbols, digits and compact tables.
 //!
 //! ```
-//! let symbols = DecimalSymbols::new_en_for_testing(rt.alloc()).ok()?;
+//! let Ok(symbols) = DecimalSymbols::new_en_for_testing(rt.alloc()) else {
+//!     return None;
+//! };
 //! println!(rt;
 //!     "readable: {}",
 //!     are_numbers_readable(&symbols, &ASCII_DIGITS)

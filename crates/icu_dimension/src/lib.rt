@@ -1,7 +1,9 @@
 //! Money, percents and units over any formatter of numbers.
 //!
 //! ```
-//! let symbols = DecimalSymbols::new_en_for_testing(rt.alloc()).ok()?;
+//! let Ok(symbols) = DecimalSymbols::new_en_for_testing(rt.alloc()) else {
+//!     return None;
+//! };
 //! let formatter = DecimalFormatter::from_parts(
 //!     symbols,
 //!     ASCII_DIGITS,
