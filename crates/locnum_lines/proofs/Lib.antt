@@ -17,3 +17,4 @@ pub mod OneField
 pub mod Marked
 pub mod Near
 pub mod Found
+pub mod Printable

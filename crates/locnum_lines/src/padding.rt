@@ -1,6 +1,6 @@
 //! Numbers that are filled up with spaces to a width.
 
-ghost use Rattle.std.specs.Prelude.{◌≡◌, ◌+◌, ◌^◌, ◌<◌, length, option_map};
+ghost use Rattle.std.specs.Prelude.{◌≡◌, ◌+◌, ◌^◌, ◌<◌, ◌≤◌, All, IsTrue, length, option_map};
 ghost use Rattle.locnum_lines.specs.Padding.{columns_of};
 ghost use Rattle.locnum_lines.specs.Widths.{own_width, padding_width, width_by};
 
@@ -81,10 +81,25 @@ pub(crate) fn width_by(
     }
 }
 
+/// Whether each byte is a printable character of ASCII, which takes one column. All bytes are tested,
+/// so that the loop has no other branch than its own.
+fn is_printable(text: &[u8]) -> bool
+    ensures { IsTrue result → All (λ b. (32 ≤ b) × (b ≤ 126)) text.now }
+{
+    let mut printable = true;
+    for byte in text {
+        printable &= 32 <= *byte && *byte <= 126;
+    }
+    printable
+}
+
 /// The columns that a text takes; of bytes that aren't UTF-8, their count.
 pub(crate) fn columns_of(text: &[u8]) -> usize
     ensures { result ≡ columns_of text.now }
 {
+    if is_printable(text) {
+        return text.len();
+    }
     match str::from_utf8(text) {
         Ok(text) => text.width(),
         Err(_) => text.len(),
