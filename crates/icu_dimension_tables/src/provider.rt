@@ -1,16 +1,11 @@
 //! All tables of a document as one provider.
 
-ghost use Rattle.std.specs.Prelude.{option_map};
-ghost use Rattle.icu_provider.specs.Answer.{Answers};
-ghost use Rattle.icu_provider.specs.Identifier.{identifier_of};
-ghost use Rattle.icu_dimension_tables.specs.Answering.{unit_answer};
-
 use crate::all_tables::AllTables;
 use crate::copying::patterns_copy;
 use crate::currency_names::names_with_placeholders;
 use crate::currency_symbols::row_filed;
 use crate::money::{patterns_filed, placeholders_filed};
-use crate::units::{UnitPatterns, UnitWidth, first_unit};
+use crate::units::{UnitWidth, first_unit};
 use icu_decimal_data::{DecimalDigitsV1, DecimalSymbolsV1};
 use icu_decimal_symbols::DecimalSymbols;
 use icu_dimension::NamePattern;
@@ -27,27 +22,8 @@ use icu_provider::{
 use icu_table_entries::named::first_filed;
 use icu_table_entries::texts::Patterns;
 use icu_tables::Tables;
-use icu_tables::provider::answered;
+use icu_tables::provider::{answered, found, present};
 use std::alloc::Global;
-
-/// A copy of the patterns of the first entry of a width with the identifier.
-fn load_unit(
-    alloc: Global,
-    entries: &Option<Vec<UnitPatterns>>,
-    width: UnitWidth,
-    id: &DataIdentifierBorrowed<'_>,
-) -> Result<Patterns, DataError>
-    ensures { Answers result (unit_answer width (option_map (λ v. v.items) entries.now)
-        (identifier_of id.now)) }
-{
-    let Some(entries) = entries else {
-        return Err(DataErrorKind::MarkerNotFound.into());
-    };
-    match first_unit(entries, width, id) {
-        Some(patterns) => answered(patterns_copy(alloc, patterns)),
-        None => Err(DataErrorKind::IdentifierNotFound.into()),
-    }
-}
 
 impl DataProvider<DecimalSymbolsV1> for AllTables {
     ghost answer = { λ t. ⟦<Tables as DataProvider<DecimalSymbolsV1>>⟧.answer t.numbers };
@@ -80,9 +56,7 @@ impl DataProvider<CurrencyDigitsV1> for AllTables {
 
     /// A copy of the digits of `currency_digits`, for the undetermined locale without a system.
     fn load(&self, alloc: Global, request: &DataRequest<'_>) -> Result<CurrencyDigits, DataError> {
-        let Some(digits) = &self.dimension.digits else {
-            return Err(DataErrorKind::MarkerNotFound.into());
-        };
+        let digits = present(&self.dimension.digits)?;
         if request.id == DataIdentifierBorrowed::for_locale(&DataLocale::default()) {
             answered(digits.copy(alloc))
         } else {
@@ -99,13 +73,9 @@ impl DataProvider<PercentPatternsV1> for AllTables {
     /// A copy of the first entry of `percents` with the identifier's locale and numbering system,
     /// or none.
     fn load(&self, alloc: Global, request: &DataRequest<'_>) -> Result<SignedPatterns, DataError> {
-        let Some(entries) = &self.dimension.percents else {
-            return Err(DataErrorKind::MarkerNotFound.into());
-        };
-        match first_filed(entries, &request.id) {
-            Some(patterns) => answered(patterns.copy(alloc)),
-            None => Err(DataErrorKind::IdentifierNotFound.into()),
-        }
+        let entries = present(&self.dimension.percents)?;
+        let patterns = found(first_filed(entries, &request.id))?;
+        answered(patterns.copy(alloc))
     }
 }
 
@@ -118,7 +88,9 @@ impl DataProvider<UnitsLongV1> for AllTables {
     /// A copy of the patterns of the first entry of `units` with the width `long`, the identifier's
     /// locale and, as its system, the unit.
     fn load(&self, alloc: Global, request: &DataRequest<'_>) -> Result<Patterns, DataError> {
-        load_unit(alloc, &self.dimension.units, UnitWidth::Long, &request.id)
+        let entries = present(&self.dimension.units)?;
+        let patterns = found(first_unit(entries, UnitWidth::Long, &request.id))?;
+        answered(patterns_copy(alloc, patterns))
     }
 }
 
@@ -130,7 +102,9 @@ impl DataProvider<UnitsShortV1> for AllTables {
 
     /// The same with the width `short`.
     fn load(&self, alloc: Global, request: &DataRequest<'_>) -> Result<Patterns, DataError> {
-        load_unit(alloc, &self.dimension.units, UnitWidth::Short, &request.id)
+        let entries = present(&self.dimension.units)?;
+        let patterns = found(first_unit(entries, UnitWidth::Short, &request.id))?;
+        answered(patterns_copy(alloc, patterns))
     }
 }
 
@@ -142,7 +116,9 @@ impl DataProvider<UnitsNarrowV1> for AllTables {
 
     /// The same with the width `narrow`.
     fn load(&self, alloc: Global, request: &DataRequest<'_>) -> Result<Patterns, DataError> {
-        load_unit(alloc, &self.dimension.units, UnitWidth::Narrow, &request.id)
+        let entries = present(&self.dimension.units)?;
+        let patterns = found(first_unit(entries, UnitWidth::Narrow, &request.id))?;
+        answered(patterns_copy(alloc, patterns))
     }
 }
 
@@ -158,13 +134,9 @@ impl DataProvider<CurrencyPatternsV1> for AllTables {
         alloc: Global,
         request: &DataRequest<'_>,
     ) -> Result<CurrencyPatterns, DataError> {
-        let Some(entries) = &self.dimension.money else {
-            return Err(DataErrorKind::MarkerNotFound.into());
-        };
-        match patterns_filed(entries, &request.id) {
-            Some(patterns) => answered(patterns.copy(alloc)),
-            None => Err(DataErrorKind::IdentifierNotFound.into()),
-        }
+        let entries = present(&self.dimension.money)?;
+        let patterns = found(patterns_filed(entries, &request.id))?;
+        answered(patterns.copy(alloc))
     }
 }
 
@@ -176,13 +148,9 @@ impl DataProvider<CurrencySymbolsV1> for AllTables {
     /// A copy of the symbols of the first row with the currency's code, the identifier's system, in
     /// the first entry of `currency_symbols` with the identifier's locale.
     fn load(&self, alloc: Global, request: &DataRequest<'_>) -> Result<CurrencySymbols, DataError> {
-        let Some(entries) = &self.dimension.symbols else {
-            return Err(DataErrorKind::MarkerNotFound.into());
-        };
-        match row_filed(entries, &request.id) {
-            Some(row) => answered(row.symbols.copy(alloc)),
-            None => Err(DataErrorKind::IdentifierNotFound.into()),
-        }
+        let entries = present(&self.dimension.symbols)?;
+        let row = found(row_filed(entries, &request.id))?;
+        answered(row.symbols.copy(alloc))
     }
 }
 
@@ -202,12 +170,8 @@ impl DataProvider<CurrencyNamesV1> for AllTables {
         alloc: Global,
         request: &DataRequest<'_>,
     ) -> Result<PluralElements<NamePattern>, DataError> {
-        let Some(money) = &self.dimension.money else {
-            return Err(DataErrorKind::MarkerNotFound.into());
-        };
-        let Some(currencies) = &self.dimension.symbols else {
-            return Err(DataErrorKind::MarkerNotFound.into());
-        };
+        let money = present(&self.dimension.money)?;
+        let currencies = present(&self.dimension.symbols)?;
         match (
             placeholders_filed(money, &request.id),
             row_filed(currencies, &request.id),
@@ -230,14 +194,12 @@ impl DataProvider<CurrencyDecimalSymbolsV1> for AllTables {
     /// A copy of the first entry of `currency_decimals` with the identifier's locale and numbering
     /// system, or none, which also an absent key says.
     fn load(&self, alloc: Global, request: &DataRequest<'_>) -> Result<DecimalSymbols, DataError> {
-        let found = match &self.dimension.decimals {
+        let filed = match &self.dimension.decimals {
             Some(entries) => first_filed(entries, &request.id),
             None => None,
         };
-        match found {
-            Some(symbols) => answered(symbols.copy(alloc)),
-            None => Err(DataErrorKind::IdentifierNotFound.into()),
-        }
+        let symbols = found(filed)?;
+        answered(symbols.copy(alloc))
     }
 }
 
@@ -249,12 +211,8 @@ impl DataProvider<CurrencyCompactShortV1> for AllTables {
     /// A copy of the first entry of `currency_compact` with the identifier's locale and numbering
     /// system, or none.
     fn load(&self, alloc: Global, request: &DataRequest<'_>) -> Result<CompactRows, DataError> {
-        let Some(entries) = &self.dimension.compact else {
-            return Err(DataErrorKind::MarkerNotFound.into());
-        };
-        match first_filed(entries, &request.id) {
-            Some(rows) => answered(rows.copy(alloc)),
-            None => Err(DataErrorKind::IdentifierNotFound.into()),
-        }
+        let entries = present(&self.dimension.compact)?;
+        let rows = found(first_filed(entries, &request.id))?;
+        answered(rows.copy(alloc))
     }
 }
