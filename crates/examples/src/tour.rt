@@ -27,7 +27,8 @@ fn print_plain(rt: &HostRuntime, number: &str) -> Option<()> {
     let mut text = PartsText::new(rt.alloc());
     formatter.format(&decimal).write_to_parts(&mut text).ok()?;
     println!(rt; "{}", text.text()).ok()?;
-    for (start, end, part) in text.spans(rt.alloc()).ok()?.iter() {
+    let spans = text.spans(rt.alloc()).ok()?;
+    for (start, end, part) in &spans {
         println!(rt; "{start}..{end} {}", part.value).ok()?;
     }
     Some(())
@@ -40,8 +41,8 @@ fn short_english(alloc: Global) -> Option<CompactDecimalFormatter> {
     let thousands = PluralElements::new(Pattern::try_new(alloc, Some(0), "K").ok()?);
     let millions = PluralElements::new(Pattern::try_new(alloc, Some(0), "M").ok()?);
     let mut patterns = BTreeMap::new(alloc);
-    patterns.insert(3, (3, thousands)).ok()?;
-    patterns.insert(6, (6, millions)).ok()?;
+    patterns.entry(3).ok()?.or_insert((3, thousands));
+    patterns.entry(6).ok()?.or_insert((6, millions));
     let table = CompactPatterns::new(alloc, patterns, None).ok()?;
     Some(CompactDecimalFormatter::from_parts(plain, rules, table))
 }
