@@ -81,8 +81,8 @@ pub(crate) fn width_by(
     }
 }
 
-/// Whether each byte is a printable character of ASCII, which takes one column. All bytes are tested,
-/// so that the loop has no other branch than its own.
+/// Whether each byte is a printable character of ASCII, which takes one column. All bytes are
+/// tested, so that the loop has no other branch than its own.
 fn is_printable(text: &[u8]) -> bool
     ensures { IsTrue result → All (λ b. (32 ≤ b) × (b ≤ 126)) text.now }
 {
