@@ -1,7 +1,6 @@
 use Rattle.std.proofs.Common.{◌≡◌, ◌+◌, ◌<◌, length, take, refl, sym, ap, ◌∙◌, append-nil, arith, vec_len, vec_capacity}
 use Rattle.std.proofs.lemmas.Bool.Decides.{nat_tests}
 use Rattle.std.proofs.lemmas.List.Elements.{All-drop}
-use Rattle.std.specs.Str.{IsUtf8}
 use Rattle.writeable.specs.Events.{text_of, digit_events}
 use Rattle.writeable.specs.Groups.{cut, joined, group_texts}
 use Rattle.writeable.proofs.GroupSteps.{first_of, next_of, next_some, joined_after-none}
@@ -52,7 +51,8 @@ groups-preserved c =
     let group = c.split_at-in-groups.result.0.now in
     let left = c.split_at-in-groups.result.1.now in
     let begun : 0 < length group = omega (arith, more, c.split_at-in-groups.ensures.front_len) in
-    let all : length rest ≡ length group + length left = omega (arith, cut_is.2, c.split_at-in-groups.ensures.front_len, c.split_at-in-groups.ensures.back_len) in
+    let all : length rest ≡ length group + length left =
+    omega (arith, cut_is.2, c.split_at-in-groups.ensures.front_len, c.split_at-in-groups.ensures.back_len) in
     let fits = next_fits (vec_len c.groups.out) (vec_capacity c.groups.out) (length group) (length left) (length rest) c.args.width
     (length c.args.grouping.now.separator.now) begun all c.groups.invariant.room in
     let same : length c.as_bytes-separator.result.now ≡ length c.args.grouping.now.separator.now = ap length c.as_bytes-separator.ensures.value in
