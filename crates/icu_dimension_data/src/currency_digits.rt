@@ -5,8 +5,46 @@ ghost use Rattle.fixed_decimal.specs.Rounding.{IsRounded, RoundsPastLimits};
 ghost use Rattle.fixed_decimal.specs.Unsigned.{IsUnsigned};
 
 use crate::currency_code::CurrencyCode;
-use fixed_decimal::{Decimal, DecimalError};
+use fixed_decimal::{Decimal, DecimalError, RoundingIncrement};
 use std::marker::Model;
+
+/// The step of amounts in cash, counted in the last of their fraction digits (CLDR, `currencyData`,
+/// `info`, `cashRounding`): of francs 5, as the smallest coin has 5 hundredths of a franc.
+#[derive(Clone, Copy, Debug, PartialEq, Eq)]
+pub struct CashStep {
+    /// The step without the zeros at its end.
+    pub increment: RoundingIncrement,
+    /// How many zeros stand at its end.
+    pub zeros: u8,
+}
+
+impl CashStep {
+    ghost use Rattle.std.specs.Prelude.{◌≡◌};
+    ghost use Rattle.icu_dimension_data.specs.Digits.{cash_step};
+
+    /// The step of a number, if that is 1, 2, 5 or 25 with zeros behind it or none.
+    // promise: A number has its step, or none.
+    // mutations: step_of_fifty_read_as_five
+    #[tactic(auto, unfolding(crate::specs::Digits::cash_step))]
+    pub fn of_number(number: u8) -> Option<CashStep>
+        ensures { result ≡ cash_step number }
+    {
+        let (increment, zeros) = match number {
+            1 => (RoundingIncrement::MultiplesOf1, 0),
+            2 => (RoundingIncrement::MultiplesOf2, 0),
+            5 => (RoundingIncrement::MultiplesOf5, 0),
+            10 => (RoundingIncrement::MultiplesOf1, 1),
+            20 => (RoundingIncrement::MultiplesOf2, 1),
+            25 => (RoundingIncrement::MultiplesOf25, 0),
+            50 => (RoundingIncrement::MultiplesOf5, 1),
+            100 => (RoundingIncrement::MultiplesOf1, 2),
+            200 => (RoundingIncrement::MultiplesOf2, 2),
+            250 => (RoundingIncrement::MultiplesOf25, 1),
+            _ => return None,
+        };
+        Some(CashStep { increment, zeros })
+    }
+}
 
 /// How many fraction digits amounts of a currency have (CLDR, `currencyData`, `info`).
 #[derive(Clone, Copy, Debug, PartialEq, Eq)]
@@ -15,6 +53,8 @@ pub struct FractionDigits {
     pub standard: u8,
     /// In cash.
     pub cash: u8,
+    /// The step of amounts in cash.
+    pub cash_step: CashStep,
 }
 
 /// The digits of a currency.

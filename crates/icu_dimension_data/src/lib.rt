@@ -45,6 +45,6 @@ pub use cldr_pattern::CldrPattern;
 pub use compact_currency_patterns::CompactCurrencyPatterns;
 pub use compact_rows::{CompactRow, CompactRows};
 pub use currency_code::{BadCurrencyCode, CurrencyCode};
-pub use currency_digits::{CurrencyDigits, CurrencyEntry, FractionDigits, rounded_to};
+pub use currency_digits::{CashStep, CurrencyDigits, CurrencyEntry, FractionDigits, rounded_to};
 pub use error::PatternFault;
 pub use signed_patterns::{SignedPattern, SignedPatterns, Surrounded};

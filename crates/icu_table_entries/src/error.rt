@@ -164,6 +164,9 @@ pub enum EntryFault {
     /// An amount has more than 15 fraction digits.
     #[error("more than 15 fraction digits")]
     TooManyDigits,
+    /// The step of cash isn't 1, 2, 5 or 25, with zeros behind it or none.
+    #[error("the step of cash isn't 1, 2, 5 or 25 with zeros behind it")]
+    BadCashStep,
     /// A width is none of `long`, `short` and `narrow`.
     #[error("bad width")]
     BadWidth,
