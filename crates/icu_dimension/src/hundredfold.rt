@@ -83,8 +83,13 @@ fn hundredfold_text(alloc: Global, value: &UnsignedDecimal) -> Result<Vec<u8>, A
     Ok(text)
 }
 
-/// A hundred times the number; `Overflow` if that has too many digits.
-pub(crate) fn hundredfold(
+/// A hundred times the number, exactly and without leading zeros: the percents that it is (this
+/// project's own).
+///
+/// `Overflow` if that has more than 32768 digits at power 0 and above. `Sink` is never reported.
+// promise: The point moves two digits, and no digit changes.
+// mutations: percent_by_moving_the_point_the_other_way, percent_fraction_left_out
+pub fn hundredfold(
     alloc: Global,
     value: &UnsignedDecimal,
 ) -> Result<UnsignedDecimal, FormatError>

@@ -86,6 +86,36 @@ impl<F: AbstractFormatter> PercentFormatter<F> {
             .write_framed_into(alloc, &hundredfold, &frame, out)
     }
 
+    /// Writes a number of percents into any writer, as `12.34%` of 12.34, with the parts of
+    /// [`write_into`](PercentFormatter::write_into) (this project's own; ICU's `percent` without a
+    /// scale).
+    ///
+    /// After `Overflow` and `OutOfMemory` the writer is unchanged. `Sink` only where the writer
+    /// failed. `Overflow` exactly where the formatter overflows. It takes no memory of its own.
+    // promise: A number of percents is written as it is, in its pattern.
+    // mutations: percents_without_their_sign
+    pub fn write_percents_into<K: EventWriter>(
+        &self,
+        alloc: Global,
+        percents: &Decimal,
+        out: &mut K,
+    ) -> Result<(), FormatError>
+        ensures written { WroteSuch K.wrote out.old result
+            (F.shows self.now.formatter percents.now.absolute)
+            (money_events self.now.patterns percents.now.sign) out.new }
+        ensures overflow { IsErrOf result FormatError.Overflow
+            ↔ F.overflows self.now.formatter percents.now.absolute }
+        ensures memory { IsErrOf result FormatError.OutOfMemory
+            → F.takes_memory self.now.formatter }
+    {
+        let frame = SignFrame {
+            patterns: &self.patterns,
+            sign: percents.sign,
+        };
+        self.formatter
+            .write_framed_into(alloc, &percents.absolute, &frame, out)
+    }
+
     /// Writes a hundred times the number as a percent to a sink, with the same parts.
     ///
     /// `Overflow` if a hundred times the number has more than 32768 digits at power 0 and above, or
