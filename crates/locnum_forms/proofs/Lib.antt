@@ -1,5 +1,5 @@
 pub mod CompactMoney
-pub mod Cutting
+pub mod NumbersShown
 pub mod Served
 pub mod WrittenForms
 pub mod WrittenTexts

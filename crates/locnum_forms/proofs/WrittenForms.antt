@@ -1,40 +1,22 @@
--- What was written of what a form shows, by what a formatter says; and percents that are too large.
-use Rattle.std.proofs.Common.{◌≡◌, ◌⊎◌, inl, inr, List, Bool, true, false, Result, Ok, Err, refl, sym, ap, ◌∙◌, subst}
-use Rattle.std.specs.Prelude.{IsErrOf, IsOk, OnOk, if◌then◌else◌}
+-- What was written of what a form shows, by what a formatter says.
+use Rattle.std.proofs.Common.{◌≡◌, inl, inr, List, Result, Ok, Err, refl, sym, ap, subst}
+use Rattle.std.specs.Prelude.{IsErrOf, IsOk}
 use Rattle.std.proofs.lemmas.Bool.{false≢true}
-use Rattle.std.specs.Result.{is_ok}
-use Rattle.fixed_decimal.specs.declared.signs.Sign.{Sign}
-use Rattle.fixed_decimal.specs.Unsigned.{Unsigned, IsWithinLimits}
 use Rattle.writeable.specs.Events.{Event}
 use Rattle.writeable.specs.declared.sink.WriteFault.{WriteFault}
-use Rattle.icu_decimal.specs.Decimal.{DecimalFormat}
-use Rattle.icu_decimal_interface.specs.Shown.{Shown, plain_shown}
+use Rattle.icu_decimal_interface.specs.Shown.{Shown}
 use Rattle.icu_decimal_interface.specs.UsesShown.{WroteSuch}
 use Rattle.icu_decimal.specs.declared.error.FormatError.{FormatError}
 use Rattle.icu_decimal.specs.declared.error.FormatError.TheVariants as format
-use Rattle.icu_dimension.specs.Money.{SignedFormat, money_events}
-use Rattle.icu_dimension.specs.Percent.{hundredfold}
 use Rattle.decimal_lines.specs.SingleText.{WroteEvents}
-use Rattle.decimal_lines.specs.LineResults.{is_within_limits}
 use Rattle.decimal_lines.specs.declared.single_text.TextError.{TextError}
 use Rattle.decimal_lines.specs.declared.single_text.TextError.TheVariants.{OutOfMemory, Overflow}
-use Rattle.decimal_lines.proofs.Answering.{is_within-limits, limits-is_within}
-use Rattle.locnum_forms.specs.Forms.{percent_events}
 use Rattle.locnum_forms.specs.WrittenOr.{written_or}
-
--- what holds on success holds where there was one
-pub on_success : {T E P : Type 0} (r : Result T E) → OnOk r P → IsOk r → P
-on_success (Ok x) holds is = holds
-on_success (Err e) holds is = absurd (false≢true is)
 
 -- a success is no overflow
 pub no_overflow : {T : Type 0} (r : Result T FormatError) → IsOk r → IsErrOf r format.Overflow → ⊥
 no_overflow (Ok x) is error = cc error
 no_overflow (Err e) is error = absurd (false≢true is)
-
--- where something is written, something is shown
-pub is_shown : {T : Type 0} (shown : Result T TextError) (x : T) → shown ≡ Ok x → IsOk shown
-is_shown shown x is = ap is_ok is
 
 -- what is shown was written, if a formatter wrote one of such values, each of which is what is shown
 pub shown-written : {K N : Type 0} (wrote : K → Result (Unit {0}) WriteFault → List Event → K → Type 0) (k l : K)
@@ -59,36 +41,3 @@ pub plain-written : {K : Type 0} (wrote : K → Result (Unit {0}) WriteFault →
     → WroteEvents wrote k result (Ok (text shown)) l
 plain-written wrote k l written text shown result is no_overflow w = shown-written wrote k l written (λ n. n ≡ shown) text (Ok (text shown)) result
     is (λ some. refl) (λ n same some. ap (λ (m : Shown). Ok (text m)) (sym same)) (λ over. absurd (no_overflow over)) w
-
-module _ (format : SignedFormat DecimalFormat) (sign : Sign) (d : Unsigned) where
-  -- a hundred times the number is past the limits
-  pub percent-past : (¬ IsWithinLimits (hundredfold d)) ⊎ ⊥ → percent_events format sign d ≡ Err Overflow
-  percent-past (inl past) = go (is_within_limits (hundredfold d)) refl
-    where
-      go : (b : Bool) → is_within_limits (hundredfold d) ≡ b
-          → (if b then Ok (money_events format.patterns sign (plain_shown format.formatter (hundredfold d))) else Err Overflow) ≡ Err Overflow
-      go true e = absurd (past (limits-is_within (hundredfold d) e))
-      go false e = refl
-  percent-past (inr impossible) = absurd impossible
-
-  -- it is within them
-  pub percent-within : ¬ ((¬ IsWithinLimits (hundredfold d)) ⊎ ⊥)
-      → percent_events format sign d ≡ Ok (money_events format.patterns sign (plain_shown format.formatter (hundredfold d)))
-  percent-within within = go (is_within_limits (hundredfold d)) refl
-    where
-      go : (b : Bool) → is_within_limits (hundredfold d) ≡ b
-          → (if b then Ok (money_events format.patterns sign (plain_shown format.formatter (hundredfold d))) else Err Overflow)
-          ≡ Ok (money_events format.patterns sign (plain_shown format.formatter (hundredfold d)))
-      go true e = refl
-      go false e = absurd (within (inl (λ w. absurd (false≢true (sym e ∙ is_within-limits (hundredfold d) w)))))
-
-  -- what is shown of it, if something is
-  pub percent-is : IsOk (percent_events format sign d)
-      → percent_events format sign d ≡ Ok (money_events format.patterns sign (plain_shown format.formatter (hundredfold d)))
-  percent-is = go (is_within_limits (hundredfold d))
-    where
-      go : (b : Bool) → IsOk (if b then Ok (money_events format.patterns sign (plain_shown format.formatter (hundredfold d))) else Err Overflow)
-          → (if b then Ok (money_events format.patterns sign (plain_shown format.formatter (hundredfold d))) else Err Overflow)
-          ≡ Ok (money_events format.patterns sign (plain_shown format.formatter (hundredfold d)))
-      go true is = refl
-      go false is = absurd (false≢true is)

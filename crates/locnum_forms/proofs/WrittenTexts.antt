@@ -4,22 +4,30 @@ use Rattle.fixed_decimal.specs.declared.signs.Sign.{Sign}
 use Rattle.fixed_decimal.specs.Unsigned.{Unsigned}
 use Rattle.decimal_lines.specs.SingleText.{IsRefusal, decimal_read}
 use Rattle.decimal_lines.specs.declared.single_text.TextError.{TextError}
-use Rattle.locnum_forms.specs.Decimals.{shown_decimal, events_at, rounded_decimal, signed_decimal}
-use Rattle.locnum_forms.specs.Forms.{FormData, digits_moved, form_events, read_events, rounded_events}
-use Rattle.locnum_forms.specs.Fractions.{in_range}
+use Rattle.locnum_forms.specs.Decimals.{events_at, rounded_decimal, scaled_decimal, shown_decimal}
+use Rattle.locnum_forms.specs.Forms.{FormData, ◌>>=◌, form_events, formatter_events, read_events, scaled, signed}
+use Rattle.locnum_forms.specs.Rounded.{rounded}
 
 module _ (form : FormData) (text : List ℕ) where
   pub form_events-at : form_events form text ≡ events_at form.formatter (shown_decimal form text)
-  unfolding form_events shown_decimal
+  unfolding form_events shown_decimal scaled_decimal
   form_events-at = go (decimal_read text)
     where
-      signed : (sign : Sign) (rounded : Result Unsigned TextError)
-          → rounded_events form sign rounded ≡ events_at form.formatter (signed_decimal form.sign sign rounded)
-      signed sign (Ok d) = refl
-      signed sign (Err error) = refl
+      shown : (sign : Sign) (r : Result Unsigned TextError)
+          → (r >>= (λ d. formatter_events form.formatter (signed form sign d) d))
+          ≡ events_at form.formatter (r >>= (λ d. Ok (signed form sign d, d)))
+      shown sign (Ok d) = refl
+      shown sign (Err error) = refl
 
-      go : (r : Result (Sign × Unsigned) TextError) → read_events form r ≡ events_at form.formatter (rounded_decimal form r)
-      go (Ok (sign, d)) = signed sign (in_range (digits_moved form.formatter) form.fraction d)
+      number : (sign : Sign) (r : Result Unsigned TextError)
+          → (r >>= (λ n. rounded form.rounding sign n >>= (λ d. formatter_events form.formatter (signed form sign d) d)))
+          ≡ events_at form.formatter ((r >>= (λ n. Ok (sign, n))) >>= (λ x. rounded_decimal form x.0 x.1))
+      number sign (Ok n) = shown sign (rounded form.rounding sign n)
+      number sign (Err error) = refl
+
+      go : (r : Result (Sign × Unsigned) TextError) → (r >>= read_events form)
+          ≡ events_at form.formatter ((r >>= (λ read. scaled form.formatter read.1 >>= (λ n. Ok (read.0, n)))) >>= (λ x. rounded_decimal form x.0 x.1))
+      go (Ok read) = number read.0 (scaled form.formatter read.1)
       go (Err error) = refl
 
   -- where no decimal is written, nothing is

@@ -1,6 +1,6 @@
 pub mod Wanted
-pub mod Fractions
-pub mod Rounding
+pub mod Rounded
+pub mod Cut
 pub mod CompactMoney
 pub mod Forms
 pub mod WrittenOr

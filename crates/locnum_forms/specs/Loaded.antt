@@ -1,5 +1,6 @@
 -- The form of what tables answer, in the order in which they are asked, or the first error.
-use Rattle.std.specs.Prelude.{ℕ, List, Bool, Option, Some, None, Result, Ok, codes, if◌then◌else◌}
+use Rattle.std.specs.Prelude.{ℕ, List, Bool, false, Option, Some, None, option_map, Result, Ok, codes, if◌then◌else◌, pos, ◌-ℤ◌}
+use Rattle.fixed_decimal.specs.declared.modes.SignedRoundingMode.{SignedRoundingMode}
 use Rattle.icu_pattern.specs.Patterns.{PatternText}
 use Rattle.icu_plurals.specs.Elements.{Elements}
 use Rattle.icu_provider.specs.Answer.{Refusal}
@@ -29,13 +30,15 @@ use Rattle.icu_tables.specs.Tables.{TablesData}
 use Rattle.icu_dimension_tables.specs.Answering.{decimals_answer, digits_answer, names_answer, symbols_answer, unit_answer}
 use Rattle.icu_dimension_tables.specs.DimensionTables.{DimensionData}
 use Rattle.icu_dimension_tables.specs.declared.units.UnitWidth.TheVariants as filed
+use Rattle.skeleton_settings.specs.declared.settings.Precision.{Precision}
+use Rattle.skeleton_settings.specs.declared.settings.Precision.TheVariants.{Fraction, Significant, Increment, Both, Currency}
+use Rattle.number_rounding.specs.declared.rounding.Rounding.{Rounding}
 use Rattle.decimal_lines.specs.ModeOfTables.{compact_options, plain_options}
 use Rattle.decimal_lines.specs.declared.mode.Mode.TheVariants.{Plain, Compact}
 use Rattle.locnum_forms.specs.Forms.{FormData}
 use Rattle.locnum_forms.specs.Wanted.{WantedData}
 use Rattle.locnum_forms.specs.declared.form.Formatter.{Formatter}
 use Rattle.locnum_forms.specs.declared.form.Formatter.TheVariants.{Numbers, Money, MoneyNamed, MoneyShort, Percent, Units}
-use Rattle.locnum_forms.specs.declared.wanted.FractionRange.{FractionRange}
 use Rattle.locnum_forms.specs.declared.wanted.UnitWidth.{UnitWidth}
 use Rattle.locnum_forms.specs.declared.wanted.UnitWidth.TheVariants.{Long, Short, Narrow}
 
@@ -51,9 +54,17 @@ compact_preferences wanted = record { locale_preferences = wanted.locale; number
 abbrev pub money_options : Option GroupingStrategy → Width → CurrencySign → CurrencyFormatterOptions
 money_options grouping width sign = record { decimal = plain_options grouping; width = width; sign = sign }
 
--- the form with this range of fraction digits and this formatter
-abbrev pub form_with : WantedData → Option FractionRange → Formatter → FormData
-form_with wanted fraction formatter = record { fraction = fraction; sign = wanted.sign; formatter = formatter }
+-- rounding by a mode to a precision, with one digit at power 0 and above at least
+abbrev pub rounding_by : SignedRoundingMode → Precision → Rounding
+rounding_by mode precision = record { precision = precision; mode = mode; hides_zeros_of_whole = false; integer_digits = 1 }
+
+-- rounding to the precision that is wanted, if one is
+abbrev pub wanted_rounding : WantedData → Option Rounding
+wanted_rounding wanted = option_map (rounding_by wanted.mode) wanted.precision
+
+-- the form with this rounding and this formatter
+abbrev pub form_with : WantedData → Option Rounding → Formatter → FormData
+form_with wanted rounding formatter = record { rounding = rounding; sign = wanted.sign; formatter = formatter }
 
 -- the symbols that tables answer for numbers of money
 abbrev pub symbols_for_money : TablesData → DimensionData → Provider DecimalSymbols
@@ -67,9 +78,9 @@ system_digits tables id = system_answer tables.digits id.system
 unfoldable pub plain_loaded : WantedData → TablesData → Result FormData Refusal
 plain_loaded wanted tables =
     and_then (loaded (filed_answer tables.symbols) (system_digits tables) (preferences wanted) (plain_options wanted.grouping)) (λ f.
-    Ok (form_with wanted wanted.fraction (Numbers (Plain f))))
+    Ok (form_with wanted (wanted_rounding wanted) (Numbers (Plain f))))
 
--- numbers shortened by patterns of these tables, which may have none; they have no range of fraction digits
+-- numbers shortened by patterns of these tables, which may have none; they are not rounded before
 abbrev pub compact_loaded : WantedData → TablesData → Option (List (NamedEntry (List TableEntry))) → Result FormData Refusal
 compact_loaded wanted tables patterns =
     and_then (loaded_compact (filed_answer tables.symbols) (system_digits tables) (optional_answer tables.rules) (optional_answer patterns)
@@ -84,24 +95,30 @@ short_loaded wanted tables = compact_loaded wanted tables tables.short
 unfoldable pub long_loaded : WantedData → TablesData → Result FormData Refusal
 long_loaded wanted tables = compact_loaded wanted tables tables.long
 
--- that many fraction digits
-abbrev pub exactly : ℕ → FractionRange
-exactly n = record { least = n; most = n }
+-- as fine as the digits of a currency, in cash or not: in cash the multiples of its step
+abbrev pub currency_precision : Bool → FractionDigits → Precision
+currency_precision is_cash digits =
+    if is_cash then Increment digits.cash_step.increment (pos digits.cash_step.zeros -ℤ pos digits.cash) digits.cash
+    else Fraction digits.standard (Some digits.standard)
 
--- those of a currency, in cash or not
-abbrev pub currency_range : Bool → FractionDigits → FractionRange
-currency_range is_cash digits = if is_cash then exactly digits.cash else exactly digits.standard
+-- the precision of a currency, in cash or not, by its digits
+abbrev pub digits_precision : Provider Digits → List ℕ → Bool → Result Precision Refusal
+digits_precision digits code is_cash = and_then (digits (locale_id (codes "und"))) (λ d. Ok (currency_precision is_cash (digits_of d code)))
 
--- the range of fraction digits that is wanted, or else that of the currency
-unfoldable pub money_range : Option FractionRange → Provider Digits → List ℕ → Bool → Result FractionRange Refusal
-money_range None digits code is_cash = and_then (digits (locale_id (codes "und"))) (λ d. Ok (currency_range is_cash (digits_of d code)))
-money_range (Some range) digits code is_cash = Ok range
+-- the precision that is wanted, or else that of the currency
+unfoldable pub money_precision : Option Precision → Provider Digits → List ℕ → Bool → Result Precision Refusal
+money_precision None digits code is_cash = digits_precision digits code is_cash
+money_precision (Some (Currency in_cash)) digits code is_cash = digits_precision digits code in_cash
+money_precision (Some (Fraction least most)) digits code is_cash = Ok (Fraction least most)
+money_precision (Some (Significant least most)) digits code is_cash = Ok (Significant least most)
+money_precision (Some (Increment increment power least)) digits code is_cash = Ok (Increment increment power least)
+money_precision (Some (Both least most few many priority keeps)) digits code is_cash = Ok (Both least most few many priority keeps)
 
 -- the form of a formatter of amounts, whose digits are asked for behind it
 unfoldable pub amounts_loaded : WantedData → List ℕ → Bool → DimensionData → Formatter → Result FormData Refusal
 amounts_loaded wanted code is_cash dimension formatter =
-    and_then (money_range wanted.fraction (digits_answer dimension.digits) code is_cash) (λ range.
-    Ok (form_with wanted (Some range) formatter))
+    and_then (money_precision wanted.precision (digits_answer dimension.digits) code is_cash) (λ precision.
+    Ok (form_with wanted (Some (rounding_by wanted.mode precision)) formatter))
 
 -- the formatter of amounts of a currency
 unfoldable pub currency_loaded : WantedData → List ℕ → CurrencyFormatterOptions → TablesData → DimensionData
@@ -138,7 +155,7 @@ compact_money_loaded wanted code tables dimension =
     (symbols_answer dimension.symbols) (optional_answer tables.rules) (optional_answer dimension.compact)
     (preferences wanted) code (compact_money_options wanted.grouping)
 
--- compact amounts of a currency; they have no range of fraction digits
+-- compact amounts of a currency; they are not rounded before
 unfoldable pub money_short_loaded : WantedData → List ℕ → TablesData → DimensionData → Result FormData Refusal
 money_short_loaded wanted code tables dimension =
     and_then (compact_money_loaded wanted code tables dimension) (λ f. Ok (form_with wanted None (MoneyShort f)))
@@ -148,7 +165,7 @@ unfoldable pub percent_loaded : WantedData → TablesData → DimensionData → 
 percent_loaded wanted tables dimension =
     and_then (loaded_percent (filed_answer tables.symbols) (system_digits tables) (optional_answer dimension.percents)
     (preferences wanted) (plain_options wanted.grouping)) (λ f.
-    Ok (form_with wanted wanted.fraction (Percent f)))
+    Ok (form_with wanted (wanted_rounding wanted) (Percent f)))
 
 -- the patterns of a unit in a width
 abbrev pub unit_patterns : UnitWidth → DimensionData → Provider (Elements PatternText)
@@ -167,4 +184,4 @@ units_loaded width tables dimension prefs name options =
 unfoldable pub unit_loaded : WantedData → List ℕ → UnitWidth → TablesData → DimensionData → Result FormData Refusal
 unit_loaded wanted name width tables dimension =
     and_then (units_loaded width tables dimension (preferences wanted) name (plain_options wanted.grouping)) (λ f.
-    Ok (form_with wanted wanted.fraction (Units f)))
+    Ok (form_with wanted (wanted_rounding wanted) (Units f)))

@@ -1,8 +1,7 @@
 //! The decimal that a form writes for a text, and what writes it.
 
 use crate::form::{Form, Formatter};
-use crate::fractions::in_range;
-use crate::writing::digits_moved;
+use crate::rounded::{rounded, scaled};
 use decimal_lines::{TextError, read_decimal};
 use fixed_decimal::Decimal;
 use std::alloc::Global;
@@ -11,7 +10,7 @@ use std::alloc::Global;
 /// project's own).
 #[derive(Drop)]
 pub struct Prepared {
-    /// The number as it was read.
+    /// The number that was read; for percents a hundred times it.
     pub read: Decimal,
     /// The number as it is written.
     pub written: Decimal,
@@ -19,8 +18,8 @@ pub struct Prepared {
 
 impl Form {
     ghost use Rattle.std.specs.Prelude.{◌≡◌, Ok, IfErr, IfOk};
-    ghost use Rattle.decimal_lines.specs.SingleText.{IsRefusal, decimal_read};
-    ghost use Rattle.locnum_forms.specs.Decimals.{shown_decimal, rounded_decimal};
+    ghost use Rattle.decimal_lines.specs.SingleText.{IsRefusal};
+    ghost use Rattle.locnum_forms.specs.Decimals.{rounded_decimal, scaled_decimal, shown_decimal};
 
     /// What writes numbers whose digits and sign are given (this project's own).
     pub fn formatter(&self) -> &Formatter
@@ -29,24 +28,33 @@ impl Form {
         &self.formatter
     }
 
-    /// The decimal that is written for a decimal that was read.
-    fn rounded(&self, alloc: Global, decimal: Decimal) -> Result<Decimal, TextError>
+    /// The decimal of a text; for percents a hundred times it.
+    #[tactic(auto, unfolding(crate::specs::Decimals::scaled_decimal))]
+    fn scaled(&self, alloc: Global, text: &[u8]) -> Result<Decimal, TextError>
         ensures ok { IfOk result (λ d.
-            rounded_decimal self.now (Ok (decimal.sign, decimal.absolute))
-            ≡ Ok (d.sign, d.absolute)) }
+            scaled_decimal self.now text.now ≡ Ok (d.sign, d.absolute)) }
         ensures refused { IfErr result (λ error.
-            IsRefusal (rounded_decimal self.now (Ok (decimal.sign, decimal.absolute))) error) }
+            IsRefusal (scaled_decimal self.now text.now) error) }
     {
-        let moved = digits_moved(&self.formatter);
-        let rounded = in_range(alloc, decimal, self.fraction, moved)?;
+        let decimal = read_decimal(alloc, text)?;
+        scaled(alloc, &self.formatter, decimal)
+    }
+
+    /// The decimal that is written for a number with the sign of its text.
+    pub(crate) fn rounded(&self, alloc: Global, decimal: Decimal) -> Result<Decimal, TextError>
+        ensures ok { IfOk result (λ d.
+            rounded_decimal self.now decimal.sign decimal.absolute ≡ Ok (d.sign, d.absolute)) }
+        ensures refused { IfErr result (λ error.
+            IsRefusal (rounded_decimal self.now decimal.sign decimal.absolute) error) }
+    {
+        let rounded = rounded(alloc, decimal, &self.rounding)?;
         Ok(rounded.with_sign_display(self.sign))
     }
 
-    /// The decimal that is written for a text (this project's own): that of the text, rounded half
-    /// to even, and then with the sign that is shown.
+    /// The decimal that is written for a text (this project's own): that of the text, of percents a
+    /// hundred times it, rounded, and then with the sign that is shown.
     ///
-    /// Of a percent it is the number, and not its hundredfold. Compact numbers and compact amounts
-    /// are rounded by what writes them, and not here.
+    /// Compact numbers and compact amounts are rounded by what writes them, and not here.
     // promise: It is the decimal that is written, rounded, with its sign.
     // mutations: decimal_with_its_own_sign
     #[tactic(auto, unfolding(crate::specs::Decimals::shown_decimal))]
@@ -56,22 +64,23 @@ impl Form {
         ensures refused { IfErr result (λ error.
             IsRefusal (shown_decimal self.now text.now) error) }
     {
-        let decimal = read_decimal(alloc, text)?;
+        let decimal = self.scaled(alloc, text)?;
         self.rounded(alloc, decimal)
     }
 
-    /// The decimal of a text and the decimal that is written for it (this project's own), for
-    /// callers that need both: the text is read once, and its number is rounded once.
+    /// The number that is rounded for a text, and the decimal that is written for it (this
+    /// project's own), for callers that need both: the text is read once, and its number is rounded
+    /// once.
     #[tactic(auto, unfolding(crate::specs::Decimals::shown_decimal))]
     pub fn prepare(&self, alloc: Global, text: &[u8]) -> Result<Prepared, TextError>
         ensures read { IfOk result (λ p.
-            decimal_read text.now ≡ Ok (p.read.sign, p.read.absolute)) }
+            scaled_decimal self.now text.now ≡ Ok (p.read.sign, p.read.absolute)) }
         ensures written { IfOk result (λ p.
             shown_decimal self.now text.now ≡ Ok (p.written.sign, p.written.absolute)) }
         ensures refused { IfErr result (λ error.
             IsRefusal (shown_decimal self.now text.now) error) }
     {
-        let read = read_decimal(alloc, text)?;
+        let read = self.scaled(alloc, text)?;
         let Ok(copy) = read.copy(alloc) else {
             return Err(TextError::OutOfMemory);
         };

@@ -1,6 +1,5 @@
 //! What is known of how each text is written.
 
-use crate::wanted::FractionRange;
 use decimal_lines::Mode;
 use fixed_decimal::SignDisplay;
 use icu_decimal::DecimalFormatter;
@@ -8,6 +7,7 @@ use icu_dimension::{
     CompactCurrencyFormatter, CurrencyFormatter, LongCurrencyFormatter, PercentFormatter,
     UnitsFormatter,
 };
+use number_rounding::Rounding;
 use std::marker::Model;
 
 /// What writes a number, whose digits and sign are given.
@@ -21,7 +21,7 @@ pub enum Formatter {
     MoneyNamed(LongCurrencyFormatter<DecimalFormatter>),
     /// An amount of money in compact form with the symbol of its currency.
     MoneyShort(CompactCurrencyFormatter),
-    /// A hundred times the number as a percent.
+    /// The number of percents.
     Percent(PercentFormatter<DecimalFormatter>),
     /// The number with a unit.
     Units(UnitsFormatter<DecimalFormatter>),
@@ -31,7 +31,7 @@ pub enum Formatter {
 /// project's own).
 #[derive(Drop)]
 pub struct Form {
-    pub(crate) fraction: Option<FractionRange>,
+    pub(crate) rounding: Option<Rounding>,
     pub(crate) sign: SignDisplay,
     pub(crate) formatter: Formatter,
 }
@@ -42,7 +42,7 @@ impl Model for Form {
     ghost Value = { FormData };
 
     ghost view = { λ f. record {
-      fraction = f.fraction;
+      rounding = f.rounding;
       sign = f.sign;
       formatter = f.formatter;
     } };

@@ -1,5 +1,5 @@
 //! From the text of a number to the bytes that are written: a form of a locale for numbers, money,
-//! percents or units, with its fraction digits and its signs. `push_reported` shows texts of the
+//! percents or units, with its rounding and its signs. `push_reported` shows texts of the
 //! input in notes and explanations.
 #![tactic(auto)]
 
@@ -7,10 +7,10 @@ mod characters;
 mod decimals;
 mod error;
 mod form;
-mod fractions;
 mod loading;
 mod making;
 mod reported;
+mod rounded;
 mod wanted;
 mod writing;
 
@@ -19,4 +19,4 @@ pub use decimals::Prepared;
 pub use error::StartError;
 pub use form::{Form, Formatter};
 pub use reported::push_reported;
-pub use wanted::{FractionRange, Kind, UnitWidth, Wanted};
+pub use wanted::{Kind, UnitWidth, Wanted};

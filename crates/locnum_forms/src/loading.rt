@@ -3,12 +3,14 @@
 ghost use Rattle.std.specs.Prelude.{◌≡◌};
 ghost use Rattle.icu_provider.specs.Answer.{Answers};
 ghost use Rattle.icu_dimension_tables.specs.Answering.{digits_answer};
-ghost use Rattle.locnum_forms.specs.Loaded.{amounts_loaded, compact_money_loaded, compact_money_options, compact_preferences, currency_loaded, currency_range, exactly, long_loaded, money_loaded, money_range, money_short_loaded, named_loaded, names_loaded, percent_loaded};
-ghost use Rattle.locnum_forms.specs.Loaded.{plain_loaded, preferences, short_loaded, unit_loaded, units_loaded};
+ghost use Rattle.locnum_forms.specs.Loaded.{amounts_loaded, compact_money_loaded, compact_money_options, compact_preferences, currency_loaded, currency_precision};
+ghost use Rattle.locnum_forms.specs.Loaded.{digits_precision, long_loaded, money_loaded, money_precision, money_short_loaded, named_loaded, names_loaded};
+ghost use Rattle.locnum_forms.specs.Loaded.{percent_loaded, plain_loaded, preferences, rounding_by, short_loaded, unit_loaded, units_loaded, wanted_rounding};
 
 use crate::form::{Form, Formatter};
-use crate::wanted::{FractionRange, UnitWidth, Wanted};
+use crate::wanted::{UnitWidth, Wanted};
 use decimal_lines::{Mode, compact_options, plain_options};
+use fixed_decimal::SignedRoundingMode;
 use icu_decimal::{CompactDecimalFormatter, DecimalFormatter};
 use icu_decimal_options::options::{DecimalFormatterOptions, GroupingStrategy};
 use icu_decimal_options::preferences::{
@@ -24,6 +26,8 @@ use icu_dimension_data::{CurrencyCode, FractionDigits};
 use icu_dimension_tables::AllTables;
 use icu_provider::DataError;
 use icu_tables::Tables;
+use number_rounding::Rounding;
+use skeleton_settings::Precision;
 use std::alloc::Global;
 
 /// The locale and the system that are wanted.
@@ -46,6 +50,25 @@ fn compact_preferences(wanted: &Wanted<'_>) -> CompactDecimalFormatterPreference
     }
 }
 
+/// Rounding by a mode to a precision, with one digit at power 0 and above at least.
+fn rounding_by(mode: SignedRoundingMode, precision: Precision) -> Rounding
+    ensures { result ≡ rounding_by mode precision }
+{
+    Rounding {
+        precision,
+        mode,
+        hides_zeros_of_whole: false,
+        integer_digits: 1,
+    }
+}
+
+/// Rounding to the precision that is wanted, if one is.
+fn wanted_rounding(wanted: &Wanted<'_>) -> Option<Rounding>
+    ensures { result ≡ wanted_rounding wanted.now }
+{
+    Some(rounding_by(wanted.mode, wanted.precision?))
+}
+
 /// Numbers in full.
 #[tactic(auto, unfolding(crate::specs::Loaded::plain_loaded))]
 pub(crate) fn load_plain(
@@ -59,7 +82,7 @@ pub(crate) fn load_plain(
     let prefs = preferences(wanted);
     let formatter = DecimalFormatter::try_new_unstable(alloc, tables, prefs, options)?;
     Ok(Form {
-        fraction: wanted.fraction,
+        rounding: wanted_rounding(wanted),
         sign: wanted.sign,
         formatter: Formatter::Numbers(Mode::Plain(formatter)),
     })
@@ -78,7 +101,7 @@ pub(crate) fn load_short(
     let prefs = compact_preferences(wanted);
     let formatter = CompactDecimalFormatter::try_new_short_unstable(alloc, tables, prefs, options)?;
     Ok(Form {
-        fraction: None,
+        rounding: None,
         sign: wanted.sign,
         formatter: Formatter::Numbers(Mode::Compact(formatter)),
     })
@@ -97,50 +120,62 @@ pub(crate) fn load_long(
     let prefs = compact_preferences(wanted);
     let formatter = CompactDecimalFormatter::try_new_long_unstable(alloc, tables, prefs, options)?;
     Ok(Form {
-        fraction: None,
+        rounding: None,
         sign: wanted.sign,
         formatter: Formatter::Numbers(Mode::Compact(formatter)),
     })
 }
 
-/// That many fraction digits.
-fn exactly(digits: u8) -> FractionRange
-    ensures { result ≡ exactly digits }
-{
-    FractionRange {
-        least: digits,
-        most: digits,
-    }
-}
-
-/// The fraction digits of a currency, in cash or not.
-fn currency_range(is_cash: bool, digits: FractionDigits) -> FractionRange
-    ensures { result ≡ currency_range is_cash digits }
+/// As fine as the digits of a currency, in cash or not: in cash the multiples of its step.
+fn currency_precision(is_cash: bool, digits: FractionDigits) -> Precision
+    ensures { result ≡ currency_precision is_cash digits }
 {
     if is_cash {
-        exactly(digits.cash)
+        Precision::Increment {
+            increment: digits.cash_step.increment,
+            power: i16::from(digits.cash_step.zeros) - i16::from(digits.cash),
+            least: u16::from(digits.cash),
+        }
     } else {
-        exactly(digits.standard)
+        let standard = u16::from(digits.standard);
+        Precision::Fraction {
+            least: standard,
+            most: Some(standard),
+        }
     }
 }
 
-/// The range of fraction digits that is wanted, or else that of the currency.
-#[tactic(auto, unfolding(crate::specs::Loaded::money_range))]
-fn money_range(
+/// The precision of a currency, in cash or not, by its digits.
+fn digits_precision(
     alloc: Global,
     all: &AllTables,
-    wanted: Option<FractionRange>,
     code: CurrencyCode,
     is_cash: bool,
-) -> Result<FractionRange, DataError>
+) -> Result<Precision, DataError>
     ensures { Answers result
-        (money_range wanted (digits_answer all.now.dimension.digits) code is_cash) }
+        (digits_precision (digits_answer all.now.dimension.digits) code is_cash) }
 {
-    if let Some(range) = wanted {
-        return Ok(range);
-    }
     let digits = load_currency_digits::<AllTables>(alloc, all)?;
-    Ok(currency_range(is_cash, digits.of(code)))
+    Ok(currency_precision(is_cash, digits.of(code)))
+}
+
+/// The precision that is wanted, or else that of the currency.
+#[tactic(auto, unfolding(crate::specs::Loaded::money_precision))]
+fn money_precision(
+    alloc: Global,
+    all: &AllTables,
+    wanted: Option<Precision>,
+    code: CurrencyCode,
+    is_cash: bool,
+) -> Result<Precision, DataError>
+    ensures { Answers result
+        (money_precision wanted (digits_answer all.now.dimension.digits) code is_cash) }
+{
+    match wanted {
+        None => digits_precision(alloc, all, code, is_cash),
+        Some(Precision::Currency { is_cash }) => digits_precision(alloc, all, code, is_cash),
+        Some(precision) => Ok(precision),
+    }
 }
 
 /// The form of a formatter of amounts, whose digits are asked for behind it.
@@ -156,9 +191,9 @@ fn load_amounts(
     ensures { Answers result
         (amounts_loaded wanted.now code is_cash all.now.dimension formatter) }
 {
-    let range = money_range(alloc, all, wanted.fraction, code, is_cash)?;
+    let precision = money_precision(alloc, all, wanted.precision, code, is_cash)?;
     Ok(Form {
-        fraction: Some(range),
+        rounding: Some(rounding_by(wanted.mode, precision)),
         sign: wanted.sign,
         formatter,
     })
@@ -252,7 +287,7 @@ fn load_compact_money(
     CompactCurrencyFormatter::try_new_unstable::<AllTables>(alloc, all, prefs, code, options)
 }
 
-/// Compact amounts of a currency, which have no range of fraction digits.
+/// Compact amounts of a currency, which are not rounded before.
 #[tactic(auto, unfolding(crate::specs::Loaded::money_short_loaded))]
 pub(crate) fn load_money_short(
     alloc: Global,
@@ -264,7 +299,7 @@ pub(crate) fn load_money_short(
         (money_short_loaded wanted.now code all.now.numbers all.now.dimension) }
 {
     Ok(Form {
-        fraction: None,
+        rounding: None,
         sign: wanted.sign,
         formatter: Formatter::MoneyShort(load_compact_money(alloc, all, wanted, code)?),
     })
@@ -283,7 +318,7 @@ pub(crate) fn load_percent(
     let prefs = preferences(wanted);
     let formatter = PercentFormatter::try_new_unstable::<AllTables>(alloc, all, prefs, options)?;
     Ok(Form {
-        fraction: wanted.fraction,
+        rounding: wanted_rounding(wanted),
         sign: wanted.sign,
         formatter: Formatter::Percent(formatter),
     })
@@ -329,7 +364,7 @@ pub(crate) fn load_unit(
     let options = plain_options(wanted.grouping);
     let formatter = load_units(alloc, all, preferences(wanted), name, width, options)?;
     Ok(Form {
-        fraction: wanted.fraction,
+        rounding: wanted_rounding(wanted),
         sign: wanted.sign,
         formatter: Formatter::Units(formatter),
     })

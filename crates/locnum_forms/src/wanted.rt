@@ -1,24 +1,12 @@
 //! What a form is to be, besides the tables.
 
-use fixed_decimal::SignDisplay;
+use fixed_decimal::{SignDisplay, SignedRoundingMode};
 use icu_decimal_options::options::GroupingStrategy;
 use icu_dimension::options::{CurrencySign, Width};
 use icu_dimension_data::CurrencyCode;
 use icu_provider::{DataLocale, NumberingSystem};
+use skeleton_settings::Precision;
 use std::marker::Model;
-
-/// How many fraction digits are written (this project's own).
-///
-/// A number is rounded half to even to at most that many, and zeros are written behind it where it
-/// has fewer than the least. Where the least is more than the most, that many are written, the last
-/// of them zeros.
-#[derive(Clone, Copy, Debug, PartialEq, Eq)]
-pub struct FractionRange {
-    /// As many at least.
-    pub least: u8,
-    /// As many at most.
-    pub most: u8,
-}
 
 /// Which patterns write a unit.
 #[derive(Clone, Copy, Debug, PartialEq, Eq)]
@@ -48,14 +36,14 @@ pub enum Kind<'a> {
         width: Width,
         /// Which pattern writes a sign.
         sign: CurrencySign,
-        /// Whether the amount has the digits of cash, where no fraction digits are asked for.
+        /// Whether amounts are those of cash, where no precision is asked for.
         is_cash: bool,
     },
     /// An amount of money with the name of its currency, as `15,127.00 US dollars`.
     MoneyNamed {
         /// The currency.
         code: CurrencyCode,
-        /// Whether the amount has the digits of cash, where no fraction digits are asked for.
+        /// Whether amounts are those of cash, where no precision is asked for.
         is_cash: bool,
     },
     /// An amount of money by the short patterns of its currency, as `$15K`.
@@ -84,9 +72,13 @@ pub struct Wanted<'a> {
     /// When separators are written; `None` is the default: `min2` for compact numbers and compact
     /// amounts, else `auto`.
     pub grouping: Option<GroupingStrategy>,
-    /// How many fraction digits are written. `None`: those of the currency for money, else the
-    /// digits as they are given. Compact numbers and compact amounts ignore it.
-    pub fraction: Option<FractionRange>,
+    /// How fine a written number is, of percents what is written. `None`: as the digits of the
+    /// currency for money, else the digits are as they are given. The precision of a currency is
+    /// two digits where no currency is asked for. Compact numbers and compact amounts ignore it.
+    pub precision: Option<Precision>,
+    /// Which of the numbers around it is taken for a number, where numbers are rounded. Compact
+    /// numbers and compact amounts are rounded half to even.
+    pub mode: SignedRoundingMode,
     /// Which signs are written.
     pub sign: SignDisplay,
     /// What is written.
@@ -102,7 +94,8 @@ impl<'a> Model for Wanted<'a> {
       locale = w.locale;
       system = w.system;
       grouping = w.grouping;
-      fraction = w.fraction;
+      precision = w.precision;
+      mode = w.mode;
       sign = w.sign;
       kind = w.kind;
     } };

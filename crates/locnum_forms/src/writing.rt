@@ -4,12 +4,12 @@ ghost use Rattle.std.specs.Prelude.{◌≡◌, IfSome, None, Ok};
 ghost use Rattle.fixed_decimal.specs.SignDisplay.{minus_or_none};
 ghost use Rattle.writeable.specs.Sink.{Writes};
 ghost use Rattle.decimal_lines.specs.SingleText.{WroteEvents, mode_events};
-ghost use Rattle.locnum_forms.specs.Forms.{digits_moved, formatter_events};
+ghost use Rattle.locnum_forms.specs.Forms.{formatter_events};
 ghost use Rattle.locnum_forms.specs.WrittenOr.{written_or};
 ghost use Rattle.locnum_forms.specs.declared.form.Formatter.TheVariants.{Money, MoneyNamed, MoneyShort, Numbers, Percent, Units};
 
 use crate::form::{Form, Formatter};
-use crate::fractions::in_range;
+use crate::rounded::{rounded, scaled};
 use decimal_lines::{Mode, TextError, read_decimal, write_shown};
 use fixed_decimal::{Decimal, Sign, SignDisplay};
 use icu_decimal::DecimalFormatter;
@@ -20,20 +20,6 @@ use icu_dimension::{
 };
 use std::alloc::Global;
 use writeable::{EventWriter, PartsText, PartsWrite, WithParts};
-
-/// How many more fraction digits the number has than what is written of it.
-pub(crate) fn digits_moved(formatter: &Formatter) -> u8
-    ensures { result ≡ digits_moved formatter.now }
-{
-    match formatter {
-        Formatter::Percent(_) => 2,
-        Formatter::Numbers(_)
-        | Formatter::Money(_)
-        | Formatter::MoneyNamed(_)
-        | Formatter::MoneyShort(_)
-        | Formatter::Units(_) => 0,
-    }
-}
 
 /// Why something wasn't written, if it wasn't: a writer that fails counts as out of memory.
 fn written_or(written: Result<(), FormatError>) -> Result<(), TextError>
@@ -87,7 +73,7 @@ fn write_money_short<K: EventWriter>(
     written_or(formatter.write_into(alloc, decimal, out))
 }
 
-/// Writes a percent.
+/// Writes a number of percents.
 fn write_percent<K: EventWriter>(
     alloc: Global,
     formatter: &PercentFormatter<DecimalFormatter>,
@@ -97,7 +83,7 @@ fn write_percent<K: EventWriter>(
     ensures { WroteEvents K.wrote out.old result
         (formatter_events (Percent formatter.now) decimal.now.sign decimal.now.absolute) out.new }
 {
-    written_or(formatter.write_into(alloc, decimal, out))
+    written_or(formatter.write_percents_into(alloc, decimal, out))
 }
 
 /// Writes a number with its unit.
@@ -152,9 +138,9 @@ fn write_formatted_parts<S: PartsWrite>(
 /// What writes numbers of a form that changes nothing of them but a plus.
 fn unchanging(form: &Form) -> Option<&Mode>
     ensures { IfSome result (λ mode. (form.now.formatter ≡ Numbers mode.now)
-        × (form.now.fraction ≡ None) × (form.now.sign ≡ SignDisplay.Auto)) }
+        × (form.now.rounding ≡ None) × (form.now.sign ≡ SignDisplay.Auto)) }
 {
-    let (None, SignDisplay::Auto) = (form.fraction, form.sign) else {
+    let (None, SignDisplay::Auto) = (form.rounding, form.sign) else {
         return None;
     };
     match &form.formatter {
@@ -206,10 +192,10 @@ impl Form {
         out: &mut K,
     ) -> Result<(), TextError>
         ensures { WroteEvents K.wrote out.old result
-            (read_events self.now (Ok (decimal.sign, decimal.absolute))) out.new }
+            (read_events self.now (decimal.sign, decimal.absolute)) out.new }
     {
-        let moved = digits_moved(&self.formatter);
-        let rounded = in_range(alloc, decimal, self.fraction, moved)?;
+        let number = scaled(alloc, &self.formatter, decimal)?;
+        let rounded = rounded(alloc, number, &self.rounding)?;
         let shown = rounded.with_sign_display(self.sign);
         write_formatted(alloc, &self.formatter, &shown, out)
     }
@@ -249,12 +235,13 @@ impl Form {
 
     /// Appends what the form writes for a text.
     ///
-    /// The text is a decimal and nothing else. Its number is rounded first, half to even, and then
-    /// its sign is decided, so that a number that is rounded to zero has none where zero has none.
-    /// `Overflow` where the rounded number, the nearest compact number or a hundred times the
-    /// number is too large. Without memory some bytes of what is written may stand there.
+    /// The text is a decimal and nothing else. Its number is rounded first, for percents a hundred
+    /// times it, and then its sign is decided, so that a number that is rounded to zero has none
+    /// where zero has none. `Overflow` where the rounded number, the nearest compact number or a
+    /// hundred times the number is too large. Without memory some bytes of what is written may
+    /// stand there.
     // promise: The buffer grows by just what the form writes of the text.
-    // mutations: sign_decided_before_rounding, compact_money_in_full
+    // mutations: sign_decided_before_rounding, rounded_before_it_is_scaled, compact_money_in_full
     pub fn push(&self, alloc: Global, text: &[u8], out: &mut Vec<u8>) -> Result<(), TextError>
         ensures ok { OnOk result (AppendsEvents (form_events self.now text.now) out.old.items
             out.new.items) }
