@@ -20,18 +20,23 @@ fn english(alloc: Global, options: DecimalFormatterOptions) -> Option<DecimalFor
     Some(DecimalFormatter::from_parts(symbols, ASCII_DIGITS, options))
 }
 
-/// Writes a number, and each of its parts with the bytes where it stands.
-fn print_plain(rt: &HostRuntime, number: &str) -> Option<()> {
-    let formatter = english(rt.alloc(), DecimalFormatterOptions::default())?;
-    let decimal = Decimal::try_from_str(rt.alloc(), number).ok()?;
-    let mut text = PartsText::new(rt.alloc());
-    formatter.format(&decimal).write_to_parts(&mut text).ok()?;
+/// Writes a text, and each of its parts with the bytes where it stands.
+fn print_parts(rt: &HostRuntime, text: &PartsText) -> Option<()> {
     println!(rt; "{}", text.text()).ok()?;
     let spans = text.spans(rt.alloc()).ok()?;
     for (start, end, part) in &spans {
         println!(rt; "{start}..{end} {}", part.value).ok()?;
     }
     Some(())
+}
+
+/// Writes a number in English, and its parts.
+fn print_plain(rt: &HostRuntime, number: &str) -> Option<()> {
+    let formatter = english(rt.alloc(), DecimalFormatterOptions::default())?;
+    let decimal = Decimal::try_from_str(rt.alloc(), number).ok()?;
+    let mut text = PartsText::new(rt.alloc());
+    formatter.format(&decimal).write_to_parts(&mut text).ok()?;
+    print_parts(rt, &text)
 }
 
 /// Thousands and millions in short English.

@@ -28,9 +28,10 @@ pub record FormData : Type 0 where
   pub formatter : Formatter
 
 -- what is made of a result, if it is one
-pub ◌>>=◌ : {A B : Type 0} → Result A TextError → (A → Result B TextError) → Result B TextError
-Ok x >>= next = next x
-Err error >>= next = Err error
+infixl 10 ◌>>=◌
+abbrev pub ◌>>=◌ : {A B : Type 0} → Result A TextError → (A → Result B TextError) → Result B TextError
+(Ok x) >>= next = next x
+(Err error) >>= next = Err error
 
 -- the percents of a number, or `Overflow` if they have a digit at a power past the limits
 abbrev pub percents : Unsigned → Result Unsigned TextError

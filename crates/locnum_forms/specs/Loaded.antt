@@ -1,6 +1,5 @@
 -- The form of what tables answer, in the order in which they are asked, or the first error.
-use Rattle.std.specs.Prelude.{ℕ, List, Bool, false, Option, Some, None, option_map, Result, Ok, codes, if◌then◌else◌, pos, ◌-ℤ◌}
-use Rattle.fixed_decimal.specs.declared.modes.SignedRoundingMode.{SignedRoundingMode}
+use Rattle.std.specs.Prelude.{ℕ, List, Bool, Option, Some, None, option_map, Result, Ok, codes, if◌then◌else◌, pos, ◌-ℤ◌}
 use Rattle.icu_pattern.specs.Patterns.{PatternText}
 use Rattle.icu_plurals.specs.Elements.{Elements}
 use Rattle.icu_provider.specs.Answer.{Refusal}
@@ -54,13 +53,18 @@ compact_preferences wanted = record { locale_preferences = wanted.locale; number
 abbrev pub money_options : Option GroupingStrategy → Width → CurrencySign → CurrencyFormatterOptions
 money_options grouping width sign = record { decimal = plain_options grouping; width = width; sign = sign }
 
--- rounding by a mode to a precision, with one digit at power 0 and above at least
-abbrev pub rounding_by : SignedRoundingMode → Precision → Rounding
-rounding_by mode precision = record { precision = precision; mode = mode; hides_zeros_of_whole = false; integer_digits = 1 }
+-- rounding to a precision as it is wanted
+abbrev pub rounding_to : WantedData → Precision → Rounding
+rounding_to wanted precision = record {
+  precision = precision;
+  mode = wanted.mode;
+  hides_zeros_of_whole = wanted.hides_zeros_of_whole;
+  integer_digits = wanted.integer_digits;
+}
 
 -- rounding to the precision that is wanted, if one is
 abbrev pub wanted_rounding : WantedData → Option Rounding
-wanted_rounding wanted = option_map (rounding_by wanted.mode) wanted.precision
+wanted_rounding wanted = option_map (rounding_to wanted) wanted.precision
 
 -- the form with this rounding and this formatter
 abbrev pub form_with : WantedData → Option Rounding → Formatter → FormData
@@ -118,7 +122,7 @@ money_precision (Some (Both least most few many priority keeps)) digits code is_
 unfoldable pub amounts_loaded : WantedData → List ℕ → Bool → DimensionData → Formatter → Result FormData Refusal
 amounts_loaded wanted code is_cash dimension formatter =
     and_then (money_precision wanted.precision (digits_answer dimension.digits) code is_cash) (λ precision.
-    Ok (form_with wanted (Some (rounding_by wanted.mode precision)) formatter))
+    Ok (form_with wanted (Some (rounding_to wanted precision)) formatter))
 
 -- the formatter of amounts of a currency
 unfoldable pub currency_loaded : WantedData → List ℕ → CurrencyFormatterOptions → TablesData → DimensionData

@@ -1,5 +1,5 @@
 -- What a form is to be, besides the tables.
-use Rattle.std.specs.Prelude.{ℕ, List, Option}
+use Rattle.std.specs.Prelude.{ℕ, Bool, List, Option}
 use Rattle.fixed_decimal.specs.declared.modes.SignedRoundingMode.{SignedRoundingMode}
 use Rattle.fixed_decimal.specs.declared.signs.SignDisplay.{SignDisplay}
 use Rattle.icu_decimal.specs.declared.options.GroupingStrategy.{GroupingStrategy}
@@ -13,5 +13,7 @@ pub record WantedData : Type 0 where
   pub grouping : Option GroupingStrategy
   pub precision : Option Precision
   pub mode : SignedRoundingMode
+  pub hides_zeros_of_whole : Bool
+  pub integer_digits : ℕ
   pub sign : SignDisplay
   pub kind : Kind

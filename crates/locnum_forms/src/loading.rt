@@ -5,12 +5,11 @@ ghost use Rattle.icu_provider.specs.Answer.{Answers};
 ghost use Rattle.icu_dimension_tables.specs.Answering.{digits_answer};
 ghost use Rattle.locnum_forms.specs.Loaded.{amounts_loaded, compact_money_loaded, compact_money_options, compact_preferences, currency_loaded, currency_precision};
 ghost use Rattle.locnum_forms.specs.Loaded.{digits_precision, long_loaded, money_loaded, money_precision, money_short_loaded, named_loaded, names_loaded};
-ghost use Rattle.locnum_forms.specs.Loaded.{percent_loaded, plain_loaded, preferences, rounding_by, short_loaded, unit_loaded, units_loaded, wanted_rounding};
+ghost use Rattle.locnum_forms.specs.Loaded.{percent_loaded, plain_loaded, preferences, rounding_to, short_loaded, unit_loaded, units_loaded, wanted_rounding};
 
 use crate::form::{Form, Formatter};
 use crate::wanted::{UnitWidth, Wanted};
 use decimal_lines::{Mode, compact_options, plain_options};
-use fixed_decimal::SignedRoundingMode;
 use icu_decimal::{CompactDecimalFormatter, DecimalFormatter};
 use icu_decimal_options::options::{DecimalFormatterOptions, GroupingStrategy};
 use icu_decimal_options::preferences::{
@@ -50,15 +49,15 @@ fn compact_preferences(wanted: &Wanted<'_>) -> CompactDecimalFormatterPreference
     }
 }
 
-/// Rounding by a mode to a precision, with one digit at power 0 and above at least.
-fn rounding_by(mode: SignedRoundingMode, precision: Precision) -> Rounding
-    ensures { result ≡ rounding_by mode precision }
+/// Rounding to a precision as it is wanted.
+fn rounding_to(wanted: &Wanted<'_>, precision: Precision) -> Rounding
+    ensures { result ≡ rounding_to wanted.now precision }
 {
     Rounding {
         precision,
-        mode,
-        hides_zeros_of_whole: false,
-        integer_digits: 1,
+        mode: wanted.mode,
+        hides_zeros_of_whole: wanted.hides_zeros_of_whole,
+        integer_digits: wanted.integer_digits,
     }
 }
 
@@ -66,7 +65,7 @@ fn rounding_by(mode: SignedRoundingMode, precision: Precision) -> Rounding
 fn wanted_rounding(wanted: &Wanted<'_>) -> Option<Rounding>
     ensures { result ≡ wanted_rounding wanted.now }
 {
-    Some(rounding_by(wanted.mode, wanted.precision?))
+    Some(rounding_to(wanted, wanted.precision?))
 }
 
 /// Numbers in full.
@@ -193,7 +192,7 @@ fn load_amounts(
 {
     let precision = money_precision(alloc, all, wanted.precision, code, is_cash)?;
     Ok(Form {
-        rounding: Some(rounding_by(wanted.mode, precision)),
+        rounding: Some(rounding_to(wanted, precision)),
         sign: wanted.sign,
         formatter,
     })

@@ -79,6 +79,10 @@ pub struct Wanted<'a> {
     /// Which of the numbers around it is taken for a number, where numbers are rounded. Compact
     /// numbers and compact amounts are rounded half to even.
     pub mode: SignedRoundingMode,
+    /// Whether a whole number is written without fraction digits, where numbers are rounded.
+    pub hides_zeros_of_whole: bool,
+    /// How many digits a number has before its fraction digits at least, where numbers are rounded.
+    pub integer_digits: u16,
     /// Which signs are written.
     pub sign: SignDisplay,
     /// What is written.
@@ -96,6 +100,8 @@ impl<'a> Model for Wanted<'a> {
       grouping = w.grouping;
       precision = w.precision;
       mode = w.mode;
+      hides_zeros_of_whole = w.hides_zeros_of_whole;
+      integer_digits = w.integer_digits;
       sign = w.sign;
       kind = w.kind;
     } };

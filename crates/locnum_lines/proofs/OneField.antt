@@ -10,7 +10,7 @@ use Rattle.std.proofs.lemmas.Bool.Decides.{nat_tests}
 use Rattle.writeable.specs.Events.{Event, text_of}
 use Rattle.decimal_lines.specs.SingleText.{decimal_read, within_or}
 use Rattle.decimal_lines.specs.declared.single_text.TextError.{TextError}
-use Rattle.locnum_forms.specs.Forms.{FormData, form_events, read_events}
+use Rattle.locnum_forms.specs.Forms.{FormData, ◌>>=◌, form_events, read_events}
 use Rattle.fixed_decimal.specs.declared.signs.Sign.{Sign}
 use Rattle.fixed_decimal.specs.declared.signs.Sign.TheVariants.{None as no_sign, Negative, Positive}
 use Rattle.fixed_decimal.specs.Reading.{Digits, after_integer, digit_before, leading_digits, reading, signed, unsigned_reading, with_fraction}
@@ -161,7 +161,7 @@ shown-of : (form : FormData) (text : List ℕ) (events : List Event) → form_ev
 unfolding form_events
 shown-of form text events e = go (decimal_read text) refl e
   where
-    go : (r : Result (Sign × Unsigned) TextError) → decimal_read text ≡ r → read_events form r ≡ Ok events → AreOfNumbers text
+    go : (r : Result (Sign × Unsigned) TextError) → decimal_read text ≡ r → (r >>= read_events form) ≡ Ok events → AreOfNumbers text
     go (Ok read) r f = decimal-of text read r
     go (Err error) r f = absurd cc
 
