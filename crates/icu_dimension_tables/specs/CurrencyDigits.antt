@@ -43,7 +43,7 @@ unfoldable pub cash_step_of : Position → ℕ → Result CashStep TableError
 cash_step_of position n = step_or_fault position (cash_step n)
 
 -- three members, or four
-unfoldable pub members_of : Key → List Data → Result (Data × (Data × (Data × Option Data))) TableError
+abbrev pub members_of : Key → List Data → Result (Data × (Data × (Data × Option Data))) TableError
 members_of key [] = Err (WrongKind key)
 members_of key (a ∷ []) = Err (WrongKind key)
 members_of key (a ∷ b ∷ []) = Err (WrongKind key)

@@ -71,7 +71,7 @@ fn cash_step_of(position: Position, number: u8) -> Result<CashStep, TableError>
 }
 
 /// A list of three values, or of four.
-#[tactic(auto, unfolding(crate::specs::CurrencyDigits::members_in, crate::specs::CurrencyDigits::members_of))]
+#[tactic(auto, unfolding(crate::specs::CurrencyDigits::members_in))]
 fn members_in(
     value: &Value,
     key: Key,
@@ -91,7 +91,8 @@ fn members_in(
 /// The number of the step of cash: without a member it is one.
 #[tactic(auto, unfolding(crate::specs::CurrencyDigits::step_number_in))]
 fn step_number_in(value: Option<&Value>, key: Key) -> Result<u8, TableError>
-    ensures { Gives (λ x. x) result (step_number_in key (option_map (λ d. view d.now) value)) }
+    ensures { Gives (λ x. x) result (step_number_in key
+        (option_map (λ d. view d.now) value.entry)) }
 {
     match value {
         Some(value) => byte_in(value, key),
