@@ -77,8 +77,16 @@ fn members_in(
     key: Key,
 ) -> Result<(&Value, (&Value, (&Value, Option<&Value>))), TableError>
     ensures { Gives
-        (λ x. (view x.0.now, (view x.1.0.now, (view x.1.1.0.now,
-            option_map (λ d. view d.now) x.1.1.1))))
+        (λ x. (
+          view x.0.now,
+          (
+            view x.1.0.now,
+            (
+              view x.1.1.0.now,
+              option_map (λ d. view d.now) x.1.1.1,
+            ),
+          ),
+        ))
         result (members_in key (view value.now)) }
 {
     match list_in(value, key)? {
