@@ -2,9 +2,7 @@
 # shellcheck shell=bash
 : "${folder:?tests/cldr_tables.sh sources this file}"
 
-money_lines=("${digits_lines[@]}"
-    'root: currency QQC: cashRounding by 5: amounts are rounded to digits alone'
-    'root: currency QQD: more than 15 digits')
+money_lines=("${digits_lines[@]}" 'root: currency QQD: more than 15 digits')
 own='money is written in the locale'"'"'s own way'
 percents=percentFormatLength/percentFormat/pattern
 groups="its groups aren't those of '#,##,##0.###', which stand"
@@ -29,7 +27,7 @@ counts currency_decimals 2
 has currency_symbols \
     '{"locale":"qaa","symbols":[["QQA","A","a",{"one":"one alpha","other":"alphas"}],["QQB","B$","$",{"other":"beta"}],["QQC","QQC","QQC",{"other":"gamma"}],["QQD","QQD","QQD",{"other":"QQD"}]]}' \
     '{"locale":"und","symbols":[["QQA","QQA","a",{"other":"QQA"}],["QQB","B$","$",{"other":"QQB"}],["QQC","QQC","QQC",{"other":"QQC"}],["QQD","QQD","QQD",{"other":"QQD"}]]}'
-has currency_digits '["DEFAULT",2,2]' '["QQB",0,0]' '["QQC",3,1]'
+has currency_digits '["DEFAULT",2,2]' '["QQB",0,0]' '["QQC",3,1,5]'
 counts currency_digits 3
 # compact patterns with their quotes; `0` alone shortens nothing; a type that repeats; none for a symbol that ends in a letter
 has currency_compact \
@@ -308,6 +306,40 @@ judge 'systems by the option alone' [ "$(grep -c '"locale":"qaa","system":"arab"
 makes none "$release" --names none --currencies none --units none
 judge 'none is the default' cmp "$folder/none.json" "$folder/modern.json"
 
+# Steps of cash: in the last digit of cash, which is that of other amounts unless there are digits of cash; a step of 0 or
+# 1 is no step; the steps that tables don't have; a rounding of all amounts.
+cp -r "$release/common" "$folder/steps"
+
+# step_of CODE ATTRIBUTE..: a currency with these attributes beside its code
+step_of() {
+    sed -i "/<\/fractions>/i <info iso4217=\"$1\" ${*:2}/>" "$folder/steps/supplemental/supplementalData.xml"
+}
+step_of QRA 'digits="2" rounding="0" cashRounding="5"'
+step_of QRB 'digits="2" rounding="0" cashDigits="2" cashRounding="50"'
+step_of QRC 'digits="2" rounding="0" cashDigits="0" cashRounding="250"'
+step_of QRD 'digits="2" rounding="0" cashRounding="0"'
+step_of QRE 'digits="2" rounding="0" cashDigits="1" cashRounding="1"'
+step_of QRF 'digits="2" rounding="0" cashRounding="3"'
+step_of QRG 'digits="2" rounding="0" cashRounding="125"'
+step_of QRH 'digits="2" rounding="0" cashRounding="500"'
+step_of QRI 'digits="2" rounding="5" cashRounding="10"'
+step_of QRJ 'digits="2" rounding="5"'
+step_of QRK 'digits="16" rounding="5" cashRounding="15"'
+alone='amounts are rounded to digits alone'
+makes steps "$folder/steps" root --currencies QQC,QRA,QRB,QRC,QRD,QRE,QRF,QRG,QRH,QRI,QRJ,QRK
+reports "${digits_lines[@]}" \
+    "root: currency QRF: cashRounding by 3: $alone" \
+    "root: currency QRG: cashRounding by 125: $alone" \
+    "root: currency QRH: cashRounding by 500: $alone" \
+    "root: currency QRI: rounding by 5: $alone" \
+    "root: currency QRJ: rounding by 5: $alone" \
+    "root: currency QRK: rounding by 5: $alone" \
+    "root: currency QRK: cashRounding by 15: $alone" \
+    'root: currency QRK: more than 15 digits'
+has currency_digits '["DEFAULT",2,2]' '["QQC",3,1,5]' '["QRA",2,2,5]' '["QRB",2,2,50]' '["QRC",2,0,250]' '["QRD",2,2]' \
+    '["QRE",2,1]' '["QRF",2,2]' '["QRG",2,2]' '["QRH",2,2]' '["QRI",2,2,10]' '["QRJ",2,2]'
+counts currency_digits 12
+
 # The JSON packages.
 makes json_money "$release/json" qaa --currencies QQA,QQB --percents --units all
 reports "qaa: currencyFormats[latn]/$named '#,##0.00 ¤', which stand" "qaa: percentFormats[latn]/$percents: '#,##0 %': $groups"
@@ -320,11 +352,16 @@ counts currency_decimals 1
 has currency_symbols '{"locale":"qaa","symbols":[["QQA","A","a",{"one":"one alpha","other":"alphas"}],["QQB","B$","B$",{"other":"beta"}]]}'
 has currency_compact '{"locale":"qaa","patterns":[[4,4,{"one":"0 wan ¤","other":"0 wans ¤"}]]}'
 has currency_digits '["DEFAULT",2,2]' '["QQB",0,0]'
+counts currency_digits 2
 has percents '{"locale":"qaa","pattern":"#,##0 %","minus":"−","plus":"+","percent":"%"}' \
     '{"locale":"qaa","system":"arab","pattern":"#,##0 %","minus":"-","plus":"+","percent":"٪"}'
 has units '{"locale":"qaa","width":"long","unit":"kilometer","patterns":{"one":"{0} kilo","other":"{0} kilos"}}' \
     '{"locale":"qaa","width":"narrow","unit":"kilometer","patterns":{"other":"{0}km"}}'
 counts units 3
+
+makes json_steps "$release/json" qaa --currencies QQC
+has currency_digits '["DEFAULT",2,2]' '["QQC",3,1,5]'
+counts currency_digits 2
 
 # Arguments.
 ends 2 "$release" --currencies eur

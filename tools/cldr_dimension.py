@@ -47,6 +47,8 @@ NAME = "{1}"
 SYMBOL = "¤"
 PERCENT = "%"
 MOST_DIGITS = 15
+MOST_STEP = 250
+STEPS = (1, 2, 5, 25)
 DEFAULT = "DEFAULT"
 SHORT = "short"
 OWN = ("pattern", "decimal", "group")
@@ -55,8 +57,8 @@ OWN = ("pattern", "decimal", "group")
 Names = Union[Literal["all"], Sequence[str]]
 # A currency's code, its symbol, its narrow one and its names by plural categories.
 CurrencyTexts = Tuple[str, str, str, Elements]
-# A currency's code and its fraction digits, in general and in cash.
-CurrencyDigits = Tuple[str, int, int]
+# A currency's code and its fraction digits, in general and in cash, and its step of cash unless that is 1.
+CurrencyDigits = Union[Tuple[str, int, int], Tuple[str, int, int, int]]
 
 
 # Patterns with places.
@@ -241,23 +243,37 @@ def codes_of(release: Release, locale: str, wanted: Names) -> Sequence[str]:
     return release.named([locale], "currencies", "currency") if wanted == "all" else wanted
 
 
+def has_step(number: int) -> bool:
+    """Whether tables have this step of cash: 1, 2, 5 or 25 with zeros behind it or none, at most 250."""
+    return 0 < number <= MOST_STEP and int(str(number).rstrip("0")) in STEPS
+
+
+def cash_step(release: Release, key: str, info: Mapping[str, str]) -> int:
+    """The step of cash, in the last digit of cash (UTS 35 Part 3, Supplemental Currency Data), or 1 where tables don't have
+    it. Steps and roundings that tables don't have are reported."""
+    roundings = {name: int(info.get(name) or 0) for name in ("rounding", "cashRounding")}
+    step = roundings["cashRounding"] if has_step(roundings["cashRounding"]) else 1
+    for name, number in roundings.items():
+        if number > 1 and (name, number) != ("cashRounding", step):
+            release.reports.left_out(CASH, "root", key, f"{name} by {number}: amounts are rounded to digits alone")
+    return step
+
+
 def digits_of(release: Release, code: str, info: Mapping[str, str]) -> list[CurrencyDigits]:
-    """The fraction digits of a currency, in general and in cash; none where there are too many."""
+    """The fraction digits of a currency, in general and in cash, and its step of cash unless that is 1; none where there
+    are too many digits."""
     digits = int(info.get("digits", 2))
     cash = int(info.get("cashDigits", digits))
     key = f"currency {code}"
-    for name in ("rounding", "cashRounding"):
-        if int(info.get(name) or 0) > 1:
-            reason = f"{name} by {info[name]}: amounts are rounded to digits alone"
-            release.reports.left_out(CASH, "root", key, reason)
+    step = cash_step(release, key, info)
     if max(digits, cash) > MOST_DIGITS:
         release.reports.left_out(CASH, "root", key, f"more than {MOST_DIGITS} digits")
         return []
-    return [(code, digits, cash)]
+    return [(code, digits, cash) if step == 1 else (code, digits, cash, step)]
 
 
 def currency_digits(release: Release, wanted: Names) -> list[CurrencyDigits]:
-    """The fraction digits of all other currencies and of those that are asked for."""
+    """The fraction digits and steps of cash of all other currencies and of those that are asked for."""
     fractions = release.fractions()
     codes = sorted(fractions) if wanted == "all" else [code for code in wanted if code in fractions]
     codes = [DEFAULT, *(code for code in codes if code != DEFAULT)]

@@ -1,16 +1,18 @@
 //! Entries of the digits of currencies.
 
-ghost use Rattle.std.specs.Prelude.{◌≡◌, IfOk, option_map};
+ghost use Rattle.std.specs.Prelude.{◌≡◌, IfOk, Option, option_map};
 ghost use Rattle.std.specs.List.{filter_map};
 ghost use Rattle.serde_json.specs.View.{view};
 ghost use Rattle.icu_table_entries.specs.Reading.{Gives};
-ghost use Rattle.icu_dimension_tables.specs.CurrencyDigits.{code_or_default, currency_code_of, currency_digits_under, currency_in};
-ghost use Rattle.icu_dimension_tables.specs.CurrencyDigits.{currency_digits_of, default_digits, fraction_digits_of};
+ghost use Rattle.icu_dimension_tables.specs.CurrencyDigits.{cash_step_of, code_or_default, currency_code_of, currency_digits_under};
+ghost use Rattle.icu_dimension_tables.specs.CurrencyDigits.{currency_digits_of, currency_in, default_digits, fraction_digits_of};
+ghost use Rattle.icu_dimension_tables.specs.CurrencyDigits.{members_in, step_number_in};
 
-use icu_dimension_data::{CurrencyCode, CurrencyDigits, CurrencyEntry, FractionDigits};
+use fixed_decimal::RoundingIncrement;
+use icu_dimension_data::{CashStep, CurrencyCode, CurrencyDigits, CurrencyEntry, FractionDigits};
 use icu_provider::DataLocale;
 use icu_table_entries::entries::{EntryKind, optional_entries};
-use icu_table_entries::fields::{byte_in, text_in, triple_in};
+use icu_table_entries::fields::{byte_in, list_in, text_in};
 use icu_table_entries::{EntryFault, Key, Position, TableError};
 use serde_json::Value;
 use std::alloc::{AllocError, Global};
@@ -57,6 +59,55 @@ fn fraction_digits_of(position: Position, digits: u8) -> Result<u8, TableError>
     Ok(digits)
 }
 
+/// The step of cash of a number, if it has one.
+#[tactic(auto, unfolding(crate::specs::CurrencyDigits::cash_step_of))]
+fn cash_step_of(position: Position, number: u8) -> Result<CashStep, TableError>
+    ensures { Gives (λ x. x) result (cash_step_of position number) }
+{
+    match CashStep::of_number(number) {
+        Some(step) => Ok(step),
+        None => Err(position.refusal(EntryFault::BadCashStep)),
+    }
+}
+
+/// A list of three values, or of four.
+#[tactic(auto, unfolding(crate::specs::CurrencyDigits::members_in))]
+fn members_in(
+    value: &Value,
+    key: Key,
+) -> Result<(&Value, (&Value, (&Value, Option<&Value>))), TableError>
+    ensures { Gives
+        (λ x. (
+          view x.0.now,
+          (
+            view x.1.0.now,
+            (
+              view x.1.1.0.now,
+              option_map (λ d. view d.now) x.1.1.1,
+            ),
+          ),
+        ))
+        result (members_in key (view value.now)) }
+{
+    match list_in(value, key)? {
+        [code, standard, cash] => Ok((code, (standard, (cash, None)))),
+        [code, standard, cash, step] => Ok((code, (standard, (cash, Some(step))))),
+        _ => Err(TableError::WrongKind(key)),
+    }
+}
+
+/// The number of the step of cash: without a member it is one.
+#[tactic(auto, unfolding(crate::specs::CurrencyDigits::step_number_in))]
+fn step_number_in(value: Option<&Value>, key: Key) -> Result<u8, TableError>
+    ensures { Gives (λ x. x) result (step_number_in key
+        (option_map (λ d. view d.now) value.entry)) }
+{
+    match value {
+        Some(value) => byte_in(value, key),
+        None => Ok(1),
+    }
+}
+
 /// A row of the digits of currencies.
 pub struct DigitsRowEntry;
 
@@ -76,14 +127,16 @@ impl EntryKind for DigitsRowEntry {
         position: Position,
         value: &Value,
     ) -> Result<Self::Entry, TableError> {
-        let (text, (standard, cash)) = triple_in(value, position.key)?;
+        let (text, (standard, (cash, step))) = members_in(value, position.key)?;
         let text = text_in(text, position.key)?;
         let standard = byte_in(standard, position.key)?;
         let cash = byte_in(cash, position.key)?;
+        let step = step_number_in(step, position.key)?;
         let code = code_or_default(position, text)?;
         let digits = FractionDigits {
             standard: fraction_digits_of(position, standard)?,
             cash: fraction_digits_of(position, cash)?,
+            cash_step: cash_step_of(position, step)?,
         };
         Ok(DigitsRow { code, digits })
     }
@@ -129,6 +182,10 @@ fn default_digits(rows: &[DigitsRow]) -> FractionDigits
     FractionDigits {
         standard: 2,
         cash: 2,
+        cash_step: CashStep {
+            increment: RoundingIncrement::MultiplesOf1,
+            zeros: 0,
+        },
     }
 }
 

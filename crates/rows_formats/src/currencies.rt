@@ -1,16 +1,18 @@
 //! Calls of codes and digits of currencies, of errors of patterns and of parts.
 //!
-//! Digits are spelled `DEFAULT 2 2; JPY 0 0`: those of all other currencies, and then of each code
-//! the digits and the digits in cash.
+//! Digits are spelled `DEFAULT 2 2; CHF 2 2 5`: those of all other currencies, and then of each code
+//! the digits, the digits in cash, and the number of the step of cash if that isn't 1. A step is
+//! answered as its increment and its zeros.
 
 use crate::decimal::compact::digits_of_number;
 use crate::dimension_faults::{Fault, said, yes_or_no};
 use crate::dimension_making::decimal;
 use crate::money::code_of;
-use fixed_decimal::{Decimal, Sign};
+use fixed_decimal::{Decimal, RoundingIncrement, Sign};
 use icu_dimension_data::parts::{CURRENCY, MINUS_SIGN, PERCENT_SIGN, PLUS_SIGN, UNIT};
 use icu_dimension_data::{
-    BadCurrencyCode, CurrencyCode, CurrencyDigits, CurrencyEntry, FractionDigits, PatternFault,
+    BadCurrencyCode, CashStep, CurrencyCode, CurrencyDigits, CurrencyEntry, FractionDigits,
+    PatternFault,
 };
 use std::alloc::Global;
 use writeable::Part;
@@ -38,13 +40,48 @@ fn eq(alloc: Global, one: &str, other: &str) -> Result<String, Fault> {
     }
 }
 
-/// The digits of `STANDARD CASH`.
+/// A step of cash: its increment and its zeros.
+fn step_text(alloc: Global, step: CashStep) -> Result<String, Fault> {
+    let increment = match step.increment {
+        RoundingIncrement::MultiplesOf1 => "MultiplesOf1",
+        RoundingIncrement::MultiplesOf2 => "MultiplesOf2",
+        RoundingIncrement::MultiplesOf5 => "MultiplesOf5",
+        RoundingIncrement::MultiplesOf25 => "MultiplesOf25",
+    };
+    Ok(format!(in alloc; "{increment} {}", step.zeros)?)
+}
+
+/// The step of cash of a number.
+fn of_number(alloc: Global, word: &str) -> Result<String, Fault> {
+    let Some(number) = word.parse().ok() else {
+        return Err(Fault::Unreadable);
+    };
+    match CashStep::of_number(number) {
+        Some(step) => step_text(alloc, step),
+        None => said(alloc, "none"),
+    }
+}
+
+/// The digits of `STANDARD CASH`, or of `STANDARD CASH STEP`.
 fn digits_of(text: &str) -> Option<FractionDigits> {
     let (standard, cash) = text.split_once(' ')?;
+    let (cash, step) = cash.split_once(' ').unwrap_or((cash, "1"));
     Some(FractionDigits {
         standard: standard.parse().ok()?,
         cash: cash.parse().ok()?,
+        cash_step: CashStep::of_number(step.parse().ok()?)?,
     })
+}
+
+/// The digits of a currency, its digits in cash, and its step of cash if that isn't one.
+pub(crate) fn digits_text(alloc: Global, digits: FractionDigits) -> Result<String, Fault> {
+    let (standard, cash) = (digits.standard, digits.cash);
+    let step = step_text(alloc, digits.cash_step)?;
+    if step.as_str() == "MultiplesOf1 0" {
+        Ok(format!(in alloc; "{standard} {cash}")?)
+    } else {
+        Ok(format!(in alloc; "{standard} {cash} {step}")?)
+    }
 }
 
 /// The entry of `CODE STANDARD CASH`.
@@ -93,7 +130,7 @@ fn of(alloc: Global, digits: &CurrencyDigits, code: &str) -> Result<String, Faul
     let found = digits.of(code);
     let copied = digits.copy(alloc)?.of(code);
     if found == copied {
-        Ok(format!(in alloc; "{} {}", found.standard, found.cash)?)
+        digits_text(alloc, found)
     } else {
         said(alloc, "others by a copy")
     }
@@ -166,6 +203,7 @@ fn part_text(alloc: Global, name: &str) -> Result<String, Fault> {
 fn answer_of_one(alloc: Global, kind: &str, call: &str, word: &str) -> Result<String, Fault> {
     match kind {
         "CurrencyCode" if call == "try_from_str" => try_from_str(alloc, word),
+        "CashStep" if call == "of_number" => of_number(alloc, word),
         "PatternFault" if call == "display" => displayed(alloc, word, ""),
         "" if call == "rounded_to" => rounded_to(alloc, word),
         "" if call == "parts" => part_text(alloc, word),

@@ -1,6 +1,7 @@
 //! Calls of `AllTables` and of `DimensionTables`.
 
 use crate::CallResult;
+use crate::currencies::digits_text;
 use crate::dimension_faults::{Fault, reported, said};
 use crate::dimension_loading::{document, tables_in};
 use crate::money::code_of;
@@ -135,10 +136,9 @@ fn load(
     }
 }
 
-/// The digits of a currency, and its digits in cash.
+/// The digits of a currency, its digits in cash, and its step of cash.
 fn digits_of(alloc: Global, tables: &AllTables, code: CurrencyCode) -> Result<String, Fault> {
-    let digits = load_currency_digits(alloc, tables)?.of(code);
-    Ok(format!(in alloc; "{} {}", digits.standard, digits.cash)?)
+    digits_text(alloc, load_currency_digits(alloc, tables)?.of(code))
 }
 
 /// The same by a document, for the code of a word.
