@@ -14,8 +14,9 @@ ghost use Rattle.locnum_forms.specs.Cut.{IsCut, IsCutRefusal};
 
 use crate::form::Formatter;
 use decimal_lines::TextError;
-use fixed_decimal::{Decimal, DecimalError, SignedRoundingMode, UnsignedDecimal};
-use fixed_decimal::UnsignedRoundingMode;
+use fixed_decimal::{
+    Decimal, DecimalError, SignedRoundingMode, UnsignedDecimal, UnsignedRoundingMode,
+};
 use icu_decimal::error::FormatError;
 use icu_dimension::hundredfold;
 use icu_pattern::SinglePlaceholder;
@@ -68,11 +69,10 @@ fn half_even_digits(rounding: &Rounding) -> Option<u16>
 {
     match *rounding {
         Rounding {
-            precision:
-                Precision::Fraction {
-                    least,
-                    most: Some(most),
-                },
+            precision: Precision::Fraction {
+                least,
+                most: Some(most),
+            },
             mode: SignedRoundingMode::Unsigned(UnsignedRoundingMode::HalfEven),
             hides_zeros_of_whole: false,
             integer_digits: 1,
