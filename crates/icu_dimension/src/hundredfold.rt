@@ -89,7 +89,7 @@ fn hundredfold_text(alloc: Global, value: &UnsignedDecimal) -> Result<Vec<u8>, A
 /// `Overflow` if that has more than 32768 digits at power 0 and above. `Sink` is never reported.
 // promise: The point moves two digits, and no digit changes.
 // mutations: percent_by_moving_the_point_the_other_way, percent_fraction_left_out
-pub fn hundredfold(alloc: Global, value: &UnsignedDecimal) -> Result<UnsignedDecimal, FormatError>
+pub fn percents_of(alloc: Global, value: &UnsignedDecimal) -> Result<UnsignedDecimal, FormatError>
     ensures times { IfOk result (λ v. v ≡ hundredfold value.now) }
     ensures within { OnOk result (IsWithinLimits (hundredfold value.now)) }
     ensures limit { IsErrOf result FormatError.Overflow

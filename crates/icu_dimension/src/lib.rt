@@ -46,7 +46,7 @@ mod units_formatter;
 
 pub use compact_currency_formatter::CompactCurrencyFormatter;
 pub use currency_formatter::CurrencyFormatter;
-pub use hundredfold::hundredfold;
+pub use hundredfold::percents_of;
 pub use icu_dimension_data::parts;
 pub use long_currency_formatter::LongCurrencyFormatter;
 pub use name_pattern::{NamePattern, NameTexts, Named};

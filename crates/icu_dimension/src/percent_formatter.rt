@@ -11,7 +11,7 @@ ghost use Rattle.icu_dimension.specs.Money.{money_events};
 ghost use Rattle.icu_dimension.specs.Percent.{IsTooLarge, hundredfold};
 
 use crate::frame::SignFrame;
-use crate::hundredfold::hundredfold;
+use crate::hundredfold::percents_of;
 use crate::readable::are_readable;
 use fixed_decimal::Decimal;
 use icu_decimal::DecimalFormatter;
@@ -77,7 +77,7 @@ impl<F: AbstractFormatter> PercentFormatter<F> {
         ensures within { OnOk result
             (¬ (IsTooLarge F.overflows self.now.formatter value.now.absolute)) }
     {
-        let hundredfold = hundredfold(alloc, &value.absolute)?;
+        let hundredfold = percents_of(alloc, &value.absolute)?;
         let frame = SignFrame {
             patterns: &self.patterns,
             sign: value.sign,
@@ -160,7 +160,7 @@ impl<F: AbstractFormatter> PercentFormatter<F> {
             (¬ (IsTooLarge F.overflows self.now.formatter value.now.absolute)) }
         ensures no_sink { IfErr result (λ e. e ≢ FormatError.Sink) }
     {
-        let hundredfold = hundredfold(alloc, &value.absolute)?;
+        let hundredfold = percents_of(alloc, &value.absolute)?;
         let frame = SignFrame {
             patterns: &self.patterns,
             sign: value.sign,

@@ -88,7 +88,7 @@ counted k n (pos j) e = omega (arith, ints, clamps)
 counted k n (negsuc j) e = omega (arith, ints, clamps)
 
 module _ (rounding : Rounding) (y : ℕ) where
-  unit : ℕ
+  abbrev unit : ℕ
   unit = 10 ^ (finest - 32768)
 
   -- within the limits
@@ -139,14 +139,18 @@ module _ (rounding : Rounding) (y : ℕ) where
           let over : 32768 < digits_below rounding y = omega (arith, told, many) in
           absurd (grind (arith, nat_tests))
 
--- without a table the unit is the step
-plain_unit : (precision : Precision) (m : ℕ) → unit_at precision [] m ≡ step precision m
-unfolding entry_for
-plain_unit precision m = omega arith
-
+-- without a table there is no exponent, and the unit is the step
 no_exponent : (m : ℕ) → exponent_of (entry_for [] m) ≡ 0
 unfolding entry_for
 no_exponent m = refl
+
+plain_unit : (precision : Precision) (m : ℕ) → unit_at precision [] m ≡ step precision m
+plain_unit precision m = subst (λ (e : ℕ). step precision (m - e) * 10 ^ e ≡ step precision m) (sym (no_exponent m)) bare
+  where
+    bare : step precision (m - 0) * 10 ^ 0 ≡ step precision m
+    bare =
+        let same : step precision (m - 0) ≡ step precision m = ap (step precision) (omega arith) in
+        omega (arith, same)
 
 no_table : IsCompactTable []
 no_table = search rules

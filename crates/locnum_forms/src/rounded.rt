@@ -18,7 +18,7 @@ use fixed_decimal::{
     Decimal, DecimalError, SignedRoundingMode, UnsignedDecimal, UnsignedRoundingMode,
 };
 use icu_decimal::error::FormatError;
-use icu_dimension::hundredfold;
+use icu_dimension::percents_of;
 use icu_pattern::SinglePlaceholder;
 use number_rounding::{Rounding, ShownError, shown};
 use skeleton_settings::Precision;
@@ -30,7 +30,7 @@ fn percents(alloc: Global, decimal: &Decimal) -> Result<Decimal, TextError>
     ensures sign { IfOk result (λ d. d.sign ≡ decimal.now.sign) }
     ensures refused { IfErr result (λ error. IsRefusal (percents decimal.now.absolute) error) }
 {
-    match hundredfold(alloc, &decimal.absolute) {
+    match percents_of(alloc, &decimal.absolute) {
         Ok(absolute) => Ok(Decimal {
             sign: decimal.sign,
             absolute,

@@ -2,7 +2,7 @@ use Rattle.std.proofs.Common.{refl, ◌∙◌}
 use Rattle.fixed_decimal.specs.declared.signs.Sign.TheVariants.{None as no_sign}
 use Rattle.icu_dimension.specs.Percent.{hundredfold}
 use Rattle.icu_dimension.proofs.PointMoved.{reads_hundredfold, read_is_hundredfold, within_hundredfold, past_hundredfold}
-use Rattle.icu_dimension.proofs.hundredfold.hundredfold.Goals as goal
+use Rattle.icu_dimension.proofs.hundredfold.percents_of.Goals as goal
 
 pub returns-in-Ok-try_from_utf8-clause-times : goal.returns-in-Ok-try_from_utf8-clause-times
 returns-in-Ok-try_from_utf8-clause-times c =
