@@ -139,6 +139,10 @@ module _ (rounding : Rounding) (y : ℕ) where
           let over : 32768 < digits_below rounding y = omega (arith, told, many) in
           absurd (grind (arith, nat_tests))
 
+-- once a number is the number
+once : (a k b : ℕ) → k ≡ 1 → a * k ≡ b → a ≡ b
+once a k b one e = let bare : a * 1 ≡ b = subst (λ (n : ℕ). a * n ≡ b) one e in omega (arith, bare)
+
 -- without a table there is no exponent, and the unit is the step
 no_exponent : (m : ℕ) → exponent_of (entry_for [] m) ≡ 0
 unfolding entry_for
@@ -168,7 +172,7 @@ module _ (rounding : Rounding) (minus : Bool) (d : Unsigned) where
       ∙ ap (λ n. taken_at (size_mode rounding.mode minus) n (size d)) (plain_unit rounding.precision (magnitude_place (size d))) in
       let none : exponent_of entry ≡ 0 = ap exponent_of is.entry_is ∙ no_exponent (magnitude_place y) in
       let one : 10 ^ exponent_of entry ≡ 1 = ap (λ n. 10 ^ n) none in
-      let sizes : size u ≡ y = omega (arith, is.scaled, one) in
+      let sizes : size u ≡ y = once (size u) (10 ^ exponent_of entry) y one is.scaled in
       let count : integer_count u ≡ digits_before rounding y =
       counted (integer_count u) rounding.integer_digits (magnitude (size u)) is.high_is
       ∙ ap (λ n. max (max 1 rounding.integer_digits) (count_up_to (magnitude n))) sizes in
@@ -191,7 +195,7 @@ module _ (rounding : Rounding) (minus : Bool) (d : Unsigned) where
       (shown_is_divided rounding.precision [] rounding.mode minus (size d) y fits).0 below.taken
       ∙ ap (λ n. taken_at (size_mode rounding.mode minus) n (size d)) (plain_unit rounding.precision (magnitude_place (size d))) in
       let one : 10 ^ exponent_of (entry_for [] (magnitude_place y)) ≡ 1 = ap (λ n. 10 ^ n) (no_exponent (magnitude_place y)) in
-      let same : below.s ≡ y = omega (arith, below.scaled, one) in
+      let same : below.s ≡ y = once below.s (10 ^ exponent_of (entry_for [] (magnitude_place y))) y one below.scaled in
       let least : IsLeastFrom (IsExactWith y) (least_fraction_digits rounding y) below.count =
       subst (λ (n : ℕ). IsLeastFrom (IsExactWith n) (least_fraction_digits rounding n) below.count) same below.count_is in
       ap (number_shown rounding) (sym divided) ∙ shown-past rounding y (inr (inr (below.count, least, below.too_many)))

@@ -1,4 +1,4 @@
-use Rattle.std.proofs.Common.{inr}
+use Rattle.std.proofs.Common.{inr, refl}
 use Rattle.fixed_decimal.specs.SignDisplay.{is_negative}
 use Rattle.locnum_forms.proofs.NumbersShown.{shown-is, shown-refused}
 use Rattle.locnum_forms.proofs.rounded.any_shown.Goals as goal
@@ -11,4 +11,4 @@ returns-in-Ok-clause-ok c =
 pub returns-in-Err-Overflow-clause-refused : goal.returns-in-Err-Overflow-clause-refused
 returns-in-Err-Overflow-clause-refused c =
     inr (shown-refused c.args.rounding.now (is_negative c.args.decimal.now.sign) c.args.decimal.now.absolute
-    (c.in-Err-Overflow.ensures.overflow c.in-Err-Overflow.field-0-is))
+    (c.in-Err-Overflow.ensures.overflow (rw c.in-Err-Overflow.field-0-is refl)))
