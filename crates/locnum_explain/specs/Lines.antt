@@ -13,7 +13,6 @@ use Rattle.locnum_forms.specs.Forms.{FormData, form_events}
 use Rattle.locnum_forms.specs.declared.form.Formatter.{Formatter}
 use Rattle.locnum_forms.specs.declared.form.Formatter.TheVariants.{Numbers, Money, MoneyNamed, MoneyShort, Percent, Units}
 use Rattle.locnum_forms.specs.Reported.{reported}
-use Rattle.locnum_explain.specs.declared.settings.DigitsBy.{DigitsBy}
 use Rattle.locnum_explain.specs.declared.settings.Settings.{Settings}
 use Rattle.locnum_explain.specs.Facts.{magnitude_line}
 use Rattle.locnum_explain.specs.Operands.{operands_line}
@@ -46,15 +45,16 @@ detail_lines (Percent format) sign d = signed_line format.patterns sign
 detail_lines (Units format) sign d = operands_line format.rules d ++ unit_line format.rules format.elements d
 
 -- what is said of the decimal that is written, as the text was read: that it was rounded, its magnitude, and so on
-abbrev pub fact_lines : DigitsBy → Formatter → List ℕ → Result (Sign × Unsigned) TextError → Result (Sign × Unsigned) TextError → List ℕ
-fact_lines by formatter text read (Ok (sign, d)) = rounding_lines by text read sign d ++ magnitude_line d ++ detail_lines formatter sign d
-fact_lines by formatter text read (Err error) = []
+abbrev pub fact_lines : Settings → Formatter → List ℕ → Result (Sign × Unsigned) TextError → Result (Sign × Unsigned) TextError → List ℕ
+fact_lines settings formatter text read (Ok (sign, d)) =
+    rounding_lines settings text read sign d ++ magnitude_line d ++ detail_lines formatter sign d
+fact_lines settings formatter text read (Err error) = []
 
 -- what is written, with its parts, and what is said of the decimal that is written
 abbrev pub written_lines : Settings → FormData → List ℕ → List Event → List ℕ
 written_lines settings form text events =
     marked_lines settings.width events (marks_of form.formatter events (shown_decimal form text))
-    ++ fact_lines settings.digits form.formatter text (decimal_read text) (shown_decimal form text)
+    ++ fact_lines settings form.formatter text (decimal_read text) (shown_decimal form text)
 
 -- the text and what is written of it; or the text as notes show it, and why nothing is written
 abbrev pub outcome_lines : Settings → FormData → List ℕ → Result (List Event) TextError → List ℕ
