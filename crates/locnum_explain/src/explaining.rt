@@ -182,8 +182,9 @@ fn explain_prepared(
 /// was, the magnitude of the number that is written, and what else there is to say: of a compact
 /// number the values around it that are shown, the table's entry, the plural operands of the
 /// significand with their category, and the pattern; of money and percents the pattern; of a number
-/// with a unit or the name of a currency its operands with their category, and the pattern. In a pattern `{0}` stands for the number. A
-/// compact amount below the first entry of the table has two patterns, `{0}` and that of money.
+/// with a unit or the name of a currency its operands with their category, and the pattern. In a
+/// pattern `{0}` stands for the number. A compact amount below the first entry of the table has two
+/// patterns, `{0}` and that of money.
 ///
 /// A text that is rejected stands as notes show it, and has a line that says why instead. Lines of
 /// parts take as many columns as the settings say at most, as `push_parts` says. Without
