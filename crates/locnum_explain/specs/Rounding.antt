@@ -10,7 +10,6 @@ use Rattle.fixed_decimal.specs.Size.{magnitude, size}
 use Rattle.fixed_decimal.specs.Text.{digits_text, fraction_text, sign_text}
 use Rattle.fixed_decimal.specs.Unsigned.{Unsigned, IsUnsigned, fraction, high, integer}
 use Rattle.decimal_lines.specs.declared.single_text.TextError.{TextError}
-use Rattle.locnum_forms.specs.Reported.{reported}
 use Rattle.locnum_explain.specs.declared.settings.DigitsBy.{DigitsBy}
 use Rattle.locnum_explain.specs.declared.settings.DigitsBy.TheVariants.{Option as ByOption, Currency, Cash, Given}
 use Rattle.locnum_explain.specs.declared.settings.Settings.{Settings}
@@ -58,15 +57,16 @@ pub record IsShortest (d shortest : Unsigned) : Type 0 where
 abbrev pub is_rounded : Unsigned → Unsigned → Bool
 is_rounded read written = not (size read == size written)
 
--- the text, and the decimal that is written for it
-unfoldable pub rounded_text : List ℕ → Sign → Unsigned → List ℕ
-rounded_text text sign d = reported text ++ codes " to " ++ decimal_text sign d
+-- the number that is rounded, and the one that is written for it
+unfoldable pub rounded_text : Sign × Unsigned → Sign × Unsigned → List ℕ
+rounded_text read written = decimal_text read.0 read.1 ++ codes " to " ++ decimal_text written.0 written.1
 
 -- the line of these, with what says to what the number is rounded
-unfoldable pub rounded_line : Settings → List ℕ → Sign → Unsigned → List ℕ
-rounded_line settings text sign d = codes "  rounded    " ++ rounded_text text sign d ++ codes ": " ++ reason_text settings (length (fraction d)) ++ codes "\n"
+unfoldable pub rounded_line : Settings → Sign × Unsigned → Sign × Unsigned → List ℕ
+rounded_line settings read written =
+    codes "  rounded    " ++ rounded_text read written ++ codes ": " ++ reason_text settings (length (fraction written.1)) ++ codes "\n"
 
 -- that line, where the number was rounded
-abbrev pub rounding_lines : Settings → List ℕ → Result (Sign × Unsigned) TextError → Sign → Unsigned → List ℕ
-rounding_lines settings text (Ok (_, read)) sign d = if is_rounded read d then rounded_line settings text sign d else []
-rounding_lines settings text (Err error) sign d = []
+abbrev pub rounding_lines : Settings → Result (Sign × Unsigned) TextError → Sign × Unsigned → List ℕ
+rounding_lines settings (Ok read) written = if is_rounded read.1 written.1 then rounded_line settings read written else []
+rounding_lines settings (Err error) written = []

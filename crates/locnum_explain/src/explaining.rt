@@ -3,8 +3,7 @@
 ghost use Rattle.std.specs.Prelude.{◌≡◌, ◌≢◌, ◌++◌, IfOk, Ok, OnOk, codes, true};
 ghost use Rattle.std.specs.Result.{is_err};
 ghost use Rattle.fixed_decimal.specs.Unsigned.{IsUnsigned};
-ghost use Rattle.decimal_lines.specs.SingleText.{decimal_read};
-ghost use Rattle.locnum_forms.specs.Decimals.{shown_decimal};
+ghost use Rattle.locnum_forms.specs.Decimals.{scaled_decimal, shown_decimal};
 ghost use Rattle.locnum_forms.specs.Forms.{form_events, formatter_events};
 ghost use Rattle.locnum_forms.specs.Reported.{reported};
 ghost use Rattle.locnum_forms.specs.declared.form.Formatter.TheVariants.{MoneyNamed, Units};
@@ -88,22 +87,21 @@ fn push_details(
     }
 }
 
-/// Appends what is said of the number of a text, and of the decimal that a form writes for it.
+/// Appends what is said of a number that is rounded, and of the decimal that is written for it.
 fn push_facts(
     alloc: Global,
     settings: &Settings<'_>,
     formatter: &Formatter,
-    text: &[u8],
     prepared: &Prepared,
     out: &mut Vec<u8>,
 ) -> Result<(), AllocError>
     ensures { OnOk result (out.new.items ≡ out.old.items
-        ++ fact_lines settings.now formatter.now text.now
+        ++ fact_lines settings.now formatter.now
         (Ok (prepared.now.read.sign, prepared.now.read.absolute))
         (Ok (prepared.now.written.sign, prepared.now.written.absolute))) }
 {
     let written = &prepared.written;
-    push_rounding(alloc, settings, text, prepared, out)?;
+    push_rounding(alloc, settings, prepared, out)?;
     push_magnitude(&written.absolute, out)?;
     push_details(alloc, formatter, written, out)
 }
@@ -119,7 +117,7 @@ fn push_written(
     marked: &PartsText,
     out: &mut Vec<u8>,
 ) -> Result<(), AllocError>
-    requires read { decimal_read text.now
+    requires read { scaled_decimal form.now text.now
         ≡ Ok (prepared.now.read.sign, prepared.now.read.absolute) }
     requires written { shown_decimal form.now text.now
         ≡ Ok (prepared.now.written.sign, prepared.now.written.absolute) }
@@ -129,7 +127,7 @@ fn push_written(
     let written = &prepared.written;
     push_marked(alloc, settings.width, form, written, marked, out)?;
     let formatter = form.formatter();
-    push_facts(alloc, settings, formatter, text, prepared, out)
+    push_facts(alloc, settings, formatter, prepared, out)
 }
 
 /// Appends a text as notes show it, and why it isn't written; that it is rejected.
@@ -154,7 +152,7 @@ fn explain_prepared(
     prepared: &Prepared,
     out: &mut Vec<u8>,
 ) -> Result<bool, AllocError>
-    requires read { decimal_read text.now
+    requires read { scaled_decimal form.now text.now
         ≡ Ok (prepared.now.read.sign, prepared.now.read.absolute) }
     requires written { shown_decimal form.now text.now
         ≡ Ok (prepared.now.written.sign, prepared.now.written.absolute) }

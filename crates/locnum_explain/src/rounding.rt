@@ -7,7 +7,7 @@ ghost use Rattle.locnum_explain.specs.Rounding.{IsShortest, counted_digits, deci
 use crate::settings::{DigitsBy, Settings};
 use fixed_decimal::{Decimal, Sign, UnsignedDecimal};
 use itoa::Buffer;
-use locnum_forms::{Prepared, push_reported};
+use locnum_forms::Prepared;
 use std::alloc::{AllocError, Global};
 
 /// Appends a sign.
@@ -163,33 +163,34 @@ fn is_rounded(
     Ok(read != written)
 }
 
-/// Appends a text, and the decimal that is written for it.
-fn push_texts(text: &[u8], decimal: &Decimal, out: &mut Vec<u8>) -> Result<(), AllocError>
+/// Appends the number that is rounded, and the one that is written for it.
+fn push_numbers(prepared: &Prepared, out: &mut Vec<u8>) -> Result<(), AllocError>
     ensures { OnOk result (out.new.items ≡ out.old.items
-        ++ rounded_text text.now decimal.now.sign decimal.now.absolute) }
+        ++ rounded_text (prepared.now.read.sign, prepared.now.read.absolute)
+        (prepared.now.written.sign, prepared.now.written.absolute)) }
 {
-    push_reported(text, out)?;
+    push_decimal(&prepared.read, out)?;
     out.extend_from_slice(b" to ")?;
-    push_decimal(decimal, out)?;
+    push_decimal(&prepared.written, out)?;
     Ok(())
 }
 
-/// Appends the line that says to what a text was rounded, and by what.
+/// Appends the line that says from what to what a number was rounded, and by what.
 // promise: The count of digits is that of the fraction.
 // mutations: rounding_by_a_digit_too_many
 fn push_rounded(
     settings: &Settings<'_>,
-    text: &[u8],
-    decimal: &Decimal,
+    prepared: &Prepared,
     out: &mut Vec<u8>,
 ) -> Result<(), AllocError>
-    ensures { OnOk result (out.new.items ≡ out.old.items
-        ++ rounded_line settings.now text.now decimal.now.sign decimal.now.absolute) }
+    ensures { OnOk result (out.new.items ≡ out.old.items ++ rounded_line settings.now
+        (prepared.now.read.sign, prepared.now.read.absolute)
+        (prepared.now.written.sign, prepared.now.written.absolute)) }
 {
     out.extend_from_slice(b"  rounded    ")?;
-    push_texts(text, decimal, out)?;
+    push_numbers(prepared, out)?;
     out.extend_from_slice(b": ")?;
-    push_reason(settings, decimal.absolute.fraction().len(), out)?;
+    push_reason(settings, prepared.written.absolute.fraction().len(), out)?;
     out.push(b'\n')?;
     Ok(())
 }
@@ -200,18 +201,16 @@ fn push_rounded(
 pub(crate) fn push_rounding(
     alloc: Global,
     settings: &Settings<'_>,
-    text: &[u8],
     prepared: &Prepared,
     out: &mut Vec<u8>,
 ) -> Result<(), AllocError>
-    ensures { OnOk result (out.new.items ≡ out.old.items
-        ++ rounding_lines settings.now text.now
+    ensures { OnOk result (out.new.items ≡ out.old.items ++ rounding_lines settings.now
         (Ok (prepared.now.read.sign, prepared.now.read.absolute))
-        prepared.now.written.sign prepared.now.written.absolute) }
+        (prepared.now.written.sign, prepared.now.written.absolute)) }
 {
-    let written = &prepared.written;
-    if is_rounded(alloc, &prepared.read.absolute, &written.absolute)? {
-        push_rounded(settings, text, written, out)
+    let Prepared { read, written } = prepared;
+    if is_rounded(alloc, &read.absolute, &written.absolute)? {
+        push_rounded(settings, prepared, out)
     } else {
         Ok(())
     }
