@@ -6,3 +6,4 @@ pub mod CompactFacts
 pub mod Lines
 pub mod Appended
 pub mod Marks
+pub mod Shortest

@@ -4,16 +4,14 @@ use Rattle.writeable.specs.Events.{Event, text_of}
 use Rattle.writeable.specs.Spans.{spans}
 use Rattle.fixed_decimal.specs.declared.signs.Sign.{Sign}
 use Rattle.fixed_decimal.specs.Unsigned.{Unsigned}
-use Rattle.decimal_lines.specs.SingleText.{decimal_read}
 use Rattle.decimal_lines.specs.declared.single_text.TextError.{TextError}
 use Rattle.decimal_lines.specs.declared.single_text.TextError.TheVariants.{NotDecimal, TooManyDigits, Overflow, OutOfMemory}
 use Rattle.decimal_lines.specs.declared.mode.Mode.TheVariants.{Plain, Compact}
-use Rattle.locnum_forms.specs.Decimals.{shown_decimal}
+use Rattle.locnum_forms.specs.Decimals.{scaled_decimal, shown_decimal}
 use Rattle.locnum_forms.specs.Forms.{FormData, form_events}
 use Rattle.locnum_forms.specs.declared.form.Formatter.{Formatter}
 use Rattle.locnum_forms.specs.declared.form.Formatter.TheVariants.{Numbers, Money, MoneyNamed, MoneyShort, Percent, Units}
 use Rattle.locnum_forms.specs.Reported.{reported}
-use Rattle.locnum_explain.specs.declared.settings.DigitsBy.{DigitsBy}
 use Rattle.locnum_explain.specs.declared.settings.Settings.{Settings}
 use Rattle.locnum_explain.specs.Facts.{magnitude_line}
 use Rattle.locnum_explain.specs.Operands.{operands_line}
@@ -45,16 +43,16 @@ detail_lines (MoneyShort format) sign d = amount_facts format sign d
 detail_lines (Percent format) sign d = signed_line format.patterns sign
 detail_lines (Units format) sign d = operands_line format.rules d ++ unit_line format.rules format.elements d
 
--- what is said of the decimal that is written, as the text was read: that it was rounded, its magnitude, and so on
-abbrev pub fact_lines : DigitsBy → Formatter → List ℕ → Result (Sign × Unsigned) TextError → Result (Sign × Unsigned) TextError → List ℕ
-fact_lines by formatter text read (Ok (sign, d)) = rounding_lines by text read sign d ++ magnitude_line d ++ detail_lines formatter sign d
-fact_lines by formatter text read (Err error) = []
+-- what is said of the decimal that is written for the number that is rounded: that it was rounded, its magnitude, and so on
+abbrev pub fact_lines : Settings → Formatter → Result (Sign × Unsigned) TextError → Result (Sign × Unsigned) TextError → List ℕ
+fact_lines settings formatter read (Ok (sign, d)) = rounding_lines settings read (sign, d) ++ magnitude_line d ++ detail_lines formatter sign d
+fact_lines settings formatter read (Err error) = []
 
 -- what is written, with its parts, and what is said of the decimal that is written
 abbrev pub written_lines : Settings → FormData → List ℕ → List Event → List ℕ
 written_lines settings form text events =
     marked_lines settings.width events (marks_of form.formatter events (shown_decimal form text))
-    ++ fact_lines settings.digits form.formatter text (decimal_read text) (shown_decimal form text)
+    ++ fact_lines settings form.formatter (scaled_decimal form text) (shown_decimal form text)
 
 -- the text and what is written of it; or the text as notes show it, and why nothing is written
 abbrev pub outcome_lines : Settings → FormData → List ℕ → Result (List Event) TextError → List ℕ

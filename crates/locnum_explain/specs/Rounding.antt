@@ -1,13 +1,18 @@
 -- The line that says that a number was rounded: from what, to what, and by what.
-use Rattle.std.specs.Prelude.{ℕ, Bool, not, ◌==◌, List, [], ◌++◌, length, drop, Result, Ok, Err, codes, decimal, if◌then◌else◌}
-use Rattle.std.specs.List.{list_all}
+use Rattle.std.specs.Prelude.{◌≡◌, ℕ, pos, Bool, not, ◌==◌, List, [], ◌++◌, length, Option, Some, None, Result, Ok, Err}
+use Rattle.std.specs.Prelude.{codes, decimal, if◌then◌else◌}
+use Rattle.std.specs.Borrow.{Bor}
+use Rattle.std.specs.Int.{int_max}
 use Rattle.fixed_decimal.specs.declared.signs.Sign.{Sign}
+use Rattle.fixed_decimal.specs.Modes.{IsLeastFrom}
+use Rattle.fixed_decimal.specs.Padding.{IsExactWith}
+use Rattle.fixed_decimal.specs.Size.{magnitude, size}
 use Rattle.fixed_decimal.specs.Text.{digits_text, fraction_text, sign_text}
-use Rattle.fixed_decimal.specs.Unsigned.{Unsigned, fraction, integer}
+use Rattle.fixed_decimal.specs.Unsigned.{Unsigned, IsUnsigned, fraction, high, integer}
 use Rattle.decimal_lines.specs.declared.single_text.TextError.{TextError}
-use Rattle.locnum_forms.specs.Reported.{reported}
 use Rattle.locnum_explain.specs.declared.settings.DigitsBy.{DigitsBy}
-use Rattle.locnum_explain.specs.declared.settings.DigitsBy.TheVariants.{Fraction, Currency, Given}
+use Rattle.locnum_explain.specs.declared.settings.DigitsBy.TheVariants.{Option as ByOption, Currency, Cash, Given}
+use Rattle.locnum_explain.specs.declared.settings.Settings.{Settings}
 
 -- a decimal in full
 unfoldable pub decimal_text : Sign → Unsigned → List ℕ
@@ -21,29 +26,47 @@ digits_word n = if n == 1 then codes " digit" else codes " digits"
 unfoldable pub counted_digits : ℕ → List ℕ
 counted_digits n = decimal n ++ digits_word n
 
--- the option with its text
-unfoldable pub option_text : List ℕ → List ℕ
-option_text text = codes "--fraction " ++ text
+-- an option with its text
+unfoldable pub option_text : List ℕ → List ℕ → List ℕ
+option_text name text = codes "--" ++ name ++ codes " " ++ text
 
--- what says how many digits are shown: an option with its text, or a currency
-abbrev pub reason_text : DigitsBy → ℕ → List ℕ
-reason_text (Fraction text) n = option_text text.now
-reason_text (Currency code) n = counted_digits n ++ codes " of " ++ code.now
-reason_text Given n = counted_digits n
+-- what says which digits are written: an option with its text, that many digits of a currency, or a currency in cash
+abbrev pub digits_reason : DigitsBy → ℕ → List ℕ
+digits_reason (ByOption name text) n = option_text name.now text.now
+digits_reason (Currency code) n = counted_digits n ++ codes " of " ++ code.now
+digits_reason (Cash code) n = codes "cash of " ++ code.now
+digits_reason Given n = counted_digits n
 
--- whether a number has a digit other than 0 behind that many fraction digits
-abbrev pub is_cut : ℕ → Unsigned → Bool
-is_cut n d = not (list_all (λ x. x == 0) (drop n (fraction d)))
+-- the option for the mode of rounding, if it is given
+abbrev pub mode_text : Option (Bor (List ℕ)) → List ℕ
+mode_text None = []
+mode_text (Some text) = codes ", " ++ option_text (codes "round") text.now
 
--- the text, and the decimal that is written for it
-unfoldable pub rounded_text : List ℕ → Sign → Unsigned → List ℕ
-rounded_text text sign d = reported text ++ codes " to " ++ decimal_text sign d
+-- what says to what a number is rounded: which digits are written, and the mode if it is given
+unfoldable pub reason_text : Settings → ℕ → List ℕ
+reason_text settings n = digits_reason settings.digits n ++ mode_text settings.mode
 
--- the line of these, with what says how many digits are written
-unfoldable pub rounded_line : DigitsBy → List ℕ → Sign → Unsigned → List ℕ
-rounded_line by text sign d = codes "  rounded    " ++ rounded_text text sign d ++ codes ": " ++ reason_text by (length (fraction d)) ++ codes "\n"
+-- a decimal with just the digits that its number needs: no zeros before it but at power 0, and none at its end below power 0
+pub record IsShortest (d shortest : Unsigned) : Type 0 where
+  pub size_is : size shortest ≡ size d
+  pub high_is : high shortest ≡ int_max (pos 0) (magnitude (size d))
+  pub scale_is : IsLeastFrom (IsExactWith (size d)) 0 shortest.scale
+  pub is_decimal : IsUnsigned shortest
 
--- that line, where digits other than 0 of the number that was read aren't written
-abbrev pub rounding_lines : DigitsBy → List ℕ → Result (Sign × Unsigned) TextError → Sign → Unsigned → List ℕ
-rounding_lines by text (Ok (_, read)) sign d = if is_cut (length (fraction d)) read then rounded_line by text sign d else []
-rounding_lines by text (Err error) sign d = []
+-- whether a number was rounded: the size that is written isn't the size that was read
+abbrev pub is_rounded : Unsigned → Unsigned → Bool
+is_rounded read written = not (size read == size written)
+
+-- the number that is rounded, and the one that is written for it
+unfoldable pub rounded_text : Sign × Unsigned → Sign × Unsigned → List ℕ
+rounded_text read written = decimal_text read.0 read.1 ++ codes " to " ++ decimal_text written.0 written.1
+
+-- the line of these, with what says to what the number is rounded
+unfoldable pub rounded_line : Settings → Sign × Unsigned → Sign × Unsigned → List ℕ
+rounded_line settings read written =
+    codes "  rounded    " ++ rounded_text read written ++ codes ": " ++ reason_text settings (length (fraction written.1)) ++ codes "\n"
+
+-- that line, where the number was rounded
+abbrev pub rounding_lines : Settings → Result (Sign × Unsigned) TextError → Sign × Unsigned → List ℕ
+rounding_lines settings (Ok read) written = if is_rounded read.1 written.1 then rounded_line settings read written else []
+rounding_lines settings (Err error) written = []

@@ -3,8 +3,7 @@
 ghost use Rattle.std.specs.Prelude.{◌≡◌, ◌≢◌, ◌++◌, IfOk, Ok, OnOk, codes, true};
 ghost use Rattle.std.specs.Result.{is_err};
 ghost use Rattle.fixed_decimal.specs.Unsigned.{IsUnsigned};
-ghost use Rattle.decimal_lines.specs.SingleText.{decimal_read};
-ghost use Rattle.locnum_forms.specs.Decimals.{shown_decimal};
+ghost use Rattle.locnum_forms.specs.Decimals.{scaled_decimal, shown_decimal};
 ghost use Rattle.locnum_forms.specs.Forms.{form_events, formatter_events};
 ghost use Rattle.locnum_forms.specs.Reported.{reported};
 ghost use Rattle.locnum_forms.specs.declared.form.Formatter.TheVariants.{MoneyNamed, Units};
@@ -16,7 +15,7 @@ use crate::marking::push_marked;
 use crate::operands::push_operands;
 use crate::patterns::{push_name, push_signed, push_unit};
 use crate::rounding::push_rounding;
-use crate::settings::{DigitsBy, Settings};
+use crate::settings::Settings;
 use decimal_lines::{Mode, TextError};
 use fixed_decimal::Decimal;
 use icu_decimal::DecimalFormatter;
@@ -88,22 +87,21 @@ fn push_details(
     }
 }
 
-/// Appends what is said of the number of a text, and of the decimal that a form writes for it.
+/// Appends what is said of a number that is rounded, and of the decimal that is written for it.
 fn push_facts(
     alloc: Global,
-    digits: &DigitsBy<'_>,
+    settings: &Settings<'_>,
     formatter: &Formatter,
-    text: &[u8],
     prepared: &Prepared,
     out: &mut Vec<u8>,
 ) -> Result<(), AllocError>
     ensures { OnOk result (out.new.items ≡ out.old.items
-        ++ fact_lines digits.now formatter.now text.now
+        ++ fact_lines settings.now formatter.now
         (Ok (prepared.now.read.sign, prepared.now.read.absolute))
         (Ok (prepared.now.written.sign, prepared.now.written.absolute))) }
 {
     let written = &prepared.written;
-    push_rounding(digits, text, prepared, out)?;
+    push_rounding(alloc, settings, prepared, out)?;
     push_magnitude(&written.absolute, out)?;
     push_details(alloc, formatter, written, out)
 }
@@ -119,7 +117,7 @@ fn push_written(
     marked: &PartsText,
     out: &mut Vec<u8>,
 ) -> Result<(), AllocError>
-    requires read { decimal_read text.now
+    requires read { scaled_decimal form.now text.now
         ≡ Ok (prepared.now.read.sign, prepared.now.read.absolute) }
     requires written { shown_decimal form.now text.now
         ≡ Ok (prepared.now.written.sign, prepared.now.written.absolute) }
@@ -129,7 +127,7 @@ fn push_written(
     let written = &prepared.written;
     push_marked(alloc, settings.width, form, written, marked, out)?;
     let formatter = form.formatter();
-    push_facts(alloc, &settings.digits, formatter, text, prepared, out)
+    push_facts(alloc, settings, formatter, prepared, out)
 }
 
 /// Appends a text as notes show it, and why it isn't written; that it is rejected.
@@ -154,7 +152,7 @@ fn explain_prepared(
     prepared: &Prepared,
     out: &mut Vec<u8>,
 ) -> Result<bool, AllocError>
-    requires read { decimal_read text.now
+    requires read { scaled_decimal form.now text.now
         ≡ Ok (prepared.now.read.sign, prepared.now.read.absolute) }
     requires written { shown_decimal form.now text.now
         ≡ Ok (prepared.now.written.sign, prepared.now.written.absolute) }
@@ -180,10 +178,11 @@ fn explain_prepared(
 /// First the text stands in a line, and below it, indented, what the form writes for it with the
 /// parts underlined, also all those of a compact number, to what the number was rounded where it
 /// was, the magnitude of the number that is written, and what else there is to say: of a compact
-/// number the values around it that are shown, the table's entry, the plural operands of the significand with their category, and the
-/// pattern; of money and percents the pattern; of a number with a unit or the name of a currency
-/// its operands with their category, and the pattern. In a pattern `{0}` stands for the number. A
-/// compact amount below the first entry of the table has two patterns, `{0}` and that of money.
+/// number the values around it that are shown, the table's entry, the plural operands of the
+/// significand with their category, and the pattern; of money and percents the pattern; of a number
+/// with a unit or the name of a currency its operands with their category, and the pattern. In a
+/// pattern `{0}` stands for the number. A compact amount below the first entry of the table has two
+/// patterns, `{0}` and that of money.
 ///
 /// A text that is rejected stands as notes show it, and has a line that says why instead. Lines of
 /// parts take as many columns as the settings say at most, as `push_parts` says. Without

@@ -1,16 +1,14 @@
 //! The line that says that a number was rounded.
 
-ghost use Rattle.std.specs.Prelude.{◌≡◌, ◌<◌, ◌==◌, ◌++◌, All, Ok, OnOk, decimal, drop};
-ghost use Rattle.std.specs.List.{list_all};
-ghost use Rattle.fixed_decimal.specs.Unsigned.{fraction};
+ghost use Rattle.std.specs.Prelude.{◌≡◌, ◌<◌, ◌++◌, All, IfOk, Ok, OnOk, decimal};
 ghost use Rattle.fixed_decimal.specs.Text.{digits_text, fraction_text, sign_text};
-ghost use Rattle.locnum_explain.specs.Rounding.{counted_digits, decimal_text, digits_word, is_cut, option_text, reason_text, rounded_line, rounded_text, rounding_lines};
+ghost use Rattle.locnum_explain.specs.Rounding.{IsShortest, counted_digits, decimal_text, digits_reason, digits_word, is_rounded, mode_text, option_text, reason_text, rounded_line, rounded_text, rounding_lines};
 
-use crate::settings::DigitsBy;
+use crate::settings::{DigitsBy, Settings};
 use fixed_decimal::{Decimal, Sign, UnsignedDecimal};
 use itoa::Buffer;
-use locnum_forms::{Prepared, push_reported};
-use std::alloc::AllocError;
+use locnum_forms::Prepared;
+use std::alloc::{AllocError, Global};
 
 /// Appends a sign.
 fn push_sign(sign: Sign, out: &mut Vec<u8>) -> Result<(), AllocError>
@@ -81,98 +79,138 @@ fn push_counted(count: usize, out: &mut Vec<u8>) -> Result<(), AllocError>
     out.extend_from_slice(digits_word(count).as_bytes())
 }
 
-/// Appends the option with its text.
-fn push_option(text: &str, out: &mut Vec<u8>) -> Result<(), AllocError>
-    ensures { OnOk result (out.new.items ≡ out.old.items ++ option_text text.now) }
+/// Appends an option with its text.
+#[tactic(auto, unfolding(crate::specs::Rounding::option_text))]
+fn push_option(name: &str, text: &str, out: &mut Vec<u8>) -> Result<(), AllocError>
+    ensures { OnOk result (out.new.items ≡ out.old.items ++ option_text name.now text.now) }
 {
-    out.extend_from_slice(b"--fraction ")?;
+    out.extend_from_slice(b"--")?;
+    out.extend_from_slice(name.as_bytes())?;
+    out.extend_from_slice(b" ")?;
     out.extend_from_slice(text.as_bytes())?;
     Ok(())
 }
 
-/// Appends what says how many digits are written.
-fn push_reason(digits: &DigitsBy<'_>, count: usize, out: &mut Vec<u8>) -> Result<(), AllocError>
-    ensures { OnOk result (out.new.items ≡ out.old.items ++ reason_text digits.now count) }
+/// Appends what says which digits are written.
+// promise: Digits of a currency and cash are told apart.
+// mutations: rounding_in_cash_told_as_digits
+fn push_digits_reason(
+    digits: &DigitsBy<'_>,
+    count: usize,
+    out: &mut Vec<u8>,
+) -> Result<(), AllocError>
+    ensures { OnOk result (out.new.items ≡ out.old.items ++ digits_reason digits.now count) }
 {
     match digits {
-        DigitsBy::Fraction(text) => push_option(text, out),
+        DigitsBy::Option { name, text } => push_option(name, text, out),
         DigitsBy::Currency(code) => {
             push_counted(count, out)?;
             out.extend_from_slice(b" of ")?;
+            out.extend_from_slice(code.as_bytes())
+        }
+        DigitsBy::Cash(code) => {
+            out.extend_from_slice(b"cash of ")?;
             out.extend_from_slice(code.as_bytes())
         }
         DigitsBy::Given => push_counted(count, out),
     }
 }
 
-/// The digits of a number behind that many fraction digits.
-fn digits_behind(count: usize, value: &UnsignedDecimal) -> &[u8]
-    ensures { result.now ≡ drop count (fraction value.now) }
+/// Appends the option for the mode of rounding, if it is given.
+fn push_mode(mode: Option<&str>, out: &mut Vec<u8>) -> Result<(), AllocError>
+    ensures { OnOk result (out.new.items ≡ out.old.items ++ mode_text mode.entry) }
 {
-    let fraction = value.fraction();
-    fraction.split_at(count.min(fraction.len())).1
+    match mode {
+        None => Ok(()),
+        Some(text) => {
+            out.extend_from_slice(b", ")?;
+            push_option("round", text, out)
+        }
+    }
 }
 
-/// Whether each digit is 0.
-fn are_zeros(digits: &[u8]) -> bool
-    ensures { result ≡ list_all (λ x. x == 0) digits.now }
+/// Appends what says to what a number is rounded.
+// promise: Behind the digits stands the mode, if it is given.
+// mutations: rounding_without_its_mode
+#[tactic(auto, unfolding(crate::specs::Rounding::reason_text))]
+fn push_reason(settings: &Settings<'_>, count: usize, out: &mut Vec<u8>) -> Result<(), AllocError>
+    ensures { OnOk result (out.new.items ≡ out.old.items ++ reason_text settings.now count) }
 {
-    digits.iter().all(|digit| *digit == 0)
+    push_digits_reason(&settings.digits, count, out)?;
+    push_mode(settings.mode, out)
 }
 
-/// Whether a number has a digit other than 0 behind that many fraction digits.
-fn is_cut(count: usize, value: &UnsignedDecimal) -> bool
-    ensures { result ≡ is_cut count value.now }
+/// A new value: the same number with just the digits that it needs.
+fn shortest(alloc: Global, value: &UnsignedDecimal) -> Result<UnsignedDecimal, AllocError>
+    ensures { IfOk result (λ y. IsShortest value.now y) }
 {
-    !are_zeros(digits_behind(count, value))
+    match value.padded(alloc, 1, 0) {
+        Ok(shortest) => Ok(shortest),
+        Err(_) => Err(AllocError),
+    }
 }
 
-/// Appends a text, and the decimal that is written for it.
-fn push_texts(text: &[u8], decimal: &Decimal, out: &mut Vec<u8>) -> Result<(), AllocError>
+/// Whether a number was rounded: the size that is written isn't the size that was read.
+fn is_rounded(
+    alloc: Global,
+    read: &UnsignedDecimal,
+    written: &UnsignedDecimal,
+) -> Result<bool, AllocError>
+    ensures { IfOk result (λ b. b ≡ is_rounded read.now written.now) }
+{
+    let read = shortest(alloc, read)?;
+    let written = shortest(alloc, written)?;
+    Ok(read != written)
+}
+
+/// Appends the number that is rounded, and the one that is written for it.
+fn push_numbers(prepared: &Prepared, out: &mut Vec<u8>) -> Result<(), AllocError>
     ensures { OnOk result (out.new.items ≡ out.old.items
-        ++ rounded_text text.now decimal.now.sign decimal.now.absolute) }
+        ++ rounded_text (prepared.now.read.sign, prepared.now.read.absolute)
+        (prepared.now.written.sign, prepared.now.written.absolute)) }
 {
-    push_reported(text, out)?;
+    push_decimal(&prepared.read, out)?;
     out.extend_from_slice(b" to ")?;
-    push_decimal(decimal, out)?;
+    push_decimal(&prepared.written, out)?;
     Ok(())
 }
 
-/// Appends the line that says to what a text was rounded, and by what.
+/// Appends the line that says from what to what a number was rounded, and by what.
+// promise: The count of digits is that of the fraction.
+// mutations: rounding_by_a_digit_too_many
 fn push_rounded(
-    digits: &DigitsBy<'_>,
-    text: &[u8],
-    decimal: &Decimal,
+    settings: &Settings<'_>,
+    prepared: &Prepared,
     out: &mut Vec<u8>,
 ) -> Result<(), AllocError>
-    ensures { OnOk result (out.new.items ≡ out.old.items
-        ++ rounded_line digits.now text.now decimal.now.sign decimal.now.absolute) }
+    ensures { OnOk result (out.new.items ≡ out.old.items ++ rounded_line settings.now
+        (prepared.now.read.sign, prepared.now.read.absolute)
+        (prepared.now.written.sign, prepared.now.written.absolute)) }
 {
     out.extend_from_slice(b"  rounded    ")?;
-    push_texts(text, decimal, out)?;
+    push_numbers(prepared, out)?;
     out.extend_from_slice(b": ")?;
-    push_reason(digits, decimal.absolute.fraction().len(), out)?;
+    push_reason(settings, prepared.written.absolute.fraction().len(), out)?;
     out.push(b'\n')?;
     Ok(())
 }
 
-/// Appends that line, where digits other than 0 of the number that was read aren't written.
-// promise: A line says where a digit other than 0 isn't written.
-// mutations: rounding_told_of_zeros, rounding_by_a_digit_too_many
+/// Appends that line, where the size that is written isn't the size that was read.
+// promise: A line says where the written size isn't the read one.
+// mutations: rounding_told_of_zeros, rounding_told_of_lost_digits_alone
 pub(crate) fn push_rounding(
-    digits: &DigitsBy<'_>,
-    text: &[u8],
+    alloc: Global,
+    settings: &Settings<'_>,
     prepared: &Prepared,
     out: &mut Vec<u8>,
 ) -> Result<(), AllocError>
-    ensures { OnOk result (out.new.items ≡ out.old.items
-        ++ rounding_lines digits.now text.now
+    ensures { OnOk result (out.new.items ≡ out.old.items ++ rounding_lines settings.now
         (Ok (prepared.now.read.sign, prepared.now.read.absolute))
-        prepared.now.written.sign prepared.now.written.absolute) }
+        (prepared.now.written.sign, prepared.now.written.absolute)) }
 {
-    let written = &prepared.written;
-    if is_cut(written.absolute.fraction().len(), &prepared.read.absolute) {
-        push_rounded(digits, text, written, out)
+    let Prepared { read, written } = prepared;
+    if is_rounded(alloc, &read.absolute, &written.absolute)? {
+        push_rounded(settings, prepared, out)
     } else {
         Ok(())
     }

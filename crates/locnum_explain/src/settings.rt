@@ -1,12 +1,19 @@
 //! What is known of explanations besides the form.
 
-/// What says how many fraction digits are written (this project's own).
+/// What says which digits are written (this project's own).
 #[derive(Clone, Copy, Debug)]
 pub enum DigitsBy<'a> {
-    /// The option `--fraction`, with its text.
-    Fraction(&'a str),
+    /// An option, with its text: `--fraction 2`, `--significant 3`, `--increment 0.05`.
+    Option {
+        /// The name of the option, without the two dashes.
+        name: &'a str,
+        /// The text of the option.
+        text: &'a str,
+    },
     /// A currency, by its code.
     Currency(&'a str),
+    /// A currency in cash, by its code.
+    Cash(&'a str),
     /// Nothing: the digits are as they are given.
     Given,
 }
@@ -16,6 +23,8 @@ pub enum DigitsBy<'a> {
 pub struct Settings<'a> {
     /// How many columns a line of parts has at most.
     pub width: usize,
-    /// What says how many fraction digits are written.
+    /// What says which digits are written.
     pub digits: DigitsBy<'a>,
+    /// The text of the option `--round`, if it is given.
+    pub mode: Option<&'a str>,
 }

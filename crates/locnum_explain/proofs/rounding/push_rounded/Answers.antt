@@ -8,4 +8,4 @@ unfolding rounded_line
 returns c =
     let reason = rw c.fraction.ensures.digits at c.in_ok-push_reason.ensures in
     appended_five _ (codes "  rounded    ") _ (codes ": ") _ (codes "\n") _ _ _ _ _ c.in_ok-extend_from_slice.ensures.items
-    c.in_ok-push_texts.ensures c.in_ok-extend_from_slice-2.ensures.items reason c.in_ok-push.ensures.items
+    c.in_ok-push_numbers.ensures c.in_ok-extend_from_slice-2.ensures.items reason c.in_ok-push.ensures.items
