@@ -14,7 +14,7 @@ use Rattle.locnum_options.specs.Locale.{locale_given}
 use Rattle.locnum_options.specs.Names.{chosen_given}
 use Rattle.locnum_options.specs.Padding.{padding_named}
 use Rattle.locnum_options.specs.Precision.{precision_given}
-use Rattle.locnum_options.specs.Rounding.{mode_given, rounded_kind}
+use Rattle.locnum_options.specs.Rounding.{is_compact_kind, judged_mode, mode_given}
 use Rattle.locnum_options.specs.Words.{ok_or, system_given, grouping_given, sign_given, field_end_given, refusals_given}
 use Rattle.locnum_options.specs.declared.fault.OptionFault.{OptionFault}
 use Rattle.locnum_options.specs.declared.fault.OptionFault.TheVariants as fault
@@ -56,7 +56,7 @@ options_of given = do
   mode ← mode_given (text_of given (codes "round"))
   sign ← sign_given (text_of given (codes "sign"))
   kind ← kind_given given
-  kind ← rounded_kind given kind
+  mode ← judged_mode given (is_compact_kind kind) mode
   explain ← explain_given given
   delimiter ← field_end_given given
   chosen ← chosen_given given

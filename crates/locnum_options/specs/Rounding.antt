@@ -57,9 +57,9 @@ is_rounded given =
     flag_of given (codes "fraction") || flag_of given (codes "significant") || flag_of given (codes "increment")
     || flag_of given (codes "currency")
 
--- a kind, unless a rounding is asked for that it doesn't have
-unfoldable pub rounded_kind : Given → Kind → Result Kind OptionFault
-rounded_kind given kind =
-    if is_compact_kind kind && is_fine given then Err fault.CompactRounding
+-- a mode, unless a rounding is asked for that compact numbers don't have, or a mode where nothing is rounded
+unfoldable pub judged_mode : Given → Bool → SignedRoundingMode → Result SignedRoundingMode OptionFault
+judged_mode given compact mode =
+    if compact && is_fine given then Err fault.CompactRounding
     else if flag_of given (codes "round") && not (is_rounded given) then Err fault.NothingRounded
-    else Ok kind
+    else Ok mode

@@ -12,7 +12,7 @@ use crate::locale::locale_given;
 use crate::names::{Chosen, chosen_given};
 use crate::padding::padding_named;
 use crate::precision::precision_given;
-use crate::rounding::{mode_given, rounded_kind};
+use crate::rounding::{is_compact_kind, judged_mode, mode_given};
 use crate::words::{field_end_given, grouping_given, refusals_given, sign_given, system_given};
 use locnum_forms::Wanted;
 use locnum_lines::{LineSettings, Padding, Source};
@@ -97,10 +97,7 @@ pub fn parse_options<'a>(alloc: Global, given: &Given<'a>) -> Result<Options<'a>
         Ok(kind) => kind,
         Err(fault) => return Err(fault),
     };
-    let kind = match rounded_kind(given, kind) {
-        Ok(kind) => kind,
-        Err(fault) => return Err(fault),
-    };
+    let mode = judged_mode(given, is_compact_kind(&kind), mode)?;
     let explain = explain_given(given)?;
     let delimiter = field_end_given(given)?;
     let Chosen { fields, names } = chosen_given(alloc, given)?;

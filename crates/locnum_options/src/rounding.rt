@@ -1,7 +1,7 @@
 //! Which number is taken where a number is rounded, and where nothing is rounded.
 
 ghost use Rattle.std.specs.Prelude.{◌≡◌, option_map};
-ghost use Rattle.locnum_options.specs.Rounding.{half_mode_named, is_compact_kind, is_fine, is_rounded, mode_given, mode_named, rounded_kind};
+ghost use Rattle.locnum_options.specs.Rounding.{half_mode_named, is_compact_kind, is_fine, is_rounded, judged_mode, mode_given, mode_named};
 
 use crate::fault::OptionFault;
 use crate::given::Given;
@@ -51,7 +51,7 @@ pub(crate) fn mode_given(word: Option<&str>) -> Result<SignedRoundingMode, Optio
 }
 
 /// Whether the numbers of a kind are compact.
-fn is_compact_kind(kind: &Kind<'_>) -> bool
+pub(crate) fn is_compact_kind(kind: &Kind<'_>) -> bool
     ensures { result ≡ is_compact_kind kind.now }
 {
     match kind {
@@ -81,18 +81,23 @@ fn is_rounded(given: &Given) -> bool
         || given.flag("currency")
 }
 
-/// A kind, unless a rounding is asked for that it doesn't have.
+/// A mode, unless a rounding is asked for that compact numbers don't have, or a mode where nothing is
+/// rounded.
 // promise: A rounding mode stands beside what is rounded.
 // mutations: round_without_rounding_let_through, compact_significant_let_through
-#[tactic(auto, unfolding(crate::specs::Rounding::rounded_kind))]
-pub(crate) fn rounded_kind<'a>(given: &Given, kind: Kind<'a>) -> Result<Kind<'a>, OptionFault>
-    ensures { result ≡ rounded_kind given.now kind.entry }
+#[tactic(auto, unfolding(crate::specs::Rounding::judged_mode))]
+pub(crate) fn judged_mode(
+    given: &Given,
+    compact: bool,
+    mode: SignedRoundingMode,
+) -> Result<SignedRoundingMode, OptionFault>
+    ensures { result ≡ judged_mode given.now compact mode }
 {
-    if is_compact_kind(&kind) && is_fine(given) {
+    if compact && is_fine(given) {
         return Err(OptionFault::CompactRounding);
     }
     if given.flag("round") && !is_rounded(given) {
         return Err(OptionFault::NothingRounded);
     }
-    Ok(kind)
+    Ok(mode)
 }
