@@ -76,10 +76,16 @@ abbrev pub first_precision : Option Precision → Option Precision → Option Pr
 first_precision None other = other
 first_precision (Some precision) other = Some precision
 
--- how fine numbers are; by default as the kind has it
-unfoldable pub precision_given : Given → Result (Option Precision) OptionFault
-precision_given given = do
+-- the first precision that an option says; each of them is in order
+unfoldable pub precision_named : Given → Result (Option Precision) OptionFault
+precision_named given = do
   fraction ← fraction_given (text_of given (codes "fraction"))
   significant ← significant_given (text_of given (codes "significant"))
   increment ← increment_given (text_of given (codes "increment"))
-  if are_several given then Err fault.Precisions else Ok (first_precision fraction (first_precision significant increment))
+  Ok (first_precision fraction (first_precision significant increment))
+
+-- how fine numbers are, which one option says; by default as the kind has it
+unfoldable pub precision_given : Given → Result (Option Precision) OptionFault
+precision_given given = do
+  precision ← precision_named given
+  if are_several given then Err fault.Precisions else Ok precision

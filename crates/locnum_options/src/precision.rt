@@ -3,7 +3,7 @@
 ghost use Rattle.std.specs.Prelude.{◌≡◌, ◌++◌, IfOk, codes, option_map, string_bytes};
 ghost use Rattle.number_skeleton.specs.Tokens.{skeleton_of};
 ghost use Rattle.locnum_options.specs.Options.{GivesOption};
-ghost use Rattle.locnum_options.specs.Precision.{are_several, first_precision, fraction_given, increment_given, increment_named, increment_read, is_number_byte, is_number_text, precision_given, precision_set, significant_given, significant_of};
+ghost use Rattle.locnum_options.specs.Precision.{are_several, first_precision, fraction_given, increment_given, increment_named, increment_read, is_number_byte, is_number_text, precision_given, precision_named, precision_set, significant_given, significant_of};
 
 use crate::counts::{Counts, counts_named};
 use crate::fault::OptionFault;
@@ -152,7 +152,21 @@ fn first_precision(first: Option<Precision>, other: Option<Precision>) -> Option
     }
 }
 
-/// How fine numbers are; by default as the kind has it.
+/// The first precision that an option says; each of them is in order.
+#[tactic(auto, unfolding(crate::specs::Precision::precision_named))]
+fn precision_named(alloc: Global, given: &Given) -> Result<Option<Precision>, OptionFault>
+    ensures { GivesOption (λ x. x) result (precision_named given.now) }
+{
+    let fraction = fraction_given(given.text("fraction"))?;
+    let significant = significant_given(given.text("significant"))?;
+    let increment = increment_given(alloc, given.text("increment"))?;
+    Ok(first_precision(
+        fraction,
+        first_precision(significant, increment),
+    ))
+}
+
+/// How fine numbers are, which one option says; by default as the kind has it.
 // promise: At most one option says how fine numbers are.
 // mutations: two_precisions_let_through
 #[tactic(auto, unfolding(crate::specs::Precision::precision_given))]
@@ -162,14 +176,9 @@ pub(crate) fn precision_given(
 ) -> Result<Option<Precision>, OptionFault>
     ensures { GivesOption (λ x. x) result (precision_given given.now) }
 {
-    let fraction = fraction_given(given.text("fraction"))?;
-    let significant = significant_given(given.text("significant"))?;
-    let increment = increment_given(alloc, given.text("increment"))?;
+    let precision = precision_named(alloc, given)?;
     if are_several(given) {
         return Err(OptionFault::Precisions);
     }
-    Ok(first_precision(
-        fraction,
-        first_precision(significant, increment),
-    ))
+    Ok(precision)
 }
