@@ -12,6 +12,9 @@ use std::{env, io};
 /// How many columns a line has at most where the environment doesn't say it.
 const COLUMNS: usize = 80;
 
+/// The options that say how fine numbers are.
+const PRECISIONS: [&str; 3] = ["fraction", "significant", "increment"];
+
 /// How many columns a line has at most: those that the environment says in COLUMNS.
 fn columns(rt: &HostRuntime) -> usize {
     let Ok(text) = env::var(rt, "COLUMNS") else {
@@ -51,13 +54,29 @@ pub(crate) fn reported(rt: &HostRuntime, stops: bool, is_refused: bool) -> Repor
     }
 }
 
-/// What says how many fraction digits are written.
-fn digits_by<'a>(matches: &ArgMatches<'a>) -> DigitsBy<'a> {
-    match (matches.get_str("fraction"), matches.get_str("currency")) {
-        (Some(text), _) => DigitsBy::Fraction(text),
-        (None, Some(code)) => DigitsBy::Currency(code),
-        (None, None) => DigitsBy::Given,
+/// The option of this name as what says how fine numbers are, if it is given.
+fn digits_of<'a>(matches: &ArgMatches<'a>, name: &'static str) -> Option<DigitsBy<'a>> {
+    let text = matches.get_str(name)?;
+    Some(DigitsBy::Option { name, text })
+}
+
+/// The currency as what says how fine amounts are.
+fn digits_of_currency<'a>(matches: &ArgMatches<'a>) -> DigitsBy<'a> {
+    match matches.get_str("currency") {
+        Some(code) if matches.get_flag("cash") => DigitsBy::Cash(code),
+        Some(code) => DigitsBy::Currency(code),
+        None => DigitsBy::Given,
     }
+}
+
+/// What says how fine numbers are; at most one of the options is given.
+fn digits_by<'a>(matches: &ArgMatches<'a>) -> DigitsBy<'a> {
+    for name in PRECISIONS {
+        if let Some(digits) = digits_of(matches, name) {
+            return digits;
+        }
+    }
+    digits_of_currency(matches)
 }
 
 /// How the explanations of an input are written.
@@ -71,6 +90,7 @@ pub(crate) fn explainer_for<'a, 'b>(
         settings: Settings {
             width: columns(rt),
             digits: digits_by(matches),
+            mode: matches.get_str("round"),
         },
         form,
         stops: refusals == Refusals::Abort,

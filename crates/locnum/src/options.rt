@@ -39,7 +39,7 @@ const LINES: &str = "Lines";
 pub(crate) const PROGRAM: &str = "Program";
 
 /// The options, in the order of `--help`.
-pub(crate) const OPTIONS: [OptionEntry; 22] = [
+pub(crate) const OPTIONS: [OptionEntry; 25] = [
     OptionEntry {
         heading: LOCALE,
         name: "tables",
@@ -73,7 +73,7 @@ pub(crate) const OPTIONS: [OptionEntry; 22] = [
         name: "style",
         letter: None,
         takes: Takes::Text("STYLE"),
-        help: "plain, short or long; of amounts plain or short",
+        help: "plain, short or long; amounts plain or short",
     },
     OptionEntry {
         heading: NUMBERS,
@@ -123,6 +123,27 @@ pub(crate) const OPTIONS: [OptionEntry; 22] = [
         letter: None,
         takes: Takes::Text("N|MIN..MAX"),
         help: "how many fraction digits",
+    },
+    OptionEntry {
+        heading: NUMBERS,
+        name: "significant",
+        letter: None,
+        takes: Takes::Text("N|MIN..MAX"),
+        help: "how many significant digits",
+    },
+    OptionEntry {
+        heading: NUMBERS,
+        name: "increment",
+        letter: None,
+        takes: Takes::Text("N"),
+        help: "multiples of N, such as 0.05 or 1000",
+    },
+    OptionEntry {
+        heading: NUMBERS,
+        name: "round",
+        letter: None,
+        takes: Takes::Text("MODE"),
+        help: "half-even or (half-)up, down, ceiling, floor",
     },
     OptionEntry {
         heading: NUMBERS,

@@ -5,7 +5,7 @@ use Rattle.std.specs.Prelude.{Option, Some, None, option_map, MatchOption}
 use Rattle.std.specs.Borrow.{Bor}
 use Rattle.std.specs.Str.Pattern.{FindsCharPrefix}
 use Rattle.std.proofs.lemmas.Str.Pattern.{IsSplitOnceResult, split_parts, strip_prefix_char}
-use Rattle.locnum_options.specs.Fraction.{behind_dot}
+use Rattle.locnum_options.specs.Counts.{behind_dot}
 use Rattle.locnum_options.specs.Texts.{cut_at, parts_of}
 
 -- none of the bytes is this one

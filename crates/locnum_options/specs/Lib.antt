@@ -1,11 +1,13 @@
+pub mod Counts
 pub mod Explained
 pub mod Fields
-pub mod Fraction
 pub mod Given
 pub mod Kinds
 pub mod Locale
 pub mod Names
 pub mod Padding
+pub mod Precision
+pub mod Rounding
 pub mod Options
 pub mod Texts
 pub mod Words

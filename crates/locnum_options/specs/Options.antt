@@ -1,13 +1,11 @@
 -- What the options ask for.
 use Rattle.std.specs.Prelude.{◌≡◌, ℕ, Bool, ◌⊎◌, List, [], ◌∷◌, Option, Some, None, Result, Ok, Err, codes, if◌then◌else◌}
 use Rattle.locnum_forms.specs.Wanted.{WantedData}
-use Rattle.locnum_forms.specs.declared.wanted.FractionRange.{FractionRange}
 use Rattle.locnum_lines.specs.Settings.{SettingsData}
 use Rattle.locnum_lines.specs.declared.padding.Padding.{Padding}
 use Rattle.locnum_lines.specs.declared.settings.Source.TheVariants.{Lines}
 use Rattle.locnum_options.specs.Explained.{explain_given}
 use Rattle.locnum_options.specs.Fields.{positive_number_named}
-use Rattle.locnum_options.specs.Fraction.{fraction_named}
 use Rattle.locnum_options.specs.Given.{flag_of, text_of}
 use Rattle.locnum_options.specs.declared.explained.Explain.{Explain}
 use Rattle.locnum_options.specs.declared.given.Given.{Given}
@@ -15,6 +13,8 @@ use Rattle.locnum_options.specs.Kinds.{◌>>=◌, kind_given}
 use Rattle.locnum_options.specs.Locale.{locale_given}
 use Rattle.locnum_options.specs.Names.{chosen_given}
 use Rattle.locnum_options.specs.Padding.{padding_named}
+use Rattle.locnum_options.specs.Precision.{precision_given}
+use Rattle.locnum_options.specs.Rounding.{is_compact_kind, judged_mode, mode_given}
 use Rattle.locnum_options.specs.Words.{ok_or, system_given, grouping_given, sign_given, field_end_given, refusals_given}
 use Rattle.locnum_options.specs.declared.fault.OptionFault.{OptionFault}
 use Rattle.locnum_options.specs.declared.fault.OptionFault.TheVariants as fault
@@ -29,13 +29,6 @@ pub record OptionsData : Type 0 where
 abbrev pub GivesOption : {X Y : Type 0} → (X → Y) → Result X OptionFault → Result Y OptionFault → Type 0
 GivesOption view (Ok x) asked = asked ≡ Ok (view x)
 GivesOption view (Err e) asked = (e ≡ fault.OutOfMemory) ⊎ (asked ≡ Err e)
-
--- how many fraction digits; none by default
-unfoldable pub fraction_given : Option (List ℕ) → Result (Option FractionRange) OptionFault
-fraction_given None = Ok None
-fraction_given (Some text) = do
-  range ← ok_or (fraction_named text) fault.Fraction
-  Ok (Some range)
 
 -- how many lines are a header, one at least; none by default
 unfoldable pub header_given : Option (List ℕ) → Result ℕ OptionFault
@@ -59,9 +52,11 @@ options_of given = do
   locale ← locale_given given
   system ← system_given (text_of given (codes "system"))
   grouping ← grouping_given (text_of given (codes "grouping"))
-  fraction ← fraction_given (text_of given (codes "fraction"))
+  precision ← precision_given given
+  mode ← mode_given (text_of given (codes "round"))
   sign ← sign_given (text_of given (codes "sign"))
   kind ← kind_given given
+  mode ← judged_mode given (is_compact_kind kind) mode
   explain ← explain_given given
   delimiter ← field_end_given given
   chosen ← chosen_given given
@@ -69,7 +64,15 @@ options_of given = do
   padding ← padding_given (text_of given (codes "padding"))
   refusals ← refusals_given (text_of given (codes "invalid"))
   Ok (record {
-    wanted = record { locale = locale; system = system; grouping = grouping; fraction = fraction; sign = sign; kind = kind };
+    wanted = record {
+      locale = locale;
+      system = system;
+      grouping = grouping;
+      precision = precision;
+      mode = mode;
+      sign = sign;
+      kind = kind;
+    };
     lines = record {
       delimiter = delimiter;
       fields = chosen.fields;

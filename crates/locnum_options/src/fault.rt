@@ -19,8 +19,20 @@ pub enum OptionFault {
     #[error("--grouping: neither auto, never, always nor min2")]
     Grouping,
     /// The text isn't a count of fraction digits or a range of counts.
-    #[error("--fraction: neither N nor MIN..MAX, each at most 255")]
+    #[error("--fraction: neither N nor MIN..MAX, each at most 999")]
     Fraction,
+    /// The text isn't a count of significant digits or a range of counts.
+    #[error("--significant: neither N nor MIN..MAX, each from 1 to 999")]
+    Significant,
+    /// The text isn't an increment that number skeletons have.
+    #[error("--increment: not 1, 2, 5 or 25 times a power of ten, in digits")]
+    Increment,
+    /// More than one option says how fine numbers are.
+    #[error("--fraction, --significant, --increment and --cash: not together")]
+    Precisions,
+    /// The text isn't a rounding mode.
+    #[error("--round: neither up, down, ceiling nor floor, with or without half-, nor half-even")]
+    Round,
     /// The text isn't a way of showing signs.
     #[error("--sign: neither auto, always, never, except-zero nor negative")]
     Sign,
@@ -49,6 +61,12 @@ pub enum OptionFault {
     /// An option of money without a currency, or a width without something that has one.
     #[error("--accounting and --cash want --currency, and --width wants --currency or --unit")]
     Alone,
+    /// Compact numbers are asked for with a rounding that they don't have.
+    #[error("--round, --significant and --increment: not with --style short or long")]
+    CompactRounding,
+    /// A rounding mode is asked for where nothing is rounded.
+    #[error("--round wants --fraction, --significant, --increment or --currency")]
+    NothingRounded,
     /// Explanations are asked for with a padding, which they don't have.
     #[error("--explain: not with --padding")]
     Explained,

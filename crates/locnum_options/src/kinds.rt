@@ -28,11 +28,13 @@ fn style_given<'a>(word: Option<&str>) -> Result<Kind<'a>, OptionFault>
 fn money_width(word: Option<&str>) -> Result<Width, OptionFault>
     ensures { result ≡ money_width (option_map (λ t. t.now) word.entry) }
 {
+    let Some(word) = word else {
+        return Ok(Width::Short);
+    };
     match word {
-        None => Ok(Width::Short),
-        Some("short") => Ok(Width::Short),
-        Some("narrow") => Ok(Width::Narrow),
-        Some(_) => Err(OptionFault::Width),
+        "short" => Ok(Width::Short),
+        "narrow" => Ok(Width::Narrow),
+        _ => Err(OptionFault::Width),
     }
 }
 

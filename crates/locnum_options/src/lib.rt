@@ -2,16 +2,18 @@
 //! of lines.
 #![tactic(auto)]
 
+mod counts;
 mod explained;
 mod fault;
 mod fields;
-mod fraction;
 mod given;
 mod kinds;
 mod locale;
 mod names;
 mod options;
 mod padding;
+mod precision;
+mod rounding;
 mod texts;
 mod words;
 

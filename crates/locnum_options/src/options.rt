@@ -1,19 +1,20 @@
 //! What the options ask for.
 
 ghost use Rattle.std.specs.Prelude.{◌≡◌, option_map};
-ghost use Rattle.locnum_options.specs.Options.{GivesOption, end_of, fraction_given, header_given, options_of, padding_given};
+ghost use Rattle.locnum_options.specs.Options.{GivesOption, end_of, header_given, options_of, padding_given};
 
 use crate::explained::{Explain, explain_given};
 use crate::fault::OptionFault;
 use crate::fields::positive_number_named;
-use crate::fraction::fraction_named;
 use crate::given::Given;
 use crate::kinds::kind_given;
 use crate::locale::locale_given;
 use crate::names::{Chosen, chosen_given};
 use crate::padding::padding_named;
+use crate::precision::precision_given;
+use crate::rounding::{is_compact_kind, judged_mode, mode_given};
 use crate::words::{field_end_given, grouping_given, refusals_given, sign_given, system_given};
-use locnum_forms::{FractionRange, Wanted};
+use locnum_forms::Wanted;
 use locnum_lines::{LineSettings, Padding, Source};
 use std::alloc::Global;
 use std::marker::Model;
@@ -39,20 +40,6 @@ impl<'a> Model for Options<'a> {
       lines = o.lines;
       explain = o.explain;
     } };
-}
-
-/// How many fraction digits; none by default.
-#[tactic(auto, unfolding(crate::specs::Options::fraction_given))]
-fn fraction_given(text: Option<&str>) -> Result<Option<FractionRange>, OptionFault>
-    ensures { result ≡ fraction_given (option_map (λ t. t.now) text.entry) }
-{
-    let Some(text) = text else {
-        return Ok(None);
-    };
-    match fraction_named(text) {
-        Some(range) => Ok(Some(range)),
-        None => Err(OptionFault::Fraction),
-    }
 }
 
 /// How many lines are a header; none by default.
@@ -103,12 +90,14 @@ pub fn parse_options<'a>(alloc: Global, given: &Given<'a>) -> Result<Options<'a>
     let locale = locale_given(alloc, given)?;
     let system = system_given(given.text("system"))?;
     let grouping = grouping_given(given.text("grouping"))?;
-    let fraction = fraction_given(given.text("fraction"))?;
+    let precision = precision_given(alloc, given)?;
+    let mode = mode_given(given.text("round"))?;
     let sign = sign_given(given.text("sign"))?;
     let kind = match kind_given(given) {
         Ok(kind) => kind,
         Err(fault) => return Err(fault),
     };
+    let mode = judged_mode(given, is_compact_kind(&kind), mode)?;
     let explain = explain_given(given)?;
     let delimiter = field_end_given(given)?;
     let Chosen { fields, names } = chosen_given(alloc, given)?;
@@ -120,7 +109,8 @@ pub fn parse_options<'a>(alloc: Global, given: &Given<'a>) -> Result<Options<'a>
             locale,
             system,
             grouping,
-            fraction,
+            precision,
+            mode,
             sign,
             kind,
         },

@@ -59,15 +59,26 @@ impl<'a> Explained<'a> {
     }
 }
 
-/// What says how many fraction digits are written.
-fn digits_by<'a>(given: &Given<'a>) -> DigitsBy<'a> {
-    if let Some(text) = given.text("fraction") {
-        return DigitsBy::Fraction(text);
-    }
+/// The options that say how fine numbers are.
+const PRECISIONS: [&str; 3] = ["fraction", "significant", "increment"];
+
+/// The currency as what says how fine amounts are.
+fn digits_of_currency<'a>(given: &Given<'a>) -> DigitsBy<'a> {
     match given.text("currency") {
+        Some(code) if given.flag("cash") => DigitsBy::Cash(code),
         Some(code) => DigitsBy::Currency(code),
         None => DigitsBy::Given,
     }
+}
+
+/// What says how fine numbers are.
+fn digits_by<'a>(given: &Given<'a>) -> DigitsBy<'a> {
+    for name in PRECISIONS {
+        if let Some(text) = given.text(name) {
+            return DigitsBy::Option { name, text };
+        }
+    }
+    digits_of_currency(given)
 }
 
 /// Appends what is told, and says whether a text is rejected.
@@ -101,6 +112,7 @@ pub(crate) fn explanation(
     let settings = Settings {
         width: asked.width,
         digits: digits_by(given),
+        mode: given.text("round"),
     };
     let mut out = Vec::from_slice(alloc, b">")?;
     let is_refused = push(alloc, &settings, form, asked.subject, &mut out)?;

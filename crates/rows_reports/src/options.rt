@@ -4,10 +4,12 @@ use crate::CallResult;
 use crate::bytes::{push_behind, text_if};
 use crate::faults::no_options;
 use crate::words::{Pair, environment_of, given};
+use fixed_decimal::{SignedRoundingMode, UnsignedRoundingMode};
 use icu_decimal::options::GroupingStrategy;
-use locnum_forms::{FractionRange, Kind, Wanted};
+use locnum_forms::{Kind, Wanted};
 use locnum_lines::{Delimiter, FieldRange, LineSettings, Padding, Source};
 use locnum_options::{Given, OptionFault, Options, parse_options};
+use skeleton_settings::Precision;
 use std::alloc::{AllocError, Global};
 
 /// Appends what is written of a number.
@@ -55,23 +57,56 @@ pub(crate) fn push_grouping(
     }
 }
 
-/// Appends how many fraction digits there are, if that is asked for.
-fn push_fraction(
+/// A precision as rows spell it: the counts of digits, or an increment as a name, the power of ten of
+/// its last digit and the least fraction digits.
+fn precision_text(alloc: Global, precision: Precision) -> Result<String, AllocError> {
+    match precision {
+        Precision::Fraction {
+            least,
+            most: Some(most),
+        } => format!(in alloc; " fraction {least}-{most}"),
+        Precision::Significant {
+            least,
+            most: Some(most),
+        } => format!(in alloc; " significant {least}-{most}"),
+        Precision::Increment {
+            increment,
+            power,
+            least,
+        } => format!(in alloc; " increment {increment:?} {power} least {least}"),
+        other => format!(in alloc; " {other:?}"),
+    }
+}
+
+/// Appends how fine numbers are, if that is asked for.
+fn push_precision(
     alloc: Global,
-    fraction: Option<FractionRange>,
+    precision: Option<Precision>,
     text: &mut String,
 ) -> Result<(), AllocError> {
-    match fraction {
-        Some(range) => {
-            let range = format!(in alloc; " fraction {}-{}", range.least, range.most)?;
-            text.push_str(range.as_str())
-        }
+    match precision {
+        Some(precision) => text.push_str(precision_text(alloc, precision)?.as_str()),
         None => Ok(()),
     }
 }
 
-/// Appends the form of numbers: the locale, the numbering system, the groups, the fraction digits,
-/// the signs and what is written, as far as each is asked for.
+/// Appends the rounding mode, if it isn't half even.
+fn push_mode(
+    alloc: Global,
+    mode: SignedRoundingMode,
+    text: &mut String,
+) -> Result<(), AllocError> {
+    match mode {
+        SignedRoundingMode::Unsigned(UnsignedRoundingMode::HalfEven) => Ok(()),
+        SignedRoundingMode::Unsigned(mode) => {
+            text.push_str(format!(in alloc; " round {mode:?}")?.as_str())
+        }
+        mode => text.push_str(format!(in alloc; " round {mode:?}")?.as_str()),
+    }
+}
+
+/// Appends the form of numbers: the locale, the numbering system, the groups, how fine numbers are,
+/// the rounding mode, the signs and what is written, as far as each is asked for.
 fn push_form(alloc: Global, wanted: &Wanted<'_>, text: &mut String) -> Result<(), AllocError> {
     text.push_str("locale ")?;
     text.push_str(wanted.locale.as_str())?;
@@ -81,7 +116,8 @@ fn push_form(alloc: Global, wanted: &Wanted<'_>, text: &mut String) -> Result<()
     };
     push_behind(" system ", system.as_bytes(), text)?;
     push_grouping(alloc, wanted.grouping, text)?;
-    push_fraction(alloc, wanted.fraction, text)?;
+    push_precision(alloc, wanted.precision, text)?;
+    push_mode(alloc, wanted.mode, text)?;
     text.push_str(format!(in alloc; " sign {:?} ", wanted.sign)?.as_str())?;
     push_kind(alloc, &wanted.kind, text)
 }
@@ -199,12 +235,15 @@ pub(crate) fn parsed<'a>(
     }
 }
 
-/// The range of a text `LEAST-MOST`, whichever is greater.
-fn digits_of(text: &str) -> Option<FractionRange> {
+/// The fraction digits of a text `LEAST-MOST`, whichever is greater.
+fn digits_of(text: &str) -> Option<Precision> {
     let (least, most) = text.split_once('-')?;
     let least = least.parse().ok()?;
     let most = most.parse().ok()?;
-    Some(FractionRange { least, most })
+    Some(Precision::Fraction {
+        least,
+        most: Some(most),
+    })
 }
 
 /// Sets what no option of `locnum` asks for: `--digits LEAST-MOST`, `--name NAME` whether there is a
@@ -216,7 +255,7 @@ fn settle(
 ) -> Result<bool, AllocError> {
     for (option, text) in options {
         match *option {
-            "digits" => settings.wanted.fraction = digits_of(text),
+            "digits" => settings.wanted.precision = digits_of(text),
             "name" => settings.lines.names.push(String::from_str(alloc, text)?)?,
             "word" => match text.parse() {
                 Ok(number) => settings.lines.source = Source::Word(number),

@@ -2,7 +2,7 @@
 //! out.
 
 use crate::reports::slow::{Full, SlowWriter};
-use fixed_decimal::SignDisplay;
+use fixed_decimal::{SignDisplay, SignedRoundingMode, UnsignedRoundingMode};
 use icu_provider::DataLocale;
 use locnum_forms::{Form, Kind, StartError, Wanted};
 use locnum_lines::{Delimiter, FieldRange, LineSettings, Refusals, Report, RunError, Source, run};
@@ -37,7 +37,8 @@ fn english(alloc: Global) -> Result<Form, StartError> {
         locale: DataLocale::try_from_str("en").unwrap_or_default(),
         system: None,
         grouping: None,
-        fraction: None,
+        precision: None,
+        mode: SignedRoundingMode::Unsigned(UnsignedRoundingMode::HalfEven),
         sign: SignDisplay::Auto,
         kind: Kind::Plain,
     };

@@ -1,0 +1,65 @@
+-- Which number is taken where a number is rounded, and where nothing is rounded.
+use Rattle.std.specs.Prelude.{ℕ, Bool, true, false, not, ◌&&◌, ◌||◌, List, Option, Some, None, Result, Ok, Err, codes, nat_eq}
+use Rattle.std.specs.Prelude.{if◌then◌else◌}
+use Rattle.std.specs.Cmp.Lexicographic.{pointwise}
+use Rattle.fixed_decimal.specs.declared.modes.SignedRoundingMode.{SignedRoundingMode}
+use Rattle.fixed_decimal.specs.declared.modes.SignedRoundingMode.TheVariants as signed
+use Rattle.fixed_decimal.specs.declared.modes.UnsignedRoundingMode.TheVariants as unsigned
+use Rattle.locnum_forms.specs.declared.wanted.Kind.{Kind}
+use Rattle.locnum_forms.specs.declared.wanted.Kind.TheVariants.{Plain, Short, Long, Money, MoneyNamed, MoneyShort, Percent, Unit}
+use Rattle.locnum_options.specs.Given.{flag_of}
+use Rattle.locnum_options.specs.declared.fault.OptionFault.{OptionFault}
+use Rattle.locnum_options.specs.declared.fault.OptionFault.TheVariants as fault
+use Rattle.locnum_options.specs.declared.given.Given.{Given}
+
+-- the mode of a word that begins with `half-`
+unfoldable pub half_mode_named : List ℕ → Result SignedRoundingMode OptionFault
+half_mode_named word =
+    if pointwise nat_eq word (codes "half-even") then Ok (signed.Unsigned unsigned.HalfEven)
+    else if pointwise nat_eq word (codes "half-up") then Ok (signed.Unsigned unsigned.HalfExpand)
+    else if pointwise nat_eq word (codes "half-down") then Ok (signed.Unsigned unsigned.HalfTrunc)
+    else if pointwise nat_eq word (codes "half-ceiling") then Ok signed.HalfCeil
+    else if pointwise nat_eq word (codes "half-floor") then Ok signed.HalfFloor
+    else Err fault.Round
+
+-- the mode of a word: up is away from zero, and down towards zero
+unfoldable pub mode_named : List ℕ → Result SignedRoundingMode OptionFault
+mode_named word =
+    if pointwise nat_eq word (codes "up") then Ok (signed.Unsigned unsigned.Expand)
+    else if pointwise nat_eq word (codes "down") then Ok (signed.Unsigned unsigned.Trunc)
+    else if pointwise nat_eq word (codes "ceiling") then Ok signed.Ceil
+    else if pointwise nat_eq word (codes "floor") then Ok signed.Floor
+    else half_mode_named word
+
+-- which number is taken; the nearest, and of two equally near the even one, by default
+unfoldable pub mode_given : Option (List ℕ) → Result SignedRoundingMode OptionFault
+mode_given None = Ok (signed.Unsigned unsigned.HalfEven)
+mode_given (Some word) = mode_named word
+
+-- the numbers of a kind are compact
+abbrev pub is_compact_kind : Kind → Bool
+is_compact_kind Plain = false
+is_compact_kind Short = true
+is_compact_kind Long = true
+is_compact_kind (Money code width sign is_cash) = false
+is_compact_kind (MoneyNamed code is_cash) = false
+is_compact_kind (MoneyShort code) = true
+is_compact_kind Percent = false
+is_compact_kind (Unit name width) = false
+
+-- a rounding is asked for that compact numbers don't have
+unfoldable pub is_fine : Given → Bool
+is_fine given = flag_of given (codes "round") || flag_of given (codes "significant") || flag_of given (codes "increment")
+
+-- numbers are rounded: an option says how fine they are, or a currency does
+unfoldable pub is_rounded : Given → Bool
+is_rounded given =
+    flag_of given (codes "fraction") || flag_of given (codes "significant") || flag_of given (codes "increment")
+    || flag_of given (codes "currency")
+
+-- a mode, unless a rounding is asked for that compact numbers don't have, or a mode where nothing is rounded
+unfoldable pub judged_mode : Given → Bool → SignedRoundingMode → Result SignedRoundingMode OptionFault
+judged_mode given compact mode =
+    if compact && is_fine given then Err fault.CompactRounding
+    else if flag_of given (codes "round") && not (is_rounded given) then Err fault.NothingRounded
+    else Ok mode

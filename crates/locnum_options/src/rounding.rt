@@ -1,0 +1,103 @@
+//! Which number is taken where a number is rounded, and where nothing is rounded.
+
+ghost use Rattle.std.specs.Prelude.{◌≡◌, option_map};
+ghost use Rattle.locnum_options.specs.Rounding.{half_mode_named, is_compact_kind, is_fine, is_rounded, judged_mode, mode_given, mode_named};
+
+use crate::fault::OptionFault;
+use crate::given::Given;
+use fixed_decimal::{SignedRoundingMode, UnsignedRoundingMode};
+use locnum_forms::Kind;
+
+/// The mode of a word that begins with `half-`.
+#[tactic(auto, unfolding(crate::specs::Rounding::half_mode_named))]
+fn half_mode_named(word: &str) -> Result<SignedRoundingMode, OptionFault>
+    ensures { result ≡ half_mode_named word.now }
+{
+    match word {
+        "half-even" => Ok(SignedRoundingMode::Unsigned(UnsignedRoundingMode::HalfEven)),
+        "half-up" => Ok(SignedRoundingMode::Unsigned(UnsignedRoundingMode::HalfExpand)),
+        "half-down" => Ok(SignedRoundingMode::Unsigned(UnsignedRoundingMode::HalfTrunc)),
+        "half-ceiling" => Ok(SignedRoundingMode::HalfCeil),
+        "half-floor" => Ok(SignedRoundingMode::HalfFloor),
+        _ => Err(OptionFault::Round),
+    }
+}
+
+/// The mode of a word: up is away from zero, and down towards zero.
+#[tactic(auto, unfolding(crate::specs::Rounding::mode_named))]
+fn mode_named(word: &str) -> Result<SignedRoundingMode, OptionFault>
+    ensures { result ≡ mode_named word.now }
+{
+    match word {
+        "up" => Ok(SignedRoundingMode::Unsigned(UnsignedRoundingMode::Expand)),
+        "down" => Ok(SignedRoundingMode::Unsigned(UnsignedRoundingMode::Trunc)),
+        "ceiling" => Ok(SignedRoundingMode::Ceil),
+        "floor" => Ok(SignedRoundingMode::Floor),
+        _ => half_mode_named(word),
+    }
+}
+
+/// Which number is taken; the nearest, and of two equally near the even one, by default.
+// promise: Each word has its rounding mode; half even is the default.
+// mutations: round_half_up_read_as_up
+#[tactic(auto, unfolding(crate::specs::Rounding::mode_given))]
+pub(crate) fn mode_given(word: Option<&str>) -> Result<SignedRoundingMode, OptionFault>
+    ensures { result ≡ mode_given (option_map (λ t. t.now) word.entry) }
+{
+    match word {
+        Some(word) => mode_named(word),
+        None => Ok(SignedRoundingMode::Unsigned(UnsignedRoundingMode::HalfEven)),
+    }
+}
+
+/// Whether the numbers of a kind are compact.
+pub(crate) fn is_compact_kind(kind: &Kind<'_>) -> bool
+    ensures { result ≡ is_compact_kind kind.now }
+{
+    match kind {
+        Kind::Short | Kind::Long => true,
+        Kind::MoneyShort { .. } => true,
+        Kind::Plain | Kind::Percent => false,
+        Kind::Money { .. } | Kind::MoneyNamed { .. } | Kind::Unit { .. } => false,
+    }
+}
+
+/// Whether a rounding is asked for that compact numbers don't have.
+#[tactic(auto, unfolding(crate::specs::Rounding::is_fine))]
+fn is_fine(given: &Given) -> bool
+    ensures { result ≡ is_fine given.now }
+{
+    given.flag("round") || given.flag("significant") || given.flag("increment")
+}
+
+/// Whether numbers are rounded: an option says how fine they are, or a currency does.
+#[tactic(auto, unfolding(crate::specs::Rounding::is_rounded))]
+fn is_rounded(given: &Given) -> bool
+    ensures { result ≡ is_rounded given.now }
+{
+    given.flag("fraction")
+        || given.flag("significant")
+        || given.flag("increment")
+        || given.flag("currency")
+}
+
+/// A mode, unless a rounding is asked for that compact numbers don't have, or a mode where nothing is
+/// rounded.
+// promise: A rounding mode stands beside what is rounded.
+// mutations: round_without_rounding_let_through, compact_significant_let_through
+#[tactic(auto, unfolding(crate::specs::Rounding::judged_mode))]
+pub(crate) fn judged_mode(
+    given: &Given,
+    compact: bool,
+    mode: SignedRoundingMode,
+) -> Result<SignedRoundingMode, OptionFault>
+    ensures { result ≡ judged_mode given.now compact mode }
+{
+    if compact && is_fine(given) {
+        return Err(OptionFault::CompactRounding);
+    }
+    if given.flag("round") && !is_rounded(given) {
+        return Err(OptionFault::NothingRounded);
+    }
+    Ok(mode)
+}
