@@ -1,7 +1,7 @@
 //! The decimal that a form writes for a text, and what writes it.
 
 use crate::form::{Form, Formatter};
-use crate::rounded::{rounded, scaled};
+use crate::rounded::{rounded, scaled, signed};
 use decimal_lines::{TextError, read_decimal};
 use fixed_decimal::Decimal;
 use std::alloc::Global;
@@ -48,7 +48,7 @@ impl Form {
             IsRefusal (rounded_decimal self.now decimal.sign decimal.absolute) error) }
     {
         let rounded = rounded(alloc, decimal, &self.rounding)?;
-        Ok(rounded.with_sign_display(self.sign))
+        Ok(signed(rounded, self.sign))
     }
 
     /// The decimal that is written for a text (this project's own): that of the text, of percents a

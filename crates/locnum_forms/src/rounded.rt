@@ -1,13 +1,13 @@
 //! The number that is shown for a number: by its scale and its rounding.
 
-ghost use Rattle.std.specs.Prelude.{◌≡◌, ◌≤◌, ◌↔◌, ◌-ℤ◌, IfErr, IfOk, IfSome, IsTrue, max, pos};
+ghost use Rattle.std.specs.Prelude.{◌≡◌, ◌≤◌, ◌↔◌, ◌==◌, ◌-ℤ◌, IfErr, IfOk, IfSome, IsTrue, max, pos};
 ghost use Rattle.fixed_decimal.specs.Modes.{IsLeastFrom};
 ghost use Rattle.fixed_decimal.specs.Padding.{IsExactWith};
 ghost use Rattle.fixed_decimal.specs.Size.{magnitude, size};
 ghost use Rattle.fixed_decimal.specs.Unsigned.{IsUnsigned, high, integer_count};
 ghost use Rattle.decimal_lines.specs.Computed.{count_up_to};
 ghost use Rattle.decimal_lines.specs.SingleText.{IsRefusal};
-ghost use Rattle.fixed_decimal.specs.SignDisplay.{is_negative};
+ghost use Rattle.fixed_decimal.specs.SignDisplay.{is_negative, minus_or_none, sign_by_display};
 ghost use Rattle.locnum_forms.specs.Forms.{percents, scaled};
 ghost use Rattle.locnum_forms.specs.Rounded.{half_even_to, rounded, shown_number};
 ghost use Rattle.locnum_forms.specs.Cut.{IsCut, IsCutRefusal};
@@ -15,7 +15,8 @@ ghost use Rattle.locnum_forms.specs.Cut.{IsCut, IsCutRefusal};
 use crate::form::Formatter;
 use decimal_lines::TextError;
 use fixed_decimal::{
-    Decimal, DecimalError, SignedRoundingMode, UnsignedDecimal, UnsignedRoundingMode,
+    Decimal, DecimalError, Sign, SignDisplay, SignedRoundingMode, UnsignedDecimal,
+    UnsignedRoundingMode,
 };
 use icu_decimal::error::FormatError;
 use icu_dimension::percents_of;
@@ -160,6 +161,32 @@ fn any_shown(alloc: Global, decimal: &Decimal, rounding: &Rounding) -> Result<De
         Ok(shown) => Ok(shown.significand),
         Err(ShownError::Overflow) => Err(TextError::Overflow),
         Err(ShownError::OutOfMemory) => Err(TextError::OutOfMemory),
+    }
+}
+
+/// A minus, and no other sign.
+pub(crate) fn minus_or_none(sign: Sign) -> Sign
+    ensures { result ≡ minus_or_none sign }
+{
+    match sign {
+        Sign::Negative => Sign::Negative,
+        Sign::None | Sign::Positive => Sign::None,
+    }
+}
+
+/// The decimal with the sign that is shown. By the default display that doesn't depend on the
+/// number, so it isn't asked whether this is zero.
+pub(crate) fn signed(decimal: Decimal, display: SignDisplay) -> Decimal
+    ensures sign { result.sign
+        ≡ sign_by_display display (size decimal.absolute == 0) decimal.sign }
+    ensures absolute { result.absolute ≡ decimal.absolute }
+{
+    match display {
+        SignDisplay::Auto => Decimal {
+            sign: minus_or_none(decimal.sign),
+            absolute: decimal.absolute,
+        },
+        _ => decimal.with_sign_display(display),
     }
 }
 

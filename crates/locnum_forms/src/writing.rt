@@ -9,9 +9,9 @@ ghost use Rattle.locnum_forms.specs.WrittenOr.{written_or};
 ghost use Rattle.locnum_forms.specs.declared.form.Formatter.TheVariants.{Money, MoneyNamed, MoneyShort, Numbers, Percent, Units};
 
 use crate::form::{Form, Formatter};
-use crate::rounded::{rounded, scaled};
+use crate::rounded::{minus_or_none, rounded, scaled, signed};
 use decimal_lines::{Mode, TextError, read_decimal, write_shown};
-use fixed_decimal::{Decimal, Sign, SignDisplay};
+use fixed_decimal::{Decimal, SignDisplay};
 use icu_decimal::DecimalFormatter;
 use icu_decimal::error::FormatError;
 use icu_dimension::{
@@ -153,16 +153,6 @@ fn unchanging(form: &Form) -> Option<&Mode>
     }
 }
 
-/// A minus, and no other sign.
-fn minus_or_none(sign: Sign) -> Sign
-    ensures { result ≡ minus_or_none sign }
-{
-    match sign {
-        Sign::Negative => Sign::Negative,
-        Sign::None | Sign::Positive => Sign::None,
-    }
-}
-
 /// Takes a decimal's plus off, and writes what a mode shows for it.
 fn write_unchanged<K: EventWriter>(
     alloc: Global,
@@ -196,7 +186,7 @@ impl Form {
     {
         let number = scaled(alloc, &self.formatter, decimal)?;
         let rounded = rounded(alloc, number, &self.rounding)?;
-        let shown = rounded.with_sign_display(self.sign);
+        let shown = signed(rounded, self.sign);
         write_formatted(alloc, &self.formatter, &shown, out)
     }
 
