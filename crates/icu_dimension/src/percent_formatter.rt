@@ -1,6 +1,6 @@
 //! Percents (ICU4X, `PercentFormatter`).
 
-ghost use Rattle.std.specs.Prelude.{◌≡◌, OnOk, IsErrOf, IfOk, IfErr, ◌≢◌};
+ghost use Rattle.std.specs.Prelude.{◌≡◌, ◌↔◌, OnOk, IsErrOf, IfOk, IfErr, ◌≢◌};
 ghost use Rattle.std.specs.String.{string_bytes};
 ghost use Rattle.fixed_decimal.specs.Unsigned.{IsWithinLimits};
 ghost use Rattle.writeable.specs.Events.{text_of};
