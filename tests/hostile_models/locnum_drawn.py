@@ -200,7 +200,7 @@ def a_header(rng: random.Random, cut: Cut) -> bytes:
 
 def some_rounding(rng: random.Random, is_money: bool) -> dict[str, str]:
     """Options of how numbers are rounded: at most one of how fine they are, and a mode at times if they are rounded."""
-    names = rng.choice([[], [], ["fraction"], ["fraction"], ["significant"], ["increment"]])
+    names: list[str] = rng.choice([[], [], ["fraction"], ["fraction"], ["significant"], ["increment"]])
     if (names or is_money) and rng.random() < 0.5:
         names = [*names, "round"]
     return {name: rng.choice(GOOD[name]) for name in names}
