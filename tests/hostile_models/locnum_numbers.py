@@ -6,7 +6,7 @@ from dataclasses import dataclass, replace
 
 from hostile_models.locnum_settings import CURRENCIES, MONEY, PERCENT, PLAIN, Settings
 from hostile_models.numbers import ENGLISH, LIMIT, OVERFLOW, Numeral, magnitude_of, numeral_of, unsigned_text
-from hostile_models.rounding import HALF_EVEN, is_changed, rounded
+from hostile_models.rounding import is_changed, rounded
 
 # White space of ASCII, which the text of a line that is explained has not at its ends; and the columns of an explanation.
 WHITE, WIDTH = b" \t\n\f\r", 80
@@ -99,13 +99,13 @@ def magnitude_line(number: bytes) -> bytes:
 
 
 def rounding_lines(text: bytes, settings: Settings) -> list[bytes]:
-    """The line that says to what a text was rounded, or nothing."""
+    """The line that says from what to what a number was rounded, and by what; or nothing."""
     plain, numeral = written(text, replace(settings, grouping="never")), numeral_of(text)
     number = numeral if isinstance(numeral, str) else shown(numeral, settings)
     if isinstance(plain, str) or isinstance(numeral, str) or isinstance(number, str) or not is_changed(numeral, number):
         return []
-    mode = "" if settings.rounding_mode == HALF_EVEN else f", --round {settings.rounding_mode}"
-    return [b"  rounded    " + reported(text) + b" to " + plain + f": {settings.rounded_by}{mode}".encode()]
+    read = numeral.sign + numeral.whole + ("." + numeral.fraction if numeral.fraction else "")
+    return [f"  rounded    {read} to {plain.decode()}: {settings.rounded_by}".encode()]
 
 
 def explained(text: bytes, settings: Settings) -> tuple[bytes, str | None]:

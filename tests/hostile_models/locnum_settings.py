@@ -219,8 +219,8 @@ def precision_of(given: Given) -> Precision | None:
 
 
 def rounded_by(given: Given) -> str:
-    """What says how fine numbers are, as explanations have it."""
-    return next((f"--{name} {given[name]}" for name in PRECISIONS if name in given), "")
+    """The options by which plain numbers are rounded, as explanations have them."""
+    return ", ".join(f"--{name} {given[name]}" for name in [*PRECISIONS, "round"] if name in given)
 
 
 def judge_rounding(given: Given, is_compact: bool) -> None:

@@ -168,7 +168,7 @@ fn precision_named(alloc: Global, given: &Given) -> Result<Option<Precision>, Op
 
 /// How fine numbers are, which one option says; by default as the kind has it.
 // promise: At most one option says how fine numbers are.
-// mutations: two_precisions_let_through
+// mutations: two_precisions_let_through, cash_beside_fraction_let_through
 #[tactic(auto, unfolding(crate::specs::Precision::precision_given))]
 pub(crate) fn precision_given(
     alloc: Global,
