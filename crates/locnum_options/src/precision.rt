@@ -160,10 +160,7 @@ fn precision_named(alloc: Global, given: &Given) -> Result<Option<Precision>, Op
     let fraction = fraction_given(given.text("fraction"))?;
     let significant = significant_given(given.text("significant"))?;
     let increment = increment_given(alloc, given.text("increment"))?;
-    Ok(first_precision(
-        fraction,
-        first_precision(significant, increment),
-    ))
+    Ok(first_precision(fraction, first_precision(significant, increment)))
 }
 
 /// How fine numbers are, which one option says; by default as the kind has it.
