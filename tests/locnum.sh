@@ -118,7 +118,7 @@ writes "$numbers"'-1234.5\n  -1,234.5\n  ^         minusSign\n   ^^^^^    intege
     --explain -1234.5
 writes 'the tables in the program: locale en, short\n-1650\n  -1.6K\n  ^      minusSign\n   ^     integer\n    ^    decimal\n     ^   fraction\n  magnitude  3\n  around     1600 (50 below), 1700 (50 above)\n  entry      type 3, exponent 3\n  operands   i=1 v=1 w=1 f=6 t=6 c=0 -> other\n  pattern    {0}K\n' \
     --explain --style short -1650
-writes 'the tables in the program: locale en, percents\n0.1234\n  12.3%\n  ^^     integer\n    ^    decimal\n     ^   fraction\n      ^  percentSign\n  rounded    0.1234 to 0.123: --fraction 1\n  magnitude  -1\n  pattern    {0}%\n' \
+writes 'the tables in the program: locale en, percents\n0.1234\n  12.3%\n  ^^     integer\n    ^    decimal\n     ^   fraction\n      ^  percentSign\n  rounded    12.34 to 12.3: --fraction 1\n  magnitude  1\n  pattern    {0}%\n' \
     --explain --percent --fraction 1 0.1234
 writes "$numbers"'1.11\n  1.15\n  ^     integer\n   ^    decimal\n    ^^  fraction\n  rounded    1.11 to 1.15: --increment 0.05, --round up\n  magnitude  0\n' \
     --explain --increment 0.05 --round up 1.11
