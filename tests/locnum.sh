@@ -59,6 +59,30 @@ writes '1,500,000.00 US dollars\n' --currency USD --style plain --width name 150
 writes '1234567\n' --grouping=never 1234567
 writes '+1.20\n' --sign always --fraction 2 1.2
 writes '1.2\n1.25\n' --fraction 1..2 1.2 1.25
+writes "1.$(printf '%0999d' 0)\n" --fraction 999 1
+# numbers are rounded: significant digits, increments and modes
+writes '7.2\n' --fraction 1 007.25
+writes '1,200\n0.50\n' --significant 2 1234 0.5
+writes '1.5\n1.23\n' --significant 1..3 1.50 1.2345
+writes '1.50\n' --increment 0.50 1.3
+writes '2,000\n' --increment 1000 1501
+writes '1.15\n1.10\n' --increment 0.05 --round up 1.11 1.1
+writes '2\n-2\n2\n' --fraction 0 --round half-even 2.5 -2.5 2.4
+writes '3\n-3\n2\n' --fraction 0 --round half-up 2.5 -2.5 2.4
+writes '2\n-2\n2\n' --fraction 0 --round half-down 2.5 -2.5 2.4
+writes '3\n-2\n2\n' --fraction 0 --round half-ceiling 2.5 -2.5 2.4
+writes '2\n-3\n2\n' --fraction 0 --round half-floor 2.5 -2.5 2.4
+writes '3\n-3\n3\n' --fraction 0 --round up 2.5 -2.5 2.4
+writes '2\n-2\n2\n' --fraction 0 --round down 2.5 -2.5 2.4
+writes '3\n-2\n3\n' --fraction 0 --round ceiling 2.5 -2.5 2.4
+writes '2\n-3\n2\n' --fraction 0 --round floor 2.5 -2.5 2.4
+writes '$0.13\n' --round half-up --currency USD 0.125
+writes '-$1.23\n' --round down --currency USD -1.239
+writes '\xc2\xa512,000\n' --currency JPY --significant 2 12345
+writes '2 US dollars\n' --currency USD --width name --increment 1 --round ceiling 1.2
+writes '13%\n' --percent --fraction 0 --round ceiling 0.121
+writes '12.5%\n' --percent --increment 0.5 0.12345
+lines 0 'rent 1250\nfood 431.5\n' 'rent  1,300\nfood    440\n' '' --field 2 --significant 2 --round up --padding 6
 lines 0 'rent 1250\nfood 431.5\n' 'rent $1,250.00\nfood $431.50\n' '' --field 2 --currency USD
 lines 0 'a;1234;1234\n' 'a;1234;1,234\n' '' -d ';' --field 3
 lines 0 'rent 1250\nfood 431.5\n' 'rent  $1,250.00\nfood    $431.50\n' '' --field 2 --currency USD --padding 10
@@ -94,8 +118,11 @@ writes "$numbers"'-1234.5\n  -1,234.5\n  ^         minusSign\n   ^^^^^    intege
     --explain -1234.5
 writes 'the tables in the program: locale en, short\n-1650\n  -1.6K\n  ^      minusSign\n   ^     integer\n    ^    decimal\n     ^   fraction\n  magnitude  3\n  around     1600 (50 below), 1700 (50 above)\n  entry      type 3, exponent 3\n  operands   i=1 v=1 w=1 f=6 t=6 c=0 -> other\n  pattern    {0}K\n' \
     --explain --style short -1650
-writes 'the tables in the program: locale en, percents\n0.1234\n  12.3%\n  ^^     integer\n    ^    decimal\n     ^   fraction\n      ^  percentSign\n  rounded    0.1234 to 0.123: --fraction 1\n  magnitude  -1\n  pattern    {0}%\n' \
+writes 'the tables in the program: locale en, percents\n0.1234\n  12.3%\n  ^^     integer\n    ^    decimal\n     ^   fraction\n      ^  percentSign\n  rounded    12.34 to 12.3: --fraction 1\n  magnitude  1\n  pattern    {0}%\n' \
     --explain --percent --fraction 1 0.1234
+writes "$numbers"'1.11\n  1.15\n  ^     integer\n   ^    decimal\n    ^^  fraction\n  rounded    1.11 to 1.15: --increment 0.05, --round up\n  magnitude  0\n' \
+    --explain --increment 0.05 --round up 1.11
+writes "$numbers"'1200\n  1,200\n  ^^^^^  integer\n   ^     group\n  magnitude  3\n' --explain --significant 2 1200
 writes "$amounts"'1234.567\n  $1,234.57\n  ^          currency\n   ^^^^^     integer\n    ^        group\n        ^    decimal\n         ^^  fraction\n  rounded    1234.567 to 1234.57: 2 digits of USD\n  magnitude  3\n  pattern    ${0}\n' \
     --explain --currency USD 1234.567
 writes "$amounts"'1\n  1 US dollar\n  ^            integer\n    ^^^^^^^^^  currency\n  magnitude  0\n  operands   i=1 v=0 w=0 f=0 t=0 c=0 -> one\n  pattern    {0} US dollar\n' \
@@ -188,7 +215,17 @@ rejects 'locnum: --header: not a count of lines, from 1 on' --header=0
 rejects 'locnum: --delimiter: neither a single byte nor tab' -d tabs
 rejects 'locnum: --csv: not with --zero-terminated' --csv -z
 rejects 'locnum: --csv: --delimiter is neither a quote, a line feed nor a carriage return' --csv -d '"'
-rejects 'locnum: --fraction: neither N nor MIN..MAX, each at most 255' --fraction x
+rejects 'locnum: --fraction: neither N nor MIN..MAX, each at most 999' --fraction x
+rejects 'locnum: --fraction: neither N nor MIN..MAX, each at most 999' --fraction 1000
+rejects 'locnum: --significant: neither N nor MIN..MAX, each from 1 to 999' --significant 0
+rejects 'locnum: --increment: not 1, 2, 5 or 25 times a power of ten, in digits' --increment 3
+rejects 'locnum: --increment: not 1, 2, 5 or 25 times a power of ten, in digits' --increment '5 percent'
+rejects 'locnum: --fraction, --significant, --increment and --cash: not together' --fraction 2 --significant 2
+rejects 'locnum: --fraction, --significant, --increment and --cash: not together' --currency USD --cash --fraction 2
+rejects 'locnum: --round: neither up, down, ceiling nor floor, with or without half-, nor half-even' --fraction 2 --round nearest
+rejects 'locnum: --round, --significant and --increment: not with --style short or long' --style short --significant 2
+rejects 'locnum: --round, --significant and --increment: not with --style short or long' --currency USD --style short --round up
+rejects 'locnum: --round wants --fraction, --significant, --increment or --currency' --round up
 cat >"$folder/fr.json" <<'FRENCH'
 {
 "symbols": [{"locale": "fr", "minus": ["-", ""], "plus": ["+", ""], "decimal": ",", "group": "\u202f", "numsys": "latn", "sizes": [3, 3, 1]}],

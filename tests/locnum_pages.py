@@ -28,6 +28,12 @@ def is_taken(program: str, name: str, word: str) -> bool:
     return any(not run.stderr.startswith(f"locnum: --{name}: ".encode()) for run in runs)
 
 
+def is_said(word: str, said: str) -> bool:
+    """Whether --help has a word, or `(half-)` in front of what follows its `half-`."""
+    said_words = re.findall(r"[\w-]+", said)
+    return word in said_words or "(half-)" in said and word.startswith("half-") and word.removeprefix("half-") in said_words
+
+
 def help_cases(program: str, options: Options) -> Iterator[Case]:
     """The words of options are those that the program takes, and --help says them; it has 80 columns at most."""
     helped = subprocess.run([program, "--help"], stdout=subprocess.PIPE, timeout=60).stdout.decode()
@@ -35,7 +41,7 @@ def help_cases(program: str, options: Options) -> Iterator[Case]:
     yield not wide, "locnum --help: has lines of more than 80 columns:", "; ".join(wide)
     for name, words in WORDS.items():
         missing = [word for word in words.split() if not is_taken(program, name, word)] if name in options else [name]
-        unsaid = [word for word in words.split() if name in options and word not in re.findall(r"[\w-]+", options[name].said)]
+        unsaid = [word for word in words.split() if name in options and not is_said(word, options[name].said)]
         yield not missing and not unsaid, f"locnum: --{name} hasn't the words", ", ".join(missing + unsaid)
         yield not is_taken(program, name, "else"), f"locnum: --{name} takes any word", ""
 

@@ -21,7 +21,8 @@ lines 0 'a\t1234\n' 'a\t1,234\n' '' -d '\t' --field 2
 lines 0 'a\t1234\tx\n' 'a\t1,234\tx\n' '' -d tab --field 2
 rejects 'locnum: --to is an option of numfmt; --style=short and --style=long write compact numbers' --to=si 5
 rejects 'locnum: --from is an option of numfmt; numbers are read without suffixes' --from=iec 5K
-rejects 'locnum: --round is an option of numfmt; numbers are rounded half to even' --round=up 5
+rejects 'locnum: --round: neither up, down, ceiling nor floor, with or without half-, nor half-even' --round=nearest 5
+rejects 'locnum: --round: neither up, down, ceiling nor floor, with or without half-, nor half-even' --round=from-zero --fraction 0 5
 rejects $'locnum: unexpected argument \'--fielt\' found\nlocnum: a similar argument exists: \'--field\'\nlocnum: --help lists the options' --fielt 2
 rejects $'locnum: unexpected argument \'-q\' found\nlocnum: --help lists the options' -q
 rejects $'locnum: a value is required for \'--style <STYLE>\' but none was supplied\nlocnum: --help lists the options' --style

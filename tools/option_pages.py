@@ -26,6 +26,7 @@ MANUAL = "docs/locnum.1"
 WORDS = {
     "style": "plain short long",
     "width": "short narrow name long",
+    "round": "half-even half-up half-down half-ceiling half-floor up down ceiling floor",
     "grouping": "auto never always min2",
     "sign": "auto always never except-zero negative",
     "invalid": "abort fail warn ignore",

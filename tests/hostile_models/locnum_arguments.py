@@ -3,8 +3,8 @@ import re
 from collections.abc import Sequence
 
 # Options with a text and without one, and their letters.
-TEXTS = ["tables", "locale", "system", "style", "fraction", "sign", "currency", "width", "unit", "delimiter",
-         "field", "padding", "invalid", "list"]
+TEXTS = ["tables", "locale", "system", "style", "fraction", "significant", "increment", "round", "sign", "currency",
+         "width", "unit", "delimiter", "field", "padding", "invalid", "list"]
 # Those that have a text behind `=` or none, with what stands for none.
 PERHAPS = {"header": "1", "grouping": "auto"}
 FLAGS = ["accounting", "cash", "percent", "csv", "zero-terminated", "explain"]

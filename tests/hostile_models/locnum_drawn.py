@@ -7,13 +7,16 @@ from dataclasses import dataclass
 from hostile_models.locnum_arguments import FLAGS, LETTERS, PERHAPS, TEXTS
 from hostile_models.locnum_settings import MODES, SIGNS, delimiter_named
 from hostile_models.numbers import LIMIT, STRATEGIES
+from hostile_models.rounding import MODES as ROUNDING_MODES
 from hostile_models.running import Word
 
 LISTS = ["1", "2", "2-", "1-3", "-2", "-", "1,3", "4-,1", "3,3", "18446744073709551615", "2-9999999999", "007"]
 # Texts of options, those first that are accepted. Tables are of a file that isn't there.
 GOOD: dict[str, list[str]] = {
     "tables": [], "locale": ["en", "en", "EN", "en_us.UTF-8", "env", "de", "x" * 63], "system": ["latn", "latn", "arab"],
-    "style": ["plain", "short", "long"], "grouping": STRATEGIES, "fraction": ["0", "0", "2", "255", "0..3", "1..1", "007"],
+    "style": ["plain", "short", "long"], "grouping": STRATEGIES, "fraction": ["0", "0", "2", "999", "0..3", "1..1", "007"],
+    "significant": ["1", "2", "3", "999", "1..3", "2..2", "007", "1..999"], "round": ROUNDING_MODES,
+    "increment": ["0.05", "0.50", ".5", "2.5", "25", "1", "0002", "1000", "50.0", "0.25", "1" + "0" * 999, "." + "0" * 998 + "2"],
     "sign": SIGNS, "currency": ["USD", "EUR", "JPY", "CHF"], "width": ["short", "narrow", "long", "name"],
     "unit": ["kilometer", "", "é"], "delimiter": [";", ",", " ", "\t", "tab", "\\t", "-", "=", "\x7f", "5"],
     "field": LISTS, "invalid": MODES,
@@ -23,7 +26,11 @@ GOOD: dict[str, list[str]] = {
 BAD: dict[str, list[str]] = {
     "locale": ["", "a b", "é", "x" * 64, ".UTF-8"], "system": ["", "la", "Latn", "x" * 5000],
     "style": ["", "Plain", "shorts", "PLAIN"], "grouping": ["", "min3", "yes"],
-    "fraction": ["", "256", "3..2", "1.2", "1...2", "-1", "+1", "..", "1..", "9" * 30, "1..256"],
+    "fraction": ["", "1000", "3..2", "1.2", "1...2", "-1", "+1", "..", "1..", "9" * 30, "1..1000"],
+    "significant": ["", "0", "00", "0..3", "1000", "3..2", "1.2", "-1", "+1", "1..", "9" * 30, "1..1000"],
+    "increment": ["", "0", "0.0", "3", "15", "5.", ".", "1..5", "-5", "+5", "1e3", "5 percent", "5/w", "\u0665", "250.5",
+                  "1" + "0" * 1000, "0." + "0" * 999 + "1", "5." + "0" * 1000],
+    "round": ["", "Up", "half", "half-", "even", "half-odd", "unnecessary", "half-half-up"],
     "sign": ["", "plus", "except_zero"], "currency": ["", "usd", "US", "USDD", "ÜSD"], "width": ["", "wide"],
     "unit": [], "delimiter": ["", "ab", "é", ";;", ";" * 5000],
     "field": ["", "0", "a", "2-1", "1,", ",1", "1--2", "1 2", "-0", "18446744073709551616", "1," * 3000, "--", "+1"],
@@ -45,6 +52,9 @@ PUT_IN: list[list[Word]] = [
     ["--currency=EUR", "--style=long"], ["--style=short", "--currency=USD", "--cash"],
     ["--width=narrow", "--currency=EUR", "--style=short"], ["--currency=USD", "--style=short"],
     ["--percent", "--percent"], ["-z", "--zero-terminated"],
+    ["--fraction=2", "--significant=2"], ["--increment=0.05", "--currency=EUR", "--cash"], ["--cash", "--fraction=1"],
+    ["--style=short", "--significant=3"], ["--increment", "5", "--style=long"], ["--round=up"], ["--percent", "--round=floor"],
+    ["--currency=USD", "--round=half-up"], ["--style=short", "--currency=USD", "--round", "down"], ["--si=auto"], ["--in=5"],
     ["--header=1", "--field=net", "5"], ["--csv", "-z"], ["--explain", "--padding=9"], ["--explain", "-z"], ["--explain"], ["--csv", "-d", '"'],
     ["--csv", "--delimiter=\n"], ["-d\r", "--csv"],
     ["--sign", "auto", "--sign=auto"], [b"\xff"],
@@ -53,8 +63,8 @@ PUT_IN: list[list[Word]] = [
 BEHIND = [["-z"], ["--help", "5"], ["-x", "-5", "--"], ["x" * 9000], ["\u0665", "+5"], ["", "5"]]
 # Names of columns, which stand in headers and are asked for.
 NAMES = ["net", "gross", "tax", "a b", "n", "net", "\u00e9t\u00e9", "x" * 70]
-# Options that plain numbers may have, and their lines.
-OF_PLAIN = ["grouping", "fraction", "sign", "delimiter", "field", "padding", "invalid", "header"]
+# Options that plain numbers may have, and their lines, besides how they are rounded.
+OF_PLAIN = ["grouping", "sign", "delimiter", "field", "padding", "invalid", "header"]
 # Options of what isn't a plain number, each with its text.
 OTHER_KINDS = [{"percent": ""}, {"currency": "USD"}, {"currency": "JPY"}, {"currency": "EUR", "accounting": ""}]
 
@@ -188,6 +198,14 @@ def a_header(rng: random.Random, cut: Cut) -> bytes:
     return comma.join(names) + cut.end
 
 
+def some_rounding(rng: random.Random, is_money: bool) -> dict[str, str]:
+    """Options of how numbers are rounded: at most one of how fine they are, and a mode at times if they are rounded."""
+    names: list[str] = rng.choice([[], [], ["fraction"], ["fraction"], ["significant"], ["increment"]])
+    if (names or is_money) and rng.random() < 0.5:
+        names = [*names, "round"]
+    return {name: rng.choice(GOOD[name]) for name in names}
+
+
 def some_settings(rng: random.Random, explains: bool = False) -> Cut:
     """Words that are accepted, for plain numbers, money and percents; also those that explain fields."""
     names = [name for name in OF_PLAIN if rng.random() < 0.5 and not (explains and name == "padding")]
@@ -198,6 +216,7 @@ def some_settings(rng: random.Random, explains: bool = False) -> Cut:
         given["zero-terminated"] = ""
     if rng.random() < 0.3:
         given.update(rng.choice(OTHER_KINDS))
+    given.update(some_rounding(rng, "currency" in given))
     has_names = rng.random() < 0.15
     if has_names:
         given.update({"header": "1", "field": ",".join(rng.sample(NAMES, rng.choice([1, 1, 2])))})
@@ -211,8 +230,9 @@ def some_settings(rng: random.Random, explains: bool = False) -> Cut:
 
 def some_explained(rng: random.Random) -> list[str]:
     """Words that are accepted beside --explain, for plain numbers."""
-    names = [name for name in ("grouping", "fraction", "sign", "invalid") if rng.random() < 0.5]
-    words = [word for name in names for word in a_spelling(rng, name, rng.choice(GOOD[name]))]
+    given = {name: rng.choice(GOOD[name]) for name in ("grouping", "sign", "invalid") if rng.random() < 0.5}
+    given.update(some_rounding(rng, False))
+    words = [word for name, text in given.items() for word in a_spelling(rng, name, text)]
     words.insert(rng.choice([0, len(words)]), "--explain")
     return words
 

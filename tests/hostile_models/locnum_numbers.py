@@ -5,7 +5,8 @@ from collections.abc import Iterator
 from dataclasses import dataclass, replace
 
 from hostile_models.locnum_settings import CURRENCIES, MONEY, PERCENT, PLAIN, Settings
-from hostile_models.numbers import ENGLISH, LIMIT, OVERFLOW, Numeral, magnitude_of, numeral_of, unsigned_text, with_fraction
+from hostile_models.numbers import ENGLISH, LIMIT, OVERFLOW, Numeral, magnitude_of, numeral_of, unsigned_text
+from hostile_models.rounding import is_changed, rounded
 
 # White space of ASCII, which the text of a line that is explained has not at its ends; and the columns of an explanation.
 WHITE, WIDTH = b" \t\n\f\r", 80
@@ -19,22 +20,20 @@ def shown_sign(sign: str, display: str, is_zero: bool) -> str:
     return "-" if sign == "-" else "+" if display in ("always", "except-zero") else ""
 
 
-def rounded(numeral: Numeral, settings: Settings) -> Numeral | str:
-    """The digits that are written of a number, or why there are too many; percents have their point two digits on."""
-    whole, fraction, moved = numeral.whole, numeral.fraction, 2 if settings.kind == PERCENT else 0
-    if settings.fraction:
-        whole, fraction = with_fraction(whole, fraction, settings.fraction.first + moved, settings.fraction.last + moved)
-    if len(whole) > LIMIT:
+def shown(numeral: Numeral, settings: Settings) -> Numeral | str:
+    """The number that is written, or why it has too many digits; percents have their point two digits on."""
+    if settings.kind == PERCENT:
+        whole = (numeral.whole + numeral.fraction[:2].ljust(2, "0")).lstrip("0") or "0"
+        numeral = Numeral(numeral.sign, whole, numeral.fraction[2:])
+    if len(numeral.whole) > LIMIT:
         return OVERFLOW
-    if moved:
-        whole, fraction = (whole + fraction[:2].ljust(2, "0")).lstrip("0") or "0", fraction[2:]
-    return OVERFLOW if len(whole) > LIMIT else Numeral(numeral.sign, whole, fraction)
+    return rounded(numeral, settings.precision, settings.rounding_mode) if settings.precision else numeral
 
 
 def written(text: bytes, settings: Settings) -> bytes | str:
     """What is written for the text of a number, or why the text is invalid."""
     numeral = numeral_of(text)
-    number = numeral if isinstance(numeral, str) else rounded(numeral, settings)
+    number = numeral if isinstance(numeral, str) else shown(numeral, settings)
     if isinstance(number, str):
         return number
     sign = shown_sign(number.sign, settings.sign, not (number.whole + number.fraction).strip("0"))
@@ -100,14 +99,13 @@ def magnitude_line(number: bytes) -> bytes:
 
 
 def rounding_lines(text: bytes, settings: Settings) -> list[bytes]:
-    """The line that says to what a text was rounded, or nothing."""
-    plain = written(text, replace(settings, grouping="never"))
-    if not settings.fraction or isinstance(plain, str):
+    """The line that says from what to what a number was rounded, and by what; or nothing."""
+    plain, numeral = written(text, replace(settings, grouping="never")), numeral_of(text)
+    number = numeral if isinstance(numeral, str) else shown(numeral, settings)
+    if isinstance(plain, str) or isinstance(numeral, str) or isinstance(number, str) or not is_changed(numeral, number):
         return []
-    given, kept = text.partition(b".")[2], plain.partition(b".")[2]
-    if not given[len(kept):].strip(b"0"):
-        return []
-    return [b"  rounded    " + reported(text) + b" to " + plain + b": --fraction " + settings.fraction_text.encode()]
+    read = numeral.sign + numeral.whole + ("." + numeral.fraction if numeral.fraction else "")
+    return [f"  rounded    {read} to {plain.decode()}: {settings.rounded_by}".encode()]
 
 
 def explained(text: bytes, settings: Settings) -> tuple[bytes, str | None]:

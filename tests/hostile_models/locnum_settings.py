@@ -5,6 +5,7 @@ from dataclasses import dataclass
 
 from hostile_models.locnum_arguments import COMMAND, HELP, VERSION, Ended, Given
 from hostile_models.numbers import STRATEGIES
+from hostile_models.rounding import FRACTION, HALF_EVEN, INCREMENT, MODES as ROUNDING_MODES, MOST, SIGNIFICANT, Precision, increment_named
 
 SIGNS = ["auto", "always", "never", "except-zero", "negative"]
 MODES = ["abort", "fail", "warn", "ignore"]
@@ -28,7 +29,11 @@ FAULTS = {
     "list": "--list: locales, systems, currencies or units",
     "system": "--system: not the name of a numbering system",
     "grouping": "--grouping: neither auto, never, always nor min2",
-    "fraction": "--fraction: neither N nor MIN..MAX, each at most 255",
+    "fraction": "--fraction: neither N nor MIN..MAX, each at most 999",
+    "significant": "--significant: neither N nor MIN..MAX, each from 1 to 999",
+    "increment": "--increment: not 1, 2, 5 or 25 times a power of ten, in digits",
+    "precisions": "--fraction, --significant, --increment and --cash: not together",
+    "round": "--round: neither up, down, ceiling nor floor, with or without half-, nor half-even",
     "sign": "--sign: neither auto, always, never, except-zero nor negative",
     "together": "--percent and --unit: not together, nor with --style or --currency",
     "alone": "--accounting and --cash want --currency, and --width wants --currency or --unit",
@@ -38,6 +43,8 @@ FAULTS = {
     "short money": "--style short: not with --accounting, --cash or a --width but short",
     "width": "--width: short, narrow or name for money; long, short or narrow for units",
     "style": "--style: neither plain, short nor long",
+    "compact rounding": "--round, --significant and --increment: not with --style short or long",
+    "nothing rounded": "--round wants --fraction, --significant, --increment or --currency",
     "explained": "--explain: not with --padding",
     "delimiter": "--delimiter: neither a single byte nor tab",
     "csv with zero": "--csv: not with --zero-terminated",
@@ -79,8 +86,9 @@ class Settings:
     currency: str | None
     accounting: bool
     grouping: str
-    fraction: Range | None
-    fraction_text: str
+    precision: Precision | None
+    rounding_mode: str
+    rounded_by: str
     sign: str
     delimiter: bytes | None
     fields: Sequence[Range]
@@ -112,10 +120,25 @@ def range_of(first: int | None, last: int | None, lowest: int, highest: int) -> 
     return Range(first, last)
 
 
-def fraction_named(text: str) -> Range | None:
-    """The least and the greatest count of fraction digits, or None."""
+def counts_named(option: str, lowest: int, text: str) -> Precision | None:
+    """The least and the greatest count of digits, or None."""
     first, dots, last = text.partition("..")
-    return range_of(number_named(first), number_named(last if dots else first), 0, 255)
+    counts = range_of(number_named(first), number_named(last if dots else first), lowest, MOST)
+    return Precision(option, counts.first, counts.last) if counts else None
+
+
+def fraction_named(text: str) -> Precision | None:
+    """The counts of fraction digits, or None."""
+    return counts_named(FRACTION, 0, text)
+
+
+def significant_named(text: str) -> Precision | None:
+    """The counts of significant digits, or None."""
+    return counts_named(SIGNIFICANT, 1, text)
+
+
+# The options that say how fine numbers are, each with what reads its text.
+PRECISIONS = {FRACTION: fraction_named, SIGNIFICANT: significant_named, INCREMENT: increment_named}
 
 
 def fields_named(text: str) -> Range | None:
@@ -184,14 +207,28 @@ def kind_of(given: Given) -> str:
     return OTHER if "unit" in given or style != "plain" else PERCENT if "percent" in given else PLAIN
 
 
-def digits_of(given: Given) -> Range | None:
-    """The range of fraction digits that is asked for, or that of the currency."""
-    if "fraction" in given:
-        return fraction_named(given["fraction"])
+def precision_of(given: Given) -> Precision | None:
+    """How fine numbers are asked for, or as the currency has them."""
+    for name, named in PRECISIONS.items():
+        if name in given:
+            return named(given[name])
     if "currency" not in given:
         return None
     digits = CURRENCIES[given["currency"]].digits
-    return Range(digits, digits)
+    return Precision(FRACTION, digits, digits)
+
+
+def rounded_by(given: Given) -> str:
+    """The options by which plain numbers are rounded, as explanations have them."""
+    return ", ".join(f"--{name} {given[name]}" for name in [*PRECISIONS, "round"] if name in given)
+
+
+def judge_rounding(given: Given, is_compact: bool) -> None:
+    """Whether numbers of the kind are rounded as it is asked."""
+    if is_compact and ("round" in given or "significant" in given or "increment" in given):
+        raise Ended("compact rounding")
+    if "round" in given and not ("currency" in given or any(name in given for name in PRECISIONS)):
+        raise Ended("nothing rounded")
 
 
 def data_of(given: Given) -> str:
@@ -261,9 +298,14 @@ def settings_of(given: Given, has_numbers: bool) -> Settings:
     wanted(given, "locale", lambda text: re.fullmatch("[A-Za-z0-9-]{1,63}", locale_named(text)))
     wanted(given, "system", lambda text: re.fullmatch("[a-z0-9]{3,8}", text))
     wanted(given, "grouping", lambda text: text in STRATEGIES)
-    wanted(given, "fraction", fraction_named)
+    for name, named in PRECISIONS.items():
+        wanted(given, name, named)
+    if sum(name in given for name in [*PRECISIONS, "cash"]) > 1:
+        raise Ended("precisions")
+    wanted(given, "round", lambda text: text in ROUNDING_MODES)
     wanted(given, "sign", lambda text: text in SIGNS)
     kind = kind_of(given)
+    judge_rounding(given, given.get("style", "plain") != "plain")
     judge_lines(given)
     if names_of(given) and has_numbers:
         raise Ended("names of arguments")
@@ -271,8 +313,8 @@ def settings_of(given: Given, has_numbers: bool) -> Settings:
     delimiter = delimiter_named(given)
     fields = [fields_named(part) for part in given.get("field", "1").split(",")]
     return Settings(
-        kind, given.get("currency"), "accounting" in given, given.get("grouping", "auto"), digits_of(given),
-        given.get("fraction", ""), given.get("sign", "auto"), delimiter.encode() if delimiter else None,
+        kind, given.get("currency"), "accounting" in given, given.get("grouping", "auto"), precision_of(given),
+        given.get("round", HALF_EVEN), rounded_by(given), given.get("sign", "auto"), delimiter.encode() if delimiter else None,
         [each for each in fields if each], [name.encode() for name in names_of(given)], int(given.get("header", "0")), b"\0" if "zero-terminated" in given else b"\n",
         given.get("invalid", "abort"), columns_named(given.get("padding", "")), "csv" in given, "explain" in given,
         any(name in given for name in OF_LINES), heading_of(given))

@@ -79,16 +79,6 @@ def rounded_half_even(number: int, power: int) -> int:
     return (quotient + (2 * rest > step or 2 * rest == step and quotient % 2 == 1)) * step
 
 
-def with_fraction(whole: str, fraction: str, least: int, most: int) -> tuple[str, str]:
-    """The digits, rounded to at most that many of the fraction, without zeros at its end past the least."""
-    dropped = len(fraction) - most
-    if dropped > 0:
-        number = rounded_half_even(int(whole + fraction), dropped) // 10**dropped
-        figures = str(number).rjust(len(whole) + most, "0")
-        whole, fraction = figures[:len(figures) - most], figures[len(figures) - most:]
-    return whole, fraction.rstrip("0").ljust(least, "0")
-
-
 def magnitude_of(number: int, scale: int) -> int:
     """The power of the first digit that isn't zero of a number with that many fraction digits; 0 for zero."""
     return len(str(number)) - 1 - scale if number else 0

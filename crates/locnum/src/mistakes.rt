@@ -6,7 +6,7 @@ use clap::error::ErrorKind;
 use std::alloc::{AllocError, Global};
 
 /// Options of `numfmt` that this program doesn't have, and what it has instead.
-const ABSENT: [(&str, &str); 10] = [
+const ABSENT: [(&str, &str); 9] = [
     (
         "--debug",
         "--invalid says what becomes of texts that are no numbers",
@@ -18,7 +18,6 @@ const ABSENT: [(&str, &str); 10] = [
         "--from-unit",
         "numbers are read as they are, and not multiplied",
     ),
-    ("--round", "numbers are rounded half to even"),
     (
         "--suffix",
         "--currency, --percent and --unit write what stands beside numbers",

@@ -1,5 +1,5 @@
 -- What the options ask for.
-use Rattle.std.specs.Prelude.{◌≡◌, ℕ, Bool, ◌⊎◌, List, [], ◌∷◌, Option, Some, None, Result, Ok, Err, codes, if◌then◌else◌}
+use Rattle.std.specs.Prelude.{◌≡◌, ℕ, Bool, false, ◌⊎◌, List, [], ◌∷◌, Option, Some, None, Result, Ok, Err, codes, if◌then◌else◌}
 use Rattle.locnum_forms.specs.Wanted.{WantedData}
 use Rattle.locnum_lines.specs.Settings.{SettingsData}
 use Rattle.locnum_lines.specs.declared.padding.Padding.{Padding}
@@ -70,6 +70,8 @@ options_of given = do
       grouping = grouping;
       precision = precision;
       mode = mode;
+      hides_zeros_of_whole = false;
+      integer_digits = 1;
       sign = sign;
       kind = kind;
     };

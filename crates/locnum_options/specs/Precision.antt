@@ -67,7 +67,7 @@ increment_given (Some text) = do
 unfoldable pub are_several : Given → Bool
 are_several given =
     (flag_of given (codes "fraction")
-      && (flag_of given (codes "significant") || flag_of given (codes "increment") || flag_of given (codes "cash")))
+    && (flag_of given (codes "significant") || flag_of given (codes "increment") || flag_of given (codes "cash")))
     || (flag_of given (codes "significant") && (flag_of given (codes "increment") || flag_of given (codes "cash")))
     || (flag_of given (codes "increment") && flag_of given (codes "cash"))
 

@@ -111,6 +111,8 @@ pub fn parse_options<'a>(alloc: Global, given: &Given<'a>) -> Result<Options<'a>
             grouping,
             precision,
             mode,
+            hides_zeros_of_whole: false,
+            integer_digits: 1,
             sign,
             kind,
         },

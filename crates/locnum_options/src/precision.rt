@@ -160,15 +160,12 @@ fn precision_named(alloc: Global, given: &Given) -> Result<Option<Precision>, Op
     let fraction = fraction_given(given.text("fraction"))?;
     let significant = significant_given(given.text("significant"))?;
     let increment = increment_given(alloc, given.text("increment"))?;
-    Ok(first_precision(
-        fraction,
-        first_precision(significant, increment),
-    ))
+    Ok(first_precision(fraction, first_precision(significant, increment)))
 }
 
 /// How fine numbers are, which one option says; by default as the kind has it.
 // promise: At most one option says how fine numbers are.
-// mutations: two_precisions_let_through
+// mutations: two_precisions_let_through, cash_beside_fraction_let_through
 #[tactic(auto, unfolding(crate::specs::Precision::precision_given))]
 pub(crate) fn precision_given(
     alloc: Global,

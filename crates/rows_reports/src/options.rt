@@ -91,11 +91,7 @@ fn push_precision(
 }
 
 /// Appends the rounding mode, if it isn't half even.
-fn push_mode(
-    alloc: Global,
-    mode: SignedRoundingMode,
-    text: &mut String,
-) -> Result<(), AllocError> {
+fn push_mode(alloc: Global, mode: SignedRoundingMode, text: &mut String) -> Result<(), AllocError> {
     match mode {
         SignedRoundingMode::Unsigned(UnsignedRoundingMode::HalfEven) => Ok(()),
         SignedRoundingMode::Unsigned(mode) => {

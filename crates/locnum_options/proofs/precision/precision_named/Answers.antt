@@ -10,10 +10,11 @@ returns-in_err-significant c =
 pub returns-in_err-increment : goal.returns-in_err-increment
 unfolding precision_named
 returns-in_err-increment c =
-    rw (sym c.text.ensures, sym c.in_ok-fraction.ensures, sym c.text-2.ensures, sym c.in_ok-significant.ensures, sym c.text-3.ensures) (search rules)
+    rw (sym c.text.ensures, sym c.in_ok-fraction.ensures, sym c.text-2.ensures, sym c.in_ok-significant.ensures, sym c.text-3.ensures)
+    (search rules)
 
 pub returns : goal.returns
 unfolding precision_named
 returns c =
-    rw (sym c.text.ensures, sym c.in_ok-fraction.ensures, sym c.text-2.ensures, sym c.in_ok-significant.ensures, sym c.text-3.ensures, c.in_ok-increment.ensures)
-    (search rules)
+    rw (sym c.text.ensures, sym c.in_ok-fraction.ensures, sym c.text-2.ensures, sym c.in_ok-significant.ensures)
+    (rw (sym c.text-3.ensures, c.in_ok-increment.ensures) (search rules))

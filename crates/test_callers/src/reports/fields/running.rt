@@ -39,6 +39,8 @@ fn english(alloc: Global) -> Result<Form, StartError> {
         grouping: None,
         precision: None,
         mode: SignedRoundingMode::Unsigned(UnsignedRoundingMode::HalfEven),
+        hides_zeros_of_whole: false,
+        integer_digits: 1,
         sign: SignDisplay::Auto,
         kind: Kind::Plain,
     };
