@@ -2,8 +2,7 @@
 -- A number is determined by its size and its counts of digits (`number-told`).
 use Rattle.std.proofs.Common.{◌≡◌, ℕ, ◌+◌, ◌-◌, ◌*◌, ◌/◌, ◌%◌, ◌^◌, ◌<◌, ◌≤◌, ◌⊎◌, max, Bool, true, false}
 use Rattle.std.proofs.Common.{List, [], Option, inl, inr, refl, sym, ap, ◌∙◌, subst, arith, mul_assoc, ℤ, pos, negsuc, ◌-ℤ◌, rules}
-use Rattle.std.proofs.Common.{eq-eqb}
-use Rattle.std.specs.Prelude.{Ok, Err, Result, nat_le, nat_lt, not, ◌==◌, ◌||◌, if◌then◌else◌}
+use Rattle.std.specs.Prelude.{Ok, Err, nat_le, nat_lt, not, ◌==◌, ◌||◌, if◌then◌else◌}
 use Rattle.std.specs.Int.{int_max, int_min}
 use Rattle.std.proofs.lemmas.Bool.Decides.{nat_tests}
 use Rattle.std.proofs.lemmas.Int.{ints, clamps}
@@ -13,7 +12,7 @@ use Rattle.fixed_decimal.specs.Padding.{IsExactWith}
 use Rattle.fixed_decimal.specs.Nearest.{IsMultiple, IsNearest}
 use Rattle.fixed_decimal.specs.Rounding.{IsRounded, RoundsPastLimits}
 use Rattle.fixed_decimal.specs.Size.{finest, magnitude, magnitude_place, size, ten_to, weighed}
-use Rattle.fixed_decimal.specs.Unsigned.{Unsigned, IsUnsigned, high, integer_count}
+use Rattle.fixed_decimal.specs.Unsigned.{Unsigned, IsUnsigned, integer_count}
 use Rattle.fixed_decimal.specs.declared.modes.UnsignedRoundingMode.TheVariants.{HalfEven}
 use Rattle.fixed_decimal.proofs.MagnitudePlaces.{ten_multiple}
 use Rattle.fixed_decimal.proofs.Magnitudes.{place_is, size_lt}

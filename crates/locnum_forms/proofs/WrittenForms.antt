@@ -10,7 +10,7 @@ use Rattle.icu_decimal.specs.declared.error.FormatError.{FormatError}
 use Rattle.icu_decimal.specs.declared.error.FormatError.TheVariants as format
 use Rattle.decimal_lines.specs.SingleText.{WroteEvents}
 use Rattle.decimal_lines.specs.declared.single_text.TextError.{TextError}
-use Rattle.decimal_lines.specs.declared.single_text.TextError.TheVariants.{OutOfMemory, Overflow}
+use Rattle.decimal_lines.specs.declared.single_text.TextError.TheVariants.{Overflow}
 use Rattle.locnum_forms.specs.WrittenOr.{written_or}
 
 -- a success is no overflow

@@ -13,6 +13,15 @@ module _ (form : FormData) (text : List ℕ) where
   unfolding form_events shown_decimal scaled_decimal
   form_events-at = go (decimal_read text)
     where
+      with_sign : Sign → Unsigned → Result (Sign × Unsigned) TextError
+      with_sign sign n = Ok (sign, n)
+
+      rounded_of : Sign × Unsigned → Result (Sign × Unsigned) TextError
+      rounded_of x = rounded_decimal form x.0 x.1
+
+      scaled_of : Sign × Unsigned → Result (Sign × Unsigned) TextError
+      scaled_of read = scaled form.formatter read.1 >>= with_sign read.0
+
       shown : (sign : Sign) (r : Result Unsigned TextError)
           → (r >>= (λ d. formatter_events form.formatter (signed form sign d) d))
           ≡ events_at form.formatter (r >>= (λ d. Ok (signed form sign d, d)))
@@ -21,12 +30,11 @@ module _ (form : FormData) (text : List ℕ) where
 
       number : (sign : Sign) (r : Result Unsigned TextError)
           → (r >>= (λ n. rounded form.rounding sign n >>= (λ d. formatter_events form.formatter (signed form sign d) d)))
-          ≡ events_at form.formatter ((r >>= (λ n. Ok (sign, n))) >>= (λ x. rounded_decimal form x.0 x.1))
+          ≡ events_at form.formatter ((r >>= with_sign sign) >>= rounded_of)
       number sign (Ok n) = shown sign (rounded form.rounding sign n)
       number sign (Err error) = refl
 
-      go : (r : Result (Sign × Unsigned) TextError) → (r >>= read_events form)
-          ≡ events_at form.formatter ((r >>= (λ read. scaled form.formatter read.1 >>= (λ n. Ok (read.0, n)))) >>= (λ x. rounded_decimal form x.0 x.1))
+      go : (r : Result (Sign × Unsigned) TextError) → (r >>= read_events form) ≡ events_at form.formatter ((r >>= scaled_of) >>= rounded_of)
       go (Ok read) = number read.0 (scaled form.formatter read.1)
       go (Err error) = refl
 
