@@ -5,7 +5,9 @@ usage: tests/icu_options.py PEER LOCNUM TABLES [COUNT]
 
 PEER is a command that runs tests/icu_skeletons_peer.cpp, compiled; LOCNUM is the program, and TABLES a file of tables for it.
 COUNT sets of options (2,000 by default) are drawn, each with a locale of LOCALES that the tables have, and write 20 numbers:
-halves, carries, zeros and random ones, with both signs.
+halves, carries, zeros and random ones, with both signs. Marks of the direction of writing aren't compared, since releases of
+CLDR differ in them. Percents have no groups where their pattern has groups of its own, which tables can't express, and
+accounts always show signs, since no skeleton says otherwise.
 
 The last line is 'N passed, M failed'.
 """
@@ -30,6 +32,8 @@ NUMBERS = (
     "0.98765", "15", "22.5", "97.5", "2500", "12345678901234567890.5", "0.00000000000005",
 )
 EACH = 20
+OTHER_GROUPS = ("bn",)
+MARKS = str.maketrans("", "", "\u061c\u200e\u200f")
 
 
 class Case(NamedTuple):
@@ -80,8 +84,8 @@ def drawn_unit(chance: random.Random) -> tuple[tuple[str, ...], str, bool]:
 
 def drawn_sign(chance: random.Random, is_accounting: bool) -> tuple[tuple[str, ...], str]:
     """Which signs are written, with its skeleton."""
-    sign = chance.choice(SIGNS)
-    if is_accounting and sign != "never":
+    sign = chance.choice([sign for sign in SIGNS if not is_accounting or sign != "never"])
+    if is_accounting:
         stem = "sign-accounting" if sign == "auto" else f"sign-accounting-{sign}"
     else:
         stem = f"sign-{sign}"
@@ -90,15 +94,18 @@ def drawn_sign(chance: random.Random, is_accounting: bool) -> tuple[tuple[str, .
 
 def drawn(chance: random.Random, locales: Sequence[str]) -> Case:
     """A random case."""
+    locale = chance.choice(locales)
     unit, unit_stems, is_money = drawn_unit(chance)
     precision, precision_stem = drawn_precision(chance, is_money)
     is_accounting = "--accounting" in unit
     sign, sign_stem = drawn_sign(chance, is_accounting)
     mode = chance.choice(MODES)
     grouping, grouping_stem = chance.choice(((("--grouping=never",), "group-off"), ((), "group-auto")))
+    if "--percent" in unit and locale in OTHER_GROUPS:
+        grouping, grouping_stem = ("--grouping=never",), "group-off"
     stems = [stem for stem in unit_stems.split() if not stem.startswith("sign-")]
     stems += [precision_stem, sign_stem, f"rounding-mode-{mode}", grouping_stem]
-    return Case(chance.choice(locales), (*unit, *precision, *sign, "--round", mode, *grouping), " ".join(stems))
+    return Case(locale, (*unit, *precision, *sign, "--round", mode, *grouping), " ".join(stems))
 
 
 def drawn_number(chance: random.Random) -> str:
@@ -122,7 +129,7 @@ def main() -> int:
         given = subprocess.run(words, stdout=subprocess.PIPE, stderr=subprocess.PIPE, check=False)
         texts = given.stdout.decode().splitlines() if given.returncode == 0 else [given.stderr.decode().strip()] * EACH
         for number, want, text in zip(numbers, wanted[index * EACH:], texts):
-            if text == want:
+            if text.translate(MARKS) == want.translate(MARKS):
                 passed += 1
                 continue
             failed += 1

@@ -92,8 +92,6 @@ fn push_option(name: &str, text: &str, out: &mut Vec<u8>) -> Result<(), AllocErr
 }
 
 /// Appends what says which digits are written.
-// promise: Digits of a currency and cash are told apart.
-// mutations: rounding_in_cash_told_as_digits
 fn push_digits_reason(
     digits: &DigitsBy<'_>,
     count: usize,
@@ -130,8 +128,6 @@ fn push_mode(mode: Option<&str>, out: &mut Vec<u8>) -> Result<(), AllocError>
 }
 
 /// Appends what says to what a number is rounded.
-// promise: Behind the digits stands the mode, if it is given.
-// mutations: rounding_without_its_mode
 #[tactic(auto, unfolding(crate::specs::Rounding::reason_text))]
 fn push_reason(settings: &Settings<'_>, count: usize, out: &mut Vec<u8>) -> Result<(), AllocError>
     ensures { OnOk result (out.new.items ≡ out.old.items ++ reason_text settings.now count) }
@@ -176,8 +172,6 @@ fn push_numbers(prepared: &Prepared, out: &mut Vec<u8>) -> Result<(), AllocError
 }
 
 /// Appends the line that says from what to what a number was rounded, and by what.
-// promise: The count of digits is that of the fraction.
-// mutations: rounding_by_a_digit_too_many
 fn push_rounded(
     settings: &Settings<'_>,
     prepared: &Prepared,

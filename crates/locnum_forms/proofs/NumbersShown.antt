@@ -104,7 +104,8 @@ module _ (rounding : Rounding) (y : ℕ) where
       (no-rest unit y fits) (told-by (digits_before rounding y) (digits_below rounding y) u y is sizes count scale)
     where
       go : (a b c e : Bool) → nat_le (ten_to (pos 32768)) y ≡ a → nat_lt 32768 rounding.integer_digits ≡ b
-          → nat_lt 32768 (digits_below rounding y) ≡ c → ((y % unit) == 0) ≡ e → ¬ (ten_to (pos 32768) ≤ y) → ¬ (32768 < rounding.integer_digits)
+          → nat_lt 32768 (digits_below rounding y) ≡ c → ((y % unit) == 0) ≡ e → ¬ (ten_to (pos 32768) ≤ y)
+          → ¬ (32768 < rounding.integer_digits)
           → ¬ (32768 < digits_below rounding y) → y % unit ≡ 0 → number_of (digits_before rounding y) (digits_below rounding y) y ≡ u
           → (if a || b || c || not e then Err Overflow else Ok (number_of (digits_before rounding y) (digits_below rounding y) y)) ≡ Ok u
       go true b c e is-a is-b is-c is-e na nb nc whole told = absurd (na (grind (arith, nat_tests)))
@@ -163,7 +164,8 @@ module _ (rounding : Rounding) (minus : Bool) (d : Unsigned) where
   fits = record { is_table = no_table; divides = inl refl }
 
   -- what is shown
-  pub shown-is : (y : ℕ) (entry : Option TableEntry) (u : Unsigned) → IsShown rounding [] minus (size d) y entry u → shown_number rounding minus d ≡ Ok u
+  pub shown-is : (y : ℕ) (entry : Option TableEntry) (u : Unsigned) → IsShown rounding [] minus (size d) y entry u
+      → shown_number rounding minus d ≡ Ok u
   unfolding shown_number
   shown-is y entry u is =
       let divided : y ≡ shown_size rounding minus (size d) =

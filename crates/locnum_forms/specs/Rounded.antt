@@ -1,7 +1,7 @@
 -- How a number is rounded, and with which digits the shown number is written, computed. What it means is stated by `IsShown` of
 -- number_rounding; these definitions follow no step of the code.
-use Rattle.std.specs.Prelude.{ℕ, ◌+◌, ◌-◌, ◌^◌, ◌%◌, ◌==◌, max, nat_le, nat_lt, Bool, false, not, ◌||◌, Option, Some, None, Result, Ok, Err}
-use Rattle.std.specs.Prelude.{if◌then◌else◌, pos}
+use Rattle.std.specs.Prelude.{ℕ, ◌+◌, ◌-◌, ◌^◌, ◌%◌, ◌==◌, max, nat_le, nat_lt, Bool, false, not, ◌||◌, Option, Some, None}
+use Rattle.std.specs.Prelude.{Result, Ok, Err, if◌then◌else◌, pos}
 use Rattle.fixed_decimal.specs.declared.modes.SignedRoundingMode.TheVariants.{Unsigned as OfSizes}
 use Rattle.fixed_decimal.specs.declared.modes.UnsignedRoundingMode.TheVariants.{HalfEven}
 use Rattle.fixed_decimal.specs.declared.signs.Sign.{Sign}

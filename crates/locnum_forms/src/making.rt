@@ -218,7 +218,7 @@ impl Form {
     /// of numbers first, and then, for money, percents and units, of theirs; `NoData` if the tables
     /// lack data that the form needs; `OutOfMemory` if an allocation fails.
     // promise: Options and tables determine the form, or why there is none.
-    // mutations: money_digits_of_cash_exchanged, cash_step_left_out, ceiling_taken_for_floor
+    // mutations: money_digits_of_cash_exchanged, cash_step_left_out
     pub fn make(alloc: Global, wanted: &Wanted<'_>, file: &[u8]) -> Result<Form, StartError>
         ensures text { IsUtf8 file.now → StartsForm result (form_of wanted.now file.now) }
         ensures no_text { ¬ (IsUtf8 file.now) → result ≡ Err StartError.NotUtf8 }

@@ -231,7 +231,7 @@ impl Form {
     /// hundred times the number is too large. Without memory some bytes of what is written may
     /// stand there.
     // promise: The buffer grows by just what the form writes of the text.
-    // mutations: sign_decided_before_rounding, rounded_before_it_is_scaled, compact_money_in_full
+    // mutations: sign_decided_before_rounding, rounded_before_it_is_scaled
     pub fn push(&self, alloc: Global, text: &[u8], out: &mut Vec<u8>) -> Result<(), TextError>
         ensures ok { OnOk result (AppendsEvents (form_events self.now text.now) out.old.items
             out.new.items) }

@@ -47,8 +47,6 @@ fn counts_between(least: &str, behind: &str) -> Option<Counts>
 }
 
 /// The counts of a text: `N`, or `MIN..MAX`.
-// promise: Counts of digits go up to 999.
-// mutations: count_of_a_thousand_let_through
 #[tactic(auto, unfolding(crate::specs::Counts::counts_named))]
 pub(crate) fn counts_named(text: &str) -> Option<Counts>
     ensures { result ≡ counts_named text.now }

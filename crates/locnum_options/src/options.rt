@@ -82,7 +82,7 @@ fn end_of(zero_terminated: bool) -> u8
 ///
 /// `OutOfMemory` may be reported in place of any result.
 // promise: The arguments determine what is asked for, or the fault.
-// mutations: options_header_judged_after_invalid
+// mutations: options_header_judged_after_invalid, two_precisions_let_through
 #[tactic(auto, unfolding(crate::specs::Options::options_of))]
 pub fn parse_options<'a>(alloc: Global, given: &Given<'a>) -> Result<Options<'a>, OptionFault>
     ensures { GivesOption (λ x. x) result (options_of given.now) }

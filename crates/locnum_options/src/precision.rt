@@ -44,8 +44,6 @@ fn significant_of(counts: Counts) -> Result<Precision, OptionFault>
 }
 
 /// Significant digits between two counts; none are asked for by default.
-// promise: Significant digits are counted from 1 on.
-// mutations: significant_zero_let_through
 #[tactic(auto, unfolding(crate::specs::Precision::significant_given))]
 fn significant_given(text: Option<&str>) -> Result<Option<Precision>, OptionFault>
     ensures { result ≡ significant_given (option_map (λ t. t.now) text.entry) }
@@ -117,8 +115,6 @@ fn increment_named(alloc: Global, text: &str) -> Result<Precision, OptionFault>
 }
 
 /// Multiples of an increment; none are asked for by default.
-// promise: An increment is read alone, as skeletons have it.
-// mutations: increment_with_other_settings_let_through
 #[tactic(auto, unfolding(crate::specs::Precision::increment_given))]
 fn increment_given(alloc: Global, text: Option<&str>) -> Result<Option<Precision>, OptionFault>
     ensures { GivesOption (λ x. x) result
@@ -164,8 +160,6 @@ fn precision_named(alloc: Global, given: &Given) -> Result<Option<Precision>, Op
 }
 
 /// How fine numbers are, which one option says; by default as the kind has it.
-// promise: At most one option says how fine numbers are.
-// mutations: two_precisions_let_through, cash_beside_fraction_let_through
 #[tactic(auto, unfolding(crate::specs::Precision::precision_given))]
 pub(crate) fn precision_given(
     alloc: Global,

@@ -38,8 +38,6 @@ fn mode_named(word: &str) -> Result<SignedRoundingMode, OptionFault>
 }
 
 /// Which number is taken; the nearest, and of two equally near the even one, by default.
-// promise: Each word has its rounding mode; half even is the default.
-// mutations: round_half_up_read_as_up
 #[tactic(auto, unfolding(crate::specs::Rounding::mode_given))]
 pub(crate) fn mode_given(word: Option<&str>) -> Result<SignedRoundingMode, OptionFault>
     ensures { result ≡ mode_given (option_map (λ t. t.now) word.entry) }
@@ -83,8 +81,6 @@ fn is_rounded(given: &Given) -> bool
 
 /// A mode, unless a rounding is asked for that compact numbers don't have, or a mode where nothing is
 /// rounded.
-// promise: A rounding mode stands beside what is rounded.
-// mutations: round_without_rounding_let_through, compact_significant_let_through
 #[tactic(auto, unfolding(crate::specs::Rounding::judged_mode))]
 pub(crate) fn judged_mode(
     given: &Given,
