@@ -23,7 +23,7 @@ complete -c locnum -l list -x -a 'locales systems currencies units' -d 'print th
 complete -c locnum -l style -x -a 'plain short long' -d 'plain, short or long; amounts plain or short'
 complete -c locnum -l currency -x -a '(__locnum_list currencies)' -d 'amounts of a currency, such as EUR'
 complete -c locnum -l accounting -d 'amounts as in accounts, as ($1.00)'
-complete -c locnum -l cash -d 'amounts with the fraction digits of cash'
+complete -c locnum -l cash -d 'amounts as in cash, 1.13 francs as CHF 1.15'
 complete -c locnum -l unit -x -a '(__locnum_list units)' -d 'a unit of the tables, such as kilometer'
 complete -c locnum -l width -x -a 'short narrow name long' -d 'short, narrow or name; of units long, too'
 complete -c locnum -l percent -d 'numbers as percents, 0.5 as 50%'

@@ -94,7 +94,7 @@ pub(crate) const OPTIONS: [OptionEntry; 25] = [
         name: "cash",
         letter: None,
         takes: Takes::Nothing,
-        help: "amounts with the fraction digits of cash",
+        help: "amounts as in cash, 1.13 francs as CHF 1.15",
     },
     OptionEntry {
         heading: NUMBERS,
