@@ -1,7 +1,7 @@
 //! The decimal that a form writes for a text, and what writes it.
 
 use crate::form::{Form, Formatter};
-use crate::rounded::{rounded, scaled, signed};
+use crate::rounded::{rounded, scale, signed};
 use decimal_lines::{TextError, read_decimal};
 use fixed_decimal::Decimal;
 use std::alloc::Global;
@@ -36,8 +36,9 @@ impl Form {
         ensures refused { IfErr result (λ error.
             IsRefusal (scaled_decimal self.now text.now) error) }
     {
-        let decimal = read_decimal(alloc, text)?;
-        scaled(alloc, &self.formatter, decimal)
+        let mut decimal = read_decimal(alloc, text)?;
+        scale(alloc, &self.formatter, &mut decimal)?;
+        Ok(decimal)
     }
 
     /// The decimal that is written for a number with the sign of its text.

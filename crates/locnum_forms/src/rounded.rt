@@ -1,6 +1,6 @@
 //! The number that is shown for a number: by its scale and its rounding.
 
-ghost use Rattle.std.specs.Prelude.{◌≡◌, ◌≤◌, ◌↔◌, ◌==◌, ◌-ℤ◌, IfErr, IfOk, IfSome, IsTrue, max, pos};
+ghost use Rattle.std.specs.Prelude.{◌≡◌, ◌≤◌, ◌↔◌, ◌==◌, ◌-ℤ◌, IfErr, IfOk, IfSome, OnOk, IsTrue, max, pos};
 ghost use Rattle.fixed_decimal.specs.Modes.{IsLeastFrom};
 ghost use Rattle.fixed_decimal.specs.Padding.{IsExactWith};
 ghost use Rattle.fixed_decimal.specs.Size.{magnitude, size};
@@ -26,6 +26,7 @@ use skeleton_settings::Precision;
 use std::alloc::Global;
 
 /// The percents of a number.
+#[inline(never)]
 fn percents(alloc: Global, decimal: &Decimal) -> Result<Decimal, TextError>
     ensures ok { IfOk result (λ d. percents decimal.now.absolute ≡ Ok d.absolute) }
     ensures sign { IfOk result (λ d. d.sign ≡ decimal.now.sign) }
@@ -41,24 +42,30 @@ fn percents(alloc: Global, decimal: &Decimal) -> Result<Decimal, TextError>
     }
 }
 
-/// The number that a formatter is given for a number that was read: of percents a hundred times it.
-pub(crate) fn scaled(
+/// Makes the number that a formatter is given of a number that was read: of percents a hundred
+/// times it. Any other number stays where it is.
+#[inline(always)]
+pub(crate) fn scale(
     alloc: Global,
     formatter: &Formatter,
-    decimal: Decimal,
-) -> Result<Decimal, TextError>
-    ensures ok { IfOk result (λ d. scaled formatter.now decimal.absolute ≡ Ok d.absolute) }
-    ensures sign { IfOk result (λ d. d.sign ≡ decimal.sign) }
+    decimal: &mut Decimal,
+) -> Result<(), TextError>
+    ensures ok { OnOk result
+        (scaled formatter.now decimal.old.absolute ≡ Ok decimal.new.absolute) }
+    ensures sign { OnOk result (decimal.new.sign ≡ decimal.old.sign) }
     ensures refused { IfErr result (λ error.
-        IsRefusal (scaled formatter.now decimal.absolute) error) }
+        IsRefusal (scaled formatter.now decimal.old.absolute) error) }
 {
     match formatter {
-        Formatter::Percent(_) => percents(alloc, &decimal),
+        Formatter::Percent(_) => {
+            *decimal = percents(alloc, decimal)?;
+            Ok(())
+        }
         Formatter::Numbers(_)
         | Formatter::Money(_)
         | Formatter::MoneyNamed(_)
         | Formatter::MoneyShort(_)
-        | Formatter::Units(_) => Ok(decimal),
+        | Formatter::Units(_) => Ok(()),
     }
 }
 

@@ -9,7 +9,7 @@ ghost use Rattle.locnum_forms.specs.WrittenOr.{written_or};
 ghost use Rattle.locnum_forms.specs.declared.form.Formatter.TheVariants.{Money, MoneyNamed, MoneyShort, Numbers, Percent, Units};
 
 use crate::form::{Form, Formatter};
-use crate::rounded::{minus_or_none, rounded, scaled, signed};
+use crate::rounded::{minus_or_none, rounded, scale, signed};
 use decimal_lines::{Mode, TextError, read_decimal, write_shown};
 use fixed_decimal::{Decimal, SignDisplay};
 use icu_decimal::DecimalFormatter;
@@ -178,14 +178,14 @@ impl Form {
     fn write_changed<K: EventWriter>(
         &self,
         alloc: Global,
-        decimal: Decimal,
+        mut decimal: Decimal,
         out: &mut K,
     ) -> Result<(), TextError>
         ensures { WroteEvents K.wrote out.old result
             (read_events self.now (decimal.sign, decimal.absolute)) out.new }
     {
-        let number = scaled(alloc, &self.formatter, decimal)?;
-        let rounded = rounded(alloc, number, &self.rounding)?;
+        scale(alloc, &self.formatter, &mut decimal)?;
+        let rounded = rounded(alloc, decimal, &self.rounding)?;
         let shown = signed(rounded, self.sign);
         write_formatted(alloc, &self.formatter, &shown, out)
     }
