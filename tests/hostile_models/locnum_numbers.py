@@ -1,4 +1,4 @@
-"""What locnum writes for a number: plain English, money and percents; the texts of notes, by the page of locnum_forms, and
+"""What locnum writes for a number: plain English, money and percents; the texts of notes, by the page of number_forms, and
 explanations, by that of locnum_explain."""
 import re
 from collections.abc import Iterator

@@ -4,7 +4,7 @@ use crate::streams::Streams;
 use crate::words::{joined, nothing};
 use clap::ArgMatches;
 use locnum_explain::{DigitsBy, Settings, explain_line, explain_lines};
-use locnum_forms::Form;
+use number_forms::Form;
 use locnum_lines::{Refusals, Report, RunError, Source, behind_mark};
 use std::io::{BufRead, BufReader, ErrorKind, Stdin, Write};
 use std::{env, io};

@@ -5,7 +5,7 @@ use crate::held::{code_of, list_of, text_of};
 use crate::positions::push_not_json;
 use icu_table_entries::{EntryFault, Key, TableError};
 use itoa::Buffer;
-use locnum_forms::push_reported;
+use number_forms::push_reported;
 use serde_json::Value;
 use std::alloc::{AllocError, Global};
 

@@ -6,7 +6,7 @@ use crate::held::{
 use crate::near::push_nearest;
 use icu_dimension_data::CurrencyCode;
 use icu_provider::NumberingSystem;
-use locnum_forms::{Kind, UnitWidth, Wanted, push_reported};
+use number_forms::{Kind, UnitWidth, Settings, push_reported};
 use serde_json::Value;
 use std::alloc::{AllocError, Global};
 
@@ -142,10 +142,10 @@ fn lacking_unit<'a>(
 fn lacking_of_kind<'a>(
     alloc: Global,
     tables: &'a Value,
-    wanted: &'a Wanted<'a>,
+    settings: &'a Settings<'a>,
 ) -> Result<Option<Lack<'a>>, AllocError> {
-    let locale = wanted.locale.as_str();
-    match &wanted.kind {
+    let locale = settings.locale.as_str();
+    match &settings.kind {
         Kind::Plain => Ok(None),
         Kind::Short => lacking_kind(alloc, tables, locale, "short numbers", "short"),
         Kind::Long => lacking_kind(alloc, tables, locale, "long numbers", "long"),
@@ -238,14 +238,14 @@ pub(crate) fn push_lacking(
     alloc: Global,
     tables: &Value,
     is_program: bool,
-    wanted: &Wanted<'_>,
+    settings: &Settings<'_>,
     out: &mut Vec<u8>,
 ) -> Result<(), AllocError> {
-    let locale = wanted.locale.as_str();
+    let locale = settings.locale.as_str();
     if !has_locale(tables, "symbols", locale) {
         return push_no_locale(alloc, tables, is_program, locale, out);
     }
-    if let Some(lack) = lacking_of_kind(alloc, tables, wanted)? {
+    if let Some(lack) = lacking_of_kind(alloc, tables, settings)? {
         return push_lack(alloc, locale, &lack, out);
     }
     out.extend_from_slice(locale.as_bytes())?;

@@ -26,7 +26,7 @@ mod words;
 use clap::ArgMatches;
 use command::{command, given};
 use icu_provider::DataLocale;
-use locnum_forms::{Form, StartError, Wanted};
+use number_forms::{Form, StartError, Settings};
 use locnum_options::{Environment, Given, OptionFault, Options, parse_options};
 use lone_locale::locale_of_tables;
 use mistakes::status_of_words;
@@ -78,14 +78,14 @@ fn put_note(rt: &HostRuntime, note: &[u8]) -> Failure {
 /// Why there is no form by the tables; it is reported.
 fn failure_of(
     rt: &HostRuntime,
-    wanted: &Wanted<'_>,
+    settings: &Settings<'_>,
     file: TablesFile<'_>,
     error: StartError,
 ) -> Failure {
     if error == StartError::OutOfMemory {
         return Failure::OutOfMemory;
     }
-    match note_of_failure(rt.alloc(), file, wanted, error) {
+    match note_of_failure(rt.alloc(), file, settings, error) {
         Ok(note) => put_note(rt, &note),
         Err(_) => Failure::OutOfMemory,
     }
@@ -110,12 +110,12 @@ fn in_locale<'a>(options: Options<'a>, locale: Option<DataLocale>) -> Options<'a
         return options;
     };
     let Options {
-        wanted,
+        settings,
         lines,
         explain,
     } = options;
     Options {
-        wanted: Wanted { locale, ..wanted },
+        settings: Settings { locale, ..settings },
         lines,
         explain,
     }
@@ -129,28 +129,28 @@ fn run_by_tables(
     file: TablesFile<'_>,
 ) -> Result<u8, Failure> {
     let options = in_locale(options, only_locale(rt, matches, file));
-    let form = match Form::make(rt.alloc(), &options.wanted, file.bytes) {
+    let form = match Form::of(rt.alloc(), &options.settings, file.bytes) {
         Ok(form) => form,
-        Err(error) => return Err(failure_of(rt, &options.wanted, file, error)),
+        Err(error) => return Err(failure_of(rt, &options.settings, file, error)),
     };
-    if let Some(note) = note_of_system(rt.alloc(), file, &options.wanted)? {
+    if let Some(note) = note_of_system(rt.alloc(), file, &options.settings)? {
         return Err(put_note(rt, &note));
     }
     let numbers = numbers_given(rt.alloc(), matches)?;
-    let heading = heading(rt.alloc(), file, &options.wanted)?;
+    let heading = heading(rt.alloc(), file, &options.settings)?;
     Ok(run_formed(rt, matches, options, &form, &heading, numbers.as_deref()))
 }
 
 /// Lists what the tables hold, of a locale where one is asked for; the status.
 fn list_asked(
     rt: &HostRuntime,
-    wanted: &Wanted<'_>,
+    settings: &Settings<'_>,
     file: TablesFile<'_>,
     word: &str,
     has_locale: bool,
 ) -> Result<u8, Failure> {
     let locale = if has_locale {
-        Some(wanted.locale.as_str())
+        Some(settings.locale.as_str())
     } else {
         None
     };
@@ -171,7 +171,7 @@ fn run_options(
         return Err(Failure::Names);
     }
     let path = matches.get_str("tables").or(tables);
-    let read = read_tables(rt, path, options.wanted.locale.as_str())?;
+    let read = read_tables(rt, path, options.settings.locale.as_str())?;
     let file = TablesFile {
         path: read.path.as_deref(),
         bytes: &read.bytes,
@@ -180,7 +180,7 @@ fn run_options(
         Some(word) => {
             list_asked(
                 rt,
-                &options.wanted,
+                &options.settings,
                 file,
                 word,
                 matches.contains_id("locale"),

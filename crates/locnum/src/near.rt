@@ -1,6 +1,6 @@
 //! The names that are most like another one.
 
-use locnum_forms::push_reported;
+use number_forms::push_reported;
 use std::alloc::{AllocError, Global};
 use std::cmp::Ordering;
 use strsim::jaro_winkler;

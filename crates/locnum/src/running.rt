@@ -6,7 +6,7 @@ use crate::explained_fields::explain_fields;
 use crate::streams::Streams;
 use crate::words::run_words;
 use clap::ArgMatches;
-use locnum_forms::Form;
+use number_forms::Form;
 use locnum_lines::{FieldRange, LineSettings, Refusals, Report, RunError, run};
 use locnum_options::{Explain, Options};
 use std::str;

@@ -4,7 +4,7 @@ use crate::faults::push_fault;
 use crate::held::has_locale;
 use crate::lacks::{has_system, push_lacking, push_no_locale, push_no_system};
 use crate::listed::{lines_of, listed_named};
-use locnum_forms::{Kind, StartError, Wanted, push_reported};
+use number_forms::{Kind, StartError, Settings, push_reported};
 use serde_json::Value;
 use std::alloc::{AllocError, Global};
 use std::str;
@@ -48,14 +48,14 @@ fn key_of(kind: &Kind<'_>) -> &'static str {
 pub(crate) fn heading(
     alloc: Global,
     file: TablesFile<'_>,
-    wanted: &Wanted<'_>,
+    settings: &Settings<'_>,
 ) -> Result<Vec<u8>, AllocError> {
     let mut line = Vec::new(alloc);
     push_file(file.path, &mut line)?;
     line.extend_from_slice(b"locale ")?;
-    line.extend_from_slice(wanted.locale.as_str().as_bytes())?;
+    line.extend_from_slice(settings.locale.as_str().as_bytes())?;
     line.extend_from_slice(b", ")?;
-    line.extend_from_slice(key_of(&wanted.kind).as_bytes())?;
+    line.extend_from_slice(key_of(&settings.kind).as_bytes())?;
     line.push(b'\n')?;
     Ok(line)
 }
@@ -77,11 +77,11 @@ fn push_kind(kind: &Kind<'_>, out: &mut Vec<u8>) -> Result<(), AllocError> {
 }
 
 /// Appends a line with the command that makes a file of tables.
-fn push_command(wanted: &Wanted<'_>, out: &mut Vec<u8>) -> Result<(), AllocError> {
-    let locale = wanted.locale.as_str().as_bytes();
+fn push_command(settings: &Settings<'_>, out: &mut Vec<u8>) -> Result<(), AllocError> {
+    let locale = settings.locale.as_str().as_bytes();
     out.extend_from_slice(b"locnum: to make one: tools/cldr_to_tables.py core.zip ")?;
     out.extend_from_slice(locale)?;
-    push_kind(&wanted.kind, out)?;
+    push_kind(&settings.kind, out)?;
     out.extend_from_slice(b" -o ")?;
     out.extend_from_slice(locale)?;
     out.extend_from_slice(b".json\n")
@@ -97,13 +97,13 @@ fn push_not_utf8(path: Option<&str>, out: &mut Vec<u8>) -> Result<(), AllocError
 fn push_no_data(
     alloc: Global,
     file: TablesFile<'_>,
-    wanted: &Wanted<'_>,
+    settings: &Settings<'_>,
     out: &mut Vec<u8>,
 ) -> Result<(), AllocError> {
     let Some(tables) = document_of(alloc, file.bytes) else {
         return Err(AllocError);
     };
-    push_lacking(alloc, &tables, file.path.is_none(), wanted, out)
+    push_lacking(alloc, &tables, file.path.is_none(), settings, out)
 }
 
 /// Appends where tables are at fault.
@@ -126,7 +126,7 @@ fn push_refused(
 pub(crate) fn note_of_failure(
     alloc: Global,
     file: TablesFile<'_>,
-    wanted: &Wanted<'_>,
+    settings: &Settings<'_>,
     error: StartError,
 ) -> Result<Vec<u8>, AllocError> {
     let mut note = Vec::from_slice(alloc, b"locnum: ")?;
@@ -135,10 +135,10 @@ pub(crate) fn note_of_failure(
         note.push(b'\n')?;
         return Ok(note);
     }
-    push_no_data(alloc, file, wanted, &mut note)?;
+    push_no_data(alloc, file, settings, &mut note)?;
     note.push(b'\n')?;
     if file.path.is_none() {
-        push_command(wanted, &mut note)?;
+        push_command(settings, &mut note)?;
     }
     Ok(note)
 }
@@ -148,15 +148,15 @@ pub(crate) fn note_of_failure(
 pub(crate) fn note_of_system(
     alloc: Global,
     file: TablesFile<'_>,
-    wanted: &Wanted<'_>,
+    settings: &Settings<'_>,
 ) -> Result<Option<Vec<u8>>, AllocError> {
-    let Some(system) = &wanted.system else {
+    let Some(system) = &settings.system else {
         return Ok(None);
     };
     let Some(tables) = document_of(alloc, file.bytes) else {
         return Err(AllocError);
     };
-    let locale = wanted.locale.as_str();
+    let locale = settings.locale.as_str();
     if has_system(&tables, locale, system.as_str()) {
         return Ok(None);
     }

@@ -2,7 +2,7 @@
 
 use crate::streams::Streams;
 use clap::ArgMatches;
-use locnum_forms::Form;
+use number_forms::Form;
 use locnum_lines::{LineSettings, Refusals, Report, RunError, Source, run};
 use std::alloc::{AllocError, Global};
 use std::fs;

@@ -11,7 +11,7 @@ use Rattle.decimal_lines.specs.Computed.{nearest_number}
 use Rattle.decimal_lines.proofs.Displaying.{number-nearest, past-number}
 use Rattle.icu_dimension.specs.CompactMoney.{CompactMoney, entry_shown, formatter_of}
 use Rattle.fixed_decimal.specs.declared.signs.Sign.{Sign}
-use Rattle.locnum_forms.proofs.CompactMoney.{compacted-told}
+use Rattle.number_forms.proofs.CompactMoney.{compacted-told}
 use Rattle.locnum_explain.specs.Compact.{compact_facts, decomposed_lines, entry_lines, frame_for, frame_line, has_entry, is_past, showable_line}
 use Rattle.locnum_explain.proofs.Entries.{decomposed-given}
 

@@ -5,7 +5,7 @@ use Rattle.std.proofs.Common.{add-one, append_assoc}
 use Rattle.std.proofs.Math.Seq.{drop-cons}
 use Rattle.std.proofs.lemmas.List.{append-nil, drop-map, drop_all}
 use Rattle.std.specs.Prelude.{◌&&◌, ◌||◌, if◌then◌else◌}
-use Rattle.locnum_forms.specs.Forms.{FormData}
+use Rattle.number_forms.specs.Forms.{FormData}
 use Rattle.locnum_explain.specs.declared.settings.Settings.{Settings}
 use Rattle.locnum_explain.specs.Texts.{is_line_refused, is_one_refused, line_explained, lines_explained}
 

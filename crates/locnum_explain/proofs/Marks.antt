@@ -8,7 +8,7 @@ use Rattle.writeable.specs.Events.{Event}
 use Rattle.icu_decimal.specs.CompactFormat.{CompactFormat, FormattedCompact, IsCompacted, events_with_exponent, significand_of}
 use Rattle.icu_dimension.specs.CompactMoney.{CompactMoney, entry_shown, formatter_of}
 use Rattle.icu_dimension.specs.Money.{sign_framed}
-use Rattle.locnum_forms.proofs.CompactMoney.{compacted-told}
+use Rattle.number_forms.proofs.CompactMoney.{compacted-told}
 use Rattle.locnum_explain.specs.Marks.{amount_marks, marks_with_exponent, number_marks}
 
 -- the parts of the compact number that was made of a decimal, by its significand and its exponent

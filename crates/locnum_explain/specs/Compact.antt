@@ -9,7 +9,7 @@ use Rattle.icu_decimal.specs.CompactNumber.{rounding_place_for}
 use Rattle.icu_dimension_data.specs.Resolved.{Signed}
 use Rattle.icu_dimension.specs.CompactMoney.{CompactMoney, entry_shown, formatter_of}
 use Rattle.decimal_lines.specs.Computed.{nearest_number, significand_shown}
-use Rattle.locnum_forms.specs.CompactMoney.{compacted}
+use Rattle.number_forms.specs.CompactMoney.{compacted}
 use Rattle.locnum_explain.specs.Around.{around_line}
 use Rattle.locnum_explain.specs.Facts.{entry_line, pattern_line}
 use Rattle.locnum_explain.specs.Operands.{operands_line}

@@ -7,11 +7,11 @@ use Rattle.fixed_decimal.specs.Unsigned.{Unsigned}
 use Rattle.decimal_lines.specs.declared.single_text.TextError.{TextError}
 use Rattle.decimal_lines.specs.declared.single_text.TextError.TheVariants.{NotDecimal, TooManyDigits, Overflow, OutOfMemory}
 use Rattle.decimal_lines.specs.declared.mode.Mode.TheVariants.{Plain, Compact}
-use Rattle.locnum_forms.specs.Decimals.{scaled_decimal, shown_decimal}
-use Rattle.locnum_forms.specs.Forms.{FormData, form_events}
-use Rattle.locnum_forms.specs.declared.form.Formatter.{Formatter}
-use Rattle.locnum_forms.specs.declared.form.Formatter.TheVariants.{Numbers, Money, MoneyNamed, MoneyShort, Percent, Units}
-use Rattle.locnum_forms.specs.Reported.{reported}
+use Rattle.number_forms.specs.Decimals.{scaled_decimal, shown_decimal}
+use Rattle.number_forms.specs.Forms.{FormData, form_events}
+use Rattle.number_forms.specs.declared.form.Formatter.{Formatter}
+use Rattle.number_forms.specs.declared.form.Formatter.TheVariants.{Numbers, Money, MoneyNamed, MoneyShort, Percent, Units}
+use Rattle.number_forms.specs.Reported.{reported}
 use Rattle.locnum_explain.specs.declared.settings.Settings.{Settings}
 use Rattle.locnum_explain.specs.Facts.{magnitude_line}
 use Rattle.locnum_explain.specs.Operands.{operands_line}

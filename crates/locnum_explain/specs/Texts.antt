@@ -3,7 +3,7 @@ use Rattle.std.specs.Prelude.{ℕ, ◌-◌, Bool, ◌&&◌, List, [], ◌∷◌,
 use Rattle.std.specs.Char.{is_ascii_whitespace}
 use Rattle.std.specs.List.{list_any, prefix_len, suffix_len}
 use Rattle.std.specs.Result.{is_err}
-use Rattle.locnum_forms.specs.Forms.{FormData, form_events}
+use Rattle.number_forms.specs.Forms.{FormData, form_events}
 use Rattle.locnum_explain.specs.declared.settings.Settings.{Settings}
 use Rattle.locnum_explain.specs.Lines.{form_explanation}
 

@@ -3,10 +3,10 @@
 ghost use Rattle.std.specs.Prelude.{◌≡◌, ◌≢◌, ◌++◌, IfOk, Ok, OnOk, codes, true};
 ghost use Rattle.std.specs.Result.{is_err};
 ghost use Rattle.fixed_decimal.specs.Unsigned.{IsUnsigned};
-ghost use Rattle.locnum_forms.specs.Decimals.{scaled_decimal, shown_decimal};
-ghost use Rattle.locnum_forms.specs.Forms.{form_events, formatter_events};
-ghost use Rattle.locnum_forms.specs.Reported.{reported};
-ghost use Rattle.locnum_forms.specs.declared.form.Formatter.TheVariants.{MoneyNamed, Units};
+ghost use Rattle.number_forms.specs.Decimals.{scaled_decimal, shown_decimal};
+ghost use Rattle.number_forms.specs.Forms.{form_events, formatter_events};
+ghost use Rattle.number_forms.specs.Reported.{reported};
+ghost use Rattle.number_forms.specs.declared.form.Formatter.TheVariants.{MoneyNamed, Units};
 ghost use Rattle.locnum_explain.specs.Lines.{detail_lines, fact_lines, form_explanation, outcome_lines, refusal_line, written_lines};
 
 use crate::compact::{push_amount, push_compact};
@@ -20,7 +20,7 @@ use decimal_lines::{Mode, TextError};
 use fixed_decimal::Decimal;
 use icu_decimal::DecimalFormatter;
 use icu_dimension::{LongCurrencyFormatter, UnitsFormatter};
-use locnum_forms::{Form, Formatter, Prepared, push_reported};
+use number_forms::{Form, Formatter, Prepared, push_reported};
 use std::alloc::{AllocError, Global};
 use writeable::PartsText;
 

@@ -7,7 +7,7 @@ ghost use Rattle.locnum_explain.specs.Rounding.{IsShortest, counted_digits, deci
 use crate::settings::{DigitsBy, Settings};
 use fixed_decimal::{Decimal, Sign, UnsignedDecimal};
 use itoa::Buffer;
-use locnum_forms::Prepared;
+use number_forms::Prepared;
 use std::alloc::{AllocError, Global};
 
 /// Appends a sign.

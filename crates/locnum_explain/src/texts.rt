@@ -3,11 +3,11 @@
 ghost use Rattle.std.specs.Prelude.{◌≡◌, ◌++◌, ◌&&◌, IfOk, OnOk, map};
 ghost use Rattle.locnum_explain.specs.Texts.{is_line_refused, is_one_refused, line_explained, lines_explained, positioned_explanation, trimmed};
 ghost use Rattle.std.specs.Result.{is_err};
-ghost use Rattle.locnum_forms.specs.Forms.{form_events};
+ghost use Rattle.number_forms.specs.Forms.{form_events};
 
 use crate::explaining::explain;
 use crate::settings::Settings;
-use locnum_forms::Form;
+use number_forms::Form;
 use std::alloc::{AllocError, Global};
 
 /// The text of a line: what is left of it without the white space of ASCII at its ends.

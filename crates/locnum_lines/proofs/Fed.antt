@@ -3,7 +3,7 @@ use Rattle.std.proofs.Common.{◌≡◌, ℕ, true, false, List, [], ◌∷◌, 
 use Rattle.std.proofs.Common.{ap, ◌∙◌, append_assoc}
 use Rattle.std.proofs.lemmas.Bool.{false≢true}
 use Rattle.std.proofs.lemmas.List.{append-nil}
-use Rattle.locnum_forms.specs.Forms.{FormData}
+use Rattle.number_forms.specs.Forms.{FormData}
 use Rattle.locnum_lines.specs.Gathered.{Adds, Feeds, GatheredData}
 use Rattle.locnum_lines.specs.Ran.{joined_runs}
 use Rattle.locnum_lines.specs.RecordRuns.{record_ran, records_ran}

@@ -9,7 +9,7 @@ use Rattle.std.proofs.lemmas.Bool.Decides.{nat_tests}
 use Rattle.std.proofs.lemmas.List.{get_or-take, drop_more, take-append-drop}
 use Rattle.memchr.specs.Find.{NoneBefore, Nowhere, Passes, is_byte}
 use Rattle.decimal_lines.specs.Lines.{onto_first}
-use Rattle.locnum_forms.specs.Forms.{FormData}
+use Rattle.number_forms.specs.Forms.{FormData}
 use Rattle.locnum_lines.specs.Fields.{is_quoted}
 use Rattle.locnum_lines.specs.Ran.{then_runs, writes}
 use Rattle.locnum_lines.specs.RecordRuns.{next_ran, open_ran, record_ran, records_ran}

@@ -7,7 +7,7 @@ use Rattle.std.proofs.Math.Seq.{take-length}
 use Rattle.std.specs.Prelude.{max, option_map, if◌then◌else◌}
 use Rattle.std.proofs.lemmas.Bool.{false≢true}
 use Rattle.locnum_lines.specs.RecordRuns.{line_by, line_ran, named_ran, next_ran, open_ran, unended_ran}
-use Rattle.locnum_forms.specs.Forms.{FormData}
+use Rattle.number_forms.specs.Forms.{FormData}
 use Rattle.locnum_lines.specs.FieldRuns.{field_ran, fields_ran, picked_ran}
 use Rattle.locnum_lines.specs.Fields.{Field, field_length, fields_from}
 use Rattle.locnum_lines.specs.Gathered.{Adds, GatheredData, GoesOn, IsFirstOf}

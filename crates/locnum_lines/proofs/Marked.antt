@@ -9,7 +9,7 @@ use Rattle.std.proofs.Math.Nat.{zero-max}
 use Rattle.std.proofs.lemmas.List.{append-nil, drop-append-le, take-append-le}
 use Rattle.decimal_lines.specs.Written.{AppendsBeginning, AppendsProperBeginning}
 use Rattle.decimal_lines.proofs.Known.{Appends-then, AppendsBeginning-more, AppendsBeginning-nothing, AppendsBeginning-then}
-use Rattle.locnum_forms.specs.Forms.{FormData}
+use Rattle.number_forms.specs.Forms.{FormData}
 use Rattle.locnum_lines.specs.Front.{is_marked, mark_length}
 use Rattle.locnum_lines.specs.Ran.{Ran, joined_runs, writes}
 use Rattle.locnum_lines.specs.RecordRuns.{behind_mark, input_ran, rest_ran}

@@ -8,7 +8,7 @@ use Rattle.writeable.specs.Events.{Event, text_of}
 use Rattle.decimal_lines.specs.SingleText.{AppendsEvents, IsRefusal}
 use Rattle.decimal_lines.specs.declared.single_text.TextError.{TextError}
 use Rattle.decimal_lines.specs.declared.single_text.TextError.TheVariants.{OutOfMemory}
-use Rattle.locnum_forms.specs.Forms.{FormData, form_events}
+use Rattle.number_forms.specs.Forms.{FormData, form_events}
 use Rattle.locnum_lines.specs.FieldRuns.{blanks_kept, chosen_ran, csv_cut_ran, field_ran, held_by, picked_ran, refused_ran, writes_number}
 use Rattle.locnum_lines.specs.Csv.{as_field, core_length, is_in_quotes}
 use Rattle.locnum_lines.specs.Fields.{Cut, cut_field}

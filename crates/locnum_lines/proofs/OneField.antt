@@ -10,7 +10,7 @@ use Rattle.std.proofs.lemmas.Bool.Decides.{nat_tests}
 use Rattle.writeable.specs.Events.{Event, text_of}
 use Rattle.decimal_lines.specs.SingleText.{decimal_read, within_or}
 use Rattle.decimal_lines.specs.declared.single_text.TextError.{TextError}
-use Rattle.locnum_forms.specs.Forms.{FormData, ◌>>=◌, form_events, read_events}
+use Rattle.number_forms.specs.Forms.{FormData, ◌>>=◌, form_events, read_events}
 use Rattle.fixed_decimal.specs.declared.signs.Sign.{Sign}
 use Rattle.fixed_decimal.specs.declared.signs.Sign.TheVariants.{None as no_sign, Negative, Positive}
 use Rattle.fixed_decimal.specs.Reading.{Digits, after_integer, digit_before, leading_digits, reading, signed, unsigned_reading, with_fraction}

@@ -2,7 +2,7 @@
 use Rattle.std.proofs.Common.{◌≡◌, ℕ, ◌+◌, ◌≤◌, false, List, [], ◌∷◌, ◌++◌, get_or}
 use Rattle.std.proofs.Common.{take, Option, Some, None, refl, sym, ap, ◌∙◌, append_assoc, arith}
 use Rattle.std.proofs.lemmas.List.{take_all, take_more}
-use Rattle.locnum_forms.specs.Forms.{FormData}
+use Rattle.number_forms.specs.Forms.{FormData}
 use Rattle.locnum_lines.specs.Fields.{field_length}
 use Rattle.locnum_lines.specs.Gathered.{GatheredData, GoesOn}
 use Rattle.locnum_lines.specs.Passed.{IsPassed}

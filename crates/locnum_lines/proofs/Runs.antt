@@ -10,7 +10,7 @@ use Rattle.std.proofs.lemmas.Bool.{eqb-true, false≢true}
 use Rattle.std.proofs.lemmas.List.{append-nil}
 use Rattle.decimal_lines.specs.Written.{AppendsBeginning}
 use Rattle.decimal_lines.proofs.Known.{Appends-nothing, Appends-then, AppendsBeginning-more, AppendsBeginning-then}
-use Rattle.locnum_forms.specs.Forms.{FormData}
+use Rattle.number_forms.specs.Forms.{FormData}
 use Rattle.locnum_lines.specs.Gathered.{Adds, Feeds, GatheredData}
 use Rattle.locnum_lines.specs.Ran.{Ran, first_of, joined_runs, then_runs, writes}
 use Rattle.locnum_lines.specs.RecordRuns.{rest_ran, record_ran, records_ran}

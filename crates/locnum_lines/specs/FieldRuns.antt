@@ -3,7 +3,7 @@ use Rattle.std.specs.Prelude.{ℕ, suc, true, false, nat_lt, List, [], ◌∷◌
 use Rattle.std.specs.Prelude.{Result, Ok, Err, if◌then◌else◌}
 use Rattle.writeable.specs.Events.{Event, text_of}
 use Rattle.decimal_lines.specs.declared.single_text.TextError.{TextError}
-use Rattle.locnum_forms.specs.Forms.{FormData, form_events}
+use Rattle.number_forms.specs.Forms.{FormData, form_events}
 use Rattle.locnum_lines.specs.Csv.{as_field, content_from, core_length, is_in_quotes}
 use Rattle.locnum_lines.specs.Fields.{Cut, Field, cut_field, field_length}
 use Rattle.locnum_lines.specs.Notes.{note, position_text}

@@ -1,7 +1,7 @@
 -- What was gathered of an input's output and notes.
 use Rattle.std.specs.Prelude.{◌≡◌, ℕ, suc, max, ◌<◌, ◌≤◌, Bool, false, ◌||◌, List, ◌++◌, length, Option}
 use Rattle.std.specs.Prelude.{Some, None, IfSome, option_map}
-use Rattle.locnum_forms.specs.Forms.{FormData}
+use Rattle.number_forms.specs.Forms.{FormData}
 use Rattle.locnum_lines.specs.FieldRuns.{fields_ran}
 use Rattle.locnum_lines.specs.Fields.{fields_from}
 use Rattle.locnum_lines.specs.Ran.{Ran, first_of, joined_runs}

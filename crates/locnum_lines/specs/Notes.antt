@@ -3,7 +3,7 @@ use Rattle.std.specs.Prelude.{ℕ, ◌+◌, ◌-◌, List, [], ◌∷◌, ◌++�
 use Rattle.std.specs.List.{flat_map, slice_get}
 use Rattle.decimal_lines.specs.declared.single_text.TextError.{TextError}
 use Rattle.decimal_lines.specs.declared.single_text.TextError.TheVariants.{NotDecimal, TooManyDigits, Overflow, OutOfMemory}
-use Rattle.locnum_forms.specs.Reported.{reported}
+use Rattle.number_forms.specs.Reported.{reported}
 use Rattle.locnum_lines.specs.Nearest.{nearest}
 use Rattle.locnum_lines.specs.declared.settings.Source.{Source}
 use Rattle.locnum_lines.specs.declared.settings.Source.TheVariants.{Lines, Word}

@@ -1,7 +1,7 @@
 -- What is written for the records of an input.
 use Rattle.std.specs.Prelude.{ℕ, zero, suc, ◌+◌, ◌==◌, false, true, List, [], ◌∷◌, ◌++◌, Option, Some, None, take, drop}
 use Rattle.std.specs.Prelude.{if◌then◌else◌}
-use Rattle.locnum_forms.specs.Forms.{FormData}
+use Rattle.number_forms.specs.Forms.{FormData}
 use Rattle.locnum_lines.specs.FieldRuns.{fields_ran}
 use Rattle.locnum_lines.specs.Fields.{fields_from}
 use Rattle.locnum_lines.specs.Front.{mark_length}

@@ -12,7 +12,7 @@ use crate::gathered::Gathered;
 use crate::line::push_record;
 use crate::records::{is_open_behind, lines_in, state_after, state_behind};
 use crate::settings::LineSettings;
-use locnum_forms::Form;
+use number_forms::Form;
 use memchr::memchr_iter;
 use std::alloc::{AllocError, Global};
 

@@ -2,7 +2,7 @@
 
 ghost use Rattle.std.specs.Prelude.{◌≡◌, ◌≢◌, ◌≤◌, ◌<◌, ◌+◌, ◌^◌, length, ◌++◌, OnOk, IfErr, Ok, Some, List, drop, false, take, true};
 ghost use Rattle.decimal_lines.specs.SingleText.{IsRefusal};
-ghost use Rattle.locnum_forms.specs.Forms.{form_events};
+ghost use Rattle.number_forms.specs.Forms.{form_events};
 ghost use Rattle.locnum_lines.specs.FieldRuns.{blanks_kept, chosen_ran, csv_cut_ran, field_ran, held_by, refused_ran};
 ghost use Rattle.locnum_lines.specs.Csv.{as_field, content_from, core_length, is_in_quotes};
 ghost use Rattle.locnum_lines.specs.Fields.{cut_field};
@@ -21,7 +21,7 @@ use crate::gathered::Gathered;
 use crate::padding::{Width, padding_width, width_by};
 use crate::settings::{Delimiter, LineSettings, Refusals};
 use decimal_lines::TextError;
-use locnum_forms::Form;
+use number_forms::Form;
 use std::alloc::{AllocError, Global};
 
 /// A number that is rejected in a field of this number, and what is behind it.

@@ -19,7 +19,7 @@ use crate::note::push_unended_note;
 use crate::records::{last_begun, last_end, lines_in};
 use crate::settings::LineSettings;
 use crate::whole::push_whole;
-use locnum_forms::Form;
+use number_forms::Form;
 use std::alloc::{AllocError, Global};
 
 /// That many bytes of a line and the one behind them, as they are. The result is the rest behind

@@ -10,7 +10,7 @@ use crate::nearest::nearest;
 use crate::settings::Source;
 use decimal_lines::TextError;
 use itoa::Buffer;
-use locnum_forms::push_reported;
+use number_forms::push_reported;
 use std::alloc::{AllocError, Global};
 
 /// Why a text is rejected.

@@ -16,7 +16,7 @@ use crate::gathered::Gathered;
 use crate::line::push_last;
 use crate::settings::LineSettings;
 use decimal_lines::write_piece;
-use locnum_forms::Form;
+use number_forms::Form;
 use std::alloc::{AllocError, Global};
 use std::io::{Read, Write};
 use std::marker::Model;

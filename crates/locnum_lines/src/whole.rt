@@ -6,7 +6,7 @@
 //! built at level 1). A record that ends otherwise takes a try more, so the tries are counted.
 
 ghost use Rattle.std.specs.Prelude.{◌≡◌, ◌≤◌, ◌++◌, ◌⊎◌, [], Ok, None, List, IfOk, MatchBool, false, true};
-ghost use Rattle.locnum_forms.specs.Forms.{form_events};
+ghost use Rattle.number_forms.specs.Forms.{form_events};
 ghost use Rattle.locnum_lines.specs.FieldRuns.{held_by};
 ghost use Rattle.locnum_lines.specs.Gathered.{GoesOn};
 ghost use Rattle.locnum_lines.specs.Padding.{padded};
@@ -22,7 +22,7 @@ use crate::gathered::Gathered;
 use crate::padding::columns_of;
 use crate::settings::{Delimiter, LineSettings};
 use decimal_lines::TextError;
-use locnum_forms::Form;
+use number_forms::Form;
 use std::alloc::{AllocError, Global};
 
 /// How often the guess may still be wrong before it isn't made any more.

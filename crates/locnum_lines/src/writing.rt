@@ -6,13 +6,13 @@ use crate::holding::hold;
 use crate::padding::{Alignment, Width, columns_of};
 use crate::settings::Delimiter;
 use decimal_lines::TextError;
-use locnum_forms::Form;
+use number_forms::Form;
 use std::alloc::{AllocError, Global};
 
 impl Gathered {
     ghost use Rattle.std.specs.Prelude.{◌≡◌, ◌≢◌, ◌++◌, List, IfErr, Ok, OnOk, Some};
     ghost use Rattle.decimal_lines.specs.SingleText.{IsRefusal};
-    ghost use Rattle.locnum_forms.specs.Forms.{form_events};
+    ghost use Rattle.number_forms.specs.Forms.{form_events};
     ghost use Rattle.locnum_lines.specs.Csv.{as_field};
     ghost use Rattle.locnum_lines.specs.FieldRuns.{held_by};
     ghost use Rattle.locnum_lines.specs.Padding.{padded, spaces};

@@ -9,10 +9,10 @@ use Rattle.icu_dimension.specs.declared.options.CurrencySign.TheVariants.{Standa
 use Rattle.icu_dimension.specs.declared.options.Width.{Width}
 use Rattle.icu_dimension.specs.declared.options.Width.TheVariants as width
 use Rattle.icu_dimension_data.specs.Currency.{is_currency_code}
-use Rattle.locnum_forms.specs.declared.wanted.Kind.{Kind}
-use Rattle.locnum_forms.specs.declared.wanted.Kind.TheVariants.{Plain, Short, Long, Money, MoneyNamed, MoneyShort, Percent, Unit}
-use Rattle.locnum_forms.specs.declared.wanted.UnitWidth.{UnitWidth}
-use Rattle.locnum_forms.specs.declared.wanted.UnitWidth.TheVariants as unit
+use Rattle.number_forms.specs.declared.settings.Kind.{Kind}
+use Rattle.number_forms.specs.declared.settings.Kind.TheVariants.{Plain, Short, Long, Money, MoneyNamed, MoneyShort, Percent, Unit}
+use Rattle.number_forms.specs.declared.settings.UnitWidth.{UnitWidth}
+use Rattle.number_forms.specs.declared.settings.UnitWidth.TheVariants as unit
 use Rattle.locnum_options.specs.Given.{flag_of, look_up, text_of}
 use Rattle.locnum_options.specs.declared.given.Given.{Given}
 use Rattle.locnum_options.specs.declared.fault.OptionFault.{OptionFault}

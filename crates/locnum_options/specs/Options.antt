@@ -1,6 +1,6 @@
 -- What the options ask for.
 use Rattle.std.specs.Prelude.{◌≡◌, ℕ, Bool, false, ◌⊎◌, List, [], ◌∷◌, Option, Some, None, Result, Ok, Err, codes, if◌then◌else◌}
-use Rattle.locnum_forms.specs.Wanted.{WantedData}
+use Rattle.number_forms.specs.Settings.{FormSettings}
 use Rattle.locnum_lines.specs.Settings.{SettingsData}
 use Rattle.locnum_lines.specs.declared.padding.Padding.{Padding}
 use Rattle.locnum_lines.specs.declared.settings.Source.TheVariants.{Lines}
@@ -21,7 +21,7 @@ use Rattle.locnum_options.specs.declared.fault.OptionFault.TheVariants as fault
 
 -- the form of numbers, the fields of lines, and what is explained instead
 pub record OptionsData : Type 0 where
-  pub wanted : WantedData
+  pub settings : FormSettings
   pub lines : SettingsData
   pub explain : Explain
 
@@ -64,7 +64,7 @@ options_of given = do
   padding ← padding_given (text_of given (codes "padding"))
   refusals ← refusals_given (text_of given (codes "invalid"))
   Ok (record {
-    wanted = record {
+    settings = record {
       locale = locale;
       system = system;
       grouping = grouping;

@@ -7,7 +7,7 @@ use crate::fault::OptionFault;
 use crate::given::Given;
 use icu_dimension::options::{CurrencySign, Width};
 use icu_dimension_data::CurrencyCode;
-use locnum_forms::{Kind, UnitWidth};
+use number_forms::{Kind, UnitWidth};
 
 /// The style; plain by default.
 #[tactic(auto, unfolding(crate::specs::Kinds::style_given))]

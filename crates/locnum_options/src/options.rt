@@ -14,7 +14,7 @@ use crate::padding::padding_named;
 use crate::precision::precision_given;
 use crate::rounding::{is_compact_kind, judged_mode, mode_given};
 use crate::words::{field_end_given, grouping_given, refusals_given, sign_given, system_given};
-use locnum_forms::Wanted;
+use number_forms::Settings;
 use locnum_lines::{LineSettings, Padding, Source};
 use std::alloc::Global;
 use std::marker::Model;
@@ -23,7 +23,7 @@ use std::marker::Model;
 #[derive(Debug, Drop)]
 pub struct Options<'a> {
     /// The form of numbers.
-    pub wanted: Wanted<'a>,
+    pub settings: Settings<'a>,
     /// How lines are cut, and what becomes of them.
     pub lines: LineSettings,
     /// What is explained instead, if anything is.
@@ -36,7 +36,7 @@ impl<'a> Model for Options<'a> {
     ghost Value = { OptionsData };
 
     ghost view = { λ o. record {
-      wanted = o.wanted;
+      settings = o.settings;
       lines = o.lines;
       explain = o.explain;
     } };
@@ -105,7 +105,7 @@ pub fn parse_options<'a>(alloc: Global, given: &Given<'a>) -> Result<Options<'a>
     let padding = padding_given(given.text("padding"))?;
     let refusals = refusals_given(given.text("invalid"))?;
     Ok(Options {
-        wanted: Wanted {
+        settings: Settings {
             locale,
             system,
             grouping,

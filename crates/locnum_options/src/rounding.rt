@@ -6,7 +6,7 @@ ghost use Rattle.locnum_options.specs.Rounding.{half_mode_named, is_compact_kind
 use crate::fault::OptionFault;
 use crate::given::Given;
 use fixed_decimal::{SignedRoundingMode, UnsignedRoundingMode};
-use locnum_forms::Kind;
+use number_forms::Kind;
 
 /// The mode of a word that begins with `half-`.
 #[tactic(auto, unfolding(crate::specs::Rounding::half_mode_named))]

@@ -4,7 +4,7 @@ use crate::CallResult;
 use crate::bytes::{appended, bytes_of};
 use crate::words::texts_of;
 use locnum_explain::{DigitsBy, Settings, explain, explain_at, explain_line, explain_lines};
-use locnum_forms::Form;
+use number_forms::Form;
 use locnum_options::Given;
 use std::alloc::{AllocError, Global};
 

@@ -3,7 +3,7 @@
 use crate::CallResult;
 use decimal_lines::{TablesFault, TextError};
 use icu_tables::TableError;
-use locnum_forms::StartError;
+use number_forms::StartError;
 use locnum_options::OptionFault;
 use std::alloc::{AllocError, Global};
 

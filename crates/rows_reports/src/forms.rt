@@ -1,4 +1,4 @@
-//! Calls of `locnum_forms`, and what needs a form.
+//! Calls of `number_forms`, and what needs a form.
 
 use crate::bytes::{bytes_of, text_of};
 use crate::explanations::{Explained, explanation};
@@ -9,7 +9,7 @@ use crate::words::{Pair, file_of, given, options_of};
 use crate::{CallResult, lines, parts, records};
 use decimal_lines::Mode;
 use fixed_decimal::{Decimal, Sign};
-use locnum_forms::{Form, Formatter, Wanted};
+use number_forms::{Form, Formatter, Settings};
 use locnum_lines::LineSettings;
 use rows::Documents;
 use std::alloc::{AllocError, Global};
@@ -127,12 +127,12 @@ fn result_of<'a>(
 /// hold is gone through where it is given back.
 fn by_form<'a>(
     alloc: Global,
-    wanted: &Wanted<'_>,
+    settings: &Settings<'_>,
     file: &[u8],
     asked: (&'a [Pair<'a>], &LineSettings),
     question: Question<'_>,
 ) -> CallResult {
-    match Form::make(alloc, wanted, file) {
+    match Form::of(alloc, settings, file) {
         Ok(form) => result_of(alloc, &form, asked, question),
         Err(error) => no_form(alloc, error),
     }
@@ -148,7 +148,7 @@ fn by_options<'a>(
     match settings_of(alloc, options)? {
         Some(settings) => {
             let asked = (options, &settings.lines);
-            by_form(alloc, &settings.wanted, file, asked, question)
+            by_form(alloc, &settings.settings, file, asked, question)
         }
         None => Ok(None),
     }

@@ -3,7 +3,7 @@
 use crate::CallResult;
 use crate::bytes::{push_behind, push_text, text_if};
 use crate::counts::at_once;
-use locnum_forms::Form;
+use number_forms::Form;
 use locnum_lines::{LineSettings, Report, RunError, run};
 use rows::SlowReader;
 use std::alloc::{AllocError, Global};

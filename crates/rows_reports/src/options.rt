@@ -6,7 +6,7 @@ use crate::faults::no_options;
 use crate::words::{Pair, environment_of, given};
 use fixed_decimal::{SignedRoundingMode, UnsignedRoundingMode};
 use icu_decimal::options::GroupingStrategy;
-use locnum_forms::{Kind, Wanted};
+use number_forms::{Kind, Settings};
 use locnum_lines::{Delimiter, FieldRange, LineSettings, Padding, Source};
 use locnum_options::{Given, OptionFault, Options, parse_options};
 use skeleton_settings::Precision;
@@ -103,19 +103,19 @@ fn push_mode(alloc: Global, mode: SignedRoundingMode, text: &mut String) -> Resu
 
 /// Appends the form of numbers: the locale, the numbering system, the groups, how fine numbers are,
 /// the rounding mode, the signs and what is written, as far as each is asked for.
-fn push_form(alloc: Global, wanted: &Wanted<'_>, text: &mut String) -> Result<(), AllocError> {
+fn push_form(alloc: Global, settings: &Settings<'_>, text: &mut String) -> Result<(), AllocError> {
     text.push_str("locale ")?;
-    text.push_str(wanted.locale.as_str())?;
-    let system = match &wanted.system {
+    text.push_str(settings.locale.as_str())?;
+    let system = match &settings.system {
         Some(system) => system.as_str(),
         None => "",
     };
     push_behind(" system ", system.as_bytes(), text)?;
-    push_grouping(alloc, wanted.grouping, text)?;
-    push_precision(alloc, wanted.precision, text)?;
-    push_mode(alloc, wanted.mode, text)?;
-    text.push_str(format!(in alloc; " sign {:?} ", wanted.sign)?.as_str())?;
-    push_kind(alloc, &wanted.kind, text)
+    push_grouping(alloc, settings.grouping, text)?;
+    push_precision(alloc, settings.precision, text)?;
+    push_mode(alloc, settings.mode, text)?;
+    text.push_str(format!(in alloc; " sign {:?} ", settings.sign)?.as_str())?;
+    push_kind(alloc, &settings.kind, text)
 }
 
 /// Appends what ends a field.
@@ -199,7 +199,7 @@ fn push_lines(alloc: Global, lines: &LineSettings, text: &mut String) -> Result<
 
 /// Appends all that options ask for.
 fn push_options(alloc: Global, options: &Options<'_>, text: &mut String) -> Result<(), AllocError> {
-    push_form(alloc, &options.wanted, text)?;
+    push_form(alloc, &options.settings, text)?;
     text.push_str(" | ")?;
     push_lines(alloc, &options.lines, text)?;
     text.push_str(format!(in alloc; " | explain {:?}", options.explain)?.as_str())
@@ -251,7 +251,7 @@ fn settle(
 ) -> Result<bool, AllocError> {
     for (option, text) in options {
         match *option {
-            "digits" => settings.wanted.precision = digits_of(text),
+            "digits" => settings.settings.precision = digits_of(text),
             "name" => settings.lines.names.push(String::from_str(alloc, text)?)?,
             "word" => match text.parse() {
                 Ok(number) => settings.lines.source = Source::Word(number),

@@ -1,4 +1,4 @@
-//! Calls of `locnum_explain` for lines of explanations, and of `locnum_forms` for texts in notes.
+//! Calls of `locnum_explain` for lines of explanations, and of `number_forms` for texts in notes.
 
 use crate::CallResult;
 use crate::bytes::{appended, bytes_of};
@@ -9,7 +9,7 @@ use icu_plurals::{PluralCategory, PluralRules};
 use locnum_explain::{
     push_around, push_entry, push_magnitude, push_operands, push_parts, push_pattern,
 };
-use locnum_forms::push_reported;
+use number_forms::push_reported;
 use std::alloc::{AllocError, Global};
 use std::collections::BTreeMap;
 use writeable::Part;

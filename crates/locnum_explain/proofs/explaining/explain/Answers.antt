@@ -6,8 +6,8 @@ use Rattle.writeable.specs.Events.{Event}
 use Rattle.decimal_lines.specs.SingleText.{IsRefusal}
 use Rattle.decimal_lines.specs.declared.single_text.TextError.{TextError}
 use Rattle.decimal_lines.specs.declared.single_text.TextError.TheVariants.{OutOfMemory}
-use Rattle.locnum_forms.specs.Decimals.{events_at}
-use Rattle.locnum_forms.proofs.WrittenTexts.{form_events-at, form_events-refused}
+use Rattle.number_forms.specs.Decimals.{events_at}
+use Rattle.number_forms.proofs.WrittenTexts.{form_events-at, form_events-refused}
 use Rattle.locnum_explain.specs.Lines.{form_explanation, outcome_lines}
 use Rattle.locnum_explain.proofs.explaining.explain.Goals as goal
 

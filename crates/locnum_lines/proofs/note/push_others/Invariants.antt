@@ -1,6 +1,6 @@
 use Rattle.std.proofs.Common.{◌≡◌, ◌++◌, codes, map, take}
 use Rattle.std.specs.List.{flat_map}
-use Rattle.locnum_forms.specs.Reported.{reported}
+use Rattle.number_forms.specs.Reported.{reported}
 use Rattle.locnum_lines.proofs.note.push_others.Given as goal
 
 abbrev pub invariant-loop-name : goal.invariant-loop-name

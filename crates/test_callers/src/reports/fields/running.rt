@@ -4,7 +4,7 @@
 use crate::reports::slow::{Full, SlowWriter};
 use fixed_decimal::{SignDisplay, SignedRoundingMode, UnsignedRoundingMode};
 use icu_provider::DataLocale;
-use locnum_forms::{Form, Kind, StartError, Wanted};
+use number_forms::{Form, Kind, StartError, Settings};
 use locnum_lines::{Delimiter, FieldRange, LineSettings, Refusals, Report, RunError, Source, run};
 use rows::SlowReader;
 use std::alloc::{AllocError, Global};
@@ -33,7 +33,7 @@ enum Seen {
 
 /// English numbers in full.
 fn english(alloc: Global) -> Result<Form, StartError> {
-    let wanted = Wanted {
+    let settings = Settings {
         locale: DataLocale::try_from_str("en").unwrap_or_default(),
         system: None,
         grouping: None,
@@ -44,7 +44,7 @@ fn english(alloc: Global) -> Result<Form, StartError> {
         sign: SignDisplay::Auto,
         kind: Kind::Plain,
     };
-    Form::make(alloc, &wanted, ENGLISH.as_bytes())
+    Form::of(alloc, &settings, ENGLISH.as_bytes())
 }
 
 /// The first of fields that blanks end; a run goes on behind texts that are rejected.

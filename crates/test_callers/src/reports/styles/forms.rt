@@ -2,7 +2,7 @@
 
 use crate::styled::is_styled;
 use icu_tables::{EntryFault, Key, TableError};
-use locnum_forms::StartError;
+use number_forms::StartError;
 
 /// A fault of an entry.
 const BAD_LOCALE: TableError = TableError::Entry {

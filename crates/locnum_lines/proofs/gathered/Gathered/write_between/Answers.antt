@@ -1,7 +1,7 @@
 use Rattle.std.proofs.Common.{◌≡◌, ◌-◌, ◌++◌, ℕ, List, take, drop, length, length-drop, ap, ◌∙◌, arith}
 use Rattle.std.proofs.lemmas.List.{take_all}
 use Rattle.writeable.specs.Events.{text_of}
-use Rattle.locnum_forms.specs.Forms.{form_events}
+use Rattle.number_forms.specs.Forms.{form_events}
 use Rattle.locnum_lines.specs.FieldRuns.{held_by}
 use Rattle.locnum_lines.specs.Gathered.{GatheredData}
 use Rattle.locnum_lines.specs.Ran.{first_of}

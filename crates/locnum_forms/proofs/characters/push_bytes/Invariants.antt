@@ -1,6 +1,0 @@
-use Rattle.std.proofs.Common.{◌≡◌, ◌++◌, map, take}
-use Rattle.locnum_forms.specs.Characters.{from_byte, visible_text}
-use Rattle.locnum_forms.proofs.characters.push_bytes.Given as goal
-
-abbrev pub invariant-loop-byte : goal.invariant-loop-byte
-invariant-loop-byte l = l.out.items ≡ l.fn.out.items ++ visible_text (map from_byte (take l.byte-index l.bytes))

@@ -1,0 +1,13 @@
+pub mod Settings
+pub mod Skeleton
+pub mod Rounded
+pub mod Cut
+pub mod CompactMoney
+pub mod Scaled
+pub mod Forms
+pub mod WrittenOr
+pub mod Loaded
+pub mod Making
+pub mod Decimals
+pub mod Characters
+pub mod Reported

@@ -1,0 +1,191 @@
+-- The form of what tables answer, in the order in which they are asked, or the first error.
+use Rattle.std.specs.Prelude.{ℕ, List, Bool, Option, Some, None, option_map, Result, Ok, codes, if◌then◌else◌, pos, ◌-ℤ◌}
+use Rattle.icu_pattern.specs.Patterns.{PatternText}
+use Rattle.icu_plurals.specs.Elements.{Elements}
+use Rattle.icu_provider.specs.Answer.{Refusal}
+use Rattle.icu_decimal_data.specs.CompactTable.{TableEntry}
+use Rattle.icu_decimal_data.specs.declared.decimal_symbols.DecimalSymbols.{DecimalSymbols}
+use Rattle.icu_decimal_options.specs.Preferences.{locale_id}
+use Rattle.icu_decimal.specs.Loaded.{Provider, and_then, loaded, loaded_compact}
+use Rattle.icu_decimal.specs.declared.options.DecimalFormatterOptions.{DecimalFormatterOptions}
+use Rattle.icu_decimal.specs.declared.options.GroupingStrategy.{GroupingStrategy}
+use Rattle.icu_decimal.specs.declared.preferences.CompactDecimalFormatterPreferences.{CompactDecimalFormatterPreferences}
+use Rattle.icu_decimal.specs.declared.preferences.DecimalFormatterPreferences.{DecimalFormatterPreferences}
+use Rattle.icu_decimal.specs.Decimal.{DecimalFormat}
+use Rattle.icu_dimension.specs.Money.{SignedFormat}
+use Rattle.icu_dimension.specs.Names.{NameText}
+use Rattle.icu_dimension.specs.PluralFormat.{PluralFormat}
+use Rattle.icu_dimension.specs.CompactMoney.{CompactMoney}
+use Rattle.icu_dimension.specs.Loaded.{loaded_compact_money, loaded_currency, loaded_percent, loaded_plural, money_symbols}
+use Rattle.icu_dimension.specs.declared.options.CurrencyFormatterOptions.{CurrencyFormatterOptions}
+use Rattle.icu_dimension.specs.declared.options.CurrencySign.{CurrencySign}
+use Rattle.icu_dimension.specs.declared.options.Width.{Width}
+use Rattle.icu_dimension_data.specs.Digits.{Digits, digits_of}
+use Rattle.icu_dimension_data.specs.declared.currency_digits.FractionDigits.{FractionDigits}
+use Rattle.icu_table_entries.specs.Answering.{filed_answer, optional_answer}
+use Rattle.icu_table_entries.specs.Named.{NamedEntry}
+use Rattle.icu_tables.specs.Digits.{system_answer}
+use Rattle.icu_tables.specs.Tables.{TablesData}
+use Rattle.icu_dimension_tables.specs.Answering.{decimals_answer, digits_answer, names_answer, symbols_answer, unit_answer}
+use Rattle.icu_dimension_tables.specs.DimensionTables.{DimensionData}
+use Rattle.icu_dimension_tables.specs.declared.units.UnitWidth.TheVariants as filed
+use Rattle.skeleton_settings.specs.declared.settings.Precision.{Precision}
+use Rattle.skeleton_settings.specs.declared.settings.Precision.TheVariants.{Fraction, Significant, Increment, Both, Currency}
+use Rattle.number_rounding.specs.declared.rounding.Rounding.{Rounding}
+use Rattle.decimal_lines.specs.ModeOfTables.{compact_options, plain_options}
+use Rattle.decimal_lines.specs.declared.mode.Mode.TheVariants.{Plain, Compact}
+use Rattle.number_forms.specs.Forms.{FormData}
+use Rattle.number_forms.specs.Settings.{FormSettings}
+use Rattle.number_forms.specs.declared.form.Formatter.{Formatter}
+use Rattle.number_forms.specs.declared.form.Formatter.TheVariants.{Numbers, Money, MoneyNamed, MoneyShort, Percent, Units}
+use Rattle.number_forms.specs.declared.settings.UnitWidth.{UnitWidth}
+use Rattle.number_forms.specs.declared.settings.UnitWidth.TheVariants.{Long, Short, Narrow}
+
+-- the locale and the system that are wanted
+abbrev pub preferences : FormSettings → DecimalFormatterPreferences
+preferences settings = record { locale_preferences = settings.locale; numbering_system = settings.system }
+
+-- and for compact numbers
+abbrev pub compact_preferences : FormSettings → CompactDecimalFormatterPreferences
+compact_preferences settings = record { locale_preferences = settings.locale; numbering_system = settings.system }
+
+-- the options of money
+abbrev pub money_options : Option GroupingStrategy → Width → CurrencySign → CurrencyFormatterOptions
+money_options grouping width sign = record { decimal = plain_options grouping; width = width; sign = sign }
+
+-- rounding to a precision as it is wanted
+abbrev pub rounding_to : FormSettings → Precision → Rounding
+rounding_to settings precision = record {
+  precision = precision;
+  mode = settings.mode;
+  hides_zeros_of_whole = settings.hides_zeros_of_whole;
+  integer_digits = settings.integer_digits;
+}
+
+-- rounding to the precision that is wanted, if one is
+abbrev pub settings_rounding : FormSettings → Option Rounding
+settings_rounding settings = option_map (rounding_to settings) settings.precision
+
+-- the form with this rounding and this formatter
+abbrev pub form_with : FormSettings → Option Rounding → Formatter → FormData
+form_with settings rounding formatter = record { scale = settings.scale; rounding = rounding; sign = settings.sign; formatter = formatter }
+
+-- the symbols that tables answer for numbers of money
+abbrev pub symbols_for_money : TablesData → DimensionData → Provider DecimalSymbols
+symbols_for_money tables dimension = money_symbols (decimals_answer dimension.decimals) (filed_answer tables.symbols)
+
+-- the digits of numbering systems that they answer
+abbrev pub system_digits : TablesData → Provider (List ℕ)
+system_digits tables id = system_answer tables.digits id.system
+
+-- numbers in full
+unfoldable pub plain_loaded : FormSettings → TablesData → Result FormData Refusal
+plain_loaded settings tables =
+    and_then (loaded (filed_answer tables.symbols) (system_digits tables) (preferences settings) (plain_options settings.grouping)) (λ f.
+    Ok (form_with settings (settings_rounding settings) (Numbers (Plain f))))
+
+-- numbers shortened by patterns of these tables, which may have none; they are not rounded before
+abbrev pub compact_loaded : FormSettings → TablesData → Option (List (NamedEntry (List TableEntry))) → Result FormData Refusal
+compact_loaded settings tables patterns =
+    and_then (loaded_compact (filed_answer tables.symbols) (system_digits tables) (optional_answer tables.rules) (optional_answer patterns)
+    (compact_preferences settings) (compact_options settings.grouping)) (λ f.
+    Ok (form_with settings None (Numbers (Compact f))))
+
+-- by the short patterns
+unfoldable pub short_loaded : FormSettings → TablesData → Result FormData Refusal
+short_loaded settings tables = compact_loaded settings tables tables.short
+
+-- by the long ones
+unfoldable pub long_loaded : FormSettings → TablesData → Result FormData Refusal
+long_loaded settings tables = compact_loaded settings tables tables.long
+
+-- as fine as the digits of a currency, in cash or not: in cash the multiples of its step
+abbrev pub currency_precision : Bool → FractionDigits → Precision
+currency_precision is_cash digits =
+    if is_cash then Increment digits.cash_step.increment (pos digits.cash_step.zeros -ℤ pos digits.cash) digits.cash
+    else Fraction digits.standard (Some digits.standard)
+
+-- the precision of a currency, in cash or not, by its digits
+abbrev pub digits_precision : Provider Digits → List ℕ → Bool → Result Precision Refusal
+digits_precision digits code is_cash = and_then (digits (locale_id (codes "und"))) (λ d. Ok (currency_precision is_cash (digits_of d code)))
+
+-- the precision that is wanted, or else that of the currency
+unfoldable pub money_precision : Option Precision → Provider Digits → List ℕ → Bool → Result Precision Refusal
+money_precision None digits code is_cash = digits_precision digits code is_cash
+money_precision (Some (Currency in_cash)) digits code is_cash = digits_precision digits code in_cash
+money_precision (Some (Fraction least most)) digits code is_cash = Ok (Fraction least most)
+money_precision (Some (Significant least most)) digits code is_cash = Ok (Significant least most)
+money_precision (Some (Increment increment power least)) digits code is_cash = Ok (Increment increment power least)
+money_precision (Some (Both least most few many priority keeps)) digits code is_cash = Ok (Both least most few many priority keeps)
+
+-- the form of a formatter of amounts, whose digits are asked for behind it
+unfoldable pub amounts_loaded : FormSettings → List ℕ → Bool → DimensionData → Formatter → Result FormData Refusal
+amounts_loaded settings code is_cash dimension formatter =
+    and_then (money_precision settings.precision (digits_answer dimension.digits) code is_cash) (λ precision.
+    Ok (form_with settings (Some (rounding_to settings precision)) formatter))
+
+-- the formatter of amounts of a currency
+unfoldable pub currency_loaded : FormSettings → List ℕ → CurrencyFormatterOptions → TablesData → DimensionData
+    → Result (SignedFormat DecimalFormat) Refusal
+currency_loaded settings code options tables dimension =
+    loaded_currency (symbols_for_money tables dimension) (system_digits tables) (optional_answer dimension.currencies)
+    (symbols_answer dimension.symbols) (preferences settings) code options
+
+-- amounts of a currency
+unfoldable pub money_loaded : FormSettings → List ℕ → CurrencyFormatterOptions → Bool → TablesData → DimensionData → Result FormData Refusal
+money_loaded settings code options is_cash tables dimension =
+    and_then (currency_loaded settings code options tables dimension) (λ f. amounts_loaded settings code is_cash dimension (Money f))
+
+-- the formatter of amounts with the name of a currency
+unfoldable pub names_loaded : FormSettings → List ℕ → TablesData → DimensionData → Result (PluralFormat DecimalFormat NameText) Refusal
+names_loaded settings code tables dimension =
+    loaded_plural (symbols_for_money tables dimension) (system_digits tables) (optional_answer tables.rules)
+    (names_answer dimension.placeholders dimension.symbols) (preferences settings) code (plain_options settings.grouping)
+    (λ f r x. record { formatter = f; rules = r; elements = x })
+
+-- amounts with the name of a currency
+unfoldable pub named_loaded : FormSettings → List ℕ → Bool → TablesData → DimensionData → Result FormData Refusal
+named_loaded settings code is_cash tables dimension =
+    and_then (names_loaded settings code tables dimension) (λ f. amounts_loaded settings code is_cash dimension (MoneyNamed f))
+
+-- the options of compact amounts: those of compact numbers, `min2` without a strategy
+abbrev pub compact_money_options : Option GroupingStrategy → DecimalFormatterOptions
+compact_money_options grouping = record { grouping_strategy = (compact_options grouping).grouping_strategy }
+
+-- the formatter of compact amounts of a currency
+unfoldable pub compact_money_loaded : FormSettings → List ℕ → TablesData → DimensionData → Result CompactMoney Refusal
+compact_money_loaded settings code tables dimension =
+    loaded_compact_money (symbols_for_money tables dimension) (system_digits tables) (optional_answer dimension.currencies)
+    (symbols_answer dimension.symbols) (optional_answer tables.rules) (optional_answer dimension.compact)
+    (preferences settings) code (compact_money_options settings.grouping)
+
+-- compact amounts of a currency; they are not rounded before
+unfoldable pub money_short_loaded : FormSettings → List ℕ → TablesData → DimensionData → Result FormData Refusal
+money_short_loaded settings code tables dimension =
+    and_then (compact_money_loaded settings code tables dimension) (λ f. Ok (form_with settings None (MoneyShort f)))
+
+-- percents
+unfoldable pub percent_loaded : FormSettings → TablesData → DimensionData → Result FormData Refusal
+percent_loaded settings tables dimension =
+    and_then (loaded_percent (filed_answer tables.symbols) (system_digits tables) (optional_answer dimension.percents)
+    (preferences settings) (plain_options settings.grouping)) (λ f.
+    Ok (form_with settings (settings_rounding settings) (Percent f)))
+
+-- the patterns of a unit in a width
+abbrev pub unit_patterns : UnitWidth → DimensionData → Provider (Elements PatternText)
+unit_patterns Long dimension = unit_answer filed.Long dimension.units
+unit_patterns Short dimension = unit_answer filed.Short dimension.units
+unit_patterns Narrow dimension = unit_answer filed.Narrow dimension.units
+
+-- the formatter of numbers with a unit
+abbrev pub units_loaded : UnitWidth → TablesData → DimensionData → DecimalFormatterPreferences → List ℕ → DecimalFormatterOptions
+    → Result (PluralFormat DecimalFormat PatternText) Refusal
+units_loaded width tables dimension prefs name options =
+    loaded_plural (filed_answer tables.symbols) (system_digits tables) (optional_answer tables.rules) (unit_patterns width dimension)
+    prefs name options (λ f r x. record { formatter = f; rules = r; elements = x })
+
+-- numbers with a unit
+unfoldable pub unit_loaded : FormSettings → List ℕ → UnitWidth → TablesData → DimensionData → Result FormData Refusal
+unit_loaded settings name width tables dimension =
+    and_then (units_loaded width tables dimension (preferences settings) name (plain_options settings.grouping)) (λ f.
+    Ok (form_with settings (settings_rounding settings) (Units f)))

@@ -1,0 +1,20 @@
+-- What a form is to be, besides the tables.
+use Rattle.std.specs.Prelude.{ℕ, ℤ, Bool, List, Option}
+use Rattle.fixed_decimal.specs.declared.modes.SignedRoundingMode.{SignedRoundingMode}
+use Rattle.fixed_decimal.specs.declared.signs.SignDisplay.{SignDisplay}
+use Rattle.icu_decimal.specs.declared.options.GroupingStrategy.{GroupingStrategy}
+use Rattle.skeleton_settings.specs.declared.settings.Precision.{Precision}
+use Rattle.number_forms.specs.declared.settings.Kind.{Kind}
+
+-- what is asked for; without a system none is preferred, without a grouping or a precision the default of the kind applies
+pub record FormSettings : Type 0 where
+  pub locale : List ℕ
+  pub system : Option (List ℕ)
+  pub grouping : Option GroupingStrategy
+  pub precision : Option Precision
+  pub mode : SignedRoundingMode
+  pub hides_zeros_of_whole : Bool
+  pub integer_digits : ℕ
+  pub scale : ℤ
+  pub sign : SignDisplay
+  pub kind : Kind

@@ -1,0 +1,377 @@
+//! Forms that are made of what tables answer.
+
+ghost use Rattle.std.specs.Prelude.{◌≡◌};
+ghost use Rattle.icu_provider.specs.Answer.{Answers};
+ghost use Rattle.icu_dimension_tables.specs.Answering.{digits_answer};
+ghost use Rattle.number_forms.specs.Loaded.{amounts_loaded, compact_money_loaded, compact_money_options, compact_preferences, currency_loaded, currency_precision};
+ghost use Rattle.number_forms.specs.Loaded.{digits_precision, long_loaded, money_loaded, money_precision, money_short_loaded, named_loaded, names_loaded};
+ghost use Rattle.number_forms.specs.Loaded.{percent_loaded, plain_loaded, preferences, rounding_to, short_loaded, unit_loaded, units_loaded, settings_rounding};
+
+use crate::form::{Form, Formatter};
+use crate::settings::{UnitWidth, Settings};
+use decimal_lines::{Mode, compact_options, plain_options};
+use icu_decimal::{CompactDecimalFormatter, DecimalFormatter};
+use icu_decimal_options::options::{DecimalFormatterOptions, GroupingStrategy};
+use icu_decimal_options::preferences::{
+    CompactDecimalFormatterPreferences, DecimalFormatterPreferences,
+};
+use icu_dimension::options::CurrencyFormatterOptions;
+use icu_dimension::provider::{UnitsLongV1, UnitsNarrowV1, UnitsShortV1, load_currency_digits};
+use icu_dimension::{
+    CompactCurrencyFormatter, CurrencyFormatter, LongCurrencyFormatter, PercentFormatter,
+    UnitsFormatter,
+};
+use icu_dimension_data::{CurrencyCode, FractionDigits};
+use icu_dimension_tables::AllTables;
+use icu_provider::DataError;
+use icu_tables::Tables;
+use number_rounding::Rounding;
+use skeleton_settings::Precision;
+use std::alloc::Global;
+
+/// The locale and the system that are wanted.
+fn preferences(settings: &Settings<'_>) -> DecimalFormatterPreferences
+    ensures { result ≡ preferences settings.now }
+{
+    DecimalFormatterPreferences {
+        locale_preferences: settings.locale,
+        numbering_system: settings.system,
+    }
+}
+
+/// The locale and the system that are wanted, for compact numbers.
+fn compact_preferences(settings: &Settings<'_>) -> CompactDecimalFormatterPreferences
+    ensures { result ≡ compact_preferences settings.now }
+{
+    CompactDecimalFormatterPreferences {
+        locale_preferences: settings.locale,
+        numbering_system: settings.system,
+    }
+}
+
+/// Rounding to a precision as it is wanted.
+fn rounding_to(settings: &Settings<'_>, precision: Precision) -> Rounding
+    ensures { result ≡ rounding_to settings.now precision }
+{
+    Rounding {
+        precision,
+        mode: settings.mode,
+        hides_zeros_of_whole: settings.hides_zeros_of_whole,
+        integer_digits: settings.integer_digits,
+    }
+}
+
+/// Rounding to the precision that is wanted, if one is.
+fn settings_rounding(settings: &Settings<'_>) -> Option<Rounding>
+    ensures { result ≡ settings_rounding settings.now }
+{
+    Some(rounding_to(settings, settings.precision?))
+}
+
+/// Numbers in full.
+#[tactic(auto, unfolding(crate::specs::Loaded::plain_loaded))]
+pub(crate) fn load_plain(
+    alloc: Global,
+    tables: &Tables,
+    settings: &Settings<'_>,
+) -> Result<Form, DataError>
+    ensures { Answers result (plain_loaded settings.now tables.now) }
+{
+    let options = plain_options(settings.grouping);
+    let prefs = preferences(settings);
+    let formatter = DecimalFormatter::try_new_unstable(alloc, tables, prefs, options)?;
+    Ok(Form {
+        scale: settings.scale,
+        rounding: settings_rounding(settings),
+        sign: settings.sign,
+        formatter: Formatter::Numbers(Mode::Plain(formatter)),
+    })
+}
+
+/// Numbers shortened by the short patterns.
+#[tactic(auto, unfolding(crate::specs::Loaded::short_loaded))]
+pub(crate) fn load_short(
+    alloc: Global,
+    tables: &Tables,
+    settings: &Settings<'_>,
+) -> Result<Form, DataError>
+    ensures { Answers result (short_loaded settings.now tables.now) }
+{
+    let options = compact_options(settings.grouping);
+    let prefs = compact_preferences(settings);
+    let formatter = CompactDecimalFormatter::try_new_short_unstable(alloc, tables, prefs, options)?;
+    Ok(Form {
+        scale: settings.scale,
+        rounding: None,
+        sign: settings.sign,
+        formatter: Formatter::Numbers(Mode::Compact(formatter)),
+    })
+}
+
+/// Numbers shortened by the long patterns.
+#[tactic(auto, unfolding(crate::specs::Loaded::long_loaded))]
+pub(crate) fn load_long(
+    alloc: Global,
+    tables: &Tables,
+    settings: &Settings<'_>,
+) -> Result<Form, DataError>
+    ensures { Answers result (long_loaded settings.now tables.now) }
+{
+    let options = compact_options(settings.grouping);
+    let prefs = compact_preferences(settings);
+    let formatter = CompactDecimalFormatter::try_new_long_unstable(alloc, tables, prefs, options)?;
+    Ok(Form {
+        scale: settings.scale,
+        rounding: None,
+        sign: settings.sign,
+        formatter: Formatter::Numbers(Mode::Compact(formatter)),
+    })
+}
+
+/// As fine as the digits of a currency, in cash or not: in cash the multiples of its step.
+fn currency_precision(is_cash: bool, digits: FractionDigits) -> Precision
+    ensures { result ≡ currency_precision is_cash digits }
+{
+    if is_cash {
+        Precision::Increment {
+            increment: digits.cash_step.increment,
+            power: i16::from(digits.cash_step.zeros) - i16::from(digits.cash),
+            least: u16::from(digits.cash),
+        }
+    } else {
+        let standard = u16::from(digits.standard);
+        Precision::Fraction {
+            least: standard,
+            most: Some(standard),
+        }
+    }
+}
+
+/// The precision of a currency, in cash or not, by its digits.
+fn digits_precision(
+    alloc: Global,
+    all: &AllTables,
+    code: CurrencyCode,
+    is_cash: bool,
+) -> Result<Precision, DataError>
+    ensures { Answers result
+        (digits_precision (digits_answer all.now.dimension.digits) code is_cash) }
+{
+    let digits = load_currency_digits::<AllTables>(alloc, all)?;
+    Ok(currency_precision(is_cash, digits.of(code)))
+}
+
+/// The precision that is wanted, or else that of the currency.
+#[tactic(auto, unfolding(crate::specs::Loaded::money_precision))]
+fn money_precision(
+    alloc: Global,
+    all: &AllTables,
+    wanted: Option<Precision>,
+    code: CurrencyCode,
+    is_cash: bool,
+) -> Result<Precision, DataError>
+    ensures { Answers result
+        (money_precision wanted (digits_answer all.now.dimension.digits) code is_cash) }
+{
+    match wanted {
+        None => digits_precision(alloc, all, code, is_cash),
+        Some(Precision::Currency { is_cash }) => digits_precision(alloc, all, code, is_cash),
+        Some(precision) => Ok(precision),
+    }
+}
+
+/// The form of a formatter of amounts, whose digits are asked for behind it.
+#[tactic(auto, unfolding(crate::specs::Loaded::amounts_loaded))]
+fn load_amounts(
+    alloc: Global,
+    all: &AllTables,
+    settings: &Settings<'_>,
+    code: CurrencyCode,
+    is_cash: bool,
+    formatter: Formatter,
+) -> Result<Form, DataError>
+    ensures { Answers result
+        (amounts_loaded settings.now code is_cash all.now.dimension formatter) }
+{
+    let precision = money_precision(alloc, all, settings.precision, code, is_cash)?;
+    Ok(Form {
+        scale: settings.scale,
+        rounding: Some(rounding_to(settings, precision)),
+        sign: settings.sign,
+        formatter,
+    })
+}
+
+/// The formatter of amounts of a currency.
+#[tactic(auto, unfolding(crate::specs::Loaded::currency_loaded))]
+fn load_currency(
+    alloc: Global,
+    all: &AllTables,
+    settings: &Settings<'_>,
+    code: CurrencyCode,
+    options: CurrencyFormatterOptions,
+) -> Result<CurrencyFormatter<DecimalFormatter>, DataError>
+    ensures { Answers result
+        (currency_loaded settings.now code options all.now.numbers all.now.dimension) }
+{
+    let prefs = preferences(settings);
+    CurrencyFormatter::try_new_unstable::<AllTables>(alloc, all, prefs, code, options)
+}
+
+/// Amounts of a currency.
+#[tactic(auto, unfolding(crate::specs::Loaded::money_loaded))]
+pub(crate) fn load_money(
+    alloc: Global,
+    all: &AllTables,
+    settings: &Settings<'_>,
+    code: CurrencyCode,
+    options: CurrencyFormatterOptions,
+    is_cash: bool,
+) -> Result<Form, DataError>
+    ensures { Answers result
+        (money_loaded settings.now code options is_cash all.now.numbers all.now.dimension) }
+{
+    let money = Formatter::Money(load_currency(alloc, all, settings, code, options)?);
+    load_amounts(alloc, all, settings, code, is_cash, money)
+}
+
+/// The formatter of amounts with the name of a currency.
+#[tactic(auto, unfolding(crate::specs::Loaded::names_loaded))]
+fn load_names(
+    alloc: Global,
+    all: &AllTables,
+    settings: &Settings<'_>,
+    code: CurrencyCode,
+) -> Result<LongCurrencyFormatter<DecimalFormatter>, DataError>
+    ensures { Answers result
+        (names_loaded settings.now code all.now.numbers all.now.dimension) }
+{
+    let options = plain_options(settings.grouping);
+    let prefs = preferences(settings);
+    LongCurrencyFormatter::try_new_unstable::<AllTables>(alloc, all, prefs, code, options)
+}
+
+/// Amounts with the name of a currency.
+#[tactic(auto, unfolding(crate::specs::Loaded::named_loaded))]
+pub(crate) fn load_named(
+    alloc: Global,
+    all: &AllTables,
+    settings: &Settings<'_>,
+    code: CurrencyCode,
+    is_cash: bool,
+) -> Result<Form, DataError>
+    ensures { Answers result
+        (named_loaded settings.now code is_cash all.now.numbers all.now.dimension) }
+{
+    let named = Formatter::MoneyNamed(load_names(alloc, all, settings, code)?);
+    load_amounts(alloc, all, settings, code, is_cash, named)
+}
+
+/// The options of compact amounts under a strategy, or the default ones, those of compact numbers.
+fn compact_money_options(grouping: Option<GroupingStrategy>) -> DecimalFormatterOptions
+    ensures { result ≡ compact_money_options grouping }
+{
+    DecimalFormatterOptions::from(compact_options(grouping))
+}
+
+/// The formatter of compact amounts of a currency.
+#[tactic(auto, unfolding(crate::specs::Loaded::compact_money_loaded))]
+fn load_compact_money(
+    alloc: Global,
+    all: &AllTables,
+    settings: &Settings<'_>,
+    code: CurrencyCode,
+) -> Result<CompactCurrencyFormatter, DataError>
+    ensures { Answers result
+        (compact_money_loaded settings.now code all.now.numbers all.now.dimension) }
+{
+    let options = compact_money_options(settings.grouping);
+    let prefs = preferences(settings);
+    CompactCurrencyFormatter::try_new_unstable::<AllTables>(alloc, all, prefs, code, options)
+}
+
+/// Compact amounts of a currency, which are not rounded before.
+#[tactic(auto, unfolding(crate::specs::Loaded::money_short_loaded))]
+pub(crate) fn load_money_short(
+    alloc: Global,
+    all: &AllTables,
+    settings: &Settings<'_>,
+    code: CurrencyCode,
+) -> Result<Form, DataError>
+    ensures { Answers result
+        (money_short_loaded settings.now code all.now.numbers all.now.dimension) }
+{
+    Ok(Form {
+        scale: settings.scale,
+        rounding: None,
+        sign: settings.sign,
+        formatter: Formatter::MoneyShort(load_compact_money(alloc, all, settings, code)?),
+    })
+}
+
+/// Percents.
+#[tactic(auto, unfolding(crate::specs::Loaded::percent_loaded))]
+pub(crate) fn load_percent(
+    alloc: Global,
+    all: &AllTables,
+    settings: &Settings<'_>,
+) -> Result<Form, DataError>
+    ensures { Answers result (percent_loaded settings.now all.now.numbers all.now.dimension) }
+{
+    let options = plain_options(settings.grouping);
+    let prefs = preferences(settings);
+    let formatter = PercentFormatter::try_new_unstable::<AllTables>(alloc, all, prefs, options)?;
+    Ok(Form {
+        scale: settings.scale,
+        rounding: settings_rounding(settings),
+        sign: settings.sign,
+        formatter: Formatter::Percent(formatter),
+    })
+}
+
+/// The formatter of numbers with a unit in a width.
+fn load_units(
+    alloc: Global,
+    all: &AllTables,
+    prefs: DecimalFormatterPreferences,
+    name: &str,
+    width: UnitWidth,
+    options: DecimalFormatterOptions,
+) -> Result<UnitsFormatter<DecimalFormatter>, DataError>
+    ensures { Answers result
+        (units_loaded width all.now.numbers all.now.dimension prefs name.now options) }
+{
+    match width {
+        UnitWidth::Long => UnitsFormatter::try_new_unstable::<UnitsLongV1, AllTables>(
+            alloc, all, prefs, name, options,
+        ),
+        UnitWidth::Short => UnitsFormatter::try_new_unstable::<UnitsShortV1, AllTables>(
+            alloc, all, prefs, name, options,
+        ),
+        UnitWidth::Narrow => UnitsFormatter::try_new_unstable::<UnitsNarrowV1, AllTables>(
+            alloc, all, prefs, name, options,
+        ),
+    }
+}
+
+/// Numbers with a unit.
+#[tactic(auto, unfolding(crate::specs::Loaded::unit_loaded))]
+pub(crate) fn load_unit(
+    alloc: Global,
+    all: &AllTables,
+    settings: &Settings<'_>,
+    name: &str,
+    width: UnitWidth,
+) -> Result<Form, DataError>
+    ensures { Answers result
+        (unit_loaded settings.now name.now width all.now.numbers all.now.dimension) }
+{
+    let options = plain_options(settings.grouping);
+    let formatter = load_units(alloc, all, preferences(settings), name, width, options)?;
+    Ok(Form {
+        scale: settings.scale,
+        rounding: settings_rounding(settings),
+        sign: settings.sign,
+        formatter: Formatter::Units(formatter),
+    })
+}

@@ -1,0 +1,112 @@
+//! What a form is to be, besides the tables.
+
+use fixed_decimal::{SignDisplay, SignedRoundingMode};
+use icu_decimal_options::options::GroupingStrategy;
+use icu_dimension::options::{CurrencySign, Width};
+use icu_dimension_data::CurrencyCode;
+use icu_provider::{DataLocale, NumberingSystem};
+use skeleton_settings::Precision;
+use std::marker::Model;
+
+/// Which patterns write a unit.
+#[derive(Clone, Copy, Debug, PartialEq, Eq)]
+pub enum UnitWidth {
+    /// The long ones, as `2 kilometers`.
+    Long,
+    /// The short ones, as `2 km`.
+    Short,
+    /// The narrow ones, as `2km`.
+    Narrow,
+}
+
+/// What is written of a number (this project's own).
+#[derive(Clone, Copy, Debug)]
+pub enum Kind<'a> {
+    /// The number in full, as `15,127`.
+    Plain,
+    /// The number by the short patterns, as `15K`.
+    Short,
+    /// The number by the long patterns, as `15 thousand`.
+    Long,
+    /// An amount of money with the symbol of its currency, as `$15,127.00`.
+    Money {
+        /// The currency.
+        code: CurrencyCode,
+        /// Which symbol it has.
+        width: Width,
+        /// Which pattern writes a sign.
+        sign: CurrencySign,
+        /// Whether amounts are those of cash, where no precision is asked for.
+        is_cash: bool,
+    },
+    /// An amount of money with the name of its currency, as `15,127.00 US dollars`.
+    MoneyNamed {
+        /// The currency.
+        code: CurrencyCode,
+        /// Whether amounts are those of cash, where no precision is asked for.
+        is_cash: bool,
+    },
+    /// An amount of money by the short patterns of its currency, as `$15K`.
+    MoneyShort {
+        /// The currency.
+        code: CurrencyCode,
+    },
+    /// The number of percents, as `12%` of 12.
+    Percent,
+    /// The number with a unit, as `2 km`.
+    Unit {
+        /// The unit as the tables name it, as `kilometer`.
+        name: &'a str,
+        /// Which patterns write it.
+        width: UnitWidth,
+    },
+}
+
+/// What a form is to be (this project's own).
+#[derive(Debug, Drop)]
+pub struct Settings<'a> {
+    /// The locale whose data is taken.
+    pub locale: DataLocale,
+    /// The numbering system that is preferred; `None` where none is.
+    pub system: Option<NumberingSystem>,
+    /// When separators are written; `None` is the default: `min2` for compact numbers and compact
+    /// amounts, else `auto`.
+    pub grouping: Option<GroupingStrategy>,
+    /// How fine a written number is. `None`: as the digits of the
+    /// currency for money, else the digits are as they are given. The precision of a currency is
+    /// two digits where no currency is asked for. Compact numbers and compact amounts ignore it.
+    pub precision: Option<Precision>,
+    /// Which of the numbers around it is taken for a number, where numbers are rounded. Compact
+    /// numbers and compact amounts are rounded half to even.
+    pub mode: SignedRoundingMode,
+    /// Whether a whole number is written without fraction digits, where numbers are rounded.
+    pub hides_zeros_of_whole: bool,
+    /// How many digits a number has before its fraction digits at least, where numbers are rounded.
+    pub integer_digits: u16,
+    /// The power of ten by which a number is multiplied before anything else: 2 for the percents of
+    /// a number.
+    pub scale: i16,
+    /// Which signs are written.
+    pub sign: SignDisplay,
+    /// What is written.
+    pub kind: Kind<'a>,
+}
+
+impl<'a> Model for Settings<'a> {
+    ghost use Rattle.number_forms.specs.Settings.{FormSettings};
+
+    ghost Value = { FormSettings };
+
+    ghost view = { λ w. record {
+      locale = w.locale;
+      system = w.system;
+      grouping = w.grouping;
+      precision = w.precision;
+      mode = w.mode;
+      hides_zeros_of_whole = w.hides_zeros_of_whole;
+      integer_digits = w.integer_digits;
+      scale = w.scale;
+      sign = w.sign;
+      kind = w.kind;
+    } };
+}
