@@ -1,6 +1,7 @@
 pub mod CompactMoney
 pub mod NumbersShown
 pub mod NumbersMoved
+pub mod NumbersShortened
 pub mod Served
 pub mod WrittenForms
 pub mod WrittenTexts
