@@ -1,4 +1,4 @@
--- What number_rounding shows of a number by a compact table is what `shortened` computes, and `format_with_exponent` accepts it.
+-- What number_rounding shows of a number by a compact table is what `shortened` computes.
 use Rattle.std.proofs.Common.{◌≡◌, ℕ, ◌+◌, ◌*◌, ◌/◌, ◌%◌, ◌^◌, ◌<◌, ◌≤◌, ◌⊎◌, max, Bool, true, false, IsTrue, tt}
 use Rattle.std.proofs.Common.{List, Option, inl, inr, refl, sym, ap, ◌∙◌, subst, arith, ℤ, pos}
 use Rattle.std.specs.Prelude.{Result, Ok, Err, nat_le, ◌==◌, if◌then◌else◌}
@@ -14,9 +14,7 @@ use Rattle.fixed_decimal.specs.Size.{finest, magnitude, size, ten_to}
 use Rattle.fixed_decimal.specs.Unsigned.{Unsigned, integer_count}
 use Rattle.fixed_decimal.proofs.Weights.{ten_pos}
 use Rattle.icu_decimal_data.specs.CompactTable.{IsCompactTable, TableEntry, exponent_of}
-use Rattle.icu_decimal.specs.CompactFormat.{CompactFormat, exponent_needed}
 use Rattle.icu_decimal.specs.Decomposed.{decomposed_entry}
-use Rattle.icu_decimal.proofs.ShownAgain.{given_entry}
 use Rattle.decimal_lines.specs.Computed.{count_up_to}
 use Rattle.decimal_lines.specs.declared.single_text.TextError.TheVariants.{Overflow}
 use Rattle.skeleton_settings.specs.declared.settings.Precision.{Precision}
@@ -135,9 +133,3 @@ module _ (rounding : Rounding) (table : List TableEntry) (minus : Bool) (d : Uns
         ap (number_shown rounding) (quotient below.s y (decomposed_entry table y) refl below.scaled)
         ∙ shown-past rounding below.s (inr (inr (below.count, below.count_is, below.too_many))) in
         by_size ∙ ap (size_shortened rounding table) (sym divided) ∙ past y (inr none)
-
--- the exponent is that of the significand's magnitude
-pub shortened-accepted : (format : CompactFormat) (u : Unsigned) (y : ℕ) (entry : Option TableEntry) → IsCompactTable format.table
-    → entry ≡ decomposed_entry format.table y → size u * 10 ^ exponent_of entry ≡ y
-    → exponent_of entry ≡ exponent_needed format u (exponent_of entry)
-shortened-accepted format u y entry t is scaled = ap exponent_of (sym (given_entry format.table u y entry t is scaled))
