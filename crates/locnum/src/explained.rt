@@ -13,7 +13,7 @@ use std::{env, io};
 const COLUMNS: usize = 80;
 
 /// The options that say how fine numbers are.
-const PRECISIONS: [&str; 3] = ["fraction", "significant", "increment"];
+const PRECISIONS: [&str; 4] = ["fraction", "significant", "increment", "skeleton"];
 
 /// How many columns a line has at most: those that the environment says in COLUMNS.
 fn columns(rt: &HostRuntime) -> usize {

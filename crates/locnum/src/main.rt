@@ -19,6 +19,7 @@ mod options;
 mod positions;
 mod read_tables;
 mod running;
+mod skeletons;
 mod streams;
 mod tables;
 mod words;
@@ -32,6 +33,7 @@ use lone_locale::locale_of_tables;
 use mistakes::status_of_words;
 use read_tables::read_tables;
 use running::run_formed;
+use skeletons::skeleton_line;
 use std::alloc::AllocError;
 use std::io::Write;
 use std::process::ExitCode;
@@ -137,8 +139,9 @@ fn run_by_tables(
         return Err(put_note(rt, &note));
     }
     let numbers = numbers_given(rt.alloc(), matches)?;
-    let heading = heading(rt.alloc(), file, &options.settings)?;
-    Ok(run_formed(rt, matches, options, &form, &heading, numbers.as_deref()))
+    let mut lines = skeleton_line(rt.alloc(), matches)?;
+    lines.extend_from_slice(&heading(rt.alloc(), file, &options.settings)?)?;
+    Ok(run_formed(rt, matches, options, &form, &lines, numbers.as_deref()))
 }
 
 /// Lists what the tables hold, of a locale where one is asked for; the status.
