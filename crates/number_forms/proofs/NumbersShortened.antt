@@ -1,5 +1,5 @@
 -- What number_rounding shows of a number by a compact table is what `shortened` computes.
-use Rattle.std.proofs.Common.{◌≡◌, ℕ, ◌+◌, ◌*◌, ◌/◌, ◌%◌, ◌^◌, ◌<◌, ◌≤◌, ◌⊎◌, max, Bool, true, false, IsTrue, tt}
+use Rattle.std.proofs.Common.{◌≡◌, ℕ, ◌+◌, ◌*◌, ◌/◌, ◌%◌, ◌^◌, ◌<◌, ◌≤◌, ◌⊎◌, max, Bool, true, false}
 use Rattle.std.proofs.Common.{List, Option, inl, inr, refl, sym, ap, ◌∙◌, subst, arith, ℤ, pos}
 use Rattle.std.specs.Prelude.{Result, Ok, Err, nat_le, ◌==◌, if◌then◌else◌}
 use Rattle.std.proofs.lemmas.Bool.Decides.{nat_tests}
@@ -10,7 +10,7 @@ use Rattle.fixed_decimal.specs.declared.increments.RoundingIncrement.TheVariants
 use Rattle.fixed_decimal.specs.Modes.{IsLeastFrom}
 use Rattle.fixed_decimal.specs.Nearest.{IsMultiple}
 use Rattle.fixed_decimal.specs.Padding.{IsExactWith}
-use Rattle.fixed_decimal.specs.Size.{finest, magnitude, size, ten_to}
+use Rattle.fixed_decimal.specs.Size.{magnitude, place, size, ten_to}
 use Rattle.fixed_decimal.specs.Unsigned.{Unsigned, integer_count}
 use Rattle.fixed_decimal.proofs.Weights.{ten_pos}
 use Rattle.icu_decimal_data.specs.CompactTable.{IsCompactTable, TableEntry, exponent_of}
@@ -30,10 +30,10 @@ use Rattle.number_forms.proofs.NumbersShown.{counted, shown-past, shown-told}
 
 -- an increment's unit isn't 0
 unit_some : (increment : RoundingIncrement) (power : ℤ) → 0 < unit_of increment power
-unit_some MultiplesOf1 power = omega (arith, ten_pos _)
-unit_some MultiplesOf2 power = omega (arith, ten_pos _)
-unit_some MultiplesOf5 power = omega (arith, ten_pos _)
-unit_some MultiplesOf25 power = omega (arith, ten_pos _)
+unit_some MultiplesOf1 power = omega (arith, ten_pos (place power))
+unit_some MultiplesOf2 power = omega (arith, ten_pos (place power))
+unit_some MultiplesOf5 power = omega (arith, ten_pos (place power))
+unit_some MultiplesOf25 power = omega (arith, ten_pos (place power))
 
 -- 1 is a multiple exactly where dividing it leaves no rest
 pub divides : (precision : Precision) → DividesOne precision → divides_one precision ≡ true
@@ -47,24 +47,24 @@ divides (Currency is_cash) h = refl
 divides (Both least most few many priority keeps_least) h = refl
 
 pub divides-not : (precision : Precision) → ¬ (DividesOne precision) → divides_one precision ≡ false
-divides-not (Fraction least most) no = absurd (no tt)
-divides-not (Significant least most) no = absurd (no tt)
-divides-not (Increment increment power least) no = go (divides_one (Increment increment power least)) refl
+divides-not (Fraction least most) never = absurd (never tt)
+divides-not (Significant least most) never = absurd (never tt)
+divides-not (Increment increment power least) never = go (divides_one (Increment increment power least)) refl
   where
     go : (b : Bool) → divides_one (Increment increment power least) ≡ b → divides_one (Increment increment power least) ≡ false
     go false is = is
     go true is =
         let rest : ten_to (pos 0) % unit_of increment power ≡ 0 = grind (arith, nat_tests) in
-        absurd (no (ten_to (pos 0) / unit_of increment power, omega (arith, unit_some increment power, rest)))
-divides-not (Currency is_cash) no = absurd (no tt)
-divides-not (Both least most few many priority keeps_least) no = absurd (no tt)
+        absurd (never (ten_to (pos 0) / unit_of increment power, omega (arith, unit_some increment power, rest)))
+divides-not (Currency is_cash) never = absurd (never tt)
+divides-not (Both least most few many priority keeps_least) never = absurd (never tt)
 
 module _ (rounding : Rounding) (table : List TableEntry) (minus : Bool) (d : Unsigned) where
   -- by an increment of which 1 is no multiple nothing is shown
   pub shortened-not : ¬ (DividesOne rounding.precision) → shortened rounding table minus d ≡ Err Overflow
   unfolding shortened
-  shortened-not no = ap (λ b. if b then size_shortened rounding table (compact_size rounding table minus (size d)) else Err Overflow)
-      (divides-not rounding.precision no)
+  shortened-not never = ap (λ b. if b then size_shortened rounding table (compact_size rounding table minus (size d)) else Err Overflow)
+      (divides-not rounding.precision never)
 
   module _ (t : IsCompactTable table) (one : DividesOne rounding.precision) where
     fits : FitsTable rounding.precision table
