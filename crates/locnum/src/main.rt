@@ -9,6 +9,7 @@ mod entries;
 mod explained;
 mod explained_fields;
 mod faults;
+mod headings;
 mod held;
 mod lacks;
 mod listed;
@@ -19,13 +20,13 @@ mod options;
 mod positions;
 mod read_tables;
 mod running;
-mod skeletons;
 mod streams;
 mod tables;
 mod words;
 
 use clap::ArgMatches;
 use command::{command, given};
+use headings::heading_of;
 use icu_provider::DataLocale;
 use number_forms::{Form, StartError, Settings};
 use locnum_options::{Environment, Given, OptionFault, Options, parse_options};
@@ -33,13 +34,12 @@ use lone_locale::locale_of_tables;
 use mistakes::status_of_words;
 use read_tables::read_tables;
 use running::run_formed;
-use skeletons::skeleton_line;
 use std::alloc::AllocError;
 use std::io::Write;
 use std::process::ExitCode;
 use std::{env, str};
 use streams::status_of_output;
-use tables::{ListResult, TablesFile, heading, list, note_of_failure, note_of_system};
+use tables::{ListResult, TablesFile, list, note_of_failure, note_of_system};
 use words::{marked, numbers_given};
 
 /// Why the program ends early.
@@ -139,9 +139,8 @@ fn run_by_tables(
         return Err(put_note(rt, &note));
     }
     let numbers = numbers_given(rt.alloc(), matches)?;
-    let mut lines = skeleton_line(rt.alloc(), matches)?;
-    lines.extend_from_slice(&heading(rt.alloc(), file, &options.settings)?)?;
-    Ok(run_formed(rt, matches, options, &form, &lines, numbers.as_deref()))
+    let heading = heading_of(rt.alloc(), matches, file, &options.settings)?;
+    Ok(run_formed(rt, matches, options, &form, &heading, numbers.as_deref()))
 }
 
 /// Lists what the tables hold, of a locale where one is asked for; the status.
