@@ -72,6 +72,7 @@ writes '0.1\n' --scale 100 --fraction 1 0.00125
 # number skeletons
 writes '1,234.56789\n' --skeleton '' 1234.5678901
 writes '\xe2\x82\xac1.2M\n' --skeleton 'K currency/EUR' 1234567.5
+writes '1.23M\n' --skeleton 'K .00' 1234567.5
 writes '12.3%\n' --skeleton '%x100 .0' 0.12345
 writes '($1.00)\n' --skeleton '.00 sign-accounting currency/USD' -1.005
 writes '1 Japanese yen\n' --skeleton 'currency/JPY unit-width-full-name' 1
@@ -256,7 +257,7 @@ rejects 'locnum: --scale: not a power of ten in digits, such as 100 or 0.01' --s
 rejects 'locnum: skeleton: left out: scientific, byte 8' --skeleton 'percent scientific'
 rejects 'locnum: skeleton: set twice: precision, byte 4' --skeleton '.00 @@'
 rejects 'locnum: skeleton: not supported: permille' --skeleton permille
-rejects 'locnum: skeleton: not supported: digits in compact notation' --skeleton 'K .00'
+rejects 'locnum: skeleton: not supported: digits of a currency in compact notation' --skeleton 'K .00 currency/EUR'
 rejects 'locnum: --skeleton: not with --percent' --skeleton .00 --percent
 rejects 'locnum: --skeleton: not with --style' --skeleton foo --system latn --style short
 cat >"$folder/fr.json" <<'FRENCH'

@@ -105,7 +105,7 @@ SKELETONS = {
 }
 NOT_SUPPORTED = {
     "permille": "permille", "group-thousands .00": "group-thousands", ",!": "group-on-aligned",
-    "percent unit-width-full-name": "percent with unit-width-full-name", "K .00": "digits in compact notation",
+    "percent unit-width-full-name": "percent with unit-width-full-name", "K .00 currency/USD": "digits of a currency in compact notation",
     "currency/EUR unit-width-hidden": "currency with unit-width-hidden", "K %": "percent in compact notation",
 }
 NO_SKELETON = {

@@ -36,6 +36,10 @@ abbrev pub precision_or_unlimited : Option Precision → Bool → Option Precisi
 precision_or_unlimited (Some precision) unlimited = Some precision
 precision_or_unlimited None unlimited = if unlimited then Some (Fraction 0 None) else None
 
+-- how fine numbers in full are; compact ones have digits of their own
+abbrev pub precision_in_full : Bool → Option Precision → Option Precision
+precision_in_full compact precision = if compact then None else precision
+
 -- the form of numbers that the options for numbers ask for, or the first fault
 unfoldable pub number_settings : List ℕ → Given → Result FormSettings OptionFault
 number_settings locale given = do
@@ -52,7 +56,7 @@ number_settings locale given = do
     locale = locale;
     system = system;
     grouping = grouping;
-    precision = precision_or_unlimited precision (is_unlimited given);
+    precision = precision_in_full (is_compact_kind kind) (precision_or_unlimited precision (is_unlimited given));
     mode = mode;
     hides_zeros_of_whole = false;
     integer_digits = integer_digits;

@@ -2,7 +2,7 @@
 
 ghost use Rattle.std.specs.Prelude.{◌≡◌};
 ghost use Rattle.locnum_options.specs.Options.{GivesOption};
-ghost use Rattle.locnum_options.specs.Settings.{IsReadOf, is_unlimited, number_settings, precision_or_unlimited, settings_given, skeleton_settings};
+ghost use Rattle.locnum_options.specs.Settings.{IsReadOf, is_unlimited, number_settings, precision_in_full, precision_or_unlimited, settings_given, skeleton_settings};
 
 use crate::beside::option_beside;
 use crate::fault::OptionFault;
@@ -52,6 +52,13 @@ fn precision_or_unlimited(precision: Option<Precision>, unlimited: bool) -> Opti
     }
 }
 
+/// How fine numbers in full are; compact ones have digits of their own.
+fn precision_in_full(compact: bool, precision: Option<Precision>) -> Option<Precision>
+    ensures { result ≡ precision_in_full compact precision }
+{
+    if compact { None } else { precision }
+}
+
 /// The form of numbers that the options for numbers ask for.
 #[tactic(auto, unfolding(crate::specs::Settings::number_settings))]
 fn number_settings<'a>(
@@ -72,12 +79,14 @@ fn number_settings<'a>(
         Ok(kind) => kind,
         Err(fault) => return Err(fault),
     };
-    let mode = judged_mode(given, is_compact_kind(&kind), mode)?;
+    let compact = is_compact_kind(&kind);
+    let mode = judged_mode(given, compact, mode)?;
+    let precision = precision_or_unlimited(precision, is_unlimited(given));
     Ok(Settings {
         locale,
         system,
         grouping,
-        precision: precision_or_unlimited(precision, is_unlimited(given)),
+        precision: precision_in_full(compact, precision),
         mode,
         hides_zeros_of_whole: false,
         integer_digits,
