@@ -72,7 +72,7 @@ fn grouping_set(grouping: Option<Grouping>) -> Result<Option<GroupingStrategy>, 
 /// The numbering system.
 #[tactic(auto, unfolding(crate::specs::Skeleton::system_set))]
 fn system_set(name: Option<&str>) -> Result<Option<NumberingSystem>, Unsupported>
-    ensures { result ≡ system_set name }
+    ensures { result ≡ system_set name.entry }
 {
     let Some(name) = name else {
         return Ok(None);
@@ -155,7 +155,7 @@ fn percent_set<'a>(width: skeleton_settings::UnitWidth) -> Result<Kind<'a>, Unsu
 /// Numbers with a unit in full.
 #[tactic(auto, unfolding(crate::specs::Skeleton::unit_set))]
 fn unit_set<'a>(width: skeleton_settings::UnitWidth, name: &'a str) -> Kind<'a>
-    ensures { result ≡ unit_set width name }
+    ensures { result ≡ unit_set width name.entry }
 {
     let width = match width {
         skeleton_settings::UnitWidth::Narrow => UnitWidth::Narrow,
