@@ -47,11 +47,9 @@ is_compact_kind (MoneyShort code) = true
 is_compact_kind Percent = false
 is_compact_kind (Unit name width) = false
 
--- a rounding or a count of integer digits is asked for, which compact numbers don't have
+-- a rounding is asked for that compact numbers don't have
 unfoldable pub is_fine : Given → Bool
-is_fine given =
-    flag_of given (codes "round") || flag_of given (codes "significant") || flag_of given (codes "increment")
-    || flag_of given (codes "integer")
+is_fine given = flag_of given (codes "round") || flag_of given (codes "significant") || flag_of given (codes "increment")
 
 -- numbers are rounded: an option says how fine they are, or a currency does
 unfoldable pub is_rounded : Given → Bool
@@ -59,9 +57,9 @@ is_rounded given =
     flag_of given (codes "fraction") || flag_of given (codes "significant") || flag_of given (codes "increment")
     || flag_of given (codes "currency")
 
--- a mode, unless a rounding is asked for that compact numbers don't have, or a mode where nothing is rounded
+-- a mode, unless a rounding or integer digits are asked for, which compact numbers don't have, or a mode where nothing is rounded
 unfoldable pub judged_mode : Given → Bool → SignedRoundingMode → Result SignedRoundingMode OptionFault
 judged_mode given compact mode =
-    if compact && is_fine given then Err fault.CompactRounding
+    if compact && (is_fine given || flag_of given (codes "integer")) then Err fault.CompactRounding
     else if flag_of given (codes "round") && not (is_rounded given) then Err fault.NothingRounded
     else Ok mode

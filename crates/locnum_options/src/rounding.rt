@@ -60,15 +60,12 @@ pub(crate) fn is_compact_kind(kind: &Kind<'_>) -> bool
     }
 }
 
-/// Whether a rounding or a count of integer digits is asked for, which compact numbers don't have.
+/// Whether a rounding is asked for that compact numbers don't have.
 #[tactic(auto, unfolding(crate::specs::Rounding::is_fine))]
 fn is_fine(given: &Given) -> bool
     ensures { result ≡ is_fine given.now }
 {
-    given.flag("round")
-        || given.flag("significant")
-        || given.flag("increment")
-        || given.flag("integer")
+    given.flag("round") || given.flag("significant") || given.flag("increment")
 }
 
 /// Whether numbers are rounded: an option says how fine they are, or a currency does.
@@ -82,8 +79,8 @@ fn is_rounded(given: &Given) -> bool
         || given.flag("currency")
 }
 
-/// A mode, unless a rounding is asked for that compact numbers don't have, or a mode where nothing is
-/// rounded.
+/// A mode, unless a rounding or integer digits are asked for, which compact numbers don't have, or a
+/// mode where nothing is rounded.
 #[tactic(auto, unfolding(crate::specs::Rounding::judged_mode))]
 pub(crate) fn judged_mode(
     given: &Given,
@@ -92,7 +89,7 @@ pub(crate) fn judged_mode(
 ) -> Result<SignedRoundingMode, OptionFault>
     ensures { result ≡ judged_mode given.now compact mode }
 {
-    if compact && is_fine(given) {
+    if compact && (is_fine(given) || given.flag("integer")) {
         return Err(OptionFault::CompactRounding);
     }
     if given.flag("round") && !is_rounded(given) {

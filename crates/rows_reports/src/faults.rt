@@ -3,9 +3,9 @@
 use crate::CallResult;
 use decimal_lines::{TablesFault, TextError};
 use icu_tables::TableError;
+use locnum_options::{NumberOption, OptionFault};
 use number_forms::{StartError, Unsupported};
 use number_skeleton::read_skeleton;
-use locnum_options::{NumberOption, OptionFault};
 use std::alloc::{AllocError, Global};
 
 /// The names of an error of tables, of the key and of the fault.
