@@ -41,6 +41,7 @@ fn english(alloc: Global) -> Result<Form, StartError> {
         mode: SignedRoundingMode::Unsigned(UnsignedRoundingMode::HalfEven),
         hides_zeros_of_whole: false,
         integer_digits: 1,
+        scale: 0,
         sign: SignDisplay::Auto,
         kind: Kind::Plain,
     };
