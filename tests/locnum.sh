@@ -66,7 +66,7 @@ writes '007.50\n' --integer 3 --fraction 2 7.5
 writes '$0,007.50\n' --integer 4 --currency USD 7.5
 writes '1,500\n0.0125\n' --scale 1000 1.5 0.0000125
 writes '1.2K\n' --scale 0.01 --style short 123456
-writes '$12.35\n' --scale 0.01 --currency USD 1234.5
+writes '$12.34\n' --scale 0.01 --currency USD 1234.5
 writes '50%\n5%\n' --percent --scale 1 50 5
 writes '0.1\n' --scale 100 --fraction 1 0.00125
 # number skeletons
