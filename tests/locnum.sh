@@ -47,6 +47,8 @@ writes '12.34%\n' --percent 0.1234
 writes '12.3%\n' --percent --fraction 1 0.1234
 writes '1.5M\n' --style short 1500000
 writes '1.5 million\n' --style long 1500000
+writes '1.65K\n999.99K\n' --style short --fraction 2 1650 999994
+writes '1.3 thousand\n' --style long --round half-up 1250
 writes '$1.5M\n-$1.2K\n$0.5\n' --currency USD --style short 1500000 -1234 0.5
 writes '\xe2\x82\xac12B\n' --style short --width short --fraction 2 --currency EUR 12345678901
 writes '+$1T\n' --currency USD --style short --sign always 999999999999
@@ -246,9 +248,9 @@ rejects 'locnum: --increment: not 1, 2, 5 or 25 times a power of ten, in digits'
 rejects 'locnum: --fraction, --significant, --increment and --cash: not together' --fraction 2 --significant 2
 rejects 'locnum: --fraction, --significant, --increment and --cash: not together' --currency USD --cash --fraction 2
 rejects 'locnum: --round: neither up, down, ceiling nor floor, with or without half-, nor half-even' --fraction 2 --round nearest
-rejects 'locnum: --round, --significant, --increment and --integer: not with --style short or long' --style short --significant 2
-rejects 'locnum: --round, --significant, --increment and --integer: not with --style short or long' --style long --integer 2
-rejects 'locnum: --round, --significant, --increment and --integer: not with --style short or long' --currency USD --style short --round up
+rejects 'locnum: --increment: not with --style short or long, unless 1 is a multiple of it' --style long --increment 25
+rejects 'locnum: --style short of money: not with --round, --significant, --increment or --integer' --currency USD --style short --significant 2
+rejects 'locnum: --style short of money: not with --round, --significant, --increment or --integer' --currency USD --style short --round up
 rejects 'locnum: --round wants --fraction, --significant, --increment or --currency' --round up
 rejects 'locnum: --round wants --fraction, --significant, --increment or --currency' --round up --integer 2
 rejects 'locnum: --integer: not a number of digits, from 1 to 999' --integer 0

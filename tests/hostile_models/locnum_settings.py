@@ -48,7 +48,8 @@ FAULTS = {
     "short money": "--style short: not with --accounting, --cash or a --width but short",
     "width": "--width: short, narrow or name for money; long, short or narrow for units",
     "style": "--style: neither plain, short nor long",
-    "compact rounding": "--round, --significant, --increment and --integer: not with --style short or long",
+    "compact rounding": "--style short of money: not with --round, --significant, --increment or --integer",
+    "compact increment": "--increment: not with --style short or long, unless 1 is a multiple of it",
     "nothing rounded": "--round wants --fraction, --significant, --increment or --currency",
     "explained": "--explain: not with --padding",
     "delimiter": "--delimiter: neither a single byte nor tab",
@@ -300,9 +301,12 @@ def rounded_by(given: Given) -> str:
 
 def judge_rounding(given: Given, is_compact: bool) -> None:
     """Whether numbers of the kind are rounded as it is asked."""
-    if is_compact and any(name in given for name in ("round", "significant", "increment", "integer")):
+    if is_compact and "currency" in given and any(name in given for name in ("round", "significant", "increment", "integer")):
         raise Ended("compact rounding")
-    if "round" in given and not ("currency" in given or any(name in given for name in PRECISIONS)):
+    increment = increment_named(given["increment"]) if is_compact and "increment" in given else None
+    if increment and 10**(MOST + 2) % (increment.digits * 10**(increment.power + MOST + 2)):
+        raise Ended("compact increment")
+    if "round" in given and not (is_compact or "currency" in given or any(name in given for name in PRECISIONS)):
         raise Ended("nothing rounded")
 
 

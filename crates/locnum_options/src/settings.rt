@@ -2,7 +2,7 @@
 
 ghost use Rattle.std.specs.Prelude.{◌≡◌};
 ghost use Rattle.locnum_options.specs.Options.{GivesOption};
-ghost use Rattle.locnum_options.specs.Settings.{IsReadOf, is_unlimited, number_settings, precision_in_full, precision_or_unlimited, settings_given, skeleton_settings};
+ghost use Rattle.locnum_options.specs.Settings.{IsReadOf, is_unlimited, number_settings, precision_or_unlimited, settings_given, skeleton_settings};
 
 use crate::beside::option_beside;
 use crate::fault::OptionFault;
@@ -30,13 +30,13 @@ pub(crate) fn skeleton_read<'a>(given: &Given<'a>) -> Option<ReadSkeleton<'a>>
     Some(read_skeleton(text))
 }
 
-/// Whether no fraction digit is cut off, since integer digits are asked for, and no currency says
-/// how fine amounts are.
+/// Whether no fraction digit is cut off, since integer digits are asked for, and neither a currency
+/// nor the style says how fine numbers are.
 #[tactic(auto, unfolding(crate::specs::Settings::is_unlimited))]
-fn is_unlimited(given: &Given) -> bool
-    ensures { result ≡ is_unlimited given.now }
+fn is_unlimited(given: &Given, compact: bool) -> bool
+    ensures { result ≡ is_unlimited given.now compact }
 {
-    given.flag("integer") && !given.flag("currency")
+    given.flag("integer") && !given.flag("currency") && !compact
 }
 
 /// How fine numbers are, which an option says first.
@@ -50,13 +50,6 @@ fn precision_or_unlimited(precision: Option<Precision>, unlimited: bool) -> Opti
         }),
         _ => precision,
     }
-}
-
-/// How fine numbers in full are; compact ones have digits of their own.
-fn precision_in_full(compact: bool, precision: Option<Precision>) -> Option<Precision>
-    ensures { result ≡ precision_in_full compact precision }
-{
-    if compact { None } else { precision }
 }
 
 /// The form of numbers that the options for numbers ask for.
@@ -80,13 +73,12 @@ fn number_settings<'a>(
         Err(fault) => return Err(fault),
     };
     let compact = is_compact_kind(&kind);
-    let mode = judged_mode(given, compact, mode)?;
-    let precision = precision_or_unlimited(precision, is_unlimited(given));
+    let mode = judged_mode(given, compact, &precision, mode)?;
     Ok(Settings {
         locale,
         system,
         grouping,
-        precision: precision_in_full(compact, precision),
+        precision: precision_or_unlimited(precision, is_unlimited(given, compact)),
         mode,
         hides_zeros_of_whole: false,
         integer_digits,

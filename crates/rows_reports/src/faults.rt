@@ -122,6 +122,7 @@ fn option_fault(name: &str) -> Option<OptionFault> {
         "ShortMoney" => Some(OptionFault::ShortMoney),
         "Together" => Some(OptionFault::Together),
         "CompactRounding" => Some(OptionFault::CompactRounding),
+        "CompactIncrement" => Some(OptionFault::CompactIncrement),
         "NothingRounded" => Some(OptionFault::NothingRounded),
         "Explained" => Some(OptionFault::Explained),
         "Fields" => Some(OptionFault::Fields),
