@@ -1,0 +1,5 @@
+pub mod Keys
+pub mod Names
+pub mod Reading
+pub mod Stepping
+pub mod Words

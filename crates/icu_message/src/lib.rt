@@ -1,0 +1,17 @@
+//! Messages with places and choices (ICU MessageFormat): read into a flat list of pieces, and
+//! written with the texts and numbers of arguments.
+#![tactic(auto)]
+
+mod argument_steps;
+pub mod error;
+mod key_steps;
+mod keys;
+mod names;
+pub mod piece;
+mod reading;
+mod stepping;
+mod text_steps;
+mod words;
+
+pub use error::ParseError;
+pub use piece::{ChoiceKind, Piece, Word};
