@@ -1,5 +1,6 @@
 pub mod Keys
 pub mod Names
 pub mod Reading
+pub mod Spelling
 pub mod Stepping
 pub mod Words

@@ -74,7 +74,7 @@ abbrev pub longest : ℕ
 longest = 65535
 
 -- the pieces of a text, or its first fault
-unfoldable pub pieces_of : List ℕ → Result (List Piece) ParseError
+abbrev pub pieces_of : List ℕ → Result (List Piece) ParseError
 pieces_of text = if nat_le (length text) longest then reading_from text start empty_draft 0 text else Err (TooLong longest)
 
 -- a message: its text and its pieces

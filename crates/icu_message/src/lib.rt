@@ -9,6 +9,7 @@ mod keys;
 mod names;
 pub mod piece;
 mod reading;
+mod spelling;
 mod stepping;
 mod text_steps;
 mod words;
