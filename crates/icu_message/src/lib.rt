@@ -6,6 +6,7 @@ mod argument_steps;
 pub mod error;
 mod key_steps;
 mod keys;
+pub mod laws;
 mod names;
 pub mod piece;
 mod reading;
