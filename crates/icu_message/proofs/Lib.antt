@@ -1,3 +1,4 @@
 pub mod Left
 pub mod SpellingSteps
 pub mod Spelled
+pub mod Normal

@@ -49,7 +49,7 @@ pub and_right : (x y : Bool) → (x && y) ≡ true → y ≡ true
 and_right true y h = h
 and_right false y h = absurd (cc)
 
-if_then : {A : Type 0} (c : Bool) (x y : A) → c ≡ true → (if c then x else y) ≡ x
+pub if_then : {A : Type 0} (c : Bool) (x y : A) → c ≡ true → (if c then x else y) ≡ x
 if_then c x y h = ap (λ c. if c then x else y) h
 
 if_else : {A : Type 0} (c : Bool) (x y : A) → c ≡ false → (if c then x else y) ≡ y
@@ -249,11 +249,11 @@ arm_is_read text n d at w rest h is fresh =
 
 -- ---- text is read
 
-or_left : (x y : Bool) → (x || y) ≡ false → x ≡ false
+pub or_left : (x y : Bool) → (x || y) ≡ false → x ≡ false
 or_left true y h = h
 or_left false y h = refl
 
-or_right : (x y : Bool) → (x || y) ≡ false → y ≡ false
+pub or_right : (x y : Bool) → (x || y) ≡ false → y ≡ false
 or_right true y h = absurd (cc)
 or_right false y h = h
 
