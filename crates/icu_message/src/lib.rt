@@ -2,6 +2,7 @@
 //! written with the texts and numbers of arguments.
 #![tactic(auto)]
 
+pub mod argument;
 mod argument_steps;
 pub mod error;
 mod key_steps;
@@ -10,10 +11,13 @@ pub mod laws;
 mod names;
 pub mod piece;
 mod reading;
+pub mod shown_number;
 mod spelling;
 mod stepping;
 mod text_steps;
 mod words;
 
+pub use argument::{Argument, ArgumentValue};
 pub use error::ParseError;
 pub use piece::{ChoiceKind, Piece, Word};
+pub use shown_number::ShownNumber;
