@@ -6,3 +6,4 @@ pub mod Reading
 pub mod Spelling
 pub mod Stepping
 pub mod Words
+pub mod Writing

@@ -3,6 +3,7 @@
 ghost use Rattle.std.specs.Prelude.{◌≡◌};
 ghost use Rattle.icu_message.specs.declared.error.ParseError.TheVariants.{OutOfMemory};
 
+use crate::piece::Word;
 use std::alloc::{AllocError, AllocFailed};
 use thiserror::Error;
 
@@ -69,5 +70,34 @@ impl<T: Drop> From<AllocFailed<T>> for ParseError {
 
     fn from(_refused: AllocFailed<T>) -> ParseError {
         ParseError::OutOfMemory
+    }
+}
+
+/// Why a message isn't written.
+///
+/// The name is where it stands in the message's text (`Message::name`).
+#[derive(Clone, Copy, Debug, PartialEq, Eq, Error)]
+pub enum WriteError {
+    /// Nothing is given for a name.
+    #[error("an argument is missing")]
+    MissingArgument { name: Word },
+    /// A text is given for a name by which `plural` or `selectordinal` picks.
+    #[error("an argument isn't a number")]
+    NotANumber { name: Word },
+    /// A number is given for a name by which `select` picks.
+    #[error("an argument isn't a text")]
+    NotAText { name: Word },
+    /// Memory ran out.
+    #[error("out of memory")]
+    OutOfMemory,
+}
+
+impl From<AllocError> for WriteError {
+    ghost use Rattle.icu_message.specs.declared.error.WriteError.TheVariants.{OutOfMemory as NoMemory};
+
+    ghost from_gives = { λ _ e. e ≡ NoMemory };
+
+    fn from(_refused: AllocError) -> WriteError {
+        WriteError::OutOfMemory
     }
 }

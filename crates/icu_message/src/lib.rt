@@ -5,9 +5,12 @@
 pub mod argument;
 mod argument_steps;
 pub mod error;
+mod filling;
 mod key_steps;
 mod keys;
 pub mod laws;
+pub mod message;
+mod moving;
 mod names;
 pub mod piece;
 mod reading;
@@ -16,8 +19,10 @@ mod spelling;
 mod stepping;
 mod text_steps;
 mod words;
+mod writing;
 
 pub use argument::{Argument, ArgumentValue};
-pub use error::ParseError;
+pub use error::{ParseError, WriteError};
+pub use message::Message;
 pub use piece::{ChoiceKind, Piece, Word};
 pub use shown_number::ShownNumber;
