@@ -1,6 +1,8 @@
 //! Laws of messages.
 
+ghost use Rattle.icu_message.specs.Paths.{ArgumentsAreNoSyntax};
 ghost use Rattle.icu_message.specs.Spelling.{ReadIsNormal, SpellingIsRead};
+ghost use Rattle.icu_message.specs.Trees.{ReadIsTree, WrittenByTrees};
 
 /// Reading the spelling of a message gives the message, if the spelling isn't too long.
 // promise: A message's spelling is read as that message.
@@ -9,7 +11,28 @@ pub fn spelling_is_read()
 {}
 
 /// Each message that is read is normal, so its spelling is read as itself.
-// promise: Each message that is read is normal.
+// promise: Each message that is read has a spelling.
 pub fn read_is_normal()
     ensures { ReadIsNormal }
+{}
+
+/// The pieces of each text that is read are those of a tree of messages and choices.
+// promise: Each message that is read is a tree of choices.
+pub fn read_is_tree()
+    ensures { ReadIsTree }
+{}
+
+/// What is written of a message is what its tree says: of each choice the arm that is picked, and
+/// nothing of its other arms.
+// promise: Of a choice the picked arm is written, and no other.
+pub fn written_by_trees()
+    ensures { WrittenByTrees }
+{}
+
+/// A message is written as a list of its own bytes and of places, which depends on the arguments
+/// only by the arms that are picked; in places stand the arguments as they are. So no argument is
+/// read as syntax.
+// promise: What an argument writes is never read as syntax.
+pub fn arguments_are_no_syntax()
+    ensures { ArgumentsAreNoSyntax }
 {}
