@@ -5,3 +5,4 @@ pub mod Normal
 pub mod Built
 pub mod Paths
 pub mod Walks
+pub mod ShownTexts

@@ -14,6 +14,7 @@ mod moving;
 mod names;
 pub mod piece;
 mod reading;
+mod showing;
 pub mod shown_number;
 mod spelling;
 mod stepping;

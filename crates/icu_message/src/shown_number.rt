@@ -1,8 +1,9 @@
 //! Numbers as a formatter wrote them.
 
-ghost use Rattle.std.specs.Prelude.{◌≡◌, ◌++◌, ◌∷◌, [], decimal, Option, None, Some, IfOk, OnOk};
+ghost use Rattle.std.specs.Prelude.{◌≡◌, ◌++◌, ◌∷◌, [], decimal, Option, None, Some, IfOk, IsOkUnless};
 ghost use Rattle.icu_message.specs.Numbers.{exact_key};
 
+use icu_decimal::error::FormatError;
 use icu_plurals::PluralOperands;
 use itoa::Buffer;
 use std::alloc::{AllocError, Global};
@@ -71,6 +72,31 @@ impl ShownNumber {
             whole,
             exact: exact_key(alloc, whole)?,
         })
+    }
+
+    /// A number by its parts, whose text is the given bytes.
+    pub(crate) fn of_bytes(
+        alloc: Global,
+        text: Vec<u8>,
+        operands: PluralOperands,
+        whole: Option<u64>,
+    ) -> Result<Self, FormatError>
+        ensures made { IfOk result (λ n. n ≡ record {
+          text = text.items;
+          operands = operands;
+          whole = whole;
+        }) }
+        ensures memory { IsOkUnless result FormatError.OutOfMemory }
+    {
+        match exact_key(alloc, whole) {
+            Ok(exact) => Ok(ShownNumber {
+                text,
+                operands,
+                whole,
+                exact,
+            }),
+            Err(_) => Err(FormatError::OutOfMemory),
+        }
     }
 
     /// The text of the number, in UTF-8.
