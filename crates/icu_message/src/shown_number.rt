@@ -113,6 +113,13 @@ impl ShownNumber {
         self.operands
     }
 
+    /// The whole number that the number is, if it is one.
+    pub fn whole(&self) -> Option<u64>
+        ensures { result ≡ self.now.whole }
+    {
+        self.whole
+    }
+
     /// The key `=` of the whole number; nothing without one.
     pub(crate) fn exact(&self) -> &[u8]
         ensures { result.now ≡ exact_key self.now.whole }
