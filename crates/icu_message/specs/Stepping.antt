@@ -213,6 +213,7 @@ abbrev pub fault_in : List ℕ → List OpenKey → List BegunChoice → State �
 fault_in text keys choices s Text zero h = None
 fault_in text keys choices s (Quoted from) n h = Some (OpenQuote from)
 fault_in text keys choices s (DoubledIn from) n h = Some (OpenQuote from)
+fault_in text keys choices s (ValueDue from) n h = Some (End h.at)
 fault_in text keys choices s p n h = Some (end_within h.at (step_in text keys choices s p h))
 
 -- the fault of a text that ends in a state

@@ -160,6 +160,7 @@ impl State {
             Position::Quoted(from) | Position::DoubledIn(from) => {
                 Some(ParseError::OpenQuote { byte: from })
             }
+            Position::ValueDue(_) => Some(ParseError::End { byte: here.at }),
             _ => match self.step(text, keys, choices, here) {
                 Ok(_) => Some(ParseError::End { byte: here.at }),
                 Err(fault) => Some(fault),
