@@ -1,12 +1,12 @@
 -- What is read is normal: what a step adds may stand there.
-use Rattle.std.proofs.Common.{◌≡◌, ◌⊎◌, inl, inr, ℕ, zero, suc, ◌+◌, ◌-◌, List, [], ◌∷◌, ◌++◌, length, drop, refl, sym, ap, subst, ◌∙◌, append_assoc, append-nil}
+use Rattle.std.proofs.Common.{◌≡◌, ◌⊎◌, inl, inr, ℕ, zero, suc, ◌+◌, ◌-◌, List, [], ◌∷◌, ◌++◌, length, refl, sym, ap, subst, ◌∙◌, append_assoc, append-nil}
 use Rattle.std.specs.Prelude.{Bool, true, false, ◌==◌, ◌&&◌, ◌||◌, nat_le, if◌then◌else◌, Option, Some, None, is_some, Result, Ok, Err}
 use Rattle.std.specs.Option.{option_map}
 use Rattle.icu_message.specs.declared.error.ParseError.{ParseError}
 use Rattle.icu_message.specs.declared.piece.Word.{Word}
 use Rattle.icu_message.specs.declared.piece.ChoiceKind.{ChoiceKind}
 use Rattle.icu_message.specs.declared.piece.Piece.{Piece}
-use Rattle.icu_message.specs.declared.piece.Piece.TheVariants.{Byte, Special, Hash}
+use Rattle.icu_message.specs.declared.piece.Piece.TheVariants.{Byte, Special}
 use Rattle.icu_message.specs.declared.stepping.Position.{Position}
 use Rattle.icu_message.specs.declared.stepping.Position.TheVariants.{Text, Doubled, DoubledIn, Quoted, Opened, InName, Named, KindDue, InKind, AfterKind, KeyDue, InKey, ValueDue, InValue, AfterKey}
 use Rattle.icu_message.specs.declared.stepping.State.{State}
@@ -15,9 +15,9 @@ use Rattle.icu_message.specs.declared.stepping.Here.{Here}
 use Rattle.icu_message.specs.Words.{is_space, is_digit, is_word, word_in}
 use Rattle.icu_message.specs.Names.{is_name, is_key, kind_of}
 use Rattle.icu_message.specs.Keys.{has_key, has_keys, has_other, counted_at, has_other_kind}
-use Rattle.icu_message.specs.Stepping.{opening, closing, comma, apostrophe, hash, equals, is_special, start, step, step_in, hash_step, apostrophe_step, text_step, quoted_byte, quoted_step, name_step, after_name, in_name, word_to, kind_step, behind_kind, kind_read, in_kind, close_choice, key_step, after_key, key_read, in_key, value_step, in_value, end_fault}
+use Rattle.icu_message.specs.Stepping.{opening, closing, comma, apostrophe, hash, equals, is_special, start, step, step_in, hash_step, text_step, quoted_step, after_name, behind_kind, kind_read, close_choice, key_step, after_key, key_read}
 use Rattle.icu_message.specs.Reading.{Drafted, empty_draft, with_added, with_step, ended, here, first, fault_of_end, longest, reading_from, pieces_of}
-use Rattle.icu_message.specs.Spelling.{Said, said, said_all, said_by, said_keys, said_choices, counts_at, IsNormalFrom, IsNormal, ReadIsNormal, kinds_differ, keys_have}
+use Rattle.icu_message.specs.Spelling.{Said, said, said_all, said_by, said_keys, said_choices, counts_at, IsNormalFrom, IsNormal, ReadIsNormal}
 use Rattle.icu_message.proofs.Left.{byte_is_read, at_end}
 use Rattle.icu_message.proofs.Spelled.{in_state, keys_said, other_said, key_added, keys_closed, piece_added, kinds_said, choice_added, counted_said, some_said}
 
@@ -163,10 +163,13 @@ behind_kind_goes text d p n k w x t deep name alike h = elim (cases (x.byte == c
   | inl h ↦ known (Goes text d false n) _ t h.1 (record {
     fine = tt;
     stands =
-        λ rest r.
-            (deep, name, sym (kinds_said text k w d.choices) ∙ alike,
-            subst (λ l. IsNormalFrom true (n + 1) (said_keys text d.keys) l rest)
-            (choice_added text d.choices (record { level = n + 1; kind = k; name = w })) r);
+        λ rest r. (
+          deep,
+          name,
+          sym (kinds_said text k w d.choices) ∙ alike,
+          subst (λ l. IsNormalFrom true (n + 1) (said_keys text d.keys) l rest)
+              (choice_added text d.choices (record { level = n + 1; kind = k; name = w })) r,
+        );
   })
   | inr h ↦ elim (cases (is_space x.byte) _ _ (Ok t) h.1) as (λ _. Goes text d false n t) [
     | inl h ↦ known (Goes text d false n) _ t h.1 (record { fine = (deep, name, alike); stands = (refl, refl) })
@@ -188,9 +191,10 @@ close_goes : (text : List ℕ) (d : Drafted) (p : Position) (n at : ℕ) (t : St
 close_goes text d p n at t h = elim (cases (has_other text n d.keys) _ _ (Ok t) h) as (λ _. Goes text d true n t) [
   | inl h ↦ known (Goes text d true n) _ t h.1 (record {
     fine = tt;
-    stands = λ rest r.
-        (sym (other_said text n d.keys) ∙ h.0,
-        subst (λ l. IsNormalFrom false (n - 1) l (said_choices text d.choices) rest) (keys_closed text (n - 1) d.keys) r);
+    stands = λ rest r. (
+      sym (other_said text n d.keys) ∙ h.0,
+      subst (λ l. IsNormalFrom false (n - 1) l (said_choices text d.choices) rest) (keys_closed text (n - 1) d.keys) r,
+    );
   })
   | inr h ↦ elim (cases (has_keys n d.keys) _ _ (Ok t) h.1) as (λ _. Goes text d true n t) [
     | inl h ↦ never _ t h.1
@@ -220,9 +224,11 @@ after_key_goes text d p n w x t key h = elim (cases (has_key text n w d.keys) _ 
   | inr f ↦ elim (cases (x.byte == opening) _ _ (Ok t) f.1) as (λ _. Goes text d true n t) [
     | inl h ↦ known (Goes text d true n) _ t h.1 (record {
       fine = tt;
-      stands = λ rest r.
-          (ap (λ c. is_key c (word_in text w)) (sym (some_said text n d.choices)) ∙ key, sym (keys_said text n w d.keys) ∙ f.0,
-          subst (λ l. IsNormalFrom false n l (said_choices text d.choices) rest) (key_added text d.keys (record { level = n; word = w })) r);
+      stands = λ rest r. (
+        ap (λ c. is_key c (word_in text w)) (sym (some_said text n d.choices)) ∙ key,
+        sym (keys_said text n w d.keys) ∙ f.0,
+        subst (λ l. IsNormalFrom false n l (said_choices text d.choices) rest) (key_added text d.keys (record { level = n; word = w })) r,
+      );
     })
     | inr h ↦ elim (cases (is_space x.byte) _ _ (Ok t) h.1) as (λ _. Goes text d true n t) [
       | inl h ↦ known (Goes text d true n) _ t h.1 (record { fine = key; stands = (refl, refl) })

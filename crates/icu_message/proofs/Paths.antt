@@ -1,12 +1,11 @@
 -- What is written is the path with arguments in places.
-use Rattle.std.proofs.Common.{◌≡◌, ℕ, List, [], ◌∷◌, ◌++◌, refl, sym, ap, ◌∙◌, append_assoc}
+use Rattle.std.proofs.Common.{◌≡◌, ℕ, List, [], ◌∷◌, ◌++◌, refl, sym, ap, ◌∙◌}
 use Rattle.icu_message.specs.declared.piece.Piece.{Piece}
 use Rattle.icu_message.specs.declared.piece.Piece.TheVariants.{Byte, Special, Place, Hash, Choice, Arm, EndArm, EndChoice}
 use Rattle.icu_message.specs.declared.moving.Mode.{Mode}
 use Rattle.icu_message.specs.declared.moving.Mode.TheVariants.{Writing, Seeking, Leaving}
-use Rattle.icu_message.specs.Arguments.{value_text}
-use Rattle.icu_message.specs.Writing.{Filling, named, picked, moved, sought, piece_text, written_from}
-use Rattle.icu_message.specs.Paths.{Stop, own, place, stop_at, sought_by, path_from, filled, ArgumentsAreNoSyntax}
+use Rattle.icu_message.specs.Writing.{Filling, picked, moved, sought, piece_text, written_from}
+use Rattle.icu_message.specs.Paths.{Stop, stop_at, sought_by, path_from, filled, ArgumentsAreNoSyntax}
 
 -- stops before others
 stops_before : (f : Filling) (mode : Mode) (p : Piece) (stops : List Stop) → filled f (stop_at mode p ++ stops) ≡ piece_text f mode p ++ filled f stops

@@ -1,13 +1,12 @@
 -- Reading what is spelled: each piece is read as itself, and the rest is read behind it.
 use Rattle.std.proofs.Common.{◌≡◌, ◌⊎◌, inl, inr, ℕ, ◌+◌, ◌-◌, List, [], ◌∷◌, ◌++◌, length, take, drop, refl, sym, ap, subst, ◌∙◌, arith, append_assoc, append-nil}
-use Rattle.std.specs.Prelude.{Bool, true, false, ◌==◌, ◌&&◌, ◌||◌, nat_le, if◌then◌else◌, Option, Some, None, is_some, Result, Ok, Err}
+use Rattle.std.specs.Prelude.{Bool, true, false, ◌==◌, ◌&&◌, ◌||◌, nat_le, if◌then◌else◌, Option, Some, None, is_some, Result, Ok}
 use Rattle.std.specs.List.{filter}
 use Rattle.std.specs.Option.{option_map}
 use Rattle.std.proofs.lemmas.List.{drop-drop}
 use Rattle.std.proofs.Math.Seq.{drop-append_seam, take-append_seam}
 use Rattle.std.proofs.lemmas.Bool.Decides.{nat_tests}
 use Rattle.icu_message.specs.declared.error.ParseError.{ParseError}
-use Rattle.icu_message.specs.declared.error.ParseError.TheVariants.{Name, TooDeep, TooLong, Unopened, TwoKinds, Key, Repeated, NoOther}
 use Rattle.icu_message.specs.declared.piece.Word.{Word}
 use Rattle.icu_message.specs.declared.piece.OpenKey.{OpenKey}
 use Rattle.icu_message.specs.declared.piece.BegunChoice.{BegunChoice}
@@ -24,10 +23,10 @@ use Rattle.icu_message.specs.declared.stepping.Step.{Step}
 use Rattle.icu_message.specs.declared.stepping.Here.{Here}
 use Rattle.icu_message.specs.Words.{is_space, is_digit, is_word, all_digits, all_word, word_in, other, is_other, same_words}
 use Rattle.icu_message.specs.Names.{is_word_text, is_name, is_value, is_exact, is_category, is_key, kind_name, kind_of, are_apart}
-use Rattle.icu_message.specs.Keys.{has_key, has_keys, has_other, keys_to, number_named, counted_from, counted_at, has_other_kind}
-use Rattle.icu_message.specs.Stepping.{opening, closing, comma, apostrophe, hash, equals, is_special, silent, adds, step, hash_step, text_step, quoted_byte, after_name, in_name, kind_read, behind_kind, key_step, after_key, key_read, key_fault, in_key, value_step, close_choice, word_to}
-use Rattle.icu_message.specs.Reading.{Drafted, empty_draft, with_added, with_step, ended, fault_of_end, first, here, longest, reading_from, pieces_of}
-use Rattle.icu_message.specs.Spelling.{Said, byte, special, place, counted, choice, arm, end_arm, end_choice, said, said_all, said_by, lead, before_next, closed, spelling_from, spelling, SaidKey, said_key, said_keys, SaidChoice, said_choice, said_choices, keys_have, counts_from, counts_at, kinds_differ, spelled_before, IsNormalFrom, SpellingIsRead}
+use Rattle.icu_message.specs.Keys.{has_key, has_other, keys_to, number_named, counted_from, counted_at, has_other_kind}
+use Rattle.icu_message.specs.Stepping.{opening, closing, comma, apostrophe, hash, equals, is_special, silent, adds, step, hash_step, text_step, kind_read, key_read}
+use Rattle.icu_message.specs.Reading.{Drafted, empty_draft, with_added, with_step, first, here, reading_from}
+use Rattle.icu_message.specs.Spelling.{Said, byte, special, place, counted, choice, arm, end_arm, end_choice, said, said_all, said_by, spelling_from, spelling, SaidKey, said_key, said_keys, SaidChoice, said_choice, said_choices, keys_have, counts_from, counts_at, kinds_differ, spelled_before, IsNormalFrom, SpellingIsRead}
 use Rattle.icu_message.proofs.Left.{byte_is_read, at_end}
 
 -- a position in a choice so deep
@@ -429,16 +428,16 @@ apostrophe_read : (text : List ℕ) (n : ℕ) (ks : List SaidKey) (cs : List Sai
 apostrophe_read text n ks cs ms k = record {
   plain =
       λ at d there keys choices.
-          let e : Drafted = with_added n (Some (Byte apostrophe)) d in
-          ap (said_by text) (reads text _ d _ _ _ (adds n Doubled (Byte apostrophe)) refl ∙ reads text _ e _ _ _ (silent (in_state Doubled n) Text) refl)
-          ∙ k.plain (at + 1 + 1) e (behind text (at + 1) apostrophe _ (behind text at apostrophe _ there)) keys choices
-          ∙ regrouped text d.pieces (Byte apostrophe) (byte apostrophe) ms refl;
+      let e : Drafted = with_added n (Some (Byte apostrophe)) d in
+      ap (said_by text) (reads text _ d _ _ _ (adds n Doubled (Byte apostrophe)) refl ∙ reads text _ e _ _ _ (silent (in_state Doubled n) Text) refl)
+      ∙ k.plain (at + 1 + 1) e (behind text (at + 1) apostrophe _ (behind text at apostrophe _ there)) keys choices
+      ∙ regrouped text d.pieces (Byte apostrophe) (byte apostrophe) ms refl;
   quoted =
       λ from at d there keys choices.
-          let e : Drafted = with_added n (Some (Byte apostrophe)) d in
-          ap (said_by text) (reads text _ d _ _ _ (adds n (DoubledIn from) (Byte apostrophe)) refl ∙ reads text _ e _ _ _ (silent (in_state (DoubledIn from) n) (Quoted from)) refl)
-          ∙ k.quoted from (at + 1 + 1) e (behind text (at + 1) apostrophe _ (behind text at apostrophe _ there)) keys choices
-          ∙ regrouped text d.pieces (Byte apostrophe) (byte apostrophe) ms refl;
+      let e : Drafted = with_added n (Some (Byte apostrophe)) d in
+      ap (said_by text) (reads text _ d _ _ _ (adds n (DoubledIn from) (Byte apostrophe)) refl ∙ reads text _ e _ _ _ (silent (in_state (DoubledIn from) n) (Quoted from)) refl)
+      ∙ k.quoted from (at + 1 + 1) e (behind text (at + 1) apostrophe _ (behind text at apostrophe _ there)) keys choices
+      ∙ regrouped text d.pieces (Byte apostrophe) (byte apostrophe) ms refl;
 }
 
 -- how a byte is spelled that is no apostrophe
@@ -479,16 +478,16 @@ special_read : (text : List ℕ) (n : ℕ) (ks : List SaidKey) (cs : List SaidCh
 special_read text n ks cs b ms quoted k = record {
   plain =
       λ at d there keys choices.
-          let s = special_said text n d cs b true choices quoted in
-          let next = behind text at apostrophe (b ∷ spelling_from Quote ms) there in
-          ap (said_by text) (quote_begins text n d at b (spelling_from Quote ms) s ∙ special_is_read text at n d (at + 1) b (spelling_from Quote ms) s)
-          ∙ k.quoted at (at + 1 + 1) (with_added n (Some (Special b)) d) (behind text (at + 1) b (spelling_from Quote ms) next) keys choices
-          ∙ regrouped text d.pieces (Special b) (special b) ms refl;
+      let s = special_said text n d cs b true choices quoted in
+      let next = behind text at apostrophe (b ∷ spelling_from Quote ms) there in
+      ap (said_by text) (quote_begins text n d at b (spelling_from Quote ms) s ∙ special_is_read text at n d (at + 1) b (spelling_from Quote ms) s)
+      ∙ k.quoted at (at + 1 + 1) (with_added n (Some (Special b)) d) (behind text (at + 1) b (spelling_from Quote ms) next) keys choices
+      ∙ regrouped text d.pieces (Special b) (special b) ms refl;
   quoted =
       λ from at d there keys choices.
-          ap (said_by text) (special_is_read text from n d at b (spelling_from Quote ms) (special_said text n d cs b true choices quoted))
-          ∙ k.quoted from (at + 1) (with_added n (Some (Special b)) d) (behind text at b (spelling_from Quote ms) there) keys choices
-          ∙ regrouped text d.pieces (Special b) (special b) ms refl;
+      ap (said_by text) (special_is_read text from n d at b (spelling_from Quote ms) (special_said text n d cs b true choices quoted))
+      ∙ k.quoted from (at + 1) (with_added n (Some (Special b)) d) (behind text at b (spelling_from Quote ms) there) keys choices
+      ∙ regrouped text d.pieces (Special b) (special b) ms refl;
 }
 
 -- a place

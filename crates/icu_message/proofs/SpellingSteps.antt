@@ -1,6 +1,6 @@
 -- The spelling of a piece is its bytes, whatever is behind it.
-use Rattle.std.proofs.Common.{◌≡◌, ℕ, ◌+◌, List, [], ◌∷◌, ◌++◌, drop, refl, sym, ap, ◌∙◌, append_assoc}
-use Rattle.std.specs.Prelude.{Bool, true, false, ◌==◌, if◌then◌else◌}
+use Rattle.std.proofs.Common.{◌≡◌, ℕ, List, [], ◌∷◌, ◌++◌, refl, sym, ap, ◌∙◌, append_assoc}
+use Rattle.std.specs.Prelude.{true, false, ◌==◌, if◌then◌else◌}
 use Rattle.icu_message.specs.declared.piece.Piece.{Piece}
 use Rattle.icu_message.specs.declared.spelling.Before.{Before}
 use Rattle.icu_message.specs.Names.{kind_name}

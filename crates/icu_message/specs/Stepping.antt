@@ -1,5 +1,5 @@
 -- Reading a message byte by byte: what a byte adds to the pieces, and the first fault.
-use Rattle.std.specs.Prelude.{◌≤◌, ℕ, zero, suc, ◌+◌, ◌-◌, Bool, true, false, ◌==◌, ◌&&◌, ◌||◌, nat_le, Option, Some, None, is_some, Result, Ok, Err, if◌then◌else◌, List}
+use Rattle.std.specs.Prelude.{◌≤◌, ℕ, zero, ◌+◌, ◌-◌, Bool, ◌==◌, ◌&&◌, ◌||◌, nat_le, Option, Some, None, is_some, Result, Ok, Err, if◌then◌else◌, List}
 use Rattle.icu_message.specs.declared.error.ParseError.{ParseError}
 use Rattle.icu_message.specs.declared.error.ParseError.TheVariants.{End, Unopened, OpenQuote, TooDeep, Name, Kind, TwoKinds, Offset, Key, Repeated, NoOther, Unexpected}
 use Rattle.icu_message.specs.declared.piece.Word.{Word}

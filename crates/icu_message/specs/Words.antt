@@ -1,5 +1,5 @@
 -- Words of a text, byte by byte.
-use Rattle.std.specs.Prelude.{ℕ, ◌-◌, Bool, true, false, ◌==◌, ◌&&◌, ◌||◌, nat_le, List, [], ◌∷◌, take, drop, codes}
+use Rattle.std.specs.Prelude.{ℕ, ◌-◌, Bool, true, false, ◌==◌, ◌&&◌, ◌||◌, nat_le, List, [], ◌∷◌, take, drop}
 use Rattle.icu_message.specs.declared.piece.Word.{Word}
 
 -- white space
