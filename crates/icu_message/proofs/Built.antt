@@ -31,12 +31,14 @@ record InArms (n : ℕ) (ps : List Piece) : Type 0 where
   is : ps ≡ pieces_in_arms arms (EndChoice ∷ pieces_in tree (behind around))
 
 -- an arm more
-with_arm : (n : ℕ) (w : Word) (ps : List Piece) (t : Tree) (around : Around) → length around ≡ n → ps ≡ pieces_in t (behind around) → 0 < n → InArms n (Arm w ∷ ps)
+with_arm : (n : ℕ) (w : Word) (ps : List Piece) (t : Tree) (around : Around) → length around ≡ n → ps ≡ pieces_in t (behind around)
+    → 0 < n → InArms n (Arm w ∷ ps)
 with_arm n w ps t [] levels is some = absurd (omega arith)
 with_arm n w ps t (x ∷ xs) levels is some = record { arms = arm w t x.0; tree = x.1; around = xs; levels = levels; is = ap (λ l. Arm w ∷ l) is }
 
 mutual
-  in_message : (text : List ℕ) (n : ℕ) (ks : List SaidKey) (cs : List SaidChoice) (ps : List Piece) → IsNormalFrom false n ks cs (said_all text ps) → InMessage n ps
+  in_message : (text : List ℕ) (n : ℕ) (ks : List SaidKey) (cs : List SaidChoice) (ps : List Piece)
+      → IsNormalFrom false n ks cs (said_all text ps) → InMessage n ps
   in_message text n ks cs [] h = record { tree = done; around = []; levels = sym h; is = refl }
   in_message text n ks cs (Byte b ∷ ps) h =
       let x = in_message text n ks cs ps h.1 in
@@ -59,7 +61,8 @@ mutual
   in_message text n ks cs (Arm w ∷ ps) h = absurd h
   in_message text n ks cs (EndChoice ∷ ps) h = absurd h
 
-  in_arms : (text : List ℕ) (n : ℕ) (ks : List SaidKey) (cs : List SaidChoice) (ps : List Piece) → IsNormalFrom true n ks cs (said_all text ps) → 0 < n → InArms n ps
+  in_arms : (text : List ℕ) (n : ℕ) (ks : List SaidKey) (cs : List SaidChoice) (ps : List Piece)
+      → IsNormalFrom true n ks cs (said_all text ps) → 0 < n → InArms n ps
   in_arms text n ks cs (Arm w ∷ ps) h some =
       let x = in_message text n _ cs ps h.2 in with_arm n w ps x.tree x.around x.levels x.is some
   in_arms text n ks cs (EndChoice ∷ ps) h some =

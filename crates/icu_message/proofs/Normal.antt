@@ -308,7 +308,8 @@ completes_on : (text : List ℕ) (b : Bool) (n : ℕ) (d : Drafted) (s : State) 
 completes_on text b n d s None k m rest r =
     k rest (subst (λ c. Follows text d c n rest) m.0 (subst (λ l. Follows text d (between s.position) l rest) m.1 r))
 completes_on text b n d s (Some p) k m rest r =
-    subst IsNormal (sym (ap (λ l. l ++ rest) (piece_added text d.pieces p) ∙ append_assoc (said_all text d.pieces) (said text p ∷ []) rest)) (k (said text p ∷ rest) (m rest r))
+    subst IsNormal (sym (ap (λ l. l ++ rest) (piece_added text d.pieces p) ∙ append_assoc (said_all text d.pieces) (said text p ∷ []) rest))
+    (k (said text p ∷ rest) (m rest r))
 
 no_fault : {A : Type 0} (fault : ParseError) (ps : List Piece) → ◌≡◌ {A = Result (List Piece) ParseError} (Err fault) (Ok ps) → A
 no_fault fault ps h = absurd (cc)

@@ -193,7 +193,8 @@ exact_arm_is_read : (text : List ℕ) (n : ℕ) (d : Drafted) (at : ℕ) (v rest
     → is_key (is_some (counted_at n d.choices)) (word_in text (record { start = at; end = at + length (equals ∷ v) })) ≡ true
     → has_key text n (record { start = at; end = at + length (equals ∷ v) }) d.keys ≡ false
     → reading_from text (in_state KeyDue n) d at (equals ∷ (v ++ opening ∷ rest))
-    ≡ reading_from text (in_state Text n) (with_added n (Some (Arm (record { start = at; end = at + length (equals ∷ v) }))) d) (at + length (equals ∷ v) + 1) rest
+    ≡ reading_from text (in_state Text n) (with_added n (Some (Arm (record { start = at; end = at + length (equals ∷ v) }))) d)
+    (at + length (equals ∷ v) + 1) rest
 exact_arm_is_read text n d at [] rest h some valid fresh = absurd (cc)
 exact_arm_is_read text n d at (b ∷ bs) rest h some valid fresh =
     let all : all_digits (b ∷ bs) ≡ true =
@@ -283,7 +284,8 @@ no_apostrophe false b h = grind (arith, nat_tests)
 
 -- in a quote such a byte is read
 special_is_read : (text : List ℕ) (from n : ℕ) (d : Drafted) (at b : ℕ) (rest : List ℕ) → is_special (is_some (counted_at n d.choices)) b ≡ true
-    → reading_from text (in_state (Quoted from) n) d at (b ∷ rest) ≡ reading_from text (in_state (Quoted from) n) (with_added n (Some (Special b)) d) (at + 1) rest
+    → reading_from text (in_state (Quoted from) n) d at (b ∷ rest)
+    ≡ reading_from text (in_state (Quoted from) n) (with_added n (Some (Special b)) d) (at + 1) rest
 special_is_read text from n d at b rest h =
     reads text _ d _ _ _ (adds n (Quoted from) (Special b))
     (ap (λ (t : Step). Ok t) (if_else _ _ _ (no_apostrophe (is_some (counted_at n d.choices)) b h) ∙ if_then _ _ _ h))
@@ -352,7 +354,8 @@ named_said text SelectOrdinal v = refl
 named_said text Select v = refl
 
 found_said : (text : List ℕ) (b : Bool) (c : BegunChoice) (o : Option Word)
-    → option_map (word_in text) (if b then number_named c.kind c.name else o) ≡ (if b then number_named c.kind (word_in text c.name) else option_map (word_in text) o)
+    → option_map (word_in text) (if b then number_named c.kind c.name else o)
+    ≡ (if b then number_named c.kind (word_in text c.name) else option_map (word_in text) o)
 found_said text true c o = named_said text c.kind c.name
 found_said text false c o = refl
 
@@ -435,7 +438,8 @@ apostrophe_read text n ks cs ms k = record {
   quoted =
       λ from at d there keys choices.
       let e : Drafted = with_added n (Some (Byte apostrophe)) d in
-      ap (said_by text) (reads text _ d _ _ _ (adds n (DoubledIn from) (Byte apostrophe)) refl ∙ reads text _ e _ _ _ (silent (in_state (DoubledIn from) n) (Quoted from)) refl)
+      ap (said_by text) (reads text _ d _ _ _ (adds n (DoubledIn from) (Byte apostrophe)) refl
+      ∙ reads text _ e _ _ _ (silent (in_state (DoubledIn from) n) (Quoted from)) refl)
       ∙ k.quoted from (at + 1 + 1) e (behind text (at + 1) apostrophe _ (behind text at apostrophe _ there)) keys choices
       ∙ regrouped text d.pieces (Byte apostrophe) (byte apostrophe) ms refl;
 }
@@ -529,7 +533,8 @@ choice_read text n ks cs c w ms deep name alike k at d there keys choices =
     ap (said_by text) (choice_is_read text n d at c w rest deep name is (word_there text from (kind_name c) (comma ∷ rest) kind) one_kind)
     ∙ k.begun (from + length (kind_name c) + 1) (with_added (n + 1) (Some (Choice c v)) d)
     (behind text (from + length (kind_name c)) comma rest (dropped text from (kind_name c) (comma ∷ rest) kind)) keys
-    (choice_added text d.choices (record { level = n + 1; kind = c; name = v }) ∙ ap (λ l. l ++ record { level = n + 1; kind = c; name = word_in text v } ∷ []) choices
+    (choice_added text d.choices (record { level = n + 1; kind = c; name = v })
+    ∙ ap (λ l. l ++ record { level = n + 1; kind = c; name = word_in text v } ∷ []) choices
     ∙ ap (λ x. cs ++ record { level = n + 1; kind = c; name = x } ∷ []) is)
     ∙ regrouped text d.pieces (Choice c v) (choice c w) ms (ap (choice c) is)
 
@@ -548,7 +553,8 @@ arm_read text n ks cs w ms key once k at d there keys choices =
     let rest : List ℕ = spelling_from Nothing ms in
     let v : Word = record { start = at; end = at + length w } in
     let is : word_in text v ≡ w = word_there text at w (opening ∷ rest) there in
-    let fresh : has_key text n v d.keys ≡ false = keys_said text n v d.keys ∙ ap (λ x. keys_have n x (said_keys text d.keys)) is ∙ ap (keys_have n w) keys ∙ once in
+    let fresh : has_key text n v d.keys ≡ false =
+    keys_said text n v d.keys ∙ ap (λ x. keys_have n x (said_keys text d.keys)) is ∙ ap (keys_have n w) keys ∙ once in
     let valid : is_key (is_some (counted_at n d.choices)) w ≡ true =
     ap (λ c. is_key c w) (some_said text n d.choices ∙ ap (λ l. is_some (counts_at n l)) choices) ∙ key in
     ap (said_by text) (arm_is_read text n d at w rest valid is fresh)

@@ -38,7 +38,8 @@ mutual
       → written_from f key (Seeking (n + 1)) (pieces_in_arms arms rest) ≡ written_from f key (Seeking (n + 1)) rest
   seek-arms f key n last rest = refl
   seek-arms f key n (arm w t more) rest =
-      ap (λ b. written_from f key (if b && same_bytes (word_in f.text w) key then Writing else Seeking (n + 1)) (pieces_in t (EndArm ∷ pieces_in_arms more rest))) (up n)
+      ap (λ b. written_from f key (if b && same_bytes (word_in f.text w) key then Writing else Seeking (n + 1))
+      (pieces_in t (EndArm ∷ pieces_in_arms more rest))) (up n)
       ∙ seek-tree f key (n + 1) t (EndArm ∷ pieces_in_arms more rest)
       ∙ seek-arms f key n more rest
 
@@ -111,7 +112,8 @@ mutual
   leave-any f k l n (Choice c w ∷ ps) = leave-any f k l (n + 1) ps
   leave-any f k l n (Arm w ∷ ps) = leave-any f k l n ps
   leave-any f k l n (EndArm ∷ ps) = leave-any f k l n ps
-  leave-any f k l n (EndChoice ∷ ps) = elim (n == 0) as (λ b. written_from f k (if b then Writing else Leaving (n - 1)) ps ≡ written_from f l (if b then Writing else Leaving (n - 1)) ps) [
+  leave-any f k l n (EndChoice ∷ ps) = elim (n == 0) as (λ b. written_from f k (if b then Writing else Leaving (n - 1)) ps
+      ≡ written_from f l (if b then Writing else Leaving (n - 1)) ps) [
     | true ↦ write-any f k l ps
     | false ↦ leave-any f k l (n - 1) ps
   ]

@@ -41,6 +41,10 @@ impl Message {
     ///
     /// The text is read once, and memory is taken meanwhile: so `OutOfMemory` may be reported in
     /// place of a fault.
+    // promise: A text is read, or its first fault and byte are reported.
+    // mutations: parse_apostrophe_always_quotes, parse_name_reported_at_its_brace
+    // promise: A choice has `other`, and no key twice.
+    // mutations: parse_choice_without_other_accepted, parse_key_twice_accepted
     pub fn parse(alloc: Global, text: &str) -> Result<Self, ParseError>
         ensures text { IfOk result (λ m. m.text ≡ text.now) }
         ensures read { IfOk result (λ m. pieces_of text.now ≡ Ok m.pieces) }
@@ -73,6 +77,14 @@ impl Message {
     /// Each name of the message, in all of its arms, has to be given in its kind; otherwise nothing
     /// is written. Of two arguments with one name the first counts. If memory runs out, a part of
     /// the message may stand in the buffer.
+    // promise: The message is written with its arguments in places.
+    // mutations: write_name_in_place_of_its_argument, write_arm_behind_the_picked_one
+    // promise: `=` comes before the category, and that before `other`.
+    // mutations: write_exact_key_after_the_category, write_no_arm_in_place_of_other
+    // promise: Ordinals go by ordinal rules.
+    // mutations: write_cardinal_rules_for_ordinals
+    // promise: If an argument is missing, nothing is written.
+    // mutations: write_argument_missed_in_the_first_arm_alone
     pub fn write(
         &self,
         cardinal: &PluralRules,
@@ -114,6 +126,8 @@ impl Message {
 
     /// Appends the spelling of the message to a buffer: without white space but one space between
     /// two arms, so that equal messages are spelled alike.
+    // promise: Equal messages are spelled alike, with quotes where needed.
+    // mutations: spell_apostrophe_alone, spell_no_space_between_arms
     pub fn spell(&self, out: &mut Vec<u8>) -> Result<(), AllocError>
         ensures { OnOk result (out.new.items ≡ out.old.items
             ++ spelling (said_all self.now.text self.now.pieces)) }

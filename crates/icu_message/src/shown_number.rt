@@ -54,6 +54,7 @@ impl ShownNumber {
     /// A number by its parts: its text, the plural operands of what the text shows, and the whole
     /// number from 0 to 10^18 - 1 that the number is, if it is one.
     // promise: The number has the given text, operands and whole number.
+    // mutations: shown_whole_number_without_its_key
     pub fn new(
         alloc: Global,
         text: &str,

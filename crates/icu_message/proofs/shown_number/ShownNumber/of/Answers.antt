@@ -19,7 +19,8 @@ returns-in-Ok-clause-shown g c =
       a.1,
       sym b.2 ∙ ap operands_shown one,
       c.in-Ok.ensures
-          ∙ ap (λ l. l ++ text_of (affixed_events c.format_sign-signed.result.affixes (text_events c.format_sign-signed.result.value.now))) c.new-text.ensures.items
+          ∙ ap (λ l. l ++ text_of (affixed_events c.format_sign-signed.result.affixes (text_events c.format_sign-signed.result.value.now)))
+          c.new-text.ensures.items
           ∙ ap (λ (x : Signed (Bor (List ℕ))). text_of (affixed_events x.affixes (text_events x.value.now))) c.format_sign-signed.ensures
           ∙ signed_text (affixes_for symbols c.args.value.now.sign) a.0.events c.as_str.result.now c.as_str.utf8 digits,
     )
