@@ -75,7 +75,7 @@ impl<T: Drop> From<AllocFailed<T>> for ParseError {
 
 /// Why a message isn't written.
 ///
-/// The name is where it stands in the message's text (`Message::name`).
+/// The name is where it stands in the message's text (`Message::word`).
 #[derive(Clone, Copy, Debug, PartialEq, Eq, Error)]
 pub enum WriteError {
     /// Nothing is given for a name.

@@ -48,7 +48,7 @@ impl Message {
     pub fn parse(alloc: Global, text: &str) -> Result<Self, ParseError>
         ensures text { IfOk result (λ m. m.text ≡ text.now) }
         ensures read { IfOk result (λ m. pieces_of text.now ≡ Ok m.pieces) }
-        ensures refused { IfErr result (λ e. (e ≡ OutOfMemory) ⊎ (pieces_of text.now ≡ Err e)) }
+        ensures rejected { IfErr result (λ e. (e ≡ OutOfMemory) ⊎ (pieces_of text.now ≡ Err e)) }
     {
         let pieces = read(alloc, text.as_bytes())?;
         Ok(Message {

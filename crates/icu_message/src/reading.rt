@@ -133,7 +133,7 @@ impl Draft {
 fn read_all(alloc: Global, text: &[u8]) -> Result<Vec<Piece>, ParseError>
     ensures read { IfOk result (λ p. reading_from text.now start empty_draft 0 text.now
         ≡ Ok p.items) }
-    ensures refused { IfErr result (λ e. (e ≡ OutOfMemory)
+    ensures rejected { IfErr result (λ e. (e ≡ OutOfMemory)
         ⊎ (reading_from text.now start empty_draft 0 text.now ≡ Err e)) }
 {
     let mut state = State::start();
@@ -156,7 +156,7 @@ fn read_all(alloc: Global, text: &[u8]) -> Result<Vec<Piece>, ParseError>
 /// The pieces of a text.
 pub(crate) fn read(alloc: Global, text: &[u8]) -> Result<Vec<Piece>, ParseError>
     ensures read { IfOk result (λ p. pieces_of text.now ≡ Ok p.items) }
-    ensures refused { IfErr result (λ e. (e ≡ OutOfMemory) ⊎ (pieces_of text.now ≡ Err e)) }
+    ensures rejected { IfErr result (λ e. (e ≡ OutOfMemory) ⊎ (pieces_of text.now ≡ Err e)) }
 {
     if LONGEST < text.len() {
         return Err(ParseError::TooLong { byte: LONGEST });

@@ -8,8 +8,8 @@ use Rattle.icu_message.proofs.reading.read_all.Goals as goal
 pub loop-at-init : goal.loop-at-init
 loop-at-init c = (rw c.start-state.ensures (omega arith), left-start _ _ _ c.start-state.ensures c.new-draft.ensures)
 
-pub returns-in-Err-clause-refused : goal.returns-in-Err-clause-refused
-returns-in-Err-clause-refused c =
+pub returns-in-Err-clause-rejected : goal.returns-in-Err-clause-rejected
+returns-in-Err-clause-rejected c =
     inr (left-stop c.in-Err.fault c.loop-at.invariant.1 c.loop-at-test.true (sym c.step.ensures.stepped ∙ c.in-Err.is))
 
 pub loop-at-preserved : goal.loop-at-preserved
@@ -19,8 +19,8 @@ loop-at-preserved c =
     left-next c.in-Ok.step c.loop-at.invariant.1 c.loop-at-test.true (sym c.step.ensures.stepped ∙ c.in-Ok.is) in
     (nested, rw c.in_ok-take-in-Ok.ensures.taken next)
 
-pub returns-in-Some-clause-refused : goal.returns-in-Some-clause-refused
-returns-in-Some-clause-refused c =
+pub returns-in-Some-clause-rejected : goal.returns-in-Some-clause-rejected
+returns-in-Some-clause-rejected c =
     let all : c.loop-at.at ≡ length c.args.text.now = omega arith in
     inr (left-end c.loop-at.invariant.1 all ∙ ap (λ o. ended o c.loop-at.draft) (sym c.fault_of_end.ensures ∙ c.in-Some.is))
 
