@@ -206,11 +206,11 @@ exact_arm_is_read text n d at (b ∷ bs) rest h some valid fresh =
     ∙ ap (λ a. reading_from text (in_state (InValue at (at + 1)) n) d a (opening ∷ rest)) (omega arith)
     ∙ reads text _ d _ _ _ (adds n Text (Arm (record { start = at; end = end }))) (key_ends text n d at (at + 1) end rest (InValue at (at + 1)) valid fresh)
 
-both : (b : Bool) → (b ≡ true) ⊎ (b ≡ false)
+pub both : (b : Bool) → (b ≡ true) ⊎ (b ≡ false)
 both true = inl refl
 both false = inr refl
 
-equal_bytes : (a b : ℕ) → (a == b) ≡ true → a ≡ b
+pub equal_bytes : (a b : ℕ) → (a == b) ≡ true → a ≡ b
 equal_bytes a b h = grind (arith, nat_tests)
 
 -- an arm whose key is `=` and a value, if the key is so spelled

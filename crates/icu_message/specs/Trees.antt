@@ -1,5 +1,5 @@
 -- Messages as trees: what the pieces are the walk of, and what is written of them.
-use Rattle.std.specs.Prelude.{◌≡◌, ℕ, Bool, false, ◌||◌, List, [], ◌∷◌, ◌++◌, if◌then◌else◌, Ok}
+use Rattle.std.specs.Prelude.{◌≡◌, ℕ, zero, suc, Bool, false, ◌||◌, List, [], ◌∷◌, ◌++◌, if◌then◌else◌, Ok}
 use Rattle.icu_message.specs.declared.piece.Word.{Word}
 use Rattle.icu_message.specs.declared.piece.ChoiceKind.{ChoiceKind}
 use Rattle.icu_message.specs.declared.piece.Piece.{Piece}
@@ -67,3 +67,26 @@ WrittenByTrees = (f : Filling) (t : Tree) → written f (pieces_in t []) ≡ tre
 -- the pieces of each text that is read are those of a tree
 abbrev pub ReadIsTree : Type 0
 ReadIsTree = (text : List ℕ) (ps : List Piece) → pieces_of text ≡ Ok ps → (t : Tree) × (ps ≡ pieces_in t [])
+
+-- how many arms have this key
+abbrev pub arms_with : List ℕ → List ℕ → Arms → ℕ
+arms_with text key last = zero
+arms_with text key (arm w t more) = if same_bytes (word_in text w) key then suc (arms_with text key more) else arms_with text key more
+
+-- of each choice exactly one arm has the key that is picked
+abbrev mutual
+  pub PicksOne : Filling → Tree → Type 0
+  PicksOne f done = Unit {0}
+  PicksOne f (byte b t) = PicksOne f t
+  PicksOne f (special b t) = PicksOne f t
+  PicksOne f (place w t) = PicksOne f t
+  PicksOne f (counted w t) = PicksOne f t
+  PicksOne f (choice k w arms t) = (arms_with f.text (picked_key f k w arms) arms ≡ 1) × ArmsPickOne f arms × PicksOne f t
+
+  pub ArmsPickOne : Filling → Arms → Type 0
+  ArmsPickOne f last = Unit {0}
+  ArmsPickOne f (arm w t more) = PicksOne f t × ArmsPickOne f more
+
+-- each text that is read is a tree in which each choice picks exactly one arm, whatever the rules and the arguments are
+abbrev pub OneArm : Type 0
+OneArm = (f : Filling) (ps : List Piece) → pieces_of f.text ≡ Ok ps → (t : Tree) × (ps ≡ pieces_in t []) × PicksOne f t

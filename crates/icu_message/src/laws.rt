@@ -2,7 +2,7 @@
 
 ghost use Rattle.icu_message.specs.Paths.{ArgumentsAreNoSyntax};
 ghost use Rattle.icu_message.specs.Spelling.{ReadIsNormal, SpellingIsRead};
-ghost use Rattle.icu_message.specs.Trees.{ReadIsTree, WrittenByTrees};
+ghost use Rattle.icu_message.specs.Trees.{OneArm, ReadIsTree, WrittenByTrees};
 
 /// Reading the spelling of a message gives the message, if the spelling isn't too long.
 // promise: A message's spelling is read as that message.
@@ -20,6 +20,13 @@ pub fn read_is_normal()
 // promise: Each message that is read is a tree of choices.
 pub fn read_is_tree()
     ensures { ReadIsTree }
+{}
+
+/// In the tree of each text that is read, each choice has exactly one arm with the key that is
+/// picked, whatever the rules and the arguments are.
+// promise: Of each choice exactly one arm is picked.
+pub fn one_arm()
+    ensures { OneArm }
 {}
 
 /// What is written of a message is what its tree says: of each choice the arm that is picked, and
