@@ -1,5 +1,6 @@
 -- The tree of normal pieces, from the back: a message and, for each open choice, its other arms and what stands behind it.
-use Rattle.std.proofs.Common.{◌≡◌, ◌⊎◌, inl, inr, ℕ, zero, suc, ◌+◌, ◌-◌, ◌<◌, List, [], ◌∷◌, ◌++◌, length, refl, sym, ap, subst, ◌∙◌, arith}
+use Rattle.std.proofs.Common.{◌≡◌, ◌⊎◌, inl, inr, ℕ, zero, suc, ◌+◌, ◌-◌, ◌<◌, List, [], ◌∷◌, ◌++◌, length, refl, sym, ap}
+use Rattle.std.proofs.Common.{subst, ◌∙◌, arith}
 use Rattle.std.specs.Prelude.{Bool, true, false, ◌==◌, ◌&&◌, ◌||◌, nat_le, if◌then◌else◌, Option, Some, None}
 use Rattle.std.specs.List.{filter}
 use Rattle.std.proofs.lemmas.Bool.Decides.{nat_tests}
@@ -16,7 +17,8 @@ use Rattle.icu_message.specs.Names.{category_name}
 use Rattle.icu_message.specs.Numbers.{Number as Shown, exact_key}
 use Rattle.icu_message.specs.Writing.{Filling, named, key_or_other, key_for_number, key_for}
 use Rattle.icu_message.specs.Spelling.{said_all, SaidKey, SaidChoice, keys_have, IsNormalFrom}
-use Rattle.icu_message.specs.Trees.{Tree, done, byte, special, place, counted, choice, Arms, last, arm, pieces_in, pieces_in_arms, arms_have, arms_with, picked_key, PicksOne, ArmsPickOne, ReadIsTree, OneArm}
+use Rattle.icu_message.specs.Trees.{Tree, done, byte, special, place, counted, choice, Arms, last, arm, pieces_in, pieces_in_arms, arms_have, arms_with}
+use Rattle.icu_message.specs.Trees.{picked_key, PicksOne, ArmsPickOne, ReadIsTree, OneArm}
 use Rattle.icu_message.proofs.Normal.{pieces_are_normal}
 use Rattle.icu_message.proofs.Spelled.{and_left, and_right, or_left, or_right, both, equal_bytes}
 
@@ -145,12 +147,14 @@ none_above n w (k ∷ ks) h =
     ap (λ c. (c && same_bytes k.word w) || keys_have (n + 1) w ks) d ∙ none_above n w ks h.1
 
 -- a key more
-key_more : (n : ℕ) (v w : List ℕ) (ks : List SaidKey) → keys_have n v (ks ++ record { level = n; word = w } ∷ []) ≡ (keys_have n v ks || same_bytes w v)
+key_more : (n : ℕ) (v w : List ℕ) (ks : List SaidKey) → keys_have n v (ks ++ record { level = n; word = w } ∷ [])
+    ≡ (keys_have n v ks || same_bytes w v)
 key_more n v w [] =
     let e : (n == n) ≡ true = grind (arith, nat_tests) in
     ap (λ c. (c && same_bytes w v) || false) e ∙ or_false (same_bytes w v)
 key_more n v w (k ∷ ks) =
-    ap (λ r. (k.level == n && same_bytes k.word v) || r) (key_more n v w ks) ∙ or_assoc (k.level == n && same_bytes k.word v) (keys_have n v ks) (same_bytes w v)
+    ap (λ r. (k.level == n && same_bytes k.word v) || r) (key_more n v w ks)
+    ∙ or_assoc (k.level == n && same_bytes k.word v) (keys_have n v ks) (same_bytes w v)
 
 -- of a level that is left out
 more_dropped : (n : ℕ) (w : List ℕ) (ks : List SaidKey) → 0 < n → down_to (n - 1) (ks ++ record { level = n; word = w } ∷ []) ≡ down_to (n - 1) ks
@@ -268,7 +272,8 @@ mutual
   in_arms text n ks cs (Choice k w ∷ ps) low h some = absurd h
   in_arms text n ks cs (EndArm ∷ ps) low h some = absurd h
 
-nothing_around : (text : List ℕ) (ps : List Piece) (t : Tree) (around : Around) → length around ≡ 0 → ps ≡ pieces_in t (behind around) → Sound text t
+nothing_around : (text : List ℕ) (ps : List Piece) (t : Tree) (around : Around) → length around ≡ 0 → ps ≡ pieces_in t (behind around)
+    → Sound text t
     → (t : Tree) × (ps ≡ pieces_in t []) × Sound text t
 nothing_around text ps t [] levels is sound = (t, is, sound)
 nothing_around text ps t (x ∷ xs) levels is sound = absurd (omega arith)

@@ -1,5 +1,6 @@
 -- What is read is normal: what a step adds may stand there.
-use Rattle.std.proofs.Common.{◌≡◌, ◌⊎◌, inl, inr, ℕ, zero, suc, ◌+◌, ◌-◌, List, [], ◌∷◌, ◌++◌, length, refl, sym, ap, subst, ◌∙◌, append_assoc, append-nil}
+use Rattle.std.proofs.Common.{◌≡◌, ◌⊎◌, inl, inr, ℕ, zero, suc, ◌+◌, ◌-◌, List, [], ◌∷◌, ◌++◌, length, refl, sym, ap, subst}
+use Rattle.std.proofs.Common.{◌∙◌, append_assoc, append-nil}
 use Rattle.std.specs.Prelude.{Bool, true, false, ◌==◌, ◌&&◌, ◌||◌, nat_le, if◌then◌else◌, Option, Some, None, is_some, Result, Ok, Err}
 use Rattle.std.specs.Option.{option_map}
 use Rattle.icu_message.specs.declared.error.ParseError.{ParseError}
@@ -8,14 +9,16 @@ use Rattle.icu_message.specs.declared.piece.ChoiceKind.{ChoiceKind}
 use Rattle.icu_message.specs.declared.piece.Piece.{Piece}
 use Rattle.icu_message.specs.declared.piece.Piece.TheVariants.{Byte, Special}
 use Rattle.icu_message.specs.declared.stepping.Position.{Position}
-use Rattle.icu_message.specs.declared.stepping.Position.TheVariants.{Text, Doubled, DoubledIn, Quoted, Opened, InName, Named, KindDue, InKind, AfterKind, KeyDue, InKey, ValueDue, InValue, AfterKey}
+use Rattle.icu_message.specs.declared.stepping.Position.TheVariants.{Text, Doubled, DoubledIn, Quoted, Opened, InName, Named, KindDue, InKind, AfterKind}
+use Rattle.icu_message.specs.declared.stepping.Position.TheVariants.{KeyDue, InKey, ValueDue, InValue, AfterKey}
 use Rattle.icu_message.specs.declared.stepping.State.{State}
 use Rattle.icu_message.specs.declared.stepping.Step.{Step}
 use Rattle.icu_message.specs.declared.stepping.Here.{Here}
 use Rattle.icu_message.specs.Words.{is_space, is_digit, is_word, word_in}
 use Rattle.icu_message.specs.Names.{is_name, is_key, kind_of}
 use Rattle.icu_message.specs.Keys.{has_key, has_keys, has_other, counted_at, has_other_kind}
-use Rattle.icu_message.specs.Stepping.{opening, closing, comma, apostrophe, hash, equals, is_special, start, step, step_in, hash_step, text_step, quoted_step, after_name, behind_kind, kind_read, close_choice, key_step, after_key, key_read}
+use Rattle.icu_message.specs.Stepping.{opening, closing, comma, apostrophe, hash, equals, is_special, start, step, step_in, hash_step, text_step, quoted_step}
+use Rattle.icu_message.specs.Stepping.{after_name, behind_kind, kind_read, close_choice, key_step, after_key, key_read}
 use Rattle.icu_message.specs.Reading.{Drafted, empty_draft, with_added, with_step, ended, here, first, fault_of_end, longest, reading_from, pieces_of}
 use Rattle.icu_message.specs.Spelling.{Said, said, said_all, said_by, said_keys, said_choices, counts_at, IsNormalFrom, IsNormal, ReadIsNormal}
 use Rattle.icu_message.proofs.Left.{byte_is_read, at_end}
@@ -96,7 +99,8 @@ apostrophe_goes text d n at next true s = record { fine = tt; stands = λ rest r
 apostrophe_goes text d n at next false true = record { fine = tt; stands = (refl, refl) }
 apostrophe_goes text d n at next false false = record { fine = tt; stands = λ rest r. (refl, r) }
 
-text_goes : (text : List ℕ) (d : Drafted) (n at b : ℕ) (bs : List ℕ) (t : Step) → text_step (in_state Text n) (here (in_state Text n) d at b bs) ≡ Ok t
+text_goes : (text : List ℕ) (d : Drafted) (n at b : ℕ) (bs : List ℕ) (t : Step)
+    → text_step (in_state Text n) (here (in_state Text n) d at b bs) ≡ Ok t
     → Goes text d false n t
 text_goes text d n at b bs t h = elim (cases (b == opening) _ _ (Ok t) h) as (λ _. Goes text d false n t) [
   | inl h ↦ elim (cases (nat_le 8 n) _ _ (Ok t) h.1) as (λ _. Goes text d false n t) [
@@ -158,7 +162,8 @@ after_name_goes text d p n w x t deep name h = elim (cases (x.byte == closing) _
 ]
 
 behind_kind_goes : (text : List ℕ) (d : Drafted) (p : Position) (n : ℕ) (k : ChoiceKind) (w : Word) (h : Here) (t : Step) → nat_le 8 n ≡ false
-    → is_name (word_in text w) ≡ true → has_other_kind text k w d.choices ≡ false → behind_kind (in_state p n) k w h ≡ Ok t → Goes text d false n t
+    → is_name (word_in text w) ≡ true → has_other_kind text k w d.choices ≡ false → behind_kind (in_state p n) k w h ≡ Ok t
+    → Goes text d false n t
 behind_kind_goes text d p n k w x t deep name alike h = elim (cases (x.byte == comma) _ _ (Ok t) h) as (λ _. Goes text d false n t) [
   | inl h ↦ known (Goes text d false n) _ t h.1 (record {
     fine = tt;
@@ -177,7 +182,8 @@ behind_kind_goes text d p n k w x t deep name alike h = elim (cases (x.byte == c
   ]
 ]
 
-kind_read_goes : (text : List ℕ) (d : Drafted) (p : Position) (n : ℕ) (w : Word) (from : ℕ) (h : Here) (o : Option ChoiceKind) (t : Step) → nat_le 8 n ≡ false
+kind_read_goes : (text : List ℕ) (d : Drafted) (p : Position) (n : ℕ) (w : Word) (from : ℕ) (h : Here) (o : Option ChoiceKind) (t : Step)
+    → nat_le 8 n ≡ false
     → is_name (word_in text w) ≡ true → kind_read text d.choices (in_state p n) w from h o ≡ Ok t → Goes text d false n t
 kind_read_goes text d p n w from x None t deep name h = never _ t h
 kind_read_goes text d p n w from x (Some k) t deep name h = elim (cases (has_other_kind text k w d.choices) _ _ (Ok t) h) as (λ _. Goes text d false n t) [
@@ -187,7 +193,8 @@ kind_read_goes text d p n w from x (Some k) t deep name h = elim (cases (has_oth
 
 -- ---- keys
 
-close_goes : (text : List ℕ) (d : Drafted) (p : Position) (n at : ℕ) (t : Step) → close_choice text d.keys (in_state p n) at ≡ Ok t → Goes text d true n t
+close_goes : (text : List ℕ) (d : Drafted) (p : Position) (n at : ℕ) (t : Step) → close_choice text d.keys (in_state p n) at ≡ Ok t
+    → Goes text d true n t
 close_goes text d p n at t h = elim (cases (has_other text n d.keys) _ _ (Ok t) h) as (λ _. Goes text d true n t) [
   | inl h ↦ known (Goes text d true n) _ t h.1 (record {
     fine = tt;
@@ -202,7 +209,8 @@ close_goes text d p n at t h = elim (cases (has_other text n d.keys) _ _ (Ok t) 
   ]
 ]
 
-key_goes : (text : List ℕ) (d : Drafted) (p : Position) (n : ℕ) (h : Here) (t : Step) → key_step text d.keys (in_state p n) h ≡ Ok t → Goes text d true n t
+key_goes : (text : List ℕ) (d : Drafted) (p : Position) (n : ℕ) (h : Here) (t : Step) → key_step text d.keys (in_state p n) h ≡ Ok t
+    → Goes text d true n t
 key_goes text d p n x t h = elim (cases (is_space x.byte) _ _ (Ok t) h) as (λ _. Goes text d true n t) [
   | inl h ↦ known (Goes text d true n) _ t h.1 (record { fine = tt; stands = (refl, refl) })
   | inr h ↦ elim (cases (is_word x.byte) _ _ (Ok t) h.1) as (λ _. Goes text d true n t) [

@@ -33,7 +33,8 @@ sought_alike f key Writing EndChoice ps = refl
 sought_alike f key (Seeking n) p ps = refl
 sought_alike f key (Leaving n) p ps = refl
 
-path_written : (f : Filling) (key : List ℕ) (mode : Mode) (ps : List Piece) → written_from f key mode ps ≡ filled f (path_from f.text (picked f) key mode ps)
+path_written : (f : Filling) (key : List ℕ) (mode : Mode) (ps : List Piece) → written_from f key mode ps
+    ≡ filled f (path_from f.text (picked f) key mode ps)
 path_written f key mode [] = refl
 path_written f key mode (p ∷ ps) =
     ap (λ k. piece_text f mode p ++ written_from f k (moved f.text key mode p) ps) (sought_alike f key mode p ps)

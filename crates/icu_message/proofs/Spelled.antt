@@ -1,5 +1,7 @@
 -- Reading what is spelled: each piece is read as itself, and the rest is read behind it.
-use Rattle.std.proofs.Common.{◌≡◌, ◌⊎◌, inl, inr, ℕ, ◌+◌, ◌-◌, List, [], ◌∷◌, ◌++◌, length, take, drop, refl, sym, ap, subst, ◌∙◌, arith, append_assoc, append-nil}
+use Rattle.std.proofs.Common.{◌≡◌, ◌⊎◌, inl, inr, ℕ, ◌+◌, ◌-◌, List, [], ◌∷◌, ◌++◌, length, take, drop, refl, sym, ap, subst}
+use Rattle.std.proofs.Common.{◌∙◌, arith, append_assoc}
+use Rattle.std.proofs.Common.{append-nil}
 use Rattle.std.specs.Prelude.{Bool, true, false, ◌==◌, ◌&&◌, ◌||◌, nat_le, if◌then◌else◌, Option, Some, None, is_some, Result, Ok}
 use Rattle.std.specs.List.{filter}
 use Rattle.std.specs.Option.{option_map}
@@ -17,16 +19,20 @@ use Rattle.icu_message.specs.declared.piece.Piece.TheVariants.{Byte, Special, Pl
 use Rattle.icu_message.specs.declared.spelling.Before.{Before}
 use Rattle.icu_message.specs.declared.spelling.Before.TheVariants.{Nothing, Quote, EndedArm}
 use Rattle.icu_message.specs.declared.stepping.Position.{Position}
-use Rattle.icu_message.specs.declared.stepping.Position.TheVariants.{Text, Doubled, DoubledIn, Quoted, Opened, InName, KindDue, InKind, KeyDue, InKey, ValueDue, InValue}
+use Rattle.icu_message.specs.declared.stepping.Position.TheVariants.{Text, Doubled, DoubledIn, Quoted, Opened, InName, KindDue, InKind, KeyDue, InKey, ValueDue}
+use Rattle.icu_message.specs.declared.stepping.Position.TheVariants.{InValue}
 use Rattle.icu_message.specs.declared.stepping.State.{State}
 use Rattle.icu_message.specs.declared.stepping.Step.{Step}
 use Rattle.icu_message.specs.declared.stepping.Here.{Here}
 use Rattle.icu_message.specs.Words.{is_space, is_digit, is_word, all_digits, all_word, word_in, other, is_other, same_words}
 use Rattle.icu_message.specs.Names.{is_word_text, is_name, is_value, is_exact, is_category, is_key, kind_name, kind_of, are_apart}
 use Rattle.icu_message.specs.Keys.{has_key, has_other, keys_to, number_named, counted_from, counted_at, has_other_kind}
-use Rattle.icu_message.specs.Stepping.{opening, closing, comma, apostrophe, hash, equals, is_special, silent, adds, step, hash_step, text_step, kind_read, key_read}
+use Rattle.icu_message.specs.Stepping.{opening, closing, comma, apostrophe, hash, equals, is_special, silent, adds, step, hash_step, text_step, kind_read}
+use Rattle.icu_message.specs.Stepping.{key_read}
 use Rattle.icu_message.specs.Reading.{Drafted, empty_draft, with_added, with_step, first, here, reading_from}
-use Rattle.icu_message.specs.Spelling.{Said, byte, special, place, counted, choice, arm, end_arm, end_choice, said, said_all, said_by, spelling_from, spelling, SaidKey, said_key, said_keys, SaidChoice, said_choice, said_choices, keys_have, counts_from, counts_at, kinds_differ, spelled_before, IsNormalFrom, SpellingIsRead}
+use Rattle.icu_message.specs.Spelling.{Said, byte, special, place, counted, choice, arm, end_arm, end_choice, said, said_all, said_by, spelling_from, spelling}
+use Rattle.icu_message.specs.Spelling.{SaidKey, said_key, said_keys, SaidChoice, said_choice, said_choices, keys_have, counts_from, counts_at, kinds_differ}
+use Rattle.icu_message.specs.Spelling.{spelled_before, IsNormalFrom, SpellingIsRead}
 use Rattle.icu_message.proofs.Left.{byte_is_read, at_end}
 
 -- a position in a choice so deep
@@ -134,16 +140,19 @@ kind_is_kind Select = refl
 
 -- the first byte of a kind is read
 kind_begins : (text : List ℕ) (v : Word) (n : ℕ) (d : Drafted) (at : ℕ) (k : ChoiceKind) (rest : List ℕ)
-    → reading_from text (in_state (KindDue v) n) d at (kind_name k ++ rest) ≡ reading_from text (in_state (InKind v at) n) d (at + length (kind_name k)) rest
+    → reading_from text (in_state (KindDue v) n) d at (kind_name k ++ rest)
+    ≡ reading_from text (in_state (InKind v at) n) d (at + length (kind_name k)) rest
 kind_begins text v n d at Plural rest =
-    reads text _ d _ _ _ (silent (in_state (KindDue v) n) (InKind v at)) refl ∙ kind_run text v at n d (at + 1) (108 ∷ 117 ∷ 114 ∷ 97 ∷ 108 ∷ []) rest refl
+    reads text _ d _ _ _ (silent (in_state (KindDue v) n) (InKind v at)) refl
+    ∙ kind_run text v at n d (at + 1) (108 ∷ 117 ∷ 114 ∷ 97 ∷ 108 ∷ []) rest refl
     ∙ ap (λ a. reading_from text (in_state (InKind v at) n) d a rest) (omega arith)
 kind_begins text v n d at SelectOrdinal rest =
     reads text _ d _ _ _ (silent (in_state (KindDue v) n) (InKind v at)) refl
     ∙ kind_run text v at n d (at + 1) (101 ∷ 108 ∷ 101 ∷ 99 ∷ 116 ∷ 111 ∷ 114 ∷ 100 ∷ 105 ∷ 110 ∷ 97 ∷ 108 ∷ []) rest refl
     ∙ ap (λ a. reading_from text (in_state (InKind v at) n) d a rest) (omega arith)
 kind_begins text v n d at Select rest =
-    reads text _ d _ _ _ (silent (in_state (KindDue v) n) (InKind v at)) refl ∙ kind_run text v at n d (at + 1) (101 ∷ 108 ∷ 101 ∷ 99 ∷ 116 ∷ []) rest refl
+    reads text _ d _ _ _ (silent (in_state (KindDue v) n) (InKind v at)) refl
+    ∙ kind_run text v at n d (at + 1) (101 ∷ 108 ∷ 101 ∷ 99 ∷ 116 ∷ []) rest refl
     ∙ ap (λ a. reading_from text (in_state (InKind v at) n) d a rest) (omega arith)
 
 -- the beginning of a choice is read
@@ -189,7 +198,8 @@ word_arm_is_read text n d at (b ∷ bs) rest h valid fresh =
     (key_ends text n d at at (at + length (b ∷ bs)) rest (InKey at) valid fresh)
 
 -- the beginning of an arm is read, whose key is `=` and a value
-exact_arm_is_read : (text : List ℕ) (n : ℕ) (d : Drafted) (at : ℕ) (v rest : List ℕ) → is_value v ≡ true → is_some (counted_at n d.choices) ≡ true
+exact_arm_is_read : (text : List ℕ) (n : ℕ) (d : Drafted) (at : ℕ) (v rest : List ℕ) → is_value v ≡ true
+    → is_some (counted_at n d.choices) ≡ true
     → is_key (is_some (counted_at n d.choices)) (word_in text (record { start = at; end = at + length (equals ∷ v) })) ≡ true
     → has_key text n (record { start = at; end = at + length (equals ∷ v) }) d.keys ≡ false
     → reading_from text (in_state KeyDue n) d at (equals ∷ (v ++ opening ∷ rest))
@@ -311,7 +321,8 @@ behind : (text : List ℕ) (at b : ℕ) (rest : List ℕ) → drop at text ≡ b
 behind text at b rest h = dropped text at (b ∷ []) rest h
 
 -- a word where it stands
-pub word_there : (text : List ℕ) (at : ℕ) (w rest : List ℕ) → drop at text ≡ w ++ rest → word_in text (record { start = at; end = at + length w }) ≡ w
+pub word_there : (text : List ℕ) (at : ℕ) (w rest : List ℕ) → drop at text ≡ w ++ rest
+    → word_in text (record { start = at; end = at + length w }) ≡ w
 word_there text at w rest h =
     let len : (at + length w) - at ≡ length w = omega arith in
     ap (λ n. take n (drop at text)) len ∙ ap (take (length w)) h ∙ take-append_seam w rest
@@ -378,7 +389,8 @@ some_kept text (Some v) = refl
 pub some_said : (text : List ℕ) (n : ℕ) (cs : List BegunChoice) → is_some (counted_at n cs) ≡ is_some (counts_at n (said_choices text cs))
 some_said text n cs = sym (some_kept text (counted_at n cs)) ∙ ap (λ (o : Option (List ℕ)). is_some o) (counted_said text n cs)
 
-some_of : (text : List ℕ) (w : List ℕ) (o : Option Word) → option_map (word_in text) o ≡ Some w → (v : Word) × (o ≡ Some v) × (word_in text v ≡ w)
+some_of : (text : List ℕ) (w : List ℕ) (o : Option Word) → option_map (word_in text) o ≡ Some w
+    → (v : Word) × (o ≡ Some v) × (word_in text v ≡ w)
 some_of text w None h = absurd (cc)
 some_of text w (Some v) h = (v, refl, cc)
 
@@ -397,7 +409,8 @@ regrouped text ps p m ms e = ap (λ (l : List Said). Ok l)
 
 -- a spelling that stands in the text at a byte is read from a position on
 abbrev IsRead : List ℕ → Position → ℕ → List SaidKey → List SaidChoice → Before → List Said → Type 0
-IsRead text p n ks cs b ms = (at : ℕ) (d : Drafted) → drop at text ≡ spelling_from b ms → said_keys text d.keys ≡ ks → said_choices text d.choices ≡ cs
+IsRead text p n ks cs b ms = (at : ℕ) (d : Drafted) → drop at text ≡ spelling_from b ms → said_keys text d.keys ≡ ks
+    → said_choices text d.choices ≡ cs
     → said_by text (reading_from text (in_state p n) d at (spelling_from b ms)) ≡ Ok (said_all text d.pieces ++ ms)
 
 -- outside of quotes, and within one
@@ -448,7 +461,8 @@ apostrophe_read text n ks cs ms k = record {
 plain_spelled : (b : ℕ) (ms : List Said) → (b == apostrophe) ≡ false → spelling_from Nothing (byte b ∷ ms) ≡ b ∷ spelling_from Nothing ms
 plain_spelled b ms h = if_else _ _ _ h
 
-quote_spelled : (b : ℕ) (ms : List Said) → (b == apostrophe) ≡ false → spelling_from Quote (byte b ∷ ms) ≡ apostrophe ∷ spelling_from Nothing (byte b ∷ ms)
+quote_spelled : (b : ℕ) (ms : List Said) → (b == apostrophe) ≡ false → spelling_from Quote (byte b ∷ ms)
+    ≡ apostrophe ∷ spelling_from Nothing (byte b ∷ ms)
 quote_spelled b ms h =
     ap (λ c. (if c then [] else apostrophe ∷ []) ++ spelled_before (spelling_from (if c then Quote else Nothing) ms) (byte b)) h
 
@@ -495,7 +509,8 @@ special_read text n ks cs b ms quoted k = record {
 }
 
 -- a place
-place_read : (text : List ℕ) (n : ℕ) (ks : List SaidKey) (cs : List SaidChoice) (w : List ℕ) (ms : List Said) → nat_le 8 n ≡ false → is_name w ≡ true
+place_read : (text : List ℕ) (n : ℕ) (ks : List SaidKey) (cs : List SaidChoice) (w : List ℕ) (ms : List Said) → nat_le 8 n ≡ false
+    → is_name w ≡ true
     → InText text n ks cs ms → IsRead text Text n ks cs Nothing (place w ∷ ms)
 place_read text n ks cs w ms deep name k at d there keys choices =
     let rest : List ℕ = spelling_from Nothing ms in
@@ -524,7 +539,8 @@ choice_read text n ks cs c w ms deep name alike k at d there keys choices =
     let rest : List ℕ = spelling_from Nothing ms in
     let v : Word = record { start = at + 1; end = at + 1 + length w } in
     let from : ℕ = at + 1 + length w + 1 in
-    let next : drop (at + 1) text ≡ w ++ comma ∷ (kind_name c ++ comma ∷ rest) = behind text at opening (w ++ comma ∷ (kind_name c ++ comma ∷ rest)) there in
+    let next : drop (at + 1) text ≡ w ++ comma ∷ (kind_name c ++ comma ∷ rest) =
+    behind text at opening (w ++ comma ∷ (kind_name c ++ comma ∷ rest)) there in
     let is : word_in text v ≡ w = word_there text (at + 1) w (comma ∷ (kind_name c ++ comma ∷ rest)) next in
     let kind : drop from text ≡ kind_name c ++ comma ∷ rest =
     behind text (at + 1 + length w) comma (kind_name c ++ comma ∷ rest) (dropped text (at + 1) w (comma ∷ (kind_name c ++ comma ∷ rest)) next) in
@@ -547,7 +563,8 @@ arm_end_read text n ks cs ms some k at d there keys choices =
     ∙ regrouped text d.pieces EndArm end_arm ms refl
 
 -- the beginning of an arm
-arm_read : (text : List ℕ) (n : ℕ) (ks : List SaidKey) (cs : List SaidChoice) (w : List ℕ) (ms : List Said) → is_key (is_some (counts_at n cs)) w ≡ true
+arm_read : (text : List ℕ) (n : ℕ) (ks : List SaidKey) (cs : List SaidChoice) (w : List ℕ) (ms : List Said)
+    → is_key (is_some (counts_at n cs)) w ≡ true
     → keys_have n w ks ≡ false → InText text n (ks ++ record { level = n; word = w } ∷ []) cs ms → IsRead text KeyDue n ks cs Nothing (arm w ∷ ms)
 arm_read text n ks cs w ms key once k at d there keys choices =
     let rest : List ℕ = spelling_from Nothing ms in
@@ -564,7 +581,8 @@ arm_read text n ks cs w ms key once k at d there keys choices =
     ∙ regrouped text d.pieces (Arm v) (arm w) ms (ap arm is)
 
 -- a space before it
-spaced : (text : List ℕ) (n : ℕ) (ks : List SaidKey) (cs : List SaidChoice) (w : List ℕ) (ms : List Said) → IsRead text KeyDue n ks cs Nothing (arm w ∷ ms)
+spaced : (text : List ℕ) (n : ℕ) (ks : List SaidKey) (cs : List SaidChoice) (w : List ℕ) (ms : List Said)
+    → IsRead text KeyDue n ks cs Nothing (arm w ∷ ms)
     → IsRead text KeyDue n ks cs EndedArm (arm w ∷ ms)
 spaced text n ks cs w ms k at d there keys choices =
     ap (said_by text) (reads text _ d _ _ _ (silent (in_state KeyDue n) KeyDue) refl)
@@ -591,7 +609,8 @@ with_quote : (text : List ℕ) (n : ℕ) (ks : List SaidKey) (cs : List SaidChoi
 with_quote text n ks cs ms k e f = record { plain = k; quoted = unquoted text n ks cs ms k e f }
 
 mutual
-  read_message : (text : List ℕ) (n : ℕ) (ks : List SaidKey) (cs : List SaidChoice) (ms : List Said) → IsNormalFrom false n ks cs ms → InText text n ks cs ms
+  read_message : (text : List ℕ) (n : ℕ) (ks : List SaidKey) (cs : List SaidChoice) (ms : List Said) → IsNormalFrom false n ks cs ms
+      → InText text n ks cs ms
   read_message text n ks cs [] h =
       subst (λ n. InText text n ks cs []) (sym h) (with_quote text 0 ks cs [] (nothing_read text ks cs) refl refl)
   read_message text n ks cs (byte b ∷ ms) h = byte_read text n ks cs b ms h.0 (read_message text n ks cs ms h.1)
@@ -608,7 +627,8 @@ mutual
   read_message text n ks cs (arm w ∷ ms) h = absurd h
   read_message text n ks cs (end_choice ∷ ms) h = absurd h
 
-  read_arms : (text : List ℕ) (n : ℕ) (ks : List SaidKey) (cs : List SaidChoice) (ms : List Said) → IsNormalFrom true n ks cs ms → InArms text n ks cs ms
+  read_arms : (text : List ℕ) (n : ℕ) (ks : List SaidKey) (cs : List SaidChoice) (ms : List Said) → IsNormalFrom true n ks cs ms
+      → InArms text n ks cs ms
   read_arms text n ks cs (arm w ∷ ms) h =
       let k : IsRead text KeyDue n ks cs Nothing (arm w ∷ ms) =
       arm_read text n ks cs w ms h.0 h.1 (read_message text n (ks ++ record { level = n; word = w } ∷ []) cs ms h.2) in

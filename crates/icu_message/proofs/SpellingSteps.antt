@@ -5,7 +5,8 @@ use Rattle.icu_message.specs.declared.piece.Piece.{Piece}
 use Rattle.icu_message.specs.declared.spelling.Before.{Before}
 use Rattle.icu_message.specs.Names.{kind_name}
 use Rattle.icu_message.specs.Stepping.{opening, closing, comma, apostrophe}
-use Rattle.icu_message.specs.Spelling.{Said, byte, special, place, counted, choice, arm, end_arm, end_choice, said, said_all, lead, spelled_before, before_next, spelling_from}
+use Rattle.icu_message.specs.Spelling.{Said, byte, special, place, counted, choice, arm, end_arm, end_choice, said, said_all, lead, spelled_before, before_next}
+use Rattle.icu_message.specs.Spelling.{spelling_from}
 
 -- what is spelled before a rest
 pub spelled_split : (rest : List ℕ) (m : Said) → spelled_before rest m ≡ spelled_before [] m ++ rest

@@ -10,7 +10,8 @@ use Rattle.icu_message.specs.declared.moving.Mode.TheVariants.{Writing, Seeking,
 use Rattle.icu_message.specs.Words.{word_in, same_bytes}
 use Rattle.icu_message.specs.Arguments.{value_text}
 use Rattle.icu_message.specs.Writing.{Filling, named, key_for, picked, has_arm, written_from}
-use Rattle.icu_message.specs.Trees.{Tree, done, byte, special, place, counted, choice, Arms, last, arm, pieces_in, pieces_in_arms, arms_have, picked_key, tree_text, arm_text, WrittenByTrees}
+use Rattle.icu_message.specs.Trees.{Tree, done, byte, special, place, counted, choice, Arms, last, arm, pieces_in, pieces_in_arms, arms_have, picked_key}
+use Rattle.icu_message.specs.Trees.{tree_text, arm_text, WrittenByTrees}
 
 -- a level more isn't zero, and a level less again is the level
 up : (n : ℕ) → ((n + 1) == 0) ≡ false

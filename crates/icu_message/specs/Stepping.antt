@@ -1,7 +1,9 @@
 -- Reading a message byte by byte: what a byte adds to the pieces, and the first fault.
-use Rattle.std.specs.Prelude.{◌≤◌, ℕ, zero, ◌+◌, ◌-◌, Bool, ◌==◌, ◌&&◌, ◌||◌, nat_le, Option, Some, None, is_some, Result, Ok, Err, if◌then◌else◌, List}
+use Rattle.std.specs.Prelude.{◌≤◌, ℕ, zero, ◌+◌, ◌-◌, Bool, ◌==◌, ◌&&◌, ◌||◌, nat_le, Option, Some, None, is_some, Result, Ok, Err}
+use Rattle.std.specs.Prelude.{if◌then◌else◌, List}
 use Rattle.icu_message.specs.declared.error.ParseError.{ParseError}
-use Rattle.icu_message.specs.declared.error.ParseError.TheVariants.{End, Unopened, OpenQuote, TooDeep, Name, Kind, TwoKinds, Offset, Key, Repeated, NoOther, Unexpected}
+use Rattle.icu_message.specs.declared.error.ParseError.TheVariants.{End, Unopened, OpenQuote, TooDeep, Name, Kind, TwoKinds, Offset, Key, Repeated, NoOther}
+use Rattle.icu_message.specs.declared.error.ParseError.TheVariants.{Unexpected}
 use Rattle.icu_message.specs.declared.piece.Word.{Word}
 use Rattle.icu_message.specs.declared.piece.OpenKey.{OpenKey}
 use Rattle.icu_message.specs.declared.piece.BegunChoice.{BegunChoice}
@@ -9,7 +11,8 @@ use Rattle.icu_message.specs.declared.piece.ChoiceKind.{ChoiceKind}
 use Rattle.icu_message.specs.declared.piece.Piece.{Piece}
 use Rattle.icu_message.specs.declared.piece.Piece.TheVariants.{Byte, Special, Place, Hash, Choice, Arm, EndArm, EndChoice}
 use Rattle.icu_message.specs.declared.stepping.Position.{Position}
-use Rattle.icu_message.specs.declared.stepping.Position.TheVariants.{Text, Doubled, Quoted, DoubledIn, Opened, InName, Named, KindDue, InKind, AfterKind, KeyDue, InKey, ValueDue, InValue, AfterKey}
+use Rattle.icu_message.specs.declared.stepping.Position.TheVariants.{Text, Doubled, Quoted, DoubledIn, Opened, InName, Named, KindDue, InKind, AfterKind}
+use Rattle.icu_message.specs.declared.stepping.Position.TheVariants.{KeyDue, InKey, ValueDue, InValue, AfterKey}
 use Rattle.icu_message.specs.declared.stepping.State.{State}
 use Rattle.icu_message.specs.declared.stepping.Step.{Step}
 use Rattle.icu_message.specs.declared.stepping.Here.{Here}

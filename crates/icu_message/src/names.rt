@@ -1,7 +1,8 @@
 //! Which words are names, keys and kinds.
 
 ghost use Rattle.std.specs.Prelude.{◌≡◌};
-ghost use Rattle.icu_message.specs.Names.{has_no_zero_in_front, is_word_text, is_name, is_value, is_exact, category_name, is_category, is_key, kind_of, kind_name, are_apart};
+ghost use Rattle.icu_message.specs.Names.{has_no_zero_in_front, is_word_text, is_name, is_value, is_exact, category_name, is_category, is_key, kind_of};
+ghost use Rattle.icu_message.specs.Names.{kind_name, are_apart};
 
 use crate::piece::ChoiceKind;
 use crate::words::{has_digits_alone, has_word_bytes_alone, same};

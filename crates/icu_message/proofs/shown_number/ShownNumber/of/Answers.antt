@@ -12,7 +12,8 @@ returns-in-Ok-clause-shown g c =
     let a = c.in_ok-operands.ensures.written in
     let b = c.in_ok-operands.ensures.shown in
     let one : b.0 ≡ a.0 = g.met.F.AbstractFormatter.one_shown c.args.formatter.now c.args.value.now.absolute b.0 a.0 b.1 a.1 in
-    let digits : c.as_str.result.now ≡ text_of a.0.events = c.as_str.ensures.value ∙ a.2 ∙ ap (λ l. l ++ text_of a.0.events) c.new-digits.ensures.bytes in
+    let digits : c.as_str.result.now ≡ text_of a.0.events =
+    c.as_str.ensures.value ∙ a.2 ∙ ap (λ l. l ++ text_of a.0.events) c.new-digits.ensures.bytes in
     let symbols = g.F.AbstractFormatter.symbols c.args.formatter.now in
     of_made c.of_bytes.result _ _ c.of_bytes.ensures.made (
       a.0,
