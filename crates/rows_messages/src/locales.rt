@@ -6,7 +6,7 @@ use crate::CallResult;
 use crate::arguments::given;
 use crate::faults::{of_arguments, of_text};
 use crate::messages::text_of;
-use crate::numbers::{of, shown_numbers, reason_unshown};
+use crate::numbers::{of, reason_unshown, shown_numbers};
 use icu_decimal::options::{CompactDecimalFormatterOptions, DecimalFormatterOptions};
 use icu_decimal::preferences::{CompactDecimalFormatterPreferences, DecimalFormatterPreferences};
 use icu_decimal::{CompactDecimalFormatter, DecimalFormatter};
@@ -59,11 +59,7 @@ fn rule_of<'a>(line: &'a str, locale: &str) -> Option<(PluralCategory, &'a str)>
 }
 
 /// The ordinal rules of a locale.
-fn ordinal_rules(
-    alloc: Global,
-    document: &str,
-    locale: &str,
-) -> Result<PluralRules, RulesError> {
+fn ordinal_rules(alloc: Global, document: &str, locale: &str) -> Result<PluralRules, RulesError> {
     let mut rules = Vec::new(alloc);
     for line in document.lines() {
         if let Some(rule) = rule_of(line, locale) {

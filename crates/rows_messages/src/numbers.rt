@@ -70,10 +70,12 @@ fn said(alloc: Global, number: &ShownNumber) -> CallResult {
     let operands = number.operands().raw();
     match (str::from_utf8(number.text()), number.whole()) {
         (Ok(text), Some(whole)) => Ok(Some(format!(in alloc;
-            "{text} i={} v={} c={} whole {whole}", operands.i, operands.v, operands.c
+            "{text} i={} v={} c={} whole {whole}",
+            operands.i, operands.v, operands.c
         )?)),
         (Ok(text), None) => Ok(Some(format!(in alloc;
-            "{text} i={} v={} c={}", operands.i, operands.v, operands.c
+            "{text} i={} v={} c={}",
+            operands.i, operands.v, operands.c
         )?)),
         (Err(_), _) => Ok(None),
     }
