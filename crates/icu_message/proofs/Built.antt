@@ -1,5 +1,5 @@
 -- The tree of normal pieces, from the back: a message and, for each open choice, its other arms and what stands behind it.
-use Rattle.std.proofs.Common.{◌≡◌, ◌⊎◌, inl, inr, ℕ, zero, suc, ◌+◌, ◌-◌, ◌<◌, List, [], ◌∷◌, ◌++◌, length, refl, sym, ap}
+use Rattle.std.proofs.Common.{◌≡◌, inl, inr, ℕ, suc, ◌+◌, ◌-◌, ◌<◌, List, [], ◌∷◌, ◌++◌, length, refl, sym, ap}
 use Rattle.std.proofs.Common.{subst, ◌∙◌, arith}
 use Rattle.std.specs.Prelude.{Bool, true, false, ◌==◌, ◌&&◌, ◌||◌, nat_le, if◌then◌else◌, Option, Some, None}
 use Rattle.std.specs.List.{filter}
@@ -15,7 +15,7 @@ use Rattle.icu_message.specs.declared.argument.ArgumentValue.TheVariants.{Text, 
 use Rattle.icu_message.specs.Words.{word_in, same_bytes, other}
 use Rattle.icu_message.specs.Names.{category_name}
 use Rattle.icu_message.specs.Numbers.{Number as Shown, exact_key}
-use Rattle.icu_message.specs.Writing.{Filling, named, key_or_other, key_for_number, key_for}
+use Rattle.icu_message.specs.Writing.{Filling, named, key_for_number, key_for}
 use Rattle.icu_message.specs.Spelling.{said_all, SaidKey, SaidChoice, keys_have, IsNormalFrom}
 use Rattle.icu_message.specs.Trees.{Tree, done, byte, special, place, counted, choice, Arms, last, arm, pieces_in, pieces_in_arms, arms_have, arms_with}
 use Rattle.icu_message.specs.Trees.{picked_key, PicksOne, ArmsPickOne, ReadIsTree, OneArm}
@@ -334,9 +334,11 @@ mutual
   picks_one f (special b t) h = picks_one f t h
   picks_one f (place w t) h = picks_one f t h
   picks_one f (counted w t) h = picks_one f t h
-  picks_one f (choice k w arms t) h =
-      (one_with f.text (picked_key f k w arms) arms h.1 (has_key_for f (λ key. arms_have f.text key arms) k (named f w) h.0),
-      arms_pick_one f arms h.1, picks_one f t h.2)
+  picks_one f (choice k w arms t) h = (
+    one_with f.text (picked_key f k w arms) arms h.1 (has_key_for f (λ key. arms_have f.text key arms) k (named f w) h.0),
+    arms_pick_one f arms h.1,
+    picks_one f t h.2,
+  )
 
   arms_pick_one : (f : Filling) (arms : Arms) → AreSound f.text arms → ArmsPickOne f arms
   arms_pick_one f last h = tt

@@ -115,9 +115,9 @@ mutual
   leave-any f k l n (EndArm ∷ ps) = leave-any f k l n ps
   leave-any f k l n (EndChoice ∷ ps) = elim (n == 0) as (λ b. written_from f k (if b then Writing else Leaving (n - 1)) ps
       ≡ written_from f l (if b then Writing else Leaving (n - 1)) ps) [
-    | true ↦ write-any f k l ps
-    | false ↦ leave-any f k l (n - 1) ps
-  ]
+        | true ↦ write-any f k l ps
+        | false ↦ leave-any f k l (n - 1) ps
+      ]
 
   write-any : (f : Filling) (k l : List ℕ) (ps : List Piece)
       → written_from f k Writing ps ≡ written_from f l Writing ps
