@@ -1,0 +1,11 @@
+pub mod Arguments
+pub mod Keys
+pub mod Names
+pub mod Numbers
+pub mod Paths
+pub mod Reading
+pub mod Spelling
+pub mod Stepping
+pub mod Trees
+pub mod Words
+pub mod Writing

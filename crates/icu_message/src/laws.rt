@@ -1,0 +1,45 @@
+//! Laws of messages.
+
+ghost use Rattle.icu_message.specs.Paths.{ArgumentsAreNoSyntax};
+ghost use Rattle.icu_message.specs.Spelling.{ReadIsNormal, SpellingIsRead};
+ghost use Rattle.icu_message.specs.Trees.{OneArm, ReadIsTree, WrittenByTrees};
+
+/// Reading the spelling of a message gives the message, if the spelling isn't too long.
+// promise: A message's spelling is read as that message.
+pub fn spelling_is_read()
+    ensures { SpellingIsRead }
+{}
+
+/// Each message that is read is normal, so its spelling is read as itself.
+// promise: Each message that is read has a spelling.
+pub fn read_is_normal()
+    ensures { ReadIsNormal }
+{}
+
+/// The pieces of each text that is read are those of a tree of messages and choices.
+// promise: Each message that is read is a tree of choices.
+pub fn read_is_tree()
+    ensures { ReadIsTree }
+{}
+
+/// In the tree of each text that is read, each choice has exactly one arm with the key that is
+/// picked, whatever the rules and the arguments are.
+// promise: Of each choice exactly one arm is picked.
+pub fn one_arm()
+    ensures { OneArm }
+{}
+
+/// What is written of a message is what its tree says: of each choice the arm that is picked, and
+/// nothing of its other arms.
+// promise: Of a choice the picked arm is written, and no other.
+pub fn written_by_trees()
+    ensures { WrittenByTrees }
+{}
+
+/// A message is written as a list of its own bytes and of places, which depends on the arguments
+/// only by the arms that are picked; in places stand the arguments as they are. So no argument is
+/// read as syntax.
+// promise: What an argument writes is never read as syntax.
+pub fn arguments_are_no_syntax()
+    ensures { ArgumentsAreNoSyntax }
+{}

@@ -1,0 +1,29 @@
+//! Messages with places and choices (ICU MessageFormat): read into a flat list of pieces, and
+//! written with the texts and numbers of arguments.
+#![tactic(auto)]
+
+pub mod argument;
+mod argument_steps;
+pub mod error;
+mod filling;
+mod key_steps;
+mod keys;
+pub mod laws;
+pub mod message;
+mod moving;
+mod names;
+pub mod piece;
+mod reading;
+mod showing;
+pub mod shown_number;
+mod spelling;
+mod stepping;
+mod text_steps;
+mod words;
+mod writing;
+
+pub use argument::{Argument, ArgumentValue};
+pub use error::{ParseError, WriteError};
+pub use message::Message;
+pub use piece::{ChoiceKind, Piece, Word};
+pub use shown_number::ShownNumber;
