@@ -73,6 +73,11 @@ NAMES = ["net", "gross", "tax", "a b", "n", "net", "\u00e9t\u00e9", "x" * 70]
 # Options that plain numbers may have, and their lines, besides how they are rounded.
 OF_PLAIN = ["grouping", "sign", "delimiter", "field", "padding", "invalid", "header"]
 # Options of what isn't a plain number, each with its text.
+# Skeletons of numbers that the model writes, in the digits of English.
+MODELLED_SKELETONS = [
+    text for text, meaning in SKELETONS.items()
+    if not {"system", "style", "unit"} & set(meaning.options) and meaning.options.get("width") != "name"
+]
 OTHER_KINDS = [{"percent": ""}, {"currency": "USD"}, {"currency": "JPY"}, {"currency": "EUR", "accounting": ""}]
 
 
@@ -225,7 +230,7 @@ def some_settings(rng: random.Random, explains: bool = False) -> Cut:
         given["zero-terminated"] = ""
     if rng.random() < 0.15:
         given = {name: text for name, text in given.items() if name not in OF_NUMBERS}
-        given["skeleton"] = rng.choice([text for text, meaning in SKELETONS.items() if "system" not in meaning.options])
+        given["skeleton"] = rng.choice(MODELLED_SKELETONS)
     else:
         if rng.random() < 0.3:
             given.update(rng.choice(OTHER_KINDS))
