@@ -15,8 +15,8 @@ use crate::scale::scale_given;
 use crate::words::{grouping_given, sign_given, system_given};
 use icu_provider::DataLocale;
 use number_forms::Settings;
-use number_skeleton::{Skeleton, SkeletonFault, read_skeleton};
-use skeleton_settings::Precision;
+use number_skeleton::{SkeletonFault, read_skeleton};
+use skeleton_settings::{Precision, Skeleton};
 use std::alloc::Global;
 
 /// What is read of a skeleton.
