@@ -96,8 +96,9 @@ module _ (k : ℤ) (d b : Unsigned) (bare : IsBare d b) where
     where
       large : (m j : ℤ) → magnitude (size d) ≡ m → j <ℤ pos 32768 → pos 32767 <ℤ ((pos (integer_count b) -ℤ pos 1) +ℤ j)
           → ten_to (pos 32768) ≤ moved_size j (size d)
-      large (negsuc n) j is few over = absurd (let count : integer_count b ≡ max 1 (count_up_to (negsuc n)) = bare.count_is ∙ ap (λ q. max 1 (count_up_to q)) is in
-          omega (arith, ints, count, few, over))
+      large (negsuc n) j is few over =
+          let count : integer_count b ≡ max 1 (count_up_to (negsuc n)) = bare.count_is ∙ ap (λ q. max 1 (count_up_to q)) is in
+          absurd (omega (arith, ints, count, few, over))
       large (pos n) (negsuc i) is few over = absurd (omega (arith, ints, over, bare.valid.high_limit, bare.valid.integer_some))
       large (pos n) (pos i) is few over =
           let count : integer_count b ≡ max 1 (n + 1) = bare.count_is ∙ ap (λ q. max 1 (count_up_to q)) is in

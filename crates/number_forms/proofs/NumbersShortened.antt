@@ -35,7 +35,8 @@ unit_some MultiplesOf25 power = omega (arith, ten_pos (place power))
 pub divides : (precision : Precision) → DividesOne precision → divides_one precision ≡ true
 divides (Fraction least most) h = refl
 divides (Significant least most) h = refl
-divides (Increment increment power least) (q, whole) = go (ten_to (pos 0) % unit_of increment power) (ap (λ y. y % unit_of increment power) whole ∙ mul-mod_left q (unit_of increment power))
+divides (Increment increment power least) (q, whole) =
+    go (ten_to (pos 0) % unit_of increment power) (ap (λ y. y % unit_of increment power) whole ∙ mul-mod_left q (unit_of increment power))
   where
     go : (rest : ℕ) → rest ≡ 0 → (rest == 0) ≡ true
     go rest none = ap (λ r. r == 0) none
@@ -83,7 +84,8 @@ module _ (rounding : Rounding) (table : List TableEntry) (minus : Bool) (d : Uns
         → ¬ (ShowsPastLimits rounding table minus (size d))
         → shortened rounding table minus d ≡ Ok (record { significand = u; exponent = exponent_of entry })
     shortened-is y entry u is within =
-        let divided : y ≡ compact_size rounding table minus (size d) = (shown_is_divided rounding.precision table rounding.mode minus (size d) y fits).0 is.taken in
+        let divided : y ≡ compact_size rounding table minus (size d) =
+        (shown_is_divided rounding.precision table rounding.mode minus (size d) y fits).0 is.taken in
         let count : integer_count u ≡ digits_before rounding (size u) = counted (integer_count u) rounding.integer_digits (magnitude (size u)) is.high_is in
         let told : number_shown rounding (size u) ≡ Ok u = shown-told rounding (size u) u is.is_decimal refl count is.scale_is in
         let here : number_shown rounding (y / 10 ^ compact_exponent table y) ≡ Ok u =
@@ -116,7 +118,8 @@ module _ (rounding : Rounding) (table : List TableEntry) (minus : Bool) (d : Uns
     -- what isn't shown
     pub shortened-past : ShowsPastLimits rounding table minus (size d) → shortened rounding table minus d ≡ Err Overflow
     shortened-past (inl (y, taken, large)) =
-        let divided : y ≡ compact_size rounding table minus (size d) = (shown_is_divided rounding.precision table rounding.mode minus (size d) y fits).0 taken in
+        let divided : y ≡ compact_size rounding table minus (size d) =
+        (shown_is_divided rounding.precision table rounding.mode minus (size d) y fits).0 taken in
         by_size ∙ ap (size_shortened rounding table) (sym divided) ∙ past y (inl large)
     shortened-past (inr (inl many)) =
         let y : ℕ = compact_size rounding table minus (size d) in

@@ -72,7 +72,8 @@ fn tables_in(alloc: Global, settings: &Settings<'_>, text: &str) -> Result<Table
 
 /// All tables of a text, for the locale.
 fn all_in(alloc: Global, settings: &Settings<'_>, text: &str) -> Result<AllTables, StartError>
-    ensures tables { IfOk result (λ all. IsAllFor settings.now.locale all (all_tables_of text.now)) }
+    ensures tables { IfOk result (λ all.
+        IsAllFor settings.now.locale all (all_tables_of text.now)) }
     ensures refused { IfErr result (λ error. (next : AllData → Result FormData StartError) →
         StopsForm error (read_then (all_tables_of text.now) next)) }
 {

@@ -18,8 +18,6 @@ use writeable::{EventWriter, Writeable};
 
 /// Whether compact numbers have the increment of a precision: 1 is a multiple of it. A precision
 /// without an increment they have (this project's own).
-// promise: It is true exactly where 1 is a multiple of the increment.
-// mutations: increment_of_compact_numbers_let_through
 pub fn has_compact_increment(precision: &Precision) -> bool
     ensures { result ≡ divides_one precision.now }
 {

@@ -299,7 +299,7 @@ impl<'a> Settings<'a> {
     /// Numbers in full have at most six fraction digits where the skeleton sets no precision, and
     /// amounts of money the digits of their currency. The first part that no form has is reported,
     /// of the grouping, the numbering system, and then of what is written.
-    // promise: A skeleton determines what is asked for, or what no form has.
+    // promise: A skeleton determines the settings, or what no form has.
     // mutations: percent_of_a_skeleton_scaled, narrow_symbol_of_a_skeleton_left_out
     #[tactic(auto, unfolding(crate::specs::Skeleton::settings_of))]
     pub fn of_skeleton(

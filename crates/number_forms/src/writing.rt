@@ -141,7 +141,8 @@ fn write_formatted_parts<S: PartsWrite>(
 /// What writes numbers of a form that changes nothing of them but a plus.
 fn unchanging(form: &Form) -> Option<&Mode>
     ensures { IfSome result (λ mode. (form.now.formatter ≡ Numbers mode.now)
-        × (form.now.scale ≡ pos 0) × (form.now.rounding ≡ None) × (form.now.sign ≡ SignDisplay.Auto)) }
+        × (form.now.scale ≡ pos 0) × (form.now.rounding ≡ None)
+        × (form.now.sign ≡ SignDisplay.Auto)) }
 {
     let (0, None, SignDisplay::Auto) = (form.scale, form.rounding, form.sign) else {
         return None;
