@@ -334,7 +334,8 @@ if is_there "${compiler[0]}"; then
     builds c_refused tests/c_refused.c "$folder/libtalmuiga.a"
     "${compiler[@]}" -O2 -shared -fPIC -o "$folder/refuse.so" tests/refuse_nth.c -ldl
     judge 'C: each allocation finds no memory in turn' same '0 out of memory' "$(out_of_memory)"
-    shown c '#include "talmuiga.h"\n#include <stdio.h>\nint main(void) {' >"$folder/readme.c"
+    shown c '#include "talmuiga.h"\n#include <stdio.h>\nint main(void) {\nstatic char tables[65536];
+        size_t tables_len = fread(tables, 1, sizeof tables, fopen("tables/six_locales.json", "rb"));' >"$folder/readme.c"
     "${compiler[@]}" -Iinclude "$folder/readme.c" "$folder/libtalmuiga.a" -o "$folder/readme"
     judge 'C: as README.md and docs/LIBRARY.md show' same $'1,000,007\n-987,654.321\n1,000,007\n-987,654.321' "$("$folder/readme" 2>&1)"
     builds header tests/c_header.c
@@ -353,7 +354,7 @@ if is_there "${cpp_compiler[0]}"; then
         std::stringstream read;\nread << std::ifstream("tables/six_locales.json").rdbuf();\nconst std::string tables = read.str();' \
         >"$folder/readme.cpp"
     "${cpp_compiler[@]}" -std=c++17 -Iinclude "$folder/readme.cpp" "$folder/libtalmuiga.a" -o "$folder/readme_cpp"
-    judge 'C++: as README.md and docs/LIBRARY.md show' same $'1.234.567,8\n1.234.567,8' "$("$folder/readme_cpp" 2>&1)"
+    judge 'C++: as README.md and docs/LIBRARY.md show' same $'1.234.567,8\n1.234.567,8\n1,2\u00a0Mio.\u00a0€' "$("$folder/readme_cpp" 2>&1)"
     judge 'C++: formatters that are kept' "$folder/cpp_kept" "$sample" tables/six_locales.json
 else
     skipped "there is no C++ compiler ${cpp_compiler[0]}"

@@ -161,7 +161,7 @@ pub extern "C" fn talmuiga_formatter_open_skeleton_sized(
 /// Writes the canonical text of a number skeleton, if it fits, and sets its length, and what is
 /// wrong with the skeleton, or zeros.
 // promise: A skeleton has its canonical text, or its first fault.
-// mutations: canonical_length_without_room_left_out
+// mutations: canonical_too_long_told_as_done
 #[unsafe(no_mangle)]
 pub extern "C" fn talmuiga_skeleton_canonical_sized(
     alloc: Global,
