@@ -1,5 +1,6 @@
 pub mod CompactMoney
 pub mod NumbersShown
+pub mod NumbersMoved
 pub mod Served
 pub mod WrittenForms
 pub mod WrittenTexts

@@ -50,7 +50,7 @@ number-told u is =
     (digits_from-digits (size u) e n) is.below_ten (weighed-digits_from (size u) e n whole below))
 
 -- the number of a size by its counts
-told-by : (before below : ℕ) (u : Unsigned) (y : ℕ) → IsUnsigned u → size u ≡ y → integer_count u ≡ before → u.scale ≡ below
+pub told-by : (before below : ℕ) (u : Unsigned) (y : ℕ) → IsUnsigned u → size u ≡ y → integer_count u ≡ before → u.scale ≡ below
     → number_of before below y ≡ u
 told-by before below u y is sizes count scale = ap (λ n. number_of n below y) (sym count)
     ∙ ap (λ n. number_of (integer_count u) n y) (sym scale)
@@ -82,7 +82,7 @@ needed-told least y n fits is =
     as_multiple u some rest = (y / u, omega (arith, some, rest))
 
 -- how many digits stand at power 0 and above, by the greatest written power
-counted : (k n : ℕ) (m : ℤ) → pos k -ℤ pos 1 ≡ int_max (int_max (pos 0) (pos n -ℤ pos 1)) m → k ≡ max (max 1 n) (count_up_to m)
+pub counted : (k n : ℕ) (m : ℤ) → pos k -ℤ pos 1 ≡ int_max (int_max (pos 0) (pos n -ℤ pos 1)) m → k ≡ max (max 1 n) (count_up_to m)
 counted k n (pos j) e = omega (arith, ints, clamps)
 counted k n (negsuc j) e = omega (arith, ints, clamps)
 
@@ -91,7 +91,7 @@ module _ (rounding : Rounding) (y : ℕ) where
   unit = 10 ^ (finest - 32768)
 
   -- within the limits
-  shown-told : (u : Unsigned) → IsUnsigned u → size u ≡ y → integer_count u ≡ digits_before rounding y
+  pub shown-told : (u : Unsigned) → IsUnsigned u → size u ≡ y → integer_count u ≡ digits_before rounding y
       → IsLeastFrom (IsExactWith y) (least_fraction_digits rounding y) u.scale → number_shown rounding y ≡ Ok u
   shown-told u is sizes count least =
       let fits : IsExactWith y 32768 = exact-more y u.scale 32768 is.low_limit least.allowed in
@@ -115,7 +115,7 @@ module _ (rounding : Rounding) (y : ℕ) where
       go false false false true is-a is-b is-c is-e na nb nc whole told = ap Ok told
 
   -- past them
-  shown-past : (ten_to (pos 32768) ≤ y) ⊎ ((32768 < rounding.integer_digits)
+  pub shown-past : (ten_to (pos 32768) ≤ y) ⊎ ((32768 < rounding.integer_digits)
       ⊎ ((n : ℕ) × IsLeastFrom (IsExactWith y) (least_fraction_digits rounding y) n × (32768 < n))) → number_shown rounding y ≡ Err Overflow
   shown-past past = go (nat_le (ten_to (pos 32768)) y) (nat_lt 32768 rounding.integer_digits) (nat_lt 32768 (digits_below rounding y)) ((y % unit) == 0)
       refl refl refl refl past

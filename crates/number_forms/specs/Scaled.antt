@@ -1,5 +1,5 @@
 -- A number multiplied by a power of ten, computed.
-use Rattle.std.specs.Prelude.{◌≡◌, ℕ, ℤ, suc, pos, negsuc, ◌+◌, ◌-◌, ◌*◌, ◌/◌, ◌^◌, max, nat_le, nat_lt, ◌||◌, Result, Ok, Err, if◌then◌else◌}
+use Rattle.std.specs.Prelude.{◌≡◌, ℕ, ℤ, zero, suc, pos, negsuc, ◌+◌, ◌-◌, ◌*◌, ◌/◌, ◌^◌, max, nat_le, nat_lt, ◌||◌, Result, Ok, Err, if◌then◌else◌}
 use Rattle.fixed_decimal.specs.Rounding.{scale_at, zeros_at}
 use Rattle.fixed_decimal.specs.Size.{magnitude, size, ten_to}
 use Rattle.fixed_decimal.specs.Unsigned.{Unsigned, IsUnsigned, integer_count}
@@ -36,6 +36,6 @@ moved_number k d = number_at (moved_scale k d.scale) (moved_size k (size d))
 
 -- d times ten to the power k; d with its digits as they are where k is 0
 abbrev pub scaled : ℤ → Unsigned → Result Unsigned TextError
-scaled (pos 0) d = Ok d
+scaled (pos zero) d = Ok d
 scaled (pos (suc k)) d = moved_number (pos (suc k)) d
 scaled (negsuc k) d = moved_number (negsuc k) d
