@@ -2,4 +2,5 @@ pub mod Owned
 pub mod SameForm
 pub mod Steps
 pub mod Texts
+pub mod Unformed
 pub mod Unstarted

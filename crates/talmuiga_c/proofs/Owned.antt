@@ -16,8 +16,9 @@ use types.Kit.{Goal, Item, Seq}
 use types.Logic.{Logic, sem}
 use contract.Lifetimes.{Lfts}
 use denote.Memory.{cell_at, lone, part_of}
-use denote.Exit.{Kept, Last, left, no}
-use denote.Param.Mute.{Mute, Mute-flat, enum-Mute}
+use denote.Exit.{Kept as KeptAt, Last, left, no}
+use denote.Param.Mute.{Mute, Mute-flat, Mute-variants, enum-Mute}
+use denote.Enum.Declared.{variants}
 use denote.Enum.Loose.{loose_lawful}
 use denote.Laws.{Is, Lawful, Typed}
 use denote.Signature.{Slot}
@@ -30,15 +31,15 @@ use Rattle.talmuiga_c.specs.declared.kept.Kept.{Kept}
 use Rattle.talmuiga_c.specs.contracts.kept.Kept.{the_row, the_type}
 
 -- a mode that is handed over has nothing that its caller learns
-mode-Mute : Mute (by-words.the_row.exit no)
-mode-Mute = enum-Mute by-words.the_type no ((Mute-flat (λ x w. refl) (λ x. tt), tt), ((Mute-flat (λ x w. refl) (λ x. tt), tt), tt))
+mode-Mute : Mute (by-words.the_field.row.exit no)
+mode-Mute = Mute-variants no (variants by-words.the_type) ((Mute-flat (λ x w. refl) (λ x. tt), tt), ((Mute-flat (λ x w. refl) (λ x. tt), tt), tt))
 
 -- nor has what a formatter holds
 pub kept-Mute : Mute (the_row.exit yes)
 kept-Mute = enum-Mute the_type no ((mode-Mute, tt), ((Mute-flat (λ x w. refl) (λ x. tt), tt), tt))
 
 -- and so it is of each parameter that is let go, where nothing is learnt by its type
-pub told-nothing : {M : Type 1} {𝓤 : Ura M} (𝓛 : Logic 𝓤) (n : ℕ) (s : Slot n) (k : Kept) → ((κs : Lfts n) → Mute ((s.row κs).exit k))
+pub told-nothing : {M : Type 1} {𝓤 : Ura M} (𝓛 : Logic 𝓤) (n : ℕ) (s : Slot n) (k : KeptAt) → ((κs : Lfts n) → Mute ((s.row κs).exit k))
     → Goes 𝓛 n s k (stay_dropped s k)
 told-nothing {M = M} {𝓤 = 𝓤} 𝓛 n s k mute κs x f vs ok = via 𝓤 (sem 𝓛 (left ((s.row κs).exit k) x f))
     (subst (λ (w : Last ((s.row κs).exit k) x). ent 𝓤 (emp 𝓤) (sem 𝓛 (left ((s.row κs).exit k) x w))) (sym ((mute κs).once x f)) ((mute
