@@ -69,8 +69,14 @@ fn digits_of_currency<'a>(matches: &ArgMatches<'a>) -> DigitsBy<'a> {
     }
 }
 
-/// What says how fine numbers are; at most one of the options is given.
-fn digits_by<'a>(matches: &ArgMatches<'a>) -> DigitsBy<'a> {
+/// What says how fine numbers are: the skeleton, or one of the options.
+fn digits_by<'a>(matches: &ArgMatches<'a>, skeleton: Option<&'a str>) -> DigitsBy<'a> {
+    if let Some(text) = skeleton {
+        return DigitsBy::Option {
+            name: "skeleton",
+            text,
+        };
+    }
     for name in PRECISIONS {
         if let Some(digits) = digits_of(matches, name) {
             return digits;
@@ -83,13 +89,14 @@ fn digits_by<'a>(matches: &ArgMatches<'a>) -> DigitsBy<'a> {
 pub(crate) fn explainer_for<'a, 'b>(
     rt: &HostRuntime,
     matches: &ArgMatches<'a>,
+    skeleton: Option<&'a str>,
     refusals: Refusals,
     form: &'b Form,
 ) -> Explainer<'a, 'b> {
     Explainer {
         settings: Settings {
             width: columns(rt),
-            digits: digits_by(matches),
+            digits: digits_by(matches, skeleton),
             mode: matches.get_str("round"),
         },
         form,

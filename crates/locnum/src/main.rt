@@ -9,6 +9,7 @@ mod entries;
 mod explained;
 mod explained_fields;
 mod faults;
+mod headings;
 mod held;
 mod lacks;
 mod listed;
@@ -25,6 +26,7 @@ mod words;
 
 use clap::ArgMatches;
 use command::{command, given};
+use headings::heading_of;
 use icu_provider::DataLocale;
 use number_forms::{Form, StartError, Settings};
 use locnum_options::{Environment, Given, OptionFault, Options, parse_options};
@@ -37,7 +39,7 @@ use std::io::Write;
 use std::process::ExitCode;
 use std::{env, str};
 use streams::status_of_output;
-use tables::{ListResult, TablesFile, heading, list, note_of_failure, note_of_system};
+use tables::{ListResult, TablesFile, list, note_of_failure, note_of_system};
 use words::{marked, numbers_given};
 
 /// Why the program ends early.
@@ -137,7 +139,7 @@ fn run_by_tables(
         return Err(put_note(rt, &note));
     }
     let numbers = numbers_given(rt.alloc(), matches)?;
-    let heading = heading(rt.alloc(), file, &options.settings)?;
+    let heading = heading_of(rt.alloc(), matches, file, &options.settings)?;
     Ok(run_formed(rt, matches, options, &form, &heading, numbers.as_deref()))
 }
 

@@ -16,7 +16,7 @@ const ABSENT: [(&str, &str); 9] = [
     ("--from", "numbers are read without suffixes"),
     (
         "--from-unit",
-        "numbers are read as they are, and not multiplied",
+        "--scale multiplies numbers by a power of ten",
     ),
     (
         "--suffix",
@@ -28,7 +28,7 @@ const ABSENT: [(&str, &str); 9] = [
     ),
     (
         "--to-unit",
-        "numbers are written as they are, and not divided",
+        "--scale multiplies numbers by a power of ten, such as 0.001",
     ),
     (
         "--unit-separator",

@@ -39,7 +39,7 @@ const LINES: &str = "Lines";
 pub(crate) const PROGRAM: &str = "Program";
 
 /// The options, in the order of `--help`.
-pub(crate) const OPTIONS: [OptionEntry; 25] = [
+pub(crate) const OPTIONS: [OptionEntry; 28] = [
     OptionEntry {
         heading: LOCALE,
         name: "tables",
@@ -140,6 +140,20 @@ pub(crate) const OPTIONS: [OptionEntry; 25] = [
     },
     OptionEntry {
         heading: NUMBERS,
+        name: "integer",
+        letter: None,
+        takes: Takes::Text("N"),
+        help: "N digits before the fraction at least",
+    },
+    OptionEntry {
+        heading: NUMBERS,
+        name: "scale",
+        letter: None,
+        takes: Takes::Text("N"),
+        help: "multiplies by a power of ten: 100 or 0.01",
+    },
+    OptionEntry {
+        heading: NUMBERS,
         name: "round",
         letter: None,
         takes: Takes::Text("MODE"),
@@ -158,6 +172,13 @@ pub(crate) const OPTIONS: [OptionEntry; 25] = [
         letter: None,
         takes: Takes::Text("WHEN"),
         help: "auto, always, never, except-zero or negative",
+    },
+    OptionEntry {
+        heading: NUMBERS,
+        name: "skeleton",
+        letter: None,
+        takes: Takes::Text("TEXT"),
+        help: "a number skeleton instead, as 'K currency/EUR'",
     },
     OptionEntry {
         heading: LINES,

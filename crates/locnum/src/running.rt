@@ -3,6 +3,7 @@
 use crate::ending::status_of_run;
 use crate::explained::{explain_given, explainer_for};
 use crate::explained_fields::explain_fields;
+use crate::headings::Heading;
 use crate::streams::Streams;
 use crate::words::run_words;
 use clap::ArgMatches;
@@ -63,22 +64,23 @@ pub(crate) fn run_formed(
     matches: &ArgMatches<'_>,
     options: Options<'_>,
     form: &Form,
-    heading: &[u8],
+    heading: &Heading,
     numbers: Option<&[&str]>,
 ) -> u8 {
+    let Heading { skeleton, lines } = heading;
     let mut settings = options.lines;
     let mut streams = Streams::new(rt);
-    let explainer = explainer_for(rt, matches, settings.refusals, form);
+    let explainer = explainer_for(rt, matches, skeleton.as_deref(), settings.refusals, form);
     let ran = match options.explain {
         Explain::Nothing => run_given(rt, &mut streams, &mut settings, form, numbers),
-        Explain::Lines => explain_given(rt, &mut streams, &explainer, heading, numbers),
+        Explain::Lines => explain_given(rt, &mut streams, &explainer, lines, numbers),
         Explain::Fields => {
             explain_fields(
                 rt,
                 &mut streams,
                 &explainer,
                 &mut settings,
-                heading,
+                lines,
                 numbers,
             )
         }

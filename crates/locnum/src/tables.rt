@@ -44,20 +44,19 @@ fn key_of(kind: &Kind<'_>) -> &'static str {
     }
 }
 
-/// The line in front of explanations: the file, the locale and the key of the data.
-pub(crate) fn heading(
-    alloc: Global,
+/// Appends the line in front of explanations: the file, the locale and the key of the data.
+pub(crate) fn push_heading(
     file: TablesFile<'_>,
     settings: &Settings<'_>,
-) -> Result<Vec<u8>, AllocError> {
-    let mut line = Vec::new(alloc);
-    push_file(file.path, &mut line)?;
-    line.extend_from_slice(b"locale ")?;
-    line.extend_from_slice(settings.locale.as_str().as_bytes())?;
-    line.extend_from_slice(b", ")?;
-    line.extend_from_slice(key_of(&settings.kind).as_bytes())?;
-    line.push(b'\n')?;
-    Ok(line)
+    out: &mut Vec<u8>,
+) -> Result<(), AllocError> {
+    push_file(file.path, out)?;
+    out.extend_from_slice(b"locale ")?;
+    out.extend_from_slice(settings.locale.as_str().as_bytes())?;
+    out.extend_from_slice(b", ")?;
+    out.extend_from_slice(key_of(&settings.kind).as_bytes())?;
+    out.push(b'\n')?;
+    Ok(())
 }
 
 /// Appends the arguments that ask for a kind of data in the command that makes a file.

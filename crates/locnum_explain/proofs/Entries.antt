@@ -2,12 +2,10 @@
 use Rattle.std.proofs.Common.{◌≡◌, ℕ, ◌+◌, ◌*◌, ◌^◌, ◌<◌, ◌≤◌, ◌⊎◌, ⊎_elim, inl, inr}
 use Rattle.std.proofs.Common.{List, ◌++◌, length, Option, Some, IfSome, slice_get, sym, ap, ◌∙◌}
 use Rattle.std.proofs.Common.{subst, arith, append_assoc, ℤ, pos, ◌+ℤ◌, ◌-ℤ◌}
-use Rattle.std.proofs.lemmas.Bool.{cases_eq}
 use Rattle.std.proofs.lemmas.Int.{ints}
 use Rattle.std.proofs.lemmas.Option.{slice_get_cases}
 use Rattle.fixed_decimal.specs.Size.{finest, magnitude, magnitude_place, place, size}
 use Rattle.fixed_decimal.specs.Unsigned.{Unsigned, IsUnsigned}
-use Rattle.fixed_decimal.proofs.MagnitudePlaces.{magnitude_place-zero, magnitude_place_times}
 use Rattle.icu_plurals.specs.Elements.{selected}
 use Rattle.icu_plurals.specs.Operands.{Operands, operands_of}
 use Rattle.icu_plurals.specs.Rules.{Rule, category_of}
@@ -18,11 +16,11 @@ use Rattle.icu_decimal_data.specs.Faithful.{pattern_for}
 use Rattle.icu_decimal.specs.CompactFormat.{CompactFormat, FormattedCompact, IsCompacted, magnitude_with, pattern_of, significand_of}
 use Rattle.icu_decimal.specs.CompactNumber.{ShowsPastLimits, rounding_place}
 use Rattle.icu_decimal.specs.Decomposed.{decomposed_entry}
-use Rattle.icu_decimal.proofs.CompactCore.{exponent_le_magnitude}
 use Rattle.icu_decimal.proofs.DecomposedOnce.{decomposed_is_one}
 use Rattle.icu_decimal.proofs.PowerPlaces.{place_is}
 use Rattle.decimal_lines.proofs.Displaying.{number-decomposed}
 use Rattle.decimal_lines.specs.Computed.{nearest_number, significand_shown}
+use Rattle.number_forms.proofs.ExponentsShown.{decomposed_place}
 use Rattle.locnum_explain.specs.Around.{around_line}
 use Rattle.locnum_explain.specs.Facts.{entry_line, pattern_line}
 use Rattle.locnum_explain.specs.Operands.{operands_line}
@@ -71,31 +69,6 @@ entry_lines-appended format rules table m s index old first second third rules_a
   where
     regroup : (p q r s : List ℕ) → ((p ++ q) ++ r) ++ s ≡ p ++ ((q ++ r) ++ s)
     regroup p q r s = simp append_assoc
-
--- the magnitude of a significand and an exponent together
-together : (m e : ℕ) → place ((pos m -ℤ pos finest) +ℤ pos e) ≡ m + e
-together m e = place_is ((pos m -ℤ pos finest) +ℤ pos e) (m + e) (omega (arith, ints))
-
--- the place of that magnitude is the one that the displayed size has
-decomposed_place : (table : List TableEntry) (s : Unsigned) (y : ℕ) (entry : Option TableEntry) → IsCompactTable table →
-    entry ≡ entry_for table (magnitude_place y) → size s * 10 ^ exponent_of entry ≡ y →
-    place (magnitude_with s (exponent_of entry)) ≡ magnitude_place y
-decomposed_place table s y entry t is scaled = together (magnitude_place (size s)) (exponent_of entry) ∙ go (cases_eq (size s) 0)
-  where
-    go : (size s ≡ 0) ⊎ (¬ (size s ≡ 0)) → magnitude_place (size s) + exponent_of entry ≡ magnitude_place y
-    go (inr some) = sym (magnitude_place_times (size s) (exponent_of entry) (omega arith)) ∙ ap magnitude_place scaled
-    go (inl nothing) =
-        let none : y ≡ 0 = sym scaled ∙ rw nothing (omega arith) in
-        let least : magnitude_place y ≡ finest = ap magnitude_place none ∙ magnitude_place-zero in
-        let here : entry ≡ entry_for table finest = is ∙ ap (entry_for table) least in
-        let zero_exponent : exponent_of entry ≡ 0 = no_exponent (exponent_le_magnitude table finest t) (ap exponent_of here) in
-        let same : magnitude_place (size s) ≡ finest = ap magnitude_place nothing ∙ magnitude_place-zero in
-        omega arith
-      where
-        no_exponent : (exponent_of (entry_for table finest) ≡ 0) ⊎ (exponent_of (entry_for table finest) + finest ≤ finest) →
-            exponent_of entry ≡ exponent_of (entry_for table finest) → exponent_of entry ≡ 0
-        no_exponent (inl e) f = f ∙ e
-        no_exponent (inr h) f = omega arith
 
 -- the lines of a formatted number are those by which its decimal is displayed
 pub decomposed-given : (format : CompactFormat) (d : Unsigned) (number : FormattedCompact) → IsCompacted format d number → IsCompactTable format.table

@@ -3,6 +3,7 @@ use Rattle.std.specs.Prelude.{ℕ, List, [], ◌++◌, Result, Ok, Err, codes}
 use Rattle.writeable.specs.Events.{Event, text_of}
 use Rattle.writeable.specs.Spans.{spans}
 use Rattle.fixed_decimal.specs.declared.signs.Sign.{Sign}
+use Rattle.fixed_decimal.specs.Size.{magnitude, place, size}
 use Rattle.fixed_decimal.specs.Unsigned.{Unsigned}
 use Rattle.decimal_lines.specs.declared.single_text.TextError.{TextError}
 use Rattle.decimal_lines.specs.declared.single_text.TextError.TheVariants.{NotDecimal, TooManyDigits, Overflow, OutOfMemory}
@@ -10,10 +11,10 @@ use Rattle.decimal_lines.specs.declared.mode.Mode.TheVariants.{Plain, Compact}
 use Rattle.number_forms.specs.Decimals.{scaled_decimal, shown_decimal}
 use Rattle.number_forms.specs.Forms.{FormData, form_events}
 use Rattle.number_forms.specs.declared.form.Formatter.{Formatter}
-use Rattle.number_forms.specs.declared.form.Formatter.TheVariants.{Numbers, Money, MoneyNamed, MoneyShort, Percent, Units}
+use Rattle.number_forms.specs.declared.form.Formatter.TheVariants.{Numbers, ShortNumbers, Money, MoneyNamed, MoneyShort, Percent, Units}
 use Rattle.number_forms.specs.Reported.{reported}
 use Rattle.locnum_explain.specs.declared.settings.Settings.{Settings}
-use Rattle.locnum_explain.specs.Facts.{magnitude_line}
+use Rattle.locnum_explain.specs.Facts.{entry_line, magnitude_line}
 use Rattle.locnum_explain.specs.Operands.{operands_line}
 use Rattle.locnum_explain.specs.Parts.{parts_lines}
 use Rattle.locnum_explain.specs.Rounding.{rounding_lines}
@@ -32,11 +33,13 @@ refusal_line OutOfMemory = codes "  out of memory\n"
 abbrev pub marked_lines : ℕ → List Event → List Event → List ℕ
 marked_lines width events marks = parts_lines width (text_of events) (spans marks)
 
--- What is said of a decimal besides its magnitude: of a compact number what it is displayed by, of a number with a name or a unit its
+-- What is said of a decimal besides its magnitude: of a compact number what it is displayed by, by digits that are asked
+-- for the entry, of a number with a name or a unit its
 -- operands, and of all but numbers in full the pattern.
 abbrev pub detail_lines : Formatter → Sign → Unsigned → List ℕ
 detail_lines (Numbers (Plain format)) sign d = []
 detail_lines (Numbers (Compact format)) sign d = compact_facts format d
+detail_lines (ShortNumbers format by) sign d = entry_line format.table (place (magnitude (size d)))
 detail_lines (Money format) sign d = signed_line format.patterns sign
 detail_lines (MoneyNamed format) sign d = operands_line format.rules d ++ name_line format.rules format.elements d
 detail_lines (MoneyShort format) sign d = amount_facts format sign d

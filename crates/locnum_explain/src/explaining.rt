@@ -2,23 +2,25 @@
 
 ghost use Rattle.std.specs.Prelude.{◌≡◌, ◌≢◌, ◌++◌, IfOk, Ok, OnOk, codes, true};
 ghost use Rattle.std.specs.Result.{is_err};
+ghost use Rattle.fixed_decimal.specs.Size.{magnitude, place, size};
 ghost use Rattle.fixed_decimal.specs.Unsigned.{IsUnsigned};
 ghost use Rattle.number_forms.specs.Decimals.{scaled_decimal, shown_decimal};
 ghost use Rattle.number_forms.specs.Forms.{form_events, formatter_events};
 ghost use Rattle.number_forms.specs.Reported.{reported};
 ghost use Rattle.number_forms.specs.declared.form.Formatter.TheVariants.{MoneyNamed, Units};
+ghost use Rattle.locnum_explain.specs.Facts.{entry_line};
 ghost use Rattle.locnum_explain.specs.Lines.{detail_lines, fact_lines, form_explanation, outcome_lines, refusal_line, written_lines};
 
 use crate::compact::{push_amount, push_compact};
-use crate::facts::push_magnitude;
+use crate::facts::{push_entry, push_magnitude};
 use crate::marking::push_marked;
 use crate::operands::push_operands;
 use crate::patterns::{push_name, push_signed, push_unit};
 use crate::rounding::push_rounding;
 use crate::settings::Settings;
 use decimal_lines::{Mode, TextError};
-use fixed_decimal::Decimal;
-use icu_decimal::DecimalFormatter;
+use fixed_decimal::{Decimal, UnsignedDecimal};
+use icu_decimal::{CompactDecimalFormatter, DecimalFormatter};
 use icu_dimension::{LongCurrencyFormatter, UnitsFormatter};
 use number_forms::{Form, Formatter, Prepared, push_reported};
 use std::alloc::{AllocError, Global};
@@ -65,6 +67,18 @@ fn push_measured(
     push_unit(alloc, formatter, &decimal.absolute, out)
 }
 
+/// Appends the entry of a number that is shortened with digits that are asked for.
+fn push_shortened(
+    formatter: &CompactDecimalFormatter,
+    shown: &UnsignedDecimal,
+    out: &mut Vec<u8>,
+) -> Result<(), AllocError>
+    ensures { OnOk result (out.new.items ≡ out.old.items
+        ++ entry_line formatter.now.table (place (magnitude (size shown.now)))) }
+{
+    push_entry(formatter.patterns(), shown.nonzero_magnitude_start() as i32, out)
+}
+
 /// Appends what is said of a decimal besides its text and its magnitude, by what writes it.
 fn push_details(
     alloc: Global,
@@ -79,6 +93,7 @@ fn push_details(
     match formatter {
         Formatter::Numbers(Mode::Plain(_)) => Ok(()),
         Formatter::Numbers(Mode::Compact(compact)) => push_compact(alloc, compact, decimal, out),
+        Formatter::ShortNumbers(compact, _) => push_shortened(compact, &decimal.absolute, out),
         Formatter::Money(money) => push_signed(alloc, money.patterns(), decimal.sign, out),
         Formatter::MoneyNamed(money) => push_named(alloc, money, decimal, out),
         Formatter::MoneyShort(money) => push_amount(alloc, money, decimal, out),

@@ -128,6 +128,7 @@ fn marks_of(
         }
         Formatter::MoneyShort(money) => Ok(Some(mark_amount(alloc, money, decimal)?)),
         Formatter::Numbers(Mode::Plain(_))
+        | Formatter::ShortNumbers(_, _)
         | Formatter::Money(_)
         | Formatter::MoneyNamed(_)
         | Formatter::Percent(_)

@@ -1,7 +1,9 @@
+pub mod Beside
 pub mod Counts
 pub mod Explained
 pub mod Fields
 pub mod Given
+pub mod Integer
 pub mod Kinds
 pub mod Locale
 pub mod Names
@@ -9,5 +11,7 @@ pub mod Padding
 pub mod Precision
 pub mod Rounding
 pub mod Options
+pub mod Scale
+pub mod Settings
 pub mod Texts
 pub mod Words

@@ -1,6 +1,8 @@
 -- What the options ask for.
-use Rattle.std.specs.Prelude.{◌≡◌, ℕ, Bool, false, ◌⊎◌, List, [], ◌∷◌, Option, Some, None, Result, Ok, Err, codes, if◌then◌else◌}
+use Rattle.std.specs.Prelude.{◌≡◌, ℕ, Bool, ◌⊎◌, List, [], ◌∷◌, Option, Some, None, Result, Ok, Err, codes, if◌then◌else◌}
 use Rattle.number_forms.specs.Settings.{FormSettings}
+use Rattle.number_skeleton.specs.declared.fault.SkeletonFault.{SkeletonFault}
+use Rattle.skeleton_settings.specs.declared.settings.Skeleton.{Skeleton}
 use Rattle.locnum_lines.specs.Settings.{SettingsData}
 use Rattle.locnum_lines.specs.declared.padding.Padding.{Padding}
 use Rattle.locnum_lines.specs.declared.settings.Source.TheVariants.{Lines}
@@ -9,13 +11,12 @@ use Rattle.locnum_options.specs.Fields.{positive_number_named}
 use Rattle.locnum_options.specs.Given.{flag_of, text_of}
 use Rattle.locnum_options.specs.declared.explained.Explain.{Explain}
 use Rattle.locnum_options.specs.declared.given.Given.{Given}
-use Rattle.locnum_options.specs.Kinds.{◌>>=◌, kind_given}
+use Rattle.locnum_options.specs.Kinds.{◌>>=◌}
 use Rattle.locnum_options.specs.Locale.{locale_given}
 use Rattle.locnum_options.specs.Names.{chosen_given}
 use Rattle.locnum_options.specs.Padding.{padding_named}
-use Rattle.locnum_options.specs.Precision.{precision_given}
-use Rattle.locnum_options.specs.Rounding.{is_compact_kind, judged_mode, mode_given}
-use Rattle.locnum_options.specs.Words.{ok_or, system_given, grouping_given, sign_given, field_end_given, refusals_given}
+use Rattle.locnum_options.specs.Settings.{settings_given}
+use Rattle.locnum_options.specs.Words.{ok_or, field_end_given, refusals_given}
 use Rattle.locnum_options.specs.declared.fault.OptionFault.{OptionFault}
 use Rattle.locnum_options.specs.declared.fault.OptionFault.TheVariants as fault
 
@@ -46,17 +47,11 @@ padding_given (Some text) = do
 unfoldable pub end_of : Bool → ℕ
 end_of zero_terminated = if zero_terminated then 0 else 10
 
--- what the options ask for, or the first fault
-unfoldable pub options_of : Given → Result OptionsData OptionFault
-options_of given = do
+-- what the options ask for, by what was read of the skeleton, or the first fault
+unfoldable pub options_of : Option (Result Skeleton SkeletonFault) → Given → Result OptionsData OptionFault
+options_of skeleton given = do
   locale ← locale_given given
-  system ← system_given (text_of given (codes "system"))
-  grouping ← grouping_given (text_of given (codes "grouping"))
-  precision ← precision_given given
-  mode ← mode_given (text_of given (codes "round"))
-  sign ← sign_given (text_of given (codes "sign"))
-  kind ← kind_given given
-  mode ← judged_mode given (is_compact_kind kind) mode
+  settings ← settings_given locale skeleton given
   explain ← explain_given given
   delimiter ← field_end_given given
   chosen ← chosen_given given
@@ -64,17 +59,7 @@ options_of given = do
   padding ← padding_given (text_of given (codes "padding"))
   refusals ← refusals_given (text_of given (codes "invalid"))
   Ok (record {
-    settings = record {
-      locale = locale;
-      system = system;
-      grouping = grouping;
-      precision = precision;
-      mode = mode;
-      hides_zeros_of_whole = false;
-      integer_digits = 1;
-      sign = sign;
-      kind = kind;
-    };
+    settings = settings;
     lines = record {
       delimiter = delimiter;
       fields = chosen.fields;

@@ -47,9 +47,11 @@ is_compact_kind (MoneyShort code) = true
 is_compact_kind Percent = false
 is_compact_kind (Unit name width) = false
 
--- a rounding is asked for that compact numbers don't have
+-- a rounding or a count of integer digits is asked for, which compact numbers don't have
 unfoldable pub is_fine : Given → Bool
-is_fine given = flag_of given (codes "round") || flag_of given (codes "significant") || flag_of given (codes "increment")
+is_fine given =
+    flag_of given (codes "round") || flag_of given (codes "significant") || flag_of given (codes "increment")
+    || flag_of given (codes "integer")
 
 -- numbers are rounded: an option says how fine they are, or a currency does
 unfoldable pub is_rounded : Given → Bool

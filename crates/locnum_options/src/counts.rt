@@ -16,7 +16,7 @@ pub(crate) struct Counts {
 
 /// A number of digits.
 #[tactic(auto, unfolding(crate::specs::Counts::count_named))]
-fn count_named(text: &str) -> Option<u16>
+pub(crate) fn count_named(text: &str) -> Option<u16>
     ensures { result ≡ count_named text.now }
 {
     let number = number_named(text)?;

@@ -3,6 +3,9 @@
 ghost use Rattle.std.specs.Prelude.{◌≡◌};
 ghost use Rattle.locnum_options.specs.declared.fault.OptionFault.TheVariants.{OutOfMemory};
 
+use crate::beside::{NumberOption, name_of};
+use number_forms::Unsupported;
+use number_skeleton::SkeletonFault;
 use std::alloc::{AllocError, AllocFailed};
 use thiserror::Error;
 
@@ -27,6 +30,21 @@ pub enum OptionFault {
     /// The text isn't an increment that number skeletons have.
     #[error("--increment: not 1, 2, 5 or 25 times a power of ten, in digits")]
     Increment,
+    /// The text isn't a count of digits from 1 on.
+    #[error("--integer: not a number of digits, from 1 to 999")]
+    Integer,
+    /// The text isn't a scale that number skeletons have.
+    #[error("--scale: not a power of ten in digits, such as 100 or 0.01")]
+    Scale,
+    /// The text isn't a number skeleton.
+    #[error("skeleton: {0}")]
+    Skeleton(SkeletonFault),
+    /// The skeleton asks for what no form has.
+    #[error("skeleton: not supported: {0}")]
+    Unsupported(Unsupported),
+    /// An option says what a skeleton says.
+    #[error("--skeleton: not with --{}", name_of(*.0))]
+    BesideSkeleton(NumberOption),
     /// More than one option says how fine numbers are.
     #[error("--fraction, --significant, --increment and --cash: not together")]
     Precisions,
@@ -61,8 +79,8 @@ pub enum OptionFault {
     /// An option of money without a currency, or a width without something that has one.
     #[error("--accounting and --cash want --currency, and --width wants --currency or --unit")]
     Alone,
-    /// Compact numbers are asked for with a rounding that they don't have.
-    #[error("--round, --significant and --increment: not with --style short or long")]
+    /// Compact numbers are asked for with a rounding or integer digits, which they don't have.
+    #[error("--round, --significant, --increment and --integer: not with --style short or long")]
     CompactRounding,
     /// A rounding mode is asked for where nothing is rounded.
     #[error("--round wants --fraction, --significant, --increment or --currency")]

@@ -2,11 +2,13 @@
 //! of lines.
 #![tactic(auto)]
 
+mod beside;
 mod counts;
 mod explained;
 mod fault;
 mod fields;
 mod given;
+mod integer;
 mod kinds;
 mod locale;
 mod names;
@@ -14,9 +16,12 @@ mod options;
 mod padding;
 mod precision;
 mod rounding;
+mod scale;
+mod settings;
 mod texts;
 mod words;
 
+pub use beside::NumberOption;
 pub use explained::Explain;
 pub use fault::OptionFault;
 pub use given::{Environment, Given};

@@ -1,19 +1,20 @@
 //! What the options ask for.
 
-ghost use Rattle.std.specs.Prelude.{◌≡◌, option_map};
+ghost use Rattle.std.specs.Prelude.{◌≡◌, Option, Result, option_map};
+ghost use Rattle.number_skeleton.specs.declared.fault.SkeletonFault.{SkeletonFault};
+ghost use Rattle.skeleton_settings.specs.declared.settings.Skeleton.{Skeleton};
 ghost use Rattle.locnum_options.specs.Options.{GivesOption, end_of, header_given, options_of, padding_given};
+ghost use Rattle.locnum_options.specs.Settings.{IsReadOf};
 
 use crate::explained::{Explain, explain_given};
 use crate::fault::OptionFault;
 use crate::fields::positive_number_named;
 use crate::given::Given;
-use crate::kinds::kind_given;
 use crate::locale::locale_given;
 use crate::names::{Chosen, chosen_given};
 use crate::padding::padding_named;
-use crate::precision::precision_given;
-use crate::rounding::{is_compact_kind, judged_mode, mode_given};
-use crate::words::{field_end_given, grouping_given, refusals_given, sign_given, system_given};
+use crate::settings::{ReadSkeleton, settings_given, skeleton_read};
+use crate::words::{field_end_given, refusals_given};
 use number_forms::Settings;
 use locnum_lines::{LineSettings, Padding, Source};
 use std::alloc::Global;
@@ -78,26 +79,20 @@ fn end_of(zero_terminated: bool) -> u8
     if zero_terminated { 0 } else { b'\n' }
 }
 
-/// What the options ask for, or the first fault (this project's own).
-///
-/// `OutOfMemory` may be reported in place of any result.
-// promise: The arguments determine what is asked for, or the fault.
-// mutations: options_header_judged_after_invalid, two_precisions_let_through
+/// What the options ask for besides the skeleton that was read, or the first fault.
 #[tactic(auto, unfolding(crate::specs::Options::options_of))]
-pub fn parse_options<'a>(alloc: Global, given: &Given<'a>) -> Result<Options<'a>, OptionFault>
-    ensures { GivesOption (λ x. x) result (options_of given.now) }
+fn options_of<'a>(
+    alloc: Global,
+    skeleton: Option<ReadSkeleton<'a>>,
+    given: &Given<'a>,
+) -> Result<Options<'a>, OptionFault>
+    ensures { GivesOption (λ x. x) result (options_of skeleton.entry given.now) }
 {
     let locale = locale_given(alloc, given)?;
-    let system = system_given(given.text("system"))?;
-    let grouping = grouping_given(given.text("grouping"))?;
-    let precision = precision_given(alloc, given)?;
-    let mode = mode_given(given.text("round"))?;
-    let sign = sign_given(given.text("sign"))?;
-    let kind = match kind_given(given) {
-        Ok(kind) => kind,
+    let settings = match settings_given(alloc, locale, skeleton, given) {
+        Ok(settings) => settings,
         Err(fault) => return Err(fault),
     };
-    let mode = judged_mode(given, is_compact_kind(&kind), mode)?;
     let explain = explain_given(given)?;
     let delimiter = field_end_given(given)?;
     let Chosen { fields, names } = chosen_given(alloc, given)?;
@@ -105,17 +100,7 @@ pub fn parse_options<'a>(alloc: Global, given: &Given<'a>) -> Result<Options<'a>
     let padding = padding_given(given.text("padding"))?;
     let refusals = refusals_given(given.text("invalid"))?;
     Ok(Options {
-        settings: Settings {
-            locale,
-            system,
-            grouping,
-            precision,
-            mode,
-            hides_zeros_of_whole: false,
-            integer_digits: 1,
-            sign,
-            kind,
-        },
+        settings,
         lines: LineSettings {
             delimiter,
             fields,
@@ -128,4 +113,17 @@ pub fn parse_options<'a>(alloc: Global, given: &Given<'a>) -> Result<Options<'a>
         },
         explain,
     })
+}
+
+/// What the options ask for, or the first fault (this project's own).
+///
+/// `OutOfMemory` may be reported in place of any result.
+// promise: The arguments determine what is asked for, or the fault.
+// mutations: options_header_judged_after_invalid, two_precisions_let_through
+pub fn parse_options<'a>(alloc: Global, given: &Given<'a>) -> Result<Options<'a>, OptionFault>
+    ensures { (skeleton : Option (Result Skeleton SkeletonFault)) × IsReadOf given.now skeleton
+        × GivesOption (λ x. x) result (options_of skeleton given.now) }
+{
+    let skeleton = skeleton_read(given);
+    options_of(alloc, skeleton, given)
 }

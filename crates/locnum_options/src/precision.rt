@@ -66,7 +66,7 @@ fn is_number_byte(byte: u8) -> bool
 
 /// Whether a text has digits and points alone, and so sets nothing else in a skeleton.
 #[tactic(auto, unfolding(crate::specs::Precision::is_number_text))]
-fn is_number_text(text: &str) -> bool
+pub(crate) fn is_number_text(text: &str) -> bool
     ensures { result ≡ is_number_text text.now }
 {
     text.as_bytes().iter().all(|byte| is_number_byte(*byte))

@@ -60,12 +60,15 @@ pub(crate) fn is_compact_kind(kind: &Kind<'_>) -> bool
     }
 }
 
-/// Whether a rounding is asked for that compact numbers don't have.
+/// Whether a rounding or a count of integer digits is asked for, which compact numbers don't have.
 #[tactic(auto, unfolding(crate::specs::Rounding::is_fine))]
 fn is_fine(given: &Given) -> bool
     ensures { result ≡ is_fine given.now }
 {
-    given.flag("round") || given.flag("significant") || given.flag("increment")
+    given.flag("round")
+        || given.flag("significant")
+        || given.flag("increment")
+        || given.flag("integer")
 }
 
 /// Whether numbers are rounded: an option says how fine they are, or a currency does.

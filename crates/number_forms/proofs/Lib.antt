@@ -1,6 +1,8 @@
 pub mod CompactMoney
 pub mod NumbersShown
 pub mod NumbersMoved
+pub mod NumbersShortened
+pub mod ExponentsShown
 pub mod Served
 pub mod WrittenForms
 pub mod WrittenTexts

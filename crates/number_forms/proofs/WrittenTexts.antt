@@ -4,9 +4,9 @@ use Rattle.fixed_decimal.specs.declared.signs.Sign.{Sign}
 use Rattle.fixed_decimal.specs.Unsigned.{Unsigned}
 use Rattle.decimal_lines.specs.SingleText.{IsRefusal, decimal_read}
 use Rattle.decimal_lines.specs.declared.single_text.TextError.{TextError}
+use Rattle.number_forms.specs.Scaled.{scaled}
 use Rattle.number_forms.specs.Decimals.{events_at, rounded_decimal, scaled_decimal, shown_decimal}
-use Rattle.number_forms.specs.Forms.{FormData, ◌>>=◌, form_events, formatter_events, read_events, signed}
-use Rattle.number_forms.specs.Rounded.{rounded}
+use Rattle.number_forms.specs.Forms.{FormData, ◌>>=◌, form_events, form_rounded, formatter_events, read_events, signed}
 
 module _ (form : FormData) (text : List ℕ) where
   pub form_events-at : form_events form text ≡ events_at form.formatter (shown_decimal form text)
@@ -29,9 +29,9 @@ module _ (form : FormData) (text : List ℕ) where
       shown sign (Err error) = refl
 
       number : (sign : Sign) (r : Result Unsigned TextError)
-          → (r >>= (λ n. rounded form.rounding sign n >>= (λ d. formatter_events form.formatter (signed form sign d) d)))
+          → (r >>= (λ n. form_rounded form.formatter form.rounding sign n >>= (λ d. formatter_events form.formatter (signed form sign d) d)))
           ≡ events_at form.formatter ((r >>= with_sign sign) >>= rounded_of)
-      number sign (Ok n) = shown sign (rounded form.rounding sign n)
+      number sign (Ok n) = shown sign (form_rounded form.formatter form.rounding sign n)
       number sign (Err error) = refl
 
       go : (r : Result (Sign × Unsigned) TextError) → (r >>= read_events form) ≡ events_at form.formatter ((r >>= scaled_of) >>= rounded_of)

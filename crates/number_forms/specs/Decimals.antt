@@ -5,8 +5,7 @@ use Rattle.fixed_decimal.specs.Unsigned.{Unsigned}
 use Rattle.writeable.specs.Events.{Event}
 use Rattle.decimal_lines.specs.SingleText.{decimal_read}
 use Rattle.decimal_lines.specs.declared.single_text.TextError.{TextError}
-use Rattle.number_forms.specs.Forms.{FormData, ◌>>=◌, formatter_events, signed}
-use Rattle.number_forms.specs.Rounded.{rounded}
+use Rattle.number_forms.specs.Forms.{FormData, ◌>>=◌, form_rounded, formatter_events, signed}
 use Rattle.number_forms.specs.Scaled.{scaled}
 use Rattle.number_forms.specs.declared.form.Formatter.{Formatter}
 
@@ -20,7 +19,7 @@ scaled_decimal form text = do
 -- the decimal that is written for a number and the sign of its text
 abbrev pub rounded_decimal : FormData → Sign → Unsigned → Result (Sign × Unsigned) TextError
 rounded_decimal form sign d = do
-  shown ← rounded form.rounding sign d
+  shown ← form_rounded form.formatter form.rounding sign d
   Ok (signed form sign shown, shown)
 
 -- the decimal that is written for a text

@@ -16,8 +16,9 @@ use Rattle.number_rounding.specs.declared.rounding.Rounding.{Rounding}
 use Rattle.number_forms.specs.CompactMoney.{compact_money_events}
 use Rattle.number_forms.specs.Rounded.{rounded}
 use Rattle.number_forms.specs.Scaled.{scaled}
+use Rattle.number_forms.specs.Shortened.{shortened_events, shortened_number}
 use Rattle.number_forms.specs.declared.form.Formatter.{Formatter}
-use Rattle.number_forms.specs.declared.form.Formatter.TheVariants.{Numbers, Money, MoneyNamed, MoneyShort, Percent, Units}
+use Rattle.number_forms.specs.declared.form.Formatter.TheVariants.{Numbers, ShortNumbers, Money, MoneyNamed, MoneyShort, Percent, Units}
 
 -- by which power of ten numbers are multiplied; how they are rounded, if they are; which signs are shown; and what writes
 pub record FormData : Type 0 where
@@ -35,6 +36,7 @@ abbrev pub ◌>>=◌ : {A B : Type 0} → Result A TextError → (A → Result B
 -- what a formatter writes for a decimal
 abbrev pub formatter_events : Formatter → Sign → Unsigned → Result (List Event) TextError
 formatter_events (Numbers mode) sign d = mode_events mode sign d
+formatter_events (ShortNumbers format by) sign d = shortened_events by format sign d
 formatter_events (Money format) sign d = Ok (money_events format.patterns sign (plain_shown format.formatter d))
 formatter_events (MoneyNamed format) sign d =
     Ok (names_events format.formatter.symbols format.rules format.elements sign (plain_shown format.formatter d))
@@ -42,6 +44,16 @@ formatter_events (MoneyShort format) sign d = compact_money_events format sign d
 formatter_events (Percent format) sign d = Ok (money_events format.patterns sign (plain_shown format.formatter d))
 formatter_events (Units format) sign d =
     Ok (units_events format.formatter.symbols format.rules format.elements sign (plain_shown format.formatter d))
+
+-- the number that is shown for a number with the sign of its text: by the rounding of the form, or by that of compact numbers
+abbrev pub form_rounded : Formatter → Option Rounding → Sign → Unsigned → Result Unsigned TextError
+form_rounded (Numbers mode) rounding sign d = rounded rounding sign d
+form_rounded (ShortNumbers format by) rounding sign d = shortened_number by format sign d
+form_rounded (Money format) rounding sign d = rounded rounding sign d
+form_rounded (MoneyNamed format) rounding sign d = rounded rounding sign d
+form_rounded (MoneyShort format) rounding sign d = rounded rounding sign d
+form_rounded (Percent format) rounding sign d = rounded rounding sign d
+form_rounded (Units format) rounding sign d = rounded rounding sign d
 
 -- the sign of a number that was read, where that is shown, which depends on the shown number
 abbrev pub signed : FormData → Sign → Unsigned → Sign
@@ -51,7 +63,7 @@ signed form sign d = sign_by_display form.sign (size d == 0) sign
 abbrev pub read_events : FormData → Sign × Unsigned → Result (List Event) TextError
 read_events form read = do
   number ← scaled form.scale read.1
-  shown ← rounded form.rounding read.0 number
+  shown ← form_rounded form.formatter form.rounding read.0 number
   formatter_events form.formatter (signed form read.0 shown) shown
 
 -- what a form writes for a text

@@ -4,6 +4,7 @@ pub mod Rounded
 pub mod Cut
 pub mod CompactMoney
 pub mod Scaled
+pub mod Shortened
 pub mod Forms
 pub mod WrittenOr
 pub mod Loaded

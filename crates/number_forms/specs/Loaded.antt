@@ -1,5 +1,6 @@
 -- The form of what tables answer, in the order in which they are asked, or the first error.
-use Rattle.std.specs.Prelude.{ℕ, List, Bool, Option, Some, None, option_map, Result, Ok, codes, if◌then◌else◌, pos, ◌-ℤ◌}
+use Rattle.std.specs.Prelude.{ℕ, List, Bool, true, not, ◌||◌, ◌==◌, Option, Some, None, option_map, Result, Ok, codes, if◌then◌else◌, pos, ◌-ℤ◌}
+use Rattle.std.specs.Option.{is_some}
 use Rattle.icu_pattern.specs.Patterns.{PatternText}
 use Rattle.icu_plurals.specs.Elements.{Elements}
 use Rattle.icu_provider.specs.Answer.{Refusal}
@@ -11,6 +12,7 @@ use Rattle.icu_decimal.specs.declared.options.DecimalFormatterOptions.{DecimalFo
 use Rattle.icu_decimal.specs.declared.options.GroupingStrategy.{GroupingStrategy}
 use Rattle.icu_decimal.specs.declared.preferences.CompactDecimalFormatterPreferences.{CompactDecimalFormatterPreferences}
 use Rattle.icu_decimal.specs.declared.preferences.DecimalFormatterPreferences.{DecimalFormatterPreferences}
+use Rattle.icu_decimal.specs.CompactFormat.{CompactFormat}
 use Rattle.icu_decimal.specs.Decimal.{DecimalFormat}
 use Rattle.icu_dimension.specs.Money.{SignedFormat}
 use Rattle.icu_dimension.specs.Names.{NameText}
@@ -31,13 +33,14 @@ use Rattle.icu_dimension_tables.specs.DimensionTables.{DimensionData}
 use Rattle.icu_dimension_tables.specs.declared.units.UnitWidth.TheVariants as filed
 use Rattle.skeleton_settings.specs.declared.settings.Precision.{Precision}
 use Rattle.skeleton_settings.specs.declared.settings.Precision.TheVariants.{Fraction, Significant, Increment, Both, Currency}
+use Rattle.skeleton_settings.specs.declared.settings.Priority.TheVariants.{Relaxed}
 use Rattle.number_rounding.specs.declared.rounding.Rounding.{Rounding}
 use Rattle.decimal_lines.specs.ModeOfTables.{compact_options, plain_options}
 use Rattle.decimal_lines.specs.declared.mode.Mode.TheVariants.{Plain, Compact}
 use Rattle.number_forms.specs.Forms.{FormData}
-use Rattle.number_forms.specs.Settings.{FormSettings}
+use Rattle.number_forms.specs.Settings.{FormSettings, is_half_even}
 use Rattle.number_forms.specs.declared.form.Formatter.{Formatter}
-use Rattle.number_forms.specs.declared.form.Formatter.TheVariants.{Numbers, Money, MoneyNamed, MoneyShort, Percent, Units}
+use Rattle.number_forms.specs.declared.form.Formatter.TheVariants.{Numbers, ShortNumbers, Money, MoneyNamed, MoneyShort, Percent, Units}
 use Rattle.number_forms.specs.declared.settings.UnitWidth.{UnitWidth}
 use Rattle.number_forms.specs.declared.settings.UnitWidth.TheVariants.{Long, Short, Narrow}
 
@@ -84,12 +87,28 @@ plain_loaded settings tables =
     and_then (loaded (filed_answer tables.symbols) (system_digits tables) (preferences settings) (plain_options settings.grouping)) (λ f.
     Ok (form_with settings (settings_rounding settings) (Numbers (Plain f))))
 
--- numbers shortened by patterns of these tables, which may have none; they are not rounded before
+-- the precision of compact numbers where none is set: no fraction digit, or two significant digits
+abbrev pub compact_precision : Option Precision → Precision
+compact_precision None = Both 0 (Some 0) 1 2 Relaxed true
+compact_precision (Some precision) = precision
+
+-- the rounding of compact numbers, if the settings have one; without one the formatter rounds them
+abbrev pub compact_rounding : FormSettings → Option Rounding
+compact_rounding settings =
+    if is_some settings.precision || settings.hides_zeros_of_whole || not (settings.integer_digits == 1) || not (is_half_even settings.mode)
+    then Some (rounding_to settings (compact_precision settings.precision)) else None
+
+-- a formatter of compact numbers with its rounding, if it has one
+abbrev pub compact_by : CompactFormat → Option Rounding → Formatter
+compact_by format None = Numbers (Compact format)
+compact_by format (Some rounding) = ShortNumbers format rounding
+
+-- numbers shortened by patterns of these tables, which may have none
 abbrev pub compact_loaded : FormSettings → TablesData → Option (List (NamedEntry (List TableEntry))) → Result FormData Refusal
 compact_loaded settings tables patterns =
     and_then (loaded_compact (filed_answer tables.symbols) (system_digits tables) (optional_answer tables.rules) (optional_answer patterns)
     (compact_preferences settings) (compact_options settings.grouping)) (λ f.
-    Ok (form_with settings None (Numbers (Compact f))))
+    Ok (form_with settings None (compact_by f (compact_rounding settings))))
 
 -- by the short patterns
 unfoldable pub short_loaded : FormSettings → TablesData → Result FormData Refusal

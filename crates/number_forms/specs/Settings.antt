@@ -1,10 +1,24 @@
 -- What a form is to be, besides the tables.
-use Rattle.std.specs.Prelude.{ℕ, ℤ, Bool, List, Option}
+use Rattle.std.specs.Prelude.{ℕ, ℤ, Bool, true, false, List, Option}
 use Rattle.fixed_decimal.specs.declared.modes.SignedRoundingMode.{SignedRoundingMode}
+use Rattle.fixed_decimal.specs.declared.modes.SignedRoundingMode.TheVariants.{Unsigned as OfSizes, Ceil, Floor, HalfCeil, HalfFloor}
+use Rattle.fixed_decimal.specs.declared.modes.UnsignedRoundingMode.TheVariants.{Expand, Trunc, HalfExpand, HalfTrunc, HalfEven}
 use Rattle.fixed_decimal.specs.declared.signs.SignDisplay.{SignDisplay}
 use Rattle.icu_decimal.specs.declared.options.GroupingStrategy.{GroupingStrategy}
 use Rattle.skeleton_settings.specs.declared.settings.Precision.{Precision}
 use Rattle.number_forms.specs.declared.settings.Kind.{Kind}
+
+-- half to even
+abbrev pub is_half_even : SignedRoundingMode → Bool
+is_half_even (OfSizes Expand) = false
+is_half_even (OfSizes Trunc) = false
+is_half_even (OfSizes HalfExpand) = false
+is_half_even (OfSizes HalfTrunc) = false
+is_half_even (OfSizes HalfEven) = true
+is_half_even Ceil = false
+is_half_even Floor = false
+is_half_even HalfCeil = false
+is_half_even HalfFloor = false
 
 -- what is asked for; without a system none is preferred, without a grouping or a precision the default of the kind applies
 pub record FormSettings : Type 0 where

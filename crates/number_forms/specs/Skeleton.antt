@@ -2,9 +2,6 @@
 use Rattle.std.specs.Prelude.{ℕ, List, [], ◌∷◌, Bool, true, false, not, ◌||◌, ◌==◌, Option, Some, None, Result, Ok, Err, if◌then◌else◌}
 use Rattle.std.specs.Borrow.{Bor}
 use Rattle.std.specs.Option.{is_some}
-use Rattle.fixed_decimal.specs.declared.modes.SignedRoundingMode.{SignedRoundingMode}
-use Rattle.fixed_decimal.specs.declared.modes.SignedRoundingMode.TheVariants.{Unsigned as OfSizes, Ceil, Floor, HalfCeil, HalfFloor}
-use Rattle.fixed_decimal.specs.declared.modes.UnsignedRoundingMode.TheVariants.{Expand, Trunc, HalfExpand, HalfTrunc, HalfEven}
 use Rattle.icu_provider.specs.NumberingSystem.{is_numbering_system}
 use Rattle.icu_decimal.specs.declared.options.GroupingStrategy.{GroupingStrategy}
 use Rattle.icu_decimal.specs.declared.options.GroupingStrategy.TheVariants as strategy
@@ -24,7 +21,7 @@ use Rattle.skeleton_settings.specs.declared.settings.Precision.TheVariants.{Frac
 use Rattle.skeleton_settings.specs.declared.settings.Skeleton.{Skeleton}
 use Rattle.skeleton_settings.specs.declared.settings.UnitWidth.{UnitWidth}
 use Rattle.skeleton_settings.specs.declared.settings.UnitWidth.TheVariants as width
-use Rattle.number_forms.specs.Settings.{FormSettings}
+use Rattle.number_forms.specs.Settings.{FormSettings, is_half_even}
 use Rattle.number_forms.specs.declared.settings.Kind.{Kind}
 use Rattle.number_forms.specs.declared.settings.Kind.TheVariants.{Plain, Short, Long, Money, MoneyNamed, MoneyShort, Percent, Unit as WithUnit}
 use Rattle.number_forms.specs.declared.settings.UnitWidth.TheVariants as patterns
@@ -113,6 +110,11 @@ compact_unit_set width.FullName numbers = Err unsupported.CompactUnit
 compact_unit_set width.IsoCode numbers = Err unsupported.CompactUnit
 compact_unit_set width.Hidden numbers = Ok numbers
 
+-- whether a skeleton says how numbers are rounded, or how many digits they have
+unfoldable pub sets_digits : Skeleton → Bool
+sets_digits skeleton =
+    is_some skeleton.precision || skeleton.hides_zeros_of_whole || not (skeleton.integer_digits == 1) || not (is_half_even skeleton.mode)
+
 -- what is written of compact numbers, by the kind of those that count nothing
 unfoldable pub compact_set : Skeleton → Kind → NumberUnit → Result Kind Unsupported
 compact_set skeleton numbers counted.None = Ok numbers
@@ -120,33 +122,14 @@ compact_set skeleton numbers counted.Percent = Err unsupported.CompactPercent
 compact_set skeleton numbers counted.Permille = Err unsupported.Permille
 compact_set skeleton numbers (counted.Currency letters) = do
   code ← code_set letters
-  compact_money_set skeleton.width skeleton.is_accounting code
+  if sets_digits skeleton then Err unsupported.CompactDigits else compact_money_set skeleton.width skeleton.is_accounting code
 compact_set skeleton numbers (counted.Named name) = compact_unit_set skeleton.width numbers
 
--- half to even
-abbrev pub is_half_even : SignedRoundingMode → Bool
-is_half_even (OfSizes Expand) = false
-is_half_even (OfSizes Trunc) = false
-is_half_even (OfSizes HalfExpand) = false
-is_half_even (OfSizes HalfTrunc) = false
-is_half_even (OfSizes HalfEven) = true
-is_half_even Ceil = false
-is_half_even Floor = false
-is_half_even HalfCeil = false
-is_half_even HalfFloor = false
-
--- whether a skeleton says how numbers are rounded, or how many digits they have
-unfoldable pub sets_digits : Skeleton → Bool
-sets_digits skeleton =
-    is_some skeleton.precision || skeleton.hides_zeros_of_whole || not (skeleton.integer_digits == 1) || not (is_half_even skeleton.mode)
-
--- what is written of numbers; compact numbers have digits of their own
+-- what is written of numbers
 unfoldable pub kind_set : Skeleton → Notation → Result Kind Unsupported
 kind_set skeleton Simple = simple_set skeleton skeleton.unit
-kind_set skeleton CompactShort =
-    if sets_digits skeleton then Err unsupported.CompactDigits else compact_set skeleton Short skeleton.unit
-kind_set skeleton CompactLong =
-    if sets_digits skeleton then Err unsupported.CompactDigits else compact_set skeleton Long skeleton.unit
+kind_set skeleton CompactShort = compact_set skeleton Short skeleton.unit
+kind_set skeleton CompactLong = compact_set skeleton Long skeleton.unit
 
 -- how fine numbers are in full, where nothing is set: as the currency has it, else at most six fraction digits
 unfoldable pub default_precision : NumberUnit → Option Precision

@@ -1,7 +1,7 @@
 //! The decimal that a form writes for a text, and what writes it.
 
 use crate::form::{Form, Formatter};
-use crate::rounded::{rounded, signed};
+use crate::rounded::{form_rounded, signed};
 use crate::scaled::scaled;
 use decimal_lines::{TextError, read_decimal};
 use fixed_decimal::Decimal;
@@ -48,14 +48,15 @@ impl Form {
         ensures refused { IfErr result (λ error.
             IsRefusal (rounded_decimal self.now decimal.sign decimal.absolute) error) }
     {
-        let rounded = rounded(alloc, decimal, &self.rounding)?;
+        let rounded = form_rounded(alloc, &self.formatter, &self.rounding, decimal)?;
         Ok(signed(rounded, self.sign))
     }
 
     /// The decimal that is written for a text (this project's own): that of the text, times the
     /// power of ten of the form, rounded, and then with the sign that is shown.
     ///
-    /// Compact numbers and compact amounts are rounded by what writes them, and not here.
+    /// Compact amounts, and compact numbers without digits that are asked for, are rounded by what
+    /// writes them, and not here.
     // promise: It is the decimal that is written, rounded, with its sign.
     // mutations: decimal_with_its_own_sign
     #[tactic(auto, unfolding(crate::specs::Decimals::shown_decimal))]

@@ -2,7 +2,7 @@
 
 use decimal_lines::Mode;
 use fixed_decimal::SignDisplay;
-use icu_decimal::DecimalFormatter;
+use icu_decimal::{CompactDecimalFormatter, DecimalFormatter};
 use icu_dimension::{
     CompactCurrencyFormatter, CurrencyFormatter, LongCurrencyFormatter, PercentFormatter,
     UnitsFormatter,
@@ -15,6 +15,8 @@ use std::marker::Model;
 pub enum Formatter {
     /// The number alone, in full or shortened.
     Numbers(Mode),
+    /// The number shortened by patterns, with digits that are asked for.
+    ShortNumbers(CompactDecimalFormatter, Rounding),
     /// An amount of money with the symbol of its currency.
     Money(CurrencyFormatter<DecimalFormatter>),
     /// An amount of money with the name of its currency.

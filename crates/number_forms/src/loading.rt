@@ -3,18 +3,16 @@
 ghost use Rattle.std.specs.Prelude.{◌≡◌};
 ghost use Rattle.icu_provider.specs.Answer.{Answers};
 ghost use Rattle.icu_dimension_tables.specs.Answering.{digits_answer};
-ghost use Rattle.number_forms.specs.Loaded.{amounts_loaded, compact_money_loaded, compact_money_options, compact_preferences, currency_loaded, currency_precision};
-ghost use Rattle.number_forms.specs.Loaded.{digits_precision, long_loaded, money_loaded, money_precision, money_short_loaded, named_loaded, names_loaded};
-ghost use Rattle.number_forms.specs.Loaded.{percent_loaded, plain_loaded, preferences, rounding_to, short_loaded, unit_loaded, units_loaded, settings_rounding};
+ghost use Rattle.number_forms.specs.Loaded.{amounts_loaded, compact_money_loaded, compact_money_options, currency_loaded, currency_precision};
+ghost use Rattle.number_forms.specs.Loaded.{digits_precision, money_loaded, money_precision, money_short_loaded, named_loaded, names_loaded};
+ghost use Rattle.number_forms.specs.Loaded.{percent_loaded, plain_loaded, preferences, rounding_to, settings_rounding, unit_loaded, units_loaded};
 
 use crate::form::{Form, Formatter};
 use crate::settings::{UnitWidth, Settings};
 use decimal_lines::{Mode, compact_options, plain_options};
-use icu_decimal::{CompactDecimalFormatter, DecimalFormatter};
+use icu_decimal::DecimalFormatter;
 use icu_decimal_options::options::{DecimalFormatterOptions, GroupingStrategy};
-use icu_decimal_options::preferences::{
-    CompactDecimalFormatterPreferences, DecimalFormatterPreferences,
-};
+use icu_decimal_options::preferences::DecimalFormatterPreferences;
 use icu_dimension::options::CurrencyFormatterOptions;
 use icu_dimension::provider::{UnitsLongV1, UnitsNarrowV1, UnitsShortV1, load_currency_digits};
 use icu_dimension::{
@@ -39,18 +37,8 @@ fn preferences(settings: &Settings<'_>) -> DecimalFormatterPreferences
     }
 }
 
-/// The locale and the system that are wanted, for compact numbers.
-fn compact_preferences(settings: &Settings<'_>) -> CompactDecimalFormatterPreferences
-    ensures { result ≡ compact_preferences settings.now }
-{
-    CompactDecimalFormatterPreferences {
-        locale_preferences: settings.locale,
-        numbering_system: settings.system,
-    }
-}
-
 /// Rounding to a precision as it is wanted.
-fn rounding_to(settings: &Settings<'_>, precision: Precision) -> Rounding
+pub(crate) fn rounding_to(settings: &Settings<'_>, precision: Precision) -> Rounding
     ensures { result ≡ rounding_to settings.now precision }
 {
     Rounding {
@@ -85,46 +73,6 @@ pub(crate) fn load_plain(
         rounding: settings_rounding(settings),
         sign: settings.sign,
         formatter: Formatter::Numbers(Mode::Plain(formatter)),
-    })
-}
-
-/// Numbers shortened by the short patterns.
-#[tactic(auto, unfolding(crate::specs::Loaded::short_loaded))]
-pub(crate) fn load_short(
-    alloc: Global,
-    tables: &Tables,
-    settings: &Settings<'_>,
-) -> Result<Form, DataError>
-    ensures { Answers result (short_loaded settings.now tables.now) }
-{
-    let options = compact_options(settings.grouping);
-    let prefs = compact_preferences(settings);
-    let formatter = CompactDecimalFormatter::try_new_short_unstable(alloc, tables, prefs, options)?;
-    Ok(Form {
-        scale: settings.scale,
-        rounding: None,
-        sign: settings.sign,
-        formatter: Formatter::Numbers(Mode::Compact(formatter)),
-    })
-}
-
-/// Numbers shortened by the long patterns.
-#[tactic(auto, unfolding(crate::specs::Loaded::long_loaded))]
-pub(crate) fn load_long(
-    alloc: Global,
-    tables: &Tables,
-    settings: &Settings<'_>,
-) -> Result<Form, DataError>
-    ensures { Answers result (long_loaded settings.now tables.now) }
-{
-    let options = compact_options(settings.grouping);
-    let prefs = compact_preferences(settings);
-    let formatter = CompactDecimalFormatter::try_new_long_unstable(alloc, tables, prefs, options)?;
-    Ok(Form {
-        scale: settings.scale,
-        rounding: None,
-        sign: settings.sign,
-        formatter: Formatter::Numbers(Mode::Compact(formatter)),
     })
 }
 

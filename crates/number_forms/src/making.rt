@@ -13,9 +13,9 @@ ghost use Rattle.number_forms.specs.Making.{StartsForm, StopsForm, form_of, read
 use crate::error::StartError;
 use crate::form::Form;
 use crate::loading::{
-    load_long, load_money, load_money_short, load_named, load_percent, load_plain, load_short,
-    load_unit,
+    load_money, load_money_short, load_named, load_percent, load_plain, load_unit,
 };
+use crate::loading_short::{load_long, load_short};
 use crate::settings::{Kind, UnitWidth, Settings};
 use decimal_lines::plain_options;
 use icu_dimension::options::{CurrencyFormatterOptions, CurrencySign, Width};

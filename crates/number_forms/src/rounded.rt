@@ -8,9 +8,12 @@ ghost use Rattle.fixed_decimal.specs.Unsigned.{IsUnsigned, high, integer_count};
 ghost use Rattle.decimal_lines.specs.Computed.{count_up_to};
 ghost use Rattle.decimal_lines.specs.SingleText.{IsRefusal};
 ghost use Rattle.fixed_decimal.specs.SignDisplay.{is_negative, minus_or_none, sign_by_display};
+ghost use Rattle.number_forms.specs.Forms.{form_rounded};
 ghost use Rattle.number_forms.specs.Rounded.{half_even_to, rounded, shown_number};
 ghost use Rattle.number_forms.specs.Cut.{IsCut, IsCutRefusal};
 
+use crate::form::Formatter;
+use crate::shortened::shortened_number;
 use crate::scaled::{has_no_zeros_before, trimmed};
 use decimal_lines::TextError;
 use fixed_decimal::{
@@ -121,7 +124,7 @@ pub(crate) fn signed(decimal: Decimal, display: SignDisplay) -> Decimal
 }
 
 /// The decimal as it is shown, where something says how it is rounded.
-pub(crate) fn rounded(
+fn rounded(
     alloc: Global,
     decimal: Decimal,
     rounding: &Option<Rounding>,
@@ -138,5 +141,29 @@ pub(crate) fn rounded(
     match half_even_digits(rounding) {
         Some(digits) => half_even_shown(alloc, decimal, digits),
         None => any_shown(alloc, &decimal, rounding),
+    }
+}
+
+/// The decimal as a form shows it: by the rounding of the form, or by that of compact numbers.
+pub(crate) fn form_rounded(
+    alloc: Global,
+    formatter: &Formatter,
+    rounding: &Option<Rounding>,
+    decimal: Decimal,
+) -> Result<Decimal, TextError>
+    ensures ok { IfOk result (λ d. form_rounded formatter.now rounding.now decimal.sign
+        decimal.absolute ≡ Ok d.absolute) }
+    ensures sign { IfOk result (λ d. d.sign ≡ decimal.sign) }
+    ensures refused { IfErr result (λ error. IsRefusal (form_rounded formatter.now rounding.now
+        decimal.sign decimal.absolute) error) }
+{
+    match formatter {
+        Formatter::ShortNumbers(compact, by) => shortened_number(alloc, by, compact, &decimal),
+        Formatter::Numbers(_)
+        | Formatter::Money(_)
+        | Formatter::MoneyNamed(_)
+        | Formatter::MoneyShort(_)
+        | Formatter::Percent(_)
+        | Formatter::Units(_) => rounded(alloc, decimal, rounding),
     }
 }

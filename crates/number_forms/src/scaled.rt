@@ -43,6 +43,14 @@ pub(crate) fn trimmed(alloc: Global, decimal: &Decimal, least: u16) -> Result<De
     }
 }
 
+/// How many digits stand below power 0.
+fn scale_of(value: &UnsignedDecimal) -> u16
+    ensures scale { result ≡ value.now.scale }
+    ensures valid { IsUnsigned value.now }
+{
+    value.fraction().len() as u16
+}
+
 /// The same number with the same fraction digits, without zeros before it.
 fn bare(alloc: Global, decimal: Decimal) -> Result<Decimal, TextError>
     ensures bare { IfOk result (λ d. IsBare decimal.absolute d.absolute) }
@@ -52,7 +60,7 @@ fn bare(alloc: Global, decimal: Decimal) -> Result<Decimal, TextError>
     if has_no_zeros_before(&decimal.absolute) {
         return Ok(decimal);
     }
-    trimmed(alloc, &decimal, decimal.absolute.fraction().len() as u16)
+    trimmed(alloc, &decimal, scale_of(&decimal.absolute))
 }
 
 /// Moves each digit that many powers higher.

@@ -1,6 +1,9 @@
 //! What a form is to be, besides the tables.
 
-use fixed_decimal::{SignDisplay, SignedRoundingMode};
+ghost use Rattle.std.specs.Prelude.{◌≡◌};
+ghost use Rattle.number_forms.specs.Settings.{is_half_even};
+
+use fixed_decimal::{SignDisplay, SignedRoundingMode, UnsignedRoundingMode};
 use icu_decimal_options::options::GroupingStrategy;
 use icu_dimension::options::{CurrencySign, Width};
 use icu_dimension_data::CurrencyCode;
@@ -62,6 +65,23 @@ pub enum Kind<'a> {
     },
 }
 
+/// Whether a mode is half to even.
+pub(crate) fn is_half_even(mode: SignedRoundingMode) -> bool
+    ensures { result ≡ is_half_even mode }
+{
+    match mode {
+        SignedRoundingMode::Unsigned(UnsignedRoundingMode::HalfEven) => true,
+        SignedRoundingMode::Unsigned(
+            UnsignedRoundingMode::Expand
+            | UnsignedRoundingMode::Trunc
+            | UnsignedRoundingMode::HalfExpand
+            | UnsignedRoundingMode::HalfTrunc,
+        ) => false,
+        SignedRoundingMode::Ceil | SignedRoundingMode::Floor => false,
+        SignedRoundingMode::HalfCeil | SignedRoundingMode::HalfFloor => false,
+    }
+}
+
 /// What a form is to be (this project's own).
 #[derive(Debug, Drop)]
 pub struct Settings<'a> {
@@ -74,10 +94,10 @@ pub struct Settings<'a> {
     pub grouping: Option<GroupingStrategy>,
     /// How fine a written number is. `None`: as the digits of the
     /// currency for money, else the digits are as they are given. The precision of a currency is
-    /// two digits where no currency is asked for. Compact numbers and compact amounts ignore it.
+    /// two digits where no currency is asked for. Compact amounts ignore it.
     pub precision: Option<Precision>,
     /// Which of the numbers around it is taken for a number, where numbers are rounded. Compact
-    /// numbers and compact amounts are rounded half to even.
+    /// amounts are rounded half to even.
     pub mode: SignedRoundingMode,
     /// Whether a whole number is written without fraction digits, where numbers are rounded.
     pub hides_zeros_of_whole: bool,

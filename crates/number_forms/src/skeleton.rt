@@ -1,10 +1,9 @@
 //! The form that a number skeleton asks for.
 
 ghost use Rattle.std.specs.Prelude.{◌≡◌, option_map};
-ghost use Rattle.number_forms.specs.Skeleton.{code_set, compact_money_set, compact_set, compact_unit_set, default_precision, grouping_set, is_half_even, kind_set, money_set, money_sign, percent_set, precision_set, sets_digits, simple_set, system_set, unit_set};
+ghost use Rattle.number_forms.specs.Skeleton.{code_set, compact_money_set, compact_set, compact_unit_set, default_precision, grouping_set, kind_set, money_set, money_sign, percent_set, precision_set, sets_digits, simple_set, system_set, unit_set};
 
-use crate::settings::{Kind, Settings, UnitWidth};
-use fixed_decimal::{SignedRoundingMode, UnsignedRoundingMode};
+use crate::settings::{Kind, Settings, UnitWidth, is_half_even};
 use icu_decimal_options::options::GroupingStrategy;
 use icu_dimension::options::{CurrencySign, Width};
 use icu_dimension_data::CurrencyCode;
@@ -47,8 +46,8 @@ pub enum Unsupported {
     /// accounting.
     #[error("currency in compact notation with a width or in accounting")]
     CompactCurrency,
-    /// A precision, a rounding mode or a count of integer digits in compact notation.
-    #[error("digits in compact notation")]
+    /// A precision, a rounding mode or a count of integer digits of a currency in compact notation.
+    #[error("digits of a currency in compact notation")]
     CompactDigits,
     /// A unit in compact notation.
     #[error("unit in compact notation")]
@@ -215,40 +214,6 @@ fn compact_unit_set<'a>(
     }
 }
 
-/// What is written of compact numbers, by the kind of those that count nothing.
-#[tactic(auto, unfolding(crate::specs::Skeleton::compact_set))]
-fn compact_set<'a>(skeleton: &Skeleton<'a>, numbers: Kind<'a>) -> Result<Kind<'a>, Unsupported>
-    ensures { result ≡ compact_set skeleton.now numbers skeleton.now.unit }
-{
-    match skeleton.unit {
-        NumberUnit::None => Ok(numbers),
-        NumberUnit::Percent => Err(Unsupported::CompactPercent),
-        NumberUnit::Permille => Err(Unsupported::Permille),
-        NumberUnit::Currency(letters) => match code_set(letters) {
-            Ok(code) => compact_money_set(skeleton.width, skeleton.is_accounting, code),
-            Err(error) => Err(error),
-        },
-        NumberUnit::Named(_) => compact_unit_set(skeleton.width, numbers),
-    }
-}
-
-/// Whether a mode is half to even.
-fn is_half_even(mode: SignedRoundingMode) -> bool
-    ensures { result ≡ is_half_even mode }
-{
-    match mode {
-        SignedRoundingMode::Unsigned(UnsignedRoundingMode::HalfEven) => true,
-        SignedRoundingMode::Unsigned(
-            UnsignedRoundingMode::Expand
-            | UnsignedRoundingMode::Trunc
-            | UnsignedRoundingMode::HalfExpand
-            | UnsignedRoundingMode::HalfTrunc,
-        ) => false,
-        SignedRoundingMode::Ceil | SignedRoundingMode::Floor => false,
-        SignedRoundingMode::HalfCeil | SignedRoundingMode::HalfFloor => false,
-    }
-}
-
 /// Whether a skeleton says how numbers are rounded, or how many digits they have.
 #[tactic(auto, unfolding(crate::specs::Skeleton::sets_digits))]
 fn sets_digits(skeleton: &Skeleton<'_>) -> bool
@@ -260,20 +225,34 @@ fn sets_digits(skeleton: &Skeleton<'_>) -> bool
         || !is_half_even(skeleton.mode)
 }
 
-/// What is written of numbers; compact numbers have digits of their own.
+/// What is written of compact numbers, by the kind of those that count nothing.
+#[tactic(auto, unfolding(crate::specs::Skeleton::compact_set))]
+fn compact_set<'a>(skeleton: &Skeleton<'a>, numbers: Kind<'a>) -> Result<Kind<'a>, Unsupported>
+    ensures { result ≡ compact_set skeleton.now numbers skeleton.now.unit }
+{
+    match skeleton.unit {
+        NumberUnit::None => Ok(numbers),
+        NumberUnit::Percent => Err(Unsupported::CompactPercent),
+        NumberUnit::Permille => Err(Unsupported::Permille),
+        NumberUnit::Currency(letters) => match code_set(letters) {
+            Ok(_) if sets_digits(skeleton) => Err(Unsupported::CompactDigits),
+            Ok(code) => compact_money_set(skeleton.width, skeleton.is_accounting, code),
+            Err(error) => Err(error),
+        },
+        NumberUnit::Named(_) => compact_unit_set(skeleton.width, numbers),
+    }
+}
+
+/// What is written of numbers.
 #[tactic(auto, unfolding(crate::specs::Skeleton::kind_set))]
 fn kind_set<'a>(skeleton: &Skeleton<'a>) -> Result<Kind<'a>, Unsupported>
     ensures { result ≡ kind_set skeleton.now skeleton.now.notation }
 {
-    let numbers = match skeleton.notation {
-        Notation::Simple => return simple_set(skeleton),
-        Notation::CompactShort => Kind::Short,
-        Notation::CompactLong => Kind::Long,
-    };
-    if sets_digits(skeleton) {
-        return Err(Unsupported::CompactDigits);
+    match skeleton.notation {
+        Notation::Simple => simple_set(skeleton),
+        Notation::CompactShort => compact_set(skeleton, Kind::Short),
+        Notation::CompactLong => compact_set(skeleton, Kind::Long),
     }
-    compact_set(skeleton, numbers)
 }
 
 /// How fine numbers are in full, where nothing is set.

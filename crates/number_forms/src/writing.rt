@@ -9,8 +9,9 @@ ghost use Rattle.number_forms.specs.WrittenOr.{written_or};
 ghost use Rattle.number_forms.specs.declared.form.Formatter.TheVariants.{Money, MoneyNamed, MoneyShort, Numbers, Percent, Units};
 
 use crate::form::{Form, Formatter};
-use crate::rounded::{minus_or_none, rounded, signed};
+use crate::rounded::{form_rounded, minus_or_none, signed};
 use crate::scaled::scaled;
+use crate::shortened::write_shortened;
 use decimal_lines::{Mode, TextError, read_decimal, write_shown};
 use fixed_decimal::{Decimal, SignDisplay};
 use icu_decimal::DecimalFormatter;
@@ -112,6 +113,7 @@ fn write_formatted<K: EventWriter>(
 {
     match formatter {
         Formatter::Numbers(mode) => write_shown(alloc, mode, decimal, out),
+        Formatter::ShortNumbers(compact, by) => write_shortened(alloc, by, compact, decimal, out),
         Formatter::Money(money) => write_money(alloc, money, decimal, out),
         Formatter::MoneyNamed(money) => write_money_named(alloc, money, decimal, out),
         Formatter::MoneyShort(money) => write_money_short(alloc, money, decimal, out),
@@ -146,7 +148,8 @@ fn unchanging(form: &Form) -> Option<&Mode>
     };
     match &form.formatter {
         Formatter::Numbers(mode) => Some(mode),
-        Formatter::Money(_)
+        Formatter::ShortNumbers(_, _)
+        | Formatter::Money(_)
         | Formatter::MoneyNamed(_)
         | Formatter::MoneyShort(_)
         | Formatter::Percent(_)
@@ -186,7 +189,7 @@ impl Form {
             (read_events self.now (decimal.sign, decimal.absolute)) out.new }
     {
         let number = scaled(alloc, decimal, self.scale)?;
-        let rounded = rounded(alloc, number, &self.rounding)?;
+        let rounded = form_rounded(alloc, &self.formatter, &self.rounding, number)?;
         let shown = signed(rounded, self.sign);
         write_formatted(alloc, &self.formatter, &shown, out)
     }

@@ -60,7 +60,7 @@ impl<'a> Explained<'a> {
 }
 
 /// The options that say how fine numbers are.
-const PRECISIONS: [&str; 3] = ["fraction", "significant", "increment"];
+const PRECISIONS: [&str; 4] = ["fraction", "significant", "increment", "skeleton"];
 
 /// The currency as what says how fine amounts are.
 fn digits_of_currency<'a>(given: &Given<'a>) -> DigitsBy<'a> {

@@ -3,8 +3,9 @@
 use crate::CallResult;
 use decimal_lines::{TablesFault, TextError};
 use icu_tables::TableError;
-use number_forms::StartError;
-use locnum_options::OptionFault;
+use number_forms::{StartError, Unsupported};
+use number_skeleton::read_skeleton;
+use locnum_options::{NumberOption, OptionFault};
 use std::alloc::{AllocError, Global};
 
 /// The names of an error of tables, of the key and of the fault.
@@ -56,7 +57,51 @@ pub(crate) fn not_written(alloc: Global, error: TextError) -> CallResult {
 pub(crate) fn no_options(alloc: Global, fault: OptionFault) -> CallResult {
     match fault {
         OptionFault::OutOfMemory => Err(AllocError),
+        OptionFault::Skeleton(fault) => {
+            let (kind, byte) = (fault.kind(), fault.byte());
+            Ok(Some(format!(in alloc; "Skeleton {kind:?} {byte}")?))
+        }
+        OptionFault::Unsupported(part) => Ok(Some(format!(in alloc; "Unsupported {part:?}")?)),
+        OptionFault::BesideSkeleton(option) => {
+            Ok(Some(format!(in alloc; "BesideSkeleton {option:?}")?))
+        }
         _ => Ok(Some(format!(in alloc; "{fault:?}")?)),
+    }
+}
+
+/// The fault of a skeleton that asks for what no form has.
+fn unsupported(part: &str) -> Option<Unsupported> {
+    match part {
+        "Permille" => Some(Unsupported::Permille),
+        "CompactDigits" => Some(Unsupported::CompactDigits),
+        _ => None,
+    }
+}
+
+/// An option that stands beside a skeleton.
+fn option_beside(option: &str) -> Option<NumberOption> {
+    match option {
+        "Percent" => Some(NumberOption::Percent),
+        "System" => Some(NumberOption::System),
+        _ => None,
+    }
+}
+
+/// The fault of options that has a skeleton's fault, by the skeleton.
+fn skeleton_fault(text: &str) -> Option<OptionFault> {
+    match read_skeleton(text) {
+        Ok(_) => None,
+        Err(fault) => Some(OptionFault::Skeleton(fault)),
+    }
+}
+
+/// The fault of options of two words.
+fn fault_of_skeleton(kind: &str, word: &str) -> Option<OptionFault> {
+    match kind {
+        "Skeleton" => skeleton_fault(word),
+        "Unsupported" => Some(OptionFault::Unsupported(unsupported(word)?)),
+        "BesideSkeleton" => Some(OptionFault::BesideSkeleton(option_beside(word)?)),
+        _ => None,
     }
 }
 
@@ -68,6 +113,8 @@ fn option_fault(name: &str) -> Option<OptionFault> {
         "Fraction" => Some(OptionFault::Fraction),
         "Significant" => Some(OptionFault::Significant),
         "Increment" => Some(OptionFault::Increment),
+        "Integer" => Some(OptionFault::Integer),
+        "Scale" => Some(OptionFault::Scale),
         "Precisions" => Some(OptionFault::Precisions),
         "Round" => Some(OptionFault::Round),
         "Accounting" => Some(OptionFault::Accounting),
@@ -94,7 +141,7 @@ fn tables_fault(name: &str) -> Option<TablesFault> {
     }
 }
 
-/// The text of a fault of options, or of tables.
+/// The text of a fault of options, of a skeleton, or of tables.
 pub(crate) fn displayed(alloc: Global, kind: &str, name: &str) -> CallResult {
     match kind {
         "OptionFault" => match option_fault(name) {
@@ -105,6 +152,9 @@ pub(crate) fn displayed(alloc: Global, kind: &str, name: &str) -> CallResult {
             Some(fault) => Ok(Some(format!(in alloc; "{fault}")?)),
             None => Ok(None),
         },
-        _ => Ok(None),
+        _ => match fault_of_skeleton(kind, name) {
+            Some(fault) => Ok(Some(format!(in alloc; "{fault}")?)),
+            None => Ok(None),
+        },
     }
 }

@@ -96,6 +96,7 @@ fn formatter_name(formatter: &Formatter) -> &'static str {
     match formatter {
         Formatter::Numbers(Mode::Plain(_)) => "Numbers Plain",
         Formatter::Numbers(Mode::Compact(_)) => "Numbers Compact",
+        Formatter::ShortNumbers(_, _) => "ShortNumbers",
         Formatter::Money(_) => "Money",
         Formatter::MoneyNamed(_) => "MoneyNamed",
         Formatter::MoneyShort(_) => "MoneyShort",

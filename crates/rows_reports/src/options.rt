@@ -57,24 +57,46 @@ pub(crate) fn push_grouping(
     }
 }
 
+/// Counts of digits, the second of which there may be.
+fn counts_text(
+    alloc: Global,
+    name: &str,
+    least: u16,
+    most: Option<u16>,
+) -> Result<String, AllocError> {
+    match most {
+        Some(most) => format!(in alloc; " {name} {least}-{most}"),
+        None => format!(in alloc; " {name} {least}-"),
+    }
+}
+
 /// A precision as rows spell it: the counts of digits, or an increment as a name, the power of ten of
 /// its last digit and the least fraction digits.
 fn precision_text(alloc: Global, precision: Precision) -> Result<String, AllocError> {
     match precision {
-        Precision::Fraction {
-            least,
-            most: Some(most),
-        } => format!(in alloc; " fraction {least}-{most}"),
-        Precision::Significant {
-            least,
-            most: Some(most),
-        } => format!(in alloc; " significant {least}-{most}"),
+        Precision::Fraction { least, most } => counts_text(alloc, "fraction", least, most),
+        Precision::Significant { least, most } => counts_text(alloc, "significant", least, most),
         Precision::Increment {
             increment,
             power,
             least,
         } => format!(in alloc; " increment {increment:?} {power} least {least}"),
-        other => format!(in alloc; " {other:?}"),
+        Precision::Both {
+            least,
+            most,
+            few,
+            many,
+            priority,
+            keeps_least,
+        } => {
+            let mut text = counts_text(alloc, "fraction", least, most)?;
+            text.push_str(format!(in alloc; " beside {few}-{many} {priority:?}")?.as_str())?;
+            text.push_str(text_if(keeps_least, " keeps least"))?;
+            Ok(text)
+        }
+        Precision::Currency { is_cash } => {
+            String::from_str(alloc, if is_cash { " digits of cash" } else { " digits of money" })
+        }
     }
 }
 
@@ -101,8 +123,23 @@ fn push_mode(alloc: Global, mode: SignedRoundingMode, text: &mut String) -> Resu
     }
 }
 
+/// Appends whether whole numbers have no fraction digits, how many digits stand before them at least,
+/// and the power of ten by which numbers are multiplied, as far as each isn't the default.
+fn push_digits(alloc: Global, settings: &Settings<'_>, text: &mut String) -> Result<(), AllocError> {
+    text.push_str(text_if(settings.hides_zeros_of_whole, " whole"))?;
+    if settings.integer_digits != 1 {
+        let integer = format!(in alloc; " integer {}", settings.integer_digits)?;
+        text.push_str(integer.as_str())?;
+    }
+    if settings.scale != 0 {
+        let scale = format!(in alloc; " scale {}", settings.scale)?;
+        text.push_str(scale.as_str())?;
+    }
+    Ok(())
+}
+
 /// Appends the form of numbers: the locale, the numbering system, the groups, how fine numbers are,
-/// the rounding mode, the signs and what is written, as far as each is asked for.
+/// the rounding mode, the digits, the scale, the signs and what is written, as far as each is asked for.
 fn push_form(alloc: Global, settings: &Settings<'_>, text: &mut String) -> Result<(), AllocError> {
     text.push_str("locale ")?;
     text.push_str(settings.locale.as_str())?;
@@ -114,6 +151,7 @@ fn push_form(alloc: Global, settings: &Settings<'_>, text: &mut String) -> Resul
     push_grouping(alloc, settings.grouping, text)?;
     push_precision(alloc, settings.precision, text)?;
     push_mode(alloc, settings.mode, text)?;
+    push_digits(alloc, settings, text)?;
     text.push_str(format!(in alloc; " sign {:?} ", settings.sign)?.as_str())?;
     push_kind(alloc, &settings.kind, text)
 }

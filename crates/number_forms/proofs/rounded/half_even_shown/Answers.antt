@@ -21,7 +21,7 @@ pub returns-then-has_no_zeros_before-clause-ok : goal.returns-then-has_no_zeros_
 returns-then-has_no_zeros_before-clause-ok c =
     let cut = c.in_ok-rounded.ensures.ok in
     let y = c.in_ok-rounded.rounded.absolute in
-    cut-shown c.args.digits (is_negative c.args.decimal.sign) c.args.decimal.absolute y y cut cut.valid refl (c.if-has_no_zeros_before.ensures.0 refl)
+    cut-shown c.args.digits (is_negative c.args.decimal.sign) c.args.decimal.absolute y y cut cut.valid refl (c.if-has_no_zeros_before.ensures.none.0 refl)
     (cut-least c.args.digits (is_negative c.args.decimal.sign) c.args.decimal.absolute y cut)
 
 pub returns-clause-ok : goal.returns-clause-ok
