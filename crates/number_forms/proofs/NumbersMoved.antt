@@ -1,15 +1,15 @@
 -- A number whose digits were moved, without zeros before it, is what `moved_number` computes.
-use Rattle.std.proofs.Common.{◌≡◌, ℕ, zero, suc, ◌+◌, ◌-◌, ◌*◌, ◌/◌, ◌^◌, ◌<◌, ◌≤◌, ◌⊎◌, max, Bool, true, false}
+use Rattle.std.proofs.Common.{◌≡◌, ℕ, ◌+◌, ◌-◌, ◌*◌, ◌/◌, ◌^◌, ◌<◌, ◌≤◌, ◌⊎◌, max, Bool, true, false}
 use Rattle.std.proofs.Common.{inl, inr, refl, sym, ap, ◌∙◌, subst, arith, ℤ, pos, negsuc, ◌-ℤ◌, ◌+ℤ◌}
-use Rattle.std.specs.Prelude.{Result, Ok, Err, nat_le, nat_lt, ◌||◌, ◌<ℤ◌, if◌then◌else◌}
-use Rattle.std.specs.Int.{int_max, int_min}
+use Rattle.std.specs.Prelude.{Ok, Err, nat_le, nat_lt, ◌||◌, ◌<ℤ◌, if◌then◌else◌}
+use Rattle.std.specs.Int.{int_min}
 use Rattle.std.proofs.lemmas.Bool.Decides.{nat_tests}
 use Rattle.std.proofs.lemmas.Int.{ints, clamps}
 use Rattle.std.proofs.Math.Nat.{mul-div_cancel, mul-le-mul_right}
 use Rattle.std.proofs.lemmas.Nat.{pow-add}
 use Rattle.fixed_decimal.specs.Modes.{IsLeastFrom}
 use Rattle.fixed_decimal.specs.Padding.{IsExactWith}
-use Rattle.fixed_decimal.specs.Rounding.{scale_at, zeros_at}
+use Rattle.fixed_decimal.specs.Rounding.{scale_at}
 use Rattle.fixed_decimal.specs.Scaling.{IsMoved, IsTimesTenTo, MovesPastLimits}
 use Rattle.fixed_decimal.specs.Size.{finest, magnitude, size, ten_to}
 use Rattle.fixed_decimal.specs.Unsigned.{Unsigned, IsUnsigned, integer_count}

@@ -1,31 +1,27 @@
 -- What number_rounding shows of a number by a compact table is what `shortened` computes.
-use Rattle.std.proofs.Common.{◌≡◌, ℕ, ◌+◌, ◌*◌, ◌/◌, ◌%◌, ◌^◌, ◌<◌, ◌≤◌, ◌⊎◌, max, Bool, true, false}
-use Rattle.std.proofs.Common.{List, Option, inl, inr, refl, sym, ap, ◌∙◌, subst, arith, ℤ, pos}
-use Rattle.std.specs.Prelude.{Result, Ok, Err, nat_le, ◌==◌, if◌then◌else◌}
+use Rattle.std.proofs.Common.{◌≡◌, ℕ, ◌*◌, ◌/◌, ◌%◌, ◌^◌, ◌<◌, ◌≤◌, ◌⊎◌, Bool, true, false}
+use Rattle.std.proofs.Common.{List, Option, inl, inr, refl, sym, ap, ◌∙◌, arith, ℤ, pos}
+use Rattle.std.specs.Prelude.{Ok, Err, nat_le, ◌==◌, if◌then◌else◌}
 use Rattle.std.proofs.lemmas.Bool.Decides.{nat_tests}
 use Rattle.std.proofs.Math.Nat.{mul-div_cancel, mul-mod_left}
-use Rattle.fixed_decimal.specs.Increments.{step_of, unit_of}
+use Rattle.fixed_decimal.specs.Increments.{unit_of}
 use Rattle.fixed_decimal.specs.declared.increments.RoundingIncrement.{RoundingIncrement}
 use Rattle.fixed_decimal.specs.declared.increments.RoundingIncrement.TheVariants.{MultiplesOf1, MultiplesOf2, MultiplesOf5, MultiplesOf25}
-use Rattle.fixed_decimal.specs.Modes.{IsLeastFrom}
-use Rattle.fixed_decimal.specs.Nearest.{IsMultiple}
-use Rattle.fixed_decimal.specs.Padding.{IsExactWith}
 use Rattle.fixed_decimal.specs.Size.{magnitude, place, size, ten_to}
 use Rattle.fixed_decimal.specs.Unsigned.{Unsigned, integer_count}
 use Rattle.fixed_decimal.proofs.Weights.{ten_pos}
 use Rattle.icu_decimal_data.specs.CompactTable.{IsCompactTable, TableEntry, exponent_of}
 use Rattle.icu_decimal.specs.Decomposed.{decomposed_entry}
-use Rattle.decimal_lines.specs.Computed.{count_up_to}
 use Rattle.decimal_lines.specs.declared.single_text.TextError.TheVariants.{Overflow}
 use Rattle.skeleton_settings.specs.declared.settings.Precision.{Precision}
 use Rattle.skeleton_settings.specs.declared.settings.Precision.TheVariants.{Fraction, Significant, Increment, Both, Currency}
 use Rattle.number_rounding.specs.declared.rounding.Rounding.{Rounding}
 use Rattle.number_rounding.specs.Showable.{FitsTable}
-use Rattle.number_rounding.specs.Shown.{IsShown, ShowsPastLimits, least_fraction_digits}
+use Rattle.number_rounding.specs.Shown.{IsShown, ShowsPastLimits}
 use Rattle.number_rounding.specs.Steps.{DividesOne}
 use Rattle.number_rounding.proofs.ShownSizes.{shown_is_divided}
 use Rattle.number_forms.specs.Rounded.{digits_before, number_shown}
-use Rattle.number_forms.specs.Shortened.{Shortened, compact_exponent, compact_size, divides_one, shortened, size_shortened, with_exponent}
+use Rattle.number_forms.specs.Shortened.{compact_exponent, compact_size, divides_one, shortened, size_shortened, with_exponent}
 use Rattle.number_forms.proofs.NumbersShown.{counted, shown-past, shown-told}
 
 -- an increment's unit isn't 0

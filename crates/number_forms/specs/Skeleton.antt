@@ -102,34 +102,38 @@ compact_money_set width.FullName is_accounting code = Err unsupported.CompactCur
 compact_money_set width.IsoCode is_accounting code = Err unsupported.CompactCurrency
 compact_money_set width.Hidden is_accounting code = Err unsupported.CompactCurrency
 
+-- compact numbers, by the long patterns or by the short ones
+abbrev pub compact_numbers : Bool → Kind
+compact_numbers is_long = if is_long then Long else Short
+
 -- compact numbers with a unit: those whose unit isn't written
-unfoldable pub compact_unit_set : UnitWidth → Kind → Result Kind Unsupported
-compact_unit_set width.Narrow numbers = Err unsupported.CompactUnit
-compact_unit_set width.Short numbers = Err unsupported.CompactUnit
-compact_unit_set width.FullName numbers = Err unsupported.CompactUnit
-compact_unit_set width.IsoCode numbers = Err unsupported.CompactUnit
-compact_unit_set width.Hidden numbers = Ok numbers
+unfoldable pub compact_unit_set : UnitWidth → Bool → Result Kind Unsupported
+compact_unit_set width.Narrow is_long = Err unsupported.CompactUnit
+compact_unit_set width.Short is_long = Err unsupported.CompactUnit
+compact_unit_set width.FullName is_long = Err unsupported.CompactUnit
+compact_unit_set width.IsoCode is_long = Err unsupported.CompactUnit
+compact_unit_set width.Hidden is_long = Ok (compact_numbers is_long)
 
 -- whether a skeleton says how numbers are rounded, or how many digits they have
 unfoldable pub sets_digits : Skeleton → Bool
 sets_digits skeleton =
     is_some skeleton.precision || skeleton.hides_zeros_of_whole || not (skeleton.integer_digits == 1) || not (is_half_even skeleton.mode)
 
--- what is written of compact numbers, by the kind of those that count nothing
-unfoldable pub compact_set : Skeleton → Kind → NumberUnit → Result Kind Unsupported
-compact_set skeleton numbers counted.None = Ok numbers
-compact_set skeleton numbers counted.Percent = Err unsupported.CompactPercent
-compact_set skeleton numbers counted.Permille = Err unsupported.Permille
-compact_set skeleton numbers (counted.Currency letters) = do
+-- what is written of compact numbers, by the long patterns or by the short ones
+unfoldable pub compact_set : Skeleton → Bool → NumberUnit → Result Kind Unsupported
+compact_set skeleton is_long counted.None = Ok (compact_numbers is_long)
+compact_set skeleton is_long counted.Percent = Err unsupported.CompactPercent
+compact_set skeleton is_long counted.Permille = Err unsupported.Permille
+compact_set skeleton is_long (counted.Currency letters) = do
   code ← code_set letters
   if sets_digits skeleton then Err unsupported.CompactDigits else compact_money_set skeleton.width skeleton.is_accounting code
-compact_set skeleton numbers (counted.Named name) = compact_unit_set skeleton.width numbers
+compact_set skeleton is_long (counted.Named name) = compact_unit_set skeleton.width is_long
 
 -- what is written of numbers
 unfoldable pub kind_set : Skeleton → Notation → Result Kind Unsupported
 kind_set skeleton Simple = simple_set skeleton skeleton.unit
-kind_set skeleton CompactShort = compact_set skeleton Short skeleton.unit
-kind_set skeleton CompactLong = compact_set skeleton Long skeleton.unit
+kind_set skeleton CompactShort = compact_set skeleton false skeleton.unit
+kind_set skeleton CompactLong = compact_set skeleton true skeleton.unit
 
 -- how fine numbers are in full, where nothing is set: as the currency has it, else at most six fraction digits
 unfoldable pub default_precision : NumberUnit → Option Precision

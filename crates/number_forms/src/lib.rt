@@ -13,9 +13,9 @@ mod making;
 mod reported;
 mod rounded;
 mod scaled;
+mod settings;
 mod shortened;
 mod skeleton;
-mod settings;
 mod writing;
 
 pub use decimal_lines::TextError;
@@ -24,4 +24,5 @@ pub use error::StartError;
 pub use form::{Form, Formatter};
 pub use reported::push_reported;
 pub use settings::{Kind, Settings, UnitWidth};
+pub use shortened::has_compact_increment;
 pub use skeleton::Unsupported;

@@ -8,7 +8,7 @@ ghost use Rattle.number_forms.specs.Loaded.{digits_precision, money_loaded, mone
 ghost use Rattle.number_forms.specs.Loaded.{percent_loaded, plain_loaded, preferences, rounding_to, settings_rounding, unit_loaded, units_loaded};
 
 use crate::form::{Form, Formatter};
-use crate::settings::{UnitWidth, Settings};
+use crate::settings::{Settings, UnitWidth};
 use decimal_lines::{Mode, compact_options, plain_options};
 use icu_decimal::DecimalFormatter;
 use icu_decimal_options::options::{DecimalFormatterOptions, GroupingStrategy};

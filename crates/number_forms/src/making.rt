@@ -16,7 +16,7 @@ use crate::loading::{
     load_money, load_money_short, load_named, load_percent, load_plain, load_unit,
 };
 use crate::loading_short::{load_long, load_short};
-use crate::settings::{Kind, UnitWidth, Settings};
+use crate::settings::{Kind, Settings, UnitWidth};
 use decimal_lines::plain_options;
 use icu_dimension::options::{CurrencyFormatterOptions, CurrencySign, Width};
 use icu_dimension_data::CurrencyCode;
@@ -197,7 +197,11 @@ fn form_of(alloc: Global, settings: &Settings<'_>, text: &str) -> Result<Form, S
 }
 
 /// The options of money.
-fn money_options(settings: &Settings<'_>, width: Width, sign: CurrencySign) -> CurrencyFormatterOptions
+fn money_options(
+    settings: &Settings<'_>,
+    width: Width,
+    sign: CurrencySign,
+) -> CurrencyFormatterOptions
     ensures { result ≡ money_options settings.now.grouping width sign }
 {
     CurrencyFormatterOptions {

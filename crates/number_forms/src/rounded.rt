@@ -13,8 +13,8 @@ ghost use Rattle.number_forms.specs.Rounded.{half_even_to, rounded, shown_number
 ghost use Rattle.number_forms.specs.Cut.{IsCut, IsCutRefusal};
 
 use crate::form::Formatter;
-use crate::shortened::shortened_number;
 use crate::scaled::{has_no_zeros_before, trimmed};
+use crate::shortened::shortened_number;
 use decimal_lines::TextError;
 use fixed_decimal::{
     Decimal, DecimalError, Sign, SignDisplay, SignedRoundingMode, UnsignedRoundingMode,

@@ -4,7 +4,7 @@ ghost use Rattle.std.specs.Prelude.{◌≡◌, Ok, IfErr, IfOk};
 ghost use Rattle.fixed_decimal.specs.SignDisplay.{is_negative};
 ghost use Rattle.icu_decimal.specs.CompactFormat.{events_with_exponent, exponent_needed};
 ghost use Rattle.decimal_lines.specs.SingleText.{IsRefusal, WroteEvents};
-ghost use Rattle.number_forms.specs.Shortened.{shortened, shortened_events, shortened_number};
+ghost use Rattle.number_forms.specs.Shortened.{divides_one, shortened, shortened_events, shortened_number};
 
 use crate::scaled::scaled;
 use decimal_lines::TextError;
@@ -12,8 +12,19 @@ use fixed_decimal::Decimal;
 use icu_decimal::CompactDecimalFormatter;
 use icu_decimal_data::laws::entries_are_a_compact_table;
 use number_rounding::{Rounding, ShownError, ShownNumber, divides_one, shown};
+use skeleton_settings::Precision;
 use std::alloc::Global;
 use writeable::{EventWriter, Writeable};
+
+/// Whether compact numbers have the increment of a precision: 1 is a multiple of it. A precision
+/// without an increment they have (this project's own).
+// promise: It is true exactly where 1 is a multiple of the increment.
+// mutations: increment_of_compact_numbers_let_through
+pub fn has_compact_increment(precision: &Precision) -> bool
+    ensures { result ≡ divides_one precision.now }
+{
+    divides_one(precision)
+}
 
 /// What is shown of a number: a significand and an exponent. By an increment of which 1 is no
 /// multiple nothing is.

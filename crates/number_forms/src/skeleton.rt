@@ -1,7 +1,7 @@
 //! The form that a number skeleton asks for.
 
 ghost use Rattle.std.specs.Prelude.{◌≡◌, option_map};
-ghost use Rattle.number_forms.specs.Skeleton.{code_set, compact_money_set, compact_set, compact_unit_set, default_precision, grouping_set, kind_set, money_set, money_sign, percent_set, precision_set, sets_digits, simple_set, system_set, unit_set};
+ghost use Rattle.number_forms.specs.Skeleton.{code_set, compact_money_set, compact_numbers, compact_set, compact_unit_set, default_precision, grouping_set, kind_set, money_set, money_sign, percent_set, precision_set, sets_digits, simple_set, system_set, unit_set};
 
 use crate::settings::{Kind, Settings, UnitWidth, is_half_even};
 use icu_decimal_options::options::GroupingStrategy;
@@ -72,7 +72,7 @@ fn grouping_set(grouping: Option<Grouping>) -> Result<Option<GroupingStrategy>, 
 /// The numbering system.
 #[tactic(auto, unfolding(crate::specs::Skeleton::system_set))]
 fn system_set(name: Option<&str>) -> Result<Option<NumberingSystem>, Unsupported>
-    ensures { result ≡ system_set name }
+    ensures { result ≡ system_set name.entry }
 {
     let Some(name) = name else {
         return Ok(None);
@@ -155,7 +155,7 @@ fn percent_set<'a>(width: skeleton_settings::UnitWidth) -> Result<Kind<'a>, Unsu
 /// Numbers with a unit in full.
 #[tactic(auto, unfolding(crate::specs::Skeleton::unit_set))]
 fn unit_set<'a>(width: skeleton_settings::UnitWidth, name: &'a str) -> Kind<'a>
-    ensures { result ≡ unit_set width name }
+    ensures { result ≡ unit_set width name.entry }
 {
     let width = match width {
         skeleton_settings::UnitWidth::Narrow => UnitWidth::Narrow,
@@ -200,16 +200,23 @@ fn compact_money_set<'a>(
     }
 }
 
+/// Compact numbers, by the long patterns or by the short ones.
+fn compact_numbers<'a>(is_long: bool) -> Kind<'a>
+    ensures { result ≡ compact_numbers is_long }
+{
+    if is_long { Kind::Long } else { Kind::Short }
+}
+
 /// Compact numbers with a unit.
 #[tactic(auto, unfolding(crate::specs::Skeleton::compact_unit_set))]
 fn compact_unit_set<'a>(
     width: skeleton_settings::UnitWidth,
-    numbers: Kind<'a>,
+    is_long: bool,
 ) -> Result<Kind<'a>, Unsupported>
-    ensures { result ≡ compact_unit_set width numbers }
+    ensures { result ≡ compact_unit_set width is_long }
 {
     match width {
-        skeleton_settings::UnitWidth::Hidden => Ok(numbers),
+        skeleton_settings::UnitWidth::Hidden => Ok(compact_numbers(is_long)),
         _ => Err(Unsupported::CompactUnit),
     }
 }
@@ -225,13 +232,13 @@ fn sets_digits(skeleton: &Skeleton<'_>) -> bool
         || !is_half_even(skeleton.mode)
 }
 
-/// What is written of compact numbers, by the kind of those that count nothing.
+/// What is written of compact numbers, by the long patterns or by the short ones.
 #[tactic(auto, unfolding(crate::specs::Skeleton::compact_set))]
-fn compact_set<'a>(skeleton: &Skeleton<'a>, numbers: Kind<'a>) -> Result<Kind<'a>, Unsupported>
-    ensures { result ≡ compact_set skeleton.now numbers skeleton.now.unit }
+fn compact_set<'a>(skeleton: &Skeleton<'a>, is_long: bool) -> Result<Kind<'a>, Unsupported>
+    ensures { result ≡ compact_set skeleton.now is_long skeleton.now.unit }
 {
     match skeleton.unit {
-        NumberUnit::None => Ok(numbers),
+        NumberUnit::None => Ok(compact_numbers(is_long)),
         NumberUnit::Percent => Err(Unsupported::CompactPercent),
         NumberUnit::Permille => Err(Unsupported::Permille),
         NumberUnit::Currency(letters) => match code_set(letters) {
@@ -239,7 +246,7 @@ fn compact_set<'a>(skeleton: &Skeleton<'a>, numbers: Kind<'a>) -> Result<Kind<'a
             Ok(code) => compact_money_set(skeleton.width, skeleton.is_accounting, code),
             Err(error) => Err(error),
         },
-        NumberUnit::Named(_) => compact_unit_set(skeleton.width, numbers),
+        NumberUnit::Named(_) => compact_unit_set(skeleton.width, is_long),
     }
 }
 
@@ -250,8 +257,8 @@ fn kind_set<'a>(skeleton: &Skeleton<'a>) -> Result<Kind<'a>, Unsupported>
 {
     match skeleton.notation {
         Notation::Simple => simple_set(skeleton),
-        Notation::CompactShort => compact_set(skeleton, Kind::Short),
-        Notation::CompactLong => compact_set(skeleton, Kind::Long),
+        Notation::CompactShort => compact_set(skeleton, false),
+        Notation::CompactLong => compact_set(skeleton, true),
     }
 }
 
