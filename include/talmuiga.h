@@ -309,7 +309,7 @@ static inline const char *talmuiga_fault_text(const talmuiga_fault *fault) {
         "not supported: currency", "not supported: currency with unit-width-iso-code",
         "not supported: currency with unit-width-hidden", "not supported: percent in compact notation",
         "not supported: currency in compact notation with a width or in accounting",
-        "not supported: digits in compact notation", "not supported: unit in compact notation"};
+        "not supported: digits of a currency in compact notation", "not supported: unit in compact notation"};
     const char *const *texts = kinds;
     size_t count = sizeof kinds / sizeof *kinds, at = fault->kind;
     switch (fault->kind) {

@@ -1,4 +1,5 @@
 pub mod Owned
+pub mod Reading
 pub mod SameForm
 pub mod Steps
 pub mod Texts

@@ -3,7 +3,6 @@ use Rattle.std.proofs.Common.{◌≡◌, ℕ, List, refl, sym, ap, ◌∙◌, in
 use Rattle.std.specs.Prelude.{◌⊎◌, Bool, true, false, Option, Some, None, option_map, Result, Ok, Err, if◌then◌else◌}
 use Rattle.std.specs.Borrow.{Bor}
 use Rattle.std.specs.Str.{is_utf8}
-use Rattle.icu_decimal.specs.declared.options.GroupingStrategy.{GroupingStrategy}
 use Rattle.number_forms.specs.Loaded.{unit_loaded}
 use Rattle.number_forms.specs.Making.{form_of}
 use Rattle.number_forms.specs.Settings.{FormSettings}
@@ -72,7 +71,7 @@ same-simple s (counted.Currency letters) = inl refl
 same-simple s (counted.Named name) = same-unit s.width name
 
 same-compact : (s : Skeleton) (numbers : Kind) (u : NumberUnit) → compact_set s numbers u ≡ compact_set (moved s) numbers (lent_unit (unit_data u))
-unfolding compact_set
+unfolding compact_set sets_digits
 same-compact s numbers counted.None = refl
 same-compact s numbers counted.Percent = refl
 same-compact s numbers counted.Permille = refl
@@ -81,10 +80,10 @@ same-compact s numbers (counted.Named name) = refl
 
 -- what is written of numbers
 same-kind : (s : Skeleton) (n : Notation) → SameKind (kind_set s n) (kind_set (moved s) n)
-unfolding kind_set sets_digits
+unfolding kind_set
 same-kind s Simple = same-simple s s.unit
-same-kind s CompactShort = inl (rw (same-compact s _ s.unit) refl)
-same-kind s CompactLong = inl (rw (same-compact s _ s.unit) refl)
+same-kind s CompactShort = inl (same-compact s _ s.unit)
+same-kind s CompactLong = inl (same-compact s _ s.unit)
 
 -- settings that have the same form by all tables
 abbrev pub SameForms : Result FormSettings Unsupported → Result FormSettings Unsupported → Type 0
@@ -93,53 +92,45 @@ SameForms (Ok x) (Err b) = ⊥
 SameForms (Err a) (Ok y) = ⊥
 SameForms (Err a) (Err b) = a ≡ b
 
--- settings of a kind
-module _ (with_kind : Option GroupingStrategy → Option (List ℕ) → Kind → FormSettings)
-    (elsewhere : (g : Option GroupingStrategy) (o : Option (List ℕ)) (name : Bor (List ℕ)) (w : patterns.UnitWidth) (tables : List ℕ)
+-- settings of a grouping, a system and a kind
+module _ {G : Type 0} (grouping : Result G Unsupported) (with_kind : G → Option (List ℕ) → Kind → FormSettings)
+    (elsewhere : (g : G) (o : Option (List ℕ)) (name : Bor (List ℕ)) (w : patterns.UnitWidth) (tables : List ℕ)
     → form_asked (with_kind g o (WithUnit name w)) tables ≡ form_asked (with_kind g o (WithUnit (lent name.now) w)) tables) where
-  with_all : Result (Option GroupingStrategy) Unsupported → Result (Option (List ℕ)) Unsupported → Result Kind Unsupported →
-      Result FormSettings Unsupported
-  abbrev with_all grouping system kind = do
+  abbrev with_all : Result G Unsupported → Result (Option (List ℕ)) Unsupported → Result Kind Unsupported → Result FormSettings Unsupported
+  with_all grouping system kind = do
     g ← grouping
     o ← system
     k ← kind
     Ok (with_kind g o k)
 
-  same-all : (g : Result (Option GroupingStrategy) Unsupported) (o : Result (Option (List ℕ)) Unsupported) (k l : Result Kind Unsupported)
+  same : (g : Result G Unsupported) (o : Result (Option (List ℕ)) Unsupported) (k l : Result Kind Unsupported)
       → SameKind k l → SameForms (with_all g o k) (with_all g o l)
-  same-all (Err x) o k l same = refl
-  same-all (Ok g) (Err x) k l same = refl
-  same-all (Ok g) (Ok o) k l (inl e) = rw e (go l)
+  same (Err x) o k l is = refl
+  same (Ok g) (Err x) k l is = refl
+  same (Ok g) (Ok o) k l (inl e) = rw e (go l)
     where
       go : (l : Result Kind Unsupported) → SameForms (with_all (Ok g) (Ok o) l) (with_all (Ok g) (Ok o) l)
       go (Ok kind) = λ tables. refl
       go (Err x) = refl
-  same-all (Ok g) (Ok o) k l (inr (name, w, (e, f))) = rw (e, f) (elsewhere g o name w)
+  same (Ok g) (Ok o) k l (inr (name, w, (e, f))) = rw (e, f) (elsewhere g o name w)
 
--- settings of a skeleton of this system, grouping and kind
-abbrev with_kind : List ℕ → Skeleton → Option GroupingStrategy → Option (List ℕ) → Kind → FormSettings
-with_kind locale s grouping system kind = record {
-  locale = locale;
-  system = system;
-  grouping = grouping;
-  precision = precision_set s s.notation s.precision;
-  mode = s.mode;
-  hides_zeros_of_whole = s.hides_zeros_of_whole;
-  integer_digits = s.integer_digits;
-  scale = s.scale;
-  sign = s.sign;
-  kind = kind;
-}
-
-elsewhere : (locale : List ℕ) (s : Skeleton) (g : Option GroupingStrategy) (o : Option (List ℕ)) (name : Bor (List ℕ)) (w : patterns.UnitWidth)
-    (tables : List ℕ) → form_asked (with_kind locale s g o (WithUnit name w)) tables
-    ≡ form_asked (with_kind locale s g o (WithUnit (lent name.now) w)) tables
-unfolding form_asked form_of unit_loaded
-elsewhere locale s g o name w tables = refl
+  same-all : (o : Result (Option (List ℕ)) Unsupported) (k l : Result Kind Unsupported)
+      → SameKind k l → SameForms (with_all grouping o k) (with_all grouping o l)
+  same-all = same grouping
 
 -- the settings of a skeleton, wherever its names lie
 pub same-settings : (locale : List ℕ) (s : Skeleton) → SameForms (settings_of locale s) (settings_of locale (moved s))
-unfolding settings_of
+unfolding settings_of form_asked form_of unit_loaded
 same-settings locale s = rw (sym (same-system s.system), sym (same-precision s s.notation s.precision))
-    (same-all (with_kind locale s) (elsewhere locale s) (grouping_set s.grouping) (system_set s.system) (kind_set s s.notation)
-    (kind_set (moved s) s.notation) (same-kind s s.notation))
+    (same-all (grouping_set s.grouping) (λ g o k. record {
+      locale = locale;
+      system = o;
+      grouping = g;
+      precision = precision_set s s.notation s.precision;
+      mode = s.mode;
+      hides_zeros_of_whole = s.hides_zeros_of_whole;
+      integer_digits = s.integer_digits;
+      scale = s.scale;
+      sign = s.sign;
+      kind = k;
+    }) (λ g o name w tables. refl) (system_set s.system) (kind_set s s.notation) (kind_set (moved s) s.notation) (same-kind s s.notation))

@@ -38,14 +38,14 @@ locale_asked bytes = do
   text ← text_in bytes
   locale_named text
 
--- the data of a skeleton that was read
+-- the settings of a skeleton that was read
 abbrev pub read_data : Result Skeleton Fault → Result SkeletonData Fault
 read_data (Ok s) = Ok (skeleton_data s)
 read_data (Err fault) = Err fault
 
 -- the fault in numbers, if there is one
 abbrev pub numbered_fault : Result SkeletonData SkeletonFault → Result SkeletonData Fault
-numbered_fault (Ok data) = Ok data
+numbered_fault (Ok settings) = Ok settings
 numbered_fault (Err fault) = Err (fault_of fault)
 
 -- the settings of a skeleton, or what is wrong with it; of bytes that aren't UTF-8 the first that isn't
@@ -66,19 +66,19 @@ lent_unit (named name) = number_unit.Named (lent name)
 
 -- a skeleton of these settings
 abbrev pub lent_skeleton : SkeletonData → Skeleton
-lent_skeleton data = record {
-  notation = data.notation;
-  unit = lent_unit data.unit;
-  width = data.width;
-  precision = data.precision;
-  hides_zeros_of_whole = data.hides_zeros_of_whole;
-  mode = data.mode;
-  integer_digits = data.integer_digits;
-  scale = data.scale;
-  grouping = data.grouping;
-  system = option_map lent data.system;
-  sign = data.sign;
-  is_accounting = data.is_accounting;
+lent_skeleton settings = record {
+  notation = settings.notation;
+  unit = lent_unit settings.unit;
+  width = settings.width;
+  precision = settings.precision;
+  hides_zeros_of_whole = settings.hides_zeros_of_whole;
+  mode = settings.mode;
+  integer_digits = settings.integer_digits;
+  scale = settings.scale;
+  grouping = settings.grouping;
+  system = option_map lent settings.system;
+  sign = settings.sign;
+  is_accounting = settings.is_accounting;
 }
 
 -- what forms have of a skeleton, or the first part that they don't
@@ -90,7 +90,7 @@ supported (Err x) = Err (record { status = skeleton_refused; fault = unsupported
 abbrev pub settings_from : Option (List ℕ) → Result SkeletonData Fault → Result FormSettings Rejected
 settings_from None read = Err (record { status = words_refused; fault = no_fault })
 settings_from (Some locale) (Err fault) = Err (record { status = skeleton_refused; fault = fault })
-settings_from (Some locale) (Ok data) = supported (settings_of locale (lent_skeleton data))
+settings_from (Some locale) (Ok settings) = supported (settings_of locale (lent_skeleton settings))
 
 -- the same of bytes, or why nothing is asked for: the locale is judged first, then the skeleton, and then what forms have
 unfoldable pub settings_asked : List ℕ → List ℕ → Result FormSettings Rejected
@@ -135,8 +135,8 @@ pub record IsPut (text old new : List ℕ) (n status : ℕ) : Type 0 where
 
 -- the canonical text of settings, or why there is none; out of memory may come in place of the text
 abbrev pub CanonicalOf : Result SkeletonData Fault → List ℕ → List ℕ → ℕ → Fault → ℕ → Type 0
-CanonicalOf (Ok data) old new n fault status =
-    (fault ≡ no_fault) × (IsPut (canonical_of data) old new n status ⊎ (IsUntouched old new n × (status ≡ out_of_memory)))
+CanonicalOf (Ok settings) old new n fault status =
+    (fault ≡ no_fault) × (IsPut (canonical_of settings) old new n status ⊎ (IsUntouched old new n × (status ≡ out_of_memory)))
 CanonicalOf (Err found) old new n fault status = (fault ≡ found) × (IsUntouched old new n × (status ≡ skeleton_refused))
 
 -- that of the bytes of a skeleton

@@ -1,9 +1,8 @@
 //! Number skeletons as C hands them over: what is read of them, and the formatter that they open.
 
-ghost use Rattle.std.specs.Prelude.{◌≡◌, IfOk};
+ghost use Rattle.std.specs.Prelude.{◌≡◌};
 ghost use Rattle.talmuiga_c.specs.Handle.{empty};
-ghost use Rattle.talmuiga_c.specs.SkeletonFaults.{no_fault};
-ghost use Rattle.talmuiga_c.specs.Skeletons.{AsksFor, OpensForm, OpensSkeleton, IsCanonical, canonical_status, form_asked, locale_asked, read_data, settings_asked, skeleton_asked};
+ghost use Rattle.talmuiga_c.specs.Skeletons.{AsksFor, IsCanonical, OpensForm, OpensSkeleton, form_asked, locale_asked, read_data, skeleton_asked};
 
 use crate::asked::text_in;
 use crate::fault::{Fault, fault_of, no_fault, not_utf8, unsupported};
@@ -28,6 +27,7 @@ pub struct Rejected {
 }
 
 /// The locale of some bytes, where they are the text of one.
+#[tactic(auto, unfolding(crate::specs::Skeletons::locale_asked, decimal_lines::specs::Words::locale_named))]
 fn locale_asked(bytes: &[u8]) -> Option<DataLocale>
     ensures { result ≡ locale_asked bytes.now }
 {
@@ -38,6 +38,7 @@ fn locale_asked(bytes: &[u8]) -> Option<DataLocale>
 }
 
 /// The settings of a skeleton, or what is wrong with it.
+#[tactic(auto, unfolding(crate::specs::Skeletons::skeleton_asked))]
 fn skeleton_asked(bytes: &[u8]) -> Result<Skeleton<'_>, Fault>
     ensures { read_data result ≡ skeleton_asked bytes.now }
 {
