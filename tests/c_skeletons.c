@@ -292,7 +292,6 @@ static const struct {
     {"", "@", 999, TALMUIGA_DONE, TALMUIGA_FAULT_NONE},
     {"", "@", 1000, TALMUIGA_SKELETON_REFUSED, TALMUIGA_FAULT_TOO_MANY_DIGITS},
     {"unit/", "a", MOST, TALMUIGA_NO_DATA, TALMUIGA_FAULT_NONE},
-    {"numbering-system/", "roman", 1, TALMUIGA_NO_DATA, TALMUIGA_FAULT_NONE},
 };
 
 static void judge_longest(size_t row) {

@@ -1,3 +1,4 @@
+pub mod Answered
 pub mod Owned
 pub mod Reading
 pub mod SameForm

@@ -70,20 +70,20 @@ same-simple s counted.Permille = inl refl
 same-simple s (counted.Currency letters) = inl refl
 same-simple s (counted.Named name) = same-unit s.width name
 
-same-compact : (s : Skeleton) (numbers : Kind) (u : NumberUnit) → compact_set s numbers u ≡ compact_set (moved s) numbers (lent_unit (unit_data u))
+same-compact : (s : Skeleton) (is_long : Bool) (u : NumberUnit) → compact_set s is_long u ≡ compact_set (moved s) is_long (lent_unit (unit_data u))
 unfolding compact_set sets_digits
-same-compact s numbers counted.None = refl
-same-compact s numbers counted.Percent = refl
-same-compact s numbers counted.Permille = refl
-same-compact s numbers (counted.Currency letters) = refl
-same-compact s numbers (counted.Named name) = refl
+same-compact s is_long counted.None = refl
+same-compact s is_long counted.Percent = refl
+same-compact s is_long counted.Permille = refl
+same-compact s is_long (counted.Currency letters) = refl
+same-compact s is_long (counted.Named name) = refl
 
 -- what is written of numbers
 same-kind : (s : Skeleton) (n : Notation) → SameKind (kind_set s n) (kind_set (moved s) n)
 unfolding kind_set
 same-kind s Simple = same-simple s s.unit
-same-kind s CompactShort = inl (same-compact s _ s.unit)
-same-kind s CompactLong = inl (same-compact s _ s.unit)
+same-kind s CompactShort = inl (same-compact s false s.unit)
+same-kind s CompactLong = inl (same-compact s true s.unit)
 
 -- settings that have the same form by all tables
 abbrev pub SameForms : Result FormSettings Unsupported → Result FormSettings Unsupported → Type 0

@@ -17,5 +17,5 @@ returns-in-Ok-of_skeleton c =
 
 pub returns-in-Err-of_skeleton : goal.returns-in-Err-of_skeleton
 returns-in-Err-of_skeleton c =
-    rw (c.skeleton_refused.ensures, c.unsupported.ensures) (asks-for c.args.locale.now c.args.skeleton.now c.in-Some.locale c.in-Some.ensures
+    rw (c.skeleton_refused-in-Err-of_skeleton.ensures, c.unsupported.ensures) (asks-for c.args.locale.now c.args.skeleton.now c.in-Some.locale c.in-Some.ensures
     c.in-Ok.skeleton c.in-Ok.ensures (Err c.in-Err-of_skeleton.thing) c.in-Err-of_skeleton.ensures)
