@@ -47,6 +47,8 @@ writes '12.34%\n' --percent 0.1234
 writes '12.3%\n' --percent --fraction 1 0.1234
 writes '1.5M\n' --style short 1500000
 writes '1.5 million\n' --style long 1500000
+writes '1.65K\n999.99K\n' --style short --fraction 2 1650 999994
+writes '1.3 thousand\n' --style long --round half-up 1250
 writes '$1.5M\n-$1.2K\n$0.5\n' --currency USD --style short 1500000 -1234 0.5
 writes '\xe2\x82\xac12B\n' --style short --width short --fraction 2 --currency EUR 12345678901
 writes '+$1T\n' --currency USD --style short --sign always 999999999999
@@ -60,6 +62,26 @@ writes '1234567\n' --grouping=never 1234567
 writes '+1.20\n' --sign always --fraction 2 1.2
 writes '1.2\n1.25\n' --fraction 1..2 1.2 1.25
 writes "1.$(printf '%0999d' 0)\n" --fraction 999 1
+# digits before the fraction, and powers of ten
+writes '007\n007.5\n1,234.56\n' --integer 3 7 7.50 1234.56
+writes '007.50\n' --integer 3 --fraction 2 7.5
+writes '$0,007.50\n' --integer 4 --currency USD 7.5
+writes '1,500\n0.0125\n' --scale 1000 1.5 0.0000125
+writes '1.2K\n' --scale 0.01 --style short 123456
+writes '$12.34\n' --scale 0.01 --currency USD 1234.5
+writes '50%\n5%\n' --percent --scale 1 50 5
+writes '0.1\n' --scale 100 --fraction 1 0.00125
+# number skeletons
+writes '1,234.56789\n' --skeleton '' 1234.5678901
+writes '\xe2\x82\xac1.2M\n' --skeleton 'K currency/EUR' 1234567.5
+writes '1.23M\n' --skeleton 'K .00' 1234567.5
+writes '12.3%\n' --skeleton '%x100 .0' 0.12345
+writes '($1.00)\n' --skeleton '.00 sign-accounting currency/USD' -1.005
+writes '1 Japanese yen\n' --skeleton 'currency/JPY unit-width-full-name' 1
+writes '1230000\n' --skeleton '@@# group-off' 1234567
+writes '007.2\n' --skeleton 'integer-width/+000 .0' 7.25
+writes '$2,000\n' --skeleton '.00/w currency/USD' 2000
+lines 0 'rent 1250\nfood 431.5\n' 'rent  +1,250.00\nfood    +431.50\n' '' --field 2 --skeleton '.00 +!' --padding 10
 # numbers are rounded: significant digits, increments and modes
 writes '7.2\n' --fraction 1 007.25
 writes '1,200\n0.50\n' --significant 2 1234 0.5
@@ -122,6 +144,9 @@ writes 'the tables in the program: locale en, percents\n0.1234\n  12.3%\n  ^^   
     --explain --percent --fraction 1 0.1234
 writes "$numbers"'1.11\n  1.15\n  ^     integer\n   ^    decimal\n    ^^  fraction\n  rounded    1.11 to 1.15: --increment 0.05, --round up\n  magnitude  0\n' \
     --explain --increment 0.05 --round up 1.11
+writes "skeleton: .00\n$numbers"'1.125\n  1.12\n  ^     integer\n   ^    decimal\n    ^^  fraction\n  rounded    1.125 to 1.12: --skeleton .00\n  magnitude  0\n' \
+    --explain --skeleton '  .00' 1.125
+writes "skeleton: ''\n$numbers"'7\n  7\n  ^  integer\n  magnitude  0\n' --explain --skeleton '' 7
 writes "$numbers"'1200\n  1,200\n  ^^^^^  integer\n   ^     group\n  magnitude  3\n' --explain --significant 2 1200
 writes "$amounts"'1234.567\n  $1,234.57\n  ^          currency\n   ^^^^^     integer\n    ^        group\n        ^    decimal\n         ^^  fraction\n  rounded    1234.567 to 1234.57: 2 digits of USD\n  magnitude  3\n  pattern    ${0}\n' \
     --explain --currency USD 1234.567
@@ -223,9 +248,20 @@ rejects 'locnum: --increment: not 1, 2, 5 or 25 times a power of ten, in digits'
 rejects 'locnum: --fraction, --significant, --increment and --cash: not together' --fraction 2 --significant 2
 rejects 'locnum: --fraction, --significant, --increment and --cash: not together' --currency USD --cash --fraction 2
 rejects 'locnum: --round: neither up, down, ceiling nor floor, with or without half-, nor half-even' --fraction 2 --round nearest
-rejects 'locnum: --round, --significant and --increment: not with --style short or long' --style short --significant 2
-rejects 'locnum: --round, --significant and --increment: not with --style short or long' --currency USD --style short --round up
+rejects 'locnum: --increment: not with --style short or long, unless 1 is a multiple of it' --style long --increment 25
+rejects 'locnum: --style short of money: not with --round, --significant, --increment or --integer' --currency USD --style short --significant 2
+rejects 'locnum: --style short of money: not with --round, --significant, --increment or --integer' --currency USD --style short --round up
 rejects 'locnum: --round wants --fraction, --significant, --increment or --currency' --round up
+rejects 'locnum: --round wants --fraction, --significant, --increment or --currency' --round up --integer 2
+rejects 'locnum: --integer: not a number of digits, from 1 to 999' --integer 0
+rejects 'locnum: --scale: not a power of ten in digits, such as 100 or 0.01' --scale 12
+rejects 'locnum: --scale: not a power of ten in digits, such as 100 or 0.01' --scale '1 percent'
+rejects 'locnum: skeleton: left out: scientific, byte 8' --skeleton 'percent scientific'
+rejects 'locnum: skeleton: set twice: precision, byte 4' --skeleton '.00 @@'
+rejects 'locnum: skeleton: not supported: permille' --skeleton permille
+rejects 'locnum: skeleton: not supported: digits of a currency in compact notation' --skeleton 'K .00 currency/EUR'
+rejects 'locnum: --skeleton: not with --percent' --skeleton .00 --percent
+rejects 'locnum: --skeleton: not with --style' --skeleton foo --system latn --style short
 cat >"$folder/fr.json" <<'FRENCH'
 {
 "symbols": [{"locale": "fr", "minus": ["-", ""], "plus": ["+", ""], "decimal": ",", "group": "\u202f", "numsys": "latn", "sizes": [3, 3, 1]}],

@@ -19,8 +19,8 @@ _locnum() {
     local at=$COMP_CWORD
     local word=${COMP_WORDS[at]} before=${COMP_WORDS[at - 1]} place
     local options='--tables --locale --system --list --style --currency --accounting --cash --unit --width --percent --fraction
-        --significant --increment --round --grouping --sign --delimiter --csv --field --header --zero-terminated
-        --padding --invalid --explain --help --version -t -l -d -z -h -V'
+        --significant --increment --integer --scale --round --grouping --sign --skeleton --delimiter --csv --field
+        --header --zero-terminated --padding --invalid --explain --help --version -t -l -d -z -h -V'
     COMPREPLY=()
     # --style=short is three words, the sign one of them
     if [ "$word" = = ]; then
@@ -30,7 +30,7 @@ _locnum() {
         before=${COMP_WORDS[at - 2]}=
     fi
     case $before in
-    --tables= | --locale= | --system= | --list= | --style= | --currency= | --unit= | --width= | --fraction= | --significant= | --increment= | --round= | --sign= | --delimiter= | --field= | --padding= | --invalid=) before=${before%=} ;;
+    --tables= | --locale= | --system= | --list= | --style= | --currency= | --unit= | --width= | --fraction= | --significant= | --increment= | --integer= | --scale= | --round= | --sign= | --skeleton= | --delimiter= | --field= | --padding= | --invalid=) before=${before%=} ;;
     esac
     # behind -- all are numbers
     for ((place = 1; place < at; place++)); do
@@ -52,7 +52,7 @@ _locnum() {
     --grouping=) mapfile -t COMPREPLY < <(compgen -W 'auto never always min2' -- "$word") ;;
     --sign) mapfile -t COMPREPLY < <(compgen -W 'auto always never except-zero negative' -- "$word") ;;
     --invalid) mapfile -t COMPREPLY < <(compgen -W 'abort fail warn ignore' -- "$word") ;;
-    --fraction | --significant | --increment | -d | --delimiter | --field | --padding | --header=) ;;
+    --fraction | --significant | --increment | --integer | --scale | --skeleton | -d | --delimiter | --field | --padding | --header=) ;;
     *) [[ $word != -* || $before = *= ]] || mapfile -t COMPREPLY < <(compgen -W "$options" -- "$word") ;;
     esac
 }

@@ -3,8 +3,8 @@ import re
 from collections.abc import Sequence
 
 # Options with a text and without one, and their letters.
-TEXTS = ["tables", "locale", "system", "style", "fraction", "significant", "increment", "round", "sign", "currency",
-         "width", "unit", "delimiter", "field", "padding", "invalid", "list"]
+TEXTS = ["tables", "locale", "system", "style", "fraction", "significant", "increment", "integer", "scale", "round", "sign",
+         "skeleton", "currency", "width", "unit", "delimiter", "field", "padding", "invalid", "list"]
 # Those that have a text behind `=` or none, with what stands for none.
 PERHAPS = {"header": "1", "grouping": "auto"}
 FLAGS = ["accounting", "cash", "percent", "csv", "zero-terminated", "explain"]
@@ -17,11 +17,12 @@ Given = dict[str, str]
 
 
 class Ended(Exception):
-    """What the words end in, before anything is read."""
+    """What the words end in, before anything is read, and its note where the ending has several."""
 
-    def __init__(self, ending: str) -> None:
+    def __init__(self, ending: str, note: str = "") -> None:
         super().__init__(ending)
         self.ending = ending
+        self.note = note
 
 
 def add(given: Given, name: str, text: str = "") -> None:

@@ -5,7 +5,7 @@ from collections.abc import Sequence
 from dataclasses import dataclass
 
 from hostile_models.locnum_arguments import FLAGS, LETTERS, PERHAPS, TEXTS
-from hostile_models.locnum_settings import MODES, SIGNS, delimiter_named
+from hostile_models.locnum_settings import MODES, NO_SKELETON, NOT_SUPPORTED, OF_NUMBERS, SIGNS, SKELETONS, delimiter_named
 from hostile_models.numbers import LIMIT, STRATEGIES
 from hostile_models.rounding import MODES as ROUNDING_MODES
 from hostile_models.running import Word
@@ -17,6 +17,8 @@ GOOD: dict[str, list[str]] = {
     "style": ["plain", "short", "long"], "grouping": STRATEGIES, "fraction": ["0", "0", "2", "999", "0..3", "1..1", "007"],
     "significant": ["1", "2", "3", "999", "1..3", "2..2", "007", "1..999"], "round": ROUNDING_MODES,
     "increment": ["0.05", "0.50", ".5", "2.5", "25", "1", "0002", "1000", "50.0", "0.25", "1" + "0" * 999, "." + "0" * 998 + "2"],
+    "integer": ["1", "2", "3", "5", "007", "40", "999"], "skeleton": [*SKELETONS],
+    "scale": ["100", "1000", "0.001", ".1", "1", "0010", "1.0", "1" + "0" * 999, "0." + "0" * 998 + "1"],
     "sign": SIGNS, "currency": ["USD", "EUR", "JPY", "CHF"], "width": ["short", "narrow", "long", "name"],
     "unit": ["kilometer", "", "é"], "delimiter": [";", ",", " ", "\t", "tab", "\\t", "-", "=", "\x7f", "5"],
     "field": LISTS, "invalid": MODES,
@@ -30,6 +32,9 @@ BAD: dict[str, list[str]] = {
     "significant": ["", "0", "00", "0..3", "1000", "3..2", "1.2", "-1", "+1", "1..", "9" * 30, "1..1000"],
     "increment": ["", "0", "0.0", "3", "15", "5.", ".", "1..5", "-5", "+5", "1e3", "5 percent", "5/w", "\u0665", "250.5",
                   "1" + "0" * 1000, "0." + "0" * 999 + "1", "5." + "0" * 1000],
+    "integer": ["", "0", "000", "1000", "-1", "+1", "1.0", "1..2", "9" * 30, "\u0665"],
+    "scale": ["", "0", "2", "11", "100.", ".", "-1", "+10", "1e2", "1,000", "1/2", "1 percent", "1" + "0" * 1000],
+    "skeleton": [*NO_SKELETON, *NOT_SUPPORTED],
     "round": ["", "Up", "half", "half-", "even", "half-odd", "unnecessary", "half-half-up"],
     "sign": ["", "plus", "except_zero"], "currency": ["", "usd", "US", "USDD", "ÜSD"], "width": ["", "wide"],
     "unit": [], "delimiter": ["", "ab", "é", ";;", ";" * 5000],
@@ -55,6 +60,8 @@ PUT_IN: list[list[Word]] = [
     ["--fraction=2", "--significant=2"], ["--increment=0.05", "--currency=EUR", "--cash"], ["--cash", "--fraction=1"],
     ["--style=short", "--significant=3"], ["--increment", "5", "--style=long"], ["--round=up"], ["--percent", "--round=floor"],
     ["--currency=USD", "--round=half-up"], ["--style=short", "--currency=USD", "--round", "down"], ["--si=auto"], ["--in=5"],
+    ["--skeleton", "K"], ["--skeleton=%x100", "--percent"], ["--skeleton=.00", "--system=latn"], ["--skeleton=.00", "--explain"],
+    ["--percent", "--scale=1"], ["--integer=4", "--currency=USD"], ["--style=long", "--integer=2"], ["--integer=3", "--round=up"],
     ["--header=1", "--field=net", "5"], ["--csv", "-z"], ["--explain", "--padding=9"], ["--explain", "-z"], ["--explain"], ["--csv", "-d", '"'],
     ["--csv", "--delimiter=\n"], ["-d\r", "--csv"],
     ["--sign", "auto", "--sign=auto"], [b"\xff"],
@@ -199,10 +206,12 @@ def a_header(rng: random.Random, cut: Cut) -> bytes:
 
 
 def some_rounding(rng: random.Random, is_money: bool) -> dict[str, str]:
-    """Options of how numbers are rounded: at most one of how fine they are, and a mode at times if they are rounded."""
+    """Options of how numbers are rounded: at most one of how fine they are, a mode at times if they are rounded, and at times
+    integer digits and a scale."""
     names: list[str] = rng.choice([[], [], ["fraction"], ["fraction"], ["significant"], ["increment"]])
     if (names or is_money) and rng.random() < 0.5:
         names = [*names, "round"]
+    names = [*names, *[name for name in ("integer", "scale") if rng.random() < 0.15]]
     return {name: rng.choice(GOOD[name]) for name in names}
 
 
@@ -214,9 +223,13 @@ def some_settings(rng: random.Random, explains: bool = False) -> Cut:
         given["csv"] = ""
     elif rng.random() < 0.2:
         given["zero-terminated"] = ""
-    if rng.random() < 0.3:
-        given.update(rng.choice(OTHER_KINDS))
-    given.update(some_rounding(rng, "currency" in given))
+    if rng.random() < 0.15:
+        given = {name: text for name, text in given.items() if name not in OF_NUMBERS}
+        given["skeleton"] = rng.choice([text for text, meaning in SKELETONS.items() if "system" not in meaning.options])
+    else:
+        if rng.random() < 0.3:
+            given.update(rng.choice(OTHER_KINDS))
+        given.update(some_rounding(rng, "currency" in given))
     has_names = rng.random() < 0.15
     if has_names:
         given.update({"header": "1", "field": ",".join(rng.sample(NAMES, rng.choice([1, 1, 2])))})

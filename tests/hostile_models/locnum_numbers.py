@@ -5,8 +5,8 @@ from collections.abc import Iterator
 from dataclasses import dataclass, replace
 
 from hostile_models.locnum_settings import CURRENCIES, MONEY, PERCENT, PLAIN, Settings
-from hostile_models.numbers import ENGLISH, LIMIT, OVERFLOW, Numeral, magnitude_of, numeral_of, unsigned_text
-from hostile_models.rounding import is_changed, rounded
+from hostile_models.numbers import ENGLISH, Numeral, magnitude_of, numeral_of, unsigned_text
+from hostile_models.rounding import is_changed, rounded, scaled
 
 # White space of ASCII, which the text of a line that is explained has not at its ends; and the columns of an explanation.
 WHITE, WIDTH = b" \t\n\f\r", 80
@@ -20,14 +20,17 @@ def shown_sign(sign: str, display: str, is_zero: bool) -> str:
     return "-" if sign == "-" else "+" if display in ("always", "except-zero") else ""
 
 
+def multiplied(numeral: Numeral, settings: Settings) -> Numeral | str:
+    """The number that is rounded, or why it has too many digits."""
+    return scaled(numeral, settings.scale) if settings.scale else numeral
+
+
 def shown(numeral: Numeral, settings: Settings) -> Numeral | str:
-    """The number that is written, or why it has too many digits; percents have their point two digits on."""
-    if settings.kind == PERCENT:
-        whole = (numeral.whole + numeral.fraction[:2].ljust(2, "0")).lstrip("0") or "0"
-        numeral = Numeral(numeral.sign, whole, numeral.fraction[2:])
-    if len(numeral.whole) > LIMIT:
-        return OVERFLOW
-    return rounded(numeral, settings.precision, settings.rounding_mode) if settings.precision else numeral
+    """The number that is written, or why it has too many digits."""
+    number = multiplied(numeral, settings)
+    if isinstance(number, str) or not settings.precision:
+        return number
+    return rounded(number, settings.precision, settings.rounding_mode, settings.integer_digits)
 
 
 def written(text: bytes, settings: Settings) -> bytes | str:
@@ -101,7 +104,8 @@ def magnitude_line(number: bytes) -> bytes:
 def rounding_lines(text: bytes, settings: Settings) -> list[bytes]:
     """The line that says from what to what a number was rounded, and by what; or nothing."""
     plain, numeral = written(text, replace(settings, grouping="never")), numeral_of(text)
-    number = numeral if isinstance(numeral, str) else shown(numeral, settings)
+    numeral = numeral if isinstance(numeral, str) else multiplied(numeral, settings)
+    number = numeral if isinstance(numeral, str) else shown(numeral, replace(settings, scale=0))
     if isinstance(plain, str) or isinstance(numeral, str) or isinstance(number, str) or not is_changed(numeral, number):
         return []
     read = numeral.sign + numeral.whole + ("." + numeral.fraction if numeral.fraction else "")

@@ -5,7 +5,7 @@ from collections.abc import Sequence
 from hostile_models.locnum_arguments import COMMAND, HELP, VERSION, Ended, arguments_of
 from hostile_models.locnum_fields import BLANKS, Record, pieces_of, records_of
 from hostile_models.locnum_numbers import WHITE, explained, reported, written
-from hostile_models.locnum_settings import FAULTS, FILE, NO_TEXT, OTHER, PLAIN, UNIT, Settings, data_of, settings_of
+from hostile_models.locnum_settings import FAULTS, FILE, NO_TEXT, OTHER, PLAIN, UNIT, Settings, data_of, meant, settings_of
 from hostile_models.running import ROOT, Answer, Word
 
 MARK = b"\xef\xbb\xbf"
@@ -243,13 +243,13 @@ def version() -> str:
         return file.read().strip()
 
 
-def answer_to_ending(ending: str, data: str) -> Answer:
-    """What the words' ending answers, as far as it is known: a note names the data that are to be made."""
+def answer_to_ending(ending: str, data: str, note: str) -> Answer:
+    """What the words' ending answers, as far as it is known: a note names the data that are to be made, or is given."""
     output = {VERSION: f"locnum {version()} (proved)\n", HELP: "Writes numbers in the form of a locale\n"}.get(ending, "")
     error = "locnum: " if ending in (COMMAND, FILE, UNIT) else ""
     if ending in FAULTS:
         shown = data if ending.endswith("locale without data") else ""
-        error = f"locnum: {FAULTS[ending]}\n".replace(" -o ", f"{shown} -o ")
+        error = f"locnum: {note or FAULTS[ending]}\n".replace(" -o ", f"{shown} -o ")
     return Answer(0 if ending in (HELP, VERSION) else 1, output.encode(), error.encode())
 
 
@@ -263,11 +263,11 @@ def answer_of(words: Sequence[Word], given: bytes, met: list[str]) -> tuple[Sett
     data = ""
     try:
         options, numbers = arguments_of(texts)
-        data = data_of(options)
+        data = data_of(meant(options))
         settings = settings_of(options, bool(numbers))
     except Ended as ended:
         met.append(ended.ending)
-        return None, answer_to_ending(ended.ending, data)
+        return None, answer_to_ending(ended.ending, data, ended.note)
     run = Run(settings, met)
     if settings.explain:
         run.output.append(settings.heading)

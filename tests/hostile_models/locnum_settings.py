@@ -5,7 +5,7 @@ from dataclasses import dataclass
 
 from hostile_models.locnum_arguments import COMMAND, HELP, VERSION, Ended, Given
 from hostile_models.numbers import STRATEGIES
-from hostile_models.rounding import FRACTION, HALF_EVEN, INCREMENT, MODES as ROUNDING_MODES, MOST, SIGNIFICANT, Precision, increment_named
+from hostile_models.rounding import FRACTION, HALF_EVEN, INCREMENT, MODES as ROUNDING_MODES, MOST, SIGNIFICANT, UNLIMITED, Precision, increment_named
 
 SIGNS = ["auto", "always", "never", "except-zero", "negative"]
 MODES = ["abort", "fail", "warn", "ignore"]
@@ -32,6 +32,11 @@ FAULTS = {
     "fraction": "--fraction: neither N nor MIN..MAX, each at most 999",
     "significant": "--significant: neither N nor MIN..MAX, each from 1 to 999",
     "increment": "--increment: not 1, 2, 5 or 25 times a power of ten, in digits",
+    "integer": "--integer: not a number of digits, from 1 to 999",
+    "scale": "--scale: not a power of ten in digits, such as 100 or 0.01",
+    "skeleton": "skeleton: FAULT, byte N",
+    "unsupported skeleton": "skeleton: not supported: PART",
+    "beside skeleton": "--skeleton: not with --OPTION",
     "precisions": "--fraction, --significant, --increment and --cash: not together",
     "round": "--round: neither up, down, ceiling nor floor, with or without half-, nor half-even",
     "sign": "--sign: neither auto, always, never, except-zero nor negative",
@@ -43,7 +48,8 @@ FAULTS = {
     "short money": "--style short: not with --accounting, --cash or a --width but short",
     "width": "--width: short, narrow or name for money; long, short or narrow for units",
     "style": "--style: neither plain, short nor long",
-    "compact rounding": "--round, --significant and --increment: not with --style short or long",
+    "compact rounding": "--style short of money: not with --round, --significant, --increment or --integer",
+    "compact increment": "--increment: not with --style short or long, unless 1 is a multiple of it",
     "nothing rounded": "--round wants --fraction, --significant, --increment or --currency",
     "explained": "--explain: not with --padding",
     "delimiter": "--delimiter: neither a single byte nor tab",
@@ -64,6 +70,55 @@ FAULTS = {
     "currency without data": "en has no currency CHF; the tables have EUR, GBP, JPY, USD\n"
                              "locnum: to make one: tools/cldr_to_tables.py core.zip en --currencies CHF -o en.json",
 }
+
+
+@dataclass(frozen=True)
+class Meaning:
+    """What a skeleton means: its canonical text, and options that mean the same."""
+
+    canonical: str
+    options: Given
+
+
+# Skeletons, each with what it means by the page of number_forms. Numbers in full have at most six fraction digits.
+SIX = {"fraction": "0..6"}
+SKELETONS = {
+    "": Meaning("''", SIX),
+    ".00": Meaning(".00", {"fraction": "2"}),
+    "@@": Meaning("@@", {"significant": "2"}),
+    "\u200e.0#\n\trounding-mode-floor": Meaning(".0# rounding-mode-floor", {"fraction": "1..2", "round": "floor"}),
+    "rounding-mode-half-up precision-increment/.5": Meaning("precision-increment/0.5 rounding-mode-half-up", {"increment": ".5", "round": "half-up"}),
+    "+! ,_": Meaning("group-off sign-always", {"grouping": "never", "sign": "always", **SIX}),
+    "group-min2": Meaning("group-min2", {"grouping": "min2", **SIX}),
+    "scale/100 000": Meaning("integer-width/*000 scale/100", {"integer": "3", "scale": "100", **SIX}),
+    "precision-unlimited": Meaning("precision-unlimited", {"integer": "1"}),
+    "%x100": Meaning("percent scale/100", {"percent": "", **SIX}),
+    "percent": Meaning("percent", {"percent": "", "scale": "1", **SIX}),
+    "currency/eur": Meaning("currency/EUR", {"currency": "EUR"}),
+    "() currency/USD": Meaning("currency/USD sign-accounting", {"currency": "USD", "accounting": ""}),
+    "currency/CHF": Meaning("currency/CHF", {"currency": "CHF"}),
+    "unit-width-full-name currency/USD": Meaning("currency/USD unit-width-full-name", {"currency": "USD", "width": "name"}),
+    "K": Meaning("compact-short", {"style": "short"}),
+    "KK scale/1000": Meaning("compact-long scale/1000", {"style": "long", "scale": "1000"}),
+    "K currency/JPY": Meaning("compact-short currency/JPY", {"style": "short", "currency": "JPY"}),
+    "latin": Meaning("latin", {"system": "latn", **SIX}),
+    "numbering-system/arab": Meaning("numbering-system/arab", {"system": "arab", **SIX}),
+}
+NOT_SUPPORTED = {
+    "permille": "permille", "group-thousands .00": "group-thousands", ",!": "group-on-aligned",
+    "percent unit-width-full-name": "percent with unit-width-full-name", "K .00 currency/USD": "digits of a currency in compact notation",
+    "currency/EUR unit-width-hidden": "currency with unit-width-hidden", "K %": "percent in compact notation",
+}
+NO_SKELETON = {
+    "percent scientific": "left out: scientific, byte 8", ".00 @@": "set twice: precision, byte 4", "percents": "unknown stem, byte 0",
+    "currency": "option missing, byte 8", "currency/": "empty option, byte 9", "currency/EURO": "unknown option, byte 9",
+    "K precision-increment/25": "increment of which 1 is no multiple, in compact notation, byte 2",
+    "0" * 1000: "more than 999 digits, byte 0", "//": "slash without a stem, byte 0", "latin/latn": "no option is taken here, byte 5",
+    "\u0665": "unknown stem, byte 0", "percent\u00a0": "unknown stem, byte 0",
+}
+# The options that say of numbers what a skeleton says, in the order in which they are looked for.
+OF_NUMBERS = ["style", "currency", "percent", "unit", "width", "accounting", "cash", "fraction", "significant", "increment", "round",
+              "integer", "scale", "grouping", "sign", "system"]
 # Faults of whose note the beginning is known.
 FILE, UNIT = "a file that can't be read", "a unit without data"
 NO_TEXT = "words that aren't text"
@@ -89,6 +144,8 @@ class Settings:
     precision: Precision | None
     rounding_mode: str
     rounded_by: str
+    integer_digits: int
+    scale: int
     sign: str
     delimiter: bytes | None
     fields: Sequence[Range]
@@ -139,6 +196,23 @@ def significant_named(text: str) -> Precision | None:
 
 # The options that say how fine numbers are, each with what reads its text.
 PRECISIONS = {FRACTION: fraction_named, SIGNIFICANT: significant_named, INCREMENT: increment_named}
+
+
+def integer_named(text: str) -> int | None:
+    """A count of integer digits, or None."""
+    count = number_named(text)
+    return count if count and count <= MOST else None
+
+
+def scale_named(text: str) -> int | None:
+    """The power of ten of a text, or None."""
+    increment = increment_named(text)
+    return increment.power if increment and increment.digits == 1 else None
+
+
+def scale_of(given: Given) -> int:
+    """The power of ten by which numbers are multiplied: percents are hundredths."""
+    return (scale_named(given["scale"]) or 0) if "scale" in given else 2 if "percent" in given else 0
 
 
 def fields_named(text: str) -> Range | None:
@@ -213,22 +287,47 @@ def precision_of(given: Given) -> Precision | None:
         if name in given:
             return named(given[name])
     if "currency" not in given:
-        return None
+        return Precision(FRACTION, 0, UNLIMITED) if "integer" in given else None
     digits = CURRENCIES[given["currency"]].digits
     return Precision(FRACTION, digits, digits)
 
 
 def rounded_by(given: Given) -> str:
     """The options by which plain numbers are rounded, as explanations have them."""
+    if "skeleton" in given:
+        return f"--skeleton {SKELETONS[given['skeleton']].canonical}"
     return ", ".join(f"--{name} {given[name]}" for name in [*PRECISIONS, "round"] if name in given)
 
 
 def judge_rounding(given: Given, is_compact: bool) -> None:
     """Whether numbers of the kind are rounded as it is asked."""
-    if is_compact and ("round" in given or "significant" in given or "increment" in given):
+    if is_compact and "currency" in given and any(name in given for name in ("round", "significant", "increment", "integer")):
         raise Ended("compact rounding")
-    if "round" in given and not ("currency" in given or any(name in given for name in PRECISIONS)):
+    increment = increment_named(given["increment"]) if is_compact and "increment" in given else None
+    if increment and 10**(MOST + 2) % (increment.digits * 10**(increment.power + MOST + 2)):
+        raise Ended("compact increment")
+    if "round" in given and not (is_compact or "currency" in given or any(name in given for name in PRECISIONS)):
         raise Ended("nothing rounded")
+
+
+def meant(given: Given) -> Given:
+    """The options that mean the same, where there is a skeleton: it stays among them."""
+    meaning = SKELETONS.get(given.get("skeleton", "none"))
+    return {**given, **meaning.options} if meaning else given
+
+
+def judge_skeleton(given: Given) -> None:
+    """Whether a skeleton stands alone and is one, of which forms have all."""
+    if "skeleton" not in given:
+        return
+    beside = next((name for name in OF_NUMBERS if name in given), None)
+    if beside:
+        raise Ended("beside skeleton", f"--skeleton: not with --{beside}")
+    text = given["skeleton"]
+    if text in NO_SKELETON:
+        raise Ended("skeleton", f"skeleton: {NO_SKELETON[text]}")
+    if text in NOT_SUPPORTED:
+        raise Ended("unsupported skeleton", f"skeleton: not supported: {NOT_SUPPORTED[text]}")
 
 
 def data_of(given: Given) -> str:
@@ -286,16 +385,19 @@ def judge_lines(given: Given) -> None:
 
 
 def heading_of(given: Given) -> bytes:
-    """The line in front of explanations: what they go by."""
+    """The lines in front of explanations: what they go by."""
     key = "percents" if "percent" in given else given.get("style", "plain").replace("plain", "symbols")
     if "currency" in given:
         key = "currency_compact" if key == "short" else "currencies"
-    return f"the tables in the program: locale {locale_named(given.get('locale', 'en'))}, {key}\n".encode()
+    skeleton = f"skeleton: {SKELETONS[given['skeleton']].canonical}\n" if "skeleton" in given else ""
+    return f"{skeleton}the tables in the program: locale {locale_named(given.get('locale', 'en'))}, {key}\n".encode()
 
 
 def settings_of(given: Given, has_numbers: bool) -> Settings:
     """The settings, beside numbers among the arguments or not, or the first fault in the order of the definition."""
     wanted(given, "locale", lambda text: re.fullmatch("[A-Za-z0-9-]{1,63}", locale_named(text)))
+    judge_skeleton(given)
+    given = meant(given)
     wanted(given, "system", lambda text: re.fullmatch("[a-z0-9]{3,8}", text))
     wanted(given, "grouping", lambda text: text in STRATEGIES)
     for name, named in PRECISIONS.items():
@@ -303,6 +405,8 @@ def settings_of(given: Given, has_numbers: bool) -> Settings:
     if sum(name in given for name in [*PRECISIONS, "cash"]) > 1:
         raise Ended("precisions")
     wanted(given, "round", lambda text: text in ROUNDING_MODES)
+    wanted(given, "integer", integer_named)
+    wanted(given, "scale", lambda text: scale_named(text) is not None)
     wanted(given, "sign", lambda text: text in SIGNS)
     kind = kind_of(given)
     judge_rounding(given, given.get("style", "plain") != "plain")
@@ -314,7 +418,7 @@ def settings_of(given: Given, has_numbers: bool) -> Settings:
     fields = [fields_named(part) for part in given.get("field", "1").split(",")]
     return Settings(
         kind, given.get("currency"), "accounting" in given, given.get("grouping", "auto"), precision_of(given),
-        given.get("round", HALF_EVEN), rounded_by(given), given.get("sign", "auto"), delimiter.encode() if delimiter else None,
+        given.get("round", HALF_EVEN), rounded_by(given), int(given.get("integer", "1")), scale_of(given), given.get("sign", "auto"), delimiter.encode() if delimiter else None,
         [each for each in fields if each], [name.encode() for name in names_of(given)], int(given.get("header", "0")), b"\0" if "zero-terminated" in given else b"\n",
         given.get("invalid", "abort"), columns_named(given.get("padding", "")), "csv" in given, "explain" in given,
         any(name in given for name in OF_LINES), heading_of(given))

@@ -10,6 +10,8 @@ MODES = [HALF_EVEN, "half-up", "half-down", "half-ceiling", "half-floor", "up", 
 # What says how fine numbers are.
 FRACTION, SIGNIFICANT, INCREMENT = "fraction", "significant", "increment"
 MOST = 999
+# A greatest count of fraction digits that cuts none off.
+UNLIMITED = 2 * LIMIT
 
 
 @dataclass(frozen=True)
@@ -55,10 +57,22 @@ def step_of(precision: Precision, magnitude: int) -> tuple[int, int]:
     return 1, -precision.most if precision.option == FRACTION else magnitude - precision.most + 1
 
 
-def rounded(numeral: Numeral, precision: Precision, mode: str) -> Numeral | str:
-    """The number that is shown of another one, without zeros before it, or why it has too many digits."""
+def scaled(numeral: Numeral, power: int) -> Numeral | str:
+    """A number whose digits each stand that many powers of ten higher, or why it has too many digits."""
+    if power >= 0:
+        whole, fraction = numeral.whole + numeral.fraction[:power].ljust(power, "0"), numeral.fraction[power:]
+    else:
+        digits = numeral.whole.rjust(-power, "0")
+        whole, fraction = digits[:power], digits[power:] + numeral.fraction
+    whole = whole.lstrip("0") or "0"
+    return OVERFLOW if max(len(whole), len(fraction)) > LIMIT else Numeral(numeral.sign, whole, fraction)
+
+
+def rounded(numeral: Numeral, precision: Precision, mode: str, integer_digits: int) -> Numeral | str:
+    """The number that is shown of another one, with that many digits before its fraction at least, or why it has too many
+    digits."""
     number, scale = int(numeral.whole + numeral.fraction), len(numeral.fraction)
-    digits, power = step_of(precision, magnitude_of(number, scale))
+    digits, power = (1, -scale) if precision.most == UNLIMITED else step_of(precision, magnitude_of(number, scale))
     below = max(scale, -power)
     step: int = digits * 10**(power + below)
     kept, rest = divmod(number * 10**(below - scale), step)
@@ -66,7 +80,7 @@ def rounded(numeral: Numeral, precision: Precision, mode: str) -> Numeral | str:
     figures = str(size).rjust(below + 1, "0")
     whole, fraction = figures[:len(figures) - below], figures[len(figures) - below:].rstrip("0")
     least = precision.least - 1 - magnitude_of(size, below) if precision.option == SIGNIFICANT else precision.least
-    fraction = fraction.ljust(least, "0")
+    whole, fraction = whole.rjust(integer_digits, "0"), fraction.ljust(least, "0")
     return OVERFLOW if max(len(whole), len(fraction)) > LIMIT else Numeral(numeral.sign, whole, fraction)
 
 

@@ -4,8 +4,8 @@ use crate::streams::Streams;
 use crate::words::{joined, nothing};
 use clap::ArgMatches;
 use locnum_explain::{DigitsBy, Settings, explain_line, explain_lines};
-use number_forms::Form;
 use locnum_lines::{Refusals, Report, RunError, Source, behind_mark};
+use number_forms::Form;
 use std::io::{BufRead, BufReader, ErrorKind, Stdin, Write};
 use std::{env, io};
 

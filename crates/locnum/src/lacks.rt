@@ -6,7 +6,7 @@ use crate::held::{
 use crate::near::push_nearest;
 use icu_dimension_data::CurrencyCode;
 use icu_provider::NumberingSystem;
-use number_forms::{Kind, UnitWidth, Settings, push_reported};
+use number_forms::{Kind, Settings, UnitWidth, push_reported};
 use serde_json::Value;
 use std::alloc::{AllocError, Global};
 

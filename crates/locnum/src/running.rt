@@ -7,9 +7,9 @@ use crate::headings::Heading;
 use crate::streams::Streams;
 use crate::words::run_words;
 use clap::ArgMatches;
-use number_forms::Form;
 use locnum_lines::{FieldRange, LineSettings, Refusals, Report, RunError, run};
 use locnum_options::{Explain, Options};
+use number_forms::Form;
 use std::str;
 
 /// Runs the numbers among the arguments, or else standard input.
@@ -75,14 +75,7 @@ pub(crate) fn run_formed(
         Explain::Nothing => run_given(rt, &mut streams, &mut settings, form, numbers),
         Explain::Lines => explain_given(rt, &mut streams, &explainer, lines, numbers),
         Explain::Fields => {
-            explain_fields(
-                rt,
-                &mut streams,
-                &explainer,
-                &mut settings,
-                lines,
-                numbers,
-            )
+            explain_fields(rt, &mut streams, &explainer, &mut settings, lines, numbers)
         }
     };
     match &ran {

@@ -4,7 +4,7 @@ use crate::faults::push_fault;
 use crate::held::has_locale;
 use crate::lacks::{has_system, push_lacking, push_no_locale, push_no_system};
 use crate::listed::{lines_of, listed_named};
-use number_forms::{Kind, StartError, Settings, push_reported};
+use number_forms::{Kind, Settings, StartError, push_reported};
 use serde_json::Value;
 use std::alloc::{AllocError, Global};
 use std::str;

@@ -2,8 +2,8 @@
 
 use crate::streams::Streams;
 use clap::ArgMatches;
-use number_forms::Form;
 use locnum_lines::{LineSettings, Refusals, Report, RunError, Source, run};
+use number_forms::Form;
 use std::alloc::{AllocError, Global};
 use std::fs;
 

@@ -76,7 +76,11 @@ fn push_shortened(
     ensures { OnOk result (out.new.items ≡ out.old.items
         ++ entry_line formatter.now.table (place (magnitude (size shown.now)))) }
 {
-    push_entry(formatter.patterns(), shown.nonzero_magnitude_start() as i32, out)
+    push_entry(
+        formatter.patterns(),
+        shown.nonzero_magnitude_start() as i32,
+        out,
+    )
 }
 
 /// Appends what is said of a decimal besides its text and its magnitude, by what writes it.

@@ -12,8 +12,8 @@ use crate::gathered::Gathered;
 use crate::line::push_record;
 use crate::records::{is_open_behind, lines_in, state_after, state_behind};
 use crate::settings::LineSettings;
-use number_forms::Form;
 use memchr::memchr_iter;
+use number_forms::Form;
 use std::alloc::{AllocError, Global};
 
 /// Runs a record whose first bytes were held back.

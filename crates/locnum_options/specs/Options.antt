@@ -1,5 +1,5 @@
 -- What the options ask for.
-use Rattle.std.specs.Prelude.{◌≡◌, ℕ, Bool, ◌⊎◌, List, [], ◌∷◌, Option, Some, None, Result, Ok, Err, codes, if◌then◌else◌}
+use Rattle.std.specs.Prelude.{◌≡◌, ℕ, Bool, ◌⊎◌, List, Option, Some, None, Result, Ok, Err, codes, if◌then◌else◌}
 use Rattle.number_forms.specs.Settings.{FormSettings}
 use Rattle.number_skeleton.specs.declared.fault.SkeletonFault.{SkeletonFault}
 use Rattle.skeleton_settings.specs.declared.settings.Skeleton.{Skeleton}

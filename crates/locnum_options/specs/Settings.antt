@@ -27,9 +27,9 @@ use Rattle.locnum_options.specs.declared.given.Given.{Given}
 abbrev pub IsReadOf : Given → Option (Result Skeleton SkeletonFault) → Type 0
 IsReadOf given skeleton = option_map read skeleton ≡ option_map skeleton_of (text_of given (codes "skeleton"))
 
--- no fraction digit is cut off: integer digits are asked for, and no currency says how fine amounts are
-unfoldable pub is_unlimited : Given → Bool
-is_unlimited given = flag_of given (codes "integer") && not (flag_of given (codes "currency"))
+-- no fraction digit is cut off: integer digits are asked for, and neither a currency nor the style says how fine numbers are
+unfoldable pub is_unlimited : Given → Bool → Bool
+is_unlimited given compact = flag_of given (codes "integer") && not (flag_of given (codes "currency")) && not compact
 
 -- how fine numbers are, which an option says first
 abbrev pub precision_or_unlimited : Option Precision → Bool → Option Precision
@@ -47,12 +47,12 @@ number_settings locale given = do
   scale ← scale_given given
   sign ← sign_given (text_of given (codes "sign"))
   kind ← kind_given given
-  mode ← judged_mode given (is_compact_kind kind) mode
+  mode ← judged_mode given (is_compact_kind kind) precision mode
   Ok (record {
     locale = locale;
     system = system;
     grouping = grouping;
-    precision = precision_or_unlimited precision (is_unlimited given);
+    precision = precision_or_unlimited precision (is_unlimited given (is_compact_kind kind));
     mode = mode;
     hides_zeros_of_whole = false;
     integer_digits = integer_digits;

@@ -79,9 +79,12 @@ pub enum OptionFault {
     /// An option of money without a currency, or a width without something that has one.
     #[error("--accounting and --cash want --currency, and --width wants --currency or --unit")]
     Alone,
-    /// Compact numbers are asked for with a rounding or integer digits, which they don't have.
-    #[error("--round, --significant, --increment and --integer: not with --style short or long")]
+    /// Compact amounts are asked for with a rounding or integer digits, which they don't have.
+    #[error("--style short of money: not with --round, --significant, --increment or --integer")]
     CompactRounding,
+    /// Compact numbers are asked for with an increment of which 1 is no multiple.
+    #[error("--increment: not with --style short or long, unless 1 is a multiple of it")]
+    CompactIncrement,
     /// A rounding mode is asked for where nothing is rounded.
     #[error("--round wants --fraction, --significant, --increment or --currency")]
     NothingRounded,

@@ -15,8 +15,8 @@ use crate::names::{Chosen, chosen_given};
 use crate::padding::padding_named;
 use crate::settings::{ReadSkeleton, settings_given, skeleton_read};
 use crate::words::{field_end_given, refusals_given};
-use number_forms::Settings;
 use locnum_lines::{LineSettings, Padding, Source};
+use number_forms::Settings;
 use std::alloc::Global;
 use std::marker::Model;
 

@@ -1,12 +1,13 @@
 //! Which number is taken where a number is rounded, and where nothing is rounded.
 
 ghost use Rattle.std.specs.Prelude.{◌≡◌, option_map};
-ghost use Rattle.locnum_options.specs.Rounding.{half_mode_named, is_compact_kind, is_fine, is_rounded, judged_mode, mode_given, mode_named};
+ghost use Rattle.locnum_options.specs.Rounding.{half_mode_named, is_compact_kind, is_compact_precision, is_fine, is_fine_amount, is_large_increment, is_rounded, judged_mode, mode_given, mode_named};
 
 use crate::fault::OptionFault;
 use crate::given::Given;
 use fixed_decimal::{SignedRoundingMode, UnsignedRoundingMode};
-use number_forms::Kind;
+use number_forms::{Kind, has_compact_increment};
+use skeleton_settings::Precision;
 
 /// The mode of a word that begins with `half-`.
 #[tactic(auto, unfolding(crate::specs::Rounding::half_mode_named))]
@@ -71,31 +72,63 @@ fn is_fine(given: &Given) -> bool
         || given.flag("integer")
 }
 
-/// Whether numbers are rounded: an option says how fine they are, or a currency does.
-#[tactic(auto, unfolding(crate::specs::Rounding::is_rounded))]
-fn is_rounded(given: &Given) -> bool
-    ensures { result ≡ is_rounded given.now }
+/// Whether compact numbers have this increment: 1 is a multiple of it.
+fn is_compact_precision(precision: &Option<Precision>) -> bool
+    ensures { result ≡ is_compact_precision precision.now }
 {
-    given.flag("fraction")
+    match precision {
+        Some(precision) => has_compact_increment(precision),
+        None => true,
+    }
+}
+
+/// Whether numbers are rounded: they are compact, an option says how fine they are, or a currency
+/// does.
+#[tactic(auto, unfolding(crate::specs::Rounding::is_rounded))]
+fn is_rounded(given: &Given, compact: bool) -> bool
+    ensures { result ≡ is_rounded given.now compact }
+{
+    compact
+        || given.flag("fraction")
         || given.flag("significant")
         || given.flag("increment")
         || given.flag("currency")
 }
 
-/// A mode, unless a rounding is asked for that compact numbers don't have, or a mode where nothing is
-/// rounded.
+/// Whether compact amounts are asked for with a rounding or integer digits, which they don't have.
+#[tactic(auto, unfolding(crate::specs::Rounding::is_fine_amount))]
+fn is_fine_amount(given: &Given, compact: bool) -> bool
+    ensures { result ≡ is_fine_amount given.now compact }
+{
+    compact && given.flag("currency") && is_fine(given)
+}
+
+/// Whether compact numbers are asked for with an increment that they don't have.
+#[tactic(auto, unfolding(crate::specs::Rounding::is_large_increment))]
+fn is_large_increment(compact: bool, precision: &Option<Precision>) -> bool
+    ensures { result ≡ is_large_increment compact precision.now }
+{
+    compact && !is_compact_precision(precision)
+}
+
+/// A mode, unless a rounding is asked for that compact amounts don't have, an increment that compact
+/// numbers don't have, or a mode where nothing is rounded.
 #[tactic(auto, unfolding(crate::specs::Rounding::judged_mode))]
 pub(crate) fn judged_mode(
     given: &Given,
     compact: bool,
+    precision: &Option<Precision>,
     mode: SignedRoundingMode,
 ) -> Result<SignedRoundingMode, OptionFault>
-    ensures { result ≡ judged_mode given.now compact mode }
+    ensures { result ≡ judged_mode given.now compact precision.now mode }
 {
-    if compact && is_fine(given) {
+    if is_fine_amount(given, compact) {
         return Err(OptionFault::CompactRounding);
     }
-    if given.flag("round") && !is_rounded(given) {
+    if is_large_increment(compact, precision) {
+        return Err(OptionFault::CompactIncrement);
+    }
+    if given.flag("round") && !is_rounded(given, compact) {
         return Err(OptionFault::NothingRounded);
     }
     Ok(mode)

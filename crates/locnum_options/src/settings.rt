@@ -30,13 +30,13 @@ pub(crate) fn skeleton_read<'a>(given: &Given<'a>) -> Option<ReadSkeleton<'a>>
     Some(read_skeleton(text))
 }
 
-/// Whether no fraction digit is cut off, since integer digits are asked for, and no currency says
-/// how fine amounts are.
+/// Whether no fraction digit is cut off, since integer digits are asked for, and neither a currency
+/// nor the style says how fine numbers are.
 #[tactic(auto, unfolding(crate::specs::Settings::is_unlimited))]
-fn is_unlimited(given: &Given) -> bool
-    ensures { result ≡ is_unlimited given.now }
+fn is_unlimited(given: &Given, compact: bool) -> bool
+    ensures { result ≡ is_unlimited given.now compact }
 {
-    given.flag("integer") && !given.flag("currency")
+    given.flag("integer") && !given.flag("currency") && !compact
 }
 
 /// How fine numbers are, which an option says first.
@@ -72,12 +72,13 @@ fn number_settings<'a>(
         Ok(kind) => kind,
         Err(fault) => return Err(fault),
     };
-    let mode = judged_mode(given, is_compact_kind(&kind), mode)?;
+    let compact = is_compact_kind(&kind);
+    let mode = judged_mode(given, compact, &precision, mode)?;
     Ok(Settings {
         locale,
         system,
         grouping,
-        precision: precision_or_unlimited(precision, is_unlimited(given)),
+        precision: precision_or_unlimited(precision, is_unlimited(given, compact)),
         mode,
         hides_zeros_of_whole: false,
         integer_digits,

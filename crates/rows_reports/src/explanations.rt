@@ -4,8 +4,8 @@ use crate::CallResult;
 use crate::bytes::{appended, bytes_of};
 use crate::words::texts_of;
 use locnum_explain::{DigitsBy, Settings, explain, explain_at, explain_line, explain_lines};
-use number_forms::Form;
 use locnum_options::Given;
+use number_forms::Form;
 use std::alloc::{AllocError, Global};
 
 /// What is explained: a text, that of a line, those of lines up to one that is rejected or all of

@@ -3,9 +3,9 @@
 use crate::CallResult;
 use decimal_lines::{TablesFault, TextError};
 use icu_tables::TableError;
+use locnum_options::{NumberOption, OptionFault};
 use number_forms::{StartError, Unsupported};
 use number_skeleton::read_skeleton;
-use locnum_options::{NumberOption, OptionFault};
 use std::alloc::{AllocError, Global};
 
 /// The names of an error of tables, of the key and of the fault.
@@ -122,6 +122,7 @@ fn option_fault(name: &str) -> Option<OptionFault> {
         "ShortMoney" => Some(OptionFault::ShortMoney),
         "Together" => Some(OptionFault::Together),
         "CompactRounding" => Some(OptionFault::CompactRounding),
+        "CompactIncrement" => Some(OptionFault::CompactIncrement),
         "NothingRounded" => Some(OptionFault::NothingRounded),
         "Explained" => Some(OptionFault::Explained),
         "Fields" => Some(OptionFault::Fields),

@@ -9,8 +9,8 @@ use crate::words::{Pair, file_of, given, options_of};
 use crate::{CallResult, lines, parts, records};
 use decimal_lines::Mode;
 use fixed_decimal::{Decimal, Sign};
-use number_forms::{Form, Formatter, Settings};
 use locnum_lines::LineSettings;
+use number_forms::{Form, Formatter, Settings};
 use rows::Documents;
 use std::alloc::{AllocError, Global};
 

@@ -3,8 +3,8 @@
 use crate::CallResult;
 use crate::bytes::{push_behind, push_text, text_if};
 use crate::counts::at_once;
-use number_forms::Form;
 use locnum_lines::{LineSettings, Report, RunError, run};
+use number_forms::Form;
 use rows::SlowReader;
 use std::alloc::{AllocError, Global};
 

@@ -6,9 +6,9 @@ use crate::faults::no_options;
 use crate::words::{Pair, environment_of, given};
 use fixed_decimal::{SignedRoundingMode, UnsignedRoundingMode};
 use icu_decimal::options::GroupingStrategy;
-use number_forms::{Kind, Settings};
 use locnum_lines::{Delimiter, FieldRange, LineSettings, Padding, Source};
 use locnum_options::{Given, OptionFault, Options, parse_options};
+use number_forms::{Kind, Settings};
 use skeleton_settings::Precision;
 use std::alloc::{AllocError, Global};
 
@@ -95,7 +95,14 @@ fn precision_text(alloc: Global, precision: Precision) -> Result<String, AllocEr
             Ok(text)
         }
         Precision::Currency { is_cash } => {
-            String::from_str(alloc, if is_cash { " digits of cash" } else { " digits of money" })
+            String::from_str(
+                alloc,
+                if is_cash {
+                    " digits of cash"
+                } else {
+                    " digits of money"
+                },
+            )
         }
     }
 }
@@ -125,7 +132,11 @@ fn push_mode(alloc: Global, mode: SignedRoundingMode, text: &mut String) -> Resu
 
 /// Appends whether whole numbers have no fraction digits, how many digits stand before them at least,
 /// and the power of ten by which numbers are multiplied, as far as each isn't the default.
-fn push_digits(alloc: Global, settings: &Settings<'_>, text: &mut String) -> Result<(), AllocError> {
+fn push_digits(
+    alloc: Global,
+    settings: &Settings<'_>,
+    text: &mut String,
+) -> Result<(), AllocError> {
     text.push_str(text_if(settings.hides_zeros_of_whole, " whole"))?;
     if settings.integer_digits != 1 {
         let integer = format!(in alloc; " integer {}", settings.integer_digits)?;

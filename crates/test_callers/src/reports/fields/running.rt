@@ -4,8 +4,8 @@
 use crate::reports::slow::{Full, SlowWriter};
 use fixed_decimal::{SignDisplay, SignedRoundingMode, UnsignedRoundingMode};
 use icu_provider::DataLocale;
-use number_forms::{Form, Kind, StartError, Settings};
 use locnum_lines::{Delimiter, FieldRange, LineSettings, Refusals, Report, RunError, Source, run};
+use number_forms::{Form, Kind, Settings, StartError};
 use rows::SlowReader;
 use std::alloc::{AllocError, Global};
 
@@ -41,6 +41,7 @@ fn english(alloc: Global) -> Result<Form, StartError> {
         mode: SignedRoundingMode::Unsigned(UnsignedRoundingMode::HalfEven),
         hides_zeros_of_whole: false,
         integer_digits: 1,
+        scale: 0,
         sign: SignDisplay::Auto,
         kind: Kind::Plain,
     };
