@@ -1,4 +1,5 @@
-/* Lines of decimals to lines of text, in the form of a locale: the formatter of the program decfmt as a library.
+/* Lines of decimals to lines of text, in the form of a locale: numbers as the program decfmt writes them, and, by number
+ * skeletons, numbers, money, percents and units.
  *
  * The input is lines of decimals, the output has one line for each: the decimal as the locale writes it, or one of
  * "error: not a decimal", "error: too many digits" and "error: overflow". Where a text of the tables has a line feed, so
@@ -38,7 +39,8 @@ enum {
     TALMUIGA_OUTPUT_TOO_SMALL = 5, /* the output is longer than there is room */
     TALMUIGA_NOT_DECIMAL = 6,      /* the text of one number isn't a decimal */
     TALMUIGA_TOO_MANY_DIGITS = 7,  /* it has a digit at a power of ten past the limits */
-    TALMUIGA_OVERFLOW = 8          /* its nearest compact number is ten to the power 32768 or more */
+    TALMUIGA_OVERFLOW = 8,         /* the number to show for it has a digit at a power of ten past the limits */
+    TALMUIGA_SKELETON_REFUSED = 9  /* the skeleton has a fault */
 };
 
 /* Formats the lines of the input in plain English, as 1,234.5.
@@ -134,7 +136,12 @@ enum {
     TALMUIGA_PART_INTEGER = 3, /* with the separators of its groups, each of which is a part too */
     TALMUIGA_PART_FRACTION = 4,
     TALMUIGA_PART_GROUP = 5,
-    TALMUIGA_PART_DECIMAL = 6 /* the separator of integer and fraction */
+    TALMUIGA_PART_DECIMAL = 6,        /* the separator of integer and fraction */
+    TALMUIGA_PART_CURRENCY = 7,       /* the symbol or the name of a currency */
+    TALMUIGA_PART_PERCENT_SIGN = 8,
+    TALMUIGA_PART_PER_MILLE_SIGN = 9, /* no part in this version */
+    TALMUIGA_PART_UNIT = 10,          /* the name of a unit */
+    TALMUIGA_PART_COMPACT = 11        /* no part in this version */
 };
 
 /* Where a part stands. */
@@ -143,6 +150,30 @@ typedef struct talmuiga_span {
     size_t end;    /* the byte behind its last one */
     uint32_t part; /* one of TALMUIGA_PART_MINUS_SIGN and so on */
 } talmuiga_span;
+
+/* What is wrong with a number skeleton. */
+typedef struct talmuiga_fault {
+    size_t byte;    /* where, in bytes of the skeleton; 0 with TALMUIGA_FAULT_UNSUPPORTED */
+    uint32_t kind;  /* one of TALMUIGA_FAULT_NOT_UTF8 and so on; 0 where nothing is wrong */
+    uint32_t thing; /* with some kinds which setting, or what isn't read; talmuiga_fault_text has it in words; else 0 */
+} talmuiga_fault;
+
+/* The kinds of faults, and where the byte of each stands. */
+enum {
+    TALMUIGA_FAULT_NONE = 0,
+    TALMUIGA_FAULT_NOT_UTF8 = 1,              /* the first byte that isn't UTF-8 */
+    TALMUIGA_FAULT_UNKNOWN_STEM = 2,          /* the stem */
+    TALMUIGA_FAULT_LEFT_OUT = 3,              /* ICU reads it and this library doesn't; the stem, or the option */
+    TALMUIGA_FAULT_REPEATED = 4,              /* it is set already; the stem */
+    TALMUIGA_FAULT_TOO_MANY_DIGITS = 5,       /* a count is past 999; the stem, or the option */
+    TALMUIGA_FAULT_NO_OPTION_HERE = 6,        /* the slash */
+    TALMUIGA_FAULT_STRAY_SLASH = 7,           /* a token begins with a slash; the slash */
+    TALMUIGA_FAULT_EMPTY_OPTION = 8,          /* behind the slash */
+    TALMUIGA_FAULT_BAD_OPTION = 9,            /* the option */
+    TALMUIGA_FAULT_OPTION_MISSING = 10,       /* behind the stem */
+    TALMUIGA_FAULT_INCREMENT_OF_COMPACT = 11, /* compact notation, and 1 is no multiple of the increment; the increment */
+    TALMUIGA_FAULT_UNSUPPORTED = 12           /* a skeleton, but no formatter of this version has what it asks for */
+};
 
 /* How many bytes of room a formatter needs, at an address that 16 divides. */
 size_t talmuiga_formatter_room(void);
@@ -161,6 +192,31 @@ uint32_t talmuiga_formatter_open_sized(const uint8_t *tables, size_t tables_len,
                                        size_t locale_len, const uint8_t *system, size_t system_len,
                                        const uint8_t *style, size_t style_len, const uint8_t *grouping,
                                        size_t grouping_len, talmuiga_formatter *formatter);
+
+/* Opens a formatter by tables, a locale and a number skeleton, as "currency/EUR" or "compact-short" (ICU's user guide
+ * describes number skeletons; docs/FORMATS.md and the page of crates/number_skeleton say which are read). A formatter is the
+ * same, however it was opened: the functions below take it in the same way.
+ *
+ * The locale is judged first, with TALMUIGA_WORDS_REFUSED; then the skeleton, with TALMUIGA_SKELETON_REFUSED, and *fault says
+ * what is wrong with it; then the tables, as by talmuiga_formatter_open_sized. With each status but
+ * TALMUIGA_SKELETON_REFUSED *fault is zeros. TALMUIGA_OUT_OF_MEMORY doesn't come in place of the first two.
+ *
+ * The caller owes what it owes of talmuiga_formatter_open_sized, and that *fault overlaps nothing else of the call. The bytes
+ * of the skeleton aren't needed once the call has ended. */
+uint32_t talmuiga_formatter_open_skeleton_sized(const uint8_t *tables, size_t tables_len, const uint8_t *locale,
+                                                size_t locale_len, const uint8_t *skeleton, size_t skeleton_len,
+                                                talmuiga_fault *fault, talmuiga_formatter *formatter);
+
+/* Writes the canonical text of a number skeleton: long stems in one order, without what is set by default. Two skeletons have
+ * the same settings exactly if they have the same canonical text.
+ *
+ * With TALMUIGA_DONE the first *length bytes of the output are the text. With TALMUIGA_OUTPUT_TOO_SMALL the output is as it
+ * was, and *length says how long the text is. With TALMUIGA_SKELETON_REFUSED *fault says what is wrong; whether formatters
+ * have what the skeleton asks for isn't judged. With that and with TALMUIGA_OUT_OF_MEMORY the output is as it was and *length
+ * is 0. *fault is zeros with each other status. No other status comes. The caller owes what it owes of
+ * talmuiga_format_english_sized, and that *fault overlaps nothing else of the call. */
+uint32_t talmuiga_skeleton_canonical_sized(const uint8_t *skeleton, size_t skeleton_len, uint8_t *output,
+                                           size_t output_len, size_t *length, talmuiga_fault *fault);
 
 /* Formats as many lines of the input as have room, and tells how far that is.
  *
@@ -225,8 +281,53 @@ static inline const char *talmuiga_status_text(uint32_t status) {
         case TALMUIGA_NOT_DECIMAL: return "not a decimal";
         case TALMUIGA_TOO_MANY_DIGITS: return "too many digits";
         case TALMUIGA_OVERFLOW: return "overflow";
+        case TALMUIGA_SKELETON_REFUSED: return "skeleton refused";
         default: return "no such status";
     }
+}
+
+/* A fault in words, without its byte: "left out: scientific". Words are for people; another version may have others. */
+static inline const char *talmuiga_fault_text(const talmuiga_fault *fault) {
+    static const char *const kinds[] = {
+        "no fault", "not UTF-8", "unknown stem", "left out", "set twice", "more than 999 digits", "no option is taken here",
+        "slash without a stem", "empty option", "unknown option", "option missing",
+        "increment of which 1 is no multiple, in compact notation", "not supported"};
+    static const char *const left_out[] = {
+        "left out", "left out: scientific", "left out: engineering", "left out: decimal-always", "left out: measure-unit",
+        "left out: per-measure-unit", "left out: usage", "left out: unit-width-formal", "left out: unit-width-variant",
+        "left out: rounding-mode-half-odd", "left out: rounding-mode-unnecessary",
+        "left out: integer digits that are cut off", "left out: integer width of no digit",
+        "left out: scale by a number that is no power of ten",
+        "left out: increment that isn't 1, 2, 5 or 25 times a power of ten"};
+    static const char *const repeated[] = {
+        "set twice", "set twice: notation", "set twice: unit", "set twice: unit width", "set twice: precision",
+        "set twice: rounding mode", "set twice: integer width", "set twice: scale", "set twice: grouping",
+        "set twice: numbering system", "set twice: sign", "set twice: decimal separator"};
+    static const char *const unsupported[] = {
+        "not supported", "not supported: group-on-aligned", "not supported: group-thousands",
+        "not supported: numbering-system", "not supported: permille", "not supported: percent with unit-width-full-name",
+        "not supported: currency", "not supported: currency with unit-width-iso-code",
+        "not supported: currency with unit-width-hidden", "not supported: percent in compact notation",
+        "not supported: currency in compact notation with a width or in accounting",
+        "not supported: digits of a currency in compact notation", "not supported: unit in compact notation"};
+    const char *const *texts = kinds;
+    size_t count = sizeof kinds / sizeof *kinds, at = fault->kind;
+    switch (fault->kind) {
+        case TALMUIGA_FAULT_LEFT_OUT: texts = left_out, count = sizeof left_out / sizeof *left_out; break;
+        case TALMUIGA_FAULT_REPEATED: texts = repeated, count = sizeof repeated / sizeof *repeated; break;
+        case TALMUIGA_FAULT_UNSUPPORTED: texts = unsupported, count = sizeof unsupported / sizeof *unsupported; break;
+        default: return at < count ? kinds[at] : "no such fault";
+    }
+    return texts[fault->thing < count ? fault->thing : 0];
+}
+
+/* talmuiga_skeleton_canonical_sized, where a pointer with length 0 may be null, the output may be longer than PTRDIFF_MAX, and
+ * the fault may be null. */
+static inline uint32_t talmuiga_skeleton_canonical(const char *skeleton, size_t skeleton_len, char *output,
+                                                   size_t output_len, size_t *length, talmuiga_fault *fault) {
+    talmuiga_fault unseen;
+    return talmuiga_skeleton_canonical_sized(talmuiga_bytes(skeleton), skeleton_len, talmuiga_room(output),
+                                             talmuiga_room_len(output_len), length, fault ? fault : &unseen);
 }
 
 /* talmuiga_tables_fault_sized, where a pointer with length 0 may be null, and the output may be longer than PTRDIFF_MAX. */
@@ -280,6 +381,26 @@ static inline uint32_t talmuiga_formatter_open(const char *tables, size_t tables
     return talmuiga_formatter_opened(made, status, formatter);
 }
 
+/* The same by tables, a locale and a number skeleton, whose statuses are those of talmuiga_formatter_open_skeleton_sized. The
+ * locale ends in a NUL. The skeleton has a length, and a pointer with length 0 may be null. The fault may be null; where memory
+ * for the formatter isn't found, it is zeros. */
+static inline uint32_t talmuiga_formatter_open_skeleton(const char *tables, size_t tables_len, const char *locale,
+                                                        const char *skeleton, size_t skeleton_len,
+                                                        talmuiga_fault *fault, talmuiga_formatter **formatter) {
+    talmuiga_formatter *made = talmuiga_formatter_new();
+    talmuiga_fault found = {0, 0, 0};
+    uint32_t status = TALMUIGA_OUT_OF_MEMORY;
+    if (made) {
+        status = talmuiga_formatter_open_skeleton_sized(talmuiga_bytes(tables), tables_len, talmuiga_bytes(locale),
+                                                        locale ? strlen(locale) : 0, talmuiga_bytes(skeleton),
+                                                        skeleton_len, &found, made);
+    }
+    if (fault) {
+        *fault = found;
+    }
+    return talmuiga_formatter_opened(made, status, formatter);
+}
+
 /* talmuiga_formatter_format_sized, where a pointer with length 0 may be null, and the output may be longer than
  * PTRDIFF_MAX. Any number of threads may format with one formatter at once. */
 static inline uint32_t talmuiga_formatter_format(const talmuiga_formatter *formatter, const char *input,
@@ -311,8 +432,8 @@ static inline uint32_t talmuiga_formatter_parts(const talmuiga_formatter *format
                                           spans_len < most ? spans_len : most, count);
 }
 
-/* Closes and frees a formatter that was made by talmuiga_formatter_open or talmuiga_formatter_open_english; null is
- * closed already. */
+/* Closes and frees a formatter that was made by talmuiga_formatter_open, talmuiga_formatter_open_skeleton or
+ * talmuiga_formatter_open_english; null is closed already. */
 static inline void talmuiga_formatter_close(talmuiga_formatter *formatter) {
     if (formatter) {
         talmuiga_formatter_close_sized(formatter);

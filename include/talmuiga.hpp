@@ -1,4 +1,7 @@
-/* Formatters of talmuiga.h for C++17: closed by their destructor, texts by std::string_view, refusals as exceptions. */
+/* Formatters of talmuiga.h for C++17: closed by their destructor, texts by std::string_view, refusals as exceptions.
+ *
+ *     talmuiga::formatter prices(tables, "de", talmuiga::skeleton{"currency/EUR"});
+ *     prices("1234567.5");  // 1.234.567,50 € */
 #ifndef TALMUIGA_HPP
 #define TALMUIGA_HPP
 
@@ -16,12 +19,49 @@ namespace talmuiga {
 /* What a call refuses; want of memory is std::bad_alloc. */
 class refused : public std::runtime_error {
 public:
-    explicit refused(std::uint32_t status) : std::runtime_error(talmuiga_status_text(status)), status_(status) {}
+    explicit refused(std::uint32_t status) : refused(status, talmuiga_status_text(status)) {}
     std::uint32_t status() const noexcept { return status_; }
+
+protected:
+    refused(std::uint32_t status, const char *words) : std::runtime_error(words), status_(status) {}
 
 private:
     std::uint32_t status_;
 };
+
+/* A number skeleton with a fault: what() has the fault in words, kind() is one of TALMUIGA_FAULT_NOT_UTF8 and so on, and byte()
+ * is where it stands. */
+class skeleton_refused : public refused {
+public:
+    explicit skeleton_refused(const talmuiga_fault &fault)
+        : refused(TALMUIGA_SKELETON_REFUSED, talmuiga_fault_text(&fault)), fault_(fault) {}
+    std::uint32_t kind() const noexcept { return fault_.kind; }
+    std::size_t byte() const noexcept { return fault_.byte; }
+
+private:
+    talmuiga_fault fault_;
+};
+
+/* The text of a number skeleton, as "currency/EUR" or "compact-short". */
+struct skeleton {
+    std::string_view text;
+};
+
+/* The canonical text of a skeleton. */
+inline std::string canonical(skeleton asked) {
+    std::string text(asked.text.size() * 2 + 64, '\0');
+    for (;;) {
+        const std::size_t room = text.size();
+        std::size_t length;
+        talmuiga_fault fault;
+        std::uint32_t status =
+            talmuiga_skeleton_canonical(asked.text.data(), asked.text.size(), text.data(), room, &length, &fault);
+        if (status == TALMUIGA_OUT_OF_MEMORY) throw std::bad_alloc();
+        if (status == TALMUIGA_SKELETON_REFUSED) throw skeleton_refused(fault);
+        text.resize(length);
+        if (length <= room) return text;
+    }
+}
 
 /* Why tables are refused, in words for people; nothing where they are accepted. */
 inline std::string tables_fault(std::string_view tables) {
@@ -60,6 +100,20 @@ public:
                                       grouping.c_str(), &made));
         held_.reset(made);
     }
+
+    /* By tables, a locale and a number skeleton. */
+    formatter(std::string_view tables, const std::string &locale, skeleton asked) {
+        talmuiga_formatter *made;
+        talmuiga_fault fault;
+        std::uint32_t status = talmuiga_formatter_open_skeleton(tables.data(), tables.size(), locale.c_str(), asked.text.data(),
+                                                                asked.text.size(), &fault, &made);
+        if (status == TALMUIGA_SKELETON_REFUSED) throw skeleton_refused(fault);
+        judge(status);
+        held_.reset(made);
+    }
+
+    /* The text of one number. */
+    std::string operator()(std::string_view number) const { return one(number); }
 
     /* The text of one number. */
     std::string one(std::string_view number) const {

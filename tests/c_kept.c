@@ -1,6 +1,7 @@
 /* Formatters that are kept, by the tables of the first word, the words behind it, the file of lines behind these and the file
- * of what decfmt answers: in rooms of each length, piece by piece, number by number and with each number's parts, in eight
- * threads at once, opened and closed ten thousand times, refused and null. */
+ * of what decfmt answers; if the system is `skeleton`, the style is a number skeleton. In rooms of each length, piece by
+ * piece, number by number and with each number's parts, in eight threads at once, opened and closed ten thousand times, refused
+ * and null. */
 #include "talmuiga.h"
 
 #include <malloc.h>
@@ -132,14 +133,19 @@ static size_t in_use(void) {
     return mallinfo2().uordblks;
 }
 
+/* Opens a formatter by the words. */
+static uint32_t opened_by(char **words, talmuiga_formatter **formatter) {
+    if (strcmp(words[1], "skeleton") == 0)
+        return talmuiga_formatter_open_skeleton(tables.bytes, tables.len, words[0], words[2], strlen(words[2]), NULL, formatter);
+    return talmuiga_formatter_open(tables.bytes, tables.len, words[0], words[1], words[2], words[3], formatter);
+}
+
 static void opened_and_closed(char **words) {
     size_t before = 0;
     for (size_t i = 0; i < TIMES; i++) {
         talmuiga_formatter *formatter;
         /* the tables are read a hundred times, English is made the other times */
-        uint32_t status = i % 100 ? talmuiga_formatter_open_english(&formatter)
-                                  : talmuiga_formatter_open(tables.bytes, tables.len, words[0], words[1], words[2], words[3],
-                                                            &formatter);
+        uint32_t status = i % 100 ? talmuiga_formatter_open_english(&formatter) : opened_by(words, &formatter);
         if (status || !formatter) {
             tell("not opened", i);
             return;
@@ -162,11 +168,14 @@ int main(int count, char **words) {
         return fputs("c_kept: TABLES LOCALE SYSTEM STYLE GROUPING LINES WANTED\n", stderr), 2;
     }
     talmuiga_formatter *formatter;
-    uint32_t status = talmuiga_formatter_open(tables.bytes, tables.len, words[2], words[3], words[4], words[5], &formatter);
+    uint32_t status = opened_by(words + 2, &formatter);
     if (status) return fprintf(stderr, "c_kept: %s\n", talmuiga_status_text(status)), 1;
+    size_t before = 0;
     for (size_t room = 0; room < ROOMS; room++) {
         if (!answers_in(formatter, room)) tell("another output in a room", room);
+        if (room == 0) before = in_use();
     }
+    if (in_use() > before + 4096) tell("memory grew over the lines by", in_use() - before);
     if (!answers_in(formatter, MOST)) tell("another output in a room", MOST);
     if (!numbers_alone(formatter)) tell("another number", 0);
     shared = formatter;

@@ -31,15 +31,15 @@ is_there() {
 
 # The archive over the libraries that `rt ci` has proved, as that calls the compiler for a program.
 build_after_ci() {
-    local library words=()
+    local library name words=()
     for library in "$root"/crates/*/out/rlib; do
         words+=(-L "dependency=$library")
     done
+    for name in decimal_lines icu_provider icu_table_entries icu_tables number_forms number_skeleton skeleton_settings writeable; do
+        words+=(--extern "$name=$root/crates/$name/out/rlib/$name.rlib")
+    done
     (cd crates/talmuiga_c && "$kit/bin/rattle" build --crate-name talmuiga_c src/lib.rt --crate-type staticlib \
-        --extern "std=$kit/rlibs/std.rlib" --extern "decimal_lines=$root/crates/decimal_lines/out/rlib/decimal_lines.rlib" \
-        --extern "icu_table_entries=$root/crates/icu_table_entries/out/rlib/icu_table_entries.rlib" \
-        --extern "icu_tables=$root/crates/icu_tables/out/rlib/icu_tables.rlib" \
-        --extern "writeable=$root/crates/writeable/out/rlib/writeable.rlib" \
+        --extern "std=$kit/rlibs/std.rlib" --extern "memchr=$kit/rlibs/memchr.rlib" \
         -L "dependency=$kit/rlibs" "${words[@]}" --antt-project "$kit/rattle/logic/antt-project.json" \
         --logic-built "$kit/logic_built" --toolchain "$kit/toolchain" --backend llvm -o "$archive")
 }
@@ -242,14 +242,21 @@ random_lines() {
     }'
 }
 
-# kept WORD..: formatters that are kept, in rooms of each length, beside decfmt; and, of the first lines, with sanitizers.
+# kept WORD..: formatters that are kept, in rooms of each length, beside decfmt; and, of the first lines, with sanitizers. A
+# fifth word is a skeleton, by which the formatter is opened; decfmt then gets numbers without plus, as the skeleton has them.
 kept() {
-    local name=$*
+    local name=$* skeleton=${5:-} words=("${@:1:4}")
+    [ "${4:-}" ] || words=("${@:1:3}")
     head -n 500 "$folder/random" >"$folder/few"
     for part in random few; do
-        crates/decfmt/out/decfmt "$sample" "$@" <"$folder/$part" >"$folder/$part.wanted"
+        if [ "$skeleton" ]; then
+            sed 's/^+\([0-9]\|\.[0-9]\)/\1/' "$folder/$part"
+        else
+            cat "$folder/$part"
+        fi | crates/decfmt/out/decfmt "$sample" "${words[@]}" >"$folder/$part.wanted"
     done
-    [ $# -lt 4 ] && set -- "$@" ''
+    set -- "$1" "$2" "$3" "${4:-}"
+    [ "$skeleton" ] && set -- "$1" skeleton "$skeleton" ''
     judge "C: kept formatters by $name" "$folder/kept" "$sample" "$@" "$folder/random" "$folder/random.wanted"
     judge "C: kept formatters by $name, with sanitizers" \
         "$folder/kept_sanitized" "$sample" "$@" "$folder/few" "$folder/few.wanted"
@@ -303,6 +310,7 @@ if is_there "${compiler[0]}"; then
         kept en - plain
         kept en - short
         kept bn - plain always
+        kept en - short '' compact-short
     else
         skipped "there is no crates/decfmt/out/decfmt: 'rt run' in crates/decfmt builds it"
     fi
@@ -312,6 +320,9 @@ if is_there "${compiler[0]}"; then
     judge 'C: parts of a number' "$folder/parts" "$sample"
     builds rows tests/c_rows.c "$folder/libtalmuiga.a" -O1 -g -fsanitize=address,undefined
     judge 'C: rows of single calls' "$folder/rows"
+    builds skeletons tests/c_skeletons.c "$folder/libtalmuiga.a" -O1 -g -fsanitize=address,undefined
+    judge 'C: rows of skeletons' "$folder/skeletons" tables/six_locales.json tables/english.json \
+        crates/rows_reports/data/numbers.json
     judge 'C: what the shared object exports' same '' \
         "$(nm -D --defined-only "$folder/libtalmuiga.so.0" | awk '{print $3}' | grep -v '^talmuiga_')"
     if [ -x crates/decfmt/out/decfmt ] && [ -x crates/locnum/out/locnum ]; then
@@ -323,7 +334,8 @@ if is_there "${compiler[0]}"; then
     builds c_refused tests/c_refused.c "$folder/libtalmuiga.a"
     "${compiler[@]}" -O2 -shared -fPIC -o "$folder/refuse.so" tests/refuse_nth.c -ldl
     judge 'C: each allocation finds no memory in turn' same '0 out of memory' "$(out_of_memory)"
-    shown c '#include "talmuiga.h"\n#include <stdio.h>\nint main(void) {' >"$folder/readme.c"
+    shown c '#include "talmuiga.h"\n#include <stdio.h>\nint main(void) {\nstatic char tables[65536];
+        size_t tables_len = fread(tables, 1, sizeof tables, fopen("tables/six_locales.json", "rb"));' >"$folder/readme.c"
     "${compiler[@]}" -Iinclude "$folder/readme.c" "$folder/libtalmuiga.a" -o "$folder/readme"
     judge 'C: as README.md and docs/LIBRARY.md show' same $'1,000,007\n-987,654.321\n1,000,007\n-987,654.321' "$("$folder/readme" 2>&1)"
     builds header tests/c_header.c
@@ -342,15 +354,15 @@ if is_there "${cpp_compiler[0]}"; then
         std::stringstream read;\nread << std::ifstream("tables/six_locales.json").rdbuf();\nconst std::string tables = read.str();' \
         >"$folder/readme.cpp"
     "${cpp_compiler[@]}" -std=c++17 -Iinclude "$folder/readme.cpp" "$folder/libtalmuiga.a" -o "$folder/readme_cpp"
-    judge 'C++: as README.md and docs/LIBRARY.md show' same $'1.234.567,8\n1.234.567,8' "$("$folder/readme_cpp" 2>&1)"
-    judge 'C++: formatters that are kept' "$folder/cpp_kept" "$sample"
+    judge 'C++: as README.md and docs/LIBRARY.md show' same $'1.234.567,8\n1.234.567,8\n1,2\u00a0Mio.\u00a0€' "$("$folder/readme_cpp" 2>&1)"
+    judge 'C++: formatters that are kept' "$folder/cpp_kept" "$sample" tables/six_locales.json
 else
     skipped "there is no C++ compiler ${cpp_compiler[0]}"
 fi
 
-# in_sql WANTED TEXT: what the sqlite3 command answers with the extension.
+# in_sql WANTED TEXT [TABLES]: what the sqlite3 command answers with the extension.
 in_sql() {
-    judge "SQL: $2" same "$1" "$(TALMUIGA_TABLES=$sample sqlite3 -batch -cmd ".load $folder/talmuiga_sqlite" :memory: "$2" 2>&1)"
+    judge "SQL: $2" same "$1" "$(TALMUIGA_TABLES=${3:-$sample} sqlite3 -batch -cmd ".load $folder/talmuiga_sqlite" :memory: "$2" 2>&1)"
 }
 
 if is_there sqlite3 && [ -e /usr/include/sqlite3ext.h ]; then
@@ -362,6 +374,20 @@ if is_there sqlite3 && [ -e /usr/include/sqlite3ext.h ]; then
     in_sql 'Error: stepping, not a decimal' "SELECT decfmt('x', 'en')"
     in_sql 'Error: stepping, no data' "SELECT decfmt(5, 'xx')"
     in_sql 'Error: stepping, words refused' "SELECT decfmt(5, 'en', 'tall')"
+    in_sql $'1.650,00\u00a0€\n\n-0,50\u00a0€' "CREATE TABLE sales(price); INSERT INTO sales VALUES(1650),(NULL),(-0.5);
+        SELECT number_format(price, 'de', 'currency/EUR') FROM sales" tables/six_locales.json
+    in_sql $'12,3\u00a0%|1,2\u00a0Mio.\u00a0€|12' "SELECT number_format(0.12345, 'de', '%x100 .0'),
+        number_format(1234567.5, 'de', 'K currency/EUR'), number_format(12, 'de', '')" tables/six_locales.json
+    in_sql 'Error: stepping, skeleton: unknown stem, byte 8' "SELECT number_format(5, 'de', 'percent foo')"
+    in_sql 'Error: stepping, skeleton: left out: scientific, byte 0' "SELECT number_format(5, 'de', 'scientific')"
+    in_sql 'Error: stepping, skeleton: not supported: permille' "SELECT number_format(5, 'de', 'permille')"
+    in_sql 'Error: stepping, not a decimal' "SELECT number_format('x', 'de', 'currency/EUR')" tables/six_locales.json
+    in_sql 'Error: stepping, no data' "SELECT number_format(5, 'de', 'currency/USD')" tables/six_locales.json
+    in_sql $'100\n100' "WITH RECURSIVE n(i) AS (SELECT 1 UNION ALL SELECT i + 1 FROM n WHERE i < 100)
+        SELECT count(*) FROM n
+        WHERE length(number_format(7, 'de', 'group-off integer-width/*' || printf('%.*c', i, '0'))) = i
+        UNION ALL SELECT count(*) FROM n
+        WHERE length(number_format(7, 'de', 'group-off integer-width/*' || printf('%.*c', i, '0'))) = i" tables/six_locales.json
 else
     skipped 'there is no sqlite3, or no sqlite3ext.h'
 fi

@@ -1,24 +1,29 @@
-/* A formatter that is kept, where one allocation finds no memory (tests/refuse_nth.c, loaded before): by the tables of the
- * first word it is opened, formats lines, one number and its parts, and is closed; then other tables are judged. What was
- * refused is asked once more, and then all is as ever; where it was refused nothing else is told. The tables lie in memory of
- * their own, which isn't refused. */
+/* Formatters that are kept, where one allocation finds no memory (tests/refuse_nth.c, loaded before): by the tables of the
+ * first word one is opened by words and one by a skeleton, each formats lines, one number and its parts, and is closed; then
+ * other tables are judged, and a canonical text is written. What was refused is asked once more, and then all is as ever; where
+ * it was refused nothing else is told. The tables lie in memory of their own, which isn't refused. */
 #include "talmuiga.h"
 
 #include <stdio.h>
 
 static char tables[1 << 20], output[256];
 
-int main(int count, char **words) {
-    FILE *file = count > 1 ? fopen(words[1], "rb") : NULL;
-    if (!file) return 2;
-    setvbuf(file, NULL, _IONBF, 0);
-    size_t len = fread(tables, 1, sizeof tables, file), length;
+/* Opens a formatter of short numbers, by words or by a skeleton. */
+static uint32_t opened(size_t len, int by_skeleton, talmuiga_formatter **formatter) {
+    static const char skeleton[] = "compact-short";
+    talmuiga_fault fault = {7, 7, 7};
+    if (!by_skeleton) return talmuiga_formatter_open(tables, len, "en", "-", "short", NULL, formatter);
+    uint32_t status = talmuiga_formatter_open_skeleton(tables, len, "en", skeleton, sizeof skeleton - 1, &fault, formatter);
+    return fault.byte || fault.kind || fault.thing ? 99 : status;
+}
+
+/* Formats by such a formatter; 0, or another status of this program. */
+static int formats(size_t len, int by_skeleton) {
+    size_t length;
     talmuiga_formatter *formatter;
     talmuiga_reached reached;
-    uint32_t status = talmuiga_formatter_open(tables, len, "en", "-", "short", NULL, &formatter);
-    if (status == TALMUIGA_OUT_OF_MEMORY && !formatter) {
-        status = talmuiga_formatter_open(tables, len, "en", "-", "short", NULL, &formatter);
-    }
+    uint32_t status = opened(len, by_skeleton, &formatter);
+    if (status == TALMUIGA_OUT_OF_MEMORY && !formatter) status = opened(len, by_skeleton, &formatter);
     if (status) return 3;
     static const char lines[] = "1650\n1750000\nx\n", answers[] = "1.6K\n1.8M\nerror: not a decimal\n";
     status = talmuiga_formatter_format(formatter, lines, sizeof lines - 1, output, sizeof output, &reached);
@@ -42,11 +47,29 @@ int main(int count, char **words) {
     }
     if (status || length != 5 || parts != 1 || sign.end != 1 || sign.part != TALMUIGA_PART_MINUS_SIGN) return 6;
     talmuiga_formatter_close(formatter);
+    return 0;
+}
+
+int main(int count, char **words) {
+    FILE *file = count > 1 ? fopen(words[1], "rb") : NULL;
+    if (!file) return 2;
+    setvbuf(file, NULL, _IONBF, 0);
+    size_t len = fread(tables, 1, sizeof tables, file), length;
+    for (int by_skeleton = 0; by_skeleton < 2; by_skeleton++) {
+        int wrong = formats(len, by_skeleton);
+        if (wrong) return wrong;
+    }
     memcpy(output, "xx", 2);
-    status = talmuiga_tables_fault("{", 1, output, sizeof output, &length);
+    uint32_t status = talmuiga_tables_fault("{", 1, output, sizeof output, &length);
     if (status == TALMUIGA_OUT_OF_MEMORY && length == 0 && output[0] == 'x') {
         status = talmuiga_tables_fault("{", 1, output, sizeof output, &length);
     }
     if (status != TALMUIGA_TABLES_REFUSED || length != 8 || memcmp(output, "not JSON", 8)) return 7;
+    memcpy(output, "xx", 2);
+    status = talmuiga_skeleton_canonical("K", 1, output, sizeof output, &length, NULL);
+    if (status == TALMUIGA_OUT_OF_MEMORY && length == 0 && output[0] == 'x') {
+        status = talmuiga_skeleton_canonical("K", 1, output, sizeof output, &length, NULL);
+    }
+    if (status || length != 13 || memcmp(output, "compact-short", 13)) return 8;
     return 0;
 }

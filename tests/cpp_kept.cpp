@@ -1,4 +1,4 @@
-/* Formatters from C++, by the tables whose file is the first word. */
+/* Formatters from C++, by the tables whose files are the two words. */
 #include "talmuiga.hpp"
 
 #include <fstream>
@@ -25,6 +25,16 @@ template <class Call> static std::uint32_t refusal(Call call) {
     }
 }
 
+/* The byte and the kind of a skeleton's fault, and its words. */
+template <class Call> static std::string fault_of(Call call) {
+    try {
+        call();
+        return "none";
+    } catch (const talmuiga::skeleton_refused &error) {
+        return std::to_string(error.byte()) + ' ' + std::to_string(error.kind()) + ' ' + error.what();
+    }
+}
+
 /* A number's text with each part in brackets, behind its number. */
 static std::string bracketed(const talmuiga::marked_text &marked) {
     std::ostringstream out;
@@ -34,10 +44,38 @@ static std::string bracketed(const talmuiga::marked_text &marked) {
     return out.str();
 }
 
-int main(int, char **words) {
+/* Numbers, money and percents by skeletons. */
+static void by_skeletons(const std::string &tables) {
+    using talmuiga::skeleton;
+    talmuiga::formatter prices(tables, "de", skeleton{"currency/EUR"});
+    talmuiga::formatter millions{tables, "de", skeleton{"K currency/EUR"}};
+    judge("a price", prices("1234567.5") == "1.234.567,50\u00a0€");
+    judge("millions", millions("1234567.5") == "1,2\u00a0Mio.\u00a0€");
+    judge("parts of a price", bracketed(prices.parts("-3.5")) == "-3,50\u00a0€ 1[-] 3[3] 6[,] 4[50] 7[€]");
+    judge("lines of prices", prices.lines("1\nx\n") == "1,00\u00a0€\nerror: not a decimal\n");
+    judge("a share", talmuiga::formatter(tables, "de", skeleton{"%x100 .0"})("0.12345") == "12,3\u00a0%");
+    const auto opened = [&](std::string_view text) { return [&tables, text] { talmuiga::formatter(tables, "de", skeleton{text}); }; };
+    judge("a fault", fault_of(opened("percent foo")) == "8 2 unknown stem");
+    judge("a NUL", fault_of(opened(std::string_view("% \0", 3))) == "2 2 unknown stem");
+    judge("what no formatter has", fault_of(opened("permille")) == "0 12 not supported: permille");
+    judge("its status", refusal(opened("permille")) == TALMUIGA_SKELETON_REFUSED);
+    judge("a currency that the tables lack", refusal(opened("currency/USD")) == TALMUIGA_NO_DATA);
+    judge("canonical", talmuiga::canonical({"%x100 .00"}) == "percent .00 scale/100");
+    const std::string long_name = "unit/" + std::string(3000, 'a');
+    judge("canonical and long", talmuiga::canonical({long_name}) == long_name);
+    judge("not canonical", fault_of([] { talmuiga::canonical({"currency/EURO"}); }) == "9 9 unknown option");
+}
+
+/* The whole file of a name. */
+static std::string whole(const char *name) {
     std::stringstream file;
-    file << std::ifstream(words[1]).rdbuf();
-    const std::string tables = file.str();
+    file << std::ifstream(name).rdbuf();
+    return file.str();
+}
+
+int main(int, char **words) {
+    const std::string tables = whole(words[1]);
+    by_skeletons(whole(words[2]));
     talmuiga::formatter english, moved;
     judge("English", english.one("1000007") == "1,000,007");
     judge("a long number", english.one(std::string(3000, '9')).size() == 3999);

@@ -1,13 +1,16 @@
-/* An extension for SQLite: decfmt(number, locale, style) is a number in the form of a locale.
+/* An extension for SQLite: decfmt(number, locale, style) is a number in the form of a locale, and
+ * number_format(number, locale, skeleton) is one as a number skeleton asks for it: with a currency, say.
  *
  *     cc -O2 -fPIC -shared -Iinclude examples/sqlite/talmuiga_sqlite.c lib/libtalmuiga.a -o lib/talmuiga_sqlite.so
  *     TALMUIGA_TABLES=tables/sample.json sqlite3 sales.db
  *     sqlite> .load lib/talmuiga_sqlite
  *     sqlite> SELECT decfmt(price, 'de', 'short') FROM sales;
+ *     sqlite> SELECT number_format(price, 'de', 'currency/EUR') FROM sales;
  *
- * NULL is NULL, what isn't a number is an error, and so is a locale or a style that the tables don't know. Without a style it
- * is plain. The tables are read once a connection, from the file that TALMUIGA_TABLES names; a formatter is opened once for
- * each locale and style that a connection asks for. A REAL is taken by SQLite's own text of it, which has to be a decimal. */
+ * NULL is NULL, what isn't a number is an error, and so is a locale, a style or a currency that the tables don't know, and a
+ * skeleton with a fault, whose words and byte the error has. Without a style it is plain. The tables are read once a
+ * connection, from the file that TALMUIGA_TABLES names; a formatter is opened once for each locale and style or skeleton that
+ * a connection asks for. A REAL is taken by SQLite's own text of it, which has to be a decimal. */
 #include <sqlite3ext.h>
 SQLITE_EXTENSION_INIT1
 
@@ -15,10 +18,13 @@ SQLITE_EXTENSION_INIT1
 
 #include <stdio.h>
 
-enum { WORD = 32, MOST_FORMATTERS = 64 };
+enum { LOCALE = 64, MOST_FORMATTERS = 64 };
 
+/* A formatter that is open, by a locale and a style or a skeleton. */
 struct kept {
-    char locale[WORD], style[WORD];
+    char locale[LOCALE], *asked;
+    size_t asked_len;
+    int by_skeleton;
     talmuiga_formatter *formatter;
 };
 
@@ -29,35 +35,72 @@ struct connection {
     struct kept kept[MOST_FORMATTERS];
 };
 
+static void close_kept(struct kept *kept) {
+    talmuiga_formatter_close(kept->formatter);
+    sqlite3_free(kept->asked);
+}
+
 static void let_go(void *data) {
     struct connection *connection = data;
-    for (size_t i = 0; i < connection->count; i++) talmuiga_formatter_close(connection->kept[i].formatter);
+    for (size_t i = 0; i < connection->count; i++) close_kept(&connection->kept[i]);
     sqlite3_free(connection->tables);
     sqlite3_free(connection);
 }
 
-/* The formatter of a locale and a style, opened where it isn't yet; or null with the call's status. */
-static const talmuiga_formatter *formatter_of(struct connection *connection, const char *locale, const char *style,
-                                              uint32_t *status) {
-    struct kept *at = connection->kept, *end = at + connection->count;
-    while (at < end && (strcmp(at->locale, locale) || strcmp(at->style, style))) at++;
-    *status = TALMUIGA_DONE;
-    if (at < end) return at->formatter;
-    *status = TALMUIGA_WORDS_REFUSED;
-    if (strlen(locale) >= WORD || strlen(style) >= WORD) return NULL;
-    if (connection->count == MOST_FORMATTERS) {
-        at = connection->kept;
-        talmuiga_formatter_close(at->formatter);
-        *at = end[-1];
-        at = end - 1;
-        connection->count--;
+/* Whether a formatter is that of a locale and a style or a skeleton. */
+static int is_kept(const struct kept *kept, const char *locale, const char *asked, size_t len, int by_skeleton) {
+    return kept->by_skeleton == by_skeleton && kept->asked_len == len && strcmp(kept->locale, locale) == 0 &&
+           memcmp(kept->asked, asked, len) == 0;
+}
+
+/* Room for one formatter more; where there is none, the first is closed. */
+static struct kept *place_for_one(struct connection *connection) {
+    struct kept *last = &connection->kept[connection->count];
+    if (connection->count < MOST_FORMATTERS) return last;
+    close_kept(connection->kept);
+    connection->kept[0] = *--last;
+    connection->count--;
+    return last;
+}
+
+/* The formatter of a locale and a style or a skeleton, opened where it isn't yet; or null with the call's status, and the fault
+ * of a skeleton. */
+static const talmuiga_formatter *formatter_of(struct connection *connection, const char *locale, const char *asked, size_t len,
+                                              int by_skeleton, uint32_t *status, talmuiga_fault *fault) {
+    talmuiga_formatter *opened;
+    for (size_t i = 0; i < connection->count; i++) {
+        if (is_kept(&connection->kept[i], locale, asked, len, by_skeleton)) return connection->kept[i].formatter;
     }
-    *status = talmuiga_formatter_open(connection->tables, connection->tables_len, locale, "-", style, NULL, &at->formatter);
+    *status = by_skeleton ? talmuiga_formatter_open_skeleton(connection->tables, connection->tables_len, locale, asked, len, fault,
+                                                             &opened)
+                          : talmuiga_formatter_open(connection->tables, connection->tables_len, locale, "-", asked, NULL, &opened);
     if (*status) return NULL;
-    strcpy(at->locale, locale);
-    strcpy(at->style, style);
+    struct kept kept = {"", sqlite3_malloc64(len + 1), len, by_skeleton, opened};
+    if (!kept.asked) {
+        *status = TALMUIGA_OUT_OF_MEMORY;
+        talmuiga_formatter_close(opened);
+        return NULL;
+    }
+    memcpy(kept.asked, asked, len);
+    /* an accepted locale has at most 63 characters */
+    strcpy(kept.locale, locale);
+    *place_for_one(connection) = kept;
     connection->count++;
-    return at->formatter;
+    return opened;
+}
+
+/* The error of a formatter that isn't opened. */
+static void refuse(sqlite3_context *context, uint32_t status, const talmuiga_fault *fault) {
+    if (status == TALMUIGA_OUT_OF_MEMORY) {
+        sqlite3_result_error_nomem(context);
+    } else if (status != TALMUIGA_SKELETON_REFUSED) {
+        sqlite3_result_error(context, talmuiga_status_text(status), -1);
+    } else {
+        char words[256];
+        const char *form = fault->kind == TALMUIGA_FAULT_UNSUPPORTED ? "skeleton: %s" : "skeleton: %s, byte %llu";
+        sqlite3_snprintf(sizeof words, words, form, talmuiga_fault_text(fault), (sqlite3_uint64)fault->byte);
+        sqlite3_result_error(context, words, -1);
+    }
 }
 
 static void answer(sqlite3_context *context, const talmuiga_formatter *formatter, sqlite3_value *number) {
@@ -88,7 +131,8 @@ static void answer(sqlite3_context *context, const talmuiga_formatter *formatter
     }
 }
 
-static void decfmt(sqlite3_context *context, int count, sqlite3_value **values) {
+/* A number by a locale and a style or a skeleton, if it has one. */
+static void formatted(sqlite3_context *context, int count, sqlite3_value **values, int by_skeleton) {
     for (int i = 0; i < count; i++) {
         if (sqlite3_value_type(values[i]) == SQLITE_NULL) return;
     }
@@ -97,15 +141,25 @@ static void decfmt(sqlite3_context *context, int count, sqlite3_value **values) 
         return;
     }
     const char *locale = (const char *)sqlite3_value_text(values[1]);
-    const char *style = count > 2 ? (const char *)sqlite3_value_text(values[2]) : "plain";
+    const char *asked = count > 2 ? (const char *)sqlite3_value_text(values[2]) : "plain";
+    size_t len = count > 2 ? (size_t)sqlite3_value_bytes(values[2]) : strlen("plain");
     uint32_t status = TALMUIGA_OUT_OF_MEMORY;
+    talmuiga_fault fault;
     const talmuiga_formatter *formatter =
-        locale && style ? formatter_of(sqlite3_user_data(context), locale, style, &status) : NULL;
+        locale && asked ? formatter_of(sqlite3_user_data(context), locale, asked, len, by_skeleton, &status, &fault) : NULL;
     if (formatter) {
         answer(context, formatter, values[0]);
     } else {
-        sqlite3_result_error(context, talmuiga_status_text(status), -1);
+        refuse(context, status, &fault);
     }
+}
+
+static void decfmt(sqlite3_context *context, int count, sqlite3_value **values) {
+    formatted(context, count, values, 0);
+}
+
+static void number_format(sqlite3_context *context, int count, sqlite3_value **values) {
+    formatted(context, count, values, 1);
 }
 
 /* The whole file of a name, in SQLite's memory. */
@@ -135,6 +189,9 @@ int sqlite3_talmuigasqlite_init(sqlite3 *base, char **error, const sqlite3_api_r
     int status = sqlite3_create_function_v2(base, "decfmt", 3, words, connection, decfmt, NULL, NULL, let_go);
     if (status == SQLITE_OK) {
         status = sqlite3_create_function_v2(base, "decfmt", 2, words, connection, decfmt, NULL, NULL, NULL);
+    }
+    if (status == SQLITE_OK) {
+        status = sqlite3_create_function_v2(base, "number_format", 3, words, connection, number_format, NULL, NULL, NULL);
     }
     return status;
 }

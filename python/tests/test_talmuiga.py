@@ -1,4 +1,4 @@
-"""Cases of the Python package, by the tables of the first word. The last line says how many there were."""
+"""Cases of the Python package, by the tables of the two words. The last line says how many there were."""
 import json
 import sys
 import threading
@@ -7,9 +7,10 @@ from decimal import Decimal
 from typing import Any
 
 import talmuiga
-from talmuiga import Formatter, NoData, NotFormatted, Number, TablesRefused, WordsRefused
+from talmuiga import Formatter, NoData, NotFormatted, Number, SkeletonRefused, TablesRefused, WordsRefused
 
 SAMPLE = open(sys.argv[1], "rb").read()
+SIX = open(sys.argv[2], "rb").read()
 ENGLISH = Formatter.english()
 CASES = FAILED = 0
 
@@ -27,6 +28,8 @@ def judge(name: str, wanted: object, call: Callable[[], object]) -> None:
             given = (type(error), error.index, error.text, error.reason)
         elif isinstance(error, TablesRefused):
             given = (type(error), str(error))
+        elif isinstance(error, SkeletonRefused):
+            given = (type(error), error.byte, error.kind, error.words)
     if given != wanted:
         FAILED += 1
         print(f"FAILED {name}: wanted {wanted!r}, given {given!r}")
@@ -91,6 +94,27 @@ judge("another style", WordsRefused, lambda: Formatter(SAMPLE, "en", style="tall
 judge("a NUL in a word", WordsRefused, lambda: Formatter(SAMPLE, "en\0"))
 judge("half of a pair in a word", WordsRefused, lambda: Formatter(SAMPLE, "\ud800"))
 judge("no tables", (TablesRefused, "the tables are refused: not JSON"), lambda: Formatter(b"{", "en"))
+PRICES = Formatter(SIX, "de", skeleton="currency/EUR")
+judge("a price", "1.234.567,50\u00a0€", lambda: PRICES.format(1234567.5))
+judge("prices", ["-3,00\u00a0€", "0,10\u00a0€"], lambda: PRICES.format_many([-3, 0.1]))
+judge("parts of a price", ("-3,50\u00a0€", [(0, 1, "minusSign"), (1, 2, "integer"), (2, 3, "decimal"), (3, 5, "fraction"),
+                                          (6, 7, "currency")]), lambda: PRICES.parts("-3.5"))
+judge("no price", (NotFormatted, 0, "x", "not a decimal"), lambda: PRICES.format("x"))
+judge("a share", "12,3\u00a0%", lambda: Formatter(SIX, "de", skeleton="%x100 .0").format(0.12345))
+judge("parts of a share", ("12\u00a0%", ["12", "%"]), lambda: pieces(*Formatter(SIX, "de", skeleton="%").parts(12)))
+judge("the skeleton that sets nothing", "1.234,5", lambda: Formatter(SIX, "de", skeleton="").format(1234.5))
+for skeleton, fault in [("percent foo", (8, "unknownStem", "unknown stem")), ("scientific", (0, "leftOut", "left out: scientific")),
+                        ("% \ud800", (2, "notUtf8", "not UTF-8")), ("%\0", (0, "unknownStem", "unknown stem")),
+                        ("permille", (0, "unsupported", "not supported: permille"))]:
+    judge(f"refused {skeleton!r}", (SkeletonRefused, *fault), lambda: Formatter(b"{", "de", skeleton=skeleton))
+judge("a skeleton and a style", TypeError, lambda: Formatter(SIX, "de", skeleton="%", style="short"))
+judge("a skeleton and no fraction", TypeError, lambda: Formatter(SIX, "de", skeleton="%", fraction=0))
+judge("a skeleton in another locale", NoData, lambda: Formatter(SIX, "xx", skeleton="%"))
+judge("a skeleton, and no locale", WordsRefused, lambda: Formatter(SIX, "d\0e", skeleton="foo"))
+judge("a skeleton, and no tables", (TablesRefused, "the tables are refused: not JSON"), lambda: Formatter(b"{", "en", skeleton="%"))
+judge("canonical", "percent .00 scale/100", lambda: talmuiga.canonical_skeleton("%x100 .00"))
+judge("canonical and long", "unit/" + "a" * 3000, lambda: talmuiga.canonical_skeleton("unit/" + "a" * 3000))
+judge("not canonical", (SkeletonRefused, 9, "badOption", "unknown option"), lambda: talmuiga.canonical_skeleton("currency/EURO"))
 judge("the sample is no fault", None, lambda: talmuiga.tables_fault(SAMPLE))
 judge("tables that are no JSON", "not JSON", lambda: talmuiga.tables_fault(b"{"))
 judge("tables that are no text", "not UTF-8", lambda: talmuiga.tables_fault(b"\xff"))

@@ -1,4 +1,4 @@
--- What a caller learns of a mode that it hands over: nothing.
+-- What a caller learns of what it hands over to a formatter: nothing.
 use Rattle.talmuiga_c.proofs.Steps.{◌≡◌, ℕ, List, [], ◌∷◌, refl, sym, yes, stay_dropped, full_share, Val, block_ptr, lies_at, fat}
 use Rattle.talmuiga_c.proofs.Steps.{fsep, ‵, ◌$◌, ◌∵◌, !, qed, done, move, use1, fsplit, fjoin, fpick, fpack, rewrite, peeks, shows}
 use Rattle.talmuiga_c.proofs.Steps.{owned}
@@ -16,51 +16,57 @@ use types.Kit.{Goal, Item, Seq}
 use types.Logic.{Logic, sem}
 use contract.Lifetimes.{Lfts}
 use denote.Memory.{cell_at, lone, part_of}
-use denote.Exit.{Kept, Last, left, no}
-use denote.Param.Mute.{Mute, Mute-flat, enum-Mute}
+use denote.Exit.{Kept as KeptAt, Last, left, no}
+use denote.Param.Mute.{Mute, Mute-flat, Mute-variants, enum-Mute}
+use denote.Enum.Declared.{variants}
 use denote.Enum.Loose.{loose_lawful}
 use denote.Laws.{Is, Lawful, Typed}
 use denote.Signature.{Slot}
 use denote.Triple.Walked.{Goes}
 use Rattle.std.specs.Prelude.{Option, Some, None}
 use Rattle.talmuiga_c.specs.Handle.{away, empty, holding, lent_owns}
-use Rattle.decimal_lines.proofs.mode.Mode.TheLaws.{the_loose}
-use Rattle.decimal_lines.specs.declared.mode.Mode.{Mode}
-use Rattle.decimal_lines.specs.contracts.mode.Mode.{the_row, the_type}
+use Rattle.decimal_lines.specs.contracts.mode.Mode as by-words
+use Rattle.talmuiga_c.proofs.kept.Kept.TheLaws.{the_loose}
+use Rattle.talmuiga_c.specs.declared.kept.Kept.{Kept}
+use Rattle.talmuiga_c.specs.contracts.kept.Kept.{the_row, the_type}
 
 -- a mode that is handed over has nothing that its caller learns
-pub mode-Mute : Mute (the_row.exit yes)
-mode-Mute = enum-Mute the_type no ((Mute-flat (λ x w. refl) (λ x. tt), tt), ((Mute-flat (λ x w. refl) (λ x. tt), tt), tt))
+mode-Mute : Mute (by-words.the_field.row.exit no)
+mode-Mute = Mute-variants no (variants by-words.the_type) ((Mute-flat (λ x w. refl) (λ x. tt), tt), ((Mute-flat (λ x w. refl) (λ x. tt), tt), tt))
+
+-- nor has what a formatter holds
+pub kept-Mute : Mute (the_row.exit yes)
+kept-Mute = enum-Mute the_type no ((mode-Mute, tt), ((Mute-flat (λ x w. refl) (λ x. tt), tt), tt))
 
 -- and so it is of each parameter that is let go, where nothing is learnt by its type
-pub told-nothing : {M : Type 1} {𝓤 : Ura M} (𝓛 : Logic 𝓤) (n : ℕ) (s : Slot n) (k : Kept) → ((κs : Lfts n) → Mute ((s.row κs).exit k))
+pub told-nothing : {M : Type 1} {𝓤 : Ura M} (𝓛 : Logic 𝓤) (n : ℕ) (s : Slot n) (k : KeptAt) → ((κs : Lfts n) → Mute ((s.row κs).exit k))
     → Goes 𝓛 n s k (stay_dropped s k)
 told-nothing {M = M} {𝓤 = 𝓤} 𝓛 n s k mute κs x f vs ok = via 𝓤 (sem 𝓛 (left ((s.row κs).exit k) x f))
     (subst (λ (w : Last ((s.row κs).exit k) x). ent 𝓤 (emp 𝓤) (sem 𝓛 (left ((s.row κs).exit k) x w))) (sym ((mute κs).once x f)) ((mute
     κs).quiet M 𝓤 𝓛 x))
     (𝓛.laws.⇛_intro _)
 
--- the row of a mode keeps the laws of rows
-pub typed-mode : {M : Type 1} {𝓤 : Ura M} (𝓛 : Logic 𝓤) → Lawful 𝓛 the_row
-typed-mode 𝓛 = loose_lawful the_type the_loose tt 𝓛
+-- the row of what is held keeps the laws of rows
+pub typed-kept : {M : Type 1} {𝓤 : Ura M} (𝓛 : Logic 𝓤) → Lawful 𝓛 the_row
+typed-kept 𝓛 = loose_lawful the_type the_loose tt 𝓛
 
--- the type of the machine value that is a mode
+-- the type of the machine value that is what is held
 abbrev pub layout : Ty
 layout = lone the_row.mir
 
--- machine values of a mode's type are one
+-- machine values of this type are one
 alone : (vs : List Val) → Typed (layout ∷ []) vs → (v : Val) × ((vs ≡ v ∷ []) × (T (has_ty layout v) × WT v))
 alone [] typed = absurd typed
 alone (v ∷ []) typed = (v, (refl, typed.0))
 alone (v ∷ u ∷ us) typed = absurd typed.1
 
 module _ {M : Type 1} {𝓤 : Ura M} (𝓛 : Logic 𝓤) where
-  -- so a mode is one
-  pub one-value : (m : Mode) (vs : List Val) → Is the_row m vs → (v : Val) × ((vs ≡ v ∷ []) × (T (has_ty layout v) × WT v))
-  one-value m vs is = alone vs ((typed-mode 𝓛).typed m vs is)
+  -- so what is held is one
+  pub one-value : (m : Kept) (vs : List Val) → Is the_row m vs → (v : Val) × ((vs ≡ v ∷ []) × (T (has_ty layout v) × WT v))
+  one-value m vs is = alone vs ((typed-kept 𝓛).typed m vs is)
 
-  -- a mode that owns what it owns lies where its machine value does
-  pub lies_in : (m : Mode) (b o : ℕ) (v : Val)
+  -- what is held, with what it owns, lies where its machine value does
+  pub lies_in : (m : Kept) (b o : ℕ) (v : Val)
       → ent 𝓤 (sep 𝓤 (sem 𝓛 (fat full_share layout b o v)) (sem 𝓛 (the_row.own_val m (v ∷ [])))) (sem 𝓛 (lies_at the_row full_share
       (block_ptr b o) m))
   unfolding part_of
@@ -70,7 +76,7 @@ module _ {M : Type 1} {𝓤 : Ura M} (𝓛 : Logic 𝓤) where
 
 module _ {M : Type 1} {𝓤 : Ura M} {𝓛 : Logic 𝓤} {K : Type 0} {Γ : List (Item 𝓤)} {G : Goal 𝓤 𝓛.H} where
   -- and the other way
-  pub lies_out : K → (m : Mode) (b o : ℕ)
+  pub lies_out : K → (m : Kept) (b o : ℕ)
       → ((v : Val) → Is the_row m (v ∷ []) → T (has_ty layout v) × WT v
       → Seq K 𝓛 (‵ (fat full_share layout b o v) ∷ ‵ (the_row.own_val m (v ∷ [])) ∷ Γ) G)
       → Seq K 𝓛 (‵ (lies_at the_row full_share (block_ptr b o) m) ∷ Γ) G
@@ -86,18 +92,18 @@ module _ {M : Type 1} {𝓤 : Ura M} {𝓛 : Logic 𝓤} {K : Type 0} {Γ : List
 abbrev pub pointer : ℕ → ℕ → Val
 pointer b o = vstruct (vcons (vptr b o) vnil)
 
--- a place that isn't empty, and whose mode isn't away, holds one
-pub held_is : (x : Option (Option Mode)) → (¬ (x ≡ away) × ¬ (x ≡ empty)) → (m : Mode) × (x ≡ holding m)
+-- a place that isn't empty, and from which nothing is away, holds something
+pub held_is : (x : Option (Option Kept)) → (¬ (x ≡ away) × ¬ (x ≡ empty)) → (m : Kept) × (x ≡ holding m)
 held_is None not = absurd (not.0 refl)
 held_is (Some None) not = absurd (not.1 refl)
 held_is (Some (Some m)) not = (m, refl)
 
 module _ {M : Type 1} {𝓤 : Ura M} (𝓛 : Logic 𝓤) where
-  -- a pointer and what is lent at it are a mode that is lent
-  pub lent-made : (b o : ℕ) (m : Mode) → ent 𝓤 (sem 𝓛 (lent_owns (block_ptr b o) m)) (sem 𝓛 (Lent.the_row.own_val (record {
+  -- a pointer and what is lent at it are what a formatter lends
+  pub lent-made : (b o : ℕ) (m : Kept) → ent 𝓤 (sem 𝓛 (lent_owns (block_ptr b o) m)) (sem 𝓛 (Lent.the_row.own_val (record {
     at = block_ptr b
         o;
-    mode = m;
+    kept = m;
   }) (pointer b o ∷ [])))
   lent-made b o m = qed 𝓛 (‵ (lent_owns (block_ptr b o) m) ∷ []) ∵
       owned ! (Struct (shape Lent.the_type)) _ (Struct-Makes 𝓛 (shape Lent.the_type) (rawptr_pure, tt)) (

@@ -1,34 +1,34 @@
--- What a formatter for C owns: room for a mode, or a mode; and what a mode that is lent owns and lends.
+-- What a formatter for C owns: room for what it holds, or that; and what this owns and lends while it is lent.
 use Rattle.std.specs.Prelude.{Option, Some, None}
-use Rattle.decimal_lines.specs.contracts.mode.Mode.{the_row}
-use Rattle.decimal_lines.specs.declared.mode.Mode.{Mode}
+use Rattle.talmuiga_c.specs.contracts.kept.Kept.{the_row}
+use Rattle.talmuiga_c.specs.declared.kept.Kept.{Kept}
 use base.Fml.{Fml, Lft, ftrue}
 use base.Fraction.{full_share}
 use denote.RawPtr.{Ptr, lies_at, room_at}
 use denote.Struct.Lending.{lent_at}
 
--- its mode is lent, so that it owns nothing
-abbrev pub away : Option (Option Mode)
+-- what it holds is lent, so that it owns nothing
+abbrev pub away : Option (Option Kept)
 away = None
 
--- it has room for a mode
-abbrev pub empty : Option (Option Mode)
+-- it has room
+abbrev pub empty : Option (Option Kept)
 empty = Some None
 
--- it has a mode
-abbrev pub holding : Mode → Option (Option Mode)
-holding mode = Some (Some mode)
+-- it holds this
+abbrev pub holding : Kept → Option (Option Kept)
+holding kept = Some (Some kept)
 
--- the mode lies there
-abbrev pub lent_owns : Ptr → Mode → Fml
-lent_owns p mode = lies_at the_row full_share p mode
+-- it lies there
+abbrev pub lent_owns : Ptr → Kept → Fml
+lent_owns p kept = lies_at the_row full_share p kept
 
 -- readers share it
-abbrev pub lent_shares : Ptr → Mode → Lft → Fml
-lent_shares p mode κ = lent_at the_row p mode κ
+abbrev pub lent_shares : Ptr → Kept → Lft → Fml
+lent_shares p kept κ = lent_at the_row p kept κ
 
--- what the pointer owns: nothing while its mode is lent, room, or a mode
-abbrev pub room_owns : Ptr → Option (Option Mode) → Fml
+-- what the pointer owns: nothing while what it holds is lent, room, or what it holds
+abbrev pub room_owns : Ptr → Option (Option Kept) → Fml
 room_owns p None = ftrue
 room_owns p (Some None) = room_at the_row p
-room_owns p (Some (Some mode)) = lent_owns p mode
+room_owns p (Some (Some kept)) = lent_owns p kept

@@ -1,6 +1,9 @@
+pub mod Answers
 pub mod Asked
 pub mod Endings
 pub mod Faults
 pub mod Handle
 pub mod Kept
 pub mod Marked
+pub mod SkeletonFaults
+pub mod Skeletons

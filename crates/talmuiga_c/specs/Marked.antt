@@ -4,11 +4,12 @@ use Rattle.std.specs.Prelude.{List, ◌++◌, length, drop, map, codes}
 use Rattle.std.specs.Cmp.Lexicographic.{pointwise}
 use Rattle.writeable.specs.Events.{Event}
 use Rattle.writeable.specs.Spans as writeable
-use Rattle.decimal_lines.specs.SingleText.{HoldsEvents, events_of}
+use Rattle.decimal_lines.specs.SingleText.{HoldsEvents}
 use Rattle.decimal_lines.specs.declared.single_text.TextError.{TextError}
-use Rattle.decimal_lines.specs.declared.mode.Mode.{Mode}
+use Rattle.talmuiga_c.specs.Answers.{kept_events}
 use Rattle.talmuiga_c.specs.Endings.{done, output_too_small}
 use Rattle.talmuiga_c.specs.Kept.{IsRefused}
+use Rattle.talmuiga_c.specs.declared.kept.Kept.{Kept}
 use Rattle.talmuiga_c.specs.declared.marked.Span.{Span}
 
 -- the number of a part, by its name
@@ -20,6 +21,11 @@ part_number name =
     else if pointwise nat_eq name (codes "fraction") then 4
     else if pointwise nat_eq name (codes "group") then 5
     else if pointwise nat_eq name (codes "decimal") then 6
+    else if pointwise nat_eq name (codes "currency") then 7
+    else if pointwise nat_eq name (codes "percentSign") then 8
+    else if pointwise nat_eq name (codes "perMilleSign") then 9
+    else if pointwise nat_eq name (codes "unit") then 10
+    else if pointwise nat_eq name (codes "compact") then 11
     else 0
 
 -- a span as C sees it
@@ -38,20 +44,20 @@ HoldsParts (Ok events) old new n = HoldsSpans old new (map numbered (writeable.s
 HoldsParts (Err error) old new n = ⊥
 
 -- a text is shown with its parts: how long it is and how many these are is returned, and each is written where it has room
-pub record IsWrittenInParts (mode : Mode) (text old new : List ℕ) (n : ℕ) (old_spans new_spans : List Span) (m status : ℕ) : Type 0 where
-  pub holds : HoldsEvents (events_of mode text) old new n
-  pub parts : HoldsParts (events_of mode text) old_spans new_spans m
+pub record IsWrittenInParts (kept : Kept) (text old new : List ℕ) (n : ℕ) (old_spans new_spans : List Span) (m status : ℕ) : Type 0 where
+  pub holds : HoldsEvents (kept_events kept text) old new n
+  pub parts : HoldsParts (kept_events kept text) old_spans new_spans m
   pub fits : n ≤ length old → m ≤ length old_spans → status ≡ done
   pub too_long : length old < n → status ≡ output_too_small
   pub too_many : length old_spans < m → status ≡ output_too_small
 
 -- a text isn't shown
-pub record IsRefusedInParts (mode : Mode) (text old new : List ℕ) (n : ℕ) (old_spans new_spans : List Span) (m status : ℕ) : Type 0 where
-  pub refused : IsRefused mode text old new n status
+pub record IsRefusedInParts (kept : Kept) (text old new : List ℕ) (n : ℕ) (old_spans new_spans : List Span) (m status : ℕ) : Type 0 where
+  pub refused : IsRefused kept text old new n status
   pub same : new_spans ≡ old_spans
   pub none : m ≡ 0
 
 -- one text with its parts, shown or not
-abbrev pub IsShownInParts : Mode → List ℕ → List ℕ → List ℕ → ℕ → List Span → List Span → ℕ → ℕ → Type 0
-IsShownInParts mode text old new n old_spans new_spans m status =
-    IsWrittenInParts mode text old new n old_spans new_spans m status ⊎ IsRefusedInParts mode text old new n old_spans new_spans m status
+abbrev pub IsShownInParts : Kept → List ℕ → List ℕ → List ℕ → ℕ → List Span → List Span → ℕ → ℕ → Type 0
+IsShownInParts kept text old new n old_spans new_spans m status =
+    IsWrittenInParts kept text old new n old_spans new_spans m status ⊎ IsRefusedInParts kept text old new n old_spans new_spans m status

@@ -8,7 +8,7 @@ use std::str;
 
 /// The text of some bytes, where they are UTF-8.
 #[tactic(auto, using(crate::proofs::Texts::texts_in))]
-fn text_in(bytes: &[u8]) -> Option<&str>
+pub fn text_in(bytes: &[u8]) -> Option<&str>
     ensures { option_map (λ text. text.now) result ≡ text_in bytes.now }
 {
     match str::from_utf8(bytes) {

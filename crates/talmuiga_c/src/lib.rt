@@ -3,12 +3,15 @@
 #![tactic(auto)]
 
 mod asked;
+mod fault;
+mod form_lines;
 mod formatting;
 mod handle;
 mod judging;
 mod kept;
 mod marked;
 mod output;
+mod skeletons;
 mod status;
 
 ghost use Rattle.decimal_lines.specs.Plain.{english};
@@ -21,16 +24,19 @@ ghost use Rattle.talmuiga_c.specs.Kept.{IsWrittenSoFar, IsShown, Opens, OpensIn,
 ghost use Rattle.talmuiga_c.specs.Marked.{IsShownInParts};
 ghost use Rattle.std.specs.Prelude.{◌≡◌, Ok};
 ghost use Rattle.std.specs.Mem.{type_size};
-ghost use Rattle.decimal_lines.specs.contracts.mode.Mode.{the_row};
-ghost use Rattle.decimal_lines.specs.declared.mode.Mode.{Mode};
+ghost use Rattle.talmuiga_c.specs.contracts.kept.Kept.{the_row};
+ghost use Rattle.talmuiga_c.specs.declared.kept.Kept.{Kept};
+ghost use Rattle.talmuiga_c.specs.Skeletons.{IsCanonical, OpensSkeleton};
 
 use asked::words_asked;
 use decimal_lines::Mode;
+use fault::Fault;
 use formatting::{format_asked, format_by};
 use handle::Formatter;
 use judging::judge_in_words;
-use kept::{Reached, format_lines_in, format_one_in, open_asked};
+use kept::{Kept, Reached, format_lines_in, format_one_in, open_asked};
 use marked::{Span, format_parts_in};
+use skeletons::{open_skeleton, put_canonical};
 use std::alloc::Global;
 use std::mem;
 
@@ -88,7 +94,7 @@ pub extern "C" fn talmuiga_format_lines_sized(
 pub extern "C" fn talmuiga_formatter_room() -> usize
     ensures { result ≡ type_size the_row }
 {
-    mem::size_of::<Mode>()
+    mem::size_of::<Kept>()
 }
 
 /// Opens a formatter in plain English.
@@ -102,7 +108,7 @@ pub extern "C" fn talmuiga_formatter_open_english_sized(
 {
     match Mode::english(alloc) {
         Ok(mode) => {
-            formatter.put(mode);
+            formatter.put(Kept::ByWords(mode));
             status::DONE
         }
         Err(_) => status::OUT_OF_MEMORY,
@@ -132,6 +138,43 @@ pub extern "C" fn talmuiga_formatter_open_sized(
     }
 }
 
+/// Opens a formatter by tables, a locale and a number skeleton. What is wrong with the skeleton is
+/// set, or zeros.
+// promise: Locale, skeleton and tables determine the form, or none.
+// mutations: fault_left_as_it_was, skeleton_judged_before_the_locale
+#[unsafe(no_mangle)]
+pub extern "C" fn talmuiga_formatter_open_skeleton_sized(
+    alloc: Global,
+    tables: &[u8],
+    locale: &[u8],
+    skeleton: &[u8],
+    fault: &mut Fault,
+    formatter: &mut Formatter,
+) -> u32
+    requires empty { formatter.old.held ≡ empty }
+    ensures opens { OpensSkeleton locale.now skeleton.now tables.now formatter.new.held
+        fault.new result }
+{
+    open_skeleton(alloc, tables, locale, skeleton, fault, formatter)
+}
+
+/// Writes the canonical text of a number skeleton, if it fits, and sets its length, and what is
+/// wrong with the skeleton, or zeros.
+// promise: A skeleton has its canonical text, or its first fault.
+// mutations: canonical_too_long_told_as_done
+#[unsafe(no_mangle)]
+pub extern "C" fn talmuiga_skeleton_canonical_sized(
+    alloc: Global,
+    skeleton: &[u8],
+    output: &mut [u8],
+    length: &mut usize,
+    fault: &mut Fault,
+) -> u32
+    ensures { IsCanonical skeleton.now output.old output.new length.new fault.new result }
+{
+    put_canonical(alloc, skeleton, output, length, fault)
+}
+
 /// Formats as many lines of the input as fit.
 // promise: It says how many bytes are answered, and what comes next.
 // mutations: kept_written_told_as_consumed, kept_needed_left_out
@@ -143,14 +186,14 @@ pub extern "C" fn talmuiga_formatter_format_sized(
     output: &mut [u8],
     reached: &mut Reached,
 ) -> u32
-    ghost mode: { Mode }
-    requires open { formatter.old.held ≡ holding mode }
-    ensures written { IsWrittenSoFar mode input.now output.old output.new reached.new.consumed
+    ghost kept: { Kept }
+    requires open { formatter.old.held ≡ holding kept }
+    ensures written { IsWrittenSoFar kept input.now output.old output.new reached.new.consumed
         reached.new.written reached.new.needed result }
-    ensures handed_back { formatter.new.held ≡ holding mode }
+    ensures handed_back { formatter.new.held ≡ holding kept }
 {
     let lent = formatter.lend();
-    let status = format_lines_in(alloc, lent.mode(), input, output, reached);
+    let status = format_lines_in(alloc, lent.kept(), input, output, reached);
     formatter.back(lent);
     status
 }
@@ -166,13 +209,13 @@ pub extern "C" fn talmuiga_formatter_one_sized(
     output: &mut [u8],
     length: &mut usize,
 ) -> u32
-    ghost mode: { Mode }
-    requires open { formatter.old.held ≡ holding mode }
-    ensures shown { IsShown mode text.now output.old output.new length.new result }
-    ensures handed_back { formatter.new.held ≡ holding mode }
+    ghost kept: { Kept }
+    requires open { formatter.old.held ≡ holding kept }
+    ensures shown { IsShown kept text.now output.old output.new length.new result }
+    ensures handed_back { formatter.new.held ≡ holding kept }
 {
     let lent = formatter.lend();
-    let status = format_one_in(alloc, lent.mode(), text, output, length);
+    let status = format_one_in(alloc, lent.kept(), text, output, length);
     formatter.back(lent);
     status
 }
@@ -191,14 +234,14 @@ pub extern "C" fn talmuiga_formatter_parts_sized(
     spans: &mut [Span],
     count: &mut usize,
 ) -> u32
-    ghost mode: { Mode }
-    requires open { formatter.old.held ≡ holding mode }
-    ensures shown { IsShownInParts mode text.now output.old output.new length.new spans.old
+    ghost kept: { Kept }
+    requires open { formatter.old.held ≡ holding kept }
+    ensures shown { IsShownInParts kept text.now output.old output.new length.new spans.old
         spans.new count.new result }
-    ensures handed_back { formatter.new.held ≡ holding mode }
+    ensures handed_back { formatter.new.held ≡ holding kept }
 {
     let lent = formatter.lend();
-    let status = format_parts_in(alloc, lent.mode(), text, output, length, spans, count);
+    let status = format_parts_in(alloc, lent.kept(), text, output, length, spans, count);
     formatter.back(lent);
     status
 }
@@ -208,11 +251,11 @@ pub extern "C" fn talmuiga_formatter_parts_sized(
 // mutations: kept_closed_with_its_mode_inside
 #[unsafe(no_mangle)]
 pub extern "C" fn talmuiga_formatter_close_sized(formatter: &mut Formatter)
-    ghost mode: { Mode }
-    requires open { formatter.old.held ≡ holding mode }
+    ghost kept: { Kept }
+    requires open { formatter.old.held ≡ holding kept }
     ensures closed { formatter.new.held ≡ empty }
 {
-    let _mode = formatter.take();
+    let _kept = formatter.take();
 }
 
 /// Judges tables, and says in a text why they are rejected.

@@ -1,14 +1,16 @@
-//! One number by a mode that is kept, with the parts of its text.
+//! One number by a formatter that is kept, with the parts of its text.
 
 ghost use Rattle.std.specs.Prelude.{◌≡◌, Ok, IfErr, IfOk, map};
 ghost use Rattle.writeable.specs.PartSpans.{span};
 ghost use Rattle.writeable.specs.Spans.{spans};
-ghost use Rattle.decimal_lines.specs.SingleText.{IsRefusal, events_of};
+ghost use Rattle.decimal_lines.specs.SingleText.{IsRefusal};
+ghost use Rattle.talmuiga_c.specs.Answers.{kept_events};
 ghost use Rattle.talmuiga_c.specs.Marked.{HoldsSpans, IsShownInParts, numbered, part_number};
 
+use crate::kept::Kept;
 use crate::output::put_text;
 use crate::status::{self, text_status};
-use decimal_lines::{Mode, TextError, format_parts};
+use decimal_lines::{TextError, format_parts};
 use std::alloc::Global;
 use writeable::{Part, PartsText};
 
@@ -45,6 +47,21 @@ pub const GROUP: u32 = 5;
 /// The decimal separator.
 pub const DECIMAL: u32 = 6;
 
+/// The symbol or the name of a currency.
+pub const CURRENCY: u32 = 7;
+
+/// A percent sign.
+pub const PERCENT_SIGN: u32 = 8;
+
+/// A per mille sign.
+pub const PER_MILLE_SIGN: u32 = 9;
+
+/// The name of a unit.
+pub const UNIT: u32 = 10;
+
+/// The literal of a compact pattern.
+pub const COMPACT: u32 = 11;
+
 /// The number of a part, by its name.
 #[tactic(auto, unfolding(crate::specs::Marked::part_number))]
 fn part_number(name: &str) -> u32
@@ -57,6 +74,11 @@ fn part_number(name: &str) -> u32
         "fraction" => FRACTION,
         "group" => GROUP,
         "decimal" => DECIMAL,
+        "currency" => CURRENCY,
+        "percentSign" => PERCENT_SIGN,
+        "perMilleSign" => PER_MILLE_SIGN,
+        "unit" => UNIT,
+        "compact" => COMPACT,
         _ => OTHER,
     }
 }
@@ -85,17 +107,28 @@ fn put_spans(array: &mut [Span], found: &[(usize, usize, Part)]) -> usize
     found.len()
 }
 
-/// What the mode shows for a text, and the spans of its parts.
+/// What is shown for a text.
+fn mark_text(alloc: Global, kept: &Kept, text: &[u8]) -> Result<PartsText, TextError>
+    ensures ok { IfOk result (λ shown. kept_events kept.now text.now ≡ Ok shown.events) }
+    ensures refused { IfErr result (λ error. IsRefusal (kept_events kept.now text.now) error) }
+{
+    match kept {
+        Kept::ByWords(mode) => format_parts(alloc, mode, text),
+        Kept::BySkeleton(form) => form.mark(alloc, text),
+    }
+}
+
+/// What is shown for a text, and the spans of its parts.
 fn marked(
     alloc: Global,
-    mode: &Mode,
+    kept: &Kept,
     text: &[u8],
 ) -> Result<(PartsText, Vec<(usize, usize, Part)>), TextError>
-    ensures ok { IfOk result (λ shown. (events_of mode.now text.now ≡ Ok shown.0.events)
+    ensures ok { IfOk result (λ shown. (kept_events kept.now text.now ≡ Ok shown.0.events)
         × (map span shown.1.items ≡ spans shown.0.events)) }
-    ensures refused { IfErr result (λ error. IsRefusal (events_of mode.now text.now) error) }
+    ensures refused { IfErr result (λ error. IsRefusal (kept_events kept.now text.now) error) }
 {
-    match format_parts(alloc, mode, text) {
+    match mark_text(alloc, kept, text) {
         Ok(shown) => match shown.spans(alloc) {
             Ok(found) => Ok((shown, found)),
             Err(_) => Err(TextError::OutOfMemory),
@@ -104,21 +137,21 @@ fn marked(
     }
 }
 
-/// Formats one text in a mode, and returns its parts; the text and the parts are written where each
+/// Formats one text, and returns its parts; the text and the parts are written where each
 /// has room.
 pub fn format_parts_in(
     alloc: Global,
-    mode: &Mode,
+    kept: &Kept,
     text: &[u8],
     output: &mut [u8],
     length: &mut usize,
     spans: &mut [Span],
     count: &mut usize,
 ) -> u32
-    ensures { IsShownInParts mode.now text.now output.old output.new length.new spans.old spans.new
+    ensures { IsShownInParts kept.now text.now output.old output.new length.new spans.old spans.new
         count.new result }
 {
-    match marked(alloc, mode, text) {
+    match marked(alloc, kept, text) {
         Ok((shown, found)) => {
             *length = put_text(output, shown.text().as_bytes());
             *count = put_spans(spans, &found);

@@ -3,8 +3,10 @@
 ghost use Rattle.std.specs.Prelude.{◌≡◌};
 ghost use Rattle.talmuiga_c.specs.Endings.{status_of};
 ghost use Rattle.talmuiga_c.specs.Kept.{text_status};
+ghost use Rattle.talmuiga_c.specs.Skeletons.{form_status};
 
 use decimal_lines::{StartError, TextError};
+use number_forms::StartError as FormError;
 
 /// The whole output is written.
 pub const DONE: u32 = 0;
@@ -30,8 +32,12 @@ pub const NOT_DECIMAL: u32 = 6;
 /// A text has a digit at a power of ten past the limits.
 pub const TOO_MANY_DIGITS: u32 = 7;
 
-/// The nearest compact number of a text is ten to the power 32768 or more.
+/// The number that is shown of a text would be ten to the power 32768 or more, or have a digit at a
+/// power past the limits.
 pub const OVERFLOW: u32 = 8;
+
+/// A skeleton has a fault, or asks for what no form has.
+pub const SKELETON_REFUSED: u32 = 9;
 
 /// The status of a text that isn't shown.
 pub fn text_status(error: TextError) -> u32
@@ -53,5 +59,16 @@ pub fn status_of(error: StartError) -> u32
         StartError::Tables => TABLES_REFUSED,
         StartError::NoData => NO_DATA,
         StartError::OutOfMemory => OUT_OF_MEMORY,
+    }
+}
+
+/// The status where there is no form.
+pub fn form_status(error: FormError) -> u32
+    ensures { result ≡ form_status error }
+{
+    match error {
+        FormError::NotUtf8 | FormError::Refused(_) => TABLES_REFUSED,
+        FormError::NoData => NO_DATA,
+        FormError::OutOfMemory => OUT_OF_MEMORY,
     }
 }

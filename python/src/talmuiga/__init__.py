@@ -1,8 +1,10 @@
-"""Numbers in the form of a locale, in full and in compact form.
+"""Numbers, money, percents and units in the form of a locale, in full and in compact form.
 
     >>> import talmuiga
     >>> talmuiga.Formatter.english().format(1000007)
     '1,000,007'
+    >>> talmuiga.canonical_skeleton("K currency/eur")
+    'compact-short currency/EUR'
 
 A `Formatter` reads its tables once, when it is made, and threads may share it.
 """
@@ -13,7 +15,8 @@ from typing import Iterable, List, Optional, Tuple, Union, cast
 
 from . import _library
 
-__all__ = ["Formatter", "NoData", "NotFormatted", "Number", "Refused", "TablesRefused", "WordsRefused", "tables_fault"]
+__all__ = ["Formatter", "NoData", "NotFormatted", "Number", "Refused", "SkeletonRefused", "TablesRefused", "WordsRefused",
+           "canonical_skeleton", "tables_fault"]
 __version__ = "0.2.0"
 
 #: What is formatted: a whole number, a decimal, a text that spells one, or a float by its shortest text.
@@ -26,7 +29,12 @@ OUT_OF_MEMORY, WORDS_REFUSED, TABLES_REFUSED, NO_DATA = 1, 2, 3, 4
 REASONS = {6: "not a decimal", 7: "too many digits", 8: "overflow"}
 
 #: The names of parts, by their numbers in the library for C.
-PARTS = {1: "minusSign", 2: "plusSign", 3: "integer", 4: "fraction", 5: "group", 6: "decimal"}
+PARTS = {1: "minusSign", 2: "plusSign", 3: "integer", 4: "fraction", 5: "group", 6: "decimal", 7: "currency",
+         8: "percentSign", 9: "perMilleSign", 10: "unit", 11: "compact"}
+
+#: The kinds of faults of skeletons, by their numbers in the library for C.
+KINDS = {1: "notUtf8", 2: "unknownStem", 3: "leftOut", 4: "repeated", 5: "tooManyDigits", 6: "noOptionHere", 7: "straySlash",
+         8: "emptyOption", 9: "badOption", 10: "optionMissing", 11: "incrementOfCompact", 12: "unsupported"}
 
 #: Decimals as long as they are.
 EXACT = Context(prec=MAX_PREC, Emax=MAX_EMAX, Emin=MIN_EMIN, rounding=ROUND_HALF_EVEN)
@@ -38,6 +46,19 @@ class Refused(ValueError):
 
 class WordsRefused(Refused):
     """The locale, the system, the style or the grouping isn't such a word."""
+
+
+class SkeletonRefused(Refused):
+    """The skeleton has a fault: its byte in the skeleton's UTF-8, its kind, as unknownStem, and words for people.
+
+    A skeleton that no formatter of this version has is of the kind unsupported, and its byte is 0.
+    """
+
+    def __init__(self, byte: int, kind: str, words: str):
+        super().__init__(f"the skeleton is refused: {words}, byte {byte}" if kind != "unsupported" else f"the skeleton is {words}")
+        self.byte = byte
+        self.kind = kind
+        self.words = words
 
 
 class TablesRefused(Refused):
@@ -77,6 +98,25 @@ def rounded(text: str, fraction: int) -> str:
         return text
 
 
+def utf8(text: str) -> bytes:
+    """The text in UTF-8; half of a pair stays, and isn't UTF-8."""
+    return text.encode("utf-8", "surrogatepass")
+
+
+def canonical_skeleton(skeleton: str) -> str:
+    """The canonical text of a number skeleton: of all skeletons with its settings the same; else `SkeletonRefused`."""
+    answer = _library.canonical(utf8(skeleton))
+    if isinstance(answer, tuple):
+        raise skeleton_refusal(answer)
+    return answer
+
+
+def skeleton_refusal(fault: Tuple[int, int, str]) -> SkeletonRefused:
+    """The exception of a skeleton with a fault."""
+    byte, kind, words = fault
+    return SkeletonRefused(byte, KINDS.get(kind, "other"), words)
+
+
 def tables_fault(tables: bytes) -> Optional[str]:
     """Why tables are refused, in words for people; none where they are accepted."""
     return _library.fault(bytes(tables)) or None
@@ -103,10 +143,11 @@ def not_formatted(index: int, text: str, status: int) -> Exception:
 class Formatter:
     """Formats numbers by tables (docs/FORMATS.md), in a locale.
 
-    `system` is the numbering system that is preferred, `style` is plain, short or long, and `grouping` auto, never,
-    always or min2; without it the style decides. `fraction` rounds each number half to even to so many digits behind the
-    point. What can't be is refused here, by `WordsRefused`, `TablesRefused` or `NoData`, and want of memory is a
-    `MemoryError`.
+    `system` is the numbering system that is preferred, `style` is plain, short or long, plain by default, and `grouping`
+    auto, never, always or min2; without it the style decides. `fraction` rounds each number half to even to so many digits
+    behind the point. In the place of these four `skeleton` is a number skeleton, as `currency/EUR` or `%x100 .0`, by which
+    the library rounds. What can't be is refused here, by `WordsRefused`, `SkeletonRefused`, `TablesRefused` or `NoData`,
+    and if memory runs out, by `MemoryError`.
     """
 
     def __init__(
@@ -114,17 +155,26 @@ class Formatter:
         tables: bytes,
         locale: str,
         *,
+        skeleton: Optional[str] = None,
         system: Optional[str] = None,
-        style: str = "plain",
+        style: Optional[str] = None,
         grouping: Optional[str] = None,
         fraction: Optional[int] = None,
     ):
-        words = [locale, system or "-", style, grouping or ""]
+        if skeleton is not None and any(word is not None for word in (system, style, grouping, fraction)):
+            raise TypeError("a formatter by a skeleton has no system, style, grouping or fraction")
+        words = [locale] if skeleton is not None else [locale, system or "-", style or "plain", grouping or ""]
         tables = bytes(tables)
+        opened: Union[_library.Capsule, int, Tuple[int, int, str]]
         try:
-            opened = _library.open(tables, *words)
+            if skeleton is None:
+                opened = _library.open(tables, *words)
+            else:
+                opened = _library.open_skeleton(tables, locale, utf8(skeleton))
         except ValueError:  # a NUL, or half of a pair
             raise refusal(WORDS_REFUSED, words) from None
+        if isinstance(opened, tuple):
+            raise skeleton_refusal(opened)
         if isinstance(opened, int):
             raise refusal(opened, words, tables)
         self._opened, self._fraction = opened, fraction
@@ -154,8 +204,8 @@ class Formatter:
         """The text of one number, and of each of its parts where it begins, where it ends, and its name.
 
         The places are those of characters in the text, so that `text[begin:end]` is the part. The names are minusSign,
-        plusSign, integer, fraction, group and decimal; the integer holds the separators of its groups, and in a compact
-        number the sign alone has a part. `NotFormatted` where the number has no text.
+        plusSign, integer, fraction, group, decimal, currency, percentSign and unit; the integer holds the separators of its
+        groups, and in a compact number the sign alone has a part. `NotFormatted` where the number has no text.
         """
         shown = _library.parts(self._opened, self._text(number))
         if isinstance(shown, int):

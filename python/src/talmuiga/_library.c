@@ -30,6 +30,22 @@ static PyObject *open_by_tables(PyObject *Py_UNUSED(module), PyObject *words) {
     return opened(status, formatter);
 }
 
+/* A fault as its byte, the number of its kind and its words. */
+static PyObject *triple_of(const talmuiga_fault *found) {
+    return Py_BuildValue("(nIs)", (Py_ssize_t)found->byte, (unsigned)found->kind, talmuiga_fault_text(found));
+}
+
+static PyObject *open_by_skeleton(PyObject *Py_UNUSED(module), PyObject *words) {
+    const char *tables, *locale, *skeleton;
+    Py_ssize_t len, skeleton_len;
+    talmuiga_fault found;
+    talmuiga_formatter *formatter;
+    if (!PyArg_ParseTuple(words, "y#sy#", &tables, &len, &locale, &skeleton, &skeleton_len)) return NULL;
+    uint32_t status = talmuiga_formatter_open_skeleton(tables, (size_t)len, locale, skeleton, (size_t)skeleton_len, &found,
+                                                       &formatter);
+    return status == TALMUIGA_SKELETON_REFUSED ? triple_of(&found) : opened(status, formatter);
+}
+
 static PyObject *open_english(PyObject *Py_UNUSED(module), PyObject *Py_UNUSED(none)) {
     talmuiga_formatter *formatter;
     uint32_t status = talmuiga_formatter_open_english(&formatter);
@@ -161,8 +177,31 @@ static PyObject *fault(PyObject *Py_UNUSED(module), PyObject *words) {
     return answer;
 }
 
+/* The canonical text of a skeleton, or its fault. */
+static PyObject *canonical(PyObject *Py_UNUSED(module), PyObject *words) {
+    char room[ROOM], *output = room;
+    const char *skeleton;
+    Py_ssize_t len;
+    size_t length;
+    talmuiga_fault found;
+    if (!PyArg_ParseTuple(words, "y#", &skeleton, &len)) return NULL;
+    uint32_t status = talmuiga_skeleton_canonical(skeleton, (size_t)len, output, ROOM, &length, &found);
+    if (status == TALMUIGA_OUTPUT_TOO_SMALL) {
+        output = (char *)PyMem_Malloc(length);
+        if (!output) return PyErr_NoMemory();
+        status = talmuiga_skeleton_canonical(skeleton, (size_t)len, output, length, &length, &found);
+    }
+    PyObject *answer = status == TALMUIGA_OUT_OF_MEMORY      ? PyErr_NoMemory()
+                       : status == TALMUIGA_SKELETON_REFUSED ? triple_of(&found)
+                                                             : PyUnicode_DecodeUTF8(output, (Py_ssize_t)length, NULL);
+    if (output != room) PyMem_Free(output);
+    return answer;
+}
+
 static PyMethodDef methods[] = {
     {"open", open_by_tables, METH_VARARGS, "A formatter by tables and words, or a status."},
+    {"open_skeleton", open_by_skeleton, METH_VARARGS, "A formatter by tables, a locale and a skeleton, or a status or a fault."},
+    {"canonical", canonical, METH_VARARGS, "The canonical text of a skeleton, or a fault."},
     {"open_english", open_english, METH_NOARGS, "A formatter in plain English, or a status."},
     {"fault", fault, METH_VARARGS, "Why tables are refused; an empty text where they aren't."},
     {"one", one, METH_VARARGS, "What a text is formatted to, or a status."},

@@ -1,11 +1,11 @@
--- A mode is written into its place.
+-- What a formatter holds is written into its place.
 use Rattle.talmuiga_c.proofs.Steps.{◌≡◌, List, [], ◌∷◌, prop, regoal, refl, sym, ap, ◌∙◌, full_share, id⊢, ftrue, flft, named}
 use Rattle.talmuiga_c.proofs.Steps.{Val, vunit, fact, tables, ‵, raw, ◌⊛◌, at_ret, ◌$◌, ◌∵◌, !, qed, done, move, keep, use2, split}
 use Rattle.talmuiga_c.proofs.Steps.{join, fsplit, fsplit3, fjoin, feq_i, rewrite, suffices, frame, group, enter, of_opd, unit_lit, load, stop, fld}
 use Rattle.talmuiga_c.proofs.Steps.{assigns_last, first, blocks, exec, returns, alloc_all, pass_all, free_all, look_at, get, through, sets, env}
 use Rattle.talmuiga_c.proofs.Steps.{shows, Ptr, block_ptr, lies_at, in_a_block, MutRef, mut_vals, mut_Tells, plain, nothing, opens, closes, peeks}
 use Rattle.talmuiga_c.proofs.Steps.{heard, Stays, walk_of, says, stay_ref, Goes-ref, stay_dropped, ends_at, yes}
-use Rattle.talmuiga_c.proofs.Owned.{lies_in, mode-Mute, one-value, told-nothing}
+use Rattle.talmuiga_c.proofs.Owned.{lies_in, kept-Mute, one-value, told-nothing}
 use types.Part.{whole, sub, look_in}
 use types.Run.{init}
 use denote.Exit.{rest}
@@ -19,8 +19,8 @@ use Rattle.talmuiga_c.proofs.handle.Formatter.put.Code as code
 use Rattle.talmuiga_c.specs.contracts.handle.Formatter.{the_row as R}
 use Rattle.talmuiga_c.proofs.handle.Formatter.TheLaws.{lowers}
 use Rattle.std.specs.Prelude.{Option}
-use Rattle.decimal_lines.specs.declared.mode.Mode.{Mode}
-use Rattle.decimal_lines.specs.contracts.mode.Mode.{the_row as Held}
+use Rattle.talmuiga_c.specs.declared.kept.Kept.{Kept}
+use Rattle.talmuiga_c.specs.contracts.kept.Kept.{the_row as Held}
 use Rattle.std.proofs.raw_atomic.Walks.{proved_at}
 use Rattle.std.proofs.Common.{◌++◌}
 use prog.Wp.{WpFn}
@@ -32,7 +32,7 @@ stayed = (stay_ref (0 ∷ []) tt (plain (λ _. R)), (stay_dropped _ yes, tt))
 pub put_spec : {M : Type 1} → statement M
 put_spec 𝓤 𝓛 𝓜 𝓡 wired =
     let c = f.clauses 𝓛 𝓜.mem 𝓡.returns in let W = walk_of 𝓛 f.ended stayed c in let 𝓣 = tables 𝓤 𝓛.H 𝓜 𝓡 𝓡.env in
-    proved_at 𝓛 f.ended stayed c 𝓜 𝓡 (Goes-ref 𝓛 1 0 tt (plain (λ _. R)), (told-nothing 𝓛 1 (plain (λ _. Held)) yes (λ κs. mode-Mute), tt))
+    proved_at 𝓛 f.ended stayed c 𝓜 𝓡 (Goes-ref 𝓛 1 0 tt (plain (λ _. R)), (told-nothing 𝓛 1 (plain (λ _. Held)) yes (λ κs. kept-Mute), tt))
     f.Key.name code.function (code.unfolded 𝓤 𝓛.H 𝓜 𝓡 wired)
     (λ y are.
     let κs = y.0.0 in let qs = y.0.1 in let a = y.0.3 in let vs = y.0.4.0 in let ms = y.0.4.1.0 in
@@ -41,7 +41,7 @@ put_spec 𝓤 𝓛 𝓜 𝓡 wired =
     qed 𝓛 (((‵ (flft κs.0 qs.0) ⊛ ‵ ftrue) ⊛ ‵ ((MutRef (named 0) κs.0 R).own_val a.0 vs) ⊛ ‵ (Held.own_val m ms)
     ⊛ ‵ ftrue) ∷ raw (fact 𝓤 (h.held ≡ empty)) ∷ []) ∵
     split ! $ split ! $ move ! (2 ∷ []) $ split ! $ move ! (1 ∷ []) $ split ! $ move ! (5 ∷ []) $ heard ! (h.held ≡ empty) (λ none.
-    -- [the mode; nothing; the reference; the token; nothing]
+    -- [what is to be held; nothing; the reference; the token; nothing]
     keep ! (2 ∷ 3 ∷ 0 ∷ []) $
     regoal ! (λ (us : List Val). prop (WpFn 𝓤 𝓛.H 𝓣.C 𝓣.Λ code.function (us ++ (ms ++ [])) (W.post y))) (mut_Tells (named 0) κs.0 R a.0 vs
     are.0) refl $
@@ -49,19 +49,19 @@ put_spec 𝓤 𝓛 𝓜 𝓡 wired =
     rewrite ! 2 (λ (us : List Val). ‵ (Held.own_val m us)) one.1.0 refl $
     enter ! _ _ _ _ _ $ alloc_all ! (λ l. pass_all ! refl ((tt, tt), (typed, tt)) $ fsplit3 ! $ move ! (1 ∷ 2 ∷ 3 ∷ []) $ opens ! tt R b o (λ us.
     move ! (1 ∷ []) $ peeks ! R _ (shows 𝓛 R) h us (λ is. fsplit ! $ move ! (1 ∷ []) $
-    rewrite ! 0 (λ (x : Option (Option Mode)). ‵ (room_owns h.at x)) none refl $
+    rewrite ! 0 (λ (x : Option (Option Kept)). ‵ (room_owns h.at x)) none refl $
     in_a_block ! h.at (λ p. room_at Held p) (id⊢ 𝓤 _) (λ b' o' e.
     let word = lowers.val_is h us is ∙ ap (λ (p : Ptr). lowers.lowered (record h { at = p }) ∷ []) e in
     let Cell = λ (ws : List Val). ‵ (cell_at full_share R.mir ws b o) in
     rewrite ! 2 Cell word refl $
-    -- [room; what the fields own; the cell; the open borrow, in three entries; the place of self; the mode]
+    -- [room; what the fields own; the cell; the open borrow, in three entries; the place of self; what is to be held]
     first ! $ blocks ! $
     sets ! (of_opd ! (load ! (through ! refl (fld ! refl (stop !))) (look_in ! 2 (sub ! 0 refl (whole !))))) refl (tt, tt) $
     sets ! (of_opd ! (get ! refl)) refl (tt, tt) $ sets ! (of_opd ! (get ! refl)) refl typed $
     assigns_last ! (of_opd ! (get ! refl)) (through ! refl (stop !)) (init ! 0 refl typed) $
     exec ! 𝓣.C 𝓣.Λ (env code.Mir.locals l) (after 1 (code.function).body) (at_ret _ (W.post y)) $
     sets ! (of_opd ! (unit_lit !)) refl (tt, tt) $
-    -- [the mode's cell; what the fields own; the cell; the open borrow, in three entries; the place of self; what the mode owns]
+    -- [its cell; what the fields own; the cell; the open borrow, in three entries; the place of self; what it owns]
     move ! (0 ∷ 7 ∷ []) $ use2 𝓛 (‵ (lies_at Held full_share (block_ptr b' o') m)) (lies_in 𝓛 m b' o' v) $
     rewrite ! 0 (λ (p : Ptr). ‵ (lies_at Held full_share p m)) (sym e) refl $ rewrite ! 2 Cell (sym word) refl $
     move ! (1 ∷ []) $ fjoin ! $ move ! (1 ∷ []) $ closes ! tt R (record h { held = holding m }) us b o $

@@ -1,4 +1,4 @@
--- The mode leaves its place, which is room again.
+-- What a formatter holds leaves its place, which is room again.
 use Rattle.talmuiga_c.proofs.Steps.{◌≡◌, List, [], ◌∷◌, refl, sym, ap, ◌∙◌, proved, full_share, id⊢, ftrue, flft, named, Val}
 use Rattle.talmuiga_c.proofs.Steps.{fact, tables, ‵, raw, ◌⊛◌, at_ret, ◌$◌, ◌∵◌, !, qed, done, move, keep, use1, split, join}
 use Rattle.talmuiga_c.proofs.Steps.{fsplit, fsplit3, fjoin, rewrite, suffices, frame, group, enter, of_opd, load, look, stop, fld, first, blocks}
@@ -18,8 +18,8 @@ use Rattle.talmuiga_c.proofs.handle.Formatter.take.Code as code
 use Rattle.talmuiga_c.specs.contracts.handle.Formatter.{the_row as R}
 use Rattle.talmuiga_c.proofs.handle.Formatter.TheLaws.{lowers}
 use Rattle.std.specs.Prelude.{Option}
-use Rattle.decimal_lines.specs.declared.mode.Mode.{Mode}
-use Rattle.decimal_lines.specs.contracts.mode.Mode.{the_row as Held}
+use Rattle.talmuiga_c.specs.declared.kept.Kept.{Kept}
+use Rattle.talmuiga_c.specs.contracts.kept.Kept.{the_row as Held}
 
 abbrev stayed : Stays f.ended.signature.params f.ended.kept
 stayed = (stay_ref (0 ∷ []) tt (plain (λ _. R)), tt)
@@ -40,13 +40,13 @@ take_spec 𝓤 𝓛 𝓜 𝓡 wired =
     keep ! (0 ∷ 2 ∷ []) $
     enter ! _ _ _ _ _ $ alloc_all ! (λ l. pass_all ! refl ((tt, tt), tt) $ fsplit3 ! $ move ! (1 ∷ 2 ∷ 3 ∷ []) $ opens ! tt R b o (λ us.
     move ! (1 ∷ []) $ peeks ! R _ (shows 𝓛 R) h us (λ is. fsplit ! $ move ! (1 ∷ []) $
-    rewrite ! 0 (λ (x : Option (Option Mode)). ‵ (room_owns h.at x)) found.1 refl $
+    rewrite ! 0 (λ (x : Option (Option Kept)). ‵ (room_owns h.at x)) found.1 refl $
     in_a_block ! h.at (λ p. lies_at Held full_share p m) (id⊢ 𝓤 _) (λ b' o' e.
     let word = lowers.val_is h us is ∙ ap (λ (p : Ptr). lowers.lowered (record h { at = p }) ∷ []) e in
     let Cell = λ (ws : List Val). ‵ (cell_at full_share R.mir ws b o) in
     rewrite ! 2 Cell word refl $
-    lies_out ! m b' o' (λ v is-mode typed.
-    -- [the mode's cell; what the mode owns; what the fields own; the cell; the open borrow, in three entries; the place of self]
+    lies_out ! m b' o' (λ v is-kept typed.
+    -- [its cell; what it owns; what the fields own; the cell; the open borrow, in three entries; the place of self]
     first ! $ blocks ! $
     sets ! (of_opd ! (load ! (through ! refl (fld ! refl (stop !))) (look_in ! 3 (sub ! 0 refl (whole !))))) refl (tt, tt) $
     sets ! (of_opd ! (get ! refl)) refl (tt, tt) $
@@ -56,7 +56,7 @@ take_spec 𝓤 𝓛 𝓜 𝓡 wired =
     use1 𝓛 (‵ (room_at Held (block_ptr b' o'))) (𝓛.laws.at_room layout b' o' v) $
     rewrite ! 0 (λ (p : Ptr). ‵ (room_at Held p)) (sym e) refl $ rewrite ! 3 Cell (sym word) refl $
     move ! (2 ∷ 0 ∷ []) $ fjoin ! $ move ! (2 ∷ 0 ∷ 3 ∷ 4 ∷ 5 ∷ []) $ closes ! tt R (record h { held = empty }) us b o $
-    -- [two parts of self; the token; what the mode owns; the place of self]
+    -- [two parts of self; the token; what it owns; the place of self]
     returns ! (look_at ! 0 refl) $ free_all ! refl $ move ! (4 ∷ []) $
     suffices ! _ (ends_at 𝓛 f.ended stayed c y v m (record h { held = empty }, tt) (tt, tt)) $ says ! (refl, found.1) $
     group ! 3 $ nothing ! $ move ! (1 ∷ 0 ∷ []) $ join ! $ nothing ! $ move ! (2 ∷ 0 ∷ []) $ join ! $ frame ! $ frame ! $ done !)))))))
