@@ -1,5 +1,6 @@
 -- The form of what tables answer, in the order in which they are asked, or the first error.
-use Rattle.std.specs.Prelude.{ℕ, List, Bool, true, not, ◌||◌, ◌==◌, Option, Some, None, option_map, Result, Ok, codes, if◌then◌else◌, pos, ◌-ℤ◌}
+use Rattle.std.specs.Prelude.{ℕ, List, Bool, true, not, ◌||◌, ◌==◌, Option, Some, None, option_map, Result, Ok, codes, if◌then◌else◌}
+use Rattle.std.specs.Prelude.{pos, ◌-ℤ◌}
 use Rattle.std.specs.Option.{is_some}
 use Rattle.icu_pattern.specs.Patterns.{PatternText}
 use Rattle.icu_plurals.specs.Elements.{Elements}
