@@ -1,20 +1,18 @@
 -- What is read of a skeleton, and what it asks for in a locale.
-use Rattle.std.proofs.Common.{◌≡◌, ℕ, Bool, true, false, List, Some, None, Ok, Err, refl, sym, ◌∙◌}
+use Rattle.std.proofs.Common.{◌≡◌, ℕ, Bool, true, false, List, Some, None, Ok, Err, refl, sym}
 use Rattle.std.specs.Prelude.{Result, if◌then◌else◌}
 use Rattle.std.specs.Str.{IsUtf8, IsValidUpTo, is_utf8}
-use Rattle.std.specs.Str.Lossy.{utf8_valid_len}
 use Rattle.std.proofs.lemmas.Str.{IsUtf8-from_is_utf8, is_utf8-from_IsUtf8, utf8_valid_len-IsValidUpTo}
 use Rattle.number_forms.specs.Settings.{FormSettings}
 use Rattle.number_forms.specs.Skeleton.{settings_of}
 use Rattle.number_forms.specs.declared.skeleton.Unsupported.{Unsupported}
 use Rattle.number_skeleton.specs.Tokens.{skeleton_of}
-use Rattle.skeleton_settings.specs.Settings.{SkeletonData, skeleton_data}
+use Rattle.skeleton_settings.specs.Settings.{skeleton_data}
 use Rattle.skeleton_settings.specs.declared.settings.Skeleton.{Skeleton}
 use Rattle.talmuiga_c.specs.Endings.{words_refused}
 use Rattle.talmuiga_c.specs.SkeletonFaults.{no_fault, not_utf8_at}
 use Rattle.talmuiga_c.specs.Skeletons.{AsksFor, lent_skeleton, locale_asked, numbered_fault, settings_asked, skeleton_asked, skeleton_refused, supported}
 use Rattle.talmuiga_c.specs.declared.fault.Fault.{Fault}
-use Rattle.talmuiga_c.specs.declared.skeletons.Rejected.{Rejected}
 use Rattle.talmuiga_c.proofs.SameForm.{SameForms, same-settings}
 
 module _ (bytes : List ℕ) where

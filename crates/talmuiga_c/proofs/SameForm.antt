@@ -1,8 +1,7 @@
 -- A form depends on the names that a skeleton lends, and not on where these lie in memory.
-use Rattle.std.proofs.Common.{◌≡◌, ℕ, List, refl, sym, ap, ◌∙◌, inl, inr}
-use Rattle.std.specs.Prelude.{◌⊎◌, Bool, true, false, Option, Some, None, option_map, Result, Ok, Err, if◌then◌else◌}
+use Rattle.std.proofs.Common.{◌≡◌, ℕ, List, refl, sym, inl, inr}
+use Rattle.std.specs.Prelude.{◌⊎◌, Bool, true, false, Option, Some, None, option_map, Result, Ok, Err}
 use Rattle.std.specs.Borrow.{Bor}
-use Rattle.std.specs.Str.{is_utf8}
 use Rattle.number_forms.specs.Loaded.{unit_loaded}
 use Rattle.number_forms.specs.Making.{form_of}
 use Rattle.number_forms.specs.Settings.{FormSettings}

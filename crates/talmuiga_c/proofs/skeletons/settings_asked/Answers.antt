@@ -1,4 +1,4 @@
-use Rattle.std.proofs.Common.{◌≡◌, Ok, Err, sym}
+use Rattle.std.proofs.Common.{Ok, Err}
 use Rattle.talmuiga_c.proofs.Reading.{asks-for, no_locale, no_skeleton}
 use Rattle.talmuiga_c.proofs.skeletons.settings_asked.Goals as goal
 

@@ -1,6 +1,6 @@
-use Rattle.std.proofs.Common.{◌≡◌, sym, ap, ◌∙◌}
+use Rattle.std.proofs.Common.{sym, ap, ◌∙◌}
 use Rattle.number_skeleton.specs.Tokens.{skeleton_of}
-use Rattle.talmuiga_c.specs.Skeletons.{numbered_fault, read_data}
+use Rattle.talmuiga_c.specs.Skeletons.{numbered_fault}
 use Rattle.talmuiga_c.proofs.Reading.{read-no_text, read-text}
 use Rattle.talmuiga_c.proofs.skeletons.skeleton_asked.Goals as goal
 
