@@ -141,7 +141,7 @@ pub extern "C" fn talmuiga_formatter_open_sized(
 /// Opens a formatter by tables, a locale and a number skeleton. What is wrong with the skeleton is
 /// set, or zeros.
 // promise: Locale, skeleton and tables determine the form, or none.
-// mutations: fault_left_as_it_was, skeleton_judged_before_the_locale
+// mutations: fault_left_as_it_was, tables_judged_before_the_skeleton
 #[unsafe(no_mangle)]
 pub extern "C" fn talmuiga_formatter_open_skeleton_sized(
     alloc: Global,
