@@ -59,12 +59,12 @@ fn report_met(rt: &HostRuntime, settings: &LineSettings, report: &Report) {
 
 /// Runs what is asked for in this form, and reports what went wrong; the status. The heading stands
 /// in front of explanations.
-pub(crate) fn run_formed(
+pub(crate) fn run_formed<'a>(
     rt: &HostRuntime,
-    matches: &ArgMatches<'_>,
+    matches: &ArgMatches<'a>,
     options: Options<'_>,
     form: &Form,
-    heading: &Heading,
+    heading: &'a Heading,
     numbers: Option<&[&str]>,
 ) -> u8 {
     let Heading { skeleton, lines } = heading;
