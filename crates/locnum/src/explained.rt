@@ -69,14 +69,8 @@ fn digits_of_currency<'a>(matches: &ArgMatches<'a>) -> DigitsBy<'a> {
     }
 }
 
-/// What says how fine numbers are: the skeleton, or one of the options.
-fn digits_by<'a>(matches: &ArgMatches<'a>, skeleton: Option<&'a str>) -> DigitsBy<'a> {
-    if let Some(text) = skeleton {
-        return DigitsBy::Option {
-            name: "skeleton",
-            text,
-        };
-    }
+/// Which of the options says how fine numbers are.
+fn digits_by<'a>(matches: &ArgMatches<'a>) -> DigitsBy<'a> {
     for name in PRECISIONS {
         if let Some(digits) = digits_of(matches, name) {
             return digits;
@@ -85,19 +79,39 @@ fn digits_by<'a>(matches: &ArgMatches<'a>, skeleton: Option<&'a str>) -> DigitsB
     digits_of_currency(matches)
 }
 
-/// How the explanations of an input are written.
-pub(crate) fn explainer_for<'a, 'b>(
+/// How the explanations of an input are written where options say how fine numbers are.
+pub(crate) fn explainer_by_options<'a, 'b>(
     rt: &HostRuntime,
     matches: &ArgMatches<'a>,
-    skeleton: Option<&'a str>,
     refusals: Refusals,
     form: &'b Form,
 ) -> Explainer<'a, 'b> {
     Explainer {
         settings: Settings {
             width: columns(rt),
-            digits: digits_by(matches, skeleton),
+            digits: digits_by(matches),
             mode: matches.get_str("round"),
+        },
+        form,
+        stops: refusals == Refusals::Abort,
+    }
+}
+
+/// How they are written where a skeleton says it.
+pub(crate) fn explainer_by_skeleton<'a, 'b>(
+    rt: &HostRuntime,
+    skeleton: &'a str,
+    refusals: Refusals,
+    form: &'b Form,
+) -> Explainer<'a, 'b> {
+    Explainer {
+        settings: Settings {
+            width: columns(rt),
+            digits: DigitsBy::Option {
+                name: "skeleton",
+                text: skeleton,
+            },
+            mode: None,
         },
         form,
         stops: refusals == Refusals::Abort,

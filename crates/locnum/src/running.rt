@@ -1,7 +1,7 @@
 //! What is asked for, run, and what is reported of it.
 
 use crate::ending::status_of_run;
-use crate::explained::{explain_given, explainer_for};
+use crate::explained::{Explainer, explain_given, explainer_by_options, explainer_by_skeleton};
 use crate::explained_fields::explain_fields;
 use crate::headings::Heading;
 use crate::streams::Streams;
@@ -57,25 +57,62 @@ fn report_met(rt: &HostRuntime, settings: &LineSettings, report: &Report) {
     }
 }
 
+/// Runs what is asked for; explanations are written by the explainer, behind the heading.
+fn run_explained(
+    rt: &HostRuntime,
+    streams: &mut Streams,
+    settings: &mut LineSettings,
+    explain: Explain,
+    explainer: &Explainer<'_, '_>,
+    heading: &[u8],
+    numbers: Option<&[&str]>,
+) -> Result<Report, RunError> {
+    match explain {
+        Explain::Nothing => run_given(rt, streams, settings, explainer.form, numbers),
+        Explain::Lines => explain_given(rt, streams, explainer, heading, numbers),
+        Explain::Fields => explain_fields(rt, streams, explainer, settings, heading, numbers),
+    }
+}
+
 /// Runs what is asked for in this form, and reports what went wrong; the status. The heading stands
 /// in front of explanations.
-pub(crate) fn run_formed<'a>(
+pub(crate) fn run_formed(
     rt: &HostRuntime,
-    matches: &ArgMatches<'a>,
+    matches: &ArgMatches<'_>,
     options: Options<'_>,
     form: &Form,
-    heading: &'a Heading,
+    heading: &Heading,
     numbers: Option<&[&str]>,
 ) -> u8 {
     let Heading { skeleton, lines } = heading;
+    let explain = options.explain;
     let mut settings = options.lines;
     let mut streams = Streams::new(rt);
-    let explainer = explainer_for(rt, matches, skeleton.as_deref(), settings.refusals, form);
-    let ran = match options.explain {
-        Explain::Nothing => run_given(rt, &mut streams, &mut settings, form, numbers),
-        Explain::Lines => explain_given(rt, &mut streams, &explainer, lines, numbers),
-        Explain::Fields => {
-            explain_fields(rt, &mut streams, &explainer, &mut settings, lines, numbers)
+    let refusals = settings.refusals;
+    let ran = match skeleton {
+        Some(text) => {
+            let explainer = explainer_by_skeleton(rt, text.as_str(), refusals, form);
+            run_explained(
+                rt,
+                &mut streams,
+                &mut settings,
+                explain,
+                &explainer,
+                lines,
+                numbers,
+            )
+        }
+        None => {
+            let explainer = explainer_by_options(rt, matches, refusals, form);
+            run_explained(
+                rt,
+                &mut streams,
+                &mut settings,
+                explain,
+                &explainer,
+                lines,
+                numbers,
+            )
         }
     };
     match &ran {
