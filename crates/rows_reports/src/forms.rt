@@ -7,7 +7,7 @@ use crate::lines::{ran, reported};
 use crate::options::{parsed, settings_of};
 use crate::words::{Pair, file_of, given, options_of};
 use crate::{CallResult, lines, parts, records};
-use decimal_lines::Mode;
+use decimal_lines::{Mode, TextError};
 use fixed_decimal::{Decimal, Sign};
 use locnum_lines::LineSettings;
 use number_forms::{Form, Formatter, Settings};
@@ -40,6 +40,7 @@ fn pushed(alloc: Global, form: &Form, text: &[u8]) -> CallResult {
     let mut out = Vec::new(alloc);
     match form.push(alloc, text, &mut out) {
         Ok(()) => Ok(Some(text_of(alloc, &out)?)),
+        Err(TextError::OutOfMemory) => Err(AllocError),
         Err(error) if out.is_empty() => not_written(alloc, error),
         Err(_) => Ok(Some(text_of(alloc, &out)?)),
     }
