@@ -25,7 +25,7 @@ use Rattle.icu_table_entries.specs.Reading.{◌>>=◌, entries_in, object_in, op
 use Rattle.icu_table_entries.specs.declared.error.Key.{Key}
 use Rattle.icu_table_entries.specs.declared.error.Key.TheVariants.{Percents, Units, Currencies, CurrencySymbols, CurrencyDecimals}
 use Rattle.icu_table_entries.specs.declared.error.Key.TheVariants.{CurrencyDigits, CurrencyCompact}
-use Rattle.icu_table_entries.specs.declared.error.Key.TheVariants.{Symbols, Digits, Rules, Short, Long}
+use Rattle.icu_table_entries.specs.declared.error.Key.TheVariants.{Symbols, Digits, Rules, Short, Long, Ordinals}
 use Rattle.icu_tables.specs.ForLocale.{AddsMembers, FoundData, Holds, IsFor, IsOnce}
 use Rattle.icu_tables.specs.Symbols.{symbols_at}
 use Rattle.icu_tables.specs.Tables.{TablesData, tables_of}
@@ -187,9 +187,10 @@ module _ (locale : List ℕ) (ts : List Token) (f : AllFoundData) (rest : List T
   numbers_stay : (key : Key) (d : Data) (ds : Members) → has_float d ≡ false → pointwise nat_eq (name_of Symbols) (name_of key) ≡ false
       → pointwise nat_eq (name_of Digits) (name_of key) ≡ false → pointwise nat_eq (name_of Rules) (name_of key) ≡ false
       → pointwise nat_eq (name_of Short) (name_of key) ≡ false → pointwise nat_eq (name_of Long) (name_of key) ≡ false
+      → pointwise nat_eq (name_of Ordinals) (name_of key) ≡ false
       → Holds locale ds f.numbers → Holds locale (put (name_of key) d ds) f.numbers
-  numbers_stay key d ds none symbols digits rules short long = adds_other locale (name_of key) d ds f.numbers none (apart _ _ symbols)
-      (apart _ _ digits) (apart _ _ rules) (apart _ _ short) (apart _ _ long)
+  numbers_stay key d ds none symbols digits rules short long ordinals = adds_other locale (name_of key) d ds f.numbers none (apart _ _ symbols)
+      (apart _ _ digits) (apart _ _ rules) (apart _ _ short) (apart _ _ long) (apart _ _ ordinals)
 
   -- the first member with the digits of currencies
   pub adds_digits : (name : List ℕ) (slot : Option (List DigitsRow)) → name ≡ name_of CurrencyDigits
@@ -198,7 +199,7 @@ module _ (locale : List ℕ) (ts : List Token) (f : AllFoundData) (rest : List T
     d,
     is,
     λ ds holds. rw same record {
-      numbers = numbers_stay CurrencyDigits d ds is.1 refl refl refl refl refl holds.numbers;
+      numbers = numbers_stay CurrencyDigits d ds is.1 refl refl refl refl refl refl holds.numbers;
       digits = HoldsAt-here digits_row_at (λ entry. true) CurrencyDigits d ds kept served;
       percents = HoldsAt-other percents_at (is_of locale) Percents _ d ds f.percents (apart _ _ refl) holds.percents;
       units = HoldsAt-other units_at (unit_is_of locale) Units _ d ds f.units (apart _ _ refl) holds.units;
@@ -216,7 +217,7 @@ module _ (locale : List ℕ) (ts : List Token) (f : AllFoundData) (rest : List T
     d,
     is,
     λ ds holds. rw same record {
-      numbers = numbers_stay Percents d ds is.1 refl refl refl refl refl holds.numbers;
+      numbers = numbers_stay Percents d ds is.1 refl refl refl refl refl refl holds.numbers;
       digits = HoldsAt-other digits_row_at (λ entry. true) CurrencyDigits _ d ds f.digits (apart _ _ refl) holds.digits;
       percents = HoldsAt-here percents_at (is_of locale) Percents d ds kept served;
       units = HoldsAt-other units_at (unit_is_of locale) Units _ d ds f.units (apart _ _ refl) holds.units;
@@ -234,7 +235,7 @@ module _ (locale : List ℕ) (ts : List Token) (f : AllFoundData) (rest : List T
     d,
     is,
     λ ds holds. rw same record {
-      numbers = numbers_stay Units d ds is.1 refl refl refl refl refl holds.numbers;
+      numbers = numbers_stay Units d ds is.1 refl refl refl refl refl refl holds.numbers;
       digits = HoldsAt-other digits_row_at (λ entry. true) CurrencyDigits _ d ds f.digits (apart _ _ refl) holds.digits;
       percents = HoldsAt-other percents_at (is_of locale) Percents _ d ds f.percents (apart _ _ refl) holds.percents;
       units = HoldsAt-here units_at (unit_is_of locale) Units d ds kept served;
@@ -252,7 +253,7 @@ module _ (locale : List ℕ) (ts : List Token) (f : AllFoundData) (rest : List T
     d,
     is,
     λ ds holds. rw same record {
-      numbers = numbers_stay Currencies d ds is.1 refl refl refl refl refl holds.numbers;
+      numbers = numbers_stay Currencies d ds is.1 refl refl refl refl refl refl holds.numbers;
       digits = HoldsAt-other digits_row_at (λ entry. true) CurrencyDigits _ d ds f.digits (apart _ _ refl) holds.digits;
       percents = HoldsAt-other percents_at (is_of locale) Percents _ d ds f.percents (apart _ _ refl) holds.percents;
       units = HoldsAt-other units_at (unit_is_of locale) Units _ d ds f.units (apart _ _ refl) holds.units;
@@ -271,7 +272,7 @@ module _ (locale : List ℕ) (ts : List Token) (f : AllFoundData) (rest : List T
     d,
     is,
     λ ds holds. rw same record {
-      numbers = numbers_stay CurrencySymbols d ds is.1 refl refl refl refl refl holds.numbers;
+      numbers = numbers_stay CurrencySymbols d ds is.1 refl refl refl refl refl refl holds.numbers;
       digits = HoldsAt-other digits_row_at (λ entry. true) CurrencyDigits _ d ds f.digits (apart _ _ refl) holds.digits;
       percents = HoldsAt-other percents_at (is_of locale) Percents _ d ds f.percents (apart _ _ refl) holds.percents;
       units = HoldsAt-other units_at (unit_is_of locale) Units _ d ds f.units (apart _ _ refl) holds.units;
@@ -289,7 +290,7 @@ module _ (locale : List ℕ) (ts : List Token) (f : AllFoundData) (rest : List T
     d,
     is,
     λ ds holds. rw same record {
-      numbers = numbers_stay CurrencyDecimals d ds is.1 refl refl refl refl refl holds.numbers;
+      numbers = numbers_stay CurrencyDecimals d ds is.1 refl refl refl refl refl refl holds.numbers;
       digits = HoldsAt-other digits_row_at (λ entry. true) CurrencyDigits _ d ds f.digits (apart _ _ refl) holds.digits;
       percents = HoldsAt-other percents_at (is_of locale) Percents _ d ds f.percents (apart _ _ refl) holds.percents;
       units = HoldsAt-other units_at (unit_is_of locale) Units _ d ds f.units (apart _ _ refl) holds.units;
@@ -307,7 +308,7 @@ module _ (locale : List ℕ) (ts : List Token) (f : AllFoundData) (rest : List T
     d,
     is,
     λ ds holds. rw same record {
-      numbers = numbers_stay CurrencyCompact d ds is.1 refl refl refl refl refl holds.numbers;
+      numbers = numbers_stay CurrencyCompact d ds is.1 refl refl refl refl refl refl holds.numbers;
       digits = HoldsAt-other digits_row_at (λ entry. true) CurrencyDigits _ d ds f.digits (apart _ _ refl) holds.digits;
       percents = HoldsAt-other percents_at (is_of locale) Percents _ d ds f.percents (apart _ _ refl) holds.percents;
       units = HoldsAt-other units_at (unit_is_of locale) Units _ d ds f.units (apart _ _ refl) holds.units;

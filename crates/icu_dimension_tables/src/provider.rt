@@ -15,7 +15,7 @@ use icu_dimension::provider::{
     UnitsLongV1, UnitsNarrowV1, UnitsShortV1,
 };
 use icu_dimension_data::{CompactRows, CurrencyDigits, SignedPatterns};
-use icu_plurals::{PluralElements, PluralRules, PluralsCardinalV1};
+use icu_plurals::{PluralElements, PluralRules, PluralsCardinalV1, PluralsOrdinalV1};
 use icu_provider::{
     DataError, DataErrorKind, DataIdentifierBorrowed, DataLocale, DataProvider, DataRequest,
 };
@@ -46,6 +46,14 @@ impl DataProvider<PluralsCardinalV1> for AllTables {
 
     fn load(&self, alloc: Global, request: &DataRequest<'_>) -> Result<PluralRules, DataError> {
         <Tables as DataProvider<PluralsCardinalV1>>::load(&self.numbers, alloc, request)
+    }
+}
+
+impl DataProvider<PluralsOrdinalV1> for AllTables {
+    ghost answer = { λ t. ⟦<Tables as DataProvider<PluralsOrdinalV1>>⟧.answer t.numbers };
+
+    fn load(&self, alloc: Global, request: &DataRequest<'_>) -> Result<PluralRules, DataError> {
+        <Tables as DataProvider<PluralsOrdinalV1>>::load(&self.numbers, alloc, request)
     }
 }
 

@@ -30,6 +30,6 @@ mod whole_number;
 pub use category::PluralCategory;
 pub use elements::PluralElements;
 pub use icu_plurals_conditions::{RulesError, error};
-pub use loading::{PluralRulesPreferences, PluralsCardinalV1};
+pub use loading::{PluralRulesPreferences, PluralsCardinalV1, PluralsOrdinalV1};
 pub use operands::{PluralOperands, RawPluralOperands};
 pub use rules::PluralRules;

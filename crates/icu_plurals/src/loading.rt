@@ -16,6 +16,13 @@ impl DataMarker for PluralsCardinalV1 {
     type DataStruct = PluralRules;
 }
 
+/// The ordinal rules of a locale (ICU4X, `PluralsOrdinalV1`).
+pub struct PluralsOrdinalV1;
+
+impl DataMarker for PluralsOrdinalV1 {
+    type DataStruct = PluralRules;
+}
+
 /// The locale to make plural rules for (ICU4X, `PluralRulesPreferences`).
 #[derive(Clone, Copy, Debug, PartialEq, Eq)]
 pub struct PluralRulesPreferences {
@@ -51,5 +58,23 @@ impl PluralRules {
     {
         let id = DataIdentifierBorrowed::for_locale(&prefs.locale_preferences);
         provider.load(alloc, &DataRequest { id, silent: false })
+    }
+
+    /// The ordinal rules that the provider has for the locale, as of `1st`, `2nd` and `3rd`. The
+    /// provider is asked once, without a numbering system and not silently.
+    // promise: Ordinal rules are the provider's by the locale.
+    // mutations: ordinal_rules_asked_by_a_system
+    pub fn try_new_ordinal_unstable<D: DataProvider<PluralsOrdinalV1>>(
+        alloc: Global,
+        provider: &D,
+        prefs: PluralRulesPreferences,
+    ) -> Result<Self, DataError>
+        ensures { Answers result
+            (D.answer provider.now (record { system = None; locale = prefs.locale_preferences })) }
+    {
+        let locale = &prefs.locale_preferences;
+        let id = DataIdentifierBorrowed::for_locale(locale);
+        let request = DataRequest { id, silent: false };
+        provider.load(alloc, &request)
     }
 }

@@ -6,6 +6,7 @@ use Rattle.icu_table_entries.specs.declared.error.Key.TheVariants.{Minus, Plus, 
 use Rattle.icu_table_entries.specs.declared.error.Key.TheVariants.{Sizes, Patterns, ExplicitZero, ExplicitOne, Zero, One, Two, Few, Many, Other}
 use Rattle.icu_table_entries.specs.declared.error.Key.TheVariants.{CurrencyDigits, Percents, Units, Currencies, CurrencySymbols, CurrencyDecimals}
 use Rattle.icu_table_entries.specs.declared.error.Key.TheVariants.{CurrencyCompact, Pattern, Percent, Width, Unit, Standard, Accounting, Names}
+use Rattle.icu_table_entries.specs.declared.error.Key.TheVariants.{Ordinals, Permille}
 
 -- as the document spells them
 abbrev pub name_of : Key → List ℕ
@@ -46,3 +47,5 @@ name_of Unit = codes "unit"
 name_of Standard = codes "standard"
 name_of Accounting = codes "accounting"
 name_of Names = codes "names"
+name_of Ordinals = codes "ordinals"
+name_of Permille = codes "permille"

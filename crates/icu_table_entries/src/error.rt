@@ -51,6 +51,8 @@ pub enum Key {
     Standard,
     Accounting,
     Names,
+    Ordinals,
+    Permille,
 }
 
 impl Key {
@@ -98,6 +100,8 @@ impl Key {
             Key::Standard => "standard",
             Key::Accounting => "accounting",
             Key::Names => "names",
+            Key::Ordinals => "ordinals",
+            Key::Permille => "permille",
         }
     }
 }

@@ -40,7 +40,7 @@ use Rattle.icu_tables.specs.Rules.{rules_at}
 use Rattle.icu_tables.specs.Symbols.{symbols_at}
 use Rattle.icu_tables.specs.Tables.{tables_at, tables_in, tables_of}
 use Rattle.icu_table_entries.specs.declared.error.Key.{Key}
-use Rattle.icu_table_entries.specs.declared.error.Key.TheVariants.{Symbols, Digits, Rules, Short, Long}
+use Rattle.icu_table_entries.specs.declared.error.Key.TheVariants.{Symbols, Digits, Rules, Short, Long, Ordinals}
 use Rattle.icu_table_entries.specs.declared.error.Position.{Position}
 use Rattle.icu_table_entries.specs.declared.error.TableError.{TableError}
 use Rattle.icu_table_entries.specs.declared.error.TableError.TheVariants.{NotJson}
@@ -203,14 +203,15 @@ OnOk-map (Err e) f holds = holds
 -- a member that is no list of tables
 pub adds_other : (locale name : List ℕ) (d : Data) (ds : Members) (f : FoundData) → has_float d ≡ false
     → (name_of Symbols ≡ name → ⊥) → (name_of Digits ≡ name → ⊥) → (name_of Rules ≡ name → ⊥) → (name_of Short ≡ name
-    → ⊥) → (name_of Long ≡ name → ⊥)
+    → ⊥) → (name_of Long ≡ name → ⊥) → (name_of Ordinals ≡ name → ⊥)
     → Holds locale ds f → Holds locale (put name d ds) f
-adds_other locale name d ds f none symbols digits rules short long holds = record {
+adds_other locale name d ds f none symbols digits rules short long ordinals holds = record {
   symbols = HoldsAt-other symbols_at (is_of locale) Symbols name d ds f.symbols symbols holds.symbols;
   digits = HoldsAt-other digits_at (λ entry. true) Digits name d ds f.digits digits holds.digits;
   rules = HoldsAt-other rules_at (is_of locale) Rules name d ds f.rules rules holds.rules;
   short = HoldsAt-other compact_at (is_of locale) Short name d ds f.short short holds.short;
   long = HoldsAt-other compact_at (is_of locale) Long name d ds f.long long holds.long;
+  ordinals = HoldsAt-other rules_at (is_of locale) Ordinals name d ds f.ordinals ordinals holds.ordinals;
   whole = members_have_float-put name d ds none holds.whole;
 }
 
@@ -228,6 +229,7 @@ module _ (locale : List ℕ) (ts : List Token) (f : FoundData) (rest : List Toke
       rules = HoldsAt-other rules_at (is_of locale) Rules _ d ds f.rules (apart _ _ refl) holds.rules;
       short = HoldsAt-other compact_at (is_of locale) Short _ d ds f.short (apart _ _ refl) holds.short;
       long = HoldsAt-other compact_at (is_of locale) Long _ d ds f.long (apart _ _ refl) holds.long;
+      ordinals = HoldsAt-other rules_at (is_of locale) Ordinals _ d ds f.ordinals (apart _ _ refl) holds.ordinals;
       whole = members_have_float-put _ d ds is.1 holds.whole;
     },
   )
@@ -245,6 +247,7 @@ module _ (locale : List ℕ) (ts : List Token) (f : FoundData) (rest : List Toke
       rules = HoldsAt-other rules_at (is_of locale) Rules _ d ds f.rules (apart _ _ refl) holds.rules;
       short = HoldsAt-other compact_at (is_of locale) Short _ d ds f.short (apart _ _ refl) holds.short;
       long = HoldsAt-other compact_at (is_of locale) Long _ d ds f.long (apart _ _ refl) holds.long;
+      ordinals = HoldsAt-other rules_at (is_of locale) Ordinals _ d ds f.ordinals (apart _ _ refl) holds.ordinals;
       whole = members_have_float-put _ d ds is.1 holds.whole;
     },
   )
@@ -261,6 +264,7 @@ module _ (locale : List ℕ) (ts : List Token) (f : FoundData) (rest : List Toke
       rules = HoldsAt-here rules_at (is_of locale) Rules d ds kept served;
       short = HoldsAt-other compact_at (is_of locale) Short _ d ds f.short (apart _ _ refl) holds.short;
       long = HoldsAt-other compact_at (is_of locale) Long _ d ds f.long (apart _ _ refl) holds.long;
+      ordinals = HoldsAt-other rules_at (is_of locale) Ordinals _ d ds f.ordinals (apart _ _ refl) holds.ordinals;
       whole = members_have_float-put _ d ds is.1 holds.whole;
     },
   )
@@ -278,6 +282,7 @@ module _ (locale : List ℕ) (ts : List Token) (f : FoundData) (rest : List Toke
       rules = HoldsAt-other rules_at (is_of locale) Rules _ d ds f.rules (apart _ _ refl) holds.rules;
       short = HoldsAt-here compact_at (is_of locale) Short d ds kept served;
       long = HoldsAt-other compact_at (is_of locale) Long _ d ds f.long (apart _ _ refl) holds.long;
+      ordinals = HoldsAt-other rules_at (is_of locale) Ordinals _ d ds f.ordinals (apart _ _ refl) holds.ordinals;
       whole = members_have_float-put _ d ds is.1 holds.whole;
     },
   )
@@ -294,6 +299,25 @@ module _ (locale : List ℕ) (ts : List Token) (f : FoundData) (rest : List Toke
       rules = HoldsAt-other rules_at (is_of locale) Rules _ d ds f.rules (apart _ _ refl) holds.rules;
       short = HoldsAt-other compact_at (is_of locale) Short _ d ds f.short (apart _ _ refl) holds.short;
       long = HoldsAt-here compact_at (is_of locale) Long d ds kept served;
+      ordinals = HoldsAt-other rules_at (is_of locale) Ordinals _ d ds f.ordinals (apart _ _ refl) holds.ordinals;
+      whole = members_have_float-put _ d ds is.1 holds.whole;
+    },
+  )
+
+  -- the first member with ordinal rules
+  pub adds_ordinals : (name : List ℕ) (slot : Option (List (NamedEntry (List Rule)))) → name ≡ name_of Ordinals
+      → IsOnce rules_at (is_of locale) Ordinals ts f.ordinals slot rest
+      → AddsMembers (λ l ds f. Holds l ds f) locale name ts f (record f { ordinals = slot }) rest
+  adds_ordinals name slot named (fresh, kept, same, (d, is, served)) = rw named (
+    d,
+    is,
+    λ ds holds. rw same record {
+      symbols = HoldsAt-other symbols_at (is_of locale) Symbols _ d ds f.symbols (apart _ _ refl) holds.symbols;
+      digits = HoldsAt-other digits_at (λ entry. true) Digits _ d ds f.digits (apart _ _ refl) holds.digits;
+      rules = HoldsAt-other rules_at (is_of locale) Rules _ d ds f.rules (apart _ _ refl) holds.rules;
+      short = HoldsAt-other compact_at (is_of locale) Short _ d ds f.short (apart _ _ refl) holds.short;
+      long = HoldsAt-other compact_at (is_of locale) Long _ d ds f.long (apart _ _ refl) holds.long;
+      ordinals = HoldsAt-here rules_at (is_of locale) Ordinals d ds kept served;
       whole = members_have_float-put _ d ds is.1 holds.whole;
     },
   )
@@ -315,22 +339,32 @@ module _ {F : Type 0} (holds : List ℕ → Members → F → Type 0) where
 -- the tables of members of which each list was read
 tables_read : (ds : Members) (s g : Data) (symbols : List (NamedEntry DecimalSymbols)) (digits : List SystemDigits)
     (rules : Option (List (NamedEntry (List Rule))))
-    (short long : Option (List (NamedEntry (List TableEntry))))
+    (short long : Option (List (NamedEntry (List TableEntry)))) (ordinals : Option (List (NamedEntry (List Rule))))
     → members_have_float ds ≡ false → get_member (name_of Symbols) ds ≡ Some s → entries_in symbols_at Symbols s ≡ Ok symbols
     → get_member (name_of Digits) ds ≡ Some g → entries_in digits_at Digits g ≡ Ok digits
     → optional (entries_in rules_at Rules) (get_member (name_of Rules) ds) ≡ Ok rules
     → optional (entries_in compact_at Short) (get_member (name_of Short) ds) ≡ Ok short
     → optional (entries_in compact_at Long) (get_member (name_of Long) ds) ≡ Ok long
-    → tables_in (object ds) ≡ Ok (record { symbols = symbols; digits = digits; rules = rules; short = short; long = long })
+    → optional (entries_in rules_at Ordinals) (get_member (name_of Ordinals) ds) ≡ Ok ordinals
+    → tables_in (object ds)
+    ≡ Ok (record { symbols = symbols; digits = digits; rules = rules; short = short; long = long; ordinals = ordinals })
 unfolding tables_in tables_at entries_under member_at optional_at object_in
-tables_read ds s g symbols digits rules short long whole has_symbols reads_symbols has_digits reads_digits reads_rules reads_short reads_long =
-    rw (whole, has_symbols, reads_symbols, has_digits, reads_digits, reads_rules, reads_short, reads_long) refl
+tables_read ds s g symbols digits rules short long ordinals whole has_symbols reads_symbols has_digits reads_digits reads_rules reads_short
+    reads_long reads_ordinals =
+    rw (whole, has_symbols, reads_symbols, has_digits, reads_digits, reads_rules, reads_short, reads_long, reads_ordinals) refl
 
 -- the tables of what was found, where the lists are that have to be
 pub tables_for : (locale text : List ℕ) (ds : Members) (f : FoundData) (symbols : List (NamedEntry DecimalSymbols)) (digits : List SystemDigits)
     → Holds locale ds f → read_text text ≡ Some (object ds)
     → f.symbols ≡ Some symbols → f.digits ≡ Some digits
-    → IsFor locale (record { symbols = symbols; digits = digits; rules = f.rules; short = f.short; long = f.long }) (tables_of text)
+    → IsFor locale (record {
+      symbols = symbols;
+      digits = digits;
+      rules = f.rules;
+      short = f.short;
+      long = f.long;
+      ordinals = f.ordinals;
+    }) (tables_of text)
 unfolding tables_of
 tables_for locale text ds f symbols digits holds reads has_symbols has_digits =
     let s = HoldsAt-some symbols_at (is_of locale) Symbols (get_member (name_of Symbols) ds) symbols (rw has_symbols at holds.symbols) in
@@ -338,19 +372,25 @@ tables_for locale text ds f symbols digits holds reads has_symbols has_digits =
     let r = optional_read rules_at (is_of locale) Rules (get_member (name_of Rules) ds) f.rules holds.rules in
     let h = optional_read compact_at (is_of locale) Short (get_member (name_of Short) ds) f.short holds.short in
     let l = optional_read compact_at (is_of locale) Long (get_member (name_of Long) ds) f.long holds.long in
-    let read = tables_read ds s.0 g.0 s.2.0 g.2.0 r.0 h.0 l.0 holds.whole s.1 s.2.1 g.1 g.2.1 r.1 h.1 l.1 in
+    let o = optional_read rules_at (is_of locale) Ordinals (get_member (name_of Ordinals) ds) f.ordinals holds.ordinals in
+    let read = tables_read ds s.0 g.0 s.2.0 g.2.0 r.0 h.0 l.0 o.0 holds.whole s.1 s.2.1 g.1 g.2.1 r.1 h.1 l.1 o.1 in
     let answers : AnswersAs locale (record {
       symbols = symbols;
       digits = digits;
       rules = f.rules;
       short = f.short;
       long = f.long;
-    }) (record { symbols = s.2.0; digits = g.2.0; rules = r.0; short = h.0; long = l.0 }) =
+      ordinals = f.ordinals;
+    }) (record { symbols = s.2.0; digits = g.2.0; rules = r.0; short = h.0; long = l.0; ordinals = o.0 }) =
     record {
       symbols = λ id same. ap (λ xs. filed_answer xs id) s.2.2 ∙ ap or_not_found (first_filed-filter locale id same s.2.0);
       digits = λ system. ap (λ xs. system_answer xs system) (g.2.2 ∙ filter-all g.2.0);
       rules = optional_same locale f.rules r.0 r.2;
       short = optional_same locale f.short h.0 h.2;
       long = optional_same locale f.long l.0 l.2;
-    } in
-    (record { symbols = s.2.0; digits = g.2.0; rules = r.0; short = h.0; long = l.0 }, ap (λ o. ok_or o NotJson >>= tables_in) reads ∙ read, answers)
+      ordinals = optional_same locale f.ordinals o.0 o.2;
+    } in (
+      record { symbols = s.2.0; digits = g.2.0; rules = r.0; short = h.0; long = l.0; ordinals = o.0 },
+      ap (λ d. ok_or d NotJson >>= tables_in) reads ∙ read,
+      answers,
+    )

@@ -20,7 +20,7 @@ use Rattle.icu_tables.specs.Rules.{rules_at}
 use Rattle.icu_tables.specs.Symbols.{symbols_at}
 use Rattle.icu_tables.specs.Tables.{TablesData}
 use Rattle.icu_table_entries.specs.declared.error.Key.{Key}
-use Rattle.icu_table_entries.specs.declared.error.Key.TheVariants.{Symbols, Digits, Rules, Short, Long}
+use Rattle.icu_table_entries.specs.declared.error.Key.TheVariants.{Symbols, Digits, Rules, Short, Long, Ordinals}
 use Rattle.icu_table_entries.specs.declared.error.Position.{Position}
 use Rattle.icu_table_entries.specs.declared.error.TableError.{TableError}
 
@@ -31,6 +31,7 @@ pub record AnswersAs (locale : List ℕ) (kept all : TablesData) : Type 0 where
   pub rules : (id : Identifier) → id.locale ≡ locale → optional_answer kept.rules id ≡ optional_answer all.rules id
   pub short : (id : Identifier) → id.locale ≡ locale → optional_answer kept.short id ≡ optional_answer all.short id
   pub long : (id : Identifier) → id.locale ≡ locale → optional_answer kept.long id ≡ optional_answer all.long id
+  pub ordinals : (id : Identifier) → id.locale ≡ locale → optional_answer kept.ordinals id ≡ optional_answer all.ordinals id
 
 -- tables for a locale, of the tables that were read
 abbrev pub IsFor : List ℕ → TablesData → Result TablesData TableError → Type 0
@@ -70,6 +71,7 @@ pub record FoundData : Type 0 where
   pub rules : Option (List (NamedEntry (List Rule)))
   pub short : Option (List (NamedEntry (List TableEntry)))
   pub long : Option (List (NamedEntry (List TableEntry)))
+  pub ordinals : Option (List (NamedEntry (List Rule)))
 
 -- what is kept of these members for a locale; all their numbers are whole
 pub record Holds (locale : List ℕ) (ds : Members) (f : FoundData) : Type 0 where
@@ -78,6 +80,7 @@ pub record Holds (locale : List ℕ) (ds : Members) (f : FoundData) : Type 0 whe
   pub rules : HoldsAt rules_at (is_of locale) Rules (get_member (name_of Rules) ds) f.rules
   pub short : HoldsAt compact_at (is_of locale) Short (get_member (name_of Short) ds) f.short
   pub long : HoldsAt compact_at (is_of locale) Long (get_member (name_of Long) ds) f.long
+  pub ordinals : HoldsAt rules_at (is_of locale) Ordinals (get_member (name_of Ordinals) ds) f.ordinals
   pub whole : members_have_float ds ≡ false
 
 -- one member more, whose value is in front of tokens

@@ -12,7 +12,7 @@ use Rattle.icu_table_entries.specs.Named.{NamedEntry}
 use Rattle.icu_table_entries.specs.Reading.{◌>>=◌, ok_or, optional_at, object_in, entries_in, entries_under}
 use Rattle.icu_tables.specs.Rules.{rules_at}
 use Rattle.icu_tables.specs.Symbols.{symbols_at}
-use Rattle.icu_table_entries.specs.declared.error.Key.TheVariants.{Document, Symbols, Digits, Rules, Short, Long}
+use Rattle.icu_table_entries.specs.declared.error.Key.TheVariants.{Document, Symbols, Digits, Rules, Short, Long, Ordinals}
 use Rattle.icu_table_entries.specs.declared.error.TableError.{TableError}
 use Rattle.icu_table_entries.specs.declared.error.TableError.TheVariants.{NotJson, Float}
 
@@ -23,6 +23,7 @@ pub record TablesData : Type 0 where
   pub rules : Option (List (NamedEntry (List Rule)))
   pub short : Option (List (NamedEntry (List TableEntry)))
   pub long : Option (List (NamedEntry (List TableEntry)))
+  pub ordinals : Option (List (NamedEntry (List Rule)))
 
 -- the tables of an object, key by key
 unfoldable pub tables_at : Data → Result TablesData TableError
@@ -33,7 +34,8 @@ tables_at d = do
   rules ← optional_at (entries_in rules_at Rules) Rules d
   short ← optional_at (entries_in compact_at Short) Short d
   long ← optional_at (entries_in compact_at Long) Long d
-  Ok (record { symbols = symbols; digits = digits; rules = rules; short = short; long = long })
+  ordinals ← optional_at (entries_in rules_at Ordinals) Ordinals d
+  Ok (record { symbols = symbols; digits = digits; rules = rules; short = short; long = long; ordinals = ordinals })
 
 -- before that the whole value is searched for numbers that aren't whole
 unfoldable pub tables_in : Data → Result TablesData TableError

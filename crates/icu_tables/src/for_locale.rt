@@ -60,6 +60,7 @@ pub struct Found {
     rules: Option<Vec<NamedEntry<PluralRules>>>,
     short: Option<Vec<NamedEntry<CompactPatterns<SinglePlaceholder>>>>,
     long: Option<Vec<NamedEntry<CompactPatterns<SinglePlaceholder>>>>,
+    ordinals: Option<Vec<NamedEntry<PluralRules>>>,
 }
 
 impl Model for Found {
@@ -74,6 +75,7 @@ impl Model for Found {
       rules = option_map (λ v. v.items) f.rules;
       short = option_map (λ v. v.items) f.short;
       long = option_map (λ v. v.items) f.long;
+      ordinals = option_map (λ v. v.items) f.ordinals;
     } };
 }
 
@@ -134,6 +136,7 @@ impl Kept for Found {
             rules: None,
             short: None,
             long: None,
+            ordinals: None,
         }
     }
 
@@ -152,6 +155,9 @@ impl Kept for Found {
             "rules" => once::<RulesEntry>(alloc, locale, Key::Rules, reader, &mut self.rules),
             "short" => once::<CompactEntry>(alloc, locale, Key::Short, reader, &mut self.short),
             "long" => once::<CompactEntry>(alloc, locale, Key::Long, reader, &mut self.long),
+            "ordinals" => {
+                once::<RulesEntry>(alloc, locale, Key::Ordinals, reader, &mut self.ordinals)
+            }
             _ => {
                 drop(owned(alloc, reader, MOST_NESTED)?);
                 Ok(())
@@ -208,6 +214,7 @@ impl Found {
             rules: self.rules,
             short: self.short,
             long: self.long,
+            ordinals: self.ordinals,
         })
     }
 }

@@ -11,7 +11,7 @@ use icu_decimal_data::{
 };
 use icu_decimal_symbols::DecimalSymbols;
 use icu_pattern::SinglePlaceholder;
-use icu_plurals::{PluralRules, PluralsCardinalV1};
+use icu_plurals::{PluralRules, PluralsCardinalV1, PluralsOrdinalV1};
 use icu_provider::{DataError, DataErrorKind, DataProvider, DataRequest};
 use icu_table_entries::named::first_filed;
 use std::alloc::Global;
@@ -89,6 +89,22 @@ impl DataProvider<PluralsCardinalV1> for Tables {
     /// with a numbering system.
     fn load(&self, alloc: Global, request: &DataRequest<'_>) -> Result<PluralRules, DataError> {
         let entries = present(&self.rules)?;
+        let rules = found(first_filed(entries, &request.id))?;
+        answered(rules.copy(alloc))
+    }
+}
+
+impl DataProvider<PluralsOrdinalV1> for Tables {
+    ghost use Rattle.icu_table_entries.specs.Answering.{optional_answer};
+
+    ghost answer = { λ tables id. optional_answer tables.ordinals id };
+
+    /// A copy of the first entry of `ordinals` with the identifier's locale; none for an identifier
+    /// with a numbering system.
+    // promise: Ordinal rules are those under their own key.
+    // mutations: ordinals_answered_by_cardinal_rules
+    fn load(&self, alloc: Global, request: &DataRequest<'_>) -> Result<PluralRules, DataError> {
+        let entries = present(&self.ordinals)?;
         let rules = found(first_filed(entries, &request.id))?;
         answered(rules.copy(alloc))
     }

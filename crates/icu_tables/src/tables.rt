@@ -31,6 +31,7 @@ pub struct Tables {
     pub(crate) rules: Option<Vec<NamedEntry<PluralRules>>>,
     pub(crate) short: Option<Vec<NamedEntry<CompactPatterns<SinglePlaceholder>>>>,
     pub(crate) long: Option<Vec<NamedEntry<CompactPatterns<SinglePlaceholder>>>>,
+    pub(crate) ordinals: Option<Vec<NamedEntry<PluralRules>>>,
 }
 
 impl Model for Tables {
@@ -45,6 +46,7 @@ impl Model for Tables {
       rules = option_map (λ v. v.items) t.rules;
       short = option_map (λ v. v.items) t.short;
       long = option_map (λ v. v.items) t.long;
+      ordinals = option_map (λ v. v.items) t.ordinals;
     } };
 }
 
@@ -53,7 +55,7 @@ impl Tables {
     ///
     /// A text that isn't JSON is rejected first, then a value that has a number anywhere that isn't
     /// a 64-bit whole number. Then keys are judged in the order `symbols`, `digits`, `rules`,
-    /// `short`, `long`, and each list entry by entry. In an entry the kinds of all fields are
+    /// `short`, `long`, `ordinals`, and each list entry by entry. In an entry the kinds of all fields are
     /// judged before their contents. Unknown keys are ignored, and of equal keys the last one
     /// counts.
     // promise: The text determines the tables, or the first fault.
@@ -80,6 +82,7 @@ impl Tables {
             rules: optional_entries::<RulesEntry>(alloc, value, Key::Rules)?,
             short: optional_entries::<CompactEntry>(alloc, value, Key::Short)?,
             long: optional_entries::<CompactEntry>(alloc, value, Key::Long)?,
+            ordinals: optional_entries::<RulesEntry>(alloc, value, Key::Ordinals)?,
         })
     }
 }

@@ -1,6 +1,6 @@
 use Rattle.std.proofs.Common.{sym}
 use Rattle.serde_json.specs.View.{view}
-use Rattle.icu_tables.proofs.ForLocale.{OnOk-map, adds_other, adds_symbols, adds_digits, adds_rules, adds_short, adds_long}
+use Rattle.icu_tables.proofs.ForLocale.{OnOk-map, adds_other, adds_symbols, adds_digits, adds_rules, adds_short, adds_long, adds_ordinals}
 use Rattle.icu_tables.proofs.for_locale.FoundKept.add.Goals as goal
 
 pub returns-in-symbols : goal.returns-in-symbols
@@ -28,6 +28,11 @@ returns-in-long c =
     rw (← c.self.view_is) (OnOk-map c.once-in-long.result (adds_long c.args.locale.now c.args.reader.now _ c.once-in-long.new.reader c.args.name.now _
     c.in-long.is) c.once-in-long.ensures)
 
+pub returns-in-ordinals : goal.returns-in-ordinals
+returns-in-ordinals c =
+    rw (← c.self.view_is) (OnOk-map c.once-in-ordinals.result (adds_ordinals c.args.locale.now c.args.reader.now _ c.once-in-ordinals.new.reader
+    c.args.name.now _ c.in-ordinals.is) c.once-in-ordinals.ensures)
+
 pub returns-in_ok-owned-in_default : goal.returns-in_ok-owned-in_default
 returns-in_ok-owned-in_default c =
     let d = c.in_ok-owned-in_default in
@@ -35,5 +40,6 @@ returns-in_ok-owned-in_default c =
       view d.field-0,
       d.ensures,
       λ ds holds. adds_other c.args.locale.now c.args.name.now (view d.field-0) ds c.args.self.now d.ensures.1
-          (λ e. n.not-symbols (sym e)) (λ e. n.not-digits (sym e)) (λ e. n.not-rules (sym e)) (λ e. n.not-short (sym e)) (λ e. n.not-long (sym e)) holds,
+          (λ e. n.not-symbols (sym e)) (λ e. n.not-digits (sym e)) (λ e. n.not-rules (sym e)) (λ e. n.not-short (sym e)) (λ e. n.not-long (sym e))
+          (λ e. n.not-ordinals (sym e)) holds,
     )
