@@ -106,8 +106,6 @@ SKELETONS = {
 }
 NOT_SUPPORTED = {
     "permille": "permille", "group-thousands .00": "group-thousands", ",!": "group-on-aligned",
-    "percent unit-width-full-name": "percent with unit-width-full-name", "K .00 currency/USD": "digits of a currency in compact notation",
-    "currency/EUR unit-width-hidden": "currency with unit-width-hidden", "K %": "percent in compact notation",
 }
 NO_SKELETON = {
     "percent scientific": "left out: scientific, byte 8", ".00 @@": "set twice: precision, byte 4", "percents": "unknown stem, byte 0",
