@@ -21,7 +21,7 @@ from cldr_paths import (
     symbols_path,
     unit_path,
 )
-from cldr_release import STYLES, Folder, Release, Scope, Tree, below
+from cldr_release import STYLES, Folder, LocaleRules, Release, Scope, Tree, below
 from cldr_reports import Reports
 
 # An object of JSON, whose members are what the packages have them to be.
@@ -100,11 +100,19 @@ class JsonRelease(Release):
         super().__init__(folder, reports, scopes)
         self.main = folder / "cldr-numbers-full" / "main"
         self.locales = sorted(self.internal(file.name) for file in self.main.iterdir())
-        plurals = self.load("cldr-core", "supplemental", "plurals.json")["supplemental"]["plurals-type-cardinal"]
-        self.cardinals = {
-            self.internal(name): [(key.rpartition("-")[2], text) for key, text in rules.items()]
-            for name, rules in plurals.items()
+        self.cardinals = self.read_rules("plurals.json", "cardinal")
+
+    def read_rules(self, name: str, kind: str) -> LocaleRules:
+        """The plural rules of a kind of each locale that is named with some, in a file of the release."""
+        plurals = self.load("cldr-core", "supplemental", name)["supplemental"][f"plurals-type-{kind}"]
+        return {
+            self.internal(locale): [(key.rpartition("-")[2], text) for key, text in rules.items()]
+            for locale, rules in plurals.items()
         }
+
+    def read_ordinals(self) -> LocaleRules:
+        """The ordinal rules of each locale that is named with some."""
+        return self.read_rules("ordinals.json", "ordinal")
 
     @staticmethod
     def internal(name: str) -> str:

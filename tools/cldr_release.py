@@ -7,7 +7,7 @@ import itertools
 import pathlib
 import re
 import zipfile
-from typing import Callable, Iterable, Iterator, NamedTuple, Sequence, Union
+from typing import Callable, Dict, Iterable, Iterator, List, NamedTuple, Sequence, Tuple, Union
 
 import cldr_names
 from cldr_paths import ElementPath, follow, shown, system_of, without_count
@@ -20,6 +20,8 @@ LEVELS = ("modern", "moderate", "basic")
 Folder = Union[pathlib.Path, zipfile.Path]
 # Where a text stands, by what tells apart the texts of a kind, as a plural category.
 PathOf = Callable[[str], ElementPath]
+# Plural rules by locale: pairs of a category and a text with samples.
+LocaleRules = Dict[str, List[Tuple[str, str]]]
 
 
 class Scope(NamedTuple):
@@ -53,7 +55,7 @@ class Release(abc.ABC):
     of its two forms, which set `locales` and `cardinals` too, the rules of locales that have some."""
 
     locales: list[str]
-    cardinals: dict[str, list[tuple[str, str]]]
+    cardinals: LocaleRules
 
     def __init__(self, folder: Folder, reports: Reports, scopes: Sequence[Scope] = ()) -> None:
         self.folder = folder
@@ -197,12 +199,21 @@ class Release(abc.ABC):
         """What names mean by this release."""
         return cldr_names.Names(self.locales, self.facts())
 
-    def rules_of(self, locale: str) -> list[tuple[str, str]]:
-        """The cardinal rules of the locale, or of what is left when subtags are taken off its end, unless a parent is
+    @abc.abstractmethod
+    def read_ordinals(self) -> LocaleRules:
+        """Reads the ordinal rules of locales that have some."""
+
+    @functools.cached_property
+    def ordinals(self) -> LocaleRules:
+        """The ordinal rules of locales that have some."""
+        return self.read_ordinals()
+
+    def rules_of(self, locale: str, named: LocaleRules) -> list[tuple[str, str]]:
+        """The plural rules of the locale, or of what is left when subtags are taken off its end, unless a parent is
         named for plural rules: pairs of a category and a text with samples (UTS 35 Part 3, Language Plural Rules)."""
-        while locale not in self.cardinals and locale != "root":
+        while locale not in named and locale != "root":
             locale = self.plural_parents.get(locale, truncated(locale))
-        return self.cardinals.get(locale, [])
+        return named.get(locale, [])
 
 
 def below(folder: Folder, *names: str) -> Folder:
