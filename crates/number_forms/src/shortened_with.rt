@@ -4,7 +4,8 @@ ghost use Rattle.std.specs.Prelude.{◌≡◌, Ok};
 ghost use Rattle.decimal_lines.specs.SingleText.{WroteEvents};
 ghost use Rattle.icu_decimal.specs.CompactFormat.{exponent_needed};
 ghost use Rattle.icu_dimension.specs.CompactMoney.{formatter_of};
-ghost use Rattle.number_forms.specs.ShortenedWith.{money_given, money_shortened, names_given, names_shortened, units_given, units_shortened};
+ghost use Rattle.number_forms.specs.ShortenedWith.{money_given, money_shortened, names_given, names_shortened, operands_shown, units_given};
+ghost use Rattle.number_forms.specs.ShortenedWith.{units_shortened};
 
 use crate::shortened::shortened;
 use decimal_lines::TextError;
@@ -15,6 +16,16 @@ use icu_plurals::PluralOperands;
 use number_rounding::{Rounding, ShownNumber};
 use std::alloc::Global;
 use writeable::EventWriter;
+
+/// The plural operands of what is shown, with its exponent.
+fn operands_shown(shown: &ShownNumber) -> PluralOperands
+    ensures { result ≡ operands_shown (record {
+      significand = shown.now.significand.absolute;
+      exponent = shown.now.exponent;
+    }) }
+{
+    PluralOperands::from_significand_and_exponent(&shown.significand.absolute, shown.exponent)
+}
 
 /// Writes a number that is shown with its unit.
 fn write_units_given<K: EventWriter>(
@@ -31,10 +42,7 @@ fn write_units_given<K: EventWriter>(
     }))) out.new }
 {
     let significand = &shown.significand;
-    let operands = PluralOperands::from_significand_and_exponent(
-        &significand.absolute,
-        shown.exponent,
-    );
+    let operands = operands_shown(shown);
     let Ok(formatted) = units
         .formatter()
         .format_with_exponent(significand, shown.exponent)
@@ -62,10 +70,7 @@ fn write_names_given<K: EventWriter>(
     }))) out.new }
 {
     let significand = &shown.significand;
-    let operands = PluralOperands::from_significand_and_exponent(
-        &significand.absolute,
-        shown.exponent,
-    );
+    let operands = operands_shown(shown);
     let Ok(formatted) = names
         .formatter()
         .format_with_exponent(significand, shown.exponent)
