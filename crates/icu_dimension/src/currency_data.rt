@@ -115,7 +115,7 @@ impl CurrencyPatterns {
     /// The patterns of the three signs for the currency with this code, around numbers with these
     /// ten digits.
     // promise: A code or nothing stands where no symbol is wanted.
-    // mutations: code_of_a_currency_as_its_symbol, hidden_symbol_with_a_space
+    // mutations: code_of_a_currency_as_its_symbol, hidden_symbol_as_the_short_one
     pub(crate) fn resolve(
         &self,
         alloc: Global,
