@@ -28,7 +28,7 @@ use Rattle.number_rounding.specs.declared.rounding.Rounding.{Rounding}
 use Rattle.number_forms.specs.Forms.{FormData}
 use Rattle.number_forms.specs.Loaded.{amounts_loaded, amounts_rounding, compact_money_loaded, compact_names_loaded, compact_preferences}
 use Rattle.number_forms.specs.Loaded.{compact_unit_loaded, currency_loaded, currency_rounding, form_with, long_names_loaded, money_by, money_loaded}
-use Rattle.number_forms.specs.Loaded.{money_short_loaded, named_by_notation, named_loaded, named_long_loaded, named_short_loaded, names_loaded}
+use Rattle.number_forms.specs.Loaded.{money_rounded_loaded, money_short_loaded, named_by_notation, named_loaded, named_long_loaded, named_short_loaded, names_loaded}
 use Rattle.number_forms.specs.Loaded.{percent_loaded, preferences, short_names_loaded, symbols_for_money, system_digits, unit_by_notation, unit_loaded}
 use Rattle.number_forms.specs.Loaded.{unit_long_loaded, unit_patterns, unit_short_loaded}
 use Rattle.number_forms.specs.Making.{read_then, started, with_all}
@@ -119,15 +119,19 @@ module _ (settings : FormSettings) (kept all : AllData) (answers : AllAnswersAs 
   amounts_rounding-same code = rw (currency_rounding-same code) refl
 
   -- compact amounts
+  money_rounded-same : (code : List ℕ) (options : CurrencyFormatterOptions) (rounding : Option Rounding)
+      → money_rounded_loaded settings code options rounding kept.numbers kept.dimension
+      ≡ money_rounded_loaded settings code options rounding all.numbers all.dimension
+  unfolding money_rounded_loaded
+  money_rounded-same code options rounding =
+      and_then_both _ _ _ (λ f. Ok (form_with settings None (money_by f rounding))) (compact_money-same code options) (λ f. refl)
+
   pub money_short-same : (code : List ℕ) (options : CurrencyFormatterOptions)
       → money_short_loaded settings code options kept.numbers kept.dimension ≡ money_short_loaded settings code options all.numbers all.dimension
   unfolding money_short_loaded
-  money_short-same code options = and_then_both _ _ _ (made all) (amounts_rounding-same code) (λ rounding.
-      and_then_both _ _ _ (λ f. Ok (form_with settings None (money_by f rounding))) (compact_money-same code options) (λ f. refl))
-    where
-      made : AllData → Option Rounding → Result FormData Refusal
-      made tables rounding = and_then (compact_money_loaded settings code options tables.numbers tables.dimension) (λ f.
-          Ok (form_with settings None (money_by f rounding)))
+  money_short-same code options = and_then_both _ _ _
+      (λ rounding. money_rounded_loaded settings code options rounding all.numbers all.dimension) (amounts_rounding-same code)
+      (λ rounding. money_rounded-same code options rounding)
 
   -- the formatter of compact numbers of money, by patterns that answer alike in the locale
   compact_numbers-same : (one other : Option (List (NamedEntry (List TableEntry))))

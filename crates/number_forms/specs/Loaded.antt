@@ -206,12 +206,16 @@ abbrev pub money_by : CompactMoney → Option Rounding → Formatter
 money_by format None = MoneyShort format
 money_by format (Some rounding) = ShortMoney format rounding
 
+-- compact amounts of a currency with a rounding, if they have one
+unfoldable pub money_rounded_loaded : FormSettings → List ℕ → CurrencyFormatterOptions → Option Rounding → TablesData → DimensionData
+    → Result FormData Refusal
+money_rounded_loaded settings code options rounding tables dimension =
+    and_then (compact_money_loaded settings code options tables dimension) (λ f. Ok (form_with settings None (money_by f rounding)))
+
 -- compact amounts of a currency
 unfoldable pub money_short_loaded : FormSettings → List ℕ → CurrencyFormatterOptions → TablesData → DimensionData → Result FormData Refusal
 money_short_loaded settings code options tables dimension =
-    and_then (amounts_rounding settings code dimension) (λ rounding.
-    and_then (compact_money_loaded settings code options tables dimension) (λ f.
-    Ok (form_with settings None (money_by f rounding))))
+    and_then (amounts_rounding settings code dimension) (λ rounding. money_rounded_loaded settings code options rounding tables dimension)
 
 -- the formatter of compact amounts with the name of a currency, by compact patterns of the tables
 abbrev pub compact_names_loaded : FormSettings → List ℕ → Option (List (NamedEntry (List TableEntry))) → TablesData → DimensionData

@@ -3,8 +3,8 @@
 ghost use Rattle.std.specs.Prelude.{◌≡◌, false};
 ghost use Rattle.icu_provider.specs.Answer.{Answers};
 ghost use Rattle.number_forms.specs.Loaded.{amounts_rounding, compact_money_loaded, compact_money_options, compact_units_loaded};
-ghost use Rattle.number_forms.specs.Loaded.{currency_rounding, long_names_loaded, money_by, money_short_loaded, named_by_notation};
-ghost use Rattle.number_forms.specs.Loaded.{named_long_loaded, named_short_loaded, short_names_loaded, unit_by_notation, unit_long_loaded, unit_short_loaded};
+ghost use Rattle.number_forms.specs.Loaded.{currency_rounding, long_names_loaded, money_by, money_rounded_loaded, money_short_loaded};
+ghost use Rattle.number_forms.specs.Loaded.{named_by_notation, named_long_loaded, named_short_loaded, short_names_loaded, unit_by_notation, unit_long_loaded, unit_short_loaded};
 
 use crate::form::{Form, Formatter};
 use crate::loading::{load_named, load_unit, money_precision, preferences, rounding_to};
@@ -101,6 +101,29 @@ fn money_by(formatter: CompactCurrencyFormatter, rounding: Option<Rounding>) -> 
     }
 }
 
+/// Compact amounts of a currency with a rounding, if they have one.
+#[tactic(auto, unfolding(crate::specs::Loaded::money_rounded_loaded))]
+fn load_money_rounded(
+    alloc: Global,
+    all: &AllTables,
+    settings: &Settings<'_>,
+    code: CurrencyCode,
+    options: CurrencyFormatterOptions,
+    rounding: Option<Rounding>,
+) -> Result<Form, DataError>
+    ensures { Answers result
+        (money_rounded_loaded settings.now code options rounding all.now.numbers
+        all.now.dimension) }
+{
+    let formatter = load_compact_money(alloc, all, settings, code, options)?;
+    Ok(Form {
+        scale: settings.scale,
+        rounding: None,
+        sign: settings.sign,
+        formatter: money_by(formatter, rounding),
+    })
+}
+
 /// Compact amounts of a currency.
 #[tactic(auto, unfolding(crate::specs::Loaded::money_short_loaded))]
 pub(crate) fn load_money_short(
@@ -114,13 +137,7 @@ pub(crate) fn load_money_short(
         (money_short_loaded settings.now code options all.now.numbers all.now.dimension) }
 {
     let rounding = amounts_rounding(alloc, all, settings, code)?;
-    let formatter = load_compact_money(alloc, all, settings, code, options)?;
-    Ok(Form {
-        scale: settings.scale,
-        rounding: None,
-        sign: settings.sign,
-        formatter: money_by(formatter, rounding),
-    })
+    load_money_rounded(alloc, all, settings, code, options, rounding)
 }
 
 /// The formatter of amounts with the name of a currency, shortened by the short patterns.
