@@ -28,7 +28,8 @@ use Rattle.number_rounding.specs.declared.rounding.Rounding.{Rounding}
 use Rattle.number_forms.specs.Forms.{FormData}
 use Rattle.number_forms.specs.Loaded.{amounts_loaded, amounts_rounding, compact_money_loaded, compact_names_loaded, compact_preferences}
 use Rattle.number_forms.specs.Loaded.{compact_unit_loaded, currency_loaded, currency_rounding, form_with, long_names_loaded, money_by, money_loaded}
-use Rattle.number_forms.specs.Loaded.{money_rounded_loaded, money_short_loaded, named_by_notation, named_loaded, named_long_loaded, named_short_loaded, names_loaded}
+use Rattle.number_forms.specs.Loaded.{money_rounded_loaded, money_short_loaded, named_by_notation, named_loaded, named_long_loaded}
+use Rattle.number_forms.specs.Loaded.{named_short_loaded, names_loaded}
 use Rattle.number_forms.specs.Loaded.{percent_loaded, preferences, short_names_loaded, symbols_for_money, system_digits, unit_by_notation, unit_loaded}
 use Rattle.number_forms.specs.Loaded.{unit_long_loaded, unit_patterns, unit_short_loaded}
 use Rattle.number_forms.specs.Making.{read_then, started, with_all}
