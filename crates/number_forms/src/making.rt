@@ -7,7 +7,8 @@ ghost use Rattle.icu_tables.specs.Tables.{TablesData, tables_of};
 ghost use Rattle.icu_dimension_tables.specs.AllTables.{AllData, all_tables_of};
 ghost use Rattle.icu_dimension_tables.specs.ForLocale.{IsAllFor};
 ghost use Rattle.number_forms.specs.Forms.{FormData};
-ghost use Rattle.number_forms.specs.Loaded.{long_loaded, money_loaded, money_options, money_short_loaded, named_by_notation, percent_loaded};
+ghost use Rattle.number_forms.specs.Settings.{unit_text};
+ghost use Rattle.number_forms.specs.Loaded.{compact_money_options, long_loaded, money_loaded, money_options, money_short_loaded, named_by_notation, percent_loaded};
 ghost use Rattle.number_forms.specs.Loaded.{plain_loaded, short_loaded, unit_by_notation};
 ghost use Rattle.number_forms.specs.Making.{StartsForm, StopsForm, form_of, read_then, start_error, started, table_error, with_all, with_tables};
 
@@ -18,7 +19,7 @@ use crate::loading_compact::{
     compact_money_options, load_money_short, load_named_by, load_unit_by,
 };
 use crate::loading_short::{load_long, load_short};
-use crate::settings::{Kind, Settings, UnitWidth};
+use crate::settings::{Kind, Settings, UnitName, UnitWidth};
 use decimal_lines::plain_options;
 use icu_dimension::options::{CurrencyFormatterOptions, CurrencySign, Width};
 use icu_dimension_data::CurrencyCode;
@@ -181,6 +182,37 @@ fn unit_form(
     started(load_unit_by(alloc, &all, settings, name, width, notation))
 }
 
+/// Compact amounts of a currency with a symbol, by a text of tables.
+fn money_short_with(
+    alloc: Global,
+    settings: &Settings<'_>,
+    text: &str,
+    code: CurrencyCode,
+    width: Width,
+    sign: CurrencySign,
+) -> Result<Form, StartError>
+    ensures { StartsForm result (with_all text.now (money_short_loaded settings.now code
+        (compact_money_options settings.now.grouping width sign))) }
+{
+    let options = compact_money_options(settings.grouping, width, sign);
+    money_short_form(alloc, settings, text, code, options)
+}
+
+/// Numbers with a unit of this name, by a text of tables.
+fn unit_named(
+    alloc: Global,
+    settings: &Settings<'_>,
+    text: &str,
+    unit: UnitName<'_>,
+    width: UnitWidth,
+    notation: Notation,
+) -> Result<Form, StartError>
+    ensures { StartsForm result (with_all text.now
+        (unit_by_notation notation settings.now (unit_text unit.entry) width)) }
+{
+    unit_form(alloc, settings, text, unit.text(), width, notation)
+}
+
 /// The form that is wanted, by a text of tables.
 #[tactic(auto, unfolding(crate::specs::Making::form_of))]
 fn form_of(alloc: Global, settings: &Settings<'_>, text: &str) -> Result<Form, StartError>
@@ -205,15 +237,14 @@ fn form_of(alloc: Global, settings: &Settings<'_>, text: &str) -> Result<Form, S
             notation,
         } => named_form(alloc, settings, text, code, is_cash, notation),
         Kind::MoneyShort { code, width, sign } => {
-            let options = compact_money_options(settings.grouping, width, sign);
-            money_short_form(alloc, settings, text, code, options)
+            money_short_with(alloc, settings, text, code, width, sign)
         }
         Kind::Percent => percent_form(alloc, settings, text),
         Kind::Unit {
             unit,
             width,
             notation,
-        } => unit_form(alloc, settings, text, unit.text(), width, notation),
+        } => unit_named(alloc, settings, text, unit, width, notation),
     }
 }
 
