@@ -7,4 +7,5 @@ pub mod Served
 pub mod WrittenForms
 pub mod WrittenTexts
 pub mod ServedAll
+pub mod ServedCompact
 pub mod VisibleTexts

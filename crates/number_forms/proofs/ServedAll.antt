@@ -50,7 +50,7 @@ with_all-for locale text kept load (all, read, answers) same =
 
 module _ (settings : FormSettings) (kept all : AllData) (answers : AllAnswersAs settings.locale kept all) where
   -- by the preferred system in the locale, or else by the locale
-  preferred_same : {X : Type 0} (p q : Provider X) → ((id : Identifier) → id.locale ≡ settings.locale → p id ≡ q id)
+  pub preferred_same : {X : Type 0} (p q : Provider X) → ((id : Identifier) → id.locale ≡ settings.locale → p id ≡ q id)
       → preferably p (preferences settings) (locale_id settings.locale) ≡ preferably q (preferences settings) (locale_id settings.locale)
   preferred_same p q alike =
       preferably_same p q settings.locale settings.system (locale_id settings.locale) (λ s. alike _ refl) (alike _ refl)
@@ -61,7 +61,7 @@ module _ (settings : FormSettings) (kept all : AllData) (answers : AllAnswersAs 
   money_symbols-same id same = rw (answers.dimension.decimals id same, answers.numbers.symbols id same) refl
 
   -- the formatter of numbers of money
-  money_numbers-same : (options : DecimalFormatterOptions)
+  pub money_numbers-same : (options : DecimalFormatterOptions)
       → loaded (symbols_for_money kept.numbers kept.dimension) (system_digits kept.numbers) (preferences settings) options
       ≡ loaded (symbols_for_money all.numbers all.dimension) (system_digits all.numbers) (preferences settings) options
   money_numbers-same options = and_then_both _ _ _ _ (preferred_same _ _ money_symbols-same) (λ s.
@@ -88,7 +88,7 @@ module _ (settings : FormSettings) (kept all : AllData) (answers : AllAnswersAs 
   money-same code options is_cash = and_then_both _ _ _ _ (currency-same code options) (λ f. amounts-same code is_cash _)
 
   -- amounts with the name of a currency
-  named-same : (code : List ℕ) (is_cash : Bool)
+  pub named-same : (code : List ℕ) (is_cash : Bool)
       → named_loaded settings code is_cash kept.numbers kept.dimension ≡ named_loaded settings code is_cash all.numbers all.dimension
   unfolding named_loaded names_loaded
   named-same code is_cash = and_then_both _ _ _ _ (and_then_both _ _ _ _ (money_numbers-same (plain_options settings.grouping)) (λ f.
@@ -111,7 +111,7 @@ module _ (settings : FormSettings) (kept all : AllData) (answers : AllAnswersAs 
       next m r = and_then (preferably (optional_answer all.dimension.compact) (preferences settings) (locale_id settings.locale)) (made m r)
 
   -- the rounding of what is shortened with a currency
-  currency_rounding-same : (code : List ℕ) → currency_rounding settings code kept.dimension ≡ currency_rounding settings code all.dimension
+  pub currency_rounding-same : (code : List ℕ) → currency_rounding settings code kept.dimension ≡ currency_rounding settings code all.dimension
   unfolding currency_rounding
   currency_rounding-same code = rw answers.dimension.digits refl
 
@@ -134,58 +134,6 @@ module _ (settings : FormSettings) (kept all : AllData) (answers : AllAnswersAs 
       (λ rounding. money_rounded_loaded settings code options rounding all.numbers all.dimension) (amounts_rounding-same code)
       (λ rounding. money_rounded-same code options rounding)
 
-  -- the formatter of compact numbers of money, by patterns that answer alike in the locale
-  compact_numbers-same : (one other : Option (List (NamedEntry (List TableEntry))))
-      → ((id : Identifier) → id.locale ≡ settings.locale → optional_answer one id ≡ optional_answer other id)
-      → (options : CompactDecimalFormatterOptions)
-      → loaded_compact (symbols_for_money kept.numbers kept.dimension) (system_digits kept.numbers) (optional_answer kept.numbers.rules)
-      (optional_answer one) (compact_preferences settings) options
-      ≡ loaded_compact (symbols_for_money all.numbers all.dimension) (system_digits all.numbers) (optional_answer all.numbers.rules)
-      (optional_answer other) (compact_preferences settings) options
-  compact_numbers-same one other alike options = and_then_both _ _ _ _
-      (money_numbers-same (record { grouping_strategy = options.grouping_strategy })) (λ f.
-      and_then_both _ _ _ _ (answers.numbers.rules _ refl) (λ r.
-      and_then_both _ _ _ _ (preferred_same (optional_answer one) (optional_answer other) alike) (λ t. refl)))
-
-  -- the formatter of compact amounts with the name of a currency
-  compact_names-same : (code : List ℕ) (one other : Option (List (NamedEntry (List TableEntry))))
-      → ((id : Identifier) → id.locale ≡ settings.locale → optional_answer one id ≡ optional_answer other id)
-      → compact_names_loaded settings code one kept.numbers kept.dimension ≡ compact_names_loaded settings code other all.numbers all.dimension
-  compact_names-same code one other alike =
-      and_then_both _ _ _ _ (compact_numbers-same one other alike (compact_options settings.grouping)) (λ f.
-      and_then_both _ _ _ _ (answers.numbers.rules _ refl) (λ r.
-      and_then_both _ _ _ _ (answers.dimension.names _ refl) (λ x. refl)))
-
-  short_names-same : (code : List ℕ)
-      → short_names_loaded settings code kept.numbers kept.dimension ≡ short_names_loaded settings code all.numbers all.dimension
-  unfolding short_names_loaded
-  short_names-same code = compact_names-same code kept.numbers.short all.numbers.short answers.numbers.short
-
-  long_names-same : (code : List ℕ)
-      → long_names_loaded settings code kept.numbers kept.dimension ≡ long_names_loaded settings code all.numbers all.dimension
-  unfolding long_names_loaded
-  long_names-same code = compact_names-same code kept.numbers.long all.numbers.long answers.numbers.long
-
-  -- compact amounts with the name of a currency
-  named_short-same : (code : List ℕ)
-      → named_short_loaded settings code kept.numbers kept.dimension ≡ named_short_loaded settings code all.numbers all.dimension
-  unfolding named_short_loaded
-  named_short-same code = rw (currency_rounding-same code, short_names-same code) refl
-
-  named_long-same : (code : List ℕ)
-      → named_long_loaded settings code kept.numbers kept.dimension ≡ named_long_loaded settings code all.numbers all.dimension
-  unfolding named_long_loaded
-  named_long-same code = rw (currency_rounding-same code, long_names-same code) refl
-
-  -- amounts with the name of a currency
-  pub named_by-same : (notation : Notation) (code : List ℕ) (is_cash : Bool)
-      → named_by_notation notation settings code is_cash kept.numbers kept.dimension
-      ≡ named_by_notation notation settings code is_cash all.numbers all.dimension
-  unfolding named_by_notation
-  named_by-same Simple code is_cash = named-same code is_cash
-  named_by-same CompactShort code is_cash = named_short-same code
-  named_by-same CompactLong code is_cash = named_long-same code
-
   -- percents
   pub percent-same : percent_loaded settings kept.numbers kept.dimension ≡ percent_loaded settings all.numbers all.dimension
   unfolding percent_loaded
@@ -194,45 +142,17 @@ module _ (settings : FormSettings) (kept all : AllData) (answers : AllAnswersAs 
       and_then_both _ _ _ _ (preferred_same _ _ answers.dimension.percents) (λ p. refl))) (λ f. refl)
 
   -- the patterns of a unit
-  unit_patterns-same : (width : UnitWidth) (id : Identifier) → id.locale ≡ settings.locale
+  pub unit_patterns-same : (width : UnitWidth) (id : Identifier) → id.locale ≡ settings.locale
       → unit_patterns width kept.dimension id ≡ unit_patterns width all.dimension id
   unit_patterns-same Long id same = answers.dimension.units filed.Long id same
   unit_patterns-same Short id same = answers.dimension.units filed.Short id same
   unit_patterns-same Narrow id same = answers.dimension.units filed.Narrow id same
 
   -- numbers with a unit
-  unit-same : (name : List ℕ) (width : UnitWidth)
+  pub unit-same : (name : List ℕ) (width : UnitWidth)
       → unit_loaded settings name width kept.numbers kept.dimension ≡ unit_loaded settings name width all.numbers all.dimension
   unfolding unit_loaded
   unit-same name width = and_then_both _ _ _ _ (and_then_both _ _ _ _
       (loaded_same settings.locale settings.system kept.numbers all.numbers answers.numbers (plain_options settings.grouping)) (λ f.
       and_then_both _ _ _ _ (answers.numbers.rules _ refl) (λ r.
       and_then_both _ _ _ _ (unit_patterns-same width _ refl) (λ x. refl)))) (λ f. refl)
-
-  -- the formatter of compact numbers with a unit, by patterns that answer alike in the locale
-  compact_unit-same : (name : List ℕ) (width : UnitWidth) (one other : Option (List (NamedEntry (List TableEntry))))
-      → ((id : Identifier) → id.locale ≡ settings.locale → optional_answer one id ≡ optional_answer other id)
-      → compact_unit_loaded settings name width one kept.numbers kept.dimension ≡ compact_unit_loaded settings name width other all.numbers all.dimension
-  compact_unit-same name width one other alike = and_then_both _ _ _ _ (and_then_both _ _ _ _
-      (compact_loaded settings.locale settings.system kept.numbers all.numbers answers.numbers one other alike (compact_options settings.grouping)) (λ f.
-      and_then_both _ _ _ _ (answers.numbers.rules _ refl) (λ r.
-      and_then_both _ _ _ _ (unit_patterns-same width _ refl) (λ x. refl)))) (λ f. refl)
-
-  unit_short-same : (name : List ℕ) (width : UnitWidth)
-      → unit_short_loaded settings name width kept.numbers kept.dimension ≡ unit_short_loaded settings name width all.numbers all.dimension
-  unfolding unit_short_loaded
-  unit_short-same name width = compact_unit-same name width kept.numbers.short all.numbers.short answers.numbers.short
-
-  unit_long-same : (name : List ℕ) (width : UnitWidth)
-      → unit_long_loaded settings name width kept.numbers kept.dimension ≡ unit_long_loaded settings name width all.numbers all.dimension
-  unfolding unit_long_loaded
-  unit_long-same name width = compact_unit-same name width kept.numbers.long all.numbers.long answers.numbers.long
-
-  -- numbers with a unit, by their notation
-  pub unit_by-same : (notation : Notation) (name : List ℕ) (width : UnitWidth)
-      → unit_by_notation notation settings name width kept.numbers kept.dimension
-      ≡ unit_by_notation notation settings name width all.numbers all.dimension
-  unfolding unit_by_notation
-  unit_by-same Simple name width = unit-same name width
-  unit_by-same CompactShort name width = unit_short-same name width
-  unit_by-same CompactLong name width = unit_long-same name width

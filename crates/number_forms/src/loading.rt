@@ -3,7 +3,7 @@
 ghost use Rattle.std.specs.Prelude.{◌≡◌};
 ghost use Rattle.icu_provider.specs.Answer.{Answers};
 ghost use Rattle.icu_dimension_tables.specs.Answering.{digits_answer};
-ghost use Rattle.number_forms.specs.Loaded.{amounts_loaded, currency_loaded, currency_precision, digits_precision, money_loaded};
+ghost use Rattle.number_forms.specs.Loaded.{currency_loaded, currency_precision, digits_precision, money_loaded};
 ghost use Rattle.number_forms.specs.Loaded.{money_precision, named_loaded, names_loaded};
 ghost use Rattle.number_forms.specs.Loaded.{percent_loaded, plain_loaded, preferences, rounding_to, settings_rounding, unit_loaded, units_loaded};
 
@@ -125,28 +125,6 @@ pub(crate) fn money_precision(
     }
 }
 
-/// The form of a formatter of amounts, whose digits are asked for behind it.
-#[tactic(auto, unfolding(crate::specs::Loaded::amounts_loaded))]
-fn load_amounts(
-    alloc: Global,
-    all: &AllTables,
-    settings: &Settings<'_>,
-    code: CurrencyCode,
-    is_cash: bool,
-    formatter: Formatter,
-) -> Result<Form, DataError>
-    ensures { Answers result
-        (amounts_loaded settings.now code is_cash all.now.dimension formatter) }
-{
-    let precision = money_precision(alloc, all, settings.precision, code, is_cash)?;
-    Ok(Form {
-        scale: settings.scale,
-        rounding: Some(rounding_to(settings, precision)),
-        sign: settings.sign,
-        formatter,
-    })
-}
-
 /// The formatter of amounts of a currency.
 #[tactic(auto, unfolding(crate::specs::Loaded::currency_loaded))]
 fn load_currency(
@@ -164,7 +142,7 @@ fn load_currency(
 }
 
 /// Amounts of a currency.
-#[tactic(auto, unfolding(crate::specs::Loaded::money_loaded))]
+#[tactic(auto, unfolding(crate::specs::Loaded::money_loaded, crate::specs::Loaded::amounts_loaded))]
 pub(crate) fn load_money(
     alloc: Global,
     all: &AllTables,
@@ -176,8 +154,14 @@ pub(crate) fn load_money(
     ensures { Answers result
         (money_loaded settings.now code options is_cash all.now.numbers all.now.dimension) }
 {
-    let money = Formatter::Money(load_currency(alloc, all, settings, code, options)?);
-    load_amounts(alloc, all, settings, code, is_cash, money)
+    let formatter = load_currency(alloc, all, settings, code, options)?;
+    let precision = money_precision(alloc, all, settings.precision, code, is_cash)?;
+    Ok(Form {
+        scale: settings.scale,
+        rounding: Some(rounding_to(settings, precision)),
+        sign: settings.sign,
+        formatter: Formatter::Money(formatter),
+    })
 }
 
 /// The formatter of amounts with the name of a currency.
@@ -197,7 +181,7 @@ fn load_names(
 }
 
 /// Amounts with the name of a currency.
-#[tactic(auto, unfolding(crate::specs::Loaded::named_loaded))]
+#[tactic(auto, unfolding(crate::specs::Loaded::named_loaded, crate::specs::Loaded::amounts_loaded))]
 pub(crate) fn load_named(
     alloc: Global,
     all: &AllTables,
@@ -208,8 +192,14 @@ pub(crate) fn load_named(
     ensures { Answers result
         (named_loaded settings.now code is_cash all.now.numbers all.now.dimension) }
 {
-    let named = Formatter::MoneyNamed(load_names(alloc, all, settings, code)?);
-    load_amounts(alloc, all, settings, code, is_cash, named)
+    let formatter = load_names(alloc, all, settings, code)?;
+    let precision = money_precision(alloc, all, settings.precision, code, is_cash)?;
+    Ok(Form {
+        scale: settings.scale,
+        rounding: Some(rounding_to(settings, precision)),
+        sign: settings.sign,
+        formatter: Formatter::MoneyNamed(formatter),
+    })
 }
 
 /// Percents.

@@ -2,7 +2,8 @@ use Rattle.std.proofs.Common.{rules}
 use Rattle.icu_dimension_tables.specs.AllTables.{AllData}
 use Rattle.number_forms.specs.Loaded.{named_by_notation}
 use Rattle.number_forms.specs.Making.{started}
-use Rattle.number_forms.proofs.ServedAll.{named_by-same, with_all-for}
+use Rattle.number_forms.proofs.ServedAll.{with_all-for}
+use Rattle.number_forms.proofs.ServedCompact.{named_by-same}
 use Rattle.number_forms.proofs.making.named_form.Goals as goal
 
 pub returns-in_err-all : goal.returns-in_err-all
