@@ -145,12 +145,6 @@ money_precision (Some (Significant least most)) digits code is_cash = Ok (Signif
 money_precision (Some (Increment increment power least)) digits code is_cash = Ok (Increment increment power least)
 money_precision (Some (Both least most few many priority keeps)) digits code is_cash = Ok (Both least most few many priority keeps)
 
--- the form of a formatter of amounts, whose digits are asked for behind it
-unfoldable pub amounts_loaded : FormSettings → List ℕ → Bool → DimensionData → Formatter → Result FormData Refusal
-amounts_loaded settings code is_cash dimension formatter =
-    and_then (money_precision settings.precision (digits_answer dimension.digits) code is_cash) (λ precision.
-    Ok (form_with settings (Some (rounding_to settings precision)) formatter))
-
 -- the formatter of amounts of a currency
 unfoldable pub currency_loaded : FormSettings → List ℕ → CurrencyFormatterOptions → TablesData → DimensionData
     → Result (SignedFormat DecimalFormat) Refusal
@@ -158,10 +152,12 @@ currency_loaded settings code options tables dimension =
     loaded_currency (symbols_for_money tables dimension) (system_digits tables) (optional_answer dimension.currencies)
     (symbols_answer dimension.symbols) (preferences settings) code options
 
--- amounts of a currency
+-- amounts of a currency: first their precision, then the formatter
 unfoldable pub money_loaded : FormSettings → List ℕ → CurrencyFormatterOptions → Bool → TablesData → DimensionData → Result FormData Refusal
 money_loaded settings code options is_cash tables dimension =
-    and_then (currency_loaded settings code options tables dimension) (λ f. amounts_loaded settings code is_cash dimension (Money f))
+    and_then (money_precision settings.precision (digits_answer dimension.digits) code is_cash) (λ precision.
+    and_then (currency_loaded settings code options tables dimension) (λ f.
+    Ok (form_with settings (Some (rounding_to settings precision)) (Money f))))
 
 -- the formatter of amounts with the name of a currency
 unfoldable pub names_loaded : FormSettings → List ℕ → TablesData → DimensionData → Result (PluralFormat DecimalFormat NameText) Refusal
@@ -173,7 +169,9 @@ names_loaded settings code tables dimension =
 -- amounts with the name of a currency
 unfoldable pub named_loaded : FormSettings → List ℕ → Bool → TablesData → DimensionData → Result FormData Refusal
 named_loaded settings code is_cash tables dimension =
-    and_then (names_loaded settings code tables dimension) (λ f. amounts_loaded settings code is_cash dimension (MoneyNamed f))
+    and_then (money_precision settings.precision (digits_answer dimension.digits) code is_cash) (λ precision.
+    and_then (names_loaded settings code tables dimension) (λ f.
+    Ok (form_with settings (Some (rounding_to settings precision)) (MoneyNamed f))))
 
 -- the options of compact amounts: those of compact numbers, `min2` without a strategy
 abbrev pub compact_money_options : Option GroupingStrategy → Width → CurrencySign → CurrencyFormatterOptions

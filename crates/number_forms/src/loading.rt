@@ -193,13 +193,15 @@ pub(crate) fn load_named(
         (named_loaded settings.now code is_cash all.now.numbers all.now.dimension) }
 {
     let formatter = load_names(alloc, all, settings, code)?;
-    let precision = money_precision(alloc, all, settings.precision, code, is_cash)?;
-    Ok(Form {
-        scale: settings.scale,
-        rounding: Some(rounding_to(settings, precision)),
-        sign: settings.sign,
-        formatter: Formatter::MoneyNamed(formatter),
-    })
+    match money_precision(alloc, all, settings.precision, code, is_cash) {
+        Ok(precision) => Ok(Form {
+            scale: settings.scale,
+            rounding: Some(rounding_to(settings, precision)),
+            sign: settings.sign,
+            formatter: Formatter::MoneyNamed(formatter),
+        }),
+        Err(error) => Err(error),
+    }
 }
 
 /// Percents.
