@@ -13,6 +13,7 @@ use Rattle.icu_dimension_data.specs.declared.compact_rows.CompactRow.{CompactRow
 use Rattle.icu_plurals.specs.Rules.{Rule}
 use Rattle.icu_dimension.specs.declared.options.CurrencyFormatterOptions.{CurrencyFormatterOptions}
 use Rattle.icu_dimension_tables.specs.AllTables.{AllData, all_tables_of}
+use Rattle.icu_dimension_tables.specs.Answering.{digits_answer}
 use Rattle.icu_dimension_tables.specs.DimensionTables.{DimensionData}
 use Rattle.icu_dimension_tables.specs.ForLocale.{AllAnswersAs, IsAllFor}
 use Rattle.icu_dimension_tables.specs.declared.units.UnitWidth.TheVariants as filed
@@ -26,15 +27,14 @@ use Rattle.decimal_lines.specs.ModeOfTables.{compact_options, plain_options}
 use Rattle.decimal_lines.proofs.OneLocale.{and_then_both, compact_loaded, digits_same, loaded_same, preferably_same}
 use Rattle.number_rounding.specs.declared.rounding.Rounding.{Rounding}
 use Rattle.number_forms.specs.Forms.{FormData}
-use Rattle.number_forms.specs.Loaded.{amounts_loaded, amounts_rounding, compact_money_loaded, compact_names_loaded, compact_preferences}
+use Rattle.number_forms.specs.Loaded.{amounts_rounding, compact_money_loaded, compact_names_loaded, compact_preferences}
 use Rattle.number_forms.specs.Loaded.{compact_unit_loaded, currency_loaded, currency_rounding, form_with, long_names_loaded, money_by, money_loaded}
-use Rattle.number_forms.specs.Loaded.{money_rounded_loaded, money_short_loaded, named_by_notation, named_loaded, named_long_loaded}
+use Rattle.number_forms.specs.Loaded.{money_precision, money_rounded_loaded, money_short_loaded, named_by_notation, named_loaded, named_long_loaded}
 use Rattle.number_forms.specs.Loaded.{named_short_loaded, names_loaded}
 use Rattle.number_forms.specs.Loaded.{percent_loaded, preferences, short_names_loaded, symbols_for_money, system_digits, unit_by_notation, unit_loaded}
 use Rattle.number_forms.specs.Loaded.{unit_long_loaded, unit_patterns, unit_short_loaded}
 use Rattle.number_forms.specs.Making.{read_then, started, with_all}
 use Rattle.number_forms.specs.Settings.{FormSettings}
-use Rattle.number_forms.specs.declared.form.Formatter.{Formatter}
 use Rattle.number_forms.specs.declared.settings.UnitWidth.{UnitWidth}
 use Rattle.number_forms.specs.declared.settings.UnitWidth.TheVariants.{Long, Short, Narrow}
 use Rattle.skeleton_settings.specs.declared.settings.Notation.{Notation}
@@ -75,25 +75,27 @@ module _ (settings : FormSettings) (kept all : AllData) (answers : AllAnswersAs 
       and_then_both _ _ _ _ (preferred_same _ _ answers.dimension.currencies) (λ p.
       and_then_both _ _ _ _ (answers.dimension.symbols _ refl) (λ s. refl)))
 
-  -- amounts, whose digits are asked for behind their formatter
-  amounts-same : (code : List ℕ) (is_cash : Bool) (formatter : Formatter)
-      → amounts_loaded settings code is_cash kept.dimension formatter ≡ amounts_loaded settings code is_cash all.dimension formatter
-  unfolding amounts_loaded
-  amounts-same code is_cash formatter = rw answers.dimension.digits refl
+  -- the precision of amounts
+  precision-same : (code : List ℕ) (is_cash : Bool)
+      → money_precision settings.precision (digits_answer kept.dimension.digits) code is_cash
+      ≡ money_precision settings.precision (digits_answer all.dimension.digits) code is_cash
+  precision-same code is_cash = rw answers.dimension.digits refl
 
   -- amounts of a currency
   pub money-same : (code : List ℕ) (options : CurrencyFormatterOptions) (is_cash : Bool)
       → money_loaded settings code options is_cash kept.numbers kept.dimension ≡ money_loaded settings code options is_cash all.numbers all.dimension
   unfolding money_loaded
-  money-same code options is_cash = and_then_both _ _ _ _ (currency-same code options) (λ f. amounts-same code is_cash _)
+  money-same code options is_cash = and_then_both _ _ _ _ (precision-same code is_cash) (λ precision.
+      and_then_both _ _ _ _ (currency-same code options) (λ f. refl))
 
   -- amounts with the name of a currency
   pub named-same : (code : List ℕ) (is_cash : Bool)
       → named_loaded settings code is_cash kept.numbers kept.dimension ≡ named_loaded settings code is_cash all.numbers all.dimension
   unfolding named_loaded names_loaded
-  named-same code is_cash = and_then_both _ _ _ _ (and_then_both _ _ _ _ (money_numbers-same (plain_options settings.grouping)) (λ f.
+  named-same code is_cash = and_then_both _ _ _ _ (precision-same code is_cash) (λ precision.
+      and_then_both _ _ _ _ (and_then_both _ _ _ _ (money_numbers-same (plain_options settings.grouping)) (λ f.
       and_then_both _ _ _ _ (answers.numbers.rules _ refl) (λ r.
-      and_then_both _ _ _ _ (answers.dimension.names _ refl) (λ x. refl)))) (λ f. amounts-same code is_cash _)
+      and_then_both _ _ _ _ (answers.dimension.names _ refl) (λ x. refl)))) (λ f. refl))
 
   -- the formatter of compact amounts
   compact_money-same : (code : List ℕ) (options : CurrencyFormatterOptions)

@@ -142,7 +142,7 @@ fn load_currency(
 }
 
 /// Amounts of a currency.
-#[tactic(auto, unfolding(crate::specs::Loaded::money_loaded, crate::specs::Loaded::amounts_loaded))]
+#[tactic(auto, unfolding(crate::specs::Loaded::money_loaded))]
 pub(crate) fn load_money(
     alloc: Global,
     all: &AllTables,
@@ -154,8 +154,8 @@ pub(crate) fn load_money(
     ensures { Answers result
         (money_loaded settings.now code options is_cash all.now.numbers all.now.dimension) }
 {
-    let formatter = load_currency(alloc, all, settings, code, options)?;
     let precision = money_precision(alloc, all, settings.precision, code, is_cash)?;
+    let formatter = load_currency(alloc, all, settings, code, options)?;
     Ok(Form {
         scale: settings.scale,
         rounding: Some(rounding_to(settings, precision)),
@@ -181,7 +181,7 @@ fn load_names(
 }
 
 /// Amounts with the name of a currency.
-#[tactic(auto, unfolding(crate::specs::Loaded::named_loaded, crate::specs::Loaded::amounts_loaded))]
+#[tactic(auto, unfolding(crate::specs::Loaded::named_loaded))]
 pub(crate) fn load_named(
     alloc: Global,
     all: &AllTables,
@@ -192,16 +192,14 @@ pub(crate) fn load_named(
     ensures { Answers result
         (named_loaded settings.now code is_cash all.now.numbers all.now.dimension) }
 {
+    let precision = money_precision(alloc, all, settings.precision, code, is_cash)?;
     let formatter = load_names(alloc, all, settings, code)?;
-    match money_precision(alloc, all, settings.precision, code, is_cash) {
-        Ok(precision) => Ok(Form {
-            scale: settings.scale,
-            rounding: Some(rounding_to(settings, precision)),
-            sign: settings.sign,
-            formatter: Formatter::MoneyNamed(formatter),
-        }),
-        Err(error) => Err(error),
-    }
+    Ok(Form {
+        scale: settings.scale,
+        rounding: Some(rounding_to(settings, precision)),
+        sign: settings.sign,
+        formatter: Formatter::MoneyNamed(formatter),
+    })
 }
 
 /// Percents.
