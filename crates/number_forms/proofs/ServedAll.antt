@@ -1,9 +1,7 @@
 -- All tables for the locale that is wanted make the same form as those of the whole text.
 use Rattle.std.proofs.Common.{◌≡◌, ℕ, Bool, List, None, Ok, Option, Result, refl, sym, ap, ◌∙◌}
-use Rattle.icu_decimal_data.specs.CompactTable.{TableEntry}
-use Rattle.icu_decimal.specs.Loaded.{Provider, and_then, loaded, loaded_compact, preferably}
+use Rattle.icu_decimal.specs.Loaded.{Provider, and_then, loaded, preferably}
 use Rattle.icu_decimal_options.specs.Preferences.{locale_id}
-use Rattle.icu_decimal.specs.declared.options.CompactDecimalFormatterOptions.{CompactDecimalFormatterOptions}
 use Rattle.icu_decimal.specs.declared.options.DecimalFormatterOptions.{DecimalFormatterOptions}
 use Rattle.icu_decimal.specs.Decimal.{DecimalFormat}
 use Rattle.icu_dimension.specs.CompactMoney.{CompactMoney, compact_money}
@@ -20,25 +18,22 @@ use Rattle.icu_dimension_tables.specs.declared.units.UnitWidth.TheVariants as fi
 use Rattle.icu_provider.specs.Answer.{Refusal}
 use Rattle.icu_provider.specs.Identifier.{Identifier}
 use Rattle.icu_table_entries.specs.Answering.{optional_answer}
-use Rattle.icu_table_entries.specs.Named.{NamedEntry}
 use Rattle.icu_table_entries.specs.declared.error.TableError.{TableError}
 use Rattle.icu_tables.specs.Tables.{TablesData}
-use Rattle.decimal_lines.specs.ModeOfTables.{compact_options, plain_options}
-use Rattle.decimal_lines.proofs.OneLocale.{and_then_both, compact_loaded, digits_same, loaded_same, preferably_same}
+use Rattle.decimal_lines.specs.ModeOfTables.{plain_options}
+use Rattle.decimal_lines.proofs.OneLocale.{and_then_both, digits_same, loaded_same, preferably_same}
 use Rattle.number_rounding.specs.declared.rounding.Rounding.{Rounding}
 use Rattle.number_forms.specs.Forms.{FormData}
-use Rattle.number_forms.specs.Loaded.{amounts_rounding, compact_money_loaded, compact_names_loaded, compact_preferences}
-use Rattle.number_forms.specs.Loaded.{compact_unit_loaded, currency_loaded, currency_rounding, form_with, long_names_loaded, money_by, money_loaded}
-use Rattle.number_forms.specs.Loaded.{money_precision, money_rounded_loaded, money_short_loaded, named_by_notation, named_loaded, named_long_loaded}
-use Rattle.number_forms.specs.Loaded.{named_short_loaded, names_loaded}
-use Rattle.number_forms.specs.Loaded.{percent_loaded, preferences, short_names_loaded, symbols_for_money, system_digits, unit_by_notation, unit_loaded}
-use Rattle.number_forms.specs.Loaded.{unit_long_loaded, unit_patterns, unit_short_loaded}
+use Rattle.number_forms.specs.Loaded.{amounts_rounding, compact_money_loaded}
+use Rattle.number_forms.specs.Loaded.{currency_loaded, currency_rounding, form_with, money_by, money_loaded}
+use Rattle.number_forms.specs.Loaded.{money_precision, money_rounded_loaded, money_short_loaded, named_loaded}
+use Rattle.number_forms.specs.Loaded.{names_loaded}
+use Rattle.number_forms.specs.Loaded.{percent_loaded, preferences, symbols_for_money, system_digits, unit_loaded}
+use Rattle.number_forms.specs.Loaded.{unit_patterns}
 use Rattle.number_forms.specs.Making.{read_then, started, with_all}
 use Rattle.number_forms.specs.Settings.{FormSettings}
 use Rattle.number_forms.specs.declared.settings.UnitWidth.{UnitWidth}
 use Rattle.number_forms.specs.declared.settings.UnitWidth.TheVariants.{Long, Short, Narrow}
-use Rattle.skeleton_settings.specs.declared.settings.Notation.{Notation}
-use Rattle.skeleton_settings.specs.declared.settings.Notation.TheVariants.{Simple, CompactShort, CompactLong}
 
 -- what is made of all tables for a locale is made of the text
 pub with_all-for : (locale text : List ℕ) (kept : AllData) (load : TablesData → DimensionData → Result FormData Refusal)
