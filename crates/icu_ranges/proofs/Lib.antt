@@ -1,0 +1,4 @@
+pub mod Heavier
+pub mod SizesTold
+pub mod EdgeSteps
+pub mod PatternCuts

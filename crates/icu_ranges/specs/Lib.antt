@@ -1,0 +1,6 @@
+pub mod Edges
+pub mod EdgeLaws
+pub mod Separator
+pub mod Joined
+pub mod Order
+pub mod Digits
