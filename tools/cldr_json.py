@@ -111,6 +111,10 @@ class JsonRelease(Release):
         """A locale as LDML files are named."""
         return "root" if name == "und" else name.replace("-", "_")
 
+    def has_units(self) -> bool:
+        """Tells whether the package of units is read, which percents alone do without."""
+        return not self.may_lack_units or (self.folder / "cldr-units-full").exists()
+
     def load(self, *names: str) -> JsonObject:
         """A file of the release."""
         content: JsonObject = json.loads(below(self.folder, *names).read_bytes())
@@ -134,7 +138,7 @@ class JsonRelease(Release):
                 ADDERS[tag](tree, system, value)
         if "currencies" in self.scope.elements:
             add_currencies(tree, self.part("cldr-numbers-full", name, "currencies.json")["numbers"]["currencies"])
-        if "unitLength" in self.scope.elements:
+        if "unitLength" in self.scope.elements and self.has_units():
             add_units(tree, self.part("cldr-units-full", name, "units.json")["units"])
         return tree
 

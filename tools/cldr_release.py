@@ -23,7 +23,8 @@ PathOf = Callable[[str], ElementPath]
 
 
 class Scope(NamedTuple):
-    """What is read of a locale's file: elements of `numbers` and `units`, and of these `symbols` some."""
+    """What is read of a locale's file: elements of `numbers` and `units`, and of these `symbols` some. `shares` stands for
+    the units of percents, if the release has units."""
 
     elements: set[str]
     symbols: set[str]
@@ -34,7 +35,7 @@ NUMBERS = Scope(
     {"decimal", "group", "minusSign", "plusSign"},
 )
 MONEY = Scope({"currencyFormats", "currencies"}, {"currencyDecimal", "currencyGroup"})
-PERCENTS = Scope({"percentFormats"}, {"percentSign"})
+PERCENTS = Scope({"percentFormats", "shares"}, {"percentSign"})
 UNITS = Scope({"unitLength"}, set())
 
 
@@ -58,6 +59,10 @@ class Release(abc.ABC):
         self.folder = folder
         self.reports = reports
         elements, symbols = (set().union(*parts) for parts in zip(NUMBERS, *scopes))
+        # percents alone do without a package of units
+        self.may_lack_units = "unitLength" not in elements
+        if "shares" in elements:
+            elements.add("unitLength")
         self.scope = Scope(elements, symbols)
         self.trees: dict[str, Tree] = {}
         self.plural_parents: dict[str, str] = {}

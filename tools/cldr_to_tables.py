@@ -121,7 +121,7 @@ class TablesMaker:
             tables["currency_digits"] = [*currency_digits(self.release, self.wanted.currencies)]
         if self.wanted.percents:
             tables["percents"] = []
-        if self.wanted.units:
+        if self.wanted.units or self.wanted.percents:
             tables["units"] = []
         return tables
 
@@ -159,8 +159,8 @@ class TablesMaker:
             entries["currency_compact"] = self.compact_money(locale, systems, rules)
         if self.wanted.percents:
             entries["percents"] = self.percents(locale, systems)
-        if self.wanted.units:
-            entries["units"] = unit_entries(self.release, locale, self.wanted.units, rules)
+        if self.wanted.units or self.wanted.percents:
+            entries["units"] = unit_entries(self.release, locale, self.wanted.units, self.wanted.percents, rules)
         new = [system for system in systems if system in usual or self.is_new(systems[0], system, symbols, amounts)]
         entries["symbols"] = by_system(new, symbols)
         if self.wanted.currencies:
