@@ -1,9 +1,52 @@
 -- Where the text of a range pattern is cut.
 use Rattle.std.proofs.Common.{◌≡◌, ◌≢◌, ℕ, zero, suc, ◌+◌, ◌<◌, List, [], ◌∷◌, ◌++◌, length, get_or, refl, sym, ap, ◌∙◌, arith, length-append}
-use Rattle.std.specs.Prelude.{codes, Option, Some, None}
+use Rattle.std.specs.Prelude.{codes, nat_eq, Bool, true, false, not, Option, Some, None}
+use Rattle.std.specs.Cmp.Lexicographic.{pointwise}
+use Rattle.std.proofs.lemmas.Bool.{and_parts, eqb-true, eq-eqb}
+use Rattle.std.proofs.Math.Dec.{eqb-suc-zero}
 use Rattle.std.specs.Borrow.{Bor}
 use Rattle.std.proofs.lemmas.Str.Pattern.{IsSplitOnceResult, split_after, split_parts}
 use Rattle.icu_ranges.specs.Separator.{IsRangePattern, Lacks}
+
+-- texts with the same bytes are one text
+bytes_true : (a b : List ℕ) → pointwise nat_eq a b ≡ true → a ≡ b
+bytes_true [] [] e = refl
+bytes_true [] (y ∷ ys) e = absurd cc
+bytes_true (x ∷ xs) [] e = absurd cc
+bytes_true (x ∷ xs) (y ∷ ys) e =
+    let p = and_parts (nat_eq x y) (pointwise nat_eq xs ys) e in
+    let h : x ≡ y = eqb-true _ _ p.0 in
+    let t : xs ≡ ys = bytes_true xs ys p.1 in
+    cc
+
+-- a text has its own bytes
+bytes_same : (a : List ℕ) → pointwise nat_eq a a ≡ true
+bytes_same [] = refl
+bytes_same (x ∷ xs) = let h : nat_eq x x ≡ true = eq-eqb x x refl in let t = bytes_same xs in rw (h, t) refl
+
+-- where a test finds a difference, there is one
+pub differs_from : (r : Bool) (a b : List ℕ) → r ≡ true → r ≡ not (pointwise nat_eq a b) → a ≡ b → ⊥
+differs_from r a b passed is same =
+    let h : not (pointwise nat_eq a a) ≡ false = ap not (bytes_same a) in
+    let k : true ≡ not (pointwise nat_eq a a) = sym passed ∙ is ∙ ap (λ t. not (pointwise nat_eq a t)) (sym same) in
+    cc
+
+-- where it finds none, there is none
+pub same_as : (r : Bool) (a b : List ℕ) → r ≡ false → r ≡ not (pointwise nat_eq a b) → a ≡ b
+same_as r a b failed is = go (pointwise nat_eq a b) refl
+  where
+    go : (s : Bool) → pointwise nat_eq a b ≡ s → a ≡ b
+    go true e = bytes_true a b e
+    go false e = let k : false ≡ true = sym failed ∙ is ∙ ap not e in absurd cc
+
+-- a text that is found empty has no bytes
+pub found_empty : (r : Bool) (a : List ℕ) → r ≡ true → r ≡ nat_eq (length a) 0 → a ≢ [] → ⊥
+found_empty r [] passed is some = some refl
+found_empty r (x ∷ xs) passed is some = let k : true ≡ false = sym passed ∙ is ∙ eqb-suc-zero (length xs) in absurd cc
+
+-- one that isn't has some
+pub found_some : (r : Bool) (a : List ℕ) → r ≡ false → r ≡ nat_eq (length a) 0 → a ≢ []
+found_some r a failed is empty = let k : false ≡ true = sym failed ∙ is ∙ ap (λ t. nat_eq (length t) 0) empty in absurd cc
 
 -- two parts of a text
 abbrev Cut : Type 0

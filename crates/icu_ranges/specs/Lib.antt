@@ -4,3 +4,5 @@ pub mod Separator
 pub mod Joined
 pub mod Order
 pub mod Digits
+pub mod Ranges
+pub mod Writing

@@ -4,9 +4,15 @@
 mod decimal_range;
 mod edges;
 pub mod error;
+mod joined;
+mod number_range_formatter;
+mod options;
 mod order;
 mod range_pattern;
+mod showing;
 
 pub use decimal_range::{DecimalRange, Descending};
 pub use error::RangePatternError;
+pub use number_range_formatter::NumberRangeFormatter;
+pub use options::RangeIdentityFallback;
 pub use range_pattern::RangePattern;

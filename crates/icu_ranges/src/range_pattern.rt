@@ -106,16 +106,16 @@ fn write_space_if<K: EventWriter>(wanted: bool, out: &mut K) -> Result<(), Write
     }
 }
 
-/// Writes the separator with spaces around it, or without.
+/// Writes the separator, plain or with spaces around it.
 pub(crate) fn write_separator<K: EventWriter>(
     pattern: &RangePattern,
-    is_spaced: bool,
+    is_plain: bool,
     out: &mut K,
 ) -> Result<(), WriteFault>
     ensures { K.wrote out.old result
-        (if is_spaced then spaced_events pattern.now else plain_events pattern.now) out.new }
+        (if is_plain then plain_events pattern.now else spaced_events pattern.now) out.new }
 {
-    if !is_spaced {
+    if is_plain {
         return out.text(pattern.separator.as_str());
     }
     write_space_if(pattern.space_before, out)?;

@@ -1,0 +1,55 @@
+//! Rows of ranges: separators, ends, and what is written for them.
+#![tactic(auto)]
+
+mod ends;
+mod faults;
+mod locales;
+mod written;
+
+use faults::{Fault, reported};
+use rows::{Calls, Documents};
+use std::alloc::{AllocError, Global};
+use std::io;
+
+/// What a call answers; `None` if there is no such call.
+type CallResult = Result<Option<String>, AllocError>;
+
+/// The calls of `icu_ranges`.
+struct RangeCalls;
+
+/// What a call answers.
+fn returned(
+    alloc: Global,
+    documents: &Documents,
+    call: &str,
+    arguments: &[String],
+) -> Result<String, Fault> {
+    match arguments {
+        [text] if call == "RangePattern::parse" => ends::separator(alloc, text),
+        [start, end] if call == "DecimalRange::try_new" => ends::range_made(alloc, start, end),
+        [locale, pattern, start, end] => {
+            let range = (pattern.as_str(), start.as_str(), end.as_str());
+            locales::returned(alloc, documents, call, locale, range)
+        }
+        _ => Err(Fault::Unreadable),
+    }
+}
+
+impl Calls for RangeCalls {
+    fn returned(
+        &self,
+        alloc: Global,
+        documents: &Documents,
+        call: &str,
+        arguments: &[String],
+    ) -> CallResult {
+        match returned(alloc, documents, call, arguments) {
+            Ok(text) => Ok(Some(text)),
+            Err(fault) => reported(alloc, fault),
+        }
+    }
+}
+
+fn main(rt: HostRuntime) -> io::Result<()> {
+    rows::run(&rt, &RangeCalls)
+}
