@@ -9,7 +9,7 @@ use Rattle.std.proofs.lemmas.Str.Pattern.{IsSplitOnceResult, split_after, split_
 use Rattle.icu_ranges.specs.Separator.{IsRangePattern, Lacks}
 
 -- texts with the same bytes are one text
-bytes_true : (a b : List ℕ) → pointwise nat_eq a b ≡ true → a ≡ b
+pub bytes_true : (a b : List ℕ) → pointwise nat_eq a b ≡ true → a ≡ b
 bytes_true [] [] e = refl
 bytes_true [] (y ∷ ys) e = absurd cc
 bytes_true (x ∷ xs) [] e = absurd cc
@@ -20,7 +20,7 @@ bytes_true (x ∷ xs) (y ∷ ys) e =
     cc
 
 -- a text has its own bytes
-bytes_same : (a : List ℕ) → pointwise nat_eq a a ≡ true
+pub bytes_same : (a : List ℕ) → pointwise nat_eq a a ≡ true
 bytes_same [] = refl
 bytes_same (x ∷ xs) = let h : nat_eq x x ≡ true = eq-eqb x x refl in let t = bytes_same xs in rw (h, t) refl
 

@@ -6,3 +6,5 @@ pub mod Order
 pub mod Digits
 pub mod Ranges
 pub mod Writing
+pub mod Around
+pub mod RangeLaws

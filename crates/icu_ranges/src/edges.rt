@@ -3,32 +3,37 @@
 ghost use Rattle.std.specs.Prelude.{◌≡◌, Option, Some, None};
 ghost use Rattle.std.specs.Str.{chars};
 ghost use Rattle.writeable.specs.Events.{characters};
-ghost use Rattle.icu_ranges.specs.Edges.{edges_after, edges_with};
+ghost use Rattle.icu_ranges.specs.Edges.{edges_after, edges_with, is_long, is_long_within};
 ghost use Rattle.icu_ranges.specs.Joined.{has_digits, is_bare, is_digit};
 ghost use Rattle.icu_ranges.specs.Separator.{begins_with_ink, ends_with_ink, has_ink_first, has_ink_last, is_pattern_white_space};
 
 use ucd_category::GeneralCategory;
 use writeable::{EventWriter, Part, WriteFault, Writeable};
 
-/// The first and the last character of a text.
+/// The first and the last character of a text, and whether it has more than one.
 #[derive(Clone, Copy, Debug)]
 pub(crate) struct Edges {
     first: char,
     last: char,
+    is_long: bool,
 }
 
 /// The edges of a text that goes on with a character.
 fn edges_with(edges: Option<Edges>, character: char) -> Option<Edges>
     ensures { result ≡ edges_with edges character }
 {
-    let first = match edges {
-        Some(edges) => edges.first,
-        None => character,
-    };
-    Some(Edges {
-        first,
-        last: character,
-    })
+    match edges {
+        Some(edges) => Some(Edges {
+            first: edges.first,
+            last: character,
+            is_long: true,
+        }),
+        None => Some(Edges {
+            first: character,
+            last: character,
+            is_long: false,
+        }),
+    }
 }
 
 /// Keeps the first and the last character of what is written. It takes no memory, and never fails.
@@ -104,6 +109,23 @@ pub(crate) fn is_bare<T: Writeable>(value: &T) -> bool
     ensures { result ≡ is_bare (characters (T.events value.now)) }
 {
     has_digits(edges_of(value))
+}
+
+/// Whether a text with these edges has more than one character.
+fn is_long_within(edges: Option<Edges>) -> bool
+    ensures { result ≡ is_long_within edges }
+{
+    match edges {
+        Some(edges) => edges.is_long,
+        None => false,
+    }
+}
+
+/// Whether what a value writes has more than one character. It takes no memory.
+pub(crate) fn is_long<T: Writeable>(value: &T) -> bool
+    ensures { result ≡ is_long (characters (T.events value.now)) }
+{
+    is_long_within(edges_of(value))
 }
 
 /// Whether a character is white space in patterns.

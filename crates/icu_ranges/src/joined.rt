@@ -43,6 +43,24 @@ pub(crate) fn write_joined<A: Writeable, B: Writeable, K: EventWriter>(
     end.write_events(out)
 }
 
+/// Two texts with the separator between them, as one value.
+#[derive(Drop)]
+pub(crate) struct JoinedTexts<'a, A, B> {
+    pub(crate) pattern: &'a RangePattern,
+    pub(crate) start: &'a A,
+    pub(crate) end: &'a B,
+}
+
+impl<A: Writeable, B: Writeable> Writeable for JoinedTexts<'_, A, B> {
+    ghost use Rattle.icu_ranges.specs.Joined.{joined};
+
+    ghost events = { λ j. joined j.pattern.now (A.events j.start.now) (B.events j.end.now) };
+
+    fn write_events<K: EventWriter>(&self, out: &mut K) -> Result<(), WriteFault> {
+        write_joined(self.pattern, self.start, self.end, out)
+    }
+}
+
 /// The bytes of a text.
 fn text_bytes<T: Writeable>(alloc: Global, value: &T) -> Result<Vec<u8>, OutOfMemory>
     ensures { IfOk result (λ bytes. bytes.items ≡ text_of (T.events value.now)) }

@@ -99,9 +99,9 @@ impl<F: AbstractFormatter> NumberRangeFormatter<F> {
     /// written. After `OutOfMemory` the writer is unchanged too. `Sink` only where the writer
     /// failed. Equal texts are found in memory, so `RangeIdentityFallback::Range` takes none.
     // promise: A range is its two ends as they are shown, joined.
-    // mutations: number_start_written_twice, number_separator_always_spaced
+    // mutations: joined_start_written_twice, joined_separator_always_spaced
     // promise: An overflow of either end comes before any text.
-    // mutations: number_overflow_of_the_end_as_memory
+    // mutations: number_start_before_the_end_is_known
     pub fn write_into<K: EventWriter>(
         &self,
         alloc: Global,

@@ -66,7 +66,7 @@ fn compact(
 }
 
 /// The plain formatter of a locale.
-fn plain(alloc: Global, tables: &Tables, word: &str) -> Result<DecimalFormatter, Fault> {
+pub(crate) fn plain(alloc: Global, tables: &Tables, word: &str) -> Result<DecimalFormatter, Fault> {
     let preferences = DecimalFormatterPreferences {
         locale_preferences: locale_of(word)?,
         numbering_system: None,
@@ -91,17 +91,22 @@ fn by_tables(
     }
 }
 
-/// What a call by a locale answers.
-pub(crate) fn returned(
+/// The tables of `ranges.json`.
+pub(crate) fn tables(alloc: Global, documents: &Documents) -> Result<Tables, Fault> {
+    match documents.text("ranges.json") {
+        Some(text) => Ok(Tables::from_json(alloc, text)?),
+        None => Err(Fault::Unreadable),
+    }
+}
+
+/// What a call of ranges of numbers answers.
+pub(crate) fn numbers(
     alloc: Global,
     documents: &Documents,
     call: &str,
     word: &str,
     range: Range<'_>,
 ) -> Result<String, Fault> {
-    let Some(text) = documents.text("ranges.json") else {
-        return Err(Fault::Unreadable);
-    };
-    let tables = Tables::from_json(alloc, text)?;
+    let tables = tables(alloc, documents)?;
     by_tables(alloc, &tables, call, word, range)
 }

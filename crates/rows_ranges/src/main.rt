@@ -1,6 +1,7 @@
 //! Rows of ranges: separators, ends, and what is written for them.
 #![tactic(auto)]
 
+mod amounts;
 mod ends;
 mod faults;
 mod locales;
@@ -17,19 +18,23 @@ type CallResult = Result<Option<String>, AllocError>;
 /// The calls of `icu_ranges`.
 struct RangeCalls;
 
-/// What a call answers.
+/// What a call answers: of the type that its name begins with.
 fn returned(
     alloc: Global,
     documents: &Documents,
     call: &str,
     arguments: &[String],
 ) -> Result<String, Fault> {
-    match arguments {
-        [text] if call == "RangePattern::parse" => ends::separator(alloc, text),
-        [start, end] if call == "DecimalRange::try_new" => ends::range_made(alloc, start, end),
-        [locale, pattern, start, end] => {
+    let (kind, call) = call.split_once("::").unwrap_or(("", call));
+    match (kind, arguments) {
+        ("RangePattern", [text]) if call == "parse" => ends::separator(alloc, text),
+        ("DecimalRange", [start, end]) if call == "try_new" => ends::range_made(alloc, start, end),
+        ("NumberRangeFormatter", [locale, pattern, start, end]) => {
             let range = (pattern.as_str(), start.as_str(), end.as_str());
-            locales::returned(alloc, documents, call, locale, range)
+            locales::numbers(alloc, documents, call, locale, range)
+        }
+        ("PercentRangeFormatter" | "CurrencyRangeFormatter", _) => {
+            amounts::returned(alloc, documents, (kind, call), arguments)
         }
         _ => Err(Fault::Unreadable),
     }

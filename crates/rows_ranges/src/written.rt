@@ -3,7 +3,9 @@
 use crate::faults::Fault;
 use icu_decimal::error::FormatError;
 use icu_decimal_interface::AbstractFormatter;
-use icu_ranges::{DecimalRange, NumberRangeFormatter};
+use icu_ranges::{
+    CurrencyRangeFormatter, DecimalRange, NumberRangeFormatter, PercentRangeFormatter,
+};
 use std::alloc::{AllocError, Global};
 use std::str;
 use writeable::{Part, PartsText};
@@ -28,6 +30,54 @@ pub(crate) trait RangeWriter {
 }
 
 impl<F: AbstractFormatter> RangeWriter for NumberRangeFormatter<F> {
+    fn write_bytes(
+        &self,
+        alloc: Global,
+        range: &DecimalRange,
+        out: &mut Vec<u8>,
+    ) -> Result<(), FormatError> {
+        self.write_into(alloc, range, out)
+    }
+
+    fn write_parts(
+        &self,
+        alloc: Global,
+        range: &DecimalRange,
+        sink: &mut PartsText,
+    ) -> Result<(), FormatError> {
+        self.write(alloc, range, sink)
+    }
+
+    fn range_text(&self, alloc: Global, range: &DecimalRange) -> Result<String, FormatError> {
+        self.write_to_string(alloc, range)
+    }
+}
+
+impl<F: AbstractFormatter> RangeWriter for CurrencyRangeFormatter<F> {
+    fn write_bytes(
+        &self,
+        alloc: Global,
+        range: &DecimalRange,
+        out: &mut Vec<u8>,
+    ) -> Result<(), FormatError> {
+        self.write_into(alloc, range, out)
+    }
+
+    fn write_parts(
+        &self,
+        alloc: Global,
+        range: &DecimalRange,
+        sink: &mut PartsText,
+    ) -> Result<(), FormatError> {
+        self.write(alloc, range, sink)
+    }
+
+    fn range_text(&self, alloc: Global, range: &DecimalRange) -> Result<String, FormatError> {
+        self.write_to_string(alloc, range)
+    }
+}
+
+impl<F: AbstractFormatter> RangeWriter for PercentRangeFormatter<F> {
     fn write_bytes(
         &self,
         alloc: Global,
