@@ -1,7 +1,6 @@
 -- The edges of a text are its first and its last character.
 use Rattle.std.proofs.Common.{◌≡◌, ℕ, List, [], ◌∷◌, Bool, true, false, refl, ap, ◌∙◌}
-use Rattle.std.specs.Prelude.{Option, Some, None}
-use Rattle.icu_ranges.specs.declared.edges.Edges.{Edges}
+use Rattle.std.specs.Prelude.{Some, None}
 use Rattle.icu_ranges.specs.Edges.{edges_after, is_long, is_long_within, last_of}
 use Rattle.icu_ranges.specs.Joined.{has_digits, is_bare}
 use Rattle.icu_ranges.specs.Separator.{begins_with_ink, ends_with_ink, has_ink_first, has_ink_last}

@@ -1,6 +1,7 @@
 -- Which of two lists of digits weighs more, told from the front.
-use Rattle.std.proofs.Common.{◌≡◌, ◌≢◌, ◌↔◌, ℕ, zero, suc, ◌+◌, ◌-◌, ◌*◌, ◌^◌, ◌<◌, ◌≤◌, List, [], ◌∷◌, ◌++◌, length, drop, slice_index, Bool, true, false}
-use Rattle.std.proofs.Common.{IsTrue, refl, sym, ap, ◌∙◌, subst, arith, replicate}
+use Rattle.std.proofs.Common.{◌≡◌, ◌≢◌, ◌↔◌, ℕ, zero, suc, ◌+◌, ◌-◌, ◌*◌, ◌^◌}
+use Rattle.std.proofs.Common.{◌<◌, ◌≤◌, List, [], ◌∷◌, length, drop, slice_index, Bool, false}
+use Rattle.std.proofs.Common.{IsTrue, refl, sym, ap, ◌∙◌, subst, arith}
 use Rattle.std.proofs.Common.{inl, inr}
 use Rattle.std.proofs.lemmas.Bool.{cases_lt}
 use Rattle.std.proofs.Math.Nat.{mul-le-mul_left}
@@ -66,8 +67,8 @@ less_by_digit e f xs ys i digits s h less =
         omega (arith, same, x, y, small, mul-le-mul_left unit step)
 
 -- what the first digits that differ tell
-pub tells_at : (answer : Bool) (xs ys : List ℕ) (i : ℕ) → AreDigits xs → AreDigits ys → SameSoFar xs ys i → slice_index xs i ≢ slice_index ys i →
-    (IsTrue answer ↔ (slice_index ys i < slice_index xs i)) → TellsHeavier answer xs ys
+pub tells_at : (answer : Bool) (xs ys : List ℕ) (i : ℕ) → AreDigits xs → AreDigits ys → SameSoFar xs ys i →
+    slice_index xs i ≢ slice_index ys i → (IsTrue answer ↔ (slice_index ys i < slice_index xs i)) → TellsHeavier answer xs ys
 tells_at answer xs ys i dx dy s differ told e f h = (
   λ yes. less_by_digit e f xs ys i dy s h (told.0 yes),
   λ less. told.1 (elim (cases_lt (slice_index ys i) (slice_index xs i)) [
@@ -78,6 +79,7 @@ tells_at answer xs ys i dx dy s differ told e f h = (
   where
     swapped : SameSoFar ys xs i
     swapped = record { same = λ e f h. sym (s.same f e (sym h)) }
+
     contrary : slice_index xs i < slice_index ys i → weighed f ys < weighed e xs → ⊥
     contrary more less = omega (arith, less_by_digit f e ys xs i dx swapped (sym h) more)
 

@@ -1,5 +1,6 @@
 -- The order of ends, signs counted, and equal texts.
-use Rattle.std.proofs.Common.{◌≡◌, ◌≢◌, ◌↔◌, ℕ, ◌≤◌, ◌<◌, ℤ, pos, ◌-ℤ◌, ◌<ℤ◌, Bool, true, false, List, [], ◌∷◌, refl, sym, ap, ◌∙◌, arith, inl, inr, if◌then◌else◌}
+use Rattle.std.proofs.Common.{◌≡◌, ◌≢◌, ℕ, ◌≤◌, ℤ, pos, ◌-ℤ◌, ◌<ℤ◌, Bool, true}
+use Rattle.std.proofs.Common.{false, List, refl, sym, ap, ◌∙◌, arith, inl, inr, if◌then◌else◌}
 use Rattle.std.specs.Prelude.{nat_eq}
 use Rattle.std.specs.Cmp.Lexicographic.{pointwise}
 use Rattle.std.proofs.lemmas.Int.{ints}
@@ -11,8 +12,8 @@ abbrev signed : Bool → ℕ → ℤ
 signed negative x = if negative then pos 0 -ℤ pos x else pos x
 
 -- Sizes a and b are shown as x and y, in their order, and 0 as 0. Then ends that ascend are shown in order.
-pub shown_in_order : (s t : Bool) (a b x y : ℕ) → ¬ (signed t b <ℤ signed s a) → (a ≤ b → x ≤ y) → (b ≤ a → y ≤ x) → (a ≡ 0 → x ≡ 0) →
-    (b ≡ 0 → y ≡ 0) → ¬ (signed t y <ℤ signed s x)
+pub shown_in_order : (s t : Bool) (a b x y : ℕ) → ¬ (signed t b <ℤ signed s a) → (a ≤ b → x ≤ y) → (b ≤ a → y ≤ x) →
+    (a ≡ 0 → x ≡ 0) → (b ≡ 0 → y ≡ 0) → ¬ (signed t y <ℤ signed s x)
 shown_in_order false false a b x y h up down za zb above = elim (cases_lt b a) [
   | inl less ↦ h (omega (arith, ints, less))
   | inr more ↦ omega (arith, ints, above, up more)

@@ -1,6 +1,7 @@
 -- Which of two decimals is larger, told by their digits.
-use Rattle.std.proofs.Common.{◌≡◌, ◌≢◌, ◌↔◌, ℕ, zero, suc, ◌+◌, ◌-◌, ◌*◌, ◌^◌, ◌<◌, ◌≤◌, ◌⊎◌, List, [], ◌∷◌, ◌++◌, length, take, drop, slice_index}
-use Rattle.std.proofs.Common.{Bool, true, false, IsTrue, refl, sym, ap, ◌∙◌, subst, arith, replicate, inl, inr, length-append, length-drop}
+use Rattle.std.proofs.Common.{◌≡◌, ◌≢◌, ◌↔◌, ℕ, zero, suc, ◌+◌, ◌-◌, ◌*◌}
+use Rattle.std.proofs.Common.{◌^◌, ◌<◌, ◌≤◌, List, [], ◌∷◌, ◌++◌, length, drop, slice_index}
+use Rattle.std.proofs.Common.{Bool, true, false, IsTrue, sym, ap, ◌∙◌, subst, arith, replicate, inl, inr, length-drop}
 use Rattle.std.proofs.lemmas.Bool.{cases_lt}
 use Rattle.std.proofs.lemmas.List.{take-append-drop}
 use Rattle.std.proofs.Math.Nat.{mul-le-mul_left}
@@ -68,12 +69,17 @@ greater_whole a b unit r s less small =
 pub larger_by_whole : (u v : Unsigned) (ds es : List ℕ) → IsUnsigned u → IsUnsigned v → IsTrimmed (integer u) ds → IsTrimmed (integer v) es →
     weighed 0 es < weighed 0 ds → size v < size u
 larger_by_whole u v ds es hu hv tu tv less =
-    omega (arith, size_parts u ds hu tu, size_parts v es hv tv,
-    greater_whole (weighed 0 ds) (weighed 0 es) (10 ^ finest) (weighed (finest - u.scale) (fraction u)) (weighed (finest - v.scale) (fraction v)) less
-    (rest_small v hv))
+    omega (
+      arith,
+      size_parts u ds hu tu,
+      size_parts v es hv tv,
+      greater_whole (weighed 0 ds) (weighed 0 es) (10 ^ finest) (weighed (finest - u.scale) (fraction u)) (weighed (finest - v.scale) (fraction v)) less
+          (rest_small v hv),
+    )
 
 -- more digits weigh more, where the first isn't 0
-longer_weighs_more : (ds es : List ℕ) → AreDigits es → (0 < length ds → slice_index ds 0 ≢ 0) → length es < length ds → weighed 0 es < weighed 0 ds
+longer_weighs_more : (ds es : List ℕ) → AreDigits es → (0 < length ds → slice_index ds 0 ≢ 0) → length es < length ds →
+    weighed 0 es < weighed 0 ds
 longer_weighs_more [] es h first less = absurd (omega arith)
 longer_weighs_more (d ∷ ds) es h first less =
     let some : 1 ≤ d = omega (arith, first (omega arith)) in
@@ -104,7 +110,8 @@ pub wholes_tell : (answer : Bool) (u v : Unsigned) (ds es : List ℕ) → IsUnsi
 wholes_tell answer u v ds es hu hv tu tv same told passed = larger_by_whole u v ds es hu hv tu tv ((told 0 0 (omega arith)).0 passed)
 
 -- a test that isn't passed
-not_told : (answer : Bool) (ds es : List ℕ) → length ds ≡ length es → TellsHeavier answer ds es → answer ≡ false → ¬ (weighed 0 es < weighed 0 ds)
+not_told : (answer : Bool) (ds es : List ℕ) → length ds ≡ length es → TellsHeavier answer ds es → answer ≡ false →
+    ¬ (weighed 0 es < weighed 0 ds)
 not_told answer ds es same told failed less = let passed : answer ≡ true = (told 0 0 (omega arith)).1 less in cc
 
 -- where neither whole part is more, the fractions tell

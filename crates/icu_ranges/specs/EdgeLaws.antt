@@ -1,6 +1,6 @@
 -- That edges are kept event by event. It stands here and not in proofs/ because the impl of `EventWriter` cites it.
 use Rattle.std.proofs.Common.{◌≡◌, ℕ, List, [], ◌∷◌, ◌++◌, Result, Ok, Err, IsOk, IsErr, refl, sym, ap, ◌∙◌}
-use Rattle.std.specs.Prelude.{Option, Some, None}
+use Rattle.std.specs.Prelude.{Option}
 use Rattle.writeable.specs.Events.{Event, characters}
 use Rattle.writeable.specs.Writes.{characters-append}
 use Rattle.writeable.specs.declared.sink.WriteFault.{WriteFault}
@@ -28,5 +28,6 @@ edges_then a b c r es fs h k = (
 
 -- no write fails
 pub edges_stop : (a b : Option Edges) (e : WriteFault) (r : Result (Unit {0}) WriteFault) (es fs : List Event) → IsErr r →
-    IsOk (let s : Result (Unit {0}) WriteFault = Err e in s) × (b ≡ edges_after a (characters es)) → IsOk r × (b ≡ edges_after a (characters (es ++ fs)))
+    IsOk (let s : Result (Unit {0}) WriteFault = Err e in s) × (b ≡ edges_after a (characters es)) →
+    IsOk r × (b ≡ edges_after a (characters (es ++ fs)))
 edges_stop a b e r es fs failed h = cc

@@ -1,5 +1,6 @@
 -- The text between the two numbers of a range (UTS 35 Part 3, Miscellaneous Patterns: the pattern `range`).
-use Rattle.std.specs.Prelude.{◌≡◌, ◌≢◌, ℕ, ◌<◌, Bool, false, not, ◌==◌, ◌||◌, List, [], ◌∷◌, ◌++◌, length, chars, codes, get_or}
+use Rattle.std.specs.Prelude.{◌≡◌, ◌≢◌, ℕ, ◌<◌, Bool, false, not, ◌==◌}
+use Rattle.std.specs.Prelude.{◌||◌, List, [], ◌∷◌, ◌++◌, length, chars, codes, get_or}
 use Rattle.std.specs.Prelude.{Option, Some, None, if◌then◌else◌}
 use Rattle.writeable.specs.Events.{Event, text_events}
 use Rattle.writeable.specs.Events.Event.{Char}

@@ -55,7 +55,11 @@ fn write_around<A: Writeable, B: Writeable, K: EventWriter>(
         (A.events start.now) (B.events end.now)) out.new }
 {
     if is_shared(patterns, start_sign, end_sign) {
-        let numbers = JoinedTexts { pattern, start, end };
+        let numbers = JoinedTexts {
+            pattern,
+            start,
+            end,
+        };
         return patterns
             .for_sign(Sign::None)
             .interpolate(numbers)

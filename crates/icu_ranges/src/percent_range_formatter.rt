@@ -21,8 +21,8 @@ use std::alloc::Global;
 use std::marker::Model;
 use writeable::{EventWriter, PartsWrite, WithParts};
 
-/// Writes ranges of numbers of percents, as `3% – 5%` of 3 to 5. A fraction is multiplied before, as
-/// by `Decimal::multiply_pow10`.
+/// Writes ranges of numbers of percents, as `3% – 5%` of 3 to 5. A fraction is multiplied before,
+/// as by `Decimal::multiply_pow10`.
 ///
 /// What stands around both numbers is written once if neither has a sign and if it is more than one
 /// character, as in `3–5 %`. Else each number is written whole.

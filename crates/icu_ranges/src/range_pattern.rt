@@ -99,11 +99,7 @@ impl RangePattern {
 fn write_space_if<K: EventWriter>(wanted: bool, out: &mut K) -> Result<(), WriteFault>
     ensures { K.wrote out.old result (space_if wanted) out.new }
 {
-    if wanted {
-        out.character(' ')
-    } else {
-        Ok(())
-    }
+    if wanted { out.character(' ') } else { Ok(()) }
 }
 
 /// Writes the separator, plain or with spaces around it.

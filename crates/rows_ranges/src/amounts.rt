@@ -52,8 +52,7 @@ fn money(
     let patterns = patterns(alloc, amounts)?;
     let pattern = RangePattern::parse(alloc, pattern)?;
     let numbers = plain(alloc, tables, amounts.0)?;
-    let formatter =
-        CurrencyRangeFormatter::new(numbers, patterns, pattern, fallback_of(amounts.0));
+    let formatter = CurrencyRangeFormatter::new(numbers, patterns, pattern, fallback_of(amounts.0));
     asked_of(alloc, &formatter, call, (start, end))
 }
 

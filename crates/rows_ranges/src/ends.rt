@@ -2,8 +2,8 @@
 
 use crate::faults::Fault;
 use fixed_decimal::Decimal;
-use icu_decimal::options::{DecimalFormatterOptions, GroupingStrategy};
 use icu_decimal::DecimalFormatter;
+use icu_decimal::options::{DecimalFormatterOptions, GroupingStrategy};
 use icu_decimal_data::DecimalSymbols;
 use icu_ranges::{DecimalRange, RangePattern};
 use std::alloc::Global;

@@ -48,11 +48,7 @@ fn locale_of(word: &str) -> Result<DataLocale, Fault> {
 }
 
 /// The compact formatter of a locale.
-fn compact(
-    alloc: Global,
-    tables: &Tables,
-    word: &str,
-) -> Result<CompactDecimalFormatter, Fault> {
+fn compact(alloc: Global, tables: &Tables, word: &str) -> Result<CompactDecimalFormatter, Fault> {
     let preferences = CompactDecimalFormatterPreferences {
         locale_preferences: locale_of(word)?,
         numbering_system: None,

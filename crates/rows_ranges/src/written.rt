@@ -131,7 +131,11 @@ fn held(alloc: Global, sink: &PartsText) -> Result<String, Fault> {
 }
 
 /// What a call left in a sink.
-fn left(alloc: Global, sink: &PartsText, written: Result<(), FormatError>) -> Result<String, Fault> {
+fn left(
+    alloc: Global,
+    sink: &PartsText,
+    written: Result<(), FormatError>,
+) -> Result<String, Fault> {
     let text = held(alloc, sink)?;
     match written {
         Ok(()) => Ok(text),

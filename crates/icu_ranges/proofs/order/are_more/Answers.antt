@@ -1,4 +1,4 @@
-use Rattle.std.proofs.Common.{rules, arith, sym, ap, ◌∙◌, ◌≡◌, ◌≢◌, ◌↔◌, ◌<◌, subst, IsTrue, suc, ◌+◌}
+use Rattle.std.proofs.Common.{rules, arith, sym, ◌∙◌, ◌≢◌, subst}
 use Rattle.std.specs.Prelude.{slice_index}
 use Rattle.icu_ranges.proofs.Heavier.{SameSoFar, same_at_start, same_next, tells_at, tells_none}
 use Rattle.icu_ranges.proofs.order.are_more.Goals as goal

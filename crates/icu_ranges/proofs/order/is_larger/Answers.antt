@@ -1,6 +1,6 @@
-use Rattle.std.proofs.Common.{rules, sym, ◌∙◌, subst, arith}
+use Rattle.std.proofs.Common.{rules, sym, subst, arith}
 use Rattle.fixed_decimal.specs.Unsigned.{AreDigits}
-use Rattle.icu_ranges.specs.Digits.{IsTrimmed, TellsHeavier}
+use Rattle.icu_ranges.specs.Digits.{IsTrimmed}
 use Rattle.icu_ranges.proofs.SizesTold.{fractions_tell, lengths_tell, trimmed_digits, wholes_tell}
 use Rattle.icu_ranges.proofs.order.is_larger.Goals as goal
 
