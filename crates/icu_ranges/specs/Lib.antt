@@ -8,3 +8,4 @@ pub mod Ranges
 pub mod Writing
 pub mod Around
 pub mod RangeLaws
+pub mod PluralRanges

@@ -38,8 +38,6 @@ impl DecimalRange {
 
     /// The range from one decimal to another. They are compared by sign and size: -0 is 0, and 1.0
     /// is 1. If the first is above the second, both are handed back.
-    // promise: A range has the ends that it is given.
-    // mutations: range_ends_exchanged
     // promise: It is rejected exactly if the start is above the end.
     // mutations: range_descending_below_zero
     pub fn try_new(start: Decimal, end: Decimal) -> Result<Self, Descending>

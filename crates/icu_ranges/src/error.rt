@@ -24,3 +24,24 @@ impl From<AllocError> for RangePatternError {
         RangePatternError::OutOfMemory
     }
 }
+
+/// Why the categories of ranges were not made.
+#[derive(Clone, Copy, Debug, PartialEq, Eq, Error)]
+pub enum PluralRangesError {
+    /// A pair of categories has two entries.
+    #[error("a pair of categories has two entries")]
+    RepeatedPair,
+    /// Memory ran out.
+    #[error("out of memory")]
+    OutOfMemory,
+}
+
+impl From<AllocError> for PluralRangesError {
+    ghost use Rattle.icu_ranges.specs.declared.error.PluralRangesError.TheVariants.{OutOfMemory as NoMemory};
+
+    ghost from_gives = { λ _ e. e ≡ NoMemory };
+
+    fn from(_refused: AllocError) -> PluralRangesError {
+        PluralRangesError::OutOfMemory
+    }
+}

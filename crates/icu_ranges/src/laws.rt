@@ -10,7 +10,6 @@ ghost use Rattle.icu_ranges.specs.RangeLaws.{IdentityIsEqualTexts, IsShownAbove}
 use icu_decimal_interface::AbstractFormatter;
 
 /// Each end of a range is what the formatter shows of that number alone, and nothing else.
-// promise: Each end is what the formatter shows of it alone.
 pub fn ends_are_shown_alone<F: AbstractFormatter>()
     ensures { (f : F) (u v : Unsigned) (p : ShownPair) → BothSuch (F.shows f u) (F.shows f v) p →
         ((n : Shown) → F.shows f u n → n ≡ p.first)

@@ -12,13 +12,15 @@ mod number_range_formatter;
 mod options;
 mod order;
 mod percent_range_formatter;
+mod plural_ranges;
 mod range_pattern;
 mod showing;
 
 pub use currency_range_formatter::CurrencyRangeFormatter;
 pub use decimal_range::{DecimalRange, Descending};
-pub use error::RangePatternError;
+pub use error::{PluralRangesError, RangePatternError};
 pub use number_range_formatter::NumberRangeFormatter;
 pub use options::RangeIdentityFallback;
 pub use percent_range_formatter::PercentRangeFormatter;
+pub use plural_ranges::{PluralRange, PluralRanges};
 pub use range_pattern::RangePattern;

@@ -170,8 +170,6 @@ impl<F: AbstractFormatter> NumberRangeFormatter<F> {
     }
 
     /// The characters that `write` writes, as a text. `Sink` is never reported.
-    // promise: The text is that of the range's events.
-    // mutations: number_text_of_nothing
     pub fn write_to_string(
         &self,
         alloc: Global,

@@ -16,8 +16,6 @@ impl Default for RangeIdentityFallback {
 
     ghost is_default = { λ fallback. fallback ≡ SingleValue };
 
-    // promise: By default two equal texts are written as one.
-    // mutations: fallback_default_range
     fn default() -> Self {
         RangeIdentityFallback::SingleValue
     }

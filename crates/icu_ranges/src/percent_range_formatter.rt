@@ -74,8 +74,6 @@ impl<F: AbstractFormatter> PercentRangeFormatter<F> {
     /// `Overflow` exactly where the formatter overflows for one of the ends, before anything is
     /// written. After `OutOfMemory` the writer is unchanged too. `Sink` only where the writer
     /// failed. Equal texts are found in memory, so `RangeIdentityFallback::Range` takes none.
-    // promise: Both percents stand in the patterns of their signs.
-    // mutations: around_never_shared, around_sign_of_the_start_at_both
     pub fn write_into<K: EventWriter>(
         &self,
         alloc: Global,

@@ -66,8 +66,6 @@ impl RangePattern {
 
     /// The pattern of a text: `{0}`, a separator without braces, and `{1}`. Any other text is a
     /// `BadRangePattern`.
-    // promise: A pattern has the separator between its two places.
-    // mutations: parse_no_space_before, parse_space_beside_white_space
     // promise: Just the other texts are rejected.
     // mutations: parse_empty_separator_accepted, parse_brace_in_the_separator
     pub fn parse(alloc: Global, text: &str) -> Result<Self, RangePatternError>

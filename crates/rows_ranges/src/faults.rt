@@ -4,7 +4,7 @@ use crate::CallResult;
 use fixed_decimal::DecimalError;
 use icu_decimal::error::FormatError;
 use icu_provider::{DataError, DataErrorKind};
-use icu_ranges::RangePatternError;
+use icu_ranges::{PluralRangesError, RangePatternError};
 use icu_tables::TableError;
 use std::alloc::{AllocError, Global};
 use writeable::WriteFault;
@@ -46,6 +46,15 @@ impl From<RangePatternError> for Fault {
         match error {
             RangePatternError::OutOfMemory => Fault::OutOfMemory,
             RangePatternError::BadRangePattern => Fault::Named("BadRangePattern"),
+        }
+    }
+}
+
+impl From<PluralRangesError> for Fault {
+    fn from(error: PluralRangesError) -> Fault {
+        match error {
+            PluralRangesError::OutOfMemory => Fault::OutOfMemory,
+            PluralRangesError::RepeatedPair => Fault::Named("RepeatedPair"),
         }
     }
 }

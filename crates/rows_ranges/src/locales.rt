@@ -40,7 +40,7 @@ fn over<F: AbstractFormatter + Drop>(
 }
 
 /// The locale of a word.
-fn locale_of(word: &str) -> Result<DataLocale, Fault> {
+pub(crate) fn locale_of(word: &str) -> Result<DataLocale, Fault> {
     match DataLocale::try_from_str(word.split('/').next().unwrap_or_default()) {
         Ok(locale) => Ok(locale),
         Err(_) => Err(Fault::Unreadable),

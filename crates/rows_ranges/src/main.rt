@@ -5,6 +5,7 @@ mod amounts;
 mod ends;
 mod faults;
 mod locales;
+mod plural;
 mod written;
 
 use faults::{Fault, reported};
@@ -33,6 +34,7 @@ fn returned(
             let range = (pattern.as_str(), start.as_str(), end.as_str());
             locales::numbers(alloc, documents, call, locale, range)
         }
+        ("PluralRanges", _) => plural::returned(alloc, documents, call, arguments),
         ("PercentRangeFormatter" | "CurrencyRangeFormatter", _) => {
             amounts::returned(alloc, documents, (kind, call), arguments)
         }
