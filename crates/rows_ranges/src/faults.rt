@@ -6,7 +6,7 @@ use icu_decimal::error::FormatError;
 use icu_provider::{DataError, DataErrorKind};
 use icu_ranges::{PluralRangesError, RangePatternError};
 use icu_tables::TableError;
-use std::alloc::{AllocError, Global};
+use std::alloc::{AllocError, AllocFailed, Global};
 use writeable::WriteFault;
 
 /// Why a call has no text to answer.
@@ -22,6 +22,12 @@ pub(crate) enum Fault {
 
 impl From<AllocError> for Fault {
     fn from(_refused: AllocError) -> Fault {
+        Fault::OutOfMemory
+    }
+}
+
+impl<T: Drop> From<AllocFailed<T>> for Fault {
+    fn from(_refused: AllocFailed<T>) -> Fault {
         Fault::OutOfMemory
     }
 }
