@@ -1,0 +1,11 @@
+pub mod Edges
+pub mod EdgeLaws
+pub mod Separator
+pub mod Joined
+pub mod Order
+pub mod Digits
+pub mod Ranges
+pub mod Writing
+pub mod Around
+pub mod RangeLaws
+pub mod PluralRanges

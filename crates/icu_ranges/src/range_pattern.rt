@@ -1,0 +1,118 @@
+//! The text between the two numbers of a range.
+
+ghost use Rattle.std.specs.Prelude.{◌≡◌, List, ℕ, MatchOption, if◌then◌else◌};
+ghost use Rattle.icu_ranges.specs.Separator.{IsRangePattern, plain_events, space_if, spaced_events};
+
+use crate::edges::ink_at_edges;
+use crate::error::RangePatternError;
+use std::alloc::Global;
+use std::marker::Model;
+use writeable::{EventWriter, WriteFault};
+
+/// The pattern of ranges: the separator between two numbers, as `–` of `{0}–{1}` (this project's
+/// own).
+///
+/// Between two texts that aren't both bare numbers the separator has a space on each side on which
+/// it has no white space of its own, as in `-3 – 5`.
+#[derive(Drop)]
+pub struct RangePattern {
+    separator: String,
+    space_before: bool,
+    space_after: bool,
+}
+
+impl Model for RangePattern {
+    ghost use Rattle.icu_ranges.specs.Separator.{Separator};
+    ghost use Rattle.std.specs.String.{string_bytes};
+
+    ghost Value = { Separator };
+
+    ghost view = { λ p. record {
+      text = string_bytes p.separator;
+      space_before = p.space_before;
+      space_after = p.space_after;
+    } };
+}
+
+/// The separator in the text of a range pattern.
+fn separator_in(text: &str) -> Option<&str>
+    ensures { MatchOption result ((s : List ℕ) → ¬ (IsRangePattern text.now s))
+        (λ s. IsRangePattern text.now s.now) }
+{
+    let Some((start, rest)) = text.split_once('}') else {
+        return None;
+    };
+    let Some((separator, end)) = rest.split_once('{') else {
+        return None;
+    };
+    if start != "{0" {
+        return None;
+    }
+    if end != "1}" {
+        return None;
+    }
+    if separator.is_empty() {
+        return None;
+    }
+    match separator.split_once('}') {
+        Some(_) => None,
+        None => Some(separator),
+    }
+}
+
+impl RangePattern {
+    ghost use Rattle.std.specs.Prelude.{◌≡◌, List, ℕ, IfOk, IsErrOf};
+    ghost use Rattle.icu_ranges.specs.Separator.{IsRangePattern, separator_of};
+
+    /// The pattern of a text: `{0}`, a separator without braces, and `{1}`. Any other text is a
+    /// `BadRangePattern`.
+    // promise: Just the other texts are rejected.
+    // mutations: parse_empty_separator_accepted, parse_brace_in_the_separator
+    pub fn parse(alloc: Global, text: &str) -> Result<Self, RangePatternError>
+        ensures read { IfOk result (λ p. (s : List ℕ) × IsRangePattern text.now s
+            × (p ≡ separator_of s)) }
+        ensures rejected { IsErrOf result RangePatternError.BadRangePattern →
+            (s : List ℕ) → ¬ (IsRangePattern text.now s) }
+    {
+        let Some(separator) = separator_in(text) else {
+            return Err(RangePatternError::BadRangePattern);
+        };
+        let (space_before, space_after) = ink_at_edges(separator);
+        Ok(RangePattern {
+            separator: String::from_str(alloc, separator)?,
+            space_before,
+            space_after,
+        })
+    }
+
+    /// The separator.
+    pub fn separator(&self) -> &str
+        ensures { result.now ≡ self.now.text }
+    {
+        self.separator.as_str()
+    }
+}
+
+/// Writes a space, or nothing.
+fn write_space_if<K: EventWriter>(wanted: bool, out: &mut K) -> Result<(), WriteFault>
+    ensures { K.wrote out.old result (space_if wanted) out.new }
+{
+    if wanted { out.character(' ') } else { Ok(()) }
+}
+
+/// Writes the separator, plain or with spaces around it.
+pub(crate) fn write_separator<K: EventWriter>(
+    pattern: &RangePattern,
+    is_plain: bool,
+    out: &mut K,
+) -> Result<(), WriteFault>
+    ensures { K.wrote out.old result
+        (if is_plain then plain_events pattern.now else spaced_events pattern.now) out.new }
+{
+    if is_plain {
+        return out.text(pattern.separator.as_str());
+    }
+    write_space_if(pattern.space_before, out)?;
+    out.text(pattern.separator.as_str())?;
+    write_space_if(pattern.space_after, out)
+}
