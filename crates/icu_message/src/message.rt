@@ -50,6 +50,8 @@ impl Message {
     // mutations: parse_apostrophe_always_quotes, parse_name_reported_at_its_brace
     // promise: A choice has `other`, and no key twice.
     // mutations: parse_choice_without_other_accepted, parse_key_twice_accepted
+    // promise: A skeleton's fault is reported with its byte.
+    // mutations: parse_skeleton_fault_at_its_own_byte, parse_style_of_one_colon
     pub fn parse(alloc: Global, text: &str) -> Result<Self, ParseError>
         ensures text { IfOk result (λ m. m.text ≡ text.now) }
         ensures read { IfOk result (λ m. pieces_of text.now ≡ Ok m.pieces) }
@@ -79,7 +81,7 @@ impl Message {
 
     /// The names of the message with their kinds, in the order in which they first appear.
     // promise: Each name stands there once, with its kind.
-    // mutations: signature_name_listed_twice, signature_text_for_a_number
+    // mutations: signature_name_listed_twice, signature_form_of_any_kind
     pub fn signature(&self, alloc: Global) -> Result<Vec<NamedKind>, AllocError>
         ensures { IfOk result (λ names. names.items ≡ signature self.now.text self.now.pieces) }
     {
