@@ -9,16 +9,16 @@ use Rattle.icu_message.specs.declared.piece.Word.{Word}
 use Rattle.icu_message.specs.declared.piece.ChoiceKind.{ChoiceKind}
 use Rattle.icu_message.specs.declared.piece.ChoiceKind.TheVariants.{Plural, SelectOrdinal, Select}
 use Rattle.icu_message.specs.declared.piece.Piece.{Piece}
-use Rattle.icu_message.specs.declared.piece.Piece.TheVariants.{Byte, Special, Place, Hash, Choice, Arm, EndArm, EndChoice}
+use Rattle.icu_message.specs.declared.piece.Piece.TheVariants.{Byte, Special, Place, Formatted, Hash, Choice, Arm, EndArm, EndChoice}
 use Rattle.icu_message.specs.declared.argument.ArgumentValue.{ArgumentValue}
-use Rattle.icu_message.specs.declared.argument.ArgumentValue.TheVariants.{Text, Number}
+use Rattle.icu_message.specs.declared.argument.ArgumentValue.TheVariants.{Text, Number, Form}
 use Rattle.icu_message.specs.Words.{word_in, same_bytes, other}
 use Rattle.icu_message.specs.Names.{category_name}
 use Rattle.icu_message.specs.Numbers.{Number as Shown, exact_key}
 use Rattle.icu_message.specs.Writing.{Filling, named, key_for_number, key_for}
 use Rattle.icu_message.specs.Spelling.{said_all, SaidKey, SaidChoice, keys_have, IsNormalFrom}
-use Rattle.icu_message.specs.Trees.{Tree, done, byte, special, place, counted, choice, Arms, last, arm, pieces_in, pieces_in_arms, arms_have, arms_with}
-use Rattle.icu_message.specs.Trees.{picked_key, PicksOne, ArmsPickOne, ReadIsTree, OneArm}
+use Rattle.icu_message.specs.Trees.{Tree, done, byte, special, place, formatted, counted, choice, Arms, last, arm, pieces_in, pieces_in_arms, arms_have}
+use Rattle.icu_message.specs.Trees.{arms_with, picked_key, PicksOne, ArmsPickOne, ReadIsTree, OneArm}
 use Rattle.icu_message.proofs.Normal.{pieces_are_normal}
 use Rattle.icu_message.proofs.Spelled.{and_left, and_right, or_left, or_right, both, equal_bytes}
 
@@ -31,6 +31,7 @@ abbrev mutual
   Sound text (byte b t) = Sound text t
   Sound text (special b t) = Sound text t
   Sound text (place w t) = Sound text t
+  Sound text (formatted w k t) = Sound text t
   Sound text (counted w t) = Sound text t
   Sound text (choice k w arms t) = (arms_have text other arms ≡ true) × AreSound text arms × Sound text t
 
@@ -227,6 +228,9 @@ mutual
   in_message text n ks cs (Place w ∷ ps) low h =
       let x = in_message text n ks cs ps low h.2 in
       record { tree = place w x.tree; around = x.around; levels = x.levels; is = ap (λ l. Place w ∷ l) x.is; sound = x.sound; fits = x.fits }
+  in_message text n ks cs (Formatted w k ∷ ps) low h =
+      let x = in_message text n ks _ ps low h.4 in
+      record { tree = formatted w k x.tree; around = x.around; levels = x.levels; is = ap (λ l. Formatted w k ∷ l) x.is; sound = x.sound; fits = x.fits }
   in_message text n ks cs (Hash w ∷ ps) low h =
       let x = in_message text n ks cs ps low h.1 in
       record { tree = counted w x.tree; around = x.around; levels = x.levels; is = ap (λ l. Hash w ∷ l) x.is; sound = x.sound; fits = x.fits }
@@ -268,6 +272,7 @@ mutual
   in_arms text n ks cs (Byte b ∷ ps) low h some = absurd h
   in_arms text n ks cs (Special b ∷ ps) low h some = absurd h
   in_arms text n ks cs (Place w ∷ ps) low h some = absurd h
+  in_arms text n ks cs (Formatted w k ∷ ps) low h some = absurd h
   in_arms text n ks cs (Hash w ∷ ps) low h some = absurd h
   in_arms text n ks cs (Choice k w ∷ ps) low h some = absurd h
   in_arms text n ks cs (EndArm ∷ ps) low h some = absurd h
@@ -300,12 +305,15 @@ has_number has rules n h =
 has_key_for : (f : Filling) (has : List ℕ → Bool) (k : ChoiceKind) (v : Option ArgumentValue) → has other ≡ true → has (key_for f has k v) ≡ true
 has_key_for f has Plural (Some (Number n)) h = has_number has f.cardinal n.now h
 has_key_for f has Plural (Some (Text t)) h = h
+has_key_for f has Plural (Some (Form t n)) h = h
 has_key_for f has Plural None h = h
 has_key_for f has SelectOrdinal (Some (Number n)) h = has_number has f.ordinal n.now h
 has_key_for f has SelectOrdinal (Some (Text t)) h = h
+has_key_for f has SelectOrdinal (Some (Form t n)) h = h
 has_key_for f has SelectOrdinal None h = h
 has_key_for f has Select (Some (Text t)) h = has_picked has t.now other (has t.now) refl h
 has_key_for f has Select (Some (Number n)) h = h
+has_key_for f has Select (Some (Form t n)) h = h
 has_key_for f has Select None h = h
 
 none_with : (text key : List ℕ) (arms : Arms) → arms_have text key arms ≡ false → arms_with text key arms ≡ 0
@@ -333,6 +341,7 @@ mutual
   picks_one f (byte b t) h = picks_one f t h
   picks_one f (special b t) h = picks_one f t h
   picks_one f (place w t) h = picks_one f t h
+  picks_one f (formatted w k t) h = picks_one f t h
   picks_one f (counted w t) h = picks_one f t h
   picks_one f (choice k w arms t) h = (
     one_with f.text (picked_key f k w arms) arms h.1 (has_key_for f (λ key. arms_have f.text key arms) k (named f w) h.0),

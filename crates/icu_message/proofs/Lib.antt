@@ -6,3 +6,6 @@ pub mod Built
 pub mod Paths
 pub mod Walks
 pub mod ShownTexts
+pub mod Counts
+pub mod Once
+pub mod Styles

@@ -3,24 +3,31 @@ use Rattle.std.proofs.Common.{◌≡◌, ◌⊎◌, inl, inr, ℕ, zero, suc, �
 use Rattle.std.proofs.Common.{◌∙◌, append_assoc, append-nil}
 use Rattle.std.specs.Prelude.{Bool, true, false, ◌==◌, ◌&&◌, ◌||◌, nat_le, if◌then◌else◌, Option, Some, None, is_some, Result, Ok, Err}
 use Rattle.std.specs.Option.{option_map}
+use Rattle.std.specs.Result.{is_ok}
+use Rattle.number_skeleton.specs.declared.fault.SkeletonFault.{SkeletonFault}
+use Rattle.number_skeleton.specs.Tokens.{skeleton_of}
+use Rattle.skeleton_settings.specs.Settings.{SkeletonData}
 use Rattle.icu_message.specs.declared.error.ParseError.{ParseError}
 use Rattle.icu_message.specs.declared.piece.Word.{Word}
 use Rattle.icu_message.specs.declared.piece.ChoiceKind.{ChoiceKind}
+use Rattle.icu_message.specs.declared.piece.ChoiceKind.TheVariants.{Plural}
 use Rattle.icu_message.specs.declared.piece.Piece.{Piece}
 use Rattle.icu_message.specs.declared.piece.Piece.TheVariants.{Byte, Special}
 use Rattle.icu_message.specs.declared.stepping.Position.{Position}
 use Rattle.icu_message.specs.declared.stepping.Position.TheVariants.{Text, Doubled, DoubledIn, Quoted, Opened, InName, Named, KindDue, InKind, AfterKind}
-use Rattle.icu_message.specs.declared.stepping.Position.TheVariants.{KeyDue, InKey, ValueDue, InValue, AfterKey}
+use Rattle.icu_message.specs.declared.stepping.Position.TheVariants.{AfterNumber, StyleDue, ColonDue, SkeletonDue, InSkeleton, KeyDue, InKey, ValueDue}
+use Rattle.icu_message.specs.declared.stepping.Position.TheVariants.{InValue, AfterKey}
 use Rattle.icu_message.specs.declared.stepping.State.{State}
 use Rattle.icu_message.specs.declared.stepping.Step.{Step}
 use Rattle.icu_message.specs.declared.stepping.Here.{Here}
 use Rattle.icu_message.specs.Words.{is_space, is_digit, is_word, word_in}
-use Rattle.icu_message.specs.Names.{is_name, is_key, kind_of}
+use Rattle.icu_message.specs.Names.{is_name, is_key, kind_of, is_number_kind}
 use Rattle.icu_message.specs.Keys.{has_key, has_keys, has_other, counted_at, has_other_kind}
-use Rattle.icu_message.specs.Stepping.{opening, closing, comma, apostrophe, hash, equals, is_special, start, step, step_in, hash_step, text_step, quoted_step}
-use Rattle.icu_message.specs.Stepping.{after_name, behind_kind, kind_read, close_choice, key_step, after_key, key_read}
-use Rattle.icu_message.specs.Reading.{Drafted, empty_draft, with_added, with_step, ended, here, first, fault_of_end, longest, reading_from, pieces_of}
-use Rattle.icu_message.specs.Spelling.{Said, said, said_all, said_by, said_keys, said_choices, counts_at, IsNormalFrom, IsNormal, ReadIsNormal}
+use Rattle.icu_message.specs.Stepping.{opening, closing, comma, colon, apostrophe, hash, equals, is_special, start, step, step_in, hash_step, text_step}
+use Rattle.icu_message.specs.Stepping.{quoted_step, is_style, formatted_step, skeleton_read, skeleton_step, behind_number, number_read, word_to, after_name}
+use Rattle.icu_message.specs.Stepping.{behind_kind, kind_read, close_choice, key_step, after_key, key_read}
+use Rattle.icu_message.specs.Reading.{Drafted, empty_draft, with_added, with_step, ended, here, first, fault_of_end, longest, no_level, reading_from, pieces_of}
+use Rattle.icu_message.specs.Spelling.{Said, said, said_all, said_by, said_keys, said_choices, counts_at, is_skeleton, IsNormalFrom, IsNormal, ReadIsNormal}
 use Rattle.icu_message.proofs.Left.{byte_is_read, at_end}
 use Rattle.icu_message.proofs.Spelled.{in_state, keys_said, other_said, key_added, keys_closed, piece_added, kinds_said, choice_added, counted_said, some_said}
 
@@ -57,6 +64,11 @@ Fine text d n (Named w) = (nat_le 8 n ≡ false) × (is_name (word_in text w) �
 Fine text d n (KindDue w) = (nat_le 8 n ≡ false) × (is_name (word_in text w) ≡ true)
 Fine text d n (InKind w from) = (nat_le 8 n ≡ false) × (is_name (word_in text w) ≡ true)
 Fine text d n (AfterKind k w) = (nat_le 8 n ≡ false) × (is_name (word_in text w) ≡ true) × (has_other_kind text k w d.choices ≡ false)
+Fine text d n (AfterNumber w) = (nat_le 8 n ≡ false) × (is_name (word_in text w) ≡ true) × (has_other_kind text Plural w d.choices ≡ false)
+Fine text d n (StyleDue w) = (nat_le 8 n ≡ false) × (is_name (word_in text w) ≡ true) × (has_other_kind text Plural w d.choices ≡ false)
+Fine text d n (ColonDue w from) = (nat_le 8 n ≡ false) × (is_name (word_in text w) ≡ true) × (has_other_kind text Plural w d.choices ≡ false)
+Fine text d n (SkeletonDue w) = (nat_le 8 n ≡ false) × (is_name (word_in text w) ≡ true) × (has_other_kind text Plural w d.choices ≡ false)
+Fine text d n (InSkeleton w from) = (nat_le 8 n ≡ false) × (is_name (word_in text w) ≡ true) × (has_other_kind text Plural w d.choices ≡ false)
 Fine text d n (AfterKey w) = is_key (is_some (counted_at n d.choices)) (word_in text w) ≡ true
 Fine text d n _ = Unit {0}
 
@@ -191,6 +203,65 @@ kind_read_goes text d p n w from x (Some k) t deep name h = elim (cases (has_oth
   | inr h ↦ behind_kind_goes text d p n k w x t deep name h.0 h.1
 ]
 
+-- ---- formatted places
+
+formatted_goes : (text : List ℕ) (d : Drafted) (p : Position) (n : ℕ) (w k : Word) (r : Result SkeletonData SkeletonFault) (t : Step)
+    → nat_le 8 n ≡ false → is_name (word_in text w) ≡ true → has_other_kind text Plural w d.choices ≡ false
+    → is_style (word_in text k) ≡ true → skeleton_of (word_in text k) ≡ r → formatted_step (in_state p n) w k r ≡ Ok t → Goes text d false n t
+formatted_goes text d p n w k (Ok x) t deep name alike style is h =
+    let read : is_skeleton (word_in text k) ≡ true =
+    ap (λ c. c && is_ok (skeleton_of (word_in text k))) style ∙ ap (λ (r : Result SkeletonData SkeletonFault). is_ok r) is in
+    known (Goes text d false n) _ t h (record {
+      fine = tt;
+      stands =
+          λ rest r. (
+            deep,
+            name,
+            read,
+            sym (kinds_said text Plural w d.choices) ∙ alike,
+            subst (λ l. IsNormalFrom false n (said_keys text d.keys) l rest)
+                (choice_added text d.choices (record { level = no_level; kind = Plural; name = w })) r,
+          );
+    })
+formatted_goes text d p n w k (Err fault) t deep name alike style is h = never _ t h
+
+skeleton_read_goes : (text : List ℕ) (d : Drafted) (p : Position) (n : ℕ) (w k : Word) (t : Step) → nat_le 8 n ≡ false
+    → is_name (word_in text w) ≡ true → has_other_kind text Plural w d.choices ≡ false → skeleton_read text (in_state p n) w k ≡ Ok t
+    → Goes text d false n t
+skeleton_read_goes text d p n w k t deep name alike h = elim (cases (is_style (word_in text k)) _ _ (Ok t) h) as (λ _. Goes text d false n t) [
+  | inl h ↦ formatted_goes text d p n w k (skeleton_of (word_in text k)) t deep name alike h.0 refl h.1
+  | inr h ↦ never _ t h.1
+]
+
+skeleton_goes : (text : List ℕ) (d : Drafted) (p : Position) (n : ℕ) (w : Word) (from : ℕ) (h : Here) (t : Step) → nat_le 8 n ≡ false
+    → is_name (word_in text w) ≡ true → has_other_kind text Plural w d.choices ≡ false → skeleton_step text (in_state p n) w from h ≡ Ok t
+    → Goes text d false n t
+skeleton_goes text d p n w from x t deep name alike h = elim (cases (x.byte == closing) _ _ (Ok t) h) as (λ _. Goes text d false n t) [
+  | inl h ↦ skeleton_read_goes text d p n w (word_to from x) t deep name alike h.1
+  | inr h ↦ known (Goes text d false n) _ t h.1 (record { fine = (deep, name, alike); stands = (refl, refl) })
+]
+
+number_goes : (text : List ℕ) (d : Drafted) (p : Position) (n : ℕ) (w : Word) (h : Here) (t : Step) → nat_le 8 n ≡ false
+    → is_name (word_in text w) ≡ true → has_other_kind text Plural w d.choices ≡ false → behind_number text (in_state p n) w h ≡ Ok t
+    → Goes text d false n t
+number_goes text d p n w x t deep name alike h = elim (cases (x.byte == closing) _ _ (Ok t) h) as (λ _. Goes text d false n t) [
+  | inl h ↦ skeleton_read_goes text d p n w (word_to x.at x) t deep name alike h.1
+  | inr h ↦ elim (cases (x.byte == comma) _ _ (Ok t) h.1) as (λ _. Goes text d false n t) [
+    | inl h ↦ known (Goes text d false n) _ t h.1 (record { fine = (deep, name, alike); stands = (refl, refl) })
+    | inr h ↦ elim (cases (is_space x.byte) _ _ (Ok t) h.1) as (λ _. Goes text d false n t) [
+      | inl h ↦ known (Goes text d false n) _ t h.1 (record { fine = (deep, name, alike); stands = (refl, refl) })
+      | inr h ↦ never _ t h.1
+    ]
+  ]
+]
+
+number_read_goes : (text : List ℕ) (d : Drafted) (p : Position) (n : ℕ) (w : Word) (from : ℕ) (h : Here) (t : Step) → nat_le 8 n ≡ false
+    → is_name (word_in text w) ≡ true → number_read text d.choices (in_state p n) w from h ≡ Ok t → Goes text d false n t
+number_read_goes text d p n w from x t deep name h = elim (cases (has_other_kind text Plural w d.choices) _ _ (Ok t) h) as (λ _. Goes text d false n t) [
+  | inl h ↦ never _ t h.1
+  | inr h ↦ number_goes text d p n w x t deep name h.0 h.1
+]
+
 -- ---- keys
 
 close_goes : (text : List ℕ) (d : Drafted) (p : Position) (n at : ℕ) (t : Step) → close_choice text d.keys (in_state p n) at ≡ Ok t
@@ -286,10 +357,30 @@ step_goes text d (KindDue w) n at b bs t f h = elim (cases (is_space b) _ _ (Ok 
 ]
 step_goes text d (InKind w from) n at b bs t f h = elim (cases (is_word b) _ _ (Ok t) h) as (λ _. Goes text d false n t) [
   | inl h ↦ known (Goes text d false n) _ t h.1 (record { fine = f; stands = (refl, refl) })
-  | inr h ↦ kind_read_goes text d (InKind w from) n w from (here (in_state (InKind w from) n) d at b bs)
-      (kind_of (word_in text (record { start = from; end = at }))) t f.0 f.1 h.1
+  | inr h ↦ elim (cases (is_number_kind (word_in text (record { start = from; end = at }))) _ _ (Ok t) h.1) as (λ _. Goes text d false n t) [
+    | inl h ↦ number_read_goes text d (InKind w from) n w from (here (in_state (InKind w from) n) d at b bs) t f.0 f.1 h.1
+    | inr h ↦ kind_read_goes text d (InKind w from) n w from (here (in_state (InKind w from) n) d at b bs)
+        (kind_of (word_in text (record { start = from; end = at }))) t f.0 f.1 h.1
+  ]
 ]
 step_goes text d (AfterKind k w) n at b bs t f h = behind_kind_goes text d (AfterKind k w) n k w (here (in_state (AfterKind k w) n) d at b bs) t f.0 f.1 f.2 h
+step_goes text d (AfterNumber w) n at b bs t f h =
+    number_goes text d (AfterNumber w) n w (here (in_state (AfterNumber w) n) d at b bs) t f.0 f.1 f.2 h
+step_goes text d (StyleDue w) n at b bs t f h = elim (cases (is_space b) _ _ (Ok t) h) as (λ _. Goes text d false n t) [
+  | inl h ↦ known (Goes text d false n) _ t h.1 (record { fine = f; stands = (refl, refl) })
+  | inr h ↦ elim (cases (b == colon) _ _ (Ok t) h.1) as (λ _. Goes text d false n t) [
+    | inl h ↦ known (Goes text d false n) _ t h.1 (record { fine = f; stands = (refl, refl) })
+    | inr h ↦ never _ t h.1
+  ]
+]
+step_goes text d (ColonDue w from) n at b bs t f h = elim (cases (b == colon) _ _ (Ok t) h) as (λ _. Goes text d false n t) [
+  | inl h ↦ known (Goes text d false n) _ t h.1 (record { fine = f; stands = (refl, refl) })
+  | inr h ↦ never _ t h.1
+]
+step_goes text d (SkeletonDue w) n at b bs t f h =
+    skeleton_goes text d (SkeletonDue w) n w at (here (in_state (SkeletonDue w) n) d at b bs) t f.0 f.1 f.2 h
+step_goes text d (InSkeleton w from) n at b bs t f h =
+    skeleton_goes text d (InSkeleton w from) n w from (here (in_state (InSkeleton w from) n) d at b bs) t f.0 f.1 f.2 h
 step_goes text d KeyDue n at b bs t f h = key_goes text d KeyDue n (here (in_state KeyDue n) d at b bs) t h
 step_goes text d (InKey from) n at b bs t f h = elim (cases (is_word b) _ _ (Ok t) h) as (λ _. Goes text d true n t) [
   | inl h ↦ known (Goes text d true n) _ t h.1 (record { fine = tt; stands = (refl, refl) })
@@ -340,6 +431,11 @@ end_normal text (Named w) n at d ps k h = no_fault _ ps h
 end_normal text (KindDue w) n at d ps k h = no_fault _ ps h
 end_normal text (InKind w from) n at d ps k h = no_fault _ ps h
 end_normal text (AfterKind c w) n at d ps k h = no_fault _ ps h
+end_normal text (AfterNumber w) n at d ps k h = no_fault _ ps h
+end_normal text (StyleDue w) n at d ps k h = no_fault _ ps h
+end_normal text (ColonDue w from) n at d ps k h = no_fault _ ps h
+end_normal text (SkeletonDue w) n at d ps k h = no_fault _ ps h
+end_normal text (InSkeleton w from) n at d ps k h = no_fault _ ps h
 end_normal text KeyDue n at d ps k h = no_fault _ ps h
 end_normal text (InKey from) n at d ps k h = no_fault _ ps h
 end_normal text (ValueDue from) n at d ps k h = no_fault _ ps h

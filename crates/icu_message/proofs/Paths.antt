@@ -1,7 +1,7 @@
 -- What is written is the path with arguments in places.
 use Rattle.std.proofs.Common.{◌≡◌, ℕ, List, [], ◌∷◌, ◌++◌, refl, sym, ap, ◌∙◌}
 use Rattle.icu_message.specs.declared.piece.Piece.{Piece}
-use Rattle.icu_message.specs.declared.piece.Piece.TheVariants.{Byte, Special, Place, Hash, Choice, Arm, EndArm, EndChoice}
+use Rattle.icu_message.specs.declared.piece.Piece.TheVariants.{Byte, Special, Place, Formatted, Hash, Choice, Arm, EndArm, EndChoice}
 use Rattle.icu_message.specs.declared.moving.Mode.{Mode}
 use Rattle.icu_message.specs.declared.moving.Mode.TheVariants.{Writing, Seeking, Leaving}
 use Rattle.icu_message.specs.Writing.{Filling, picked, moved, sought, piece_text, written_from}
@@ -12,6 +12,7 @@ stops_before : (f : Filling) (mode : Mode) (p : Piece) (stops : List Stop) → f
 stops_before f Writing (Byte b) stops = refl
 stops_before f Writing (Special b) stops = refl
 stops_before f Writing (Place w) stops = refl
+stops_before f Writing (Formatted w k) stops = refl
 stops_before f Writing (Hash w) stops = refl
 stops_before f Writing (Choice k w) stops = refl
 stops_before f Writing (Arm w) stops = refl
@@ -25,6 +26,7 @@ sought_alike : (f : Filling) (key : List ℕ) (mode : Mode) (p : Piece) (ps : Li
 sought_alike f key Writing (Byte b) ps = refl
 sought_alike f key Writing (Special b) ps = refl
 sought_alike f key Writing (Place w) ps = refl
+sought_alike f key Writing (Formatted w k) ps = refl
 sought_alike f key Writing (Hash w) ps = refl
 sought_alike f key Writing (Choice k w) ps = refl
 sought_alike f key Writing (Arm w) ps = refl

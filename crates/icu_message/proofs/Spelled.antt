@@ -5,34 +5,43 @@ use Rattle.std.proofs.Common.{append-nil}
 use Rattle.std.specs.Prelude.{Bool, true, false, ◌==◌, ◌&&◌, ◌||◌, nat_le, if◌then◌else◌, Option, Some, None, is_some, Result, Ok}
 use Rattle.std.specs.List.{filter}
 use Rattle.std.specs.Option.{option_map}
+use Rattle.std.specs.Result.{is_ok}
+use Rattle.std.specs.Prelude.{not, Err}
+use Rattle.std.specs.Str.{is_utf8}
+use Rattle.number_skeleton.specs.declared.fault.SkeletonFault.{SkeletonFault}
+use Rattle.number_skeleton.specs.Tokens.{skeleton_of}
+use Rattle.skeleton_settings.specs.Settings.{SkeletonData}
 use Rattle.std.proofs.lemmas.List.{drop-drop}
 use Rattle.std.proofs.Math.Seq.{drop-append_seam, take-append_seam}
 use Rattle.std.proofs.lemmas.Bool.Decides.{nat_tests}
 use Rattle.icu_message.specs.declared.error.ParseError.{ParseError}
+use Rattle.icu_message.specs.declared.error.ParseError.TheVariants.{Style}
 use Rattle.icu_message.specs.declared.piece.Word.{Word}
 use Rattle.icu_message.specs.declared.piece.OpenKey.{OpenKey}
 use Rattle.icu_message.specs.declared.piece.BegunChoice.{BegunChoice}
 use Rattle.icu_message.specs.declared.piece.ChoiceKind.{ChoiceKind}
 use Rattle.icu_message.specs.declared.piece.ChoiceKind.TheVariants.{Plural, SelectOrdinal, Select}
 use Rattle.icu_message.specs.declared.piece.Piece.{Piece}
-use Rattle.icu_message.specs.declared.piece.Piece.TheVariants.{Byte, Special, Place, Hash, Choice, Arm, EndArm, EndChoice}
+use Rattle.icu_message.specs.declared.piece.Piece.TheVariants.{Byte, Special, Place, Formatted, Hash, Choice, Arm, EndArm, EndChoice}
 use Rattle.icu_message.specs.declared.spelling.Before.{Before}
 use Rattle.icu_message.specs.declared.spelling.Before.TheVariants.{Nothing, Quote, EndedArm}
 use Rattle.icu_message.specs.declared.stepping.Position.{Position}
 use Rattle.icu_message.specs.declared.stepping.Position.TheVariants.{Text, Doubled, DoubledIn, Quoted, Opened, InName, KindDue, InKind, KeyDue, InKey, ValueDue}
-use Rattle.icu_message.specs.declared.stepping.Position.TheVariants.{InValue}
+use Rattle.icu_message.specs.declared.stepping.Position.TheVariants.{InValue, StyleDue, ColonDue, SkeletonDue, InSkeleton}
 use Rattle.icu_message.specs.declared.stepping.State.{State}
 use Rattle.icu_message.specs.declared.stepping.Step.{Step}
 use Rattle.icu_message.specs.declared.stepping.Here.{Here}
-use Rattle.icu_message.specs.Words.{is_space, is_digit, is_word, all_digits, all_word, word_in, other, is_other, same_words}
-use Rattle.icu_message.specs.Names.{is_word_text, is_name, is_value, is_exact, is_category, is_key, kind_name, kind_of, are_apart}
+use Rattle.icu_message.specs.Words.{is_space, is_digit, is_word, all_digits, all_word, word_in, has_brace, other, is_other, same_words}
+use Rattle.icu_message.specs.Names.{is_word_text, is_name, is_value, is_exact, is_category, is_key, kind_name, kind_of, number_kind, is_number_kind, are_apart}
 use Rattle.icu_message.specs.Keys.{has_key, has_other, keys_to, number_named, counted_from, counted_at, has_other_kind}
-use Rattle.icu_message.specs.Stepping.{opening, closing, comma, apostrophe, hash, equals, is_special, silent, adds, step, hash_step, text_step, kind_read}
-use Rattle.icu_message.specs.Stepping.{key_read}
-use Rattle.icu_message.specs.Reading.{Drafted, empty_draft, with_added, with_step, first, here, reading_from}
-use Rattle.icu_message.specs.Spelling.{Said, byte, special, place, counted, choice, arm, end_arm, end_choice, said, said_all, said_by, spelling_from, spelling}
+use Rattle.icu_message.specs.Stepping.{opening, closing, comma, colon, apostrophe, hash, equals, is_special, silent, adds, step, hash_step, text_step}
+use Rattle.icu_message.specs.Stepping.{kind_read}
+use Rattle.icu_message.specs.Stepping.{key_read, is_style, formatted_step, skeleton_read, behind_number, in_kind, word_to}
+use Rattle.icu_message.specs.Reading.{Drafted, empty_draft, with_added, with_step, first, here, no_level, reading_from}
+use Rattle.icu_message.specs.Spelling.{Said, byte, special, place, formatted, counted, choice, arm, end_arm, end_choice, said, said_all, said_by}
+use Rattle.icu_message.specs.Spelling.{spelling_from, spelling}
 use Rattle.icu_message.specs.Spelling.{SaidKey, said_key, said_keys, SaidChoice, said_choice, said_choices, keys_have, counts_from, counts_at, kinds_differ}
-use Rattle.icu_message.specs.Spelling.{spelled_before, IsNormalFrom, SpellingIsRead}
+use Rattle.icu_message.specs.Spelling.{style, spelled_before, is_skeleton, IsNormalFrom, SpellingIsRead}
 use Rattle.icu_message.proofs.Left.{byte_is_read, at_end}
 
 -- a position in a choice so deep
@@ -138,6 +147,11 @@ kind_is_kind Plural = refl
 kind_is_kind SelectOrdinal = refl
 kind_is_kind Select = refl
 
+kind_is_choice : (k : ChoiceKind) → is_number_kind (kind_name k) ≡ false
+kind_is_choice Plural = refl
+kind_is_choice SelectOrdinal = refl
+kind_is_choice Select = refl
+
 -- the first byte of a kind is read
 kind_begins : (text : List ℕ) (v : Word) (n : ℕ) (d : Drafted) (at : ℕ) (k : ChoiceKind) (rest : List ℕ)
     → reading_from text (in_state (KindDue v) n) d at (kind_name k ++ rest)
@@ -172,7 +186,8 @@ choice_is_read text n d at k w rest deep h is kind alike =
     ∙ reads text _ d _ _ _ (silent (in_state Text n) (KindDue v)) (if_then _ _ _ (ap is_name is ∙ h))
     ∙ kind_begins text v n d from k (comma ∷ rest)
     ∙ reads text _ d _ _ _ (adds (n + 1) KeyDue (Choice k v))
-    (ap (kind_read text d.choices s v from t) (ap kind_of kind ∙ kind_is_kind k) ∙ if_else _ _ _ alike)
+    (if_else _ _ _ (ap is_number_kind kind ∙ kind_is_choice k)
+    ∙ ap (kind_read text d.choices s v from t) (ap kind_of kind ∙ kind_is_kind k) ∙ if_else _ _ _ alike)
 
 -- the end of a key is read
 key_ends : (text : List ℕ) (n : ℕ) (d : Drafted) (from fault at : ℕ) (rest : List ℕ) (p : Position)
@@ -522,6 +537,133 @@ place_read text n ks cs w ms deep name k at d there keys choices =
     (behind text (at + 1 + length w) closing rest (dropped text (at + 1) w (closing ∷ rest) next)) keys choices
     ∙ regrouped text d.pieces (Place v) (place w) ms (ap place is)
 
+-- ---- formatted places are read
+
+not_true : (b : Bool) → not b ≡ true → b ≡ false
+not_true true h = absurd (cc)
+not_true false h = refl
+
+-- `number` is read
+number_begins : (text : List ℕ) (v : Word) (n : ℕ) (d : Drafted) (at : ℕ) (rest : List ℕ)
+    → reading_from text (in_state (KindDue v) n) d at (number_kind ++ rest)
+    ≡ reading_from text (in_state (InKind v at) n) d (at + length number_kind) rest
+number_begins text v n d at rest =
+    reads text _ d _ _ _ (silent (in_state (KindDue v) n) (InKind v at)) refl
+    ∙ kind_run text v at n d (at + 1) (117 ∷ 109 ∷ 98 ∷ 101 ∷ 114 ∷ []) rest refl
+    ∙ ap (λ a. reading_from text (in_state (InKind v at) n) d a rest) (omega arith)
+
+-- `number` ends
+number_ends : (text : List ℕ) (v : Word) (from n : ℕ) (d : Drafted) (h : Here) → is_word h.byte ≡ false
+    → is_number_kind (word_in text (word_to from h)) ≡ true → has_other_kind text Plural v d.choices ≡ false
+    → in_kind text d.choices (in_state (InKind v from) n) v from h ≡ behind_number text (in_state (InKind v from) n) v h
+number_ends text v from n d h ends is alike = if_else _ _ _ ends ∙ if_then _ _ _ is ∙ if_else _ _ _ alike
+
+settings_read : (s : State) (v k : Word) (r : Result SkeletonData SkeletonFault) → is_ok r ≡ true
+    → formatted_step s v k r ≡ Ok (adds s.level Text (Formatted v k))
+settings_read s v k (Ok x) h = refl
+settings_read s v k (Err fault) h = absurd (cc)
+
+-- a skeleton is complete
+skeleton_ends : (text : List ℕ) (s : State) (v k : Word) (bytes : List ℕ) → word_in text k ≡ bytes → is_skeleton bytes ≡ true
+    → skeleton_read text s v k ≡ Ok (adds s.level Text (Formatted v k))
+skeleton_ends text s v k bytes is h =
+    ap (λ l. if is_style l then formatted_step s v k (skeleton_of l) else Err (Style k.start)) is
+    ∙ if_then _ _ _ (and_left (is_style bytes) (is_ok (skeleton_of bytes)) h)
+    ∙ settings_read s v k (skeleton_of bytes) (and_right (is_style bytes) (is_ok (skeleton_of bytes)) h)
+
+-- no brace is in a skeleton
+skeleton_bare : (k : List ℕ) → is_skeleton k ≡ true → has_brace k ≡ false
+skeleton_bare k h = not_true (has_brace k) (and_right (is_utf8 k) (not (has_brace k)) (and_left (is_style k) (is_ok (skeleton_of k)) h))
+
+no_closing : (b : ℕ) (k : List ℕ) → has_brace (b ∷ k) ≡ false → (b == closing) ≡ false
+no_closing b k h = or_right (b == opening) (b == closing) (or_left (b == opening || b == closing) (has_brace k) h)
+
+-- the bytes of a skeleton are read
+skeleton_run : (text : List ℕ) (v : Word) (from n : ℕ) (d : Drafted) (at : ℕ) (k rest : List ℕ) → has_brace k ≡ false
+    → reading_from text (in_state (InSkeleton v from) n) d at (k ++ rest) ≡ reading_from text (in_state (InSkeleton v from) n) d (at + length k) rest
+skeleton_run text v from n d at [] rest h = ap (λ a. reading_from text (in_state (InSkeleton v from) n) d a rest) (omega arith)
+skeleton_run text v from n d at (b ∷ k) rest h =
+    reads text _ d _ _ _ (silent (in_state (InSkeleton v from) n) (InSkeleton v from)) (if_else _ _ _ (no_closing b k h))
+    ∙ skeleton_run text v from n d (at + 1) k rest (or_right (b == opening || b == closing) (has_brace k) h)
+    ∙ ap (λ a. reading_from text (in_state (InSkeleton v from) n) d a rest) (omega arith)
+
+-- behind `number` a style and the end of a place are read
+record StyleRead (text : List ℕ) (v : Word) (from n : ℕ) (d : Drafted) (at : ℕ) (k rest : List ℕ) : Type 0 where
+  word : Word
+  is : word_in text word ≡ k
+  next : drop (word.end + 1) text ≡ rest
+  read : reading_from text (in_state (InKind v from) n) d at (style k ++ closing ∷ rest)
+      ≡ reading_from text (in_state Text n) (with_added n (Some (Formatted v word)) d) (word.end + 1) rest
+
+style_is_read : (text : List ℕ) (v : Word) (from n : ℕ) (d : Drafted) (at : ℕ) (k rest : List ℕ)
+    → is_number_kind (word_in text (record { start = from; end = at })) ≡ true → has_other_kind text Plural v d.choices ≡ false
+    → is_skeleton k ≡ true → drop at text ≡ style k ++ closing ∷ rest → StyleRead text v from n d at k rest
+style_is_read text v from n d at [] rest kind alike valid there =
+    let word : Word = record { start = at; end = at } in
+    let len : at - at ≡ 0 = omega arith in
+    let is : word_in text word ≡ [] = ap (λ n. take n (drop at text)) len in
+    record {
+      word = word;
+      is = is;
+      next = behind text at closing rest there;
+      read =
+          reads text (in_state (InKind v from) n) d at closing rest (adds n Text (Formatted v word))
+          (number_ends text v from n d (here (in_state (InKind v from) n) d at closing rest) refl kind alike
+          ∙ skeleton_ends text (in_state (InKind v from) n) v word [] is valid);
+    }
+style_is_read text v from n d at (b ∷ k) rest kind alike valid there =
+    let start : ℕ = at + 1 + 1 + 1 in
+    let word : Word = record { start = start; end = start + length (b ∷ k) } in
+    let first_colon : drop (at + 1) text ≡ colon ∷ colon ∷ b ∷ (k ++ closing ∷ rest) = behind text at comma _ there in
+    let second_colon : drop (at + 1 + 1) text ≡ colon ∷ b ∷ (k ++ closing ∷ rest) = behind text (at + 1) colon _ first_colon in
+    let skeleton : drop start text ≡ b ∷ (k ++ closing ∷ rest) = behind text (at + 1 + 1) colon _ second_colon in
+    let bare : has_brace (b ∷ k) ≡ false = skeleton_bare (b ∷ k) valid in
+    let is : word_in text word ≡ b ∷ k = word_there text start (b ∷ k) (closing ∷ rest) skeleton in
+    record {
+      word = word;
+      is = is;
+      next = behind text (start + length (b ∷ k)) closing rest (dropped text start (b ∷ k) (closing ∷ rest) skeleton);
+      read =
+          reads text (in_state (InKind v from) n) d at comma _ (silent (in_state Text n) (StyleDue v))
+          (number_ends text v from n d (here (in_state (InKind v from) n) d at comma (colon ∷ colon ∷ b ∷ (k ++ closing ∷ rest))) refl kind alike)
+          ∙ reads text (in_state (StyleDue v) n) d (at + 1) colon _ (silent (in_state Text n) (ColonDue v (at + 1))) refl
+          ∙ reads text (in_state (ColonDue v (at + 1)) n) d (at + 1 + 1) colon _ (silent (in_state Text n) (SkeletonDue v)) refl
+          ∙ reads text (in_state (SkeletonDue v) n) d start b _ (silent (in_state Text n) (InSkeleton v start)) (if_else _ _ _ (no_closing b k bare))
+          ∙ skeleton_run text v start n d (start + 1) k (closing ∷ rest) (or_right (b == opening || b == closing) (has_brace k) bare)
+          ∙ ap (λ a. reading_from text (in_state (InSkeleton v start) n) d a (closing ∷ rest)) (omega arith)
+          ∙ reads text (in_state (InSkeleton v start) n) d (start + length (b ∷ k)) closing rest (adds n Text (Formatted v word))
+          (skeleton_ends text (in_state (InSkeleton v start) n) v word (b ∷ k) is valid);
+    }
+
+-- a formatted place
+formatted_read : (text : List ℕ) (n : ℕ) (ks : List SaidKey) (cs : List SaidChoice) (w k : List ℕ) (ms : List Said) → nat_le 8 n ≡ false
+    → is_name w ≡ true → is_skeleton k ≡ true → kinds_differ Plural w cs ≡ false
+    → InText text n ks (cs ++ record { level = no_level; kind = Plural; name = w } ∷ []) ms → IsRead text Text n ks cs Nothing (formatted w k ∷ ms)
+formatted_read text n ks cs w k ms deep name valid alike behind_it at d there keys choices =
+    let rest : List ℕ = spelling_from Nothing ms in
+    let tail : List ℕ = style k ++ closing ∷ rest in
+    let v : Word = record { start = at + 1; end = at + 1 + length w } in
+    let from : ℕ = at + 1 + length w + 1 in
+    let next : drop (at + 1) text ≡ w ++ comma ∷ (number_kind ++ tail) = behind text at opening (w ++ comma ∷ (number_kind ++ tail)) there in
+    let is : word_in text v ≡ w = word_there text (at + 1) w (comma ∷ (number_kind ++ tail)) next in
+    let kind : drop from text ≡ number_kind ++ tail =
+    behind text (at + 1 + length w) comma (number_kind ++ tail) (dropped text (at + 1) w (comma ∷ (number_kind ++ tail)) next) in
+    let one_kind : has_other_kind text Plural v d.choices ≡ false =
+    kinds_said text Plural v d.choices ∙ ap (λ x. kinds_differ Plural x (said_choices text d.choices)) is ∙ ap (kinds_differ Plural w) choices ∙ alike in
+    let x : StyleRead text v from n d (from + length number_kind) k rest =
+    style_is_read text v from n d (from + length number_kind) k rest (ap is_number_kind (word_there text from number_kind tail kind)) one_kind valid
+    (dropped text from number_kind tail kind) in
+    ap (said_by text)
+    (argument_begins text n d at w (comma ∷ (number_kind ++ tail)) deep (and_left (is_word_text w) _ name)
+    ∙ reads text _ d _ _ _ (silent (in_state Text n) (KindDue v)) (if_then _ _ _ (ap is_name is ∙ name))
+    ∙ number_begins text v n d from tail
+    ∙ x.read)
+    ∙ behind_it.plain (x.word.end + 1) (with_added n (Some (Formatted v x.word)) d) x.next keys
+    (choice_added text d.choices (record { level = no_level; kind = Plural; name = v })
+    ∙ ap (λ l. l ++ record { level = no_level; kind = Plural; name = word_in text v } ∷ []) choices
+    ∙ ap (λ x. cs ++ record { level = no_level; kind = Plural; name = x } ∷ []) is)
+    ∙ regrouped text d.pieces (Formatted v x.word) (formatted w k) ms (ap (λ y. formatted y (word_in text x.word)) is ∙ ap (formatted w) x.is)
+
 -- `#`
 counted_read : (text : List ℕ) (n : ℕ) (ks : List SaidKey) (cs : List SaidChoice) (w : List ℕ) (ms : List Said) → counts_at n cs ≡ Some w
     → InText text n ks cs ms → IsRead text Text n ks cs Nothing (counted w ∷ ms)
@@ -617,6 +759,10 @@ mutual
   read_message text n ks cs (special b ∷ ms) h = special_read text n ks cs b ms h.0 (read_message text n ks cs ms h.1)
   read_message text n ks cs (place w ∷ ms) h =
       with_quote text n ks cs (place w ∷ ms) (place_read text n ks cs w ms h.0 h.1 (read_message text n ks cs ms h.2)) refl refl
+  read_message text n ks cs (formatted w k ∷ ms) h =
+      with_quote text n ks cs (formatted w k ∷ ms)
+      (formatted_read text n ks cs w k ms h.0 h.1 h.2 h.3
+      (read_message text n ks (cs ++ record { level = no_level; kind = Plural; name = w } ∷ []) ms h.4)) refl refl
   read_message text n ks cs (counted w ∷ ms) h =
       with_quote text n ks cs (counted w ∷ ms) (counted_read text n ks cs w ms h.0 (read_message text n ks cs ms h.1)) refl refl
   read_message text n ks cs (choice c w ∷ ms) h =
@@ -641,6 +787,7 @@ mutual
   read_arms text n ks cs (byte b ∷ ms) h = absurd h
   read_arms text n ks cs (special b ∷ ms) h = absurd h
   read_arms text n ks cs (place w ∷ ms) h = absurd h
+  read_arms text n ks cs (formatted w k ∷ ms) h = absurd h
   read_arms text n ks cs (counted w ∷ ms) h = absurd h
   read_arms text n ks cs (choice c w ∷ ms) h = absurd h
   read_arms text n ks cs (end_arm ∷ ms) h = absurd h

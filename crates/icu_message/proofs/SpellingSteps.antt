@@ -3,10 +3,10 @@ use Rattle.std.proofs.Common.{◌≡◌, ℕ, List, [], ◌∷◌, ◌++◌, ref
 use Rattle.std.specs.Prelude.{true, false, ◌==◌, if◌then◌else◌}
 use Rattle.icu_message.specs.declared.piece.Piece.{Piece}
 use Rattle.icu_message.specs.declared.spelling.Before.{Before}
-use Rattle.icu_message.specs.Names.{kind_name}
+use Rattle.icu_message.specs.Names.{kind_name, number_kind}
 use Rattle.icu_message.specs.Stepping.{opening, closing, comma, apostrophe}
-use Rattle.icu_message.specs.Spelling.{Said, byte, special, place, counted, choice, arm, end_arm, end_choice, said, said_all, lead, spelled_before, before_next}
-use Rattle.icu_message.specs.Spelling.{spelling_from}
+use Rattle.icu_message.specs.Spelling.{Said, byte, special, place, formatted, counted, choice, arm, end_arm, end_choice, said, said_all, lead, style}
+use Rattle.icu_message.specs.Spelling.{spelled_before, before_next, spelling_from}
 
 -- what is spelled before a rest
 pub spelled_split : (rest : List ℕ) (m : Said) → spelled_before rest m ≡ spelled_before [] m ++ rest
@@ -14,6 +14,9 @@ spelled_split rest (byte b) = elim (b == apostrophe) as (λ c. (if c then apostr
     ≡ (if c then apostrophe ∷ apostrophe ∷ [] else b ∷ []) ++ rest) [ true ↦ refl | false ↦ refl ]
 spelled_split rest (special b) = refl
 spelled_split rest (place w) = ap (λ r. opening ∷ r) (sym (append_assoc w (closing ∷ []) rest))
+spelled_split rest (formatted w k) =
+    ap (λ r. opening ∷ (w ++ comma ∷ (number_kind ++ r))) (sym (append_assoc (style k) (closing ∷ []) rest))
+    ∙ ap (λ r. opening ∷ r) (sym (append_assoc w (comma ∷ (number_kind ++ (style k ++ closing ∷ []))) rest))
 spelled_split rest (counted w) = refl
 spelled_split rest (choice k w) =
     ap (λ r. opening ∷ (w ++ comma ∷ r)) (sym (append_assoc (kind_name k) (comma ∷ []) rest))

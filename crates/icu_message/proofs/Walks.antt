@@ -3,15 +3,15 @@ use Rattle.std.proofs.Common.{◌≡◌, ℕ, ◌+◌, ◌-◌, List, [], ◌∷
 use Rattle.std.specs.Prelude.{true, false, ◌==◌, ◌&&◌, ◌||◌, if◌then◌else◌}
 use Rattle.std.proofs.lemmas.Bool.Decides.{nat_tests}
 use Rattle.icu_message.specs.declared.piece.Piece.{Piece}
-use Rattle.icu_message.specs.declared.piece.Piece.TheVariants.{Byte, Special, Place, Hash, Choice, Arm, EndArm, EndChoice}
+use Rattle.icu_message.specs.declared.piece.Piece.TheVariants.{Byte, Special, Place, Formatted, Hash, Choice, Arm, EndArm, EndChoice}
 use Rattle.icu_message.specs.declared.piece.ChoiceKind.{ChoiceKind}
 use Rattle.icu_message.specs.declared.piece.Word.{Word}
 use Rattle.icu_message.specs.declared.moving.Mode.TheVariants.{Writing, Seeking, Leaving}
 use Rattle.icu_message.specs.Words.{word_in, same_bytes}
 use Rattle.icu_message.specs.Arguments.{value_text}
-use Rattle.icu_message.specs.Writing.{Filling, named, key_for, picked, has_arm, written_from}
-use Rattle.icu_message.specs.Trees.{Tree, done, byte, special, place, counted, choice, Arms, last, arm, pieces_in, pieces_in_arms, arms_have, picked_key}
-use Rattle.icu_message.specs.Trees.{tree_text, arm_text, WrittenByTrees}
+use Rattle.icu_message.specs.Writing.{Filling, named, formed, key_for, picked, has_arm, written_from}
+use Rattle.icu_message.specs.Trees.{Tree, done, byte, special, place, formatted, counted, choice, Arms, last, arm, pieces_in, pieces_in_arms, arms_have}
+use Rattle.icu_message.specs.Trees.{picked_key, tree_text, arm_text, WrittenByTrees}
 
 -- a level more isn't zero, and a level less again is the level
 up : (n : ℕ) → ((n + 1) == 0) ≡ false
@@ -28,6 +28,7 @@ mutual
   seek-tree f key n (byte b t) rest = seek-tree f key n t rest
   seek-tree f key n (special b t) rest = seek-tree f key n t rest
   seek-tree f key n (place w t) rest = seek-tree f key n t rest
+  seek-tree f key n (formatted w k t) rest = seek-tree f key n t rest
   seek-tree f key n (counted w t) rest = seek-tree f key n t rest
   seek-tree f key n (choice k w arms t) rest =
       seek-arms f key n arms (EndChoice ∷ pieces_in t rest)
@@ -52,6 +53,7 @@ mutual
   leave-tree f key n (byte b t) rest = leave-tree f key n t rest
   leave-tree f key n (special b t) rest = leave-tree f key n t rest
   leave-tree f key n (place w t) rest = leave-tree f key n t rest
+  leave-tree f key n (formatted w k t) rest = leave-tree f key n t rest
   leave-tree f key n (counted w t) rest = leave-tree f key n t rest
   leave-tree f key n (choice k w arms t) rest =
       leave-arms f key (n + 1) arms (EndChoice ∷ pieces_in t rest)
@@ -73,6 +75,7 @@ mutual
   find-tree text key n (byte b t) rest = find-tree text key n t rest
   find-tree text key n (special b t) rest = find-tree text key n t rest
   find-tree text key n (place w t) rest = find-tree text key n t rest
+  find-tree text key n (formatted w k t) rest = find-tree text key n t rest
   find-tree text key n (counted w t) rest = find-tree text key n t rest
   find-tree text key n (choice k w arms t) rest =
       find-arms text key n arms (EndChoice ∷ pieces_in t rest)
@@ -109,6 +112,7 @@ mutual
   leave-any f k l n (Byte b ∷ ps) = leave-any f k l n ps
   leave-any f k l n (Special b ∷ ps) = leave-any f k l n ps
   leave-any f k l n (Place w ∷ ps) = leave-any f k l n ps
+  leave-any f k l n (Formatted w s ∷ ps) = leave-any f k l n ps
   leave-any f k l n (Hash w ∷ ps) = leave-any f k l n ps
   leave-any f k l n (Choice c w ∷ ps) = leave-any f k l (n + 1) ps
   leave-any f k l n (Arm w ∷ ps) = leave-any f k l n ps
@@ -125,6 +129,7 @@ mutual
   write-any f k l (Byte b ∷ ps) = ap (λ r. b ∷ r) (write-any f k l ps)
   write-any f k l (Special b ∷ ps) = ap (λ r. b ∷ r) (write-any f k l ps)
   write-any f k l (Place w ∷ ps) = ap (λ r. value_text (named f w) ++ r) (write-any f k l ps)
+  write-any f k l (Formatted w s ∷ ps) = ap (λ r. value_text (formed f w s) ++ r) (write-any f k l ps)
   write-any f k l (Hash w ∷ ps) = ap (λ r. value_text (named f w) ++ r) (write-any f k l ps)
   write-any f k l (Choice c w ∷ ps) = refl
   write-any f k l (Arm w ∷ ps) = write-any f k l ps
@@ -140,6 +145,8 @@ mutual
   write-tree f key (special b t) rest = ap (λ r. b ∷ r) (write-tree f key t rest)
   write-tree f key (place w t) rest =
       ap (λ r. value_text (named f w) ++ r) (write-tree f key t rest) ∙ sym (append_assoc (value_text (named f w)) (tree_text f t) _)
+  write-tree f key (formatted w k t) rest =
+      ap (λ r. value_text (formed f w k) ++ r) (write-tree f key t rest) ∙ sym (append_assoc (value_text (formed f w k)) (tree_text f t) _)
   write-tree f key (counted w t) rest =
       ap (λ r. value_text (named f w) ++ r) (write-tree f key t rest) ∙ sym (append_assoc (value_text (named f w)) (tree_text f t) _)
   write-tree f key (choice k w arms t) rest =

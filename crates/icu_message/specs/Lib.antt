@@ -1,9 +1,13 @@
 pub mod Arguments
+pub mod Categories
+pub mod Counting
 pub mod Keys
 pub mod Names
 pub mod Numbers
 pub mod Paths
+pub mod Places
 pub mod Reading
+pub mod Signature
 pub mod Spelling
 pub mod Stepping
 pub mod Trees

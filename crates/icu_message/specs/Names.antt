@@ -64,6 +64,14 @@ kind_of w =
     else (if same_bytes w (kind_name Select) then Some Select
     else None))
 
+-- `number`
+abbrev pub number_kind : List ℕ
+number_kind = 110 ∷ 117 ∷ 109 ∷ 98 ∷ 101 ∷ 114 ∷ []
+
+-- the kind of a formatted place
+abbrev pub is_number_kind : List ℕ → Bool
+is_number_kind w = same_bytes w number_kind
+
 -- one kind picks by a number and the other by a text
 abbrev pub are_apart : ChoiceKind → ChoiceKind → Bool
 are_apart Select Select = false

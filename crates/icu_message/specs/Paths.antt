@@ -3,16 +3,17 @@ use Rattle.std.specs.Prelude.{◌≡◌, ℕ, List, [], ◌∷◌, ◌++◌}
 use Rattle.icu_message.specs.declared.piece.Word.{Word}
 use Rattle.icu_message.specs.declared.piece.ChoiceKind.{ChoiceKind}
 use Rattle.icu_message.specs.declared.piece.Piece.{Piece}
-use Rattle.icu_message.specs.declared.piece.Piece.TheVariants.{Byte, Special, Place, Hash, Choice}
+use Rattle.icu_message.specs.declared.piece.Piece.TheVariants.{Byte, Special, Place, Formatted, Hash, Choice}
 use Rattle.icu_message.specs.declared.moving.Mode.{Mode}
 use Rattle.icu_message.specs.declared.moving.Mode.TheVariants.{Writing}
 use Rattle.icu_message.specs.Arguments.{value_text}
-use Rattle.icu_message.specs.Writing.{Filling, named, picked, moved, written}
+use Rattle.icu_message.specs.Writing.{Filling, named, formed, picked, moved, written}
 
--- a byte of the message, or the place of an argument
+-- a byte of the message, or the place of an argument, perhaps in the form of a skeleton
 pub data Stop : Type 0 where
   own : ℕ → Stop
   place : Word → Stop
+  form : Word → Word → Stop
 
 -- which arm is picked, of a choice that begins before pieces
 abbrev pub Picks : Type 0
@@ -23,6 +24,7 @@ abbrev pub stop_at : Mode → Piece → List Stop
 stop_at Writing (Byte b) = own b ∷ []
 stop_at Writing (Special b) = own b ∷ []
 stop_at Writing (Place w) = place w ∷ []
+stop_at Writing (Formatted w k) = form w k ∷ []
 stop_at Writing (Hash w) = place w ∷ []
 stop_at _ _ = []
 
@@ -46,6 +48,7 @@ abbrev pub filled : Filling → List Stop → List ℕ
 filled f [] = []
 filled f (own b ∷ stops) = b ∷ filled f stops
 filled f (place w ∷ stops) = value_text (named f w) ++ filled f stops
+filled f (form w k ∷ stops) = value_text (formed f w k) ++ filled f stops
 
 -- a message is written as its path, with arguments in places: what an argument writes is never read
 abbrev pub ArgumentsAreNoSyntax : Type 0

@@ -4,8 +4,9 @@ use Rattle.icu_message.specs.declared.error.ParseError.{ParseError}
 use Rattle.icu_message.specs.declared.error.ParseError.TheVariants.{TooLong}
 use Rattle.icu_message.specs.declared.piece.OpenKey.{OpenKey}
 use Rattle.icu_message.specs.declared.piece.BegunChoice.{BegunChoice}
+use Rattle.icu_message.specs.declared.piece.ChoiceKind.TheVariants.{Plural}
 use Rattle.icu_message.specs.declared.piece.Piece.{Piece}
-use Rattle.icu_message.specs.declared.piece.Piece.TheVariants.{Choice, Arm, EndChoice}
+use Rattle.icu_message.specs.declared.piece.Piece.TheVariants.{Formatted, Choice, Arm, EndChoice}
 use Rattle.icu_message.specs.declared.stepping.State.{State}
 use Rattle.icu_message.specs.declared.stepping.Step.{Step}
 use Rattle.icu_message.specs.declared.stepping.Here.{Here}
@@ -28,8 +29,13 @@ keys_behind level (Arm w) keys = keys ++ record { level = level; word = w } ∷ 
 keys_behind level EndChoice keys = keys_to level keys
 keys_behind level _ keys = keys
 
--- the choices behind a piece, within so many choices
+-- a level that no choice has
+abbrev pub no_level : ℕ
+no_level = 9
+
+-- the choices behind a piece, within so many choices; a formatted place is as a choice by a number that is never open
 abbrev pub choices_behind : ℕ → Piece → List BegunChoice → List BegunChoice
+choices_behind level (Formatted w k) choices = choices ++ record { level = no_level; kind = Plural; name = w } ∷ []
 choices_behind level (Choice k w) choices = choices ++ record { level = level; kind = k; name = w } ∷ []
 choices_behind level _ choices = choices
 

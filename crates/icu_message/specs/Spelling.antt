@@ -2,26 +2,30 @@
 use Rattle.std.specs.Prelude.{◌≡◌, ℕ, ◌+◌, ◌-◌, Bool, true, false, ◌==◌, ◌&&◌, ◌||◌, nat_le, List, [], ◌∷◌, ◌++◌, length}
 use Rattle.std.specs.Prelude.{Option, Some, None, is_some, Result}
 use Rattle.std.specs.Prelude.{Ok, Err, if◌then◌else◌}
+use Rattle.std.specs.Result.{is_ok}
 use Rattle.std.specs.List.{filter}
 use Rattle.icu_message.specs.declared.error.ParseError.{ParseError}
 use Rattle.icu_message.specs.declared.piece.OpenKey.{OpenKey}
 use Rattle.icu_message.specs.declared.piece.BegunChoice.{BegunChoice}
 use Rattle.icu_message.specs.declared.piece.ChoiceKind.{ChoiceKind}
+use Rattle.icu_message.specs.declared.piece.ChoiceKind.TheVariants.{Plural}
 use Rattle.icu_message.specs.declared.piece.Piece.{Piece}
-use Rattle.icu_message.specs.declared.piece.Piece.TheVariants.{Byte, Special, Place, Hash, Choice, Arm, EndArm, EndChoice}
+use Rattle.icu_message.specs.declared.piece.Piece.TheVariants.{Byte, Special, Place, Formatted, Hash, Choice, Arm, EndArm, EndChoice}
 use Rattle.icu_message.specs.declared.spelling.Before.{Before}
 use Rattle.icu_message.specs.declared.spelling.Before.TheVariants.{Nothing, Quote, EndedArm}
 use Rattle.icu_message.specs.Words.{word_in, same_bytes, other}
-use Rattle.icu_message.specs.Names.{is_name, is_key, kind_name, are_apart}
+use Rattle.icu_message.specs.Names.{is_name, is_key, kind_name, number_kind, are_apart}
 use Rattle.icu_message.specs.Keys.{number_named}
-use Rattle.icu_message.specs.Stepping.{opening, closing, comma, apostrophe, hash, is_special}
-use Rattle.icu_message.specs.Reading.{longest, pieces_of}
+use Rattle.icu_message.specs.Stepping.{opening, closing, comma, colon, apostrophe, hash, is_special, is_style}
+use Rattle.icu_message.specs.Reading.{longest, no_level, pieces_of}
+use Rattle.number_skeleton.specs.Tokens.{skeleton_of}
 
 -- a piece with its word
 pub data Said : Type 0 where
   byte : ℕ → Said
   special : ℕ → Said
   place : List ℕ → Said
+  formatted : List ℕ → List ℕ → Said
   counted : List ℕ → Said
   choice : ChoiceKind → List ℕ → Said
   arm : List ℕ → Said
@@ -33,6 +37,7 @@ abbrev pub said : List ℕ → Piece → Said
 said text (Byte b) = byte b
 said text (Special b) = special b
 said text (Place w) = place (word_in text w)
+said text (Formatted w k) = formatted (word_in text w) (word_in text k)
 said text (Hash w) = counted (word_in text w)
 said text (Choice k w) = choice k (word_in text w)
 said text (Arm w) = arm (word_in text w)
@@ -63,11 +68,17 @@ lead Quote _ = apostrophe ∷ []
 lead EndedArm (arm w) = 32 ∷ []
 lead EndedArm _ = []
 
+-- the spelling of a style: nothing for the empty skeleton
+abbrev pub style : List ℕ → List ℕ
+style [] = []
+style (b ∷ k) = comma ∷ colon ∷ colon ∷ b ∷ k
+
 -- the spelling of a piece, before others
 abbrev pub spelled_before : List ℕ → Said → List ℕ
 spelled_before rest (byte b) = if b == apostrophe then apostrophe ∷ apostrophe ∷ rest else b ∷ rest
 spelled_before rest (special b) = b ∷ rest
 spelled_before rest (place w) = opening ∷ (w ++ closing ∷ rest)
+spelled_before rest (formatted w k) = opening ∷ (w ++ comma ∷ (number_kind ++ (style k ++ closing ∷ rest)))
 spelled_before rest (counted w) = hash ∷ rest
 spelled_before rest (choice k w) = opening ∷ (w ++ comma ∷ (kind_name k ++ comma ∷ rest))
 spelled_before rest (arm w) = w ++ opening ∷ rest
@@ -140,14 +151,20 @@ abbrev pub kinds_differ : ChoiceKind → List ℕ → List SaidChoice → Bool
 kinds_differ kind w [] = false
 kinds_differ kind w (c ∷ cs) = (are_apart c.kind kind && same_bytes c.name w) || kinds_differ kind w cs
 
+-- a style without braces whose skeleton is read
+abbrev pub is_skeleton : List ℕ → Bool
+is_skeleton k = is_style k && is_ok (skeleton_of k)
+
 -- within so many choices, in an arm or between arms, with these keys and choices so far: bytes are quoted that have to be, and no
--- others; `#` is the number that is counted; names and keys are such; keys stand once in their choice, and `other` among them; no
+-- others; `#` is the number that is counted; names, keys and skeletons are such; keys stand once in their choice, and `other` among them; no
 -- name has two kinds; at most eight choices are open, and all are closed
 abbrev pub IsNormalFrom : Bool → ℕ → List SaidKey → List SaidChoice → List Said → Type 0
 IsNormalFrom false n ks cs [] = n ≡ 0
 IsNormalFrom false n ks cs (byte b ∷ ms) = (is_special (is_some (counts_at n cs)) b ≡ false) × IsNormalFrom false n ks cs ms
 IsNormalFrom false n ks cs (special b ∷ ms) = (is_special (is_some (counts_at n cs)) b ≡ true) × IsNormalFrom false n ks cs ms
 IsNormalFrom false n ks cs (place w ∷ ms) = (nat_le 8 n ≡ false) × (is_name w ≡ true) × IsNormalFrom false n ks cs ms
+IsNormalFrom false n ks cs (formatted w k ∷ ms) = (nat_le 8 n ≡ false) × (is_name w ≡ true) × (is_skeleton k ≡ true)
+    × (kinds_differ Plural w cs ≡ false) × IsNormalFrom false n ks (cs ++ record { level = no_level; kind = Plural; name = w } ∷ []) ms
 IsNormalFrom false n ks cs (counted w ∷ ms) = (counts_at n cs ≡ Some w) × IsNormalFrom false n ks cs ms
 IsNormalFrom false n ks cs (choice k w ∷ ms) = (nat_le 8 n ≡ false) × (is_name w ≡ true) × (kinds_differ k w cs ≡ false)
     × IsNormalFrom true (n + 1) ks (cs ++ record { level = n + 1; kind = k; name = w } ∷ []) ms

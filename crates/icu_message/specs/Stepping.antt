@@ -1,23 +1,29 @@
 -- Reading a message byte by byte: what a byte adds to the pieces, and the first fault.
 use Rattle.std.specs.Prelude.{◌≤◌, ℕ, zero, ◌+◌, ◌-◌, Bool, ◌==◌, ◌&&◌, ◌||◌, nat_le, Option, Some, None, is_some, Result, Ok, Err}
-use Rattle.std.specs.Prelude.{if◌then◌else◌, List}
+use Rattle.std.specs.Prelude.{if◌then◌else◌, not, List, min}
+use Rattle.std.specs.Str.{is_utf8}
+use Rattle.number_skeleton.specs.declared.fault.SkeletonFault.{SkeletonFault}
+use Rattle.number_skeleton.specs.Tokens.{skeleton_of}
+use Rattle.skeleton_settings.specs.Settings.{SkeletonData}
 use Rattle.icu_message.specs.declared.error.ParseError.{ParseError}
-use Rattle.icu_message.specs.declared.error.ParseError.TheVariants.{End, Unopened, OpenQuote, TooDeep, Name, Kind, TwoKinds, Offset, Key, Repeated, NoOther}
-use Rattle.icu_message.specs.declared.error.ParseError.TheVariants.{Unexpected}
+use Rattle.icu_message.specs.declared.error.ParseError.TheVariants.{End, Unopened, OpenQuote, TooDeep, Name, Kind, Style, Skeleton, TwoKinds, Offset}
+use Rattle.icu_message.specs.declared.error.ParseError.TheVariants.{Key, Repeated, NoOther, Unexpected}
 use Rattle.icu_message.specs.declared.piece.Word.{Word}
 use Rattle.icu_message.specs.declared.piece.OpenKey.{OpenKey}
 use Rattle.icu_message.specs.declared.piece.BegunChoice.{BegunChoice}
 use Rattle.icu_message.specs.declared.piece.ChoiceKind.{ChoiceKind}
+use Rattle.icu_message.specs.declared.piece.ChoiceKind.TheVariants.{Plural}
 use Rattle.icu_message.specs.declared.piece.Piece.{Piece}
-use Rattle.icu_message.specs.declared.piece.Piece.TheVariants.{Byte, Special, Place, Hash, Choice, Arm, EndArm, EndChoice}
+use Rattle.icu_message.specs.declared.piece.Piece.TheVariants.{Byte, Special, Place, Formatted, Hash, Choice, Arm, EndArm, EndChoice}
 use Rattle.icu_message.specs.declared.stepping.Position.{Position}
 use Rattle.icu_message.specs.declared.stepping.Position.TheVariants.{Text, Doubled, Quoted, DoubledIn, Opened, InName, Named, KindDue, InKind, AfterKind}
-use Rattle.icu_message.specs.declared.stepping.Position.TheVariants.{KeyDue, InKey, ValueDue, InValue, AfterKey}
+use Rattle.icu_message.specs.declared.stepping.Position.TheVariants.{AfterNumber, StyleDue, ColonDue, SkeletonDue, InSkeleton, KeyDue, InKey, ValueDue}
+use Rattle.icu_message.specs.declared.stepping.Position.TheVariants.{InValue, AfterKey}
 use Rattle.icu_message.specs.declared.stepping.State.{State}
 use Rattle.icu_message.specs.declared.stepping.Step.{Step}
 use Rattle.icu_message.specs.declared.stepping.Here.{Here}
-use Rattle.icu_message.specs.Words.{is_space, is_digit, is_word, word_in, same_bytes}
-use Rattle.icu_message.specs.Names.{is_name, is_key, kind_of, offset}
+use Rattle.icu_message.specs.Words.{is_space, is_digit, is_word, word_in, same_bytes, has_brace}
+use Rattle.icu_message.specs.Names.{is_name, is_key, kind_of, is_number_kind, offset}
 use Rattle.icu_message.specs.Keys.{has_key, has_keys, has_other, has_other_kind}
 
 abbrev pub opening : ℕ
@@ -28,6 +34,9 @@ closing = 125
 
 abbrev pub comma : ℕ
 comma = 44
+
+abbrev pub colon : ℕ
+colon = 58
 
 abbrev pub apostrophe : ℕ
 apostrophe = 39
@@ -126,6 +135,50 @@ behind_kind s k w h =
     else (if is_space h.byte then Ok (silent s (AfterKind k w))
     else Err (Unexpected h.at))
 
+-- the fault of a skeleton that stands in a message: its byte is moved
+abbrev pub moved_fault : Word → SkeletonFault → ParseError
+moved_fault k fault = Skeleton fault.kind (k.start + min fault.byte (k.end - k.start))
+
+-- the place of a number in the form of a skeleton that is read, or the skeleton's fault
+abbrev pub formatted_step : State → Word → Word → Result SkeletonData SkeletonFault → Result Step ParseError
+formatted_step s w k (Ok settings) = Ok (adds s.level Text (Formatted w k))
+formatted_step s w k (Err fault) = Err (moved_fault k fault)
+
+-- a style without braces, in UTF-8
+abbrev pub is_style : List ℕ → Bool
+is_style bytes = is_utf8 bytes && not (has_brace bytes)
+
+-- the place of a number whose skeleton is complete
+abbrev pub skeleton_read : List ℕ → State → Word → Word → Result Step ParseError
+skeleton_read text s w k = if is_style (word_in text k) then formatted_step s w k (skeleton_of (word_in text k)) else Err (Style k.start)
+
+-- a byte of a skeleton, or behind it
+abbrev pub skeleton_step : List ℕ → State → Word → ℕ → Here → Result Step ParseError
+skeleton_step text s w from h = if h.byte == closing then skeleton_read text s w (word_to from h) else Ok (silent s (InSkeleton w from))
+
+-- a byte behind the first `:` of a style
+abbrev pub colon_step : State → Word → ℕ → Here → Result Step ParseError
+colon_step s w from h = if h.byte == colon then Ok (silent s (SkeletonDue w)) else Err (Style from)
+
+-- a byte where a style is due
+abbrev pub style_step : State → Word → Here → Result Step ParseError
+style_step s w h =
+    if is_space h.byte then Ok (silent s (StyleDue w))
+    else (if h.byte == colon then Ok (silent s (ColonDue w h.at))
+    else Err (Style h.at))
+
+-- a byte behind `number`; without a style the skeleton is empty
+abbrev pub behind_number : List ℕ → State → Word → Here → Result Step ParseError
+behind_number text s w h =
+    if h.byte == closing then skeleton_read text s w (word_to h.at h)
+    else (if h.byte == comma then Ok (silent s (StyleDue w))
+    else (if is_space h.byte then Ok (silent s (AfterNumber w))
+    else Err (Unexpected h.at)))
+
+-- a byte behind the word `number`
+abbrev pub number_read : List ℕ → List BegunChoice → State → Word → ℕ → Here → Result Step ParseError
+number_read text choices s w from h = if has_other_kind text Plural w choices then Err (TwoKinds from) else behind_number text s w h
+
 -- a byte behind a word for a kind
 abbrev pub kind_read : List ℕ → List BegunChoice → State → Word → ℕ → Here → Option ChoiceKind → Result Step ParseError
 kind_read text choices s w from h None = Err (Kind from)
@@ -135,7 +188,8 @@ kind_read text choices s w from h (Some k) = if has_other_kind text k w choices 
 abbrev pub in_kind : List ℕ → List BegunChoice → State → Word → ℕ → Here → Result Step ParseError
 in_kind text choices s w from h =
     if is_word h.byte then Ok (silent s (InKind w from))
-    else kind_read text choices s w from h (kind_of (word_in text (word_to from h)))
+    else (if is_number_kind (word_in text (word_to from h)) then number_read text choices s w from h
+    else kind_read text choices s w from h (kind_of (word_in text (word_to from h))))
 
 -- `}` where a key is due
 abbrev pub close_choice : List ℕ → List OpenKey → State → ℕ → Result Step ParseError
@@ -196,6 +250,11 @@ step_in text keys choices s (Named w) h = after_name s w h
 step_in text keys choices s (KindDue w) h = kind_step s w h
 step_in text keys choices s (InKind w from) h = in_kind text choices s w from h
 step_in text keys choices s (AfterKind k w) h = behind_kind s k w h
+step_in text keys choices s (AfterNumber w) h = behind_number text s w h
+step_in text keys choices s (StyleDue w) h = style_step s w h
+step_in text keys choices s (ColonDue w from) h = colon_step s w from h
+step_in text keys choices s (SkeletonDue w) h = skeleton_step text s w h.at h
+step_in text keys choices s (InSkeleton w from) h = skeleton_step text s w from h
 step_in text keys choices s KeyDue h = key_step text keys s h
 step_in text keys choices s (InKey from) h = in_key text keys s from h
 step_in text keys choices s (ValueDue from) h = value_step s from h
@@ -223,7 +282,7 @@ fault_in text keys choices s p n h = Some (end_within h.at (step_in text keys ch
 abbrev pub end_fault : List ℕ → List OpenKey → List BegunChoice → State → Here → Option ParseError
 end_fault text keys choices s h = fault_in text keys choices s s.position s.level h
 
--- an argument that is begun may open a choice more
+-- an argument that is begun may open a choice more; a formatted place is such an argument
 abbrev pub begun : Position → ℕ
 begun Opened = 1
 begun (InName from) = 1
@@ -231,6 +290,11 @@ begun (Named w) = 1
 begun (KindDue w) = 1
 begun (InKind w from) = 1
 begun (AfterKind k w) = 1
+begun (AfterNumber w) = 1
+begun (StyleDue w) = 1
+begun (ColonDue w from) = 1
+begun (SkeletonDue w) = 1
+begun (InSkeleton w from) = 1
 begun _ = 0
 
 -- at most eight choices are open, with one that is begun

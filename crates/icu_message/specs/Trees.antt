@@ -3,11 +3,11 @@ use Rattle.std.specs.Prelude.{◌≡◌, ℕ, zero, suc, Bool, false, ◌||◌, 
 use Rattle.icu_message.specs.declared.piece.Word.{Word}
 use Rattle.icu_message.specs.declared.piece.ChoiceKind.{ChoiceKind}
 use Rattle.icu_message.specs.declared.piece.Piece.{Piece}
-use Rattle.icu_message.specs.declared.piece.Piece.TheVariants.{Byte, Special, Place, Hash, Choice, Arm, EndArm, EndChoice}
+use Rattle.icu_message.specs.declared.piece.Piece.TheVariants.{Byte, Special, Place, Formatted, Hash, Choice, Arm, EndArm, EndChoice}
 use Rattle.icu_message.specs.Arguments.{value_text}
 use Rattle.icu_message.specs.Reading.{pieces_of}
 use Rattle.icu_message.specs.Words.{word_in, same_bytes}
-use Rattle.icu_message.specs.Writing.{Filling, named, key_for, written}
+use Rattle.icu_message.specs.Writing.{Filling, named, formed, key_for, written}
 
 -- a message is bytes, places and choices; a choice has arms, and an arm a message
 mutual
@@ -16,6 +16,7 @@ mutual
     byte : ℕ → Tree → Tree
     special : ℕ → Tree → Tree
     place : Word → Tree → Tree
+    formatted : Word → Word → Tree → Tree
     counted : Word → Tree → Tree
     choice : ChoiceKind → Word → Arms → Tree → Tree
 
@@ -30,6 +31,7 @@ abbrev mutual
   pieces_in (byte b t) rest = Byte b ∷ pieces_in t rest
   pieces_in (special b t) rest = Special b ∷ pieces_in t rest
   pieces_in (place w t) rest = Place w ∷ pieces_in t rest
+  pieces_in (formatted w k t) rest = Formatted w k ∷ pieces_in t rest
   pieces_in (counted w t) rest = Hash w ∷ pieces_in t rest
   pieces_in (choice k w arms t) rest = Choice k w ∷ pieces_in_arms arms (EndChoice ∷ pieces_in t rest)
 
@@ -53,6 +55,7 @@ abbrev mutual
   tree_text f (byte b t) = b ∷ tree_text f t
   tree_text f (special b t) = b ∷ tree_text f t
   tree_text f (place w t) = value_text (named f w) ++ tree_text f t
+  tree_text f (formatted w k t) = value_text (formed f w k) ++ tree_text f t
   tree_text f (counted w t) = value_text (named f w) ++ tree_text f t
   tree_text f (choice k w arms t) = arm_text f (picked_key f k w arms) arms ++ tree_text f t
 
@@ -80,6 +83,7 @@ abbrev mutual
   PicksOne f (byte b t) = PicksOne f t
   PicksOne f (special b t) = PicksOne f t
   PicksOne f (place w t) = PicksOne f t
+  PicksOne f (formatted w k t) = PicksOne f t
   PicksOne f (counted w t) = PicksOne f t
   PicksOne f (choice k w arms t) = (arms_with f.text (picked_key f k w arms) arms ≡ 1) × ArmsPickOne f arms × PicksOne f t
 

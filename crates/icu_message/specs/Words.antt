@@ -29,6 +29,11 @@ same_bytes (x ∷ xs) (y ∷ ys) = x == y && same_bytes xs ys
 abbrev pub same_words : List ℕ → Word → Word → Bool
 same_words text v w = same_bytes (word_in text v) (word_in text w)
 
+-- a brace is among the bytes
+abbrev pub has_brace : List ℕ → Bool
+has_brace [] = false
+has_brace (b ∷ bs) = (b == 123 || b == 125) || has_brace bs
+
 -- `other`
 abbrev pub other : List ℕ
 other = 111 ∷ 116 ∷ 104 ∷ 101 ∷ 114 ∷ []

@@ -6,18 +6,18 @@ use Rattle.icu_message.specs.declared.piece.Word.{Word}
 use Rattle.icu_message.specs.declared.piece.ChoiceKind.{ChoiceKind}
 use Rattle.icu_message.specs.declared.piece.ChoiceKind.TheVariants.{Plural, SelectOrdinal, Select}
 use Rattle.icu_message.specs.declared.piece.Piece.{Piece}
-use Rattle.icu_message.specs.declared.piece.Piece.TheVariants.{Byte, Special, Place, Hash, Choice, Arm, EndArm, EndChoice}
+use Rattle.icu_message.specs.declared.piece.Piece.TheVariants.{Byte, Special, Place, Formatted, Hash, Choice, Arm, EndArm, EndChoice}
 use Rattle.icu_message.specs.declared.error.WriteError.{WriteError}
 use Rattle.icu_message.specs.declared.error.WriteError.TheVariants.{MissingArgument, NotANumber, NotAText}
 use Rattle.icu_message.specs.declared.argument.Argument.{Argument}
 use Rattle.icu_message.specs.declared.argument.ArgumentValue.{ArgumentValue}
-use Rattle.icu_message.specs.declared.argument.ArgumentValue.TheVariants.{Text, Number}
+use Rattle.icu_message.specs.declared.argument.ArgumentValue.TheVariants.{Text, Number, Form}
 use Rattle.icu_message.specs.declared.moving.Mode.{Mode}
 use Rattle.icu_message.specs.declared.moving.Mode.TheVariants.{Writing, Seeking, Leaving}
 use Rattle.icu_message.specs.Words.{word_in, same_bytes, other}
 use Rattle.icu_message.specs.Names.{category_name}
 use Rattle.icu_message.specs.Numbers.{Number as Shown, exact_key}
-use Rattle.icu_message.specs.Arguments.{value_of, value_text}
+use Rattle.icu_message.specs.Arguments.{value_of, form_of, value_text}
 
 -- what a message is written with: the text of the message, cardinal and ordinal rules, and arguments
 pub record Filling : Type 0 where
@@ -29,6 +29,10 @@ pub record Filling : Type 0 where
 -- what is given for a name that stands in the text
 abbrev pub named : Filling → Word → Option ArgumentValue
 named f w = value_of f.given (word_in f.text w)
+
+-- what is given for a name in the form of a skeleton that stands in the text
+abbrev pub formed : Filling → Word → Word → Option ArgumentValue
+formed f w k = form_of f.given (word_in f.text w) (word_in f.text k)
 
 -- behind a choice's beginning, within so many choices more: it has an arm with this key
 abbrev pub has_arm : List ℕ → List ℕ → ℕ → List Piece → Bool
@@ -82,6 +86,7 @@ abbrev pub piece_text : Filling → Mode → Piece → List ℕ
 piece_text f Writing (Byte b) = b ∷ []
 piece_text f Writing (Special b) = b ∷ []
 piece_text f Writing (Place w) = value_text (named f w)
+piece_text f Writing (Formatted w k) = value_text (formed f w k)
 piece_text f Writing (Hash w) = value_text (named f w)
 piece_text f _ _ = []
 
@@ -105,9 +110,16 @@ abbrev pub place_fault : Word → Option ArgumentValue → Option WriteError
 place_fault w None = Some (MissingArgument w)
 place_fault w (Some v) = None
 
+-- what is wrong with an argument that stands in a place with a form: it isn't given in this form, or is a text
+abbrev pub form_fault : Word → Option ArgumentValue → Option ArgumentValue → Option WriteError
+form_fault w (Some v) plain = None
+form_fault w None (Some (Text t)) = Some (NotANumber w)
+form_fault w None plain = Some (MissingArgument w)
+
 -- what is wrong with an argument that a choice picks by: it is missing, or of the other sort
 abbrev pub choice_fault : ChoiceKind → Word → Option ArgumentValue → Option WriteError
 choice_fault k w None = Some (MissingArgument w)
+choice_fault k w (Some (Form t n)) = Some (MissingArgument w)
 choice_fault Select w (Some (Number n)) = Some (NotAText w)
 choice_fault Select w (Some (Text t)) = None
 choice_fault k w (Some (Text t)) = Some (NotANumber w)
@@ -116,6 +128,7 @@ choice_fault k w (Some (Number n)) = None
 -- what is wrong with the argument of a piece
 abbrev pub piece_fault : Filling → Piece → Option WriteError
 piece_fault f (Place w) = place_fault w (named f w)
+piece_fault f (Formatted w k) = form_fault w (formed f w k) (named f w)
 piece_fault f (Hash w) = place_fault w (named f w)
 piece_fault f (Choice k w) = choice_fault k w (named f w)
 piece_fault f _ = None

@@ -5,7 +5,7 @@ ghost use Rattle.icu_message.specs.Stepping.{name_step, after_name, in_name, kin
 
 use crate::error::ParseError;
 use crate::keys::has_other_kind;
-use crate::names::{is_name, kind_of};
+use crate::names::{is_name, is_number_kind, kind_of};
 use crate::piece::{BegunChoice, ChoiceKind, Piece, Word};
 use crate::stepping::{Here, Position, State, Step};
 use crate::words::{is_space_byte, is_word_byte};
@@ -91,8 +91,11 @@ impl State {
         if is_word_byte(here.byte) {
             return Ok(self.silent(Position::InKind(name, from)));
         }
-        let kind = kind_of(here.word_from(from).bytes(text));
-        self.kind_read(text, choices, name, from, here, kind)
+        let word = here.word_from(from).bytes(text);
+        if is_number_kind(word) {
+            return self.number_read(text, choices, name, from, here);
+        }
+        self.kind_read(text, choices, name, from, here, kind_of(word))
     }
 
     /// A byte behind a word for a kind.

@@ -4,6 +4,7 @@ ghost use Rattle.std.specs.Prelude.{◌≡◌};
 ghost use Rattle.icu_message.specs.declared.error.ParseError.TheVariants.{OutOfMemory};
 
 use crate::piece::Word;
+use number_skeleton::FaultKind;
 use std::alloc::{AllocError, AllocFailed};
 use thiserror::Error;
 
@@ -31,10 +32,16 @@ pub enum ParseError {
     /// No name where one is due, or a word that is no name.
     #[error("a name is due at byte {byte}")]
     Name { byte: usize },
-    /// No kind where one is due, or another than `plural`, `selectordinal` and `select`.
-    #[error("`plural`, `selectordinal` or `select` is due at byte {byte}")]
+    /// No kind where one is due, or another than `plural`, `selectordinal`, `select` and `number`.
+    #[error("`plural`, `selectordinal`, `select` or `number` is due at byte {byte}")]
     Kind { byte: usize },
-    /// A name by which a choice picks by a number and another by a text; the second's kind.
+    /// A style of `number` that doesn't begin with `::`, or has a brace, with its first byte.
+    #[error("the style at byte {byte} isn't `::` and a skeleton")]
+    Style { byte: usize },
+    /// A style whose skeleton is rejected, with the byte of the skeleton's fault.
+    #[error("the skeleton is rejected at byte {byte}: {kind}")]
+    Skeleton { kind: FaultKind, byte: usize },
+    /// A name of which a number is asked and elsewhere a text; the second's kind.
     #[error("the kind at byte {byte} differs from an earlier one of this name")]
     TwoKinds { byte: usize },
     /// `offset:` where a key is due.

@@ -1,9 +1,9 @@
 //! What a message is written with, and which arm is picked by it.
 
 ghost use Rattle.std.specs.Prelude.{◌≡◌};
-ghost use Rattle.icu_message.specs.Writing.{place_fault, choice_fault};
+ghost use Rattle.icu_message.specs.Writing.{place_fault, form_fault, choice_fault};
 
-use crate::argument::{Argument, ArgumentValue, value_of};
+use crate::argument::{Argument, ArgumentValue, form_of, value_of};
 use crate::error::WriteError;
 use crate::moving::has_arm;
 use crate::names::category_name;
@@ -31,6 +31,22 @@ fn place_fault(name: Word, value: Option<ArgumentValue<'_>>) -> Option<WriteErro
     }
 }
 
+/// What is wrong with an argument that stands in a place with a form: it isn't given in this form,
+/// or is a text.
+fn form_fault(
+    name: Word,
+    form: Option<ArgumentValue<'_>>,
+    plain: Option<ArgumentValue<'_>>,
+) -> Option<WriteError>
+    ensures { result ≡ form_fault name form.entry plain.entry }
+{
+    match (form, plain) {
+        (Some(_), _) => None,
+        (None, Some(ArgumentValue::Text(_))) => Some(WriteError::NotANumber { name }),
+        (None, _) => Some(WriteError::MissingArgument { name }),
+    }
+}
+
 /// What is wrong with an argument that a choice picks by.
 fn choice_fault(
     kind: ChoiceKind,
@@ -40,7 +56,7 @@ fn choice_fault(
     ensures { result ≡ choice_fault kind name value.entry }
 {
     match (kind, value) {
-        (_, None) => Some(WriteError::MissingArgument { name }),
+        (_, None | Some(ArgumentValue::Form(_, _))) => Some(WriteError::MissingArgument { name }),
         (ChoiceKind::Select, Some(ArgumentValue::Number(_))) => {
             Some(WriteError::NotAText { name })
         }
@@ -52,13 +68,20 @@ fn choice_fault(
 
 impl<'a> Filling<'a> {
     ghost use Rattle.std.specs.Prelude.{◌≡◌};
-    ghost use Rattle.icu_message.specs.Writing.{has_arm, key_or_other, key_for_number, picked, piece_fault, named, Filling as Filled};
+    ghost use Rattle.icu_message.specs.Writing.{has_arm, key_or_other, key_for_number, picked, piece_fault, named, formed, Filling as Filled};
 
     /// What is given for a name.
     pub(crate) fn named(&self, name: Word) -> Option<ArgumentValue<'a>>
         ensures { result ≡ named self.now name }
     {
         value_of(self.given, name.bytes(self.text))
+    }
+
+    /// What is given for a name in the form of a skeleton.
+    pub(crate) fn formed(&self, name: Word, skeleton: Word) -> Option<ArgumentValue<'a>>
+        ensures { result ≡ formed self.now name skeleton }
+    {
+        form_of(self.given, name.bytes(self.text), skeleton.bytes(self.text))
     }
 
     /// A key, if the choice that begins before the pieces has an arm with it, else `other`.
@@ -112,6 +135,9 @@ impl<'a> Filling<'a> {
     {
         match piece {
             Piece::Place(name) | Piece::Hash(name) => place_fault(name, self.named(name)),
+            Piece::Formatted(name, skeleton) => {
+                form_fault(name, self.formed(name, skeleton), self.named(name))
+            }
             Piece::Choice(kind, name) => choice_fault(kind, name, self.named(name)),
             _ => None,
         }

@@ -1,8 +1,15 @@
 //! Laws of messages.
 
+ghost use Rattle.std.specs.Prelude.{◌≡◌, ℕ, Bool, false, List};
+ghost use Rattle.fixed_decimal.specs.Unsigned.{Unsigned};
+ghost use Rattle.icu_decimal_interface.specs.Shown.{Shown};
+ghost use Rattle.icu_message.specs.Categories.{GoesByWhatIsShown};
 ghost use Rattle.icu_message.specs.Paths.{ArgumentsAreNoSyntax};
+ghost use Rattle.icu_message.specs.Places.{NumberStandsOnce};
 ghost use Rattle.icu_message.specs.Spelling.{ReadIsNormal, SpellingIsRead};
 ghost use Rattle.icu_message.specs.Trees.{OneArm, ReadIsTree, WrittenByTrees};
+
+use icu_decimal_interface::AbstractFormatter;
 
 /// Reading the spelling of a message gives the message, if the spelling isn't too long.
 // promise: A message's spelling is read as that message.
@@ -42,4 +49,21 @@ pub fn written_by_trees()
 // promise: What an argument writes is never read as syntax.
 pub fn arguments_are_no_syntax()
     ensures { ArgumentsAreNoSyntax }
+{}
+
+/// Where each arm that can be picked has one place of an argument (`Message::places_of`), the
+/// argument stands once in what is written, as the formatter wrote it, whatever the rules and the
+/// arguments are.
+// promise: A number with one place in each arm is written once.
+pub fn number_stands_once()
+    ensures { NumberStandsOnce }
+{}
+
+/// The arm goes by what is shown: for each formatter and each number, all numbers that are made of
+/// it by `ShownNumber::of` pick the arm of the category of what the formatter shows, where no arm
+/// has the key `=` of the whole number.
+// promise: The arm is that of the category of what is shown.
+pub fn category_of_what_is_shown<F: AbstractFormatter>()
+    ensures { (formatter : F) (value : Unsigned) (s : Shown) → F.shows formatter value s →
+        GoesByWhatIsShown s }
 {}

@@ -4,7 +4,9 @@ use crate::argument::Argument;
 use crate::error::{ParseError, WriteError};
 use crate::filling::Filling;
 use crate::piece::{Piece, Word};
+use crate::places::{Places, places_of};
 use crate::reading::read;
+use crate::signature::{NamedKind, signature};
 use crate::spelling::spell;
 use crate::writing::{argument_fault, write};
 use icu_plurals::PluralRules;
@@ -30,10 +32,13 @@ impl Model for Message {
 }
 
 impl Message {
-    ghost use Rattle.std.specs.Prelude.{◌≡◌, ◌⊎◌, ◌++◌, Ok, Err, Some, None, IfOk, IfErr, OnOk, IfSome, IsSome, IsOkUnless};
+    ghost use Rattle.std.specs.Prelude.{◌≡◌, ◌⊎◌, ◌++◌, [], Ok, Err, Some, None, IfOk, IfErr, OnOk, IfSome, IsSome, IsOkUnless};
     ghost use Rattle.icu_message.specs.declared.error.ParseError.TheVariants.{OutOfMemory};
+    ghost use Rattle.icu_message.specs.Places.{places_in};
     ghost use Rattle.icu_message.specs.Reading.{pieces_of};
+    ghost use Rattle.icu_message.specs.Signature.{signature};
     ghost use Rattle.icu_message.specs.Spelling.{said_all, spelling};
+    ghost use Rattle.icu_message.specs.Trees.{Tree, pieces_in};
     ghost use Rattle.icu_message.specs.Words.{word_in};
     ghost use Rattle.icu_message.specs.Writing.{written, argument_fault};
 
@@ -45,6 +50,8 @@ impl Message {
     // mutations: parse_apostrophe_always_quotes, parse_name_reported_at_its_brace
     // promise: A choice has `other`, and no key twice.
     // mutations: parse_choice_without_other_accepted, parse_key_twice_accepted
+    // promise: A skeleton's fault is reported with its byte.
+    // mutations: parse_skeleton_fault_at_its_own_byte, parse_style_of_one_colon
     pub fn parse(alloc: Global, text: &str) -> Result<Self, ParseError>
         ensures text { IfOk result (λ m. m.text ≡ text.now) }
         ensures read { IfOk result (λ m. pieces_of text.now ≡ Ok m.pieces) }
@@ -70,6 +77,26 @@ impl Message {
         ensures { result.now ≡ word_in self.now.text word }
     {
         word.bytes(&self.text)
+    }
+
+    /// The names of the message with their kinds, in the order in which they first appear.
+    // promise: Each name stands there once, with its kind.
+    // mutations: signature_name_listed_twice, signature_form_of_any_kind
+    pub fn signature(&self, alloc: Global) -> Result<Vec<NamedKind>, AllocError>
+        ensures { IfOk result (λ names. names.items ≡ signature self.now.text self.now.pieces) }
+    {
+        signature(alloc, &self.text, &self.pieces)
+    }
+
+    /// How many places of an argument stand on the ways through the message, on which of each
+    /// choice one arm is taken.
+    // promise: The least and the most places on the message's ways.
+    // mutations: places_of_the_last_arm_alone, places_of_a_form_left_out
+    pub fn places_of(&self, alloc: Global, name: &str) -> Result<Places, AllocError>
+        ensures { (t : Tree) → self.now.pieces ≡ pieces_in t [] →
+            IfOk result (λ c. c ≡ places_in self.now.text name.now t) }
+    {
+        places_of(alloc, &self.text, name.as_bytes(), &self.pieces)
     }
 
     /// Appends the message, written with plural rules and arguments, to a buffer, in UTF-8.

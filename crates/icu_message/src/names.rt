@@ -1,7 +1,7 @@
 //! Which words are names, keys and kinds.
 
 ghost use Rattle.std.specs.Prelude.{◌≡◌};
-ghost use Rattle.icu_message.specs.Names.{has_no_zero_in_front, is_word_text, is_name, is_value, is_exact, category_name, is_category, is_key, kind_of};
+ghost use Rattle.icu_message.specs.Names.{has_no_zero_in_front, is_word_text, is_name, is_value, is_exact, category_name, is_category, is_key, kind_of, is_number_kind};
 ghost use Rattle.icu_message.specs.Names.{kind_name, are_apart};
 
 use crate::piece::ChoiceKind;
@@ -95,6 +95,13 @@ pub(crate) fn kind_of(word: &[u8]) -> Option<ChoiceKind>
         return Some(ChoiceKind::Select);
     }
     None
+}
+
+/// Whether a word is the kind of a formatted place.
+pub(crate) fn is_number_kind(word: &[u8]) -> bool
+    ensures { result ≡ is_number_kind word.now }
+{
+    same(word, b"number".as_slice())
 }
 
 impl ChoiceKind {

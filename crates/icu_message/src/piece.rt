@@ -30,6 +30,8 @@ pub enum Piece {
     Special(u8),
     /// The place of the argument with this name.
     Place(Word),
+    /// The place of the number with this name, in the form of this skeleton.
+    Formatted(Word, Word),
     /// `#`: the place of the number with this name, by which the innermost choice picks.
     Hash(Word),
     /// A choice by the argument with this name begins.
@@ -49,7 +51,8 @@ pub(crate) struct OpenKey {
     pub(crate) word: Word,
 }
 
-/// A choice that was begun, and how many choices are open in its arms.
+/// A choice that was begun, and how many choices are open in its arms. A formatted place stands
+/// here too, as a choice by a number at a level that no choice has.
 #[derive(Clone, Copy)]
 pub(crate) struct BegunChoice {
     pub(crate) level: usize,

@@ -8,13 +8,16 @@ ghost use Rattle.icu_message.specs.Reading.{empty_draft, first, reading_from, pi
 
 use crate::error::ParseError;
 use crate::keys::counted_at;
-use crate::piece::{BegunChoice, OpenKey, Piece};
+use crate::piece::{BegunChoice, ChoiceKind, OpenKey, Piece};
 use crate::stepping::{Here, State, Step};
 use std::alloc::Global;
 use std::marker::Model;
 
 /// The most bytes of a message's text.
 const LONGEST: usize = 65_535;
+
+/// A level that no choice has.
+const NO_LEVEL: usize = 9;
 
 /// Closes the keys above a level.
 fn close_keys(keys: &mut Vec<OpenKey>, level: usize)
@@ -79,6 +82,11 @@ impl Draft {
         match piece {
             Piece::Arm(word) => self.keys.push(OpenKey { level, word })?,
             Piece::Choice(kind, name) => self.choices.push(BegunChoice { level, kind, name })?,
+            Piece::Formatted(name, _) => self.choices.push(BegunChoice {
+                level: NO_LEVEL,
+                kind: ChoiceKind::Plural,
+                name,
+            })?,
             Piece::EndChoice => close_keys(&mut self.keys, level),
             _ => {}
         }

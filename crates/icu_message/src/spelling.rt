@@ -1,9 +1,10 @@
 //! Spelling a message.
 
 ghost use Rattle.std.specs.Prelude.{◌≡◌, ◌++◌, [], OnOk};
-ghost use Rattle.icu_message.specs.Spelling.{said, said_all, lead, spelled_before, before_next, closed, spelling};
+ghost use Rattle.icu_message.specs.Spelling.{said, said_all, lead, style, spelled_before, before_next, closed, spelling};
+ghost use Rattle.icu_message.specs.declared.piece.Piece.TheVariants.{Formatted};
 
-use crate::piece::Piece;
+use crate::piece::{Piece, Word};
 use std::alloc::AllocError;
 
 /// What stands before the spelling of the next piece.
@@ -39,6 +40,30 @@ impl<'a> Speller<'a> {
         Ok(())
     }
 
+    /// Spells the style of a formatted place; nothing for the empty skeleton.
+    fn style(self, skeleton: &[u8], out: &mut Vec<u8>) -> Result<(), AllocError>
+        ensures { OnOk result (out.new.items ≡ out.old.items ++ style skeleton.now) }
+    {
+        if skeleton.is_empty() {
+            return Ok(());
+        }
+        out.extend_from_slice(b",::".as_slice())?;
+        out.extend_from_slice(skeleton)
+    }
+
+    /// Spells a formatted place.
+    fn formatted(self, name: Word, skeleton: Word, out: &mut Vec<u8>) -> Result<(), AllocError>
+        ensures { OnOk result (out.new.items ≡ out.old.items
+            ++ spelled_before [] (said self.entry.text.now (Formatted name skeleton))) }
+    {
+        out.push(b'{')?;
+        out.extend_from_slice(name.bytes(self.text))?;
+        out.extend_from_slice(b",number".as_slice())?;
+        self.style(skeleton.bytes(self.text), out)?;
+        out.push(b'}')?;
+        Ok(())
+    }
+
     /// Spells a piece.
     fn piece(self, piece: Piece, out: &mut Vec<u8>) -> Result<(), AllocError>
         ensures { OnOk result (out.new.items ≡ out.old.items
@@ -52,6 +77,7 @@ impl<'a> Speller<'a> {
                 out.extend_from_slice(name.bytes(self.text))?;
                 out.push(b'}')?;
             }
+            Piece::Formatted(name, skeleton) => self.formatted(name, skeleton, out)?,
             Piece::Hash(_) => out.push(b'#')?,
             Piece::Choice(kind, name) => {
                 out.push(b'{')?;

@@ -29,6 +29,16 @@ pub(crate) enum Position {
     InKind(Word, usize),
     /// Behind the kind.
     AfterKind(ChoiceKind, Word),
+    /// Behind `number`.
+    AfterNumber(Word),
+    /// Behind the comma after `number`.
+    StyleDue(Word),
+    /// Behind the first `:` of a style, at this byte.
+    ColonDue(Word, usize),
+    /// Behind the second `:` of a style.
+    SkeletonDue(Word),
+    /// In a skeleton that begins at this byte.
+    InSkeleton(Word, usize),
     /// Where a key is due, or the end of a choice.
     KeyDue,
     /// In a key that begins at this byte.
@@ -135,6 +145,11 @@ impl State {
             Position::KindDue(name) => self.kind(name, here),
             Position::InKind(name, from) => self.in_kind(text, choices, name, from, here),
             Position::AfterKind(kind, name) => self.behind_kind(kind, name, here),
+            Position::AfterNumber(name) => self.behind_number(text, name, here),
+            Position::StyleDue(name) => self.style(name, here),
+            Position::ColonDue(name, from) => self.colon(name, from, here),
+            Position::SkeletonDue(name) => self.skeleton(text, name, here.at, here),
+            Position::InSkeleton(name, from) => self.skeleton(text, name, from, here),
             Position::KeyDue => self.key(text, keys, here),
             Position::InKey(from) => self.in_key(text, keys, from, here),
             Position::ValueDue(from) => self.value(from, here),

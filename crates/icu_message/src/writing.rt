@@ -24,6 +24,9 @@ fn write_piece(
             Piece::Place(name) | Piece::Hash(name) => {
                 out.extend_from_slice(value_text(filling.named(name)))?;
             }
+            Piece::Formatted(name, skeleton) => {
+                out.extend_from_slice(value_text(filling.formed(name, skeleton)))?;
+            }
             _ => {}
         }
     }

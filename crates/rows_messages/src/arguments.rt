@@ -1,7 +1,22 @@
-//! Arguments of rows: `NAME=NUMBER` is a number, and `NAME:TEXT` a text.
+//! Arguments of rows: `NAME=NUMBER` is a number, `NAME,SKELETON=NUMBER` a number in the form of a
+//! skeleton, and `NAME:TEXT` a text.
 
 use icu_message::{Argument, ArgumentValue, ShownNumber};
 use std::alloc::{AllocError, Global};
+
+/// A number with its name, or with its name and its skeleton.
+fn number<'a>(name: &'a str, number: &'a ShownNumber) -> Argument<'a> {
+    match name.split_once(',') {
+        Some((name, skeleton)) => Argument {
+            name,
+            value: ArgumentValue::Form(skeleton, number),
+        },
+        None => Argument {
+            name,
+            value: ArgumentValue::Number(number),
+        },
+    }
+}
 
 /// The name and the text of an argument that is a number.
 pub(crate) fn number_in(argument: &str) -> Option<(&str, &str)> {
@@ -22,10 +37,7 @@ pub(crate) fn given<'a>(
     for argument in arguments {
         let argument = match number_in(argument) {
             Some((name, _)) => match shown.next() {
-                Some(number) => Argument {
-                    name,
-                    value: ArgumentValue::Number(number),
-                },
+                Some(shown) => number(name, shown),
                 None => return Ok(None),
             },
             None => match argument.as_str().split_once(':') {

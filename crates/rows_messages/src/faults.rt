@@ -15,6 +15,8 @@ fn fault_of(fault: ParseError) -> Option<(&'static str, usize)> {
         ParseError::TooDeep { byte } => Some(("TooDeep", byte)),
         ParseError::Name { byte } => Some(("Name", byte)),
         ParseError::Kind { byte } => Some(("Kind", byte)),
+        ParseError::Style { byte } => Some(("Style", byte)),
+        ParseError::Skeleton { byte, .. } => Some(("Skeleton", byte)),
         ParseError::TwoKinds { byte } => Some(("TwoKinds", byte)),
         ParseError::Offset { byte } => Some(("Offset", byte)),
         ParseError::Key { byte } => Some(("Key", byte)),
@@ -25,8 +27,11 @@ fn fault_of(fault: ParseError) -> Option<(&'static str, usize)> {
     }
 }
 
-/// A fault of a text.
+/// A fault of a text; that of a skeleton with what is wrong.
 pub(crate) fn of_text(alloc: Global, fault: ParseError) -> CallResult {
+    if let ParseError::Skeleton { kind, byte } = fault {
+        return Ok(Some(format!(in alloc; "Skeleton {byte} {kind}")?));
+    }
     match fault_of(fault) {
         Some((name, byte)) => Ok(Some(format!(in alloc; "{name} {byte}")?)),
         None => Err(AllocError),

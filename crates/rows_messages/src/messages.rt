@@ -2,8 +2,9 @@
 
 use crate::CallResult;
 use crate::faults::of_text;
-use icu_message::{Message, ParseError};
-use std::alloc::Global;
+use icu_message::{ArgumentKind, Message, NamedKind, ParseError};
+use number_skeleton::FaultKind;
+use std::alloc::{AllocError, Global};
 use std::str;
 
 /// The text of bytes.
@@ -37,6 +38,50 @@ fn parse(alloc: Global, text: &str) -> CallResult {
     }
 }
 
+/// Appends a name and its kind to a list.
+fn list(out: &mut String, message: &Message, named: NamedKind) -> Result<(), AllocError> {
+    if !out.is_empty() {
+        out.push_str(", ")?;
+    }
+    if let Ok(name) = str::from_utf8(message.word(named.name)) {
+        out.push_str(name)?;
+    }
+    out.push_str(match named.kind {
+        ArgumentKind::Any => " any",
+        ArgumentKind::Number => " number",
+        ArgumentKind::Text => " text",
+    })?;
+    Ok(())
+}
+
+/// The names of a message with their kinds.
+fn names_of(alloc: Global, message: &Message) -> CallResult {
+    let mut out = String::new(alloc);
+    for named in &message.signature(alloc)? {
+        list(&mut out, message, *named)?;
+    }
+    Ok(Some(out))
+}
+
+/// The names of a text that is read, with their kinds.
+fn signature(alloc: Global, text: &str) -> CallResult {
+    match Message::parse(alloc, text) {
+        Ok(message) => names_of(alloc, &message),
+        Err(fault) => of_text(alloc, fault),
+    }
+}
+
+/// The least and the most places of a name in a text that is read.
+fn places_of(alloc: Global, text: &str, name: &str) -> CallResult {
+    match Message::parse(alloc, text) {
+        Ok(message) => {
+            let places = message.places_of(alloc, name)?;
+            Ok(Some(format!(in alloc; "{} {}", places.least, places.most)?))
+        }
+        Err(fault) => of_text(alloc, fault),
+    }
+}
+
 /// How the errors of a fault at byte 7 are displayed.
 fn display(alloc: Global, name: &str) -> CallResult {
     let byte = 7;
@@ -48,6 +93,11 @@ fn display(alloc: Global, name: &str) -> CallResult {
         "TooDeep" => ParseError::TooDeep { byte },
         "Name" => ParseError::Name { byte },
         "Kind" => ParseError::Kind { byte },
+        "Style" => ParseError::Style { byte },
+        "Skeleton" => ParseError::Skeleton {
+            kind: FaultKind::UnknownStem,
+            byte,
+        },
         "TwoKinds" => ParseError::TwoKinds { byte },
         "Offset" => ParseError::Offset { byte },
         "Key" => ParseError::Key { byte },
@@ -65,6 +115,8 @@ pub(crate) fn returned(alloc: Global, call: &str, arguments: &[String]) -> CallR
     match arguments {
         [text] if call == "parse" => parse(alloc, text),
         [text] if call == "spell" => spell(alloc, text),
+        [text] if call == "signature" => signature(alloc, text),
+        [text, name] if call == "places_of" => places_of(alloc, text, name),
         [name] if call == "display" => display(alloc, name),
         _ => Ok(None),
     }
