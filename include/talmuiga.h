@@ -207,6 +207,12 @@ uint32_t talmuiga_formatter_open_skeleton_sized(const uint8_t *tables, size_t ta
                                                 size_t locale_len, const uint8_t *skeleton, size_t skeleton_len,
                                                 talmuiga_fault *fault, talmuiga_formatter *formatter);
 
+/* Opens a formatter in English by a number skeleton, without tables. English knows numbers in full and in compact form, percents,
+ * and dollars, euros, pounds and yen; of what else a skeleton asks for the status is TALMUIGA_NO_DATA. The statuses
+ * TALMUIGA_WORDS_REFUSED and TALMUIGA_TABLES_REFUSED don't come; the rest is as of talmuiga_formatter_open_skeleton_sized. */
+uint32_t talmuiga_formatter_open_english_skeleton_sized(const uint8_t *skeleton, size_t skeleton_len, talmuiga_fault *fault,
+                                                        talmuiga_formatter *formatter);
+
 /* Writes the canonical text of a number skeleton: long stems in one order, without what is set by default. Two skeletons have
  * the same settings exactly if they have the same canonical text.
  *
@@ -401,6 +407,21 @@ static inline uint32_t talmuiga_formatter_open_skeleton(const char *tables, size
     return talmuiga_formatter_opened(made, status, formatter);
 }
 
+/* The same in English without tables, as talmuiga_formatter_open_english_skeleton_sized. */
+static inline uint32_t talmuiga_formatter_open_english_skeleton(const char *skeleton, size_t skeleton_len,
+                                                                talmuiga_fault *fault, talmuiga_formatter **formatter) {
+    talmuiga_formatter *made = talmuiga_formatter_new();
+    talmuiga_fault found = {0, 0, 0};
+    uint32_t status = TALMUIGA_OUT_OF_MEMORY;
+    if (made) {
+        status = talmuiga_formatter_open_english_skeleton_sized(talmuiga_bytes(skeleton), skeleton_len, &found, made);
+    }
+    if (fault) {
+        *fault = found;
+    }
+    return talmuiga_formatter_opened(made, status, formatter);
+}
+
 /* talmuiga_formatter_format_sized, where a pointer with length 0 may be null, and the output may be longer than
  * PTRDIFF_MAX. Any number of threads may format with one formatter at once. */
 static inline uint32_t talmuiga_formatter_format(const talmuiga_formatter *formatter, const char *input,
@@ -432,8 +453,8 @@ static inline uint32_t talmuiga_formatter_parts(const talmuiga_formatter *format
                                           spans_len < most ? spans_len : most, count);
 }
 
-/* Closes and frees a formatter that was made by talmuiga_formatter_open, talmuiga_formatter_open_skeleton or
- * talmuiga_formatter_open_english; null is closed already. */
+/* Closes and frees a formatter that was made by talmuiga_formatter_open, talmuiga_formatter_open_skeleton,
+ * talmuiga_formatter_open_english or talmuiga_formatter_open_english_skeleton; null is closed already. */
 static inline void talmuiga_formatter_close(talmuiga_formatter *formatter) {
     if (formatter) {
         talmuiga_formatter_close_sized(formatter);

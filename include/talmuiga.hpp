@@ -92,6 +92,17 @@ public:
         held_.reset(made);
     }
 
+    /* In English by a number skeleton, without tables. */
+    explicit formatter(skeleton asked) {
+        talmuiga_formatter *made;
+        talmuiga_fault fault;
+        std::uint32_t status =
+            talmuiga_formatter_open_english_skeleton(asked.text.data(), asked.text.size(), &fault, &made);
+        if (status == TALMUIGA_SKELETON_REFUSED) throw skeleton_refused(fault);
+        judge(status);
+        held_.reset(made);
+    }
+
     /* By tables; the words are as of talmuiga_formatter_open. */
     formatter(std::string_view tables, const std::string &locale, const std::string &style = "plain",
               const std::string &system = "-", const std::string &grouping = "") {

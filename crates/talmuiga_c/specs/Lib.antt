@@ -1,6 +1,7 @@
 pub mod Answers
 pub mod Asked
 pub mod Endings
+pub mod English
 pub mod Faults
 pub mod Handle
 pub mod Kept

@@ -3,6 +3,7 @@
 #![tactic(auto)]
 
 mod asked;
+mod english;
 mod fault;
 mod form_lines;
 mod formatting;
@@ -18,6 +19,7 @@ ghost use Rattle.decimal_lines.specs.Plain.{english};
 ghost use Rattle.decimal_lines.specs.declared.mode.Mode.TheVariants.{Plain};
 ghost use Rattle.talmuiga_c.specs.Asked.{words_asked};
 ghost use Rattle.talmuiga_c.specs.Endings.{Ends, IsFormatted};
+ghost use Rattle.talmuiga_c.specs.English.{english_locale, english_tables};
 ghost use Rattle.talmuiga_c.specs.Faults.{IsJudged};
 ghost use Rattle.talmuiga_c.specs.Handle.{empty, holding};
 ghost use Rattle.talmuiga_c.specs.Kept.{IsWrittenSoFar, IsShown, Opens, OpensIn, version};
@@ -30,6 +32,7 @@ ghost use Rattle.talmuiga_c.specs.Skeletons.{IsCanonical, OpensSkeleton};
 
 use asked::words_asked;
 use decimal_lines::Mode;
+use english::ENGLISH;
 use fault::Fault;
 use formatting::{format_asked, format_by};
 use handle::Formatter;
@@ -156,6 +159,24 @@ pub extern "C" fn talmuiga_formatter_open_skeleton_sized(
         fault.new result }
 {
     open_skeleton(alloc, tables, locale, skeleton, fault, formatter)
+}
+
+/// Opens a formatter in English by a number skeleton, without tables: by those of English that the
+/// library has. What is wrong with the skeleton is set, or zeros.
+// promise: A skeleton determines the English form, or none.
+// mutations: english_skeleton_in_another_locale
+#[unsafe(no_mangle)]
+pub extern "C" fn talmuiga_formatter_open_english_skeleton_sized(
+    alloc: Global,
+    skeleton: &[u8],
+    fault: &mut Fault,
+    formatter: &mut Formatter,
+) -> u32
+    requires empty { formatter.old.held ≡ empty }
+    ensures opens { OpensSkeleton english_locale skeleton.now english_tables formatter.new.held
+        fault.new result }
+{
+    open_skeleton(alloc, ENGLISH.as_bytes(), b"en", skeleton, fault, formatter)
 }
 
 /// Writes the canonical text of a number skeleton, if it fits, and sets its length, and what is
