@@ -383,7 +383,7 @@ if is_there "${cpp_compiler[0]}"; then
         std::stringstream read;\nread << std::ifstream("tables/six_locales.json").rdbuf();\nconst std::string tables = read.str();' \
         >"$folder/readme.cpp"
     "${cpp_compiler[@]}" -std=c++17 -Iinclude "$folder/readme.cpp" "$folder/libtalmuiga.a" -o "$folder/readme_cpp"
-    judge 'C++: as README.md and docs/LIBRARY.md show' same $'1.234.567,8\n1.234.567,8\n1,2\u00a0Mio.\u00a0€\n[-][$][5][.][00]' \
+    judge 'C++: as README.md and docs/LIBRARY.md show' same $'1.234.567,8\n1.234.567,8\n1,2\u00a0Mio.\u00a0€\n- $ 5 . 00 ' \
         "$("$folder/readme_cpp" 2>&1)"
     judge 'C++: formatters that are kept' "$folder/cpp_kept" "$sample" tables/six_locales.json
 else

@@ -110,7 +110,7 @@ timed() {
         -c '\timing on' -c "$1" | sed -n 's/^Time: \([0-9.]*\) ms.*/\1/p'
 }
 if [ "$rounds" -gt 0 ]; then
-    "$bin/psql" -qX -c "CREATE TABLE sales AS SELECT ((i * 7919) % 100000000) / 100.0 AS price FROM generate_series(1, 1000000) AS i" \
+    "$bin/psql" -qX -v ON_ERROR_STOP=1 -c "CREATE TABLE sales AS SELECT ((i::bigint * 7919) % 100000000) / 100.0 AS price FROM generate_series(1, 1000000) AS i" \
         -c 'VACUUM ANALYZE sales'
     echo "a million rows, on $(nproc) processors, $(sed -n 's/^model name.*: //p' /proc/cpuinfo | head -n 1)"
     for ((round = 1; round <= rounds; round++)); do
