@@ -311,11 +311,7 @@ static inline const char *talmuiga_fault_text(const talmuiga_fault *fault) {
         "set twice: numbering system", "set twice: sign", "set twice: decimal separator"};
     static const char *const unsupported[] = {
         "not supported", "not supported: group-on-aligned", "not supported: group-thousands",
-        "not supported: numbering-system", "not supported: permille", "not supported: percent with unit-width-full-name",
-        "not supported: currency", "not supported: currency with unit-width-iso-code",
-        "not supported: currency with unit-width-hidden", "not supported: percent in compact notation",
-        "not supported: currency in compact notation with a width or in accounting",
-        "not supported: digits of a currency in compact notation", "not supported: unit in compact notation"};
+        "not supported: numbering-system", "not supported: permille", "not supported: currency"};
     const char *const *texts = kinds;
     size_t count = sizeof kinds / sizeof *kinds, at = fault->kind;
     switch (fault->kind) {

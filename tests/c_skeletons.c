@@ -193,11 +193,7 @@ static const struct {
     {BYTES("percent \xe2\x82"), 8, TALMUIGA_FAULT_NOT_UTF8, 0, "not UTF-8"},
     {BYTES("foo\xff"), 3, TALMUIGA_FAULT_NOT_UTF8, 0, "not UTF-8"},
     {BYTES("permille"), 0, TALMUIGA_FAULT_UNSUPPORTED, 4, "not supported: permille"},
-    {BYTES("K percent"), 0, TALMUIGA_FAULT_UNSUPPORTED, 9, "not supported: percent in compact notation"},
-    {BYTES("K @@@ currency/EUR"), 0, TALMUIGA_FAULT_UNSUPPORTED, 11,
-     "not supported: digits of a currency in compact notation"},
-    {BYTES("currency/EUR unit-width-iso-code"), 0, TALMUIGA_FAULT_UNSUPPORTED, 7,
-     "not supported: currency with unit-width-iso-code"},
+    {BYTES("K percent group-thousands"), 0, TALMUIGA_FAULT_UNSUPPORTED, 2, "not supported: group-thousands"},
     {BYTES(",! K permille"), 0, TALMUIGA_FAULT_UNSUPPORTED, 1, "not supported: group-on-aligned"},
 };
 

@@ -259,7 +259,7 @@ rejects 'locnum: --scale: not a power of ten in digits, such as 100 or 0.01' --s
 rejects 'locnum: skeleton: left out: scientific, byte 8' --skeleton 'percent scientific'
 rejects 'locnum: skeleton: set twice: precision, byte 4' --skeleton '.00 @@'
 rejects 'locnum: skeleton: not supported: permille' --skeleton permille
-rejects 'locnum: skeleton: not supported: digits of a currency in compact notation' --skeleton 'K .00 currency/EUR'
+rejects 'locnum: skeleton: not supported: group-thousands' --skeleton 'group-thousands permille'
 rejects 'locnum: --skeleton: not with --percent' --skeleton .00 --percent
 rejects 'locnum: --skeleton: not with --style' --skeleton foo --system latn --style short
 cat >"$folder/fr.json" <<'FRENCH'

@@ -55,7 +55,7 @@ def rule_sets(release: Release) -> dict[Rules, list[str]]:
 def questions(release: Release, sets: Mapping[Rules, list[str]]) -> Iterator[tuple[str, str, str]]:
     """The program's lines, each with the locale and the category that is wanted: rules are those that tables have."""
     for rules, locales in sets.items():
-        conditions = "\t".join(map(":".join, cldr_patterns.conditions(release, locales[0])))
+        conditions = "\t".join(map(":".join, cldr_patterns.conditions(release, locales[0], release.cardinals)))
         for category, text in rules:
             for significand, exponent in samples(text):
                 yield f"{significand}\t{exponent}\t{conditions}", locales[0], category

@@ -283,11 +283,23 @@ def currency_digits(release: Release, wanted: Names) -> list[CurrencyDigits]:
 # Units.
 
 
-def unit_types(release: Release, locale: str, wanted: Names) -> list[str]:
-    """The units that are asked for, as the release names them, with their kind before them."""
+# The units that percents and permilles in compact form, or with their names, are written with.
+SHARES = ("percent", "permille")
+
+
+def unit_types(release: Release, locale: str, wanted: Names, has_percents: bool) -> list[str]:
+    """The units that are asked for, as the release names them, with their kind before them; and those of percents, where
+    percents are asked for and the release has these units."""
     types = release.named([locale], "unitLength", "unit")
     if wanted == "all":
         return types
+    asked = asked_types(release, locale, wanted, types)
+    shares = [name for name in types if has_percents and core(name) in SHARES and name not in asked]
+    return asked + shares
+
+
+def asked_types(release: Release, locale: str, wanted: Sequence[str], types: Sequence[str]) -> list[str]:
+    """The units that are asked for by their names."""
     found = {unit: next((name for name in types if unit in (name, core(name))), None) for unit in wanted}
     for unit in (unit for unit, name in found.items() if name is None):
         release.reports.left_out(UNIT, locale, f"unit {unit}", "the locale has no such unit")
@@ -305,9 +317,11 @@ def names_of_units(release: Release, locales: Iterable[str]) -> list[str]:
     return sorted({*map(core, types), *types})
 
 
-def unit_entries(release: Release, locale: str, wanted: Names, rules: Rules) -> list[dict[str, object]]:
+def unit_entries(
+    release: Release, locale: str, wanted: Names, has_percents: bool, rules: Rules
+) -> list[dict[str, object]]:
     """The patterns of units in each width."""
-    types = unit_types(release, locale, wanted)
+    types = unit_types(release, locale, wanted, has_percents)
     each = (unit_entry(release, locale, width, unit, rules) for width in UNIT_WIDTHS for unit in types)
     return [entry for entries in each for entry in entries]
 

@@ -21,7 +21,7 @@ from cldr_paths import (
     symbols_path,
     unit_path,
 )
-from cldr_release import STYLES, Folder, Release, Scope, Tree, below
+from cldr_release import STYLES, Folder, LocaleRules, Release, Scope, Tree, below
 from cldr_reports import Reports
 
 # An object of JSON, whose members are what the packages have them to be.
@@ -100,16 +100,28 @@ class JsonRelease(Release):
         super().__init__(folder, reports, scopes)
         self.main = folder / "cldr-numbers-full" / "main"
         self.locales = sorted(self.internal(file.name) for file in self.main.iterdir())
-        plurals = self.load("cldr-core", "supplemental", "plurals.json")["supplemental"]["plurals-type-cardinal"]
-        self.cardinals = {
-            self.internal(name): [(key.rpartition("-")[2], text) for key, text in rules.items()]
-            for name, rules in plurals.items()
+        self.cardinals = self.read_rules("plurals.json", "cardinal")
+
+    def read_rules(self, name: str, kind: str) -> LocaleRules:
+        """The plural rules of a kind of each locale that is named with some, in a file of the release."""
+        plurals = self.load("cldr-core", "supplemental", name)["supplemental"][f"plurals-type-{kind}"]
+        return {
+            self.internal(locale): [(key.rpartition("-")[2], text) for key, text in rules.items()]
+            for locale, rules in plurals.items()
         }
+
+    def read_ordinals(self) -> LocaleRules:
+        """The ordinal rules of each locale that is named with some."""
+        return self.read_rules("ordinals.json", "ordinal")
 
     @staticmethod
     def internal(name: str) -> str:
         """A locale as LDML files are named."""
         return "root" if name == "und" else name.replace("-", "_")
+
+    def has_units(self) -> bool:
+        """Tells whether the package of units is read, which percents alone do without."""
+        return not self.may_lack_units or (self.folder / "cldr-units-full").exists()
 
     def load(self, *names: str) -> JsonObject:
         """A file of the release."""
@@ -134,7 +146,7 @@ class JsonRelease(Release):
                 ADDERS[tag](tree, system, value)
         if "currencies" in self.scope.elements:
             add_currencies(tree, self.part("cldr-numbers-full", name, "currencies.json")["numbers"]["currencies"])
-        if "unitLength" in self.scope.elements:
+        if "unitLength" in self.scope.elements and self.has_units():
             add_units(tree, self.part("cldr-units-full", name, "units.json")["units"])
         return tree
 

@@ -8,7 +8,7 @@ from xml.etree import ElementTree
 
 import cldr_names
 from cldr_paths import ElementPath, step
-from cldr_release import STYLES, Folder, Release, Scope, Tree, below, truncated
+from cldr_release import STYLES, Folder, LocaleRules, Release, Scope, Tree, below, truncated
 from cldr_reports import Reports
 
 UNCERTAIN = ("unconfirmed", "provisional")
@@ -47,7 +47,7 @@ class LdmlRelease(Release):
         self.locales = sorted(file.name[:-4] for file in (folder / "main").iterdir() if file.name.endswith(".xml"))
         self.parents = {**self.parents_by_script(), **self.read_parents("")}
         self.plural_parents = self.read_parents("plurals")
-        self.cardinals = self.read_cardinals()
+        self.cardinals = self.read_rules("plurals.xml", "cardinal")
 
     def parse(self, *names: str) -> ElementTree.Element:
         """The root element of a file of the release."""
@@ -88,15 +88,19 @@ class LdmlRelease(Release):
         scripted = [locale.split("_") for locale in self.locales if re.fullmatch("[a-z]+_[A-Z][a-z]{3}", locale)]
         return {"_".join(words): parent for words in scripted if likely.get(words[0], words[1]) != words[1]}
 
-    def read_cardinals(self) -> dict[str, list[tuple[str, str]]]:
-        """The cardinal rules of each locale that is named with some."""
-        cardinals = {}
-        for plurals in self.parse("supplemental", "plurals.xml").findall("plurals"):
-            if plurals.get("type", "cardinal") == "cardinal":
+    def read_rules(self, name: str, kind: str) -> LocaleRules:
+        """The plural rules of a kind of each locale that is named with some, in a file of the release."""
+        named = {}
+        for plurals in self.parse("supplemental", name).findall("plurals"):
+            if plurals.get("type", kind) == kind:
                 for rules in plurals.findall("pluralRules"):
                     pairs = [(rule.attrib["count"], rule.text or "") for rule in rules.findall("pluralRule")]
-                    cardinals.update(dict.fromkeys(rules.attrib["locales"].split(), pairs))
-        return cardinals
+                    named.update(dict.fromkeys(rules.attrib["locales"].split(), pairs))
+        return named
+
+    def read_ordinals(self) -> LocaleRules:
+        """The ordinal rules of each locale that is named with some."""
+        return self.read_rules("ordinals.xml", "ordinal")
 
     @functools.lru_cache(maxsize=None)
     def chain(self, locale: str) -> tuple[str, ...]:

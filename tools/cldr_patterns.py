@@ -4,7 +4,7 @@ from __future__ import annotations
 import re
 from typing import Match, Mapping, Sequence, Tuple
 
-from cldr_release import Release
+from cldr_release import LocaleRules, Release
 from cldr_reports import RULE, Inexpressible
 
 CATEGORIES = ("zero", "one", "two", "few", "many", "other")
@@ -184,10 +184,10 @@ def category_of(rules: Rules, number: int) -> str:
     return "other"
 
 
-def conditions(release: Release, locale: str) -> list[tuple[str, str]]:
-    """The rules that can be expressed, without samples and without that of `other`."""
+def conditions(release: Release, locale: str, named: LocaleRules) -> list[tuple[str, str]]:
+    """The rules of a locale that can be expressed, without samples and without that of `other`."""
     rules = []
-    for category, text in release.rules_of(locale):
+    for category, text in release.rules_of(locale, named):
         condition = text.partition("@")[0].strip()
         try:
             alternatives(condition)

@@ -7,7 +7,7 @@ import itertools
 import pathlib
 import re
 import zipfile
-from typing import Callable, Iterable, Iterator, NamedTuple, Sequence, Union
+from typing import Callable, Dict, Iterable, Iterator, List, NamedTuple, Sequence, Tuple, Union
 
 import cldr_names
 from cldr_paths import ElementPath, follow, shown, system_of, without_count
@@ -20,10 +20,13 @@ LEVELS = ("modern", "moderate", "basic")
 Folder = Union[pathlib.Path, zipfile.Path]
 # Where a text stands, by what tells apart the texts of a kind, as a plural category.
 PathOf = Callable[[str], ElementPath]
+# Plural rules by locale: pairs of a category and a text with samples.
+LocaleRules = Dict[str, List[Tuple[str, str]]]
 
 
 class Scope(NamedTuple):
-    """What is read of a locale's file: elements of `numbers` and `units`, and of these `symbols` some."""
+    """What is read of a locale's file: elements of `numbers` and `units`, and of these `symbols` some. `shares` stands for
+    the units of percents, if the release has units."""
 
     elements: set[str]
     symbols: set[str]
@@ -34,7 +37,7 @@ NUMBERS = Scope(
     {"decimal", "group", "minusSign", "plusSign"},
 )
 MONEY = Scope({"currencyFormats", "currencies"}, {"currencyDecimal", "currencyGroup"})
-PERCENTS = Scope({"percentFormats"}, {"percentSign"})
+PERCENTS = Scope({"percentFormats", "shares"}, {"percentSign"})
 UNITS = Scope({"unitLength"}, set())
 
 
@@ -52,12 +55,16 @@ class Release(abc.ABC):
     of its two forms, which set `locales` and `cardinals` too, the rules of locales that have some."""
 
     locales: list[str]
-    cardinals: dict[str, list[tuple[str, str]]]
+    cardinals: LocaleRules
 
     def __init__(self, folder: Folder, reports: Reports, scopes: Sequence[Scope] = ()) -> None:
         self.folder = folder
         self.reports = reports
         elements, symbols = (set().union(*parts) for parts in zip(NUMBERS, *scopes))
+        # percents alone do without a package of units
+        self.may_lack_units = "unitLength" not in elements
+        if "shares" in elements:
+            elements.add("unitLength")
         self.scope = Scope(elements, symbols)
         self.trees: dict[str, Tree] = {}
         self.plural_parents: dict[str, str] = {}
@@ -192,12 +199,21 @@ class Release(abc.ABC):
         """What names mean by this release."""
         return cldr_names.Names(self.locales, self.facts())
 
-    def rules_of(self, locale: str) -> list[tuple[str, str]]:
-        """The cardinal rules of the locale, or of what is left when subtags are taken off its end, unless a parent is
+    @abc.abstractmethod
+    def read_ordinals(self) -> LocaleRules:
+        """Reads the ordinal rules of locales that have some."""
+
+    @functools.cached_property
+    def ordinals(self) -> LocaleRules:
+        """The ordinal rules of locales that have some."""
+        return self.read_ordinals()
+
+    def rules_of(self, locale: str, named: LocaleRules) -> list[tuple[str, str]]:
+        """The plural rules of the locale, or of what is left when subtags are taken off its end, unless a parent is
         named for plural rules: pairs of a category and a text with samples (UTS 35 Part 3, Language Plural Rules)."""
-        while locale not in self.cardinals and locale != "root":
+        while locale not in named and locale != "root":
             locale = self.plural_parents.get(locale, truncated(locale))
-        return self.cardinals.get(locale, [])
+        return named.get(locale, [])
 
 
 def below(folder: Folder, *names: str) -> Folder:

@@ -73,12 +73,13 @@ class NoOutput(Exception):
 
 class Wanted(NamedTuple):
     """What tables have beside numbers in the usual numbering systems: codes of currencies, percents or not, names of
-    units, and further numbering systems. `all` may stand for a list, and a list may be empty."""
+    units, further numbering systems, and ordinal rules or not. `all` may stand for a list, and a list may be empty."""
 
     currencies: Names = ()
     percents: bool = False
     units: Names = ()
     systems: Names = ()
+    ordinals: bool = False
 
 
 NUMBERS_ALONE = Wanted()
@@ -116,12 +117,14 @@ class TablesMaker:
         """Tables that have no locale yet."""
         tables: dict[str, list[object]] = {"symbols": [], "digits": [], "rules": [], "short": [], "long": []}
         tables["digits"].extend(sorted(self.digits.items()))
+        if self.wanted.ordinals:
+            tables["ordinals"] = []
         if self.wanted.currencies:
             tables.update(currencies=[], currency_decimals=[], currency_symbols=[], currency_compact=[])
             tables["currency_digits"] = [*currency_digits(self.release, self.wanted.currencies)]
         if self.wanted.percents:
             tables["percents"] = []
-        if self.wanted.units:
+        if self.wanted.units or self.wanted.percents:
             tables["units"] = []
         return tables
 
@@ -143,13 +146,15 @@ class TablesMaker:
     def entries(self, locale: str, ruled: str) -> dict[str, list[Entry]]:
         """The entries of a locale with the plural rules of another by their keys, without `locale`: they are read once,
         and stand under every name."""
-        rules = conditions(self.release, ruled)
+        rules = conditions(self.release, ruled, self.release.cardinals)
         usual = systems_of(self.release, locale, self.digits)
         systems = usual + self.further_systems(locale, usual)
         symbols = self.symbols(locale, systems, symbols_entry, "symbols")
         amounts: dict[str, Symbols] = {}
         entries: dict[str, list[Entry]] = {"rules": [{"rules": rules}]}
         entries.update((style, self.compact(locale, systems, style, rules)) for style in STYLES)
+        if self.wanted.ordinals:
+            entries["ordinals"] = [{"rules": conditions(self.release, ruled, self.release.ordinals)}]
         if self.wanted.currencies:
             entries["currencies"] = self.money(locale, systems, rules)
             amounts = self.symbols(locale, systems, money_symbols, "symbols of money")
@@ -159,8 +164,8 @@ class TablesMaker:
             entries["currency_compact"] = self.compact_money(locale, systems, rules)
         if self.wanted.percents:
             entries["percents"] = self.percents(locale, systems)
-        if self.wanted.units:
-            entries["units"] = unit_entries(self.release, locale, self.wanted.units, rules)
+        if self.wanted.units or self.wanted.percents:
+            entries["units"] = unit_entries(self.release, locale, self.wanted.units, self.wanted.percents, rules)
         new = [system for system in systems if system in usual or self.is_new(systems[0], system, symbols, amounts)]
         entries["symbols"] = by_system(new, symbols)
         if self.wanted.currencies:
@@ -452,6 +457,7 @@ def words_parser() -> argparse.ArgumentParser:
     parser.add_argument("--percents", action="store_true", help="with percents")
     parser.add_argument("--units", metavar="UNITS", type=listed, default=(), help="with kilometer,day, or all")
     parser.add_argument("--systems", metavar="SYSTEMS", type=listed, default=(), help="also in arab,deva, or all")
+    parser.add_argument("--ordinals", action="store_true", help="with rules of ordinal numbers, as of 1st and 2nd")
     parser.add_argument("--which", metavar="NAME", action="append", help="tells which locale NAME means; no tables")
     parser.add_argument("--verbose", action="store_true", help="names each thing that isn't in the tables as in CLDR")
     parser.add_argument("--version", action=TellVersion, nargs=0, help="tells the version of this program, and ends")
@@ -465,8 +471,8 @@ def read_words(parser: argparse.ArgumentParser, words: Sequence[str]) -> argpars
         parser.error("--coverage and --names are for tables without a LOCALE")
     if options.currencies != "all" and not all(re.fullmatch("[A-Z]{3}", code) for code in options.currencies):
         parser.error("--currencies: a code is three capitals")
-    with_which = (options.locales, options.coverage, options.names, options.output, options.systems, scopes_of(options))
-    if options.which and any(with_which):
+    places = options.locales, options.coverage, options.names, options.output
+    if options.which and any((*places, options.systems, options.ordinals, scopes_of(options))):
         parser.error("--which stands alone")
     return options
 
@@ -482,7 +488,7 @@ def tell_which(release: Release, names: Iterable[str]) -> int:
 def asked(release: Release, options: argparse.Namespace) -> tuple[list[tuple[str, str]], Wanted]:
     """The names that tables are asked for, each with its locale, and what the tables have beside numbers."""
     pairs = chosen(release, options.locales, options.coverage or "modern", options.names or "usual")
-    wanted = Wanted(options.currencies, options.percents, options.units, options.systems)
+    wanted = Wanted(options.currencies, options.percents, options.units, options.systems, options.ordinals)
     refuse_unknown(release, {locale for _, locale in pairs}, wanted)
     return pairs, wanted
 

@@ -40,15 +40,13 @@ FAULTS = {
     "precisions": "--fraction, --significant, --increment and --cash: not together",
     "round": "--round: neither up, down, ceiling nor floor, with or without half-, nor half-even",
     "sign": "--sign: neither auto, always, never, except-zero nor negative",
-    "together": "--percent and --unit: not together, nor with --style or --currency",
+    "together": "--currency, --percent and --unit: not together",
     "alone": "--accounting and --cash want --currency, and --width wants --currency or --unit",
     "currency": "--currency: not three capital letters",
     "accounting": "--accounting: not with --width name",
-    "long money": "--style long: not with --currency",
-    "short money": "--style short: not with --accounting, --cash or a --width but short",
-    "width": "--width: short, narrow or name for money; long, short or narrow for units",
+    "compact cash": "--cash: not with --style short or long",
+    "width": "--width: short, narrow, code, hidden or name for money; long, short or narrow for units",
     "style": "--style: neither plain, short nor long",
-    "compact rounding": "--style short of money: not with --round, --significant, --increment or --integer",
     "compact increment": "--increment: not with --style short or long, unless 1 is a multiple of it",
     "nothing rounded": "--round wants --fraction, --significant, --increment or --currency",
     "explained": "--explain: not with --padding",
@@ -101,13 +99,14 @@ SKELETONS = {
     "K": Meaning("compact-short", {"style": "short"}),
     "KK scale/1000": Meaning("compact-long scale/1000", {"style": "long", "scale": "1000"}),
     "K currency/JPY": Meaning("compact-short currency/JPY", {"style": "short", "currency": "JPY"}),
+    "K .00 currency/USD": Meaning("compact-short currency/USD .00", {"style": "short", "currency": "USD", "fraction": "2"}),
+    "currency/EUR unit-width-hidden": Meaning("currency/EUR unit-width-hidden", {"currency": "EUR", "width": "hidden"}),
+    "K %": Meaning("compact-short percent", {"style": "short", "percent": "", "scale": "1"}),
     "latin": Meaning("latin", {"system": "latn", **SIX}),
     "numbering-system/arab": Meaning("numbering-system/arab", {"system": "arab", **SIX}),
 }
 NOT_SUPPORTED = {
     "permille": "permille", "group-thousands .00": "group-thousands", ",!": "group-on-aligned",
-    "percent unit-width-full-name": "percent with unit-width-full-name", "K .00 currency/USD": "digits of a currency in compact notation",
-    "currency/EUR unit-width-hidden": "currency with unit-width-hidden", "K %": "percent in compact notation",
 }
 NO_SKELETON = {
     "percent scientific": "left out: scientific, byte 8", ".00 @@": "set twice: precision, byte 4", "percents": "unknown stem, byte 0",
@@ -249,35 +248,31 @@ def locale_named(text: str) -> str:
 
 def kind_of_money(given: Given, style: str) -> str:
     """The kind where a currency is asked for."""
-    if style not in ("plain", "short"):
-        raise Ended("long money" if style == "long" else "style")
     if not re.fullmatch("[A-Z]{3}", given["currency"]):
         raise Ended("currency")
     width = given.get("width", "short")
-    if style == "short":
-        if "accounting" in given or "cash" in given or width != "short":
-            raise Ended("short money")
-        return OTHER
     if "accounting" in given and width == "name":
         raise Ended("accounting")
-    if width not in ("short", "narrow", "name"):
+    if width not in ("short", "narrow", "code", "hidden", "name"):
         raise Ended("width")
-    return OTHER if width == "name" else MONEY
+    if "cash" in given and style != "plain":
+        raise Ended("compact cash")
+    return MONEY if style == "plain" and width in ("short", "narrow") else OTHER
 
 
 def kind_of(given: Given) -> str:
     """Which kind of numbers is asked for."""
-    if sum(name in given for name in ("percent", "unit")) > ("style" not in given and "currency" not in given):
+    if sum(name in given for name in ("currency", "percent", "unit")) > 1:
         raise Ended("together")
     if "currency" not in given and ("accounting" in given or "cash" in given or "width" in given and "unit" not in given):
         raise Ended("alone")
     style = given.get("style", "plain")
+    if style not in ("plain", "short", "long"):
+        raise Ended("style")
     if "currency" in given:
         return kind_of_money(given, style)
     if given.get("width", "short") not in ("short", "narrow", "long"):
         raise Ended("width")
-    if style not in ("plain", "short", "long"):
-        raise Ended("style")
     return OTHER if "unit" in given or style != "plain" else PERCENT if "percent" in given else PLAIN
 
 
@@ -301,8 +296,6 @@ def rounded_by(given: Given) -> str:
 
 def judge_rounding(given: Given, is_compact: bool) -> None:
     """Whether numbers of the kind are rounded as it is asked."""
-    if is_compact and "currency" in given and any(name in given for name in ("round", "significant", "increment", "integer")):
-        raise Ended("compact rounding")
     increment = increment_named(given["increment"]) if is_compact and "increment" in given else None
     if increment and 10**(MOST + 2) % (increment.digits * 10**(increment.power + MOST + 2)):
         raise Ended("compact increment")
@@ -386,9 +379,12 @@ def judge_lines(given: Given) -> None:
 
 def heading_of(given: Given) -> bytes:
     """The lines in front of explanations: what they go by."""
-    key = "percents" if "percent" in given else given.get("style", "plain").replace("plain", "symbols")
+    style = given.get("style", "plain")
+    key = style.replace("plain", "symbols")
+    if "percent" in given:
+        key = "percents" if style == "plain" else "units"
     if "currency" in given:
-        key = "currency_compact" if key == "short" else "currencies"
+        key = "currencies" if style == "plain" or given.get("width") == "name" else "currency_compact"
     skeleton = f"skeleton: {SKELETONS[given['skeleton']].canonical}\n" if "skeleton" in given else ""
     return f"{skeleton}the tables in the program: locale {locale_named(given.get('locale', 'en'))}, {key}\n".encode()
 

@@ -5,15 +5,15 @@ ghost use Rattle.std.specs.String.{string_bytes};
 ghost use Rattle.fixed_decimal.specs.Size.{size};
 ghost use Rattle.writeable.specs.Events.{text_of};
 ghost use Rattle.icu_decimal_data.specs.CompactTable.{IsIndex, entry_at};
-ghost use Rattle.icu_decimal.specs.CompactFormat.{FormattedCompact, IsCompacted};
+ghost use Rattle.icu_decimal.specs.CompactFormat.{FormattedCompact, IsCompacted, exponent_needed};
 ghost use Rattle.icu_decimal.specs.CompactNumber.{ShowsPastLimits};
 ghost use Rattle.icu_decimal_interface.specs.UsesShown.{WroteSuch};
 ghost use Rattle.icu_decimal_interface.specs.WritesSuch.{KeepsLimitSuch, WritesSuch};
-ghost use Rattle.icu_dimension.specs.CompactMoney.{compact_events, compact_money, entry_shown, formatter_of};
+ghost use Rattle.icu_dimension.specs.CompactMoney.{amount_given, compact_events, compact_money, entry_shown, entry_with, formatter_of};
 
 use crate::currency_formatter::CurrencyFormatter;
 use crate::frame::Lent;
-use fixed_decimal::{Decimal, Sign};
+use fixed_decimal::{Decimal, Sign, UnsignedDecimal};
 use icu_decimal::error::FormatError;
 use icu_decimal::{CompactDecimalFormatter, DecimalFormatter, FormattedUnsignedCompactDecimal};
 use icu_dimension_data::{CompactCurrencyPatterns, SignedPatterns};
@@ -66,18 +66,30 @@ fn copied(
     }
 }
 
-/// The index of the entry by which a compact number is displayed.
-fn decomposed_index(
+/// The index of the entry by which a significand with an exponent is displayed.
+fn entry_index(
     formatter: &CompactDecimalFormatter,
-    number: &FormattedUnsignedCompactDecimal<'_>,
+    significand: &UnsignedDecimal,
+    exponent: u8,
 ) -> Option<usize>
     ensures entry { entry_at formatter.now.table result
-        ≡ entry_shown formatter.now.table number.now }
+        ≡ entry_with formatter.now.table significand.now exponent }
     ensures index { IsIndex formatter.now.table result }
 {
-    let significand = number.significand();
-    let magnitude = significand.nonzero_magnitude_start() as i32 + number.exponent() as i32;
+    let magnitude = significand.nonzero_magnitude_start() as i32 + exponent as i32;
     formatter.patterns().entry_index(magnitude)
+}
+
+/// Whether an entry displays a significand with an exponent.
+#[tactic(auto, using(crate::proofs::EntryShown::some_at))]
+fn has_entry_with(
+    formatter: &CompactDecimalFormatter,
+    significand: &UnsignedDecimal,
+    exponent: u8,
+) -> bool
+    ensures { result ≡ is_some (entry_with formatter.now.table significand.now exponent) }
+{
+    entry_index(formatter, significand, exponent).is_some()
 }
 
 impl CompactCurrencyFormatter {
@@ -129,11 +141,10 @@ impl CompactCurrencyFormatter {
 
     /// Whether a compact number of a sign is displayed by an entry of the table, whose pattern has
     /// the symbol and the sign in it (this project's own).
-    #[tactic(auto, using(crate::proofs::EntryShown::some_at))]
     pub fn has_entry(&self, sign: Sign, number: &FormattedUnsignedCompactDecimal<'_>) -> bool
         ensures { result ≡ is_some (entry_shown (formatter_of self.now sign).table number.now) }
     {
-        decomposed_index(self.for_sign(sign), number).is_some()
+        has_entry_with(self.for_sign(sign), number.significand(), number.exponent())
     }
 
     /// Writes an amount into any writer: the characters of the nearest compact number and, if no
@@ -168,6 +179,38 @@ impl CompactCurrencyFormatter {
             Ok(()) => Ok(()),
             Err(_) => Err(FormatError::Sink),
         }
+    }
+
+    /// Writes the amount of a significand with an exponent that is given, which isn't rounded, into
+    /// any writer: the parts of the number and, if no entry of the table displays it, those of the
+    /// sign and of the symbol around it. The exponent is that which the table has for the amount
+    /// ([`CompactDecimalFormatter::format_with_exponent`]). It takes no memory (this project's own).
+    // promise: A given amount stands in the compact pattern of its sign.
+    // mutations: given_amount_in_the_pattern_of_no_sign
+    pub fn write_given<K: EventWriter>(
+        &self,
+        significand: &Decimal,
+        exponent: u8,
+        out: &mut K,
+    ) -> Result<(), WriteFault>
+        requires { exponent ≡ exponent_needed (formatter_of self.now significand.now.sign)
+            significand.now.absolute exponent }
+        ensures { K.wrote out.old result
+            (amount_given (formatter_of self.now significand.now.sign) self.now.patterns
+            significand.now.sign significand.now.absolute exponent) out.new }
+    {
+        let compact = self.for_sign(significand.sign);
+        let Ok(formatted) = compact.format_with_exponent(significand, exponent) else {
+            unreachable!();
+        };
+        if has_entry_with(compact, &significand.absolute, exponent) {
+            return formatted.value().write_events(out);
+        }
+        let pattern = self.patterns.for_sign(significand.sign);
+        let number = Lent {
+            value: formatted.value(),
+        };
+        pattern.interpolate(number).write_events(out)
     }
 
     /// Writes an amount to a sink, with the same parts.

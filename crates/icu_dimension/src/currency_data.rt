@@ -1,7 +1,7 @@
 //! What a locale says about money: its patterns, and the symbols of a currency.
 
 use crate::options::{CurrencyFormatterOptions, CurrencySign, Width};
-use icu_dimension_data::{AffixTexts, CldrPattern, SignedPatterns};
+use icu_dimension_data::{AffixTexts, CldrPattern, CurrencyCode, SignedPatterns};
 use std::alloc::{AllocError, Global};
 use std::marker::Model;
 
@@ -59,13 +59,15 @@ impl CurrencySymbols {
         })
     }
 
-    /// The symbol of a width.
-    pub(crate) fn of_width(&self, width: Width) -> &str
-        ensures { result.now ≡ symbol_of self.now width }
+    /// What a width has for the symbol of the currency with this code.
+    pub(crate) fn of_width<'a>(&'a self, code: &'a CurrencyCode, width: Width) -> &'a str
+        ensures { result.now ≡ symbol_of self.now code.now width }
     {
         match width {
             Width::Short => self.short.as_str(),
             Width::Narrow => self.narrow.as_str(),
+            Width::IsoCode => code.as_str(),
+            Width::Hidden => "",
         }
     }
 }
@@ -110,22 +112,26 @@ impl CurrencyPatterns {
         }
     }
 
-    /// The patterns of the three signs for a currency, around numbers with these ten digits.
+    /// The patterns of the three signs for the currency with this code, around numbers with these
+    /// ten digits.
+    // promise: A code or nothing stands where no symbol is wanted.
+    // mutations: code_of_a_currency_as_its_symbol, hidden_symbol_as_the_short_one
     pub(crate) fn resolve(
         &self,
         alloc: Global,
         symbols: &CurrencySymbols,
+        code: &CurrencyCode,
         digits: &[char; 10],
         options: CurrencyFormatterOptions,
     ) -> Result<SignedPatterns, AllocError>
         ensures { IfOk result (λ p.
-            p ≡ money_patterns digits.now self.now symbols.now options) }
+            p ≡ money_patterns digits.now self.now symbols.now code.now options) }
     {
         let texts = AffixTexts {
             minus_sign: self.minus_sign.as_str(),
             plus_sign: self.plus_sign.as_str(),
             percent_sign: "%",
-            currency: symbols.of_width(options.width),
+            currency: symbols.of_width(code, options.width),
         };
         self.of_sign(options.sign).resolve(alloc, &texts, digits)
     }

@@ -34,6 +34,7 @@ mod frame;
 mod hundredfold;
 pub mod laws;
 mod loading;
+mod loading_compact;
 mod long_currency_formatter;
 mod markers;
 mod name_pattern;

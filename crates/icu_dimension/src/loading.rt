@@ -5,17 +5,16 @@ ghost use Rattle.icu_provider.specs.Answer.{Answers};
 ghost use Rattle.icu_provider.specs.Identifier.{identifier_of};
 ghost use Rattle.icu_decimal.specs.Loaded.{loaded, preferably};
 ghost use Rattle.icu_decimal_options.specs.Preferences.{locale_id};
-ghost use Rattle.icu_dimension.specs.Loaded.{loaded_compact_money, loaded_currency, loaded_percent, loaded_plural};
+ghost use Rattle.icu_dimension.specs.Loaded.{loaded_currency, loaded_percent, loaded_plural};
 ghost use Rattle.icu_dimension.specs.Loaded.{money_symbols, named_id};
 
-use crate::compact_currency_formatter::CompactCurrencyFormatter;
 use crate::currency_formatter::CurrencyFormatter;
 use crate::long_currency_formatter::LongCurrencyFormatter;
 use crate::markers::{
-    CurrencyCompactShortV1, CurrencyDecimalSymbolsV1, CurrencyDigitsV1, CurrencyNamesV1,
-    CurrencyPatternsV1, CurrencySymbolsV1, PercentPatternsV1,
+    CurrencyDecimalSymbolsV1, CurrencyDigitsV1, CurrencyNamesV1, CurrencyPatternsV1,
+    CurrencySymbolsV1, PercentPatternsV1,
 };
-use crate::options::{CurrencyFormatterOptions, CurrencySign, Width};
+use crate::options::CurrencyFormatterOptions;
 use crate::percent_formatter::PercentFormatter;
 use crate::units_formatter::UnitsFormatter;
 use icu_decimal::DecimalFormatter;
@@ -45,7 +44,7 @@ fn load<M: DataMarker, D: DataProvider<M>>(
 }
 
 /// The provider's data for a name in the locale.
-fn load_named<M: DataMarker, D: DataProvider<M>>(
+pub(crate) fn load_named<M: DataMarker, D: DataProvider<M>>(
     alloc: Global,
     provider: &D,
     name: &str,
@@ -59,7 +58,7 @@ fn load_named<M: DataMarker, D: DataProvider<M>>(
 
 /// The provider's data for the preferred numbering system in the locale, if there is one with data,
 /// and else for the locale.
-fn load_preferred_in<M: DataMarker, D: DataProvider<M>>(
+pub(crate) fn load_preferred_in<M: DataMarker, D: DataProvider<M>>(
     alloc: Global,
     provider: &D,
     prefs: &DecimalFormatterPreferences,
@@ -73,7 +72,7 @@ fn load_preferred_in<M: DataMarker, D: DataProvider<M>>(
 }
 
 /// The plural rules of the locale.
-fn load_rules<D: DataProvider<PluralsCardinalV1>>(
+pub(crate) fn load_rules<D: DataProvider<PluralsCardinalV1>>(
     alloc: Global,
     provider: &D,
     prefs: &DecimalFormatterPreferences,
@@ -88,8 +87,8 @@ fn load_rules<D: DataProvider<PluralsCardinalV1>>(
 
 /// A provider, asked for numbers of money.
 #[derive(Drop)]
-struct MoneyNumbers<'a, D> {
-    provider: &'a D,
+pub(crate) struct MoneyNumbers<'a, D> {
+    pub(crate) provider: &'a D,
 }
 
 impl<D: DataProvider<CurrencyDecimalSymbolsV1> + DataProvider<DecimalSymbolsV1>> DataProvider<
@@ -183,7 +182,7 @@ impl CurrencyFormatter<DecimalFormatter> {
         let patterns = load_preferred_in::<CurrencyPatternsV1, D>(alloc, provider, &prefs)?;
         let locale = &prefs.locale_preferences;
         let symbols = load_named::<CurrencySymbolsV1, D>(alloc, provider, code.as_str(), locale)?;
-        match patterns.resolve(alloc, &symbols, formatter.digits(), options) {
+        match patterns.resolve(alloc, &symbols, &code, formatter.digits(), options) {
             Ok(patterns) => Ok(CurrencyFormatter::new(formatter, patterns)),
             Err(_) => Err(DataErrorKind::OutOfMemory.into()),
         }
@@ -224,62 +223,6 @@ impl LongCurrencyFormatter<DecimalFormatter> {
         let locale = &prefs.locale_preferences;
         let names = load_named::<CurrencyNamesV1, D>(alloc, provider, code.as_str(), locale)?;
         Ok(LongCurrencyFormatter::new(formatter, rules, names))
-    }
-}
-
-impl CompactCurrencyFormatter {
-    /// The formatter of compact amounts of a currency, of a provider's data.
-    ///
-    /// First the formatter of money is made, as [`CurrencyFormatter::try_new_unstable`] makes it
-    /// with the short symbol and the standard pattern. Then plural rules are asked for by the
-    /// locale, and then compact patterns by the preferred numbering system in the locale, if one is
-    /// preferred, and else by the locale. The symbol and the signs in them are those of the
-    /// formatter of money ([`CompactRows::resolve`]). The first error is reported, with its
-    /// context; `OutOfMemory` also where an allocation fails.
-    ///
-    /// [`CompactRows::resolve`]: icu_dimension_data::CompactRows::resolve
-    pub fn try_new_unstable<
-        D: DataProvider<CurrencyDecimalSymbolsV1>
-            + DataProvider<DecimalSymbolsV1>
-            + DataProvider<DecimalDigitsV1>
-            + DataProvider<CurrencyPatternsV1>
-            + DataProvider<CurrencySymbolsV1>
-            + DataProvider<PluralsCardinalV1>
-            + DataProvider<CurrencyCompactShortV1>,
-    >(
-        alloc: Global,
-        provider: &D,
-        prefs: DecimalFormatterPreferences,
-        code: CurrencyCode,
-        options: DecimalFormatterOptions,
-    ) -> Result<Self, DataError>
-        ensures { Answers result
-            (loaded_compact_money (money_symbols
-            (⟦<D as DataProvider<CurrencyDecimalSymbolsV1>>⟧.answer provider.now)
-            (⟦<D as DataProvider<DecimalSymbolsV1>>⟧.answer provider.now))
-            (⟦<D as DataProvider<DecimalDigitsV1>>⟧.answer provider.now)
-            (⟦<D as DataProvider<CurrencyPatternsV1>>⟧.answer provider.now)
-            (⟦<D as DataProvider<CurrencySymbolsV1>>⟧.answer provider.now)
-            (⟦<D as DataProvider<PluralsCardinalV1>>⟧.answer provider.now)
-            (⟦<D as DataProvider<CurrencyCompactShortV1>>⟧.answer provider.now)
-            prefs code options) }
-    {
-        let standard = CurrencyFormatterOptions {
-            decimal: options,
-            width: Width::Short,
-            sign: CurrencySign::Standard,
-        };
-        let money = CurrencyFormatter::try_new_unstable::<D>(
-            alloc, provider, prefs, code, standard,
-        )?;
-        let rules = load_rules::<D>(alloc, provider, &prefs)?;
-        let rows = load_preferred_in::<CurrencyCompactShortV1, D>(alloc, provider, &prefs)?;
-        let texts = money.patterns.texts();
-        let tables = rows.resolve(alloc, &texts, money.formatter.digits())?;
-        match CompactCurrencyFormatter::from_parts(alloc, money, rules, tables) {
-            Ok(formatter) => Ok(formatter),
-            Err(_) => Err(DataErrorKind::OutOfMemory.into()),
-        }
     }
 }
 

@@ -6,14 +6,14 @@ ghost use Rattle.writeable.specs.Events.{text_of};
 ghost use Rattle.icu_decimal_interface.specs.Shown.{Shown};
 ghost use Rattle.icu_decimal_interface.specs.UsesShown.{WroteSuch};
 ghost use Rattle.icu_decimal_interface.specs.WritesSuch.{KeepsLimitSuch, WritesSuch};
-ghost use Rattle.icu_dimension.specs.Names.{names_events};
+ghost use Rattle.icu_dimension.specs.Names.{names_events, names_framed};
 
 use crate::frame::Lent;
 use crate::name_pattern::NamePattern;
 use fixed_decimal::{Decimal, Sign};
 use icu_decimal::error::FormatError;
 use icu_decimal_interface::{AbstractFormatter, Frame, ShownNumber};
-use icu_plurals::{PluralElements, PluralRules};
+use icu_plurals::{PluralElements, PluralOperands, PluralRules};
 use std::alloc::Global;
 use std::marker::Model;
 use writeable::{EventWriter, PartsWrite, WithParts, WriteFault, Writeable};
@@ -65,6 +65,34 @@ impl<F: AbstractFormatter> LongCurrencyFormatter<F> {
         ensures { result.now ≡ self.now.elements }
     {
         &self.elements
+    }
+
+    /// The formatter of numbers (this project's own).
+    pub fn formatter(&self) -> &F
+        ensures { result.now ≡ self.now.formatter }
+    {
+        &self.formatter
+    }
+
+    /// Writes a number that is given, with its sign and its plural operands, with the name that the
+    /// operands pick, as by [`write_into`](LongCurrencyFormatter::write_into). It takes no memory
+    /// (this project's own).
+    // promise: A given number has the name that its operands pick.
+    // mutations: given_name_picked_for_other_numbers
+    pub fn write_given<W: Writeable, K: EventWriter>(
+        &self,
+        sign: Sign,
+        operands: PluralOperands,
+        number: &W,
+        out: &mut K,
+    ) -> Result<(), WriteFault>
+        ensures { K.wrote out.old result
+            (names_framed (F.symbols self.now.formatter) self.now.rules self.now.elements sign
+            operands (W.events number.now)) out.new }
+    {
+        let signed = self.formatter.format_sign(Lent { value: number }, sign);
+        let pattern = self.elements.get(operands, &self.rules);
+        pattern.interpolate(signed).write_events(out)
     }
 
     /// Writes the amount into any writer: the parts of the number, of its sign and of the name.

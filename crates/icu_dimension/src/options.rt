@@ -9,6 +9,10 @@ pub enum Width {
     Short,
     /// The narrow symbol, as `$`.
     Narrow,
+    /// The code in place of the symbol, as `USD` (this project's own).
+    IsoCode,
+    /// No symbol (this project's own).
+    Hidden,
 }
 
 /// Which pattern writes a sign.

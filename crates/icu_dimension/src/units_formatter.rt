@@ -6,7 +6,7 @@ ghost use Rattle.writeable.specs.Events.{text_of};
 ghost use Rattle.icu_decimal_interface.specs.Shown.{Shown};
 ghost use Rattle.icu_decimal_interface.specs.UsesShown.{WroteSuch};
 ghost use Rattle.icu_decimal_interface.specs.WritesSuch.{KeepsLimitSuch, WritesSuch};
-ghost use Rattle.icu_dimension.specs.Units.{units_events};
+ghost use Rattle.icu_dimension.specs.Units.{units_events, units_framed};
 
 use crate::frame::Lent;
 use crate::unit_pattern::write_unit;
@@ -14,10 +14,10 @@ use fixed_decimal::{Decimal, Sign};
 use icu_decimal::error::FormatError;
 use icu_decimal_interface::{AbstractFormatter, Frame, ShownNumber};
 use icu_pattern::{Pattern, SinglePlaceholder};
-use icu_plurals::{PluralElements, PluralRules};
+use icu_plurals::{PluralElements, PluralOperands, PluralRules};
 use std::alloc::Global;
 use std::marker::Model;
-use writeable::{EventWriter, PartsWrite, WithParts, WriteFault};
+use writeable::{EventWriter, PartsWrite, WithParts, WriteFault, Writeable};
 
 /// Writes numbers with a unit, as `-1 kilometer` or `ɣleti -1`: the pattern that the number's
 /// plural operands pick, with the number and its sign in its place.
@@ -74,6 +74,34 @@ impl<F: AbstractFormatter> UnitsFormatter<F> {
         ensures { result.now ≡ self.now.elements }
     {
         &self.elements
+    }
+
+    /// The formatter of numbers (this project's own).
+    pub fn formatter(&self) -> &F
+        ensures { result.now ≡ self.now.formatter }
+    {
+        &self.formatter
+    }
+
+    /// Writes a number that is given, with its sign and its plural operands, in the pattern that
+    /// the operands pick, as by [`write_into`](UnitsFormatter::write_into). It takes no memory
+    /// (this project's own).
+    // promise: A given number stands in the pattern of its operands.
+    // mutations: given_unit_picked_for_other_numbers
+    pub fn write_given<W: Writeable, K: EventWriter>(
+        &self,
+        sign: Sign,
+        operands: PluralOperands,
+        number: &W,
+        out: &mut K,
+    ) -> Result<(), WriteFault>
+        ensures { K.wrote out.old result
+            (units_framed (F.symbols self.now.formatter) self.now.rules self.now.elements sign
+            operands (W.events number.now)) out.new }
+    {
+        let signed = self.formatter.format_sign(Lent { value: number }, sign);
+        let pattern = self.elements.get(operands, &self.rules);
+        write_unit(pattern, &signed, out)
     }
 
     /// Writes the number with its unit into any writer: the parts of the number and of its sign,

@@ -6,7 +6,9 @@ use crate::currency_names::names_with_placeholders;
 use crate::currency_symbols::row_filed;
 use crate::money::{patterns_filed, placeholders_filed};
 use crate::units::{UnitWidth, first_unit};
-use icu_decimal_data::{DecimalDigitsV1, DecimalSymbolsV1};
+use icu_decimal_data::{
+    CompactPatterns, DecimalCompactLongV1, DecimalCompactShortV1, DecimalDigitsV1, DecimalSymbolsV1,
+};
 use icu_decimal_symbols::DecimalSymbols;
 use icu_dimension::NamePattern;
 use icu_dimension::provider::{
@@ -15,6 +17,7 @@ use icu_dimension::provider::{
     UnitsLongV1, UnitsNarrowV1, UnitsShortV1,
 };
 use icu_dimension_data::{CompactRows, CurrencyDigits, SignedPatterns};
+use icu_pattern::SinglePlaceholder;
 use icu_plurals::{PluralElements, PluralRules, PluralsCardinalV1, PluralsOrdinalV1};
 use icu_provider::{
     DataError, DataErrorKind, DataIdentifierBorrowed, DataLocale, DataProvider, DataRequest,
@@ -54,6 +57,30 @@ impl DataProvider<PluralsOrdinalV1> for AllTables {
 
     fn load(&self, alloc: Global, request: &DataRequest<'_>) -> Result<PluralRules, DataError> {
         <Tables as DataProvider<PluralsOrdinalV1>>::load(&self.numbers, alloc, request)
+    }
+}
+
+impl DataProvider<DecimalCompactShortV1> for AllTables {
+    ghost answer = { λ t. ⟦<Tables as DataProvider<DecimalCompactShortV1>>⟧.answer t.numbers };
+
+    fn load(
+        &self,
+        alloc: Global,
+        request: &DataRequest<'_>,
+    ) -> Result<CompactPatterns<SinglePlaceholder>, DataError> {
+        <Tables as DataProvider<DecimalCompactShortV1>>::load(&self.numbers, alloc, request)
+    }
+}
+
+impl DataProvider<DecimalCompactLongV1> for AllTables {
+    ghost answer = { λ t. ⟦<Tables as DataProvider<DecimalCompactLongV1>>⟧.answer t.numbers };
+
+    fn load(
+        &self,
+        alloc: Global,
+        request: &DataRequest<'_>,
+    ) -> Result<CompactPatterns<SinglePlaceholder>, DataError> {
+        <Tables as DataProvider<DecimalCompactLongV1>>::load(&self.numbers, alloc, request)
     }
 }
 

@@ -1,7 +1,7 @@
 //! What the program knows without a file of tables: the text of `tables/english.json`.
 
 /// English numbers in full, short and long; dollars, euros, pounds and yen, in full and short;
-/// percents.
+/// percents, and the units percent and permille.
 pub(crate) const ENGLISH: &str = "{
 \"symbols\": [{\"locale\": \"en\", \"minus\": [\"-\", \"\"], \"plus\": [\"+\", \"\"], \"decimal\": \".\", \"group\": \",\", \"numsys\": \"latn\", \"sizes\": [3, 3, 1]},
  {\"locale\": \"en-US\", \"minus\": [\"-\", \"\"], \"plus\": [\"+\", \"\"], \"decimal\": \".\", \"group\": \",\", \"numsys\": \"latn\", \"sizes\": [3, 3, 1]}],
@@ -20,6 +20,8 @@ pub(crate) const ENGLISH: &str = "{
  {\"locale\": \"en-US\", \"symbols\": [[\"USD\", \"$\", \"$\", {\"one\": \"US dollar\", \"other\": \"US dollars\"}], [\"EUR\", \"€\", \"€\", {\"one\": \"euro\", \"other\": \"euros\"}], [\"GBP\", \"£\", \"£\", {\"one\": \"British pound\", \"other\": \"British pounds\"}], [\"JPY\", \"¥\", \"¥\", {\"other\": \"Japanese yen\"}]]}],
 \"currency_digits\": [[\"DEFAULT\", 2, 2], [\"JPY\", 0, 0]],
 \"percents\": [{\"locale\": \"en\", \"pattern\": \"#,##0%\", \"minus\": \"-\", \"plus\": \"+\", \"percent\": \"%\"},
- {\"locale\": \"en-US\", \"pattern\": \"#,##0%\", \"minus\": \"-\", \"plus\": \"+\", \"percent\": \"%\"}]
+ {\"locale\": \"en-US\", \"pattern\": \"#,##0%\", \"minus\": \"-\", \"plus\": \"+\", \"percent\": \"%\"}],
+\"units\": [{\"locale\": \"en\", \"width\": \"long\", \"unit\": \"percent\", \"patterns\": {\"other\": \"{0} percent\"}}, {\"locale\": \"en\", \"width\": \"short\", \"unit\": \"percent\", \"patterns\": {\"other\": \"{0}%\"}}, {\"locale\": \"en\", \"width\": \"narrow\", \"unit\": \"percent\", \"patterns\": {\"other\": \"{0}%\"}}, {\"locale\": \"en\", \"width\": \"long\", \"unit\": \"permille\", \"patterns\": {\"other\": \"{0} permille\"}}, {\"locale\": \"en\", \"width\": \"short\", \"unit\": \"permille\", \"patterns\": {\"other\": \"{0}‰\"}}, {\"locale\": \"en\", \"width\": \"narrow\", \"unit\": \"permille\", \"patterns\": {\"other\": \"{0}‰\"}},
+ {\"locale\": \"en-US\", \"width\": \"long\", \"unit\": \"percent\", \"patterns\": {\"other\": \"{0} percent\"}}, {\"locale\": \"en-US\", \"width\": \"short\", \"unit\": \"percent\", \"patterns\": {\"other\": \"{0}%\"}}, {\"locale\": \"en-US\", \"width\": \"narrow\", \"unit\": \"percent\", \"patterns\": {\"other\": \"{0}%\"}}, {\"locale\": \"en-US\", \"width\": \"long\", \"unit\": \"permille\", \"patterns\": {\"other\": \"{0} permille\"}}, {\"locale\": \"en-US\", \"width\": \"short\", \"unit\": \"permille\", \"patterns\": {\"other\": \"{0}‰\"}}, {\"locale\": \"en-US\", \"width\": \"narrow\", \"unit\": \"permille\", \"patterns\": {\"other\": \"{0}‰\"}}]
 }
 ";

@@ -8,6 +8,7 @@ use icu_dimension_data::CurrencyCode;
 use icu_provider::NumberingSystem;
 use number_forms::{Kind, Settings, UnitWidth, push_reported};
 use serde_json::Value;
+use skeleton_settings::Notation;
 use std::alloc::{AllocError, Global};
 
 /// A kind of data, with the name that is asked for, and those that there are.
@@ -138,6 +139,34 @@ fn lacking_unit<'a>(
     Ok(lacking_name("width of this unit", width_name(width), held))
 }
 
+/// What is lacking of numbers in a notation.
+fn lacking_numbers<'a>(
+    alloc: Global,
+    tables: &'a Value,
+    locale: &str,
+    notation: Notation,
+) -> Result<Option<Lack<'a>>, AllocError> {
+    match notation {
+        Notation::Simple => Ok(None),
+        Notation::CompactShort => lacking_kind(alloc, tables, locale, "short numbers", "short"),
+        Notation::CompactLong => lacking_kind(alloc, tables, locale, "long numbers", "long"),
+    }
+}
+
+/// What is lacking, or else what is lacking of numbers in a notation.
+fn or_lacking_numbers<'a>(
+    alloc: Global,
+    tables: &'a Value,
+    locale: &str,
+    notation: Notation,
+    lack: Option<Lack<'a>>,
+) -> Result<Option<Lack<'a>>, AllocError> {
+    match lack {
+        Some(lack) => Ok(Some(lack)),
+        None => lacking_numbers(alloc, tables, locale, notation),
+    }
+}
+
 /// What is lacking of the kind of data that is asked for.
 fn lacking_of_kind<'a>(
     alloc: Global,
@@ -147,13 +176,23 @@ fn lacking_of_kind<'a>(
     let locale = settings.locale.as_str();
     match &settings.kind {
         Kind::Plain => Ok(None),
-        Kind::Short => lacking_kind(alloc, tables, locale, "short numbers", "short"),
-        Kind::Long => lacking_kind(alloc, tables, locale, "long numbers", "long"),
+        Kind::Short => lacking_numbers(alloc, tables, locale, Notation::CompactShort),
+        Kind::Long => lacking_numbers(alloc, tables, locale, Notation::CompactLong),
         Kind::Money { code, .. } => lacking_currency(alloc, tables, locale, code),
-        Kind::MoneyNamed { code, .. } => lacking_names(alloc, tables, locale, code),
-        Kind::MoneyShort { code } => lacking_compact(alloc, tables, locale, code),
+        Kind::MoneyNamed { code, notation, .. } => {
+            let lack = lacking_names(alloc, tables, locale, code)?;
+            or_lacking_numbers(alloc, tables, locale, *notation, lack)
+        }
+        Kind::MoneyShort { code, .. } => lacking_compact(alloc, tables, locale, code),
         Kind::Percent => lacking_kind(alloc, tables, locale, "percents", "percents"),
-        Kind::Unit { name, width } => lacking_unit(alloc, tables, locale, name, *width),
+        Kind::Unit {
+            unit,
+            width,
+            notation,
+        } => {
+            let lack = lacking_unit(alloc, tables, locale, unit.text(), *width)?;
+            or_lacking_numbers(alloc, tables, locale, *notation, lack)
+        }
     }
 }
 

@@ -4,7 +4,7 @@ use crate::faults::push_fault;
 use crate::held::has_locale;
 use crate::lacks::{has_system, push_lacking, push_no_locale, push_no_system};
 use crate::listed::{lines_of, listed_named};
-use number_forms::{Kind, Settings, StartError, push_reported};
+use number_forms::{Kind, Settings, StartError, UnitName, push_reported};
 use serde_json::Value;
 use std::alloc::{AllocError, Global};
 use std::str;
@@ -59,19 +59,30 @@ pub(crate) fn push_heading(
     Ok(())
 }
 
+/// Appends the arguments that ask for a unit in that command: percents and permilles come with
+/// their patterns.
+fn push_unit(unit: UnitName<'_>, out: &mut Vec<u8>) -> Result<(), AllocError> {
+    match unit {
+        UnitName::Percent | UnitName::Permille => out.extend_from_slice(b" --percents"),
+        UnitName::Named(name) => {
+            out.extend_from_slice(b" --units ")?;
+            push_reported(name.as_bytes(), out)
+        }
+    }
+}
+
 /// Appends the arguments that ask for a kind of data in the command that makes a file.
 fn push_kind(kind: &Kind<'_>, out: &mut Vec<u8>) -> Result<(), AllocError> {
     match kind {
         Kind::Plain | Kind::Short | Kind::Long => Ok(()),
-        Kind::Money { code, .. } | Kind::MoneyNamed { code, .. } | Kind::MoneyShort { code } => {
+        Kind::Money { code, .. }
+        | Kind::MoneyNamed { code, .. }
+        | Kind::MoneyShort { code, .. } => {
             out.extend_from_slice(b" --currencies ")?;
             out.extend_from_slice(code.as_str().as_bytes())
         }
         Kind::Percent => out.extend_from_slice(b" --percents"),
-        Kind::Unit { name, .. } => {
-            out.extend_from_slice(b" --units ")?;
-            push_reported(name.as_bytes(), out)
-        }
+        Kind::Unit { unit, .. } => push_unit(*unit, out),
     }
 }
 

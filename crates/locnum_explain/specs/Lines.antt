@@ -12,6 +12,8 @@ use Rattle.number_forms.specs.Decimals.{scaled_decimal, shown_decimal}
 use Rattle.number_forms.specs.Forms.{FormData, form_events}
 use Rattle.number_forms.specs.declared.form.Formatter.{Formatter}
 use Rattle.number_forms.specs.declared.form.Formatter.TheVariants.{Numbers, ShortNumbers, Money, MoneyNamed, MoneyShort, Percent, Units}
+use Rattle.number_forms.specs.declared.form.Formatter.TheVariants.{ShortMoney, ShortNamed, ShortUnits}
+use Rattle.icu_dimension.specs.CompactMoney.{formatter_of}
 use Rattle.number_forms.specs.Reported.{reported}
 use Rattle.locnum_explain.specs.declared.settings.Settings.{Settings}
 use Rattle.locnum_explain.specs.Facts.{entry_line, magnitude_line}
@@ -33,13 +35,15 @@ refusal_line OutOfMemory = codes "  out of memory\n"
 abbrev pub marked_lines : ℕ → List Event → List Event → List ℕ
 marked_lines width events marks = parts_lines width (text_of events) (spans marks)
 
--- What is said of a decimal besides its magnitude: of a compact number what it is displayed by, by digits that are asked
--- for the entry, of a number with a name or a unit its
--- operands, and of all but numbers in full the pattern.
+-- What is said of a decimal besides its magnitude: of a compact number what it is displayed by, or where digits are asked for its
+-- entry; of a number in full with a name or a unit its operands; and of money, percents and units in full the pattern.
 abbrev pub detail_lines : Formatter → Sign → Unsigned → List ℕ
 detail_lines (Numbers (Plain format)) sign d = []
 detail_lines (Numbers (Compact format)) sign d = compact_facts format d
 detail_lines (ShortNumbers format by) sign d = entry_line format.table (place (magnitude (size d)))
+detail_lines (ShortMoney format by) sign d = entry_line (formatter_of format sign).table (place (magnitude (size d)))
+detail_lines (ShortNamed format by) sign d = entry_line format.formatter.table (place (magnitude (size d)))
+detail_lines (ShortUnits format by) sign d = entry_line format.formatter.table (place (magnitude (size d)))
 detail_lines (Money format) sign d = signed_line format.patterns sign
 detail_lines (MoneyNamed format) sign d = operands_line format.rules d ++ name_line format.rules format.elements d
 detail_lines (MoneyShort format) sign d = amount_facts format sign d

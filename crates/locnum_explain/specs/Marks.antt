@@ -15,6 +15,7 @@ use Rattle.decimal_lines.specs.declared.mode.Mode.TheVariants.{Plain, Compact}
 use Rattle.number_forms.specs.CompactMoney.{compacted}
 use Rattle.number_forms.specs.declared.form.Formatter.{Formatter}
 use Rattle.number_forms.specs.declared.form.Formatter.TheVariants.{Numbers, ShortNumbers, Money, MoneyNamed, MoneyShort, Percent, Units}
+use Rattle.number_forms.specs.declared.form.Formatter.TheVariants.{ShortMoney, ShortNamed, ShortUnits}
 use Rattle.locnum_explain.specs.Compact.{has_entry}
 
 -- a compact number as `format_with_exponent` writes its significand and its exponent, with the number's parts
@@ -37,6 +38,9 @@ abbrev pub marks_by : Formatter → List Event → Sign → Unsigned → List Ev
 marks_by (Numbers (Plain format)) events sign d = events
 marks_by (Numbers (Compact format)) events sign d = number_marks format sign d
 marks_by (ShortNumbers format by) events sign d = events
+marks_by (ShortMoney format by) events sign d = events
+marks_by (ShortNamed format by) events sign d = events
+marks_by (ShortUnits format by) events sign d = events
 marks_by (Money format) events sign d = events
 marks_by (MoneyNamed format) events sign d = events
 marks_by (MoneyShort format) events sign d = amount_marks format sign d

@@ -98,6 +98,19 @@ fn push_details(
         Formatter::Numbers(Mode::Plain(_)) => Ok(()),
         Formatter::Numbers(Mode::Compact(compact)) => push_compact(alloc, compact, decimal, out),
         Formatter::ShortNumbers(compact, _) => push_shortened(compact, &decimal.absolute, out),
+        Formatter::ShortMoney(money, _) => {
+            push_shortened(money.for_sign(decimal.sign), &decimal.absolute, out)
+        }
+        Formatter::ShortNamed(names, _) => push_shortened(
+            names.formatter(),
+            &decimal.absolute,
+            out,
+        ),
+        Formatter::ShortUnits(units, _) => push_shortened(
+            units.formatter(),
+            &decimal.absolute,
+            out,
+        ),
         Formatter::Money(money) => push_signed(alloc, money.patterns(), decimal.sign, out),
         Formatter::MoneyNamed(money) => push_named(alloc, money, decimal, out),
         Formatter::MoneyShort(money) => push_amount(alloc, money, decimal, out),

@@ -129,6 +129,9 @@ fn marks_of(
         Formatter::MoneyShort(money) => Ok(Some(mark_amount(alloc, money, decimal)?)),
         Formatter::Numbers(Mode::Plain(_))
         | Formatter::ShortNumbers(_, _)
+        | Formatter::ShortMoney(_, _)
+        | Formatter::ShortNamed(_, _)
+        | Formatter::ShortUnits(_, _)
         | Formatter::Money(_)
         | Formatter::MoneyNamed(_)
         | Formatter::Percent(_)

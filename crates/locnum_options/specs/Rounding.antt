@@ -10,6 +10,7 @@ use Rattle.number_forms.specs.declared.settings.Kind.{Kind}
 use Rattle.number_forms.specs.declared.settings.Kind.TheVariants.{Plain, Short, Long, Money, MoneyNamed, MoneyShort, Percent, Unit}
 use Rattle.skeleton_settings.specs.declared.settings.Precision.{Precision}
 use Rattle.locnum_options.specs.Given.{flag_of}
+use Rattle.locnum_options.specs.Kinds.{is_simple}
 use Rattle.locnum_options.specs.declared.fault.OptionFault.{OptionFault}
 use Rattle.locnum_options.specs.declared.fault.OptionFault.TheVariants as fault
 use Rattle.locnum_options.specs.declared.given.Given.{Given}
@@ -44,21 +45,15 @@ is_compact_kind Plain = false
 is_compact_kind Short = true
 is_compact_kind Long = true
 is_compact_kind (Money code width sign is_cash) = false
-is_compact_kind (MoneyNamed code is_cash) = false
-is_compact_kind (MoneyShort code) = true
+is_compact_kind (MoneyNamed code is_cash notation) = not (is_simple notation)
+is_compact_kind (MoneyShort code width sign) = true
 is_compact_kind Percent = false
-is_compact_kind (Unit name width) = false
+is_compact_kind (Unit unit width notation) = not (is_simple notation)
 
 -- compact numbers have this increment: 1 is a multiple of it
 abbrev pub is_compact_precision : Option Precision → Bool
 is_compact_precision None = true
 is_compact_precision (Some precision) = divides_one precision
-
--- a rounding or a count of integer digits is asked for, which compact amounts don't have
-unfoldable pub is_fine : Given → Bool
-is_fine given =
-    flag_of given (codes "round") || flag_of given (codes "significant") || flag_of given (codes "increment")
-    || flag_of given (codes "integer")
 
 -- numbers are rounded: they are compact, an option says how fine they are, or a currency does
 unfoldable pub is_rounded : Given → Bool → Bool
@@ -66,19 +61,13 @@ is_rounded given compact =
     compact || flag_of given (codes "fraction") || flag_of given (codes "significant") || flag_of given (codes "increment")
     || flag_of given (codes "currency")
 
--- compact amounts are asked for with a rounding or a count of integer digits, which they don't have
-unfoldable pub is_fine_amount : Given → Bool → Bool
-is_fine_amount given compact = compact && flag_of given (codes "currency") && is_fine given
-
 -- compact numbers are asked for with an increment that they don't have
 unfoldable pub is_large_increment : Bool → Option Precision → Bool
 is_large_increment compact precision = compact && not (is_compact_precision precision)
 
--- A mode, unless a rounding is asked for that compact amounts don't have, an increment that compact numbers don't have, or a mode
--- where nothing is rounded.
+-- A mode, unless an increment is asked for that compact numbers don't have, or a mode where nothing is rounded.
 unfoldable pub judged_mode : Given → Bool → Option Precision → SignedRoundingMode → Result SignedRoundingMode OptionFault
 judged_mode given compact precision mode =
-    if is_fine_amount given compact then Err fault.CompactRounding
-    else if is_large_increment compact precision then Err fault.CompactIncrement
+    if is_large_increment compact precision then Err fault.CompactIncrement
     else if flag_of given (codes "round") && not (is_rounded given compact) then Err fault.NothingRounded
     else Ok mode

@@ -61,27 +61,20 @@ pub enum OptionFault {
     #[error("--currency: not three capital letters")]
     Currency,
     /// The text isn't a width of what is asked for.
-    #[error("--width: short, narrow or name for money; long, short or narrow for units")]
+    #[error("--width: short, narrow, code, hidden or name for money; long, short or narrow for units")]
     Width,
     /// The accounting pattern is asked for with the names of currencies, which have none.
     #[error("--accounting: not with --width name")]
     Accounting,
-    /// Long compact amounts are asked for, which there aren't.
-    #[error("--style long: not with --currency")]
-    LongMoney,
-    /// Compact amounts are asked for with what they don't have: an accounting pattern, digits of
-    /// cash, or another width than the short one.
-    #[error("--style short: not with --accounting, --cash or a --width but short")]
-    ShortMoney,
-    /// Two kinds of numbers are asked for at once; a style may stand beside a currency.
-    #[error("--percent and --unit: not together, nor with --style or --currency")]
+    /// Compact amounts are asked for with digits of cash, which they don't have.
+    #[error("--cash: not with --style short or long")]
+    CompactCash,
+    /// Two kinds of numbers are asked for at once.
+    #[error("--currency, --percent and --unit: not together")]
     Together,
     /// An option of money without a currency, or a width without something that has one.
     #[error("--accounting and --cash want --currency, and --width wants --currency or --unit")]
     Alone,
-    /// Compact amounts are asked for with a rounding or integer digits, which they don't have.
-    #[error("--style short of money: not with --round, --significant, --increment or --integer")]
-    CompactRounding,
     /// Compact numbers are asked for with an increment of which 1 is no multiple.
     #[error("--increment: not with --style short or long, unless 1 is a multiple of it")]
     CompactIncrement,

@@ -1,29 +1,56 @@
 //! What is written of numbers: a style, money, percents or a unit.
 
 ghost use Rattle.std.specs.Prelude.{◌≡◌, option_map};
-ghost use Rattle.locnum_options.specs.Kinds.{amount_given, compact_given, currency_given, currency_named, is_alone, is_compact, is_name, is_short, is_together, kind_given, money_given, money_width, named_given, sign_of, style_given, unit_given, unit_width};
+ghost use Rattle.locnum_options.specs.Kinds.{currency_given, currency_named, is_alone, is_name, is_together, kind_given, money_given, money_width};
+ghost use Rattle.locnum_options.specs.Kinds.{money_with, named_given, notation_given, numbers_with, percents_with, sign_of, unit_given, unit_width};
 
 use crate::fault::OptionFault;
 use crate::given::Given;
 use icu_dimension::options::{CurrencySign, Width};
 use icu_dimension_data::CurrencyCode;
-use number_forms::{Kind, UnitWidth};
+use number_forms::{Kind, UnitName, UnitWidth};
+use skeleton_settings::Notation;
 
-/// The style; plain by default.
-#[tactic(auto, unfolding(crate::specs::Kinds::style_given))]
-fn style_given<'a>(word: Option<&str>) -> Result<Kind<'a>, OptionFault>
-    ensures { result ≡ style_given (option_map (λ t. t.now) word.entry) }
+/// Whether numbers are shortened, and by which patterns; in full by default.
+#[tactic(auto, unfolding(crate::specs::Kinds::notation_given))]
+fn notation_given(word: Option<&str>) -> Result<Notation, OptionFault>
+    ensures { result ≡ notation_given (option_map (λ t. t.now) word.entry) }
 {
     match word {
-        None => Ok(Kind::Plain),
-        Some("plain") => Ok(Kind::Plain),
-        Some("short") => Ok(Kind::Short),
-        Some("long") => Ok(Kind::Long),
+        None => Ok(Notation::Simple),
+        Some("plain") => Ok(Notation::Simple),
+        Some("short") => Ok(Notation::CompactShort),
+        Some("long") => Ok(Notation::CompactLong),
         Some(_) => Err(OptionFault::Style),
     }
 }
 
-/// Which symbol a currency has; the short one by default.
+/// Numbers alone.
+fn numbers_with<'a>(notation: Notation) -> Kind<'a>
+    ensures { result ≡ numbers_with notation }
+{
+    match notation {
+        Notation::Simple => Kind::Plain,
+        Notation::CompactShort => Kind::Short,
+        Notation::CompactLong => Kind::Long,
+    }
+}
+
+/// Percents: in full in the pattern of percents, else with the unit of percents.
+fn percents_with<'a>(notation: Notation) -> Kind<'a>
+    ensures { result ≡ percents_with notation }
+{
+    match notation {
+        Notation::Simple => Kind::Percent,
+        Notation::CompactShort | Notation::CompactLong => Kind::Unit {
+            unit: UnitName::Percent,
+            width: UnitWidth::Short,
+            notation,
+        },
+    }
+}
+
+/// What stands for the symbol of a currency; the short one by default.
 #[tactic(auto, unfolding(crate::specs::Kinds::money_width))]
 fn money_width(word: Option<&str>) -> Result<Width, OptionFault>
     ensures { result ≡ money_width (option_map (λ t. t.now) word.entry) }
@@ -34,6 +61,8 @@ fn money_width(word: Option<&str>) -> Result<Width, OptionFault>
     match word {
         "short" => Ok(Width::Short),
         "narrow" => Ok(Width::Narrow),
+        "code" => Ok(Width::IsoCode),
+        "hidden" => Ok(Width::Hidden),
         _ => Err(OptionFault::Width),
     }
 }
@@ -77,17 +106,40 @@ fn sign_of(accounting: bool) -> CurrencySign
     }
 }
 
+/// Amounts of money with a symbol, in full or compact. Compact amounts have no digits of cash.
+#[tactic(auto, unfolding(crate::specs::Kinds::money_with))]
+fn money_with<'a>(
+    code: CurrencyCode,
+    width: Width,
+    notation: Notation,
+    given: &Given,
+) -> Result<Kind<'a>, OptionFault>
+    ensures { result ≡ money_with notation code width given.now }
+{
+    let sign = sign_of(given.flag("accounting"));
+    let is_cash = given.flag("cash");
+    match notation {
+        Notation::Simple => Ok(Kind::Money {
+            code,
+            width,
+            sign,
+            is_cash,
+        }),
+        Notation::CompactShort | Notation::CompactLong if is_cash => Err(OptionFault::CompactCash),
+        Notation::CompactShort | Notation::CompactLong => {
+            Ok(Kind::MoneyShort { code, width, sign })
+        }
+    }
+}
+
 /// Amounts of money with the symbol of the currency.
 #[tactic(auto, unfolding(crate::specs::Kinds::money_given))]
-fn money_given<'a>(text: &str, given: &Given) -> Result<Kind<'a>, OptionFault>
-    ensures { result ≡ money_given text.now given.now }
+fn money_given<'a>(text: &str, notation: Notation, given: &Given) -> Result<Kind<'a>, OptionFault>
+    ensures { result ≡ money_given text.now notation given.now }
 {
-    Ok(Kind::Money {
-        code: currency_named(text)?,
-        width: money_width(given.text("width"))?,
-        sign: sign_of(given.flag("accounting")),
-        is_cash: given.flag("cash"),
-    })
+    let code = currency_named(text)?;
+    let width = money_width(given.text("width"))?;
+    money_with(code, width, notation, given)
 }
 
 /// Whether the names of currencies are asked for.
@@ -104,97 +156,61 @@ fn is_name(word: Option<&str>) -> bool
 
 /// Amounts of money with the name of the currency, for which there is no accounting pattern.
 #[tactic(auto, unfolding(crate::specs::Kinds::named_given))]
-fn named_given<'a>(text: &str, given: &Given) -> Result<Kind<'a>, OptionFault>
-    ensures { result ≡ named_given text.now given.now }
+fn named_given<'a>(text: &str, notation: Notation, given: &Given) -> Result<Kind<'a>, OptionFault>
+    ensures { result ≡ named_given text.now notation given.now }
 {
     let code = currency_named(text)?;
     if given.flag("accounting") {
         return Err(OptionFault::Accounting);
     }
     let is_cash = given.flag("cash");
-    Ok(Kind::MoneyNamed { code, is_cash })
+    if is_cash && !matches!(notation, Notation::Simple) {
+        return Err(OptionFault::CompactCash);
+    }
+    Ok(Kind::MoneyNamed {
+        code,
+        is_cash,
+        notation,
+    })
 }
 
-/// Amounts of a currency in full, with its name or its symbol.
-#[tactic(auto, unfolding(crate::specs::Kinds::amount_given))]
-fn amount_given<'a>(text: &str, given: &Given) -> Result<Kind<'a>, OptionFault>
-    ensures { result ≡ amount_given text.now given.now }
+/// Amounts of a currency, with its name or its symbol.
+#[tactic(auto, unfolding(crate::specs::Kinds::currency_given))]
+fn currency_given<'a>(
+    text: &str,
+    notation: Notation,
+    given: &Given,
+) -> Result<Kind<'a>, OptionFault>
+    ensures { result ≡ currency_given text.now notation given.now }
 {
     if is_name(given.text("width")) {
-        named_given(text, given)
+        named_given(text, notation, given)
     } else {
-        money_given(text, given)
-    }
-}
-
-/// Whether amounts are compact; in full by default. There are no long compact amounts.
-#[tactic(auto, unfolding(crate::specs::Kinds::is_compact))]
-fn is_compact(word: Option<&str>) -> Result<bool, OptionFault>
-    ensures { result ≡ is_compact (option_map (λ t. t.now) word.entry) }
-{
-    match word {
-        None => Ok(false),
-        Some("plain") => Ok(false),
-        Some("short") => Ok(true),
-        Some("long") => Err(OptionFault::LongMoney),
-        Some(_) => Err(OptionFault::Style),
-    }
-}
-
-/// Whether no width is given but the short one.
-#[tactic(auto, unfolding(crate::specs::Kinds::is_short))]
-fn is_short(word: Option<&str>) -> bool
-    ensures { result ≡ is_short (option_map (λ t. t.now) word.entry) }
-{
-    match word {
-        None => true,
-        Some("short") => true,
-        Some(_) => false,
-    }
-}
-
-/// Compact amounts, which have the standard pattern, digits of their own, and the short symbol.
-#[tactic(auto, unfolding(crate::specs::Kinds::compact_given))]
-fn compact_given<'a>(text: &str, given: &Given) -> Result<Kind<'a>, OptionFault>
-    ensures { result ≡ compact_given text.now given.now }
-{
-    let code = currency_named(text)?;
-    if given.flag("accounting") || given.flag("cash") || !is_short(given.text("width")) {
-        return Err(OptionFault::ShortMoney);
-    }
-    Ok(Kind::MoneyShort { code })
-}
-
-/// Amounts of a currency, compact or in full.
-#[tactic(auto, unfolding(crate::specs::Kinds::currency_given))]
-fn currency_given<'a>(text: &str, given: &Given) -> Result<Kind<'a>, OptionFault>
-    ensures { result ≡ currency_given text.now given.now }
-{
-    if is_compact(given.text("style"))? {
-        compact_given(text, given)
-    } else {
-        amount_given(text, given)
+        money_given(text, notation, given)
     }
 }
 
 /// Numbers with a unit.
 #[tactic(auto, unfolding(crate::specs::Kinds::unit_given))]
-fn unit_given<'a>(name: &'a str, given: &Given) -> Result<Kind<'a>, OptionFault>
-    ensures { result ≡ unit_given name.entry given.now }
+fn unit_given<'a>(name: &'a str, notation: Notation, given: &Given) -> Result<Kind<'a>, OptionFault>
+    ensures { result ≡ unit_given name.entry notation given.now }
 {
     let width = unit_width(given.text("width"))?;
-    Ok(Kind::Unit { name, width })
+    let unit = UnitName::Named(name);
+    Ok(Kind::Unit {
+        unit,
+        width,
+        notation,
+    })
 }
 
-/// Whether more than one of the four is asked for, but for a style of amounts.
+/// Whether more than one of money, percents and units is asked for.
 #[tactic(auto, unfolding(crate::specs::Kinds::is_together))]
 fn is_together(given: &Given) -> bool
     ensures { result ≡ is_together given.now }
 {
     let unit = given.flag("unit");
-    (given.flag("style") && (given.flag("percent") || unit))
-        || (given.flag("currency") && (given.flag("percent") || unit))
-        || (given.flag("percent") && unit)
+    (given.flag("currency") && (given.flag("percent") || unit)) || (given.flag("percent") && unit)
 }
 
 /// Whether an option of money stands without a currency, or a width without a currency or a unit.
@@ -219,14 +235,15 @@ pub(crate) fn kind_given<'a>(given: &Given<'a>) -> Result<Kind<'a>, OptionFault>
     if is_alone(given) {
         return Err(OptionFault::Alone);
     }
+    let notation = notation_given(given.text("style"))?;
     if let Some(code) = given.text("currency") {
-        return currency_given(code, given);
+        return currency_given(code, notation, given);
     }
     if let Some(name) = given.text("unit") {
-        return unit_given(name, given);
+        return unit_given(name, notation, given);
     }
     if given.flag("percent") {
-        return Ok(Kind::Percent);
+        return Ok(percents_with(notation));
     }
-    style_given(given.text("style"))
+    Ok(numbers_with(notation))
 }

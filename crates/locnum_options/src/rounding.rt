@@ -1,13 +1,14 @@
 //! Which number is taken where a number is rounded, and where nothing is rounded.
 
 ghost use Rattle.std.specs.Prelude.{◌≡◌, option_map};
-ghost use Rattle.locnum_options.specs.Rounding.{half_mode_named, is_compact_kind, is_compact_precision, is_fine, is_fine_amount, is_large_increment, is_rounded, judged_mode, mode_given, mode_named};
+ghost use Rattle.locnum_options.specs.Kinds.{is_simple};
+ghost use Rattle.locnum_options.specs.Rounding.{half_mode_named, is_compact_kind, is_compact_precision, is_large_increment, is_rounded, judged_mode, mode_given, mode_named};
 
 use crate::fault::OptionFault;
 use crate::given::Given;
 use fixed_decimal::{SignedRoundingMode, UnsignedRoundingMode};
 use number_forms::{Kind, has_compact_increment};
-use skeleton_settings::Precision;
+use skeleton_settings::{Notation, Precision};
 
 /// The mode of a word that begins with `half-`.
 #[tactic(auto, unfolding(crate::specs::Rounding::half_mode_named))]
@@ -49,27 +50,22 @@ pub(crate) fn mode_given(word: Option<&str>) -> Result<SignedRoundingMode, Optio
     }
 }
 
+/// Whether numbers are in full.
+fn is_simple(notation: Notation) -> bool
+    ensures { result ≡ is_simple notation }
+{
+    matches!(notation, Notation::Simple)
+}
+
 /// Whether the numbers of a kind are compact.
 pub(crate) fn is_compact_kind(kind: &Kind<'_>) -> bool
     ensures { result ≡ is_compact_kind kind.now }
 {
     match kind {
-        Kind::Short | Kind::Long => true,
-        Kind::MoneyShort { .. } => true,
-        Kind::Plain | Kind::Percent => false,
-        Kind::Money { .. } | Kind::MoneyNamed { .. } | Kind::Unit { .. } => false,
+        Kind::Short | Kind::Long | Kind::MoneyShort { .. } => true,
+        Kind::Plain | Kind::Percent | Kind::Money { .. } => false,
+        Kind::MoneyNamed { notation, .. } | Kind::Unit { notation, .. } => !is_simple(*notation),
     }
-}
-
-/// Whether a rounding or a count of integer digits is asked for, which compact numbers don't have.
-#[tactic(auto, unfolding(crate::specs::Rounding::is_fine))]
-fn is_fine(given: &Given) -> bool
-    ensures { result ≡ is_fine given.now }
-{
-    given.flag("round")
-        || given.flag("significant")
-        || given.flag("increment")
-        || given.flag("integer")
 }
 
 /// Whether compact numbers have this increment: 1 is a multiple of it.
@@ -95,14 +91,6 @@ fn is_rounded(given: &Given, compact: bool) -> bool
         || given.flag("currency")
 }
 
-/// Whether compact amounts are asked for with a rounding or integer digits, which they don't have.
-#[tactic(auto, unfolding(crate::specs::Rounding::is_fine_amount))]
-fn is_fine_amount(given: &Given, compact: bool) -> bool
-    ensures { result ≡ is_fine_amount given.now compact }
-{
-    compact && given.flag("currency") && is_fine(given)
-}
-
 /// Whether compact numbers are asked for with an increment that they don't have.
 #[tactic(auto, unfolding(crate::specs::Rounding::is_large_increment))]
 fn is_large_increment(compact: bool, precision: &Option<Precision>) -> bool
@@ -111,8 +99,8 @@ fn is_large_increment(compact: bool, precision: &Option<Precision>) -> bool
     compact && !is_compact_precision(precision)
 }
 
-/// A mode, unless a rounding is asked for that compact amounts don't have, an increment that compact
-/// numbers don't have, or a mode where nothing is rounded.
+/// A mode, unless an increment is asked for that compact numbers don't have, or a mode where nothing
+/// is rounded.
 #[tactic(auto, unfolding(crate::specs::Rounding::judged_mode))]
 pub(crate) fn judged_mode(
     given: &Given,
@@ -122,9 +110,6 @@ pub(crate) fn judged_mode(
 ) -> Result<SignedRoundingMode, OptionFault>
     ensures { result ≡ judged_mode given.now compact precision.now mode }
 {
-    if is_fine_amount(given, compact) {
-        return Err(OptionFault::CompactRounding);
-    }
     if is_large_increment(compact, precision) {
         return Err(OptionFault::CompactIncrement);
     }

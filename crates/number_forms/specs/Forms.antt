@@ -13,12 +13,15 @@ use Rattle.icu_dimension.specs.Units.{units_events}
 use Rattle.decimal_lines.specs.SingleText.{decimal_read, mode_events}
 use Rattle.decimal_lines.specs.declared.single_text.TextError.{TextError}
 use Rattle.number_rounding.specs.declared.rounding.Rounding.{Rounding}
+use Rattle.icu_dimension.specs.CompactMoney.{formatter_of}
 use Rattle.number_forms.specs.CompactMoney.{compact_money_events}
 use Rattle.number_forms.specs.Rounded.{rounded}
 use Rattle.number_forms.specs.Scaled.{scaled}
 use Rattle.number_forms.specs.Shortened.{shortened_events, shortened_number}
+use Rattle.number_forms.specs.ShortenedWith.{money_shortened, names_shortened, units_shortened}
 use Rattle.number_forms.specs.declared.form.Formatter.{Formatter}
 use Rattle.number_forms.specs.declared.form.Formatter.TheVariants.{Numbers, ShortNumbers, Money, MoneyNamed, MoneyShort, Percent, Units}
+use Rattle.number_forms.specs.declared.form.Formatter.TheVariants.{ShortMoney, ShortNamed, ShortUnits}
 
 -- by which power of ten numbers are multiplied; how they are rounded, if they are; which signs are shown; and what writes
 pub record FormData : Type 0 where
@@ -41,9 +44,12 @@ formatter_events (Money format) sign d = Ok (money_events format.patterns sign (
 formatter_events (MoneyNamed format) sign d =
     Ok (names_events format.formatter.symbols format.rules format.elements sign (plain_shown format.formatter d))
 formatter_events (MoneyShort format) sign d = compact_money_events format sign d
+formatter_events (ShortMoney format by) sign d = money_shortened by format sign d
+formatter_events (ShortNamed format by) sign d = names_shortened by format sign d
 formatter_events (Percent format) sign d = Ok (money_events format.patterns sign (plain_shown format.formatter d))
 formatter_events (Units format) sign d =
     Ok (units_events format.formatter.symbols format.rules format.elements sign (plain_shown format.formatter d))
+formatter_events (ShortUnits format by) sign d = units_shortened by format sign d
 
 -- the number that is shown for a number with the sign of its text: by the rounding of the form, or by that of compact numbers
 abbrev pub form_rounded : Formatter → Option Rounding → Sign → Unsigned → Result Unsigned TextError
@@ -52,8 +58,11 @@ form_rounded (ShortNumbers format by) rounding sign d = shortened_number by form
 form_rounded (Money format) rounding sign d = rounded rounding sign d
 form_rounded (MoneyNamed format) rounding sign d = rounded rounding sign d
 form_rounded (MoneyShort format) rounding sign d = rounded rounding sign d
+form_rounded (ShortMoney format by) rounding sign d = shortened_number by (formatter_of format sign) sign d
+form_rounded (ShortNamed format by) rounding sign d = shortened_number by format.formatter sign d
 form_rounded (Percent format) rounding sign d = rounded rounding sign d
 form_rounded (Units format) rounding sign d = rounded rounding sign d
+form_rounded (ShortUnits format by) rounding sign d = shortened_number by format.formatter sign d
 
 -- the sign of a number that was read, where that is shown, which depends on the shown number
 abbrev pub signed : FormData → Sign → Unsigned → Sign

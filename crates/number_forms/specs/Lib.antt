@@ -5,6 +5,7 @@ pub mod Cut
 pub mod CompactMoney
 pub mod Scaled
 pub mod Shortened
+pub mod ShortenedWith
 pub mod Forms
 pub mod WrittenOr
 pub mod Loaded

@@ -1,5 +1,5 @@
 -- The form of what tables answer, in the order in which they are asked, or the first error.
-use Rattle.std.specs.Prelude.{ℕ, List, Bool, true, not, ◌||◌, ◌==◌, Option, Some, None, option_map, Result, Ok, codes, if◌then◌else◌}
+use Rattle.std.specs.Prelude.{ℕ, List, Bool, true, false, not, ◌||◌, ◌==◌, Option, Some, None, option_map, Result, Ok, codes, if◌then◌else◌}
 use Rattle.std.specs.Prelude.{pos, ◌-ℤ◌}
 use Rattle.std.specs.Option.{is_some}
 use Rattle.icu_pattern.specs.Patterns.{PatternText}
@@ -9,6 +9,7 @@ use Rattle.icu_decimal_data.specs.CompactTable.{TableEntry}
 use Rattle.icu_decimal_data.specs.declared.decimal_symbols.DecimalSymbols.{DecimalSymbols}
 use Rattle.icu_decimal_options.specs.Preferences.{locale_id}
 use Rattle.icu_decimal.specs.Loaded.{Provider, and_then, loaded, loaded_compact}
+use Rattle.icu_decimal.specs.declared.options.CompactDecimalFormatterOptions.{CompactDecimalFormatterOptions}
 use Rattle.icu_decimal.specs.declared.options.DecimalFormatterOptions.{DecimalFormatterOptions}
 use Rattle.icu_decimal.specs.declared.options.GroupingStrategy.{GroupingStrategy}
 use Rattle.icu_decimal.specs.declared.preferences.CompactDecimalFormatterPreferences.{CompactDecimalFormatterPreferences}
@@ -19,7 +20,7 @@ use Rattle.icu_dimension.specs.Money.{SignedFormat}
 use Rattle.icu_dimension.specs.Names.{NameText}
 use Rattle.icu_dimension.specs.PluralFormat.{PluralFormat}
 use Rattle.icu_dimension.specs.CompactMoney.{CompactMoney}
-use Rattle.icu_dimension.specs.Loaded.{loaded_compact_money, loaded_currency, loaded_percent, loaded_plural, money_symbols}
+use Rattle.icu_dimension.specs.Loaded.{loaded_compact_amounts, loaded_compact_plural, loaded_currency, loaded_percent, loaded_plural, money_symbols}
 use Rattle.icu_dimension.specs.declared.options.CurrencyFormatterOptions.{CurrencyFormatterOptions}
 use Rattle.icu_dimension.specs.declared.options.CurrencySign.{CurrencySign}
 use Rattle.icu_dimension.specs.declared.options.Width.{Width}
@@ -32,6 +33,8 @@ use Rattle.icu_tables.specs.Tables.{TablesData}
 use Rattle.icu_dimension_tables.specs.Answering.{decimals_answer, digits_answer, names_answer, symbols_answer, unit_answer}
 use Rattle.icu_dimension_tables.specs.DimensionTables.{DimensionData}
 use Rattle.icu_dimension_tables.specs.declared.units.UnitWidth.TheVariants as filed
+use Rattle.skeleton_settings.specs.declared.settings.Notation.{Notation}
+use Rattle.skeleton_settings.specs.declared.settings.Notation.TheVariants.{Simple, CompactShort, CompactLong}
 use Rattle.skeleton_settings.specs.declared.settings.Precision.{Precision}
 use Rattle.skeleton_settings.specs.declared.settings.Precision.TheVariants.{Fraction, Significant, Increment, Both, Currency}
 use Rattle.skeleton_settings.specs.declared.settings.Priority.TheVariants.{Relaxed}
@@ -42,6 +45,7 @@ use Rattle.number_forms.specs.Forms.{FormData}
 use Rattle.number_forms.specs.Settings.{FormSettings, is_half_even}
 use Rattle.number_forms.specs.declared.form.Formatter.{Formatter}
 use Rattle.number_forms.specs.declared.form.Formatter.TheVariants.{Numbers, ShortNumbers, Money, MoneyNamed, MoneyShort, Percent, Units}
+use Rattle.number_forms.specs.declared.form.Formatter.TheVariants.{ShortMoney, ShortNamed, ShortUnits}
 use Rattle.number_forms.specs.declared.settings.UnitWidth.{UnitWidth}
 use Rattle.number_forms.specs.declared.settings.UnitWidth.TheVariants.{Long, Short, Narrow}
 
@@ -93,11 +97,14 @@ abbrev pub compact_precision : Option Precision → Precision
 compact_precision None = Both 0 (Some 0) 1 2 Relaxed true
 compact_precision (Some precision) = precision
 
+-- whether the settings say how numbers are rounded, or how many digits they have
+abbrev pub sets_digits : FormSettings → Bool
+sets_digits settings =
+    is_some settings.precision || settings.hides_zeros_of_whole || not (settings.integer_digits == 1) || not (is_half_even settings.mode)
+
 -- the rounding of compact numbers, if the settings have one; without one the formatter rounds them
 abbrev pub compact_rounding : FormSettings → Option Rounding
-compact_rounding settings =
-    if is_some settings.precision || settings.hides_zeros_of_whole || not (settings.integer_digits == 1) || not (is_half_even settings.mode)
-    then Some (rounding_to settings (compact_precision settings.precision)) else None
+compact_rounding settings = if sets_digits settings then Some (rounding_to settings (compact_precision settings.precision)) else None
 
 -- a formatter of compact numbers with its rounding, if it has one
 abbrev pub compact_by : CompactFormat → Option Rounding → Formatter
@@ -169,20 +176,71 @@ named_loaded settings code is_cash tables dimension =
     and_then (names_loaded settings code tables dimension) (λ f. amounts_loaded settings code is_cash dimension (MoneyNamed f))
 
 -- the options of compact amounts: those of compact numbers, `min2` without a strategy
-abbrev pub compact_money_options : Option GroupingStrategy → DecimalFormatterOptions
-compact_money_options grouping = record { grouping_strategy = (compact_options grouping).grouping_strategy }
+abbrev pub compact_money_options : Option GroupingStrategy → Width → CurrencySign → CurrencyFormatterOptions
+compact_money_options grouping width sign = record {
+  decimal = record { grouping_strategy = (compact_options grouping).grouping_strategy };
+  width = width;
+  sign = sign;
+}
 
 -- the formatter of compact amounts of a currency
-unfoldable pub compact_money_loaded : FormSettings → List ℕ → TablesData → DimensionData → Result CompactMoney Refusal
-compact_money_loaded settings code tables dimension =
-    loaded_compact_money (symbols_for_money tables dimension) (system_digits tables) (optional_answer dimension.currencies)
+unfoldable pub compact_money_loaded : FormSettings → List ℕ → CurrencyFormatterOptions → TablesData → DimensionData → Result CompactMoney Refusal
+compact_money_loaded settings code options tables dimension =
+    loaded_compact_amounts (symbols_for_money tables dimension) (system_digits tables) (optional_answer dimension.currencies)
     (symbols_answer dimension.symbols) (optional_answer tables.rules) (optional_answer dimension.compact)
-    (preferences settings) code (compact_money_options settings.grouping)
+    (preferences settings) code options
 
--- compact amounts of a currency; they are not rounded before
-unfoldable pub money_short_loaded : FormSettings → List ℕ → TablesData → DimensionData → Result FormData Refusal
-money_short_loaded settings code tables dimension =
-    and_then (compact_money_loaded settings code tables dimension) (λ f. Ok (form_with settings None (MoneyShort f)))
+-- the rounding of what is shortened with a currency: to the precision of compact numbers, or of the currency if that is asked for
+unfoldable pub currency_rounding : FormSettings → List ℕ → DimensionData → Result Rounding Refusal
+currency_rounding settings code dimension =
+    and_then (money_precision (Some (compact_precision settings.precision)) (digits_answer dimension.digits) code false) (λ precision.
+    Ok (rounding_to settings precision))
+
+-- the same, if the settings say anything of it; without it the formatter rounds
+unfoldable pub amounts_rounding : FormSettings → List ℕ → DimensionData → Result (Option Rounding) Refusal
+amounts_rounding settings code dimension =
+    if sets_digits settings then and_then (currency_rounding settings code dimension) (λ rounding. Ok (Some rounding)) else Ok None
+
+-- a formatter of compact amounts with its rounding, if it has one
+abbrev pub money_by : CompactMoney → Option Rounding → Formatter
+money_by format None = MoneyShort format
+money_by format (Some rounding) = ShortMoney format rounding
+
+-- compact amounts of a currency
+unfoldable pub money_short_loaded : FormSettings → List ℕ → CurrencyFormatterOptions → TablesData → DimensionData → Result FormData Refusal
+money_short_loaded settings code options tables dimension =
+    and_then (amounts_rounding settings code dimension) (λ rounding.
+    and_then (compact_money_loaded settings code options tables dimension) (λ f.
+    Ok (form_with settings None (money_by f rounding))))
+
+-- the formatter of compact amounts with the name of a currency, by compact patterns of the tables
+abbrev pub compact_names_loaded : FormSettings → List ℕ → Option (List (NamedEntry (List TableEntry))) → TablesData → DimensionData
+    → Result (PluralFormat CompactFormat NameText) Refusal
+compact_names_loaded settings code patterns tables dimension =
+    loaded_compact_plural (symbols_for_money tables dimension) (system_digits tables) (optional_answer tables.rules) (optional_answer patterns)
+    (names_answer dimension.placeholders dimension.symbols) (compact_preferences settings) code (compact_options settings.grouping)
+    (λ f r x. record { formatter = f; rules = r; elements = x })
+
+-- by the short patterns
+unfoldable pub short_names_loaded : FormSettings → List ℕ → TablesData → DimensionData → Result (PluralFormat CompactFormat NameText) Refusal
+short_names_loaded settings code tables dimension = compact_names_loaded settings code tables.short tables dimension
+
+-- by the long ones
+unfoldable pub long_names_loaded : FormSettings → List ℕ → TablesData → DimensionData → Result (PluralFormat CompactFormat NameText) Refusal
+long_names_loaded settings code tables dimension = compact_names_loaded settings code tables.long tables dimension
+
+-- compact amounts with the name of a currency
+unfoldable pub named_short_loaded : FormSettings → List ℕ → Bool → TablesData → DimensionData → Result FormData Refusal
+named_short_loaded settings code is_long tables dimension =
+    and_then (currency_rounding settings code dimension) (λ rounding.
+    and_then (if is_long then long_names_loaded settings code tables dimension else short_names_loaded settings code tables dimension) (λ f.
+    Ok (form_with settings None (ShortNamed f rounding))))
+
+-- amounts with the name of a currency, by the notation of numbers
+unfoldable pub named_by_notation : Notation → FormSettings → List ℕ → Bool → TablesData → DimensionData → Result FormData Refusal
+named_by_notation Simple settings code is_cash tables dimension = named_loaded settings code is_cash tables dimension
+named_by_notation CompactShort settings code is_cash tables dimension = named_short_loaded settings code false tables dimension
+named_by_notation CompactLong settings code is_cash tables dimension = named_short_loaded settings code true tables dimension
 
 -- percents
 unfoldable pub percent_loaded : FormSettings → TablesData → DimensionData → Result FormData Refusal
@@ -209,3 +267,31 @@ unfoldable pub unit_loaded : FormSettings → List ℕ → UnitWidth → TablesD
 unit_loaded settings name width tables dimension =
     and_then (units_loaded width tables dimension (preferences settings) name (plain_options settings.grouping)) (λ f.
     Ok (form_with settings (settings_rounding settings) (Units f)))
+
+-- the formatter of compact numbers with a unit, by compact patterns of the tables
+abbrev pub compact_units_loaded : UnitWidth → Option (List (NamedEntry (List TableEntry))) → TablesData → DimensionData
+    → CompactDecimalFormatterPreferences → List ℕ → CompactDecimalFormatterOptions → Result (PluralFormat CompactFormat PatternText) Refusal
+compact_units_loaded width patterns tables dimension prefs name options =
+    loaded_compact_plural (filed_answer tables.symbols) (system_digits tables) (optional_answer tables.rules) (optional_answer patterns)
+    (unit_patterns width dimension) prefs name options (λ f r x. record { formatter = f; rules = r; elements = x })
+
+-- compact numbers with a unit, by these patterns
+abbrev pub compact_unit_loaded : FormSettings → List ℕ → UnitWidth → Option (List (NamedEntry (List TableEntry))) → TablesData → DimensionData
+    → Result FormData Refusal
+compact_unit_loaded settings name width patterns tables dimension =
+    and_then (compact_units_loaded width patterns tables dimension (compact_preferences settings) name (compact_options settings.grouping)) (λ f.
+    Ok (form_with settings None (ShortUnits f (rounding_to settings (compact_precision settings.precision)))))
+
+-- by the short patterns
+unfoldable pub unit_short_loaded : FormSettings → List ℕ → UnitWidth → TablesData → DimensionData → Result FormData Refusal
+unit_short_loaded settings name width tables dimension = compact_unit_loaded settings name width tables.short tables dimension
+
+-- by the long ones
+unfoldable pub unit_long_loaded : FormSettings → List ℕ → UnitWidth → TablesData → DimensionData → Result FormData Refusal
+unit_long_loaded settings name width tables dimension = compact_unit_loaded settings name width tables.long tables dimension
+
+-- numbers with a unit, by their notation
+unfoldable pub unit_by_notation : Notation → FormSettings → List ℕ → UnitWidth → TablesData → DimensionData → Result FormData Refusal
+unit_by_notation Simple settings name width tables dimension = unit_loaded settings name width tables dimension
+unit_by_notation CompactShort settings name width tables dimension = unit_short_loaded settings name width tables dimension
+unit_by_notation CompactLong settings name width tables dimension = unit_long_loaded settings name width tables dimension

@@ -9,9 +9,9 @@ use Rattle.icu_tables.specs.Tables.{TablesData, tables_of}
 use Rattle.icu_dimension_tables.specs.AllTables.{all_tables_of}
 use Rattle.icu_dimension_tables.specs.DimensionTables.{DimensionData}
 use Rattle.number_forms.specs.Forms.{FormData}
-use Rattle.number_forms.specs.Loaded.{long_loaded, money_loaded, money_options, money_short_loaded, named_loaded, percent_loaded, plain_loaded}
-use Rattle.number_forms.specs.Loaded.{short_loaded, unit_loaded}
-use Rattle.number_forms.specs.Settings.{FormSettings}
+use Rattle.number_forms.specs.Loaded.{compact_money_options, long_loaded, money_loaded, money_options, money_short_loaded, named_by_notation}
+use Rattle.number_forms.specs.Loaded.{percent_loaded, plain_loaded, short_loaded, unit_by_notation}
+use Rattle.number_forms.specs.Settings.{FormSettings, unit_text}
 use Rattle.number_forms.specs.declared.error.StartError.{StartError}
 use Rattle.number_forms.specs.declared.error.StartError.TheVariants as start
 use Rattle.number_forms.specs.declared.settings.Kind.TheVariants.{Plain, Short, Long, Money, MoneyNamed, MoneyShort, Percent, Unit as WithUnit}
@@ -70,8 +70,8 @@ form_of settings text = elim settings.kind [
   | Short ↦ with_tables text (short_loaded settings)
   | Long ↦ with_tables text (long_loaded settings)
   | Money code width sign is_cash ↦ with_all text (money_loaded settings code (money_options settings.grouping width sign) is_cash)
-  | MoneyNamed code is_cash ↦ with_all text (named_loaded settings code is_cash)
-  | MoneyShort code ↦ with_all text (money_short_loaded settings code)
+  | MoneyNamed code is_cash notation ↦ with_all text (named_by_notation notation settings code is_cash)
+  | MoneyShort code width sign ↦ with_all text (money_short_loaded settings code (compact_money_options settings.grouping width sign))
   | Percent ↦ with_all text (percent_loaded settings)
-  | WithUnit name width ↦ with_all text (unit_loaded settings name.now width)
+  | WithUnit unit width notation ↦ with_all text (unit_by_notation notation settings (unit_text unit) width)
 ]

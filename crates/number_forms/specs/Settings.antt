@@ -1,5 +1,5 @@
 -- What a form is to be, besides the tables.
-use Rattle.std.specs.Prelude.{ℕ, ℤ, Bool, true, false, List, Option}
+use Rattle.std.specs.Prelude.{ℕ, ℤ, Bool, true, false, List, Option, codes}
 use Rattle.fixed_decimal.specs.declared.modes.SignedRoundingMode.{SignedRoundingMode}
 use Rattle.fixed_decimal.specs.declared.modes.SignedRoundingMode.TheVariants.{Unsigned as OfSizes, Ceil, Floor, HalfCeil, HalfFloor}
 use Rattle.fixed_decimal.specs.declared.modes.UnsignedRoundingMode.TheVariants.{Expand, Trunc, HalfExpand, HalfTrunc, HalfEven}
@@ -7,6 +7,8 @@ use Rattle.fixed_decimal.specs.declared.signs.SignDisplay.{SignDisplay}
 use Rattle.icu_decimal.specs.declared.options.GroupingStrategy.{GroupingStrategy}
 use Rattle.skeleton_settings.specs.declared.settings.Precision.{Precision}
 use Rattle.number_forms.specs.declared.settings.Kind.{Kind}
+use Rattle.number_forms.specs.declared.settings.UnitName.{UnitName}
+use Rattle.number_forms.specs.declared.settings.UnitName.TheVariants as unit
 
 -- half to even
 abbrev pub is_half_even : SignedRoundingMode → Bool
@@ -19,6 +21,12 @@ is_half_even Ceil = false
 is_half_even Floor = false
 is_half_even HalfCeil = false
 is_half_even HalfFloor = false
+
+-- the name of a unit in the tables
+abbrev pub unit_text : UnitName → List ℕ
+unit_text unit.Percent = codes "percent"
+unit_text unit.Permille = codes "permille"
+unit_text (unit.Named name) = name.now
 
 -- what is asked for; without a system none is preferred, without a grouping or a precision the default of the kind applies
 pub record FormSettings : Type 0 where

@@ -1,12 +1,13 @@
 -- What a skeleton asks of a form, or the first part that no form has.
-use Rattle.std.specs.Prelude.{ℕ, List, [], ◌∷◌, Bool, true, false, not, ◌||◌, ◌==◌, Option, Some, None, Result, Ok, Err, if◌then◌else◌}
+use Rattle.std.specs.Prelude.{ℕ, List, [], ◌∷◌, Bool, true, false, not, ◌&&◌, Option, Some, None, Result, Ok, Err, if◌then◌else◌}
 use Rattle.std.specs.Borrow.{Bor}
-use Rattle.std.specs.Option.{is_some}
+use Rattle.std.specs.Option.{unwrap_or}
 use Rattle.icu_provider.specs.NumberingSystem.{is_numbering_system}
 use Rattle.icu_decimal.specs.declared.options.GroupingStrategy.{GroupingStrategy}
 use Rattle.icu_decimal.specs.declared.options.GroupingStrategy.TheVariants as strategy
 use Rattle.icu_dimension.specs.declared.options.CurrencySign.{CurrencySign}
 use Rattle.icu_dimension.specs.declared.options.CurrencySign.TheVariants.{Standard, Accounting}
+use Rattle.icu_dimension.specs.declared.options.Width.{Width}
 use Rattle.icu_dimension.specs.declared.options.Width.TheVariants as symbol
 use Rattle.icu_dimension_data.specs.Currency.{is_currency_code}
 use Rattle.skeleton_settings.specs.declared.settings.CurrencyLetters.{CurrencyLetters}
@@ -21,9 +22,12 @@ use Rattle.skeleton_settings.specs.declared.settings.Precision.TheVariants.{Frac
 use Rattle.skeleton_settings.specs.declared.settings.Skeleton.{Skeleton}
 use Rattle.skeleton_settings.specs.declared.settings.UnitWidth.{UnitWidth}
 use Rattle.skeleton_settings.specs.declared.settings.UnitWidth.TheVariants as width
-use Rattle.number_forms.specs.Settings.{FormSettings, is_half_even}
+use Rattle.number_forms.specs.Settings.{FormSettings}
 use Rattle.number_forms.specs.declared.settings.Kind.{Kind}
 use Rattle.number_forms.specs.declared.settings.Kind.TheVariants.{Plain, Short, Long, Money, MoneyNamed, MoneyShort, Percent, Unit as WithUnit}
+use Rattle.number_forms.specs.declared.settings.UnitName.{UnitName}
+use Rattle.number_forms.specs.declared.settings.UnitName.TheVariants as unit
+use Rattle.number_forms.specs.declared.settings.UnitWidth.{UnitWidth as Patterns}
 use Rattle.number_forms.specs.declared.settings.UnitWidth.TheVariants as patterns
 use Rattle.number_forms.specs.declared.skeleton.Unsupported.{Unsupported}
 use Rattle.number_forms.specs.declared.skeleton.Unsupported.TheVariants as unsupported
@@ -60,80 +64,93 @@ code_set letters = if is_currency_code (code_letters letters) then Ok (code_lett
 abbrev pub money_sign : Bool → CurrencySign
 money_sign is_accounting = if is_accounting then Accounting else Standard
 
--- amounts of money in full; names have no form for accounting
-unfoldable pub money_set : UnitWidth → Bool → List ℕ → Result Kind Unsupported
-money_set width.Narrow is_accounting code = Ok (Money code symbol.Narrow (money_sign is_accounting) false)
-money_set width.Short is_accounting code = Ok (Money code symbol.Short (money_sign is_accounting) false)
-money_set width.FullName is_accounting code = Ok (MoneyNamed code false)
-money_set width.IsoCode is_accounting code = Err unsupported.IsoCode
-money_set width.Hidden is_accounting code = Err unsupported.HiddenSymbol
+-- amounts of money with the name of the currency; names have no form for accounting
+abbrev pub named_money : List ℕ → Notation → Kind
+named_money code notation = MoneyNamed code false notation
 
--- percents in full
-unfoldable pub percent_set : UnitWidth → Result Kind Unsupported
-percent_set width.Narrow = Ok Percent
-percent_set width.Short = Ok Percent
-percent_set width.FullName = Err unsupported.PercentName
-percent_set width.IsoCode = Ok Percent
-percent_set width.Hidden = Ok Percent
+-- what stands for the symbol of a currency; nothing where its name is written
+unfoldable pub symbol_set : UnitWidth → Option Width
+symbol_set width.Narrow = Some symbol.Narrow
+symbol_set width.Short = Some symbol.Short
+symbol_set width.FullName = None
+symbol_set width.IsoCode = Some symbol.IsoCode
+symbol_set width.Hidden = Some symbol.Hidden
 
--- numbers with a unit in full; a hidden unit isn't written
-unfoldable pub unit_set : UnitWidth → Bor (List ℕ) → Kind
-unit_set width.Narrow name = WithUnit name patterns.Narrow
-unit_set width.Short name = WithUnit name patterns.Short
-unit_set width.FullName name = WithUnit name patterns.Long
-unit_set width.IsoCode name = WithUnit name patterns.Short
-unit_set width.Hidden name = Plain
+-- amounts of money with a symbol; compact ones are those of the short patterns, as no locale has long ones
+abbrev pub money_with : Width → CurrencySign → Notation → List ℕ → Kind
+money_with width sign Simple code = Money code width sign false
+money_with width sign CompactShort code = MoneyShort code width sign
+money_with width sign CompactLong code = MoneyShort code width sign
 
--- what is written of numbers in full
-unfoldable pub simple_set : Skeleton → NumberUnit → Result Kind Unsupported
-simple_set skeleton counted.None = Ok Plain
-simple_set skeleton counted.Percent = percent_set skeleton.width
-simple_set skeleton counted.Permille = Err unsupported.Permille
-simple_set skeleton (counted.Currency letters) = do
-  code ← code_set letters
-  money_set skeleton.width skeleton.is_accounting code
-simple_set skeleton (counted.Named name) = Ok (unit_set skeleton.width name)
+-- amounts of money, by what stands for the symbol
+abbrev pub money_by : Skeleton → List ℕ → Option Width → Kind
+money_by skeleton code None = named_money code skeleton.notation
+money_by skeleton code (Some width) = money_with width (money_sign skeleton.is_accounting) skeleton.notation code
 
--- compact amounts of money: those with the short symbol, in the standard form
-unfoldable pub compact_money_set : UnitWidth → Bool → List ℕ → Result Kind Unsupported
-compact_money_set width.Narrow is_accounting code = Err unsupported.CompactCurrency
-compact_money_set width.Short is_accounting code = if is_accounting then Err unsupported.CompactCurrency else Ok (MoneyShort code)
-compact_money_set width.FullName is_accounting code = Err unsupported.CompactCurrency
-compact_money_set width.IsoCode is_accounting code = Err unsupported.CompactCurrency
-compact_money_set width.Hidden is_accounting code = Err unsupported.CompactCurrency
+-- amounts of money
+unfoldable pub money_set : Skeleton → List ℕ → Kind
+money_set skeleton code = money_by skeleton code (symbol_set skeleton.width)
 
--- compact numbers, by the long patterns or by the short ones
-abbrev pub compact_numbers : Bool → Kind
-compact_numbers is_long = if is_long then Long else Short
+-- which patterns write a unit; none where it is hidden
+unfoldable pub patterns_set : UnitWidth → Option Patterns
+patterns_set width.Narrow = Some patterns.Narrow
+patterns_set width.Short = Some patterns.Short
+patterns_set width.FullName = Some patterns.Long
+patterns_set width.IsoCode = Some patterns.Short
+patterns_set width.Hidden = None
 
--- compact numbers with a unit: those whose unit isn't written
-unfoldable pub compact_unit_set : UnitWidth → Bool → Result Kind Unsupported
-compact_unit_set width.Narrow is_long = Err unsupported.CompactUnit
-compact_unit_set width.Short is_long = Err unsupported.CompactUnit
-compact_unit_set width.FullName is_long = Err unsupported.CompactUnit
-compact_unit_set width.IsoCode is_long = Err unsupported.CompactUnit
-compact_unit_set width.Hidden is_long = Ok (compact_numbers is_long)
+-- numbers alone
+abbrev pub numbers_set : Notation → Kind
+numbers_set Simple = Plain
+numbers_set CompactShort = Short
+numbers_set CompactLong = Long
 
--- whether a skeleton says how numbers are rounded, or how many digits they have
-unfoldable pub sets_digits : Skeleton → Bool
-sets_digits skeleton =
-    is_some skeleton.precision || skeleton.hides_zeros_of_whole || not (skeleton.integer_digits == 1) || not (is_half_even skeleton.mode)
+-- numbers with a unit, by the patterns that write it; a hidden unit isn't written
+abbrev pub unit_by : Skeleton → UnitName → Option Patterns → Kind
+unit_by skeleton unit None = numbers_set skeleton.notation
+unit_by skeleton unit (Some width) = WithUnit unit width skeleton.notation
 
--- what is written of compact numbers, by the long patterns or by the short ones
-unfoldable pub compact_set : Skeleton → Bool → NumberUnit → Result Kind Unsupported
-compact_set skeleton is_long counted.None = Ok (compact_numbers is_long)
-compact_set skeleton is_long counted.Percent = Err unsupported.CompactPercent
-compact_set skeleton is_long counted.Permille = Err unsupported.Permille
-compact_set skeleton is_long (counted.Currency letters) = do
-  code ← code_set letters
-  if sets_digits skeleton then Err unsupported.CompactDigits else compact_money_set skeleton.width skeleton.is_accounting code
-compact_set skeleton is_long (counted.Named name) = compact_unit_set skeleton.width is_long
+-- numbers with a unit
+unfoldable pub unit_set : Skeleton → UnitName → Kind
+unit_set skeleton unit = unit_by skeleton unit (patterns_set skeleton.width)
+
+-- whether a width asks for a name in full
+abbrev pub is_full_name : UnitWidth → Bool
+is_full_name width.Narrow = false
+is_full_name width.Short = false
+is_full_name width.FullName = true
+is_full_name width.IsoCode = false
+is_full_name width.Hidden = false
+
+-- percents or permilles as a unit, which is never hidden
+unfoldable pub share_set : Skeleton → UnitName → Kind
+share_set skeleton unit = WithUnit unit (unwrap_or (patterns_set skeleton.width) patterns.Short) skeleton.notation
+
+-- whether numbers are in full
+abbrev pub is_simple : Notation → Bool
+is_simple Simple = true
+is_simple CompactShort = false
+is_simple CompactLong = false
+
+-- percents: in full in the locale's pattern, else as a unit
+unfoldable pub percent_set : Skeleton → Kind
+percent_set skeleton =
+    if is_simple skeleton.notation && not (is_full_name skeleton.width) then Percent else share_set skeleton unit.Percent
+
+-- permilles as a unit; in full with their sign they have no form
+unfoldable pub permille_set : Skeleton → Result Kind Unsupported
+permille_set skeleton =
+    if is_simple skeleton.notation && not (is_full_name skeleton.width) then Err unsupported.Permille else Ok (share_set skeleton unit.Permille)
 
 -- what is written of numbers
-unfoldable pub kind_set : Skeleton → Notation → Result Kind Unsupported
-kind_set skeleton Simple = simple_set skeleton skeleton.unit
-kind_set skeleton CompactShort = compact_set skeleton false skeleton.unit
-kind_set skeleton CompactLong = compact_set skeleton true skeleton.unit
+unfoldable pub kind_set : Skeleton → NumberUnit → Result Kind Unsupported
+kind_set skeleton counted.None = Ok (numbers_set skeleton.notation)
+kind_set skeleton counted.Percent = Ok (percent_set skeleton)
+kind_set skeleton counted.Permille = permille_set skeleton
+kind_set skeleton (counted.Currency letters) = do
+  code ← code_set letters
+  Ok (money_set skeleton code)
+kind_set skeleton (counted.Named name) = Ok (unit_set skeleton (unit.Named name))
 
 -- how fine numbers are in full, where nothing is set: as the currency has it, else at most six fraction digits
 unfoldable pub default_precision : NumberUnit → Option Precision
@@ -155,7 +172,7 @@ unfoldable pub settings_of : List ℕ → Skeleton → Result FormSettings Unsup
 settings_of locale skeleton = do
   grouping ← grouping_set skeleton.grouping
   system ← system_set skeleton.system
-  kind ← kind_set skeleton skeleton.notation
+  kind ← kind_set skeleton skeleton.unit
   Ok (record {
     locale = locale;
     system = system;

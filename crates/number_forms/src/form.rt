@@ -23,10 +23,16 @@ pub enum Formatter {
     MoneyNamed(LongCurrencyFormatter<DecimalFormatter>),
     /// An amount of money in compact form with the symbol of its currency.
     MoneyShort(CompactCurrencyFormatter),
+    /// The same, with digits that are asked for.
+    ShortMoney(CompactCurrencyFormatter, Rounding),
+    /// An amount of money in compact form with the name of its currency.
+    ShortNamed(LongCurrencyFormatter<CompactDecimalFormatter>, Rounding),
     /// The number of percents.
     Percent(PercentFormatter<DecimalFormatter>),
     /// The number with a unit.
     Units(UnitsFormatter<DecimalFormatter>),
+    /// The number in compact form with a unit.
+    ShortUnits(UnitsFormatter<CompactDecimalFormatter>, Rounding),
 }
 
 /// How numbers are written: with which digits and which sign, and by which formatter (this

@@ -3,22 +3,19 @@
 ghost use Rattle.std.specs.Prelude.{◌≡◌};
 ghost use Rattle.icu_provider.specs.Answer.{Answers};
 ghost use Rattle.icu_dimension_tables.specs.Answering.{digits_answer};
-ghost use Rattle.number_forms.specs.Loaded.{amounts_loaded, compact_money_loaded, compact_money_options, currency_loaded, currency_precision};
-ghost use Rattle.number_forms.specs.Loaded.{digits_precision, money_loaded, money_precision, money_short_loaded, named_loaded, names_loaded};
+ghost use Rattle.number_forms.specs.Loaded.{amounts_loaded, currency_loaded, currency_precision, digits_precision, money_loaded};
+ghost use Rattle.number_forms.specs.Loaded.{money_precision, named_loaded, names_loaded};
 ghost use Rattle.number_forms.specs.Loaded.{percent_loaded, plain_loaded, preferences, rounding_to, settings_rounding, unit_loaded, units_loaded};
 
 use crate::form::{Form, Formatter};
 use crate::settings::{Settings, UnitWidth};
-use decimal_lines::{Mode, compact_options, plain_options};
+use decimal_lines::{Mode, plain_options};
 use icu_decimal::DecimalFormatter;
-use icu_decimal_options::options::{DecimalFormatterOptions, GroupingStrategy};
+use icu_decimal_options::options::DecimalFormatterOptions;
 use icu_decimal_options::preferences::DecimalFormatterPreferences;
 use icu_dimension::options::CurrencyFormatterOptions;
 use icu_dimension::provider::{UnitsLongV1, UnitsNarrowV1, UnitsShortV1, load_currency_digits};
-use icu_dimension::{
-    CompactCurrencyFormatter, CurrencyFormatter, LongCurrencyFormatter, PercentFormatter,
-    UnitsFormatter,
-};
+use icu_dimension::{CurrencyFormatter, LongCurrencyFormatter, PercentFormatter, UnitsFormatter};
 use icu_dimension_data::{CurrencyCode, FractionDigits};
 use icu_dimension_tables::AllTables;
 use icu_provider::DataError;
@@ -28,7 +25,7 @@ use skeleton_settings::Precision;
 use std::alloc::Global;
 
 /// The locale and the system that are wanted.
-fn preferences(settings: &Settings<'_>) -> DecimalFormatterPreferences
+pub(crate) fn preferences(settings: &Settings<'_>) -> DecimalFormatterPreferences
     ensures { result ≡ preferences settings.now }
 {
     DecimalFormatterPreferences {
@@ -111,7 +108,7 @@ fn digits_precision(
 
 /// The precision that is wanted, or else that of the currency.
 #[tactic(auto, unfolding(crate::specs::Loaded::money_precision))]
-fn money_precision(
+pub(crate) fn money_precision(
     alloc: Global,
     all: &AllTables,
     wanted: Option<Precision>,
@@ -213,48 +210,6 @@ pub(crate) fn load_named(
 {
     let named = Formatter::MoneyNamed(load_names(alloc, all, settings, code)?);
     load_amounts(alloc, all, settings, code, is_cash, named)
-}
-
-/// The options of compact amounts under a strategy, or the default ones, those of compact numbers.
-fn compact_money_options(grouping: Option<GroupingStrategy>) -> DecimalFormatterOptions
-    ensures { result ≡ compact_money_options grouping }
-{
-    DecimalFormatterOptions::from(compact_options(grouping))
-}
-
-/// The formatter of compact amounts of a currency.
-#[tactic(auto, unfolding(crate::specs::Loaded::compact_money_loaded))]
-fn load_compact_money(
-    alloc: Global,
-    all: &AllTables,
-    settings: &Settings<'_>,
-    code: CurrencyCode,
-) -> Result<CompactCurrencyFormatter, DataError>
-    ensures { Answers result
-        (compact_money_loaded settings.now code all.now.numbers all.now.dimension) }
-{
-    let options = compact_money_options(settings.grouping);
-    let prefs = preferences(settings);
-    CompactCurrencyFormatter::try_new_unstable::<AllTables>(alloc, all, prefs, code, options)
-}
-
-/// Compact amounts of a currency, which are not rounded before.
-#[tactic(auto, unfolding(crate::specs::Loaded::money_short_loaded))]
-pub(crate) fn load_money_short(
-    alloc: Global,
-    all: &AllTables,
-    settings: &Settings<'_>,
-    code: CurrencyCode,
-) -> Result<Form, DataError>
-    ensures { Answers result
-        (money_short_loaded settings.now code all.now.numbers all.now.dimension) }
-{
-    Ok(Form {
-        scale: settings.scale,
-        rounding: None,
-        sign: settings.sign,
-        formatter: Formatter::MoneyShort(load_compact_money(alloc, all, settings, code)?),
-    })
 }
 
 /// Percents.

@@ -2,7 +2,7 @@
 
 ghost use Rattle.std.specs.Prelude.{◌≡◌};
 ghost use Rattle.icu_provider.specs.Answer.{Answers};
-ghost use Rattle.number_forms.specs.Loaded.{compact_by, compact_precision, compact_preferences, compact_rounding, long_loaded, short_loaded};
+ghost use Rattle.number_forms.specs.Loaded.{compact_by, compact_precision, compact_preferences, compact_rounding, long_loaded, sets_digits, short_loaded};
 
 use crate::form::{Form, Formatter};
 use crate::loading::rounding_to;
@@ -17,7 +17,7 @@ use skeleton_settings::{Precision, Priority};
 use std::alloc::Global;
 
 /// The locale and the system that are wanted, for compact numbers.
-fn compact_preferences(settings: &Settings<'_>) -> CompactDecimalFormatterPreferences
+pub(crate) fn compact_preferences(settings: &Settings<'_>) -> CompactDecimalFormatterPreferences
     ensures { result ≡ compact_preferences settings.now }
 {
     CompactDecimalFormatterPreferences {
@@ -28,7 +28,7 @@ fn compact_preferences(settings: &Settings<'_>) -> CompactDecimalFormatterPrefer
 
 /// The precision of compact numbers: no fraction digit, or two significant digits, where none is
 /// set.
-fn compact_precision(precision: Option<Precision>) -> Precision
+pub(crate) fn compact_precision(precision: Option<Precision>) -> Precision
     ensures { result ≡ compact_precision precision }
 {
     match precision {
@@ -44,15 +44,21 @@ fn compact_precision(precision: Option<Precision>) -> Precision
     }
 }
 
+/// Whether the settings say how numbers are rounded, or how many digits they have.
+pub(crate) fn sets_digits(settings: &Settings<'_>) -> bool
+    ensures { result ≡ sets_digits settings.now }
+{
+    settings.precision.is_some()
+        || settings.hides_zeros_of_whole
+        || settings.integer_digits != 1
+        || !is_half_even(settings.mode)
+}
+
 /// The rounding of compact numbers, if the settings have one.
 fn compact_rounding(settings: &Settings<'_>) -> Option<Rounding>
     ensures { result ≡ compact_rounding settings.now }
 {
-    if settings.precision.is_some()
-        || settings.hides_zeros_of_whole
-        || settings.integer_digits != 1
-        || !is_half_even(settings.mode)
-    {
+    if sets_digits(settings) {
         Some(rounding_to(settings, compact_precision(settings.precision)))
     } else {
         None

@@ -7,13 +7,15 @@ ghost use Rattle.icu_tables.specs.Tables.{TablesData, tables_of};
 ghost use Rattle.icu_dimension_tables.specs.AllTables.{AllData, all_tables_of};
 ghost use Rattle.icu_dimension_tables.specs.ForLocale.{IsAllFor};
 ghost use Rattle.number_forms.specs.Forms.{FormData};
-ghost use Rattle.number_forms.specs.Loaded.{long_loaded, money_loaded, money_options, money_short_loaded, named_loaded, percent_loaded, plain_loaded, short_loaded, unit_loaded};
+ghost use Rattle.number_forms.specs.Loaded.{long_loaded, money_loaded, money_options, money_short_loaded, named_by_notation, percent_loaded};
+ghost use Rattle.number_forms.specs.Loaded.{plain_loaded, short_loaded, unit_by_notation};
 ghost use Rattle.number_forms.specs.Making.{StartsForm, StopsForm, form_of, read_then, start_error, started, table_error, with_all, with_tables};
 
 use crate::error::StartError;
 use crate::form::Form;
-use crate::loading::{
-    load_money, load_money_short, load_named, load_percent, load_plain, load_unit,
+use crate::loading::{load_money, load_percent, load_plain};
+use crate::loading_compact::{
+    compact_money_options, load_money_short, load_named_by, load_unit_by,
 };
 use crate::loading_short::{load_long, load_short};
 use crate::settings::{Kind, Settings, UnitWidth};
@@ -24,6 +26,7 @@ use icu_dimension_tables::AllTables;
 use icu_provider::{DataError, DataErrorKind};
 use icu_table_entries::TableError;
 use icu_tables::Tables;
+use skeleton_settings::Notation;
 use std::alloc::Global;
 use std::str;
 
@@ -130,11 +133,13 @@ fn named_form(
     text: &str,
     code: CurrencyCode,
     is_cash: bool,
+    notation: Notation,
 ) -> Result<Form, StartError>
-    ensures { StartsForm result (with_all text.now (named_loaded settings.now code is_cash)) }
+    ensures { StartsForm result
+        (with_all text.now (named_by_notation notation settings.now code is_cash)) }
 {
     let all = all_in(alloc, settings, text)?;
-    started(load_named(alloc, &all, settings, code, is_cash))
+    started(load_named_by(alloc, &all, settings, code, is_cash, notation))
 }
 
 /// Compact amounts of a currency, by a text of tables.
@@ -143,11 +148,13 @@ fn money_short_form(
     settings: &Settings<'_>,
     text: &str,
     code: CurrencyCode,
+    options: CurrencyFormatterOptions,
 ) -> Result<Form, StartError>
-    ensures { StartsForm result (with_all text.now (money_short_loaded settings.now code)) }
+    ensures { StartsForm result
+        (with_all text.now (money_short_loaded settings.now code options)) }
 {
     let all = all_in(alloc, settings, text)?;
-    started(load_money_short(alloc, &all, settings, code))
+    started(load_money_short(alloc, &all, settings, code, options))
 }
 
 /// Percents, by a text of tables.
@@ -165,11 +172,13 @@ fn unit_form(
     text: &str,
     name: &str,
     width: UnitWidth,
+    notation: Notation,
 ) -> Result<Form, StartError>
-    ensures { StartsForm result (with_all text.now (unit_loaded settings.now name.now width)) }
+    ensures { StartsForm result
+        (with_all text.now (unit_by_notation notation settings.now name.now width)) }
 {
     let all = all_in(alloc, settings, text)?;
-    started(load_unit(alloc, &all, settings, name, width))
+    started(load_unit_by(alloc, &all, settings, name, width, notation))
 }
 
 /// The form that is wanted, by a text of tables.
@@ -190,10 +199,21 @@ fn form_of(alloc: Global, settings: &Settings<'_>, text: &str) -> Result<Form, S
             let options = money_options(settings, width, sign);
             money_form(alloc, settings, text, code, options, is_cash)
         }
-        Kind::MoneyNamed { code, is_cash } => named_form(alloc, settings, text, code, is_cash),
-        Kind::MoneyShort { code } => money_short_form(alloc, settings, text, code),
+        Kind::MoneyNamed {
+            code,
+            is_cash,
+            notation,
+        } => named_form(alloc, settings, text, code, is_cash, notation),
+        Kind::MoneyShort { code, width, sign } => {
+            let options = compact_money_options(settings.grouping, width, sign);
+            money_short_form(alloc, settings, text, code, options)
+        }
         Kind::Percent => percent_form(alloc, settings, text),
-        Kind::Unit { name, width } => unit_form(alloc, settings, text, name, width),
+        Kind::Unit {
+            unit,
+            width,
+            notation,
+        } => unit_form(alloc, settings, text, unit.text(), width, notation),
     }
 }
 

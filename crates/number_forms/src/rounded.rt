@@ -159,6 +159,15 @@ pub(crate) fn form_rounded(
 {
     match formatter {
         Formatter::ShortNumbers(compact, by) => shortened_number(alloc, by, compact, &decimal),
+        Formatter::ShortMoney(money, by) => {
+            shortened_number(alloc, by, money.for_sign(decimal.sign), &decimal)
+        }
+        Formatter::ShortNamed(names, by) => {
+            shortened_number(alloc, by, names.formatter(), &decimal)
+        }
+        Formatter::ShortUnits(units, by) => {
+            shortened_number(alloc, by, units.formatter(), &decimal)
+        }
         Formatter::Numbers(_)
         | Formatter::Money(_)
         | Formatter::MoneyNamed(_)

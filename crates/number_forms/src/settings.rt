@@ -1,14 +1,14 @@
 //! What a form is to be, besides the tables.
 
 ghost use Rattle.std.specs.Prelude.{◌≡◌};
-ghost use Rattle.number_forms.specs.Settings.{is_half_even};
+ghost use Rattle.number_forms.specs.Settings.{is_half_even, unit_text};
 
 use fixed_decimal::{SignDisplay, SignedRoundingMode, UnsignedRoundingMode};
 use icu_decimal_options::options::GroupingStrategy;
 use icu_dimension::options::{CurrencySign, Width};
 use icu_dimension_data::CurrencyCode;
 use icu_provider::{DataLocale, NumberingSystem};
-use skeleton_settings::Precision;
+use skeleton_settings::{Notation, Precision};
 use std::marker::Model;
 
 /// Which patterns write a unit.
@@ -20,6 +20,30 @@ pub enum UnitWidth {
     Short,
     /// The narrow ones, as `2km`.
     Narrow,
+}
+
+/// Which unit it is (this project's own).
+#[derive(Clone, Copy, Debug)]
+pub enum UnitName<'a> {
+    /// The unit `percent` of the tables, as `12 percent`.
+    Percent,
+    /// The unit `permille` of the tables, as `12 permille`.
+    Permille,
+    /// A unit as the tables name it, as `kilometer`.
+    Named(&'a str),
+}
+
+impl<'a> UnitName<'a> {
+    /// The name of the unit in the tables.
+    pub fn text(self) -> &'a str
+        ensures { result.now ≡ unit_text self }
+    {
+        match self {
+            UnitName::Percent => "percent",
+            UnitName::Permille => "permille",
+            UnitName::Named(name) => name,
+        }
+    }
 }
 
 /// What is written of a number (this project's own).
@@ -48,20 +72,28 @@ pub enum Kind<'a> {
         code: CurrencyCode,
         /// Whether amounts are those of cash, where no precision is asked for.
         is_cash: bool,
+        /// Whether the number is shortened, and by which patterns, as in `15K US dollars`.
+        notation: Notation,
     },
     /// An amount of money by the short patterns of its currency, as `$15K`.
     MoneyShort {
         /// The currency.
         code: CurrencyCode,
+        /// Which symbol it has.
+        width: Width,
+        /// Which pattern writes a sign, where no compact pattern writes the amount.
+        sign: CurrencySign,
     },
     /// The number of percents, as `12%` of 12.
     Percent,
     /// The number with a unit, as `2 km`.
     Unit {
-        /// The unit as the tables name it, as `kilometer`.
-        name: &'a str,
+        /// The unit.
+        unit: UnitName<'a>,
         /// Which patterns write it.
         width: UnitWidth,
+        /// Whether the number is shortened, and by which patterns, as in `2K km`.
+        notation: Notation,
     },
 }
 
@@ -92,12 +124,11 @@ pub struct Settings<'a> {
     /// When separators are written; `None` is the default: `min2` for compact numbers and compact
     /// amounts, else `auto`.
     pub grouping: Option<GroupingStrategy>,
-    /// How fine a written number is. `None`: as the digits of the
-    /// currency for money, else the digits are as they are given. The precision of a currency is
-    /// two digits where no currency is asked for. Compact amounts ignore it.
+    /// How fine a written number is. `None`: as the digits of the currency for money in full;
+    /// no fraction digit, or two significant digits, for what is shortened; else the digits are as
+    /// they are given. The precision of a currency is two digits where no currency is asked for.
     pub precision: Option<Precision>,
-    /// Which of the numbers around it is taken for a number, where numbers are rounded. Compact
-    /// amounts are rounded half to even.
+    /// Which of the numbers around it is taken for a number, where numbers are rounded.
     pub mode: SignedRoundingMode,
     /// Whether a whole number is written without fraction digits, where numbers are rounded.
     pub hides_zeros_of_whole: bool,

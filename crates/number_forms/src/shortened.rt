@@ -26,7 +26,7 @@ pub fn has_compact_increment(precision: &Precision) -> bool
 
 /// What is shown of a number: a significand and an exponent. By an increment of which 1 is no
 /// multiple nothing is.
-fn shortened(
+pub(crate) fn shortened(
     alloc: Global,
     rounding: &Rounding,
     formatter: &CompactDecimalFormatter,

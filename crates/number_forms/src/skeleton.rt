@@ -1,9 +1,11 @@
 //! The form that a number skeleton asks for.
 
 ghost use Rattle.std.specs.Prelude.{◌≡◌, option_map};
-ghost use Rattle.number_forms.specs.Skeleton.{code_set, compact_money_set, compact_numbers, compact_set, compact_unit_set, default_precision, grouping_set, kind_set, money_set, money_sign, percent_set, precision_set, sets_digits, simple_set, system_set, unit_set};
+ghost use Rattle.number_forms.specs.Skeleton.{code_set, default_precision, grouping_set, is_full_name, is_simple, kind_set, money_set, money_sign};
+ghost use Rattle.number_forms.specs.Skeleton.{money_with, named_money, numbers_set, patterns_set, percent_set, permille_set, precision_set};
+ghost use Rattle.number_forms.specs.Skeleton.{share_set, symbol_set, system_set, unit_set};
 
-use crate::settings::{Kind, Settings, UnitWidth, is_half_even};
+use crate::settings::{Kind, Settings, UnitName, UnitWidth};
 use icu_decimal_options::options::GroupingStrategy;
 use icu_dimension::options::{CurrencySign, Width};
 use icu_dimension_data::CurrencyCode;
@@ -24,34 +26,12 @@ pub enum Unsupported {
     /// A name that no numbering system can have. No text sets it.
     #[error("numbering-system")]
     System,
-    /// `permille`.
+    /// `permille` in full, but with `unit-width-full-name`.
     #[error("permille")]
     Permille,
-    /// `percent` with `unit-width-full-name`.
-    #[error("percent with unit-width-full-name")]
-    PercentName,
     /// Letters that no currency can have. No text sets them.
     #[error("currency")]
     Currency,
-    /// A currency with `unit-width-iso-code`.
-    #[error("currency with unit-width-iso-code")]
-    IsoCode,
-    /// A currency with `unit-width-hidden`.
-    #[error("currency with unit-width-hidden")]
-    HiddenSymbol,
-    /// `percent` in compact notation.
-    #[error("percent in compact notation")]
-    CompactPercent,
-    /// A currency in compact notation with another width than `unit-width-short`, or in the form for
-    /// accounting.
-    #[error("currency in compact notation with a width or in accounting")]
-    CompactCurrency,
-    /// A precision, a rounding mode or a count of integer digits of a currency in compact notation.
-    #[error("digits of a currency in compact notation")]
-    CompactDigits,
-    /// A unit in compact notation.
-    #[error("unit in compact notation")]
-    CompactUnit,
 }
 
 /// When separators are written.
@@ -109,156 +89,172 @@ fn money_sign(is_accounting: bool) -> CurrencySign
     }
 }
 
-/// Amounts of money in full.
-#[tactic(auto, unfolding(crate::specs::Skeleton::money_set))]
-fn money_set<'a>(
-    width: skeleton_settings::UnitWidth,
-    is_accounting: bool,
-    code: CurrencyCode,
-) -> Result<Kind<'a>, Unsupported>
-    ensures { result ≡ money_set width is_accounting code }
+/// Amounts of money with the name of the currency.
+fn named_money<'a>(code: CurrencyCode, notation: Notation) -> Kind<'a>
+    ensures { result ≡ named_money code notation }
 {
-    let width = match width {
-        skeleton_settings::UnitWidth::Narrow => Width::Narrow,
-        skeleton_settings::UnitWidth::Short => Width::Short,
-        skeleton_settings::UnitWidth::FullName => {
-            return Ok(Kind::MoneyNamed {
-                code,
-                is_cash: false,
-            });
-        }
-        skeleton_settings::UnitWidth::IsoCode => return Err(Unsupported::IsoCode),
-        skeleton_settings::UnitWidth::Hidden => return Err(Unsupported::HiddenSymbol),
-    };
-    Ok(Kind::Money {
+    Kind::MoneyNamed {
         code,
-        width,
-        sign: money_sign(is_accounting),
         is_cash: false,
-    })
+        notation,
+    }
 }
 
-/// Percents in full.
-#[tactic(auto, unfolding(crate::specs::Skeleton::percent_set))]
-fn percent_set<'a>(width: skeleton_settings::UnitWidth) -> Result<Kind<'a>, Unsupported>
-    ensures { result ≡ percent_set width }
+/// What stands for the symbol of a currency; nothing where its name is written.
+#[tactic(auto, unfolding(crate::specs::Skeleton::symbol_set))]
+fn symbol_set(width: skeleton_settings::UnitWidth) -> Option<Width>
+    ensures { result ≡ symbol_set width }
 {
     match width {
-        skeleton_settings::UnitWidth::FullName => Err(Unsupported::PercentName),
-        skeleton_settings::UnitWidth::Narrow
-        | skeleton_settings::UnitWidth::Short
-        | skeleton_settings::UnitWidth::IsoCode
-        | skeleton_settings::UnitWidth::Hidden => Ok(Kind::Percent),
+        skeleton_settings::UnitWidth::Narrow => Some(Width::Narrow),
+        skeleton_settings::UnitWidth::Short => Some(Width::Short),
+        skeleton_settings::UnitWidth::FullName => None,
+        skeleton_settings::UnitWidth::IsoCode => Some(Width::IsoCode),
+        skeleton_settings::UnitWidth::Hidden => Some(Width::Hidden),
     }
 }
 
-/// Numbers with a unit in full.
-#[tactic(auto, unfolding(crate::specs::Skeleton::unit_set))]
-fn unit_set<'a>(width: skeleton_settings::UnitWidth, name: &'a str) -> Kind<'a>
-    ensures { result ≡ unit_set width name.entry }
-{
-    let width = match width {
-        skeleton_settings::UnitWidth::Narrow => UnitWidth::Narrow,
-        skeleton_settings::UnitWidth::Short | skeleton_settings::UnitWidth::IsoCode => {
-            UnitWidth::Short
-        }
-        skeleton_settings::UnitWidth::FullName => UnitWidth::Long,
-        skeleton_settings::UnitWidth::Hidden => return Kind::Plain,
-    };
-    Kind::Unit { name, width }
-}
-
-/// What is written of numbers in full.
-#[tactic(auto, unfolding(crate::specs::Skeleton::simple_set))]
-fn simple_set<'a>(skeleton: &Skeleton<'a>) -> Result<Kind<'a>, Unsupported>
-    ensures { result ≡ simple_set skeleton.now skeleton.now.unit }
-{
-    match skeleton.unit {
-        NumberUnit::None => Ok(Kind::Plain),
-        NumberUnit::Percent => percent_set(skeleton.width),
-        NumberUnit::Permille => Err(Unsupported::Permille),
-        NumberUnit::Currency(letters) => match code_set(letters) {
-            Ok(code) => money_set(skeleton.width, skeleton.is_accounting, code),
-            Err(error) => Err(error),
-        },
-        NumberUnit::Named(name) => Ok(unit_set(skeleton.width, name)),
-    }
-}
-
-/// Compact amounts of money.
-#[tactic(auto, unfolding(crate::specs::Skeleton::compact_money_set))]
-fn compact_money_set<'a>(
-    width: skeleton_settings::UnitWidth,
-    is_accounting: bool,
+/// Amounts of money with a symbol.
+fn money_with<'a>(
+    width: Width,
+    sign: CurrencySign,
+    notation: Notation,
     code: CurrencyCode,
-) -> Result<Kind<'a>, Unsupported>
-    ensures { result ≡ compact_money_set width is_accounting code }
+) -> Kind<'a>
+    ensures { result ≡ money_with width sign notation code }
 {
-    match width {
-        skeleton_settings::UnitWidth::Short if !is_accounting => Ok(Kind::MoneyShort { code }),
-        _ => Err(Unsupported::CompactCurrency),
-    }
-}
-
-/// Compact numbers, by the long patterns or by the short ones.
-fn compact_numbers<'a>(is_long: bool) -> Kind<'a>
-    ensures { result ≡ compact_numbers is_long }
-{
-    if is_long { Kind::Long } else { Kind::Short }
-}
-
-/// Compact numbers with a unit.
-#[tactic(auto, unfolding(crate::specs::Skeleton::compact_unit_set))]
-fn compact_unit_set<'a>(
-    width: skeleton_settings::UnitWidth,
-    is_long: bool,
-) -> Result<Kind<'a>, Unsupported>
-    ensures { result ≡ compact_unit_set width is_long }
-{
-    match width {
-        skeleton_settings::UnitWidth::Hidden => Ok(compact_numbers(is_long)),
-        _ => Err(Unsupported::CompactUnit),
-    }
-}
-
-/// Whether a skeleton says how numbers are rounded, or how many digits they have.
-#[tactic(auto, unfolding(crate::specs::Skeleton::sets_digits))]
-fn sets_digits(skeleton: &Skeleton<'_>) -> bool
-    ensures { result ≡ sets_digits skeleton.now }
-{
-    skeleton.precision.is_some()
-        || skeleton.hides_zeros_of_whole
-        || skeleton.integer_digits != 1
-        || !is_half_even(skeleton.mode)
-}
-
-/// What is written of compact numbers, by the long patterns or by the short ones.
-#[tactic(auto, unfolding(crate::specs::Skeleton::compact_set))]
-fn compact_set<'a>(skeleton: &Skeleton<'a>, is_long: bool) -> Result<Kind<'a>, Unsupported>
-    ensures { result ≡ compact_set skeleton.now is_long skeleton.now.unit }
-{
-    match skeleton.unit {
-        NumberUnit::None => Ok(compact_numbers(is_long)),
-        NumberUnit::Percent => Err(Unsupported::CompactPercent),
-        NumberUnit::Permille => Err(Unsupported::Permille),
-        NumberUnit::Currency(letters) => match code_set(letters) {
-            Ok(_) if sets_digits(skeleton) => Err(Unsupported::CompactDigits),
-            Ok(code) => compact_money_set(skeleton.width, skeleton.is_accounting, code),
-            Err(error) => Err(error),
+    match notation {
+        Notation::Simple => Kind::Money {
+            code,
+            width,
+            sign,
+            is_cash: false,
         },
-        NumberUnit::Named(_) => compact_unit_set(skeleton.width, is_long),
+        Notation::CompactShort | Notation::CompactLong => Kind::MoneyShort { code, width, sign },
+    }
+}
+
+/// Amounts of money.
+#[tactic(auto, unfolding(crate::specs::Skeleton::money_set))]
+fn money_set<'a>(skeleton: &Skeleton<'a>, code: CurrencyCode) -> Kind<'a>
+    ensures { result ≡ money_set skeleton.now code }
+{
+    match symbol_set(skeleton.width) {
+        Some(width) => money_with(
+            width,
+            money_sign(skeleton.is_accounting),
+            skeleton.notation,
+            code,
+        ),
+        None => named_money(code, skeleton.notation),
+    }
+}
+
+/// Which patterns write a unit; none where it is hidden.
+#[tactic(auto, unfolding(crate::specs::Skeleton::patterns_set))]
+fn patterns_set(width: skeleton_settings::UnitWidth) -> Option<UnitWidth>
+    ensures { result ≡ patterns_set width }
+{
+    match width {
+        skeleton_settings::UnitWidth::Narrow => Some(UnitWidth::Narrow),
+        skeleton_settings::UnitWidth::Short => Some(UnitWidth::Short),
+        skeleton_settings::UnitWidth::FullName => Some(UnitWidth::Long),
+        skeleton_settings::UnitWidth::IsoCode => Some(UnitWidth::Short),
+        skeleton_settings::UnitWidth::Hidden => None,
+    }
+}
+
+/// Numbers alone.
+fn numbers_set<'a>(notation: Notation) -> Kind<'a>
+    ensures { result ≡ numbers_set notation }
+{
+    match notation {
+        Notation::Simple => Kind::Plain,
+        Notation::CompactShort => Kind::Short,
+        Notation::CompactLong => Kind::Long,
+    }
+}
+
+/// Numbers with a unit.
+#[tactic(auto, unfolding(crate::specs::Skeleton::unit_set))]
+fn unit_set<'a>(skeleton: &Skeleton<'a>, unit: UnitName<'a>) -> Kind<'a>
+    ensures { result ≡ unit_set skeleton.now unit }
+{
+    let notation = skeleton.notation;
+    match patterns_set(skeleton.width) {
+        Some(width) => Kind::Unit {
+            unit,
+            width,
+            notation,
+        },
+        None => numbers_set(notation),
+    }
+}
+
+/// Whether a width asks for a name in full.
+fn is_full_name(width: skeleton_settings::UnitWidth) -> bool
+    ensures { result ≡ is_full_name width }
+{
+    matches!(width, skeleton_settings::UnitWidth::FullName)
+}
+
+/// Percents or permilles as a unit, which is never hidden.
+#[tactic(auto, unfolding(crate::specs::Skeleton::share_set))]
+fn share_set<'a>(skeleton: &Skeleton<'a>, unit: UnitName<'a>) -> Kind<'a>
+    ensures { result ≡ share_set skeleton.now unit }
+{
+    Kind::Unit {
+        unit,
+        width: patterns_set(skeleton.width).unwrap_or(UnitWidth::Short),
+        notation: skeleton.notation,
+    }
+}
+
+/// Whether numbers are in full.
+fn is_simple(notation: Notation) -> bool
+    ensures { result ≡ is_simple notation }
+{
+    matches!(notation, Notation::Simple)
+}
+
+/// Percents: in full in the locale's pattern, else as a unit.
+#[tactic(auto, unfolding(crate::specs::Skeleton::percent_set))]
+fn percent_set<'a>(skeleton: &Skeleton<'a>) -> Kind<'a>
+    ensures { result ≡ percent_set skeleton.now }
+{
+    if is_simple(skeleton.notation) && !is_full_name(skeleton.width) {
+        Kind::Percent
+    } else {
+        share_set(skeleton, UnitName::Percent)
+    }
+}
+
+/// Permilles as a unit; in full with their sign they have no form.
+#[tactic(auto, unfolding(crate::specs::Skeleton::permille_set))]
+fn permille_set<'a>(skeleton: &Skeleton<'a>) -> Result<Kind<'a>, Unsupported>
+    ensures { result ≡ permille_set skeleton.now }
+{
+    if is_simple(skeleton.notation) && !is_full_name(skeleton.width) {
+        Err(Unsupported::Permille)
+    } else {
+        Ok(share_set(skeleton, UnitName::Permille))
     }
 }
 
 /// What is written of numbers.
 #[tactic(auto, unfolding(crate::specs::Skeleton::kind_set))]
 fn kind_set<'a>(skeleton: &Skeleton<'a>) -> Result<Kind<'a>, Unsupported>
-    ensures { result ≡ kind_set skeleton.now skeleton.now.notation }
+    ensures { result ≡ kind_set skeleton.now skeleton.now.unit }
 {
-    match skeleton.notation {
-        Notation::Simple => simple_set(skeleton),
-        Notation::CompactShort => compact_set(skeleton, false),
-        Notation::CompactLong => compact_set(skeleton, true),
+    match skeleton.unit {
+        NumberUnit::None => Ok(numbers_set(skeleton.notation)),
+        NumberUnit::Percent => Ok(percent_set(skeleton)),
+        NumberUnit::Permille => permille_set(skeleton),
+        NumberUnit::Currency(letters) => match code_set(letters) {
+            Ok(code) => Ok(money_set(skeleton, code)),
+            Err(error) => Err(error),
+        },
+        NumberUnit::Named(name) => Ok(unit_set(skeleton, UnitName::Named(name))),
     }
 }
 

@@ -12,6 +12,7 @@ use crate::form::{Form, Formatter};
 use crate::rounded::{form_rounded, minus_or_none, signed};
 use crate::scaled::scaled;
 use crate::shortened::write_shortened;
+use crate::shortened_with::{write_money_shortened, write_names_shortened, write_units_shortened};
 use decimal_lines::{Mode, TextError, read_decimal, write_shown};
 use fixed_decimal::{Decimal, SignDisplay};
 use icu_decimal::DecimalFormatter;
@@ -117,8 +118,11 @@ fn write_formatted<K: EventWriter>(
         Formatter::Money(money) => write_money(alloc, money, decimal, out),
         Formatter::MoneyNamed(money) => write_money_named(alloc, money, decimal, out),
         Formatter::MoneyShort(money) => write_money_short(alloc, money, decimal, out),
+        Formatter::ShortMoney(money, by) => write_money_shortened(alloc, by, money, decimal, out),
+        Formatter::ShortNamed(names, by) => write_names_shortened(alloc, by, names, decimal, out),
         Formatter::Percent(percent) => write_percent(alloc, percent, decimal, out),
         Formatter::Units(units) => write_units(alloc, units, decimal, out),
+        Formatter::ShortUnits(units, by) => write_units_shortened(alloc, by, units, decimal, out),
     }
 }
 
@@ -153,8 +157,11 @@ fn unchanging(form: &Form) -> Option<&Mode>
         | Formatter::Money(_)
         | Formatter::MoneyNamed(_)
         | Formatter::MoneyShort(_)
+        | Formatter::ShortMoney(_, _)
+        | Formatter::ShortNamed(_, _)
         | Formatter::Percent(_)
-        | Formatter::Units(_) => None,
+        | Formatter::Units(_)
+        | Formatter::ShortUnits(_, _) => None,
     }
 }
 
@@ -248,7 +255,8 @@ impl Form {
     }
 
     /// What the form writes for a text, with the byte offsets of its parts (this project's own):
-    /// those of `icu_decimal` and `icu_dimension`; in a compact number the sign alone has a part.
+    /// those of `icu_decimal` and `icu_dimension`; in a compact number without digits that are asked
+    /// for the sign alone has a part.
     ///
     /// It is rejected as by [`push`](Form::push).
     // promise: The text with parts has the events that `push` writes.

@@ -73,7 +73,7 @@ pub(crate) fn no_options(alloc: Global, fault: OptionFault) -> CallResult {
 fn unsupported(part: &str) -> Option<Unsupported> {
     match part {
         "Permille" => Some(Unsupported::Permille),
-        "CompactDigits" => Some(Unsupported::CompactDigits),
+        "Thousands" => Some(Unsupported::Thousands),
         _ => None,
     }
 }
@@ -118,10 +118,8 @@ fn option_fault(name: &str) -> Option<OptionFault> {
         "Precisions" => Some(OptionFault::Precisions),
         "Round" => Some(OptionFault::Round),
         "Accounting" => Some(OptionFault::Accounting),
-        "LongMoney" => Some(OptionFault::LongMoney),
-        "ShortMoney" => Some(OptionFault::ShortMoney),
+        "CompactCash" => Some(OptionFault::CompactCash),
         "Together" => Some(OptionFault::Together),
-        "CompactRounding" => Some(OptionFault::CompactRounding),
         "CompactIncrement" => Some(OptionFault::CompactIncrement),
         "NothingRounded" => Some(OptionFault::NothingRounded),
         "Explained" => Some(OptionFault::Explained),

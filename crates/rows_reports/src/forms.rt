@@ -101,6 +101,9 @@ fn formatter_name(formatter: &Formatter) -> &'static str {
         Formatter::Money(_) => "Money",
         Formatter::MoneyNamed(_) => "MoneyNamed",
         Formatter::MoneyShort(_) => "MoneyShort",
+        Formatter::ShortMoney(_, _) => "ShortMoney",
+        Formatter::ShortNamed(_, _) => "ShortNamed",
+        Formatter::ShortUnits(_, _) => "ShortUnits",
         Formatter::Percent(_) => "Percent",
         Formatter::Units(_) => "Units",
     }

@@ -9,8 +9,17 @@ use icu_decimal::options::GroupingStrategy;
 use locnum_lines::{Delimiter, FieldRange, LineSettings, Padding, Source};
 use locnum_options::{Given, OptionFault, Options, parse_options};
 use number_forms::{Kind, Settings};
-use skeleton_settings::Precision;
+use skeleton_settings::{Notation, Precision};
 use std::alloc::{AllocError, Global};
+
+/// What is said of numbers in a notation.
+fn notation_text(notation: Notation) -> &'static str {
+    match notation {
+        Notation::Simple => "",
+        Notation::CompactShort => " compact",
+        Notation::CompactLong => " compact long",
+    }
+}
 
 /// Appends what is written of a number.
 fn push_kind(alloc: Global, kind: &Kind<'_>, text: &mut String) -> Result<(), AllocError> {
@@ -30,17 +39,29 @@ fn push_kind(alloc: Global, kind: &Kind<'_>, text: &mut String) -> Result<(), Al
             text.push_str(format!(in alloc; " {width:?} {sign:?}")?.as_str())?;
             text.push_str(text_if(*is_cash, " cash"))
         }
-        Kind::MoneyNamed { code, is_cash } => {
+        Kind::MoneyNamed {
+            code,
+            is_cash,
+            notation,
+        } => {
             text.push_str("money named ")?;
             text.push_str(code.as_str())?;
-            text.push_str(text_if(*is_cash, " cash"))
+            text.push_str(text_if(*is_cash, " cash"))?;
+            text.push_str(notation_text(*notation))
         }
-        Kind::MoneyShort { code } => {
+        Kind::MoneyShort { code, width, sign } => {
             text.push_str("money short ")?;
-            text.push_str(code.as_str())
+            text.push_str(code.as_str())?;
+            text.push_str(format!(in alloc; " {width:?} {sign:?}")?.as_str())
         }
-        Kind::Unit { name, width } => {
-            text.push_str(format!(in alloc; "unit {name} {width:?}")?.as_str())
+        Kind::Unit {
+            unit,
+            width,
+            notation,
+        } => {
+            let name = unit.text();
+            text.push_str(format!(in alloc; "unit {name} {width:?}")?.as_str())?;
+            text.push_str(notation_text(*notation))
         }
     }
 }

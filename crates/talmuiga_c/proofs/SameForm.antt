@@ -2,15 +2,15 @@
 use Rattle.std.proofs.Common.{◌≡◌, ℕ, List, refl, sym, inl, inr}
 use Rattle.std.specs.Prelude.{◌⊎◌, Bool, true, false, Option, Some, None, option_map, Result, Ok, Err}
 use Rattle.std.specs.Borrow.{Bor}
-use Rattle.number_forms.specs.Loaded.{unit_loaded}
+use Rattle.number_forms.specs.Loaded.{unit_by_notation}
 use Rattle.number_forms.specs.Making.{form_of}
 use Rattle.number_forms.specs.Settings.{FormSettings}
-use Rattle.number_forms.specs.Skeleton.{◌>>=◌, grouping_set, system_set, unit_set, simple_set, compact_set, sets_digits, kind_set, default_precision}
-use Rattle.number_forms.specs.Skeleton.{precision_set, settings_of}
+use Rattle.number_forms.specs.Skeleton.{◌>>=◌, default_precision, grouping_set, kind_set, money_set, patterns_set, percent_set, permille_set}
+use Rattle.number_forms.specs.Skeleton.{precision_set, settings_of, share_set, system_set, unit_by, unit_set}
 use Rattle.number_forms.specs.declared.settings.Kind.{Kind}
 use Rattle.number_forms.specs.declared.settings.Kind.TheVariants.{Unit as WithUnit}
+use Rattle.number_forms.specs.declared.settings.UnitName.TheVariants as unit
 use Rattle.number_forms.specs.declared.settings.UnitWidth as patterns
-use Rattle.number_forms.specs.declared.settings.UnitWidth.TheVariants as pattern
 use Rattle.number_forms.specs.declared.skeleton.Unsupported.{Unsupported}
 use Rattle.skeleton_settings.specs.Settings.{name_data, skeleton_data, unit_data}
 use Rattle.skeleton_settings.specs.declared.settings.Notation.{Notation}
@@ -19,8 +19,6 @@ use Rattle.skeleton_settings.specs.declared.settings.NumberUnit.{NumberUnit}
 use Rattle.skeleton_settings.specs.declared.settings.NumberUnit.TheVariants as counted
 use Rattle.skeleton_settings.specs.declared.settings.Precision.{Precision}
 use Rattle.skeleton_settings.specs.declared.settings.Skeleton.{Skeleton}
-use Rattle.skeleton_settings.specs.declared.settings.UnitWidth.{UnitWidth}
-use Rattle.skeleton_settings.specs.declared.settings.UnitWidth.TheVariants as width
 use Rattle.talmuiga_c.specs.Skeletons.{form_asked, lent, lent_skeleton, lent_unit}
 
 -- the skeleton with its names lent from elsewhere
@@ -51,38 +49,23 @@ same-precision s CompactLong None = refl
 
 -- kinds that are one, or have a unit of one name, which lies elsewhere
 abbrev SameKind : Result Kind Unsupported → Result Kind Unsupported → Type 0
-SameKind k l = (k ≡ l) ⊎ ((name : Bor (List ℕ)) × (w : patterns.UnitWidth) × ((k ≡ Ok (WithUnit name w)) × (l ≡ Ok (WithUnit (lent name.now) w))))
+SameKind k l = (k ≡ l) ⊎ ((name : Bor (List ℕ)) × (w : patterns.UnitWidth) × (n : Notation)
+    × ((k ≡ Ok (WithUnit (unit.Named name) w n)) × (l ≡ Ok (WithUnit (unit.Named (lent name.now)) w n))))
 
-same-unit : (w : UnitWidth) (name : Bor (List ℕ)) → SameKind (Ok (unit_set w name)) (Ok (unit_set w (lent name.now)))
-unfolding unit_set
-same-unit width.Narrow name = inr (name, pattern.Narrow, (refl, refl))
-same-unit width.Short name = inr (name, pattern.Short, (refl, refl))
-same-unit width.FullName name = inr (name, pattern.Long, (refl, refl))
-same-unit width.IsoCode name = inr (name, pattern.Short, (refl, refl))
-same-unit width.Hidden name = inl refl
-
-same-simple : (s : Skeleton) (u : NumberUnit) → SameKind (simple_set s u) (simple_set (moved s) (lent_unit (unit_data u)))
-unfolding simple_set
-same-simple s counted.None = inl refl
-same-simple s counted.Percent = inl refl
-same-simple s counted.Permille = inl refl
-same-simple s (counted.Currency letters) = inl refl
-same-simple s (counted.Named name) = same-unit s.width name
-
-same-compact : (s : Skeleton) (is_long : Bool) (u : NumberUnit) → compact_set s is_long u ≡ compact_set (moved s) is_long (lent_unit (unit_data u))
-unfolding compact_set sets_digits
-same-compact s is_long counted.None = refl
-same-compact s is_long counted.Percent = refl
-same-compact s is_long counted.Permille = refl
-same-compact s is_long (counted.Currency letters) = refl
-same-compact s is_long (counted.Named name) = refl
+-- numbers with a unit, by the patterns that write it
+with_patterns : (s : Skeleton) (name : Bor (List ℕ)) (p : Option patterns.UnitWidth)
+    → SameKind (Ok (unit_by s (unit.Named name) p)) (Ok (unit_by s (unit.Named (lent name.now)) p))
+with_patterns s name None = inl refl
+with_patterns s name (Some w) = inr (name, w, s.notation, (refl, refl))
 
 -- what is written of numbers
-same-kind : (s : Skeleton) (n : Notation) → SameKind (kind_set s n) (kind_set (moved s) n)
-unfolding kind_set
-same-kind s Simple = same-simple s s.unit
-same-kind s CompactShort = inl (same-compact s false s.unit)
-same-kind s CompactLong = inl (same-compact s true s.unit)
+same-kind : (s : Skeleton) (u : NumberUnit) → SameKind (kind_set s u) (kind_set (moved s) (lent_unit (unit_data u)))
+unfolding kind_set unit_set percent_set permille_set share_set money_set
+same-kind s counted.None = inl refl
+same-kind s counted.Percent = inl refl
+same-kind s counted.Permille = inl refl
+same-kind s (counted.Currency letters) = inl refl
+same-kind s (counted.Named name) = with_patterns s name (patterns_set s.width)
 
 -- settings that have the same form by all tables
 abbrev pub SameForms : Result FormSettings Unsupported → Result FormSettings Unsupported → Type 0
@@ -93,8 +76,9 @@ SameForms (Err a) (Err b) = a ≡ b
 
 -- settings of a grouping, a system and a kind
 module _ {G : Type 0} (grouping : Result G Unsupported) (with_kind : G → Option (List ℕ) → Kind → FormSettings)
-    (elsewhere : (g : G) (o : Option (List ℕ)) (name : Bor (List ℕ)) (w : patterns.UnitWidth) (tables : List ℕ)
-    → form_asked (with_kind g o (WithUnit name w)) tables ≡ form_asked (with_kind g o (WithUnit (lent name.now) w)) tables) where
+    (elsewhere : (g : G) (o : Option (List ℕ)) (name : Bor (List ℕ)) (w : patterns.UnitWidth) (n : Notation) (tables : List ℕ)
+    → form_asked (with_kind g o (WithUnit (unit.Named name) w n)) tables
+    ≡ form_asked (with_kind g o (WithUnit (unit.Named (lent name.now)) w n)) tables) where
   abbrev with_all : Result G Unsupported → Result (Option (List ℕ)) Unsupported → Result Kind Unsupported → Result FormSettings Unsupported
   with_all grouping system kind = do
     g ← grouping
@@ -111,7 +95,7 @@ module _ {G : Type 0} (grouping : Result G Unsupported) (with_kind : G → Optio
       go : (l : Result Kind Unsupported) → SameForms (with_all (Ok g) (Ok o) l) (with_all (Ok g) (Ok o) l)
       go (Ok kind) = λ tables. refl
       go (Err x) = refl
-  same (Ok g) (Ok o) k l (inr (name, w, (e, f))) = rw (e, f) (elsewhere g o name w)
+  same (Ok g) (Ok o) k l (inr (name, w, n, (e, f))) = rw (e, f) (elsewhere g o name w n)
 
   same-all : (o : Result (Option (List ℕ)) Unsupported) (k l : Result Kind Unsupported)
       → SameKind k l → SameForms (with_all grouping o k) (with_all grouping o l)
@@ -119,7 +103,7 @@ module _ {G : Type 0} (grouping : Result G Unsupported) (with_kind : G → Optio
 
 -- the settings of a skeleton, wherever its names lie
 pub same-settings : (locale : List ℕ) (s : Skeleton) → SameForms (settings_of locale s) (settings_of locale (moved s))
-unfolding settings_of form_asked form_of unit_loaded
+unfolding settings_of form_asked form_of unit_by_notation
 same-settings locale s = rw (sym (same-system s.system), sym (same-precision s s.notation s.precision))
     (same-all (grouping_set s.grouping) (λ g o k. record {
       locale = locale;
@@ -132,4 +116,4 @@ same-settings locale s = rw (sym (same-system s.system), sym (same-precision s s
       scale = s.scale;
       sign = s.sign;
       kind = k;
-    }) (λ g o name w tables. refl) (system_set s.system) (kind_set s s.notation) (kind_set (moved s) s.notation) (same-kind s s.notation))
+    }) (λ g o name w n tables. refl) (system_set s.system) (kind_set s s.unit) (kind_set (moved s) (moved s).unit) (same-kind s s.unit))

@@ -86,14 +86,7 @@ unsupported_number unsupported.OnAligned = 1
 unsupported_number unsupported.Thousands = 2
 unsupported_number unsupported.System = 3
 unsupported_number unsupported.Permille = 4
-unsupported_number unsupported.PercentName = 5
-unsupported_number unsupported.Currency = 6
-unsupported_number unsupported.IsoCode = 7
-unsupported_number unsupported.HiddenSymbol = 8
-unsupported_number unsupported.CompactPercent = 9
-unsupported_number unsupported.CompactCurrency = 10
-unsupported_number unsupported.CompactDigits = 11
-unsupported_number unsupported.CompactUnit = 12
+unsupported_number unsupported.Currency = 5
 
 -- a skeleton asks for this, which no form has
 abbrev pub unsupported_fault : Unsupported → Fault

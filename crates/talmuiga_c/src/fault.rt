@@ -143,14 +143,7 @@ fn unsupported_number(thing: Unsupported) -> u32
         Unsupported::Thousands => 2,
         Unsupported::System => 3,
         Unsupported::Permille => 4,
-        Unsupported::PercentName => 5,
-        Unsupported::Currency => 6,
-        Unsupported::IsoCode => 7,
-        Unsupported::HiddenSymbol => 8,
-        Unsupported::CompactPercent => 9,
-        Unsupported::CompactCurrency => 10,
-        Unsupported::CompactDigits => 11,
-        Unsupported::CompactUnit => 12,
+        Unsupported::Currency => 5,
     }
 }
 
