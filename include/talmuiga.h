@@ -272,6 +272,24 @@ void talmuiga_formatter_close_sized(talmuiga_formatter *formatter);
 uint32_t talmuiga_tables_fault_sized(const uint8_t *tables, size_t tables_len, uint8_t *output, size_t output_len,
                                      size_t *length);
 
+/* What tables can be asked for. */
+enum {
+    TALMUIGA_LIST_LOCALES = 1,
+    TALMUIGA_LIST_SYSTEMS = 2, /* numbering systems */
+    TALMUIGA_LIST_CURRENCIES = 3,
+    TALMUIGA_LIST_UNITS = 4
+};
+
+/* Lists what tables hold of a kind, one of TALMUIGA_LIST_LOCALES and so on: each name once, with a line feed behind it, in the order in
+ * which the names stand first. Of entries the names alone are read: talmuiga_tables_fault_sized judges the rest.
+ *
+ * With TALMUIGA_DONE the first *length bytes of the output are the names. With TALMUIGA_OUTPUT_TOO_SMALL the output is as it was, and
+ * *length says how long they are. With TALMUIGA_WORDS_REFUSED the kind is none; with TALMUIGA_TABLES_REFUSED the tables aren't JSON in
+ * UTF-8. With these and with TALMUIGA_OUT_OF_MEMORY the output is as it was and *length is 0. No other status comes. The caller owes
+ * what it owes of talmuiga_format_english_sized. */
+uint32_t talmuiga_tables_list_sized(const uint8_t *tables, size_t tables_len, uint32_t kind, uint8_t *output, size_t output_len,
+                                    size_t *length);
+
 /* The number of the library's version, as TALMUIGA_VERSION_NUMBER. */
 uint32_t talmuiga_version(void);
 
@@ -337,6 +355,13 @@ static inline uint32_t talmuiga_tables_fault(const char *tables, size_t tables_l
                                              size_t *length) {
     return talmuiga_tables_fault_sized(talmuiga_bytes(tables), tables_len, talmuiga_room(output),
                                        talmuiga_room_len(output_len), length);
+}
+
+/* talmuiga_tables_list_sized in the same way. */
+static inline uint32_t talmuiga_tables_list(const char *tables, size_t tables_len, uint32_t kind, char *output, size_t output_len,
+                                            size_t *length) {
+    return talmuiga_tables_list_sized(talmuiga_bytes(tables), tables_len, kind, talmuiga_room(output),
+                                      talmuiga_room_len(output_len), length);
 }
 
 /* A formatter that isn't open, in room of malloc's behind its struct; null where malloc refused. */

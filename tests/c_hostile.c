@@ -184,6 +184,21 @@ static void judge_rooms(void) {
     free(bytes);
 }
 
+/* Null in place of texts of length 0. */
+static void judge_null(void) {
+    talmuiga_formatter *formatter;
+    size_t length = 99;
+    judge("null for a skeleton", 0, talmuiga_formatter_open_english_skeleton(NULL, 0, NULL, &formatter) == TALMUIGA_DONE);
+    judge("null for a number", 0, talmuiga_formatter_one(formatter, NULL, 0, NULL, 0, &length) == TALMUIGA_NOT_DECIMAL && length == 0);
+    talmuiga_formatter_close(formatter);
+    judge("null for tables", 0, talmuiga_tables_list(NULL, 0, TALMUIGA_LIST_UNITS, NULL, 0, &length) == TALMUIGA_TABLES_REFUSED);
+    judge("null for names", 0, talmuiga_tables_list("{\"units\":[{\"unit\":\"day\"}]}", 26, TALMUIGA_LIST_UNITS, NULL, 0, &length) ==
+                                       TALMUIGA_OUTPUT_TOO_SMALL && length == 4);
+    judge("null for a canonical text", 0, talmuiga_skeleton_canonical(NULL, 0, NULL, 0, &length, NULL) == TALMUIGA_DONE && length == 0);
+    judge("null for a locale", 0,
+          talmuiga_formatter_open_skeleton(tables, tables_len, NULL, NULL, 0, NULL, &formatter) == TALMUIGA_WORDS_REFUSED && !formatter);
+}
+
 static talmuiga_formatter *shared[KINDS];
 
 static void *in_a_thread(void *right) {
@@ -219,6 +234,7 @@ int main(int count, char **words) {
     judge_damaged();
     judge_versions();
     judge_rooms();
+    judge_null();
     judge_threads();
     return failed;
 }

@@ -40,6 +40,7 @@ build_after_ci() {
     done
     (cd crates/talmuiga_c && "$kit/bin/rattle" build --crate-name talmuiga_c src/lib.rt --crate-type staticlib \
         --extern "std=$kit/rlibs/std.rlib" --extern "memchr=$kit/rlibs/memchr.rlib" \
+        --extern "serde_json=$kit/rlibs/serde_json.rlib" \
         -L "dependency=$kit/rlibs" "${words[@]}" --antt-project "$kit/rattle/logic/antt-project.json" \
         --logic-built "$kit/logic_built" --toolchain "$kit/toolchain" --backend llvm -o "$archive")
 }

@@ -81,6 +81,20 @@ static void in_english() {
     judge("a fault in English", fault_of([] { formatter(skeleton{"percent foo"}); }) == "8 2 unknown stem");
 }
 
+/* What tables hold. */
+static void by_names(std::string_view tables) {
+    using talmuiga::listed;
+    using talmuiga::names_in;
+    using names = std::vector<std::string>;
+    judge("locales", names_in(tables, listed::locales) == names{"en", "de", "fr", "ja", "bn", "ar-EG"});
+    judge("currencies", names_in(tables, listed::currencies) == names{"EUR"});
+    judge("no units", names_in(tables, listed::units).empty());
+    judge("more names than have room at first", names_in(R"({"units":[{"unit":")" + std::string(5000, 'a') + R"("}]})", listed::units) ==
+                                                    names{std::string(5000, 'a')});
+    judge("names in no tables", refusal([] { names_in("{", listed::units); }) == TALMUIGA_TABLES_REFUSED);
+    judge("names of another kind", refusal([&] { names_in(tables, static_cast<listed>(9)); }) == TALMUIGA_WORDS_REFUSED);
+}
+
 /* Bad input: numbers that are none, skeletons of a megabyte, bytes that are no text, threads that open and close. */
 static void on_bad_input(std::string_view tables) {
     using talmuiga::formatter;
@@ -126,6 +140,7 @@ int main(int, char **words) {
     const std::string tables = whole(words[1]);
     by_skeletons(whole(words[2]));
     in_english();
+    by_names(whole(words[2]));
     on_bad_input(whole(words[2]));
     talmuiga::formatter english, moved;
     judge("English", english.one("1000007") == "1,000,007");

@@ -336,6 +336,18 @@ judge("Babel: another locale", NoData, lambda: BABEL.format_decimal(1, locale="t
 judge("Babel: another currency", NoData, lambda: BABEL.format_currency(1, "XTS", locale="en"))
 judge("Babel: no such unit", NoData, lambda: BABEL.format_unit(1, "length-parsec", locale="en"))
 judge("Babel: no number", (NotFormatted, 0, "x", "not a decimal"), lambda: BABEL.format_decimal("x", locale="en"))
+theirs: Any = importlib.import_module("babel.numbers") if importlib.util.find_spec("babel") else None
+if theirs is not None:
+    for locale in ("en", "de", "fr", "ja"):
+        NUMBERS = [Decimal(CHANCE.randrange(-10**9, 10**9)).scaleb(-CHANCE.randrange(0, 7)) for _ in range(100)]
+        for arguments in ({}, {"group_separator": False}, {"decimal_quantization": False}):
+            for name, words in (("format_decimal", []), ("format_percent", []), ("format_currency", ["EUR"])):
+                judge(f"{name} as Babel in {locale}, {arguments}",
+                      [getattr(theirs, name)(number, *words, locale=locale, **arguments) for number in NUMBERS],
+                      lambda: [getattr(BABEL, name)(number, *words, locale=locale, **arguments) for number in NUMBERS])
+        judge(f"accounting as Babel in {locale}",
+              [theirs.format_currency(number, "EUR", locale=locale, format_type="accounting") for number in NUMBERS],
+              lambda: [BABEL.format_currency(number, "EUR", locale=locale, format_type="accounting") for number in NUMBERS])
 os.environ.update(LC_ALL="de_DE.UTF-8")
 judge("Babel: the locale of the environment", "1,5", lambda: BABEL.format_decimal(1.5))
 os.environ.update(LC_ALL="C")
@@ -371,6 +383,22 @@ judge("command: no tables", (1, "", "talmuiga: /none: No such file or directory\
 judge("command: another locale", (1, "", "talmuiga: de: without tables the locale is en\n"), lambda: command("-l", "de", "1"))
 judge("command: another option", 2, lambda: command("--tall")[0])
 judge("command: no data", 1, lambda: command("-t", SIX_NAME, "-l", "xx", "1")[0])
+
+# What tables hold.
+judge("locales", ["en", "de", "fr", "ja", "bn", "ar-EG"], lambda: talmuiga.names_in(SIX, "locales"))
+judge("systems", {"latn", "beng", "arab"}, lambda: set(talmuiga.names_in(SIX, "systems")))
+judge("currencies", ["EUR"], lambda: talmuiga.names_in(SIX, "currencies"))
+judge("no units", [], lambda: talmuiga.names_in(SIX, "units"))
+judge("units", ["kilometer"], lambda: talmuiga.names_in(json.dumps(UNITS).encode(), "units"))
+judge("tables without lists", [], lambda: talmuiga.names_in(b"{}", "locales"))
+judge("names in no tables", (TablesRefused, "the tables are refused: not JSON"), lambda: talmuiga.names_in(b"{", "units"))
+ANYTHING: Any = "words"
+judge("names of another kind", ValueError, lambda: talmuiga.names_in(SIX, ANYTHING))
+MANY_NAMES = [f"x{number:07}" for number in range(1000)]
+judge("many names", MANY_NAMES, lambda: talmuiga.names_in(
+    json.dumps({"units": [{"unit": name} for name in MANY_NAMES + MANY_NAMES[::-1]]}).encode(), "units"))
+judge("command: names", (0, "EUR\n", ""), lambda: command("-t", SIX_NAME, "--list", "currencies"))
+judge("command: names without tables", 2, lambda: command("--list", "currencies")[0])
 
 # Bad input: long skeletons, skeletons and tables that threads open and close, tables of another version.
 MEGABYTE = 1 << 20

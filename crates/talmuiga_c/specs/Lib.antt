@@ -5,6 +5,7 @@ pub mod English
 pub mod Faults
 pub mod Handle
 pub mod Kept
+pub mod Listing
 pub mod Marked
 pub mod SkeletonFaults
 pub mod Skeletons

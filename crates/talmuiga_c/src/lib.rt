@@ -10,6 +10,7 @@ mod formatting;
 mod handle;
 mod judging;
 mod kept;
+mod listing;
 mod marked;
 mod output;
 mod skeletons;
@@ -23,6 +24,7 @@ ghost use Rattle.talmuiga_c.specs.English.{english_locale, english_tables};
 ghost use Rattle.talmuiga_c.specs.Faults.{IsJudged};
 ghost use Rattle.talmuiga_c.specs.Handle.{empty, holding};
 ghost use Rattle.talmuiga_c.specs.Kept.{IsWrittenSoFar, IsShown, Opens, OpensIn, version};
+ghost use Rattle.talmuiga_c.specs.Listing.{IsListed, listed_kind};
 ghost use Rattle.talmuiga_c.specs.Marked.{IsShownInParts};
 ghost use Rattle.std.specs.Prelude.{◌≡◌, Ok};
 ghost use Rattle.std.specs.Mem.{type_size};
@@ -38,6 +40,7 @@ use formatting::{format_asked, format_by};
 use handle::Formatter;
 use judging::judge_in_words;
 use kept::{Kept, Reached, format_lines_in, format_one_in, open_asked};
+use listing::list_tables;
 use marked::{Span, format_parts_in};
 use skeletons::{open_skeleton, put_canonical};
 use std::alloc::Global;
@@ -292,6 +295,23 @@ pub extern "C" fn talmuiga_tables_fault_sized(
     ensures { IsJudged tables.now output.old output.new length.new result }
 {
     judge_in_words(alloc, tables, output, length)
+}
+
+/// Writes what tables have of a kind, a name in each line and each once, if it fits, and sets the
+/// length.
+// promise: A kind and tables determine the names that are listed.
+// mutations: listed_twice
+#[unsafe(no_mangle)]
+pub extern "C" fn talmuiga_tables_list_sized(
+    alloc: Global,
+    tables: &[u8],
+    kind: u32,
+    output: &mut [u8],
+    length: &mut usize,
+) -> u32
+    ensures { IsListed (listed_kind kind) tables.now output.old output.new length.new result }
+{
+    list_tables(alloc, tables, kind, output, length)
 }
 
 /// The number of the version: the first part times 10000, the second times 100, the third.

@@ -16,13 +16,13 @@ from __future__ import annotations
 import operator
 import re
 from decimal import Decimal
-from typing import Any, Iterable, List, Optional, Sequence, SupportsFloat, SupportsIndex, Tuple, Union, cast
+from typing import Any, Iterable, List, Literal, Optional, Sequence, SupportsFloat, SupportsIndex, Tuple, Union, cast
 
 from . import _library
 from .options import skeleton_of
 
 __all__ = ["Formatter", "NoData", "NotFormatted", "Number", "Refused", "SkeletonRefused", "TablesRefused", "WordsRefused",
-           "canonical_skeleton", "skeleton_of", "tables_fault"]
+           "canonical_skeleton", "names_in", "skeleton_of", "tables_fault"]
 __version__ = "0.2.0"
 
 #: What is formatted: a whole number, a decimal, a text that spells one, or a float by its shortest text. Numbers of other types, as
@@ -42,6 +42,9 @@ PARTS = {1: "minusSign", 2: "plusSign", 3: "integer", 4: "fraction", 5: "group",
 #: The kinds of faults of skeletons, by their numbers in the library for C.
 KINDS = {1: "notUtf8", 2: "unknownStem", 3: "leftOut", 4: "repeated", 5: "tooManyDigits", 6: "noOptionHere", 7: "straySlash",
          8: "emptyOption", 9: "badOption", 10: "optionMissing", 11: "incrementOfCompact", 12: "unsupported"}
+
+#: What tables can be asked for, by the numbers in the library for C.
+LISTED = {"locales": 1, "systems": 2, "currencies": 3, "units": 4}
 
 #: The stems of groups by the words of `grouping`: always and auto write the same.
 GROUPINGS = {"auto": "group-auto", "always": "group-auto", "never": "group-off", "min2": "group-min2"}
@@ -132,6 +135,20 @@ def skeleton_refusal(fault: Tuple[int, int, str]) -> SkeletonRefused:
 def tables_fault(tables: bytes) -> Optional[str]:
     """Why tables are refused, in words for people; none where they are accepted."""
     return _library.fault(bytes(tables)) or None
+
+
+def names_in(tables: bytes, kind: Literal["locales", "systems", "currencies", "units"]) -> List[str]:
+    """The names of a kind that tables have, each once, in the order in which they stand first.
+
+    A `ValueError` where the kind is none, and `TablesRefused` where the tables aren't JSON in UTF-8.
+    """
+    if kind not in LISTED:
+        raise ValueError(f"kind is one of {', '.join(LISTED)}, not {kind!r}")
+    tables = bytes(tables)
+    lines = _library.list(tables, LISTED[kind])
+    if isinstance(lines, int):
+        raise refusal(lines, [], tables)
+    return lines.split("\n")[:-1]
 
 
 def refusal(status: int, words: List[str], tables: bytes = b"") -> Exception:

@@ -9,7 +9,7 @@ import argparse
 import sys
 from typing import Iterable, List, Optional
 
-from . import Formatter, NotFormatted, Refused, __version__, canonical_skeleton, tables_fault
+from . import LISTED, Formatter, NotFormatted, Refused, __version__, canonical_skeleton, names_in, tables_fault
 
 
 def fail(words: object) -> None:
@@ -53,6 +53,10 @@ def run(arguments: argparse.Namespace) -> int:
     """Does what the arguments ask for; the status."""
     if arguments.judge is not None:
         return judge(arguments.judge)
+    if arguments.list is not None:
+        with open(arguments.tables, "rb") as file:
+            print("".join(f"{name}\n" for name in names_in(file.read(), arguments.list)), end="")
+        return 0
     if arguments.canonical is not None:
         print(canonical_skeleton(arguments.canonical))
         return 0
@@ -69,9 +73,12 @@ def main(words: Optional[List[str]] = None) -> int:
     parser.add_argument("--parts", action="store_true", help="write the parts of each text, too")
     parser.add_argument("--canonical", metavar="SKELETON", help="write the canonical text of a skeleton, and end")
     parser.add_argument("--judge", metavar="FILE", help="say whether the tables of a file are accepted, and end")
+    parser.add_argument("--list", choices=tuple(LISTED), help="write the names of a kind that the tables have, and end")
     parser.add_argument("--version", action="version", version=f"talmuiga {__version__}")
     parser.add_argument("numbers", nargs="*", metavar="NUMBER", help="a decimal; behind -- it may begin with a minus")
     arguments = parser.parse_args(words)
+    if arguments.list is not None and arguments.tables is None:
+        parser.error("--list wants --tables")
     if arguments.tables is None and arguments.locale not in ("en", "en-US"):
         fail(f"{arguments.locale}: without tables the locale is en")
         return 1

@@ -486,6 +486,26 @@ static PyObject *fault(PyObject *Py_UNUSED(module), PyObject *words) {
     return answer;
 }
 
+/* What tables hold of a kind, a name in each line, or the status. */
+static PyObject *list(PyObject *Py_UNUSED(module), PyObject *words) {
+    char room[ROOM], *output = room;
+    const char *tables;
+    Py_ssize_t len;
+    size_t length;
+    unsigned kind;
+    if (!PyArg_ParseTuple(words, "y#I", &tables, &len, &kind)) return NULL;
+    uint32_t status = talmuiga_tables_list(tables, (size_t)len, kind, output, ROOM, &length);
+    if (status == TALMUIGA_OUTPUT_TOO_SMALL) {
+        output = (char *)PyMem_Malloc(length);
+        if (!output) return PyErr_NoMemory();
+        status = talmuiga_tables_list(tables, (size_t)len, kind, output, length, &length);
+    }
+    PyObject *answer =
+        status ? PyLong_FromUnsignedLong(status) : PyUnicode_DecodeUTF8(output, (Py_ssize_t)length, NULL);
+    if (output != room) PyMem_Free(output);
+    return answer;
+}
+
 /* The canonical text of a skeleton, or its fault. */
 static PyObject *canonical(PyObject *Py_UNUSED(module), PyObject *words) {
     char room[ROOM], *output = room;
@@ -515,6 +535,7 @@ static PyMethodDef methods[] = {
     {"open_english_skeleton", open_english_by_skeleton, METH_VARARGS,
      "A formatter in English by a skeleton, or a status or a fault."},
     {"fault", fault, METH_VARARGS, "Why tables are refused; an empty text where they aren't."},
+    {"list", list, METH_VARARGS, "What tables hold of a kind, a name in each line, or a status."},
     {"one", (PyCFunction)(void (*)(void))one, METH_FASTCALL, "What a number is formatted to, or a status."},
     {"parts", parts, METH_VARARGS, "What a text is formatted to and its parts, in characters, or a status."},
     {"many", many, METH_VARARGS, "A list of what the numbers of a list are formatted to, or of statuses."},

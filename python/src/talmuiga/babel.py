@@ -10,6 +10,8 @@ tables, and the library rounds, half to even. Without `use_tables` the tables ar
 TALMUIGA_TABLES names. A locale is spelled as `de_DE` or `de-DE`, or is an object of Babel; where the tables don't have it, that without
 its last part is taken. Without a locale it is that of the environment.
 
+Digits are the locale's, as `১২` in Bengali, where Babel 2.10 writes those of `latn`.
+
 What Babel takes and these functions don't: a pattern of one's own (`format`), which is a `ValueError`. A number that isn't one raises
 `NotFormatted`, a locale, currency or unit that the tables lack `NoData`, and tables that can't be read `OSError` or `TablesRefused`.
 """
