@@ -50,7 +50,20 @@ writes '1.5 million\n' --style long 1500000
 writes '1.65K\n999.99K\n' --style short --fraction 2 1650 999994
 writes '1.3 thousand\n' --style long --round half-up 1250
 writes '$1.5M\n-$1.2K\n$0.5\n' --currency USD --style short 1500000 -1234 0.5
-writes '\xe2\x82\xac12B\n' --style short --width short --fraction 2 --currency EUR 12345678901
+writes '\xe2\x82\xac12B\n' --style short --width short --currency EUR 12345678901
+writes '\xe2\x82\xac12.35B\n' --style short --width short --fraction 2 --currency EUR 12345678901
+writes '$1.3K\n' --style short --currency USD --round half-up 1250
+writes '$1.234M\n' --style long --currency USD --significant 4 1234000
+writes '1.2 million euros\n1 thousand euros\n' --style long --width name --currency EUR 1234567 999.5
+writes '($12)\n-$1.2K\n' --style short --currency USD --accounting -12 -1200
+writes '-EUR\xc2\xa012.50\n' --width code --currency EUR -12.5
+writes '12.50\n' --width hidden --currency EUR 12.5
+writes 'USD\xc2\xa01.2M\n' --width code --currency USD --style short 1234567
+writes '12K%\n' --style short --percent 123.45
+writes '1.2 million%\n' --style long --percent --fraction 1 12345.67
+writes '12 percent\n' --unit percent --width long 12
+writes '1.2M\xe2\x80\xb0\n' --unit permille --style short 1234567
+writes '1.23K percent\n' --skeleton 'K percent unit-width-full-name @@@' 1234
 writes '+$1T\n' --currency USD --style short --sign always 999999999999
 writes '$1234T\n' --currency USD --style short 1234000000000000
 writes '$1,234T\n' --currency USD --style short --grouping=auto 1234000000000000
@@ -196,8 +209,8 @@ rejects "locnum: en has no currency CHF; the tables have EUR, GBP, JPY, USD
 locnum: to make one: tools/cldr_to_tables.py core.zip en --currencies CHF -o en.json" --explain --currency CHF
 rejects 'locnum: --locale: not a locale' -l 'a b'
 rejects 'locnum: --accounting: not with --width name' --currency USD --width name --accounting
-rejects 'locnum: --width: short, narrow or name for money; long, short or narrow for units' --currency USD --width names
-rejects 'locnum: --width: short, narrow or name for money; long, short or narrow for units' --unit meter --width name
+rejects 'locnum: --width: short, narrow, code, hidden or name for money; long, short or narrow for units' --currency USD --width names
+rejects 'locnum: --width: short, narrow, code, hidden or name for money; long, short or narrow for units' --unit meter --width name
 rejects 'locnum: --accounting and --cash want --currency, and --width wants --currency or --unit' --width name
 rejects "locnum: $folder/none.json: No such file or directory" -t "$folder/none.json"
 # a folder of tables, by the option or by the variable: the file of the locale
@@ -224,12 +237,10 @@ writes '1.234,5\n' -l de 1234.5
 export TALMUIGA_TABLES=
 writes '1,234.5\n' 1234.5
 unset TALMUIGA_TABLES
-rejects 'locnum: --percent and --unit: not together, nor with --style or --currency' --percent --currency USD
-rejects 'locnum: --percent and --unit: not together, nor with --style or --currency' --unit meter --style plain
-rejects 'locnum: --style long: not with --currency' --currency USD --style long
-rejects 'locnum: --style short: not with --accounting, --cash or a --width but short' --currency USD --style short --accounting
-rejects 'locnum: --style short: not with --accounting, --cash or a --width but short' --currency USD --style short --cash
-rejects 'locnum: --style short: not with --accounting, --cash or a --width but short' --currency USD --style short --width name
+rejects 'locnum: --currency, --percent and --unit: not together' --percent --currency USD
+rejects 'locnum: --currency, --percent and --unit: not together' --unit meter --percent --style plain
+rejects 'locnum: --cash: not with --style short or long' --currency USD --style short --cash
+rejects 'locnum: --cash: not with --style short or long' --currency USD --style long --cash --width name
 rejects 'locnum: --style: neither plain, short nor long' --currency USD --style wide
 rejects 'locnum: --currency: not three capital letters' --currency usd
 rejects 'locnum: --field: neither a list of N, N-, N-M, -M or -, from 1 on, nor one of names' --field 0
@@ -249,8 +260,7 @@ rejects 'locnum: --fraction, --significant, --increment and --cash: not together
 rejects 'locnum: --fraction, --significant, --increment and --cash: not together' --currency USD --cash --fraction 2
 rejects 'locnum: --round: neither up, down, ceiling nor floor, with or without half-, nor half-even' --fraction 2 --round nearest
 rejects 'locnum: --increment: not with --style short or long, unless 1 is a multiple of it' --style long --increment 25
-rejects 'locnum: --style short of money: not with --round, --significant, --increment or --integer' --currency USD --style short --significant 2
-rejects 'locnum: --style short of money: not with --round, --significant, --increment or --integer' --currency USD --style short --round up
+rejects 'locnum: --increment: not with --style short or long, unless 1 is a multiple of it' --currency USD --style short --increment 5
 rejects 'locnum: --round wants --fraction, --significant, --increment or --currency' --round up
 rejects 'locnum: --round wants --fraction, --significant, --increment or --currency' --round up --integer 2
 rejects 'locnum: --integer: not a number of digits, from 1 to 999' --integer 0

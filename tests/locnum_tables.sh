@@ -82,7 +82,7 @@ rejects "locnum: no locale de without a file of tables (-t); the program has en-
 $make_one de -o de.json" -l de
 rejects "locnum: en has no currency CHF; the tables have EUR, GBP, JPY, USD
 $make_one en --currencies CHF -o en.json" --currency CHF
-rejects "locnum: en has no unit kilometer; the tables have none
+rejects "locnum: en has no unit kilometer; the tables have permille, percent
 $make_one en --units kilometer -o en.json" --unit kilometer
 rejects 'locnum: de has no unit km; the tables have kilometer, kilometer-per-hour, meter, kilogram, day, ..' -t de.json -l de --unit km
 rejects 'locnum: de has no width of this unit long; the tables have short' -t de.json -l de --unit day --width long
@@ -99,7 +99,7 @@ writes '1.234,5\n' -t de.json -l de --system latn 1234.5
 writes 'en\nen-US\n' --list locales
 writes 'latn\n' --list systems
 writes 'EUR\nGBP\nJPY\nUSD\n' --list currencies
-writes '' --list units
+writes 'percent\npermille\n' --list units
 writes 'de\npt\npt-BR\nzh-Hant-TW\n' --list locales -t de.json
 writes 'arab\nlatn\n' --list systems -t de.json
 writes 'latn\n' --list systems -t de.json -l de

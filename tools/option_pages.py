@@ -25,7 +25,7 @@ MANUAL = "docs/locnum.1"
 # The words among which the text of an option is one.
 WORDS = {
     "style": "plain short long",
-    "width": "short narrow name long",
+    "width": "short narrow code hidden name long",
     "round": "half-even half-up half-down half-ceiling half-floor up down ceiling floor",
     "grouping": "auto never always min2",
     "sign": "auto always never except-zero negative",

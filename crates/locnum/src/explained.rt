@@ -60,8 +60,21 @@ fn digits_of<'a>(matches: &ArgMatches<'a>, name: &'static str) -> Option<DigitsB
     Some(DigitsBy::Option { name, text })
 }
 
-/// The currency as what says how fine amounts are.
-fn digits_of_currency<'a>(matches: &ArgMatches<'a>) -> DigitsBy<'a> {
+/// Whether numbers are compact.
+fn is_compact(matches: &ArgMatches<'_>) -> bool {
+    match matches.get_str("style") {
+        Some("short") => true,
+        Some("long") => true,
+        Some(_) => false,
+        None => false,
+    }
+}
+
+/// The style or the currency as what says how fine numbers are.
+fn digits_of_kind<'a>(matches: &ArgMatches<'a>) -> DigitsBy<'a> {
+    if is_compact(matches) {
+        return DigitsBy::Compact;
+    }
     match matches.get_str("currency") {
         Some(code) if matches.get_flag("cash") => DigitsBy::Cash(code),
         Some(code) => DigitsBy::Currency(code),
@@ -76,7 +89,7 @@ fn digits_by<'a>(matches: &ArgMatches<'a>) -> DigitsBy<'a> {
             return digits;
         }
     }
-    digits_of_currency(matches)
+    digits_of_kind(matches)
 }
 
 /// How the explanations of an input are written where options say how fine numbers are.

@@ -108,7 +108,7 @@ pub(crate) const OPTIONS: [OptionEntry; 28] = [
         name: "width",
         letter: None,
         takes: Takes::Text("WIDTH"),
-        help: "short, narrow or name; of units long, too",
+        help: "short, narrow, code, hidden or name; of units long",
     },
     OptionEntry {
         heading: NUMBERS,

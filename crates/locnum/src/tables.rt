@@ -75,12 +75,11 @@ fn push_unit(unit: UnitName<'_>, out: &mut Vec<u8>) -> Result<(), AllocError> {
 fn push_kind(kind: &Kind<'_>, out: &mut Vec<u8>) -> Result<(), AllocError> {
     match kind {
         Kind::Plain | Kind::Short | Kind::Long => Ok(()),
-        Kind::Money { code, .. }
-        | Kind::MoneyNamed { code, .. }
-        | Kind::MoneyShort { code, .. } => {
-            out.extend_from_slice(b" --currencies ")?;
-            out.extend_from_slice(code.as_str().as_bytes())
-        }
+        Kind::Money { code, .. } | Kind::MoneyNamed { code, .. } | Kind::MoneyShort { code, .. } =>
+            {
+                out.extend_from_slice(b" --currencies ")?;
+                out.extend_from_slice(code.as_str().as_bytes())
+            }
         Kind::Percent => out.extend_from_slice(b" --percents"),
         Kind::Unit { unit, .. } => push_unit(*unit, out),
     }

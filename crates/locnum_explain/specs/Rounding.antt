@@ -11,7 +11,7 @@ use Rattle.fixed_decimal.specs.Text.{digits_text, fraction_text, sign_text}
 use Rattle.fixed_decimal.specs.Unsigned.{Unsigned, IsUnsigned, fraction, high, integer}
 use Rattle.decimal_lines.specs.declared.single_text.TextError.{TextError}
 use Rattle.locnum_explain.specs.declared.settings.DigitsBy.{DigitsBy}
-use Rattle.locnum_explain.specs.declared.settings.DigitsBy.TheVariants.{Option as ByOption, Currency, Cash, Given}
+use Rattle.locnum_explain.specs.declared.settings.DigitsBy.TheVariants.{Option as ByOption, Currency, Cash, Compact as ByStyle, Given}
 use Rattle.locnum_explain.specs.declared.settings.Settings.{Settings}
 
 -- a decimal in full
@@ -30,11 +30,12 @@ counted_digits n = decimal n ++ digits_word n
 unfoldable pub option_text : List ℕ → List ℕ → List ℕ
 option_text name text = codes "--" ++ name ++ codes " " ++ text
 
--- what says which digits are written: an option with its text, that many digits of a currency, or a currency in cash
+-- what says which digits are written: an option with its text, that many digits of a currency, a currency in cash, or the style
 abbrev pub digits_reason : DigitsBy → ℕ → List ℕ
 digits_reason (ByOption name text) n = option_text name.now text.now
 digits_reason (Currency code) n = counted_digits n ++ codes " of " ++ code.now
 digits_reason (Cash code) n = codes "cash of " ++ code.now
+digits_reason ByStyle n = codes "no fraction digit, or two significant digits"
 digits_reason Given n = counted_digits n
 
 -- the option for the mode of rounding, if it is given

@@ -110,6 +110,9 @@ fn push_digits_reason(
             out.extend_from_slice(b"cash of ")?;
             out.extend_from_slice(code.as_bytes())
         }
+        DigitsBy::Compact => {
+            out.extend_from_slice(b"no fraction digit, or two significant digits")
+        }
         DigitsBy::Given => push_counted(count, out),
     }
 }

@@ -14,6 +14,8 @@ pub enum DigitsBy<'a> {
     Currency(&'a str),
     /// A currency in cash, by its code.
     Cash(&'a str),
+    /// The style: compact numbers have no fraction digit, or two significant digits.
+    Compact,
     /// Nothing: the digits are as they are given.
     Given,
 }

@@ -1,7 +1,7 @@
 //! What is written of numbers: a style, money, percents or a unit.
 
 ghost use Rattle.std.specs.Prelude.{◌≡◌, option_map};
-ghost use Rattle.locnum_options.specs.Kinds.{currency_given, currency_named, is_alone, is_name, is_together, kind_given, money_given, money_width};
+ghost use Rattle.locnum_options.specs.Kinds.{compact_with, currency_given, currency_named, is_alone, is_name, is_together, kind_given, money_given, money_width};
 ghost use Rattle.locnum_options.specs.Kinds.{money_with, named_given, notation_given, numbers_with, percents_with, sign_of, unit_given, unit_width};
 
 use crate::fault::OptionFault;
@@ -106,7 +106,22 @@ fn sign_of(accounting: bool) -> CurrencySign
     }
 }
 
-/// Amounts of money with a symbol, in full or compact. Compact amounts have no digits of cash.
+/// Compact amounts of money with a symbol, which have no digits of cash.
+fn compact_with<'a>(
+    code: CurrencyCode,
+    width: Width,
+    sign: CurrencySign,
+    is_cash: bool,
+) -> Result<Kind<'a>, OptionFault>
+    ensures { result ≡ compact_with code width sign is_cash }
+{
+    if is_cash {
+        return Err(OptionFault::CompactCash);
+    }
+    Ok(Kind::MoneyShort { code, width, sign })
+}
+
+/// Amounts of money with a symbol, in full or compact.
 #[tactic(auto, unfolding(crate::specs::Kinds::money_with))]
 fn money_with<'a>(
     code: CurrencyCode,
@@ -117,17 +132,15 @@ fn money_with<'a>(
     ensures { result ≡ money_with notation code width given.now }
 {
     let sign = sign_of(given.flag("accounting"));
-    let is_cash = given.flag("cash");
     match notation {
         Notation::Simple => Ok(Kind::Money {
             code,
             width,
             sign,
-            is_cash,
+            is_cash: given.flag("cash"),
         }),
-        Notation::CompactShort | Notation::CompactLong if is_cash => Err(OptionFault::CompactCash),
         Notation::CompactShort | Notation::CompactLong => {
-            Ok(Kind::MoneyShort { code, width, sign })
+            compact_with(code, width, sign, given.flag("cash"))
         }
     }
 }

@@ -36,7 +36,7 @@ pub enum UnitName<'a> {
 impl<'a> UnitName<'a> {
     /// The name of the unit in the tables.
     pub fn text(self) -> &'a str
-        ensures { result.now ≡ unit_text self }
+        ensures { result.now ≡ unit_text self.entry }
     {
         match self {
             UnitName::Percent => "percent",

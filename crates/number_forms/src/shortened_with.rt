@@ -4,7 +4,8 @@ ghost use Rattle.std.specs.Prelude.{◌≡◌, Ok};
 ghost use Rattle.decimal_lines.specs.SingleText.{WroteEvents};
 ghost use Rattle.icu_decimal.specs.CompactFormat.{exponent_needed};
 ghost use Rattle.icu_dimension.specs.CompactMoney.{formatter_of};
-ghost use Rattle.number_forms.specs.ShortenedWith.{money_given, money_shortened, names_given, names_shortened, units_given, units_shortened};
+ghost use Rattle.number_forms.specs.ShortenedWith.{money_given, money_shortened, names_given, names_shortened, operands_shown, units_given};
+ghost use Rattle.number_forms.specs.ShortenedWith.{units_shortened};
 
 use crate::shortened::shortened;
 use decimal_lines::TextError;
@@ -14,9 +15,45 @@ use icu_dimension::{CompactCurrencyFormatter, LongCurrencyFormatter, UnitsFormat
 use icu_plurals::PluralOperands;
 use number_rounding::{Rounding, ShownNumber};
 use std::alloc::Global;
-use writeable::EventWriter;
+use writeable::{EventWriter, WriteFault};
+
+/// The plural operands of what is shown, with its exponent.
+fn operands_shown(shown: &ShownNumber) -> PluralOperands
+    ensures { result ≡ operands_shown (record {
+      significand = shown.now.significand.absolute;
+      exponent = shown.now.exponent;
+    }) }
+{
+    PluralOperands::from_significand_and_exponent(&shown.significand.absolute, shown.exponent)
+}
 
 /// Writes a number that is shown with its unit.
+fn write_units_of<K: EventWriter>(
+    units: &UnitsFormatter<CompactDecimalFormatter>,
+    sign: Sign,
+    shown: &ShownNumber,
+    out: &mut K,
+) -> Result<(), WriteFault>
+    requires { shown.now.exponent ≡ exponent_needed units.now.formatter
+        shown.now.significand.absolute shown.now.exponent }
+    ensures { K.wrote out.old result (units_given units.now sign (record {
+      significand = shown.now.significand.absolute;
+      exponent = shown.now.exponent;
+    })) out.new }
+{
+    let significand = &shown.significand;
+    let operands = operands_shown(shown);
+    let Ok(formatted) = units
+        .formatter()
+        .format_with_exponent(significand, shown.exponent)
+    else {
+        unreachable!();
+    };
+    units.write_given(sign, operands, formatted.value(), out)
+}
+
+/// Writes a number that is shown with its unit; a writer that fails counts as out of
+/// memory.
 fn write_units_given<K: EventWriter>(
     units: &UnitsFormatter<CompactDecimalFormatter>,
     sign: Sign,
@@ -30,24 +67,39 @@ fn write_units_given<K: EventWriter>(
       exponent = shown.now.exponent;
     }))) out.new }
 {
-    let significand = &shown.significand;
-    let operands = PluralOperands::from_significand_and_exponent(
-        &significand.absolute,
-        shown.exponent,
-    );
-    let Ok(formatted) = units
-        .formatter()
-        .format_with_exponent(significand, shown.exponent)
-    else {
-        unreachable!();
-    };
-    match units.write_given(sign, operands, formatted.value(), out) {
+    match write_units_of(units, sign, shown, out) {
         Ok(()) => Ok(()),
         Err(_) => Err(TextError::OutOfMemory),
     }
 }
 
 /// Writes a number that is shown with the name of its currency.
+fn write_names_of<K: EventWriter>(
+    names: &LongCurrencyFormatter<CompactDecimalFormatter>,
+    sign: Sign,
+    shown: &ShownNumber,
+    out: &mut K,
+) -> Result<(), WriteFault>
+    requires { shown.now.exponent ≡ exponent_needed names.now.formatter
+        shown.now.significand.absolute shown.now.exponent }
+    ensures { K.wrote out.old result (names_given names.now sign (record {
+      significand = shown.now.significand.absolute;
+      exponent = shown.now.exponent;
+    })) out.new }
+{
+    let significand = &shown.significand;
+    let operands = operands_shown(shown);
+    let Ok(formatted) = names
+        .formatter()
+        .format_with_exponent(significand, shown.exponent)
+    else {
+        unreachable!();
+    };
+    names.write_given(sign, operands, formatted.value(), out)
+}
+
+/// Writes a number that is shown with the name of its currency; a writer that fails counts as out of
+/// memory.
 fn write_names_given<K: EventWriter>(
     names: &LongCurrencyFormatter<CompactDecimalFormatter>,
     sign: Sign,
@@ -61,18 +113,7 @@ fn write_names_given<K: EventWriter>(
       exponent = shown.now.exponent;
     }))) out.new }
 {
-    let significand = &shown.significand;
-    let operands = PluralOperands::from_significand_and_exponent(
-        &significand.absolute,
-        shown.exponent,
-    );
-    let Ok(formatted) = names
-        .formatter()
-        .format_with_exponent(significand, shown.exponent)
-    else {
-        unreachable!();
-    };
-    match names.write_given(sign, operands, formatted.value(), out) {
+    match write_names_of(names, sign, shown, out) {
         Ok(()) => Ok(()),
         Err(_) => Err(TextError::OutOfMemory),
     }

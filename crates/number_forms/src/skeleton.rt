@@ -178,7 +178,7 @@ fn numbers_set<'a>(notation: Notation) -> Kind<'a>
 /// Numbers with a unit.
 #[tactic(auto, unfolding(crate::specs::Skeleton::unit_set))]
 fn unit_set<'a>(skeleton: &Skeleton<'a>, unit: UnitName<'a>) -> Kind<'a>
-    ensures { result ≡ unit_set skeleton.now unit }
+    ensures { result ≡ unit_set skeleton.now unit.entry }
 {
     let notation = skeleton.notation;
     match patterns_set(skeleton.width) {
@@ -201,7 +201,7 @@ fn is_full_name(width: skeleton_settings::UnitWidth) -> bool
 /// Percents or permilles as a unit, which is never hidden.
 #[tactic(auto, unfolding(crate::specs::Skeleton::share_set))]
 fn share_set<'a>(skeleton: &Skeleton<'a>, unit: UnitName<'a>) -> Kind<'a>
-    ensures { result ≡ share_set skeleton.now unit }
+    ensures { result ≡ share_set skeleton.now unit.entry }
 {
     Kind::Unit {
         unit,

@@ -59,11 +59,24 @@ impl<'a> Explained<'a> {
     }
 }
 
+/// Whether the style is a compact one.
+fn is_compact(style: Option<&str>) -> bool {
+    match style {
+        Some("short") => true,
+        Some("long") => true,
+        Some(_) => false,
+        None => false,
+    }
+}
+
 /// The options that say how fine numbers are.
 const PRECISIONS: [&str; 4] = ["fraction", "significant", "increment", "skeleton"];
 
-/// The currency as what says how fine amounts are.
-fn digits_of_currency<'a>(given: &Given<'a>) -> DigitsBy<'a> {
+/// The style or the currency as what says how fine numbers are.
+fn digits_of_kind<'a>(given: &Given<'a>) -> DigitsBy<'a> {
+    if is_compact(given.text("style")) {
+        return DigitsBy::Compact;
+    }
     match given.text("currency") {
         Some(code) if given.flag("cash") => DigitsBy::Cash(code),
         Some(code) => DigitsBy::Currency(code),
@@ -78,7 +91,7 @@ fn digits_by<'a>(given: &Given<'a>) -> DigitsBy<'a> {
             return DigitsBy::Option { name, text };
         }
     }
-    digits_of_currency(given)
+    digits_of_kind(given)
 }
 
 /// Appends what is told, and says whether a text is rejected.
