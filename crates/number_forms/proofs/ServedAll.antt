@@ -1,5 +1,5 @@
 -- All tables for the locale that is wanted make the same form as those of the whole text.
-use Rattle.std.proofs.Common.{◌≡◌, ℕ, Bool, true, false, List, None, Ok, Option, Result, refl, sym, ap, ◌∙◌}
+use Rattle.std.proofs.Common.{◌≡◌, ℕ, Bool, List, None, Ok, Option, Result, refl, sym, ap, ◌∙◌}
 use Rattle.icu_decimal_data.specs.CompactTable.{TableEntry}
 use Rattle.icu_decimal.specs.Loaded.{Provider, and_then, loaded, loaded_compact, preferably}
 use Rattle.icu_decimal_options.specs.Preferences.{locale_id}
@@ -28,8 +28,8 @@ use Rattle.number_rounding.specs.declared.rounding.Rounding.{Rounding}
 use Rattle.number_forms.specs.Forms.{FormData}
 use Rattle.number_forms.specs.Loaded.{amounts_loaded, amounts_rounding, compact_money_loaded, compact_names_loaded, compact_preferences}
 use Rattle.number_forms.specs.Loaded.{compact_unit_loaded, currency_loaded, currency_rounding, form_with, long_names_loaded, money_by, money_loaded}
-use Rattle.number_forms.specs.Loaded.{money_short_loaded, named_by_notation, named_loaded, named_short_loaded, names_loaded, percent_loaded}
-use Rattle.number_forms.specs.Loaded.{preferences, short_names_loaded, symbols_for_money, system_digits, unit_by_notation, unit_loaded}
+use Rattle.number_forms.specs.Loaded.{money_short_loaded, named_by_notation, named_loaded, named_long_loaded, named_short_loaded, names_loaded}
+use Rattle.number_forms.specs.Loaded.{percent_loaded, preferences, short_names_loaded, symbols_for_money, system_digits, unit_by_notation, unit_loaded}
 use Rattle.number_forms.specs.Loaded.{unit_long_loaded, unit_patterns, unit_short_loaded}
 use Rattle.number_forms.specs.Making.{read_then, started, with_all}
 use Rattle.number_forms.specs.Settings.{FormSettings}
@@ -162,11 +162,15 @@ module _ (settings : FormSettings) (kept all : AllData) (answers : AllAnswersAs 
   long_names-same code = compact_names-same code kept.numbers.long all.numbers.long answers.numbers.long
 
   -- compact amounts with the name of a currency
-  named_short-same : (code : List ℕ) (is_long : Bool)
-      → named_short_loaded settings code is_long kept.numbers kept.dimension ≡ named_short_loaded settings code is_long all.numbers all.dimension
+  named_short-same : (code : List ℕ)
+      → named_short_loaded settings code kept.numbers kept.dimension ≡ named_short_loaded settings code all.numbers all.dimension
   unfolding named_short_loaded
-  named_short-same code true = rw (currency_rounding-same code, long_names-same code) refl
-  named_short-same code false = rw (currency_rounding-same code, short_names-same code) refl
+  named_short-same code = rw (currency_rounding-same code, short_names-same code) refl
+
+  named_long-same : (code : List ℕ)
+      → named_long_loaded settings code kept.numbers kept.dimension ≡ named_long_loaded settings code all.numbers all.dimension
+  unfolding named_long_loaded
+  named_long-same code = rw (currency_rounding-same code, long_names-same code) refl
 
   -- amounts with the name of a currency
   pub named_by-same : (notation : Notation) (code : List ℕ) (is_cash : Bool)
@@ -174,8 +178,8 @@ module _ (settings : FormSettings) (kept all : AllData) (answers : AllAnswersAs 
       ≡ named_by_notation notation settings code is_cash all.numbers all.dimension
   unfolding named_by_notation
   named_by-same Simple code is_cash = named-same code is_cash
-  named_by-same CompactShort code is_cash = named_short-same code false
-  named_by-same CompactLong code is_cash = named_short-same code true
+  named_by-same CompactShort code is_cash = named_short-same code
+  named_by-same CompactLong code is_cash = named_long-same code
 
   -- percents
   pub percent-same : percent_loaded settings kept.numbers kept.dimension ≡ percent_loaded settings all.numbers all.dimension

@@ -229,18 +229,23 @@ short_names_loaded settings code tables dimension = compact_names_loaded setting
 unfoldable pub long_names_loaded : FormSettings → List ℕ → TablesData → DimensionData → Result (PluralFormat CompactFormat NameText) Refusal
 long_names_loaded settings code tables dimension = compact_names_loaded settings code tables.long tables dimension
 
--- compact amounts with the name of a currency
-unfoldable pub named_short_loaded : FormSettings → List ℕ → Bool → TablesData → DimensionData → Result FormData Refusal
-named_short_loaded settings code is_long tables dimension =
+-- amounts with the name of a currency, shortened by the short patterns
+unfoldable pub named_short_loaded : FormSettings → List ℕ → TablesData → DimensionData → Result FormData Refusal
+named_short_loaded settings code tables dimension =
     and_then (currency_rounding settings code dimension) (λ rounding.
-    and_then (if is_long then long_names_loaded settings code tables dimension else short_names_loaded settings code tables dimension) (λ f.
-    Ok (form_with settings None (ShortNamed f rounding))))
+    and_then (short_names_loaded settings code tables dimension) (λ f. Ok (form_with settings None (ShortNamed f rounding))))
+
+-- by the long ones
+unfoldable pub named_long_loaded : FormSettings → List ℕ → TablesData → DimensionData → Result FormData Refusal
+named_long_loaded settings code tables dimension =
+    and_then (currency_rounding settings code dimension) (λ rounding.
+    and_then (long_names_loaded settings code tables dimension) (λ f. Ok (form_with settings None (ShortNamed f rounding))))
 
 -- amounts with the name of a currency, by the notation of numbers
 unfoldable pub named_by_notation : Notation → FormSettings → List ℕ → Bool → TablesData → DimensionData → Result FormData Refusal
 named_by_notation Simple settings code is_cash tables dimension = named_loaded settings code is_cash tables dimension
-named_by_notation CompactShort settings code is_cash tables dimension = named_short_loaded settings code false tables dimension
-named_by_notation CompactLong settings code is_cash tables dimension = named_short_loaded settings code true tables dimension
+named_by_notation CompactShort settings code is_cash tables dimension = named_short_loaded settings code tables dimension
+named_by_notation CompactLong settings code is_cash tables dimension = named_long_loaded settings code tables dimension
 
 -- percents
 unfoldable pub percent_loaded : FormSettings → TablesData → DimensionData → Result FormData Refusal

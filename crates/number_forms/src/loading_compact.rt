@@ -4,7 +4,7 @@ ghost use Rattle.std.specs.Prelude.{◌≡◌, false};
 ghost use Rattle.icu_provider.specs.Answer.{Answers};
 ghost use Rattle.number_forms.specs.Loaded.{amounts_rounding, compact_money_loaded, compact_money_options, compact_units_loaded};
 ghost use Rattle.number_forms.specs.Loaded.{currency_rounding, long_names_loaded, money_by, money_short_loaded, named_by_notation};
-ghost use Rattle.number_forms.specs.Loaded.{named_short_loaded, short_names_loaded, unit_by_notation, unit_long_loaded, unit_short_loaded};
+ghost use Rattle.number_forms.specs.Loaded.{named_long_loaded, named_short_loaded, short_names_loaded, unit_by_notation, unit_long_loaded, unit_short_loaded};
 
 use crate::form::{Form, Formatter};
 use crate::loading::{load_named, load_unit, money_precision, preferences, rounding_to};
@@ -155,25 +155,40 @@ fn load_long_names(
     LongCurrencyFormatter::try_new_long_unstable::<AllTables>(alloc, all, prefs, code, options)
 }
 
-/// Compact amounts with the name of a currency.
+/// Amounts with the name of a currency, shortened by the short patterns.
 #[tactic(auto, unfolding(crate::specs::Loaded::named_short_loaded))]
 fn load_named_short(
     alloc: Global,
     all: &AllTables,
     settings: &Settings<'_>,
     code: CurrencyCode,
-    is_long: bool,
 ) -> Result<Form, DataError>
     ensures { Answers result
-        (named_short_loaded settings.now code is_long all.now.numbers all.now.dimension) }
+        (named_short_loaded settings.now code all.now.numbers all.now.dimension) }
 {
     let rounding = currency_rounding(alloc, all, settings, code)?;
-    let loaded = if is_long {
-        load_long_names(alloc, all, settings, code)
-    } else {
-        load_short_names(alloc, all, settings, code)
-    };
-    let formatter = loaded?;
+    let formatter = load_short_names(alloc, all, settings, code)?;
+    Ok(Form {
+        scale: settings.scale,
+        rounding: None,
+        sign: settings.sign,
+        formatter: Formatter::ShortNamed(formatter, rounding),
+    })
+}
+
+/// Amounts with the name of a currency, shortened by the long patterns.
+#[tactic(auto, unfolding(crate::specs::Loaded::named_long_loaded))]
+fn load_named_long(
+    alloc: Global,
+    all: &AllTables,
+    settings: &Settings<'_>,
+    code: CurrencyCode,
+) -> Result<Form, DataError>
+    ensures { Answers result
+        (named_long_loaded settings.now code all.now.numbers all.now.dimension) }
+{
+    let rounding = currency_rounding(alloc, all, settings, code)?;
+    let formatter = load_long_names(alloc, all, settings, code)?;
     Ok(Form {
         scale: settings.scale,
         rounding: None,
@@ -197,8 +212,8 @@ pub(crate) fn load_named_by(
 {
     match notation {
         Notation::Simple => load_named(alloc, all, settings, code, is_cash),
-        Notation::CompactShort => load_named_short(alloc, all, settings, code, false),
-        Notation::CompactLong => load_named_short(alloc, all, settings, code, true),
+        Notation::CompactShort => load_named_short(alloc, all, settings, code),
+        Notation::CompactLong => load_named_long(alloc, all, settings, code),
     }
 }
 
