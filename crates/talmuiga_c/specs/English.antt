@@ -1,6 +1,6 @@
 -- What the library knows of English without a file of tables.
 use Rattle.std.specs.Prelude.{ℕ, List, codes}
-use Rattle.talmuiga_c.specs.declared.TheConstants.{ENGLISH}
+use Rattle.talmuiga_c.specs.declared.english.TheConstants.{ENGLISH}
 
 -- the tables in the library, the text of tables/english.json
 abbrev pub english_tables : List ℕ
