@@ -207,6 +207,12 @@ uint32_t talmuiga_formatter_open_skeleton_sized(const uint8_t *tables, size_t ta
                                                 size_t locale_len, const uint8_t *skeleton, size_t skeleton_len,
                                                 talmuiga_fault *fault, talmuiga_formatter *formatter);
 
+/* Opens a formatter in English by a number skeleton, without tables. English knows numbers in full and in compact form, percents,
+ * and dollars, euros, pounds and yen; of what else a skeleton asks for the status is TALMUIGA_NO_DATA. The statuses
+ * TALMUIGA_WORDS_REFUSED and TALMUIGA_TABLES_REFUSED don't come; the rest is as of talmuiga_formatter_open_skeleton_sized. */
+uint32_t talmuiga_formatter_open_english_skeleton_sized(const uint8_t *skeleton, size_t skeleton_len, talmuiga_fault *fault,
+                                                        talmuiga_formatter *formatter);
+
 /* Writes the canonical text of a number skeleton: long stems in one order, without what is set by default. Two skeletons have
  * the same settings exactly if they have the same canonical text.
  *
@@ -265,6 +271,24 @@ void talmuiga_formatter_close_sized(talmuiga_formatter *formatter);
  * talmuiga_format_english_sized. */
 uint32_t talmuiga_tables_fault_sized(const uint8_t *tables, size_t tables_len, uint8_t *output, size_t output_len,
                                      size_t *length);
+
+/* What tables can be asked for. */
+enum {
+    TALMUIGA_LIST_LOCALES = 1,
+    TALMUIGA_LIST_SYSTEMS = 2, /* numbering systems */
+    TALMUIGA_LIST_CURRENCIES = 3,
+    TALMUIGA_LIST_UNITS = 4
+};
+
+/* Lists what tables hold of a kind, one of TALMUIGA_LIST_LOCALES and so on: each name once, with a line feed behind it, in the order in
+ * which the names stand first. Of entries the names alone are read: talmuiga_tables_fault_sized judges the rest.
+ *
+ * With TALMUIGA_DONE the first *length bytes of the output are the names. With TALMUIGA_OUTPUT_TOO_SMALL the output is as it was, and
+ * *length says how long they are. With TALMUIGA_WORDS_REFUSED the kind is none; with TALMUIGA_TABLES_REFUSED the tables aren't JSON in
+ * UTF-8. With these and with TALMUIGA_OUT_OF_MEMORY the output is as it was and *length is 0. No other status comes. The caller owes
+ * what it owes of talmuiga_format_english_sized. */
+uint32_t talmuiga_tables_list_sized(const uint8_t *tables, size_t tables_len, uint32_t kind, uint8_t *output, size_t output_len,
+                                    size_t *length);
 
 /* The number of the library's version, as TALMUIGA_VERSION_NUMBER. */
 uint32_t talmuiga_version(void);
@@ -333,6 +357,13 @@ static inline uint32_t talmuiga_tables_fault(const char *tables, size_t tables_l
                                        talmuiga_room_len(output_len), length);
 }
 
+/* talmuiga_tables_list_sized in the same way. */
+static inline uint32_t talmuiga_tables_list(const char *tables, size_t tables_len, uint32_t kind, char *output, size_t output_len,
+                                            size_t *length) {
+    return talmuiga_tables_list_sized(talmuiga_bytes(tables), tables_len, kind, talmuiga_room(output),
+                                      talmuiga_room_len(output_len), length);
+}
+
 /* A formatter that isn't open, in room of malloc's behind its struct; null where malloc refused. */
 static inline talmuiga_formatter *talmuiga_formatter_new(void) {
     talmuiga_formatter *formatter = (talmuiga_formatter *)malloc(16 + talmuiga_formatter_room());
@@ -397,6 +428,21 @@ static inline uint32_t talmuiga_formatter_open_skeleton(const char *tables, size
     return talmuiga_formatter_opened(made, status, formatter);
 }
 
+/* The same in English without tables, as talmuiga_formatter_open_english_skeleton_sized. */
+static inline uint32_t talmuiga_formatter_open_english_skeleton(const char *skeleton, size_t skeleton_len,
+                                                                talmuiga_fault *fault, talmuiga_formatter **formatter) {
+    talmuiga_formatter *made = talmuiga_formatter_new();
+    talmuiga_fault found = {0, 0, 0};
+    uint32_t status = TALMUIGA_OUT_OF_MEMORY;
+    if (made) {
+        status = talmuiga_formatter_open_english_skeleton_sized(talmuiga_bytes(skeleton), skeleton_len, &found, made);
+    }
+    if (fault) {
+        *fault = found;
+    }
+    return talmuiga_formatter_opened(made, status, formatter);
+}
+
 /* talmuiga_formatter_format_sized, where a pointer with length 0 may be null, and the output may be longer than
  * PTRDIFF_MAX. Any number of threads may format with one formatter at once. */
 static inline uint32_t talmuiga_formatter_format(const talmuiga_formatter *formatter, const char *input,
@@ -428,8 +474,8 @@ static inline uint32_t talmuiga_formatter_parts(const talmuiga_formatter *format
                                           spans_len < most ? spans_len : most, count);
 }
 
-/* Closes and frees a formatter that was made by talmuiga_formatter_open, talmuiga_formatter_open_skeleton or
- * talmuiga_formatter_open_english; null is closed already. */
+/* Closes and frees a formatter that was made by talmuiga_formatter_open, talmuiga_formatter_open_skeleton,
+ * talmuiga_formatter_open_english or talmuiga_formatter_open_english_skeleton; null is closed already. */
 static inline void talmuiga_formatter_close(talmuiga_formatter *formatter) {
     if (formatter) {
         talmuiga_formatter_close_sized(formatter);

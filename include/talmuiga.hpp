@@ -76,6 +76,34 @@ inline std::string tables_fault(std::string_view tables) {
     }
 }
 
+/* What tables can be asked for. */
+enum class listed : std::uint32_t {
+    locales = TALMUIGA_LIST_LOCALES,
+    systems = TALMUIGA_LIST_SYSTEMS,
+    currencies = TALMUIGA_LIST_CURRENCIES,
+    units = TALMUIGA_LIST_UNITS
+};
+
+/* The names of a kind that tables have, each once. */
+inline std::vector<std::string> names_in(std::string_view tables, listed kind) {
+    std::string lines(1024, '\0');
+    for (;;) {
+        const std::size_t room = lines.size();
+        std::size_t length;
+        std::uint32_t status =
+            talmuiga_tables_list(tables.data(), tables.size(), static_cast<std::uint32_t>(kind), lines.data(), room, &length);
+        lines.resize(length);
+        if (status == TALMUIGA_OUT_OF_MEMORY) throw std::bad_alloc();
+        if (status != TALMUIGA_DONE && status != TALMUIGA_OUTPUT_TOO_SMALL) throw refused(status);
+        if (length <= room) break;
+    }
+    std::vector<std::string> names;
+    for (std::size_t begin = 0, end; (end = lines.find('\n', begin)) != std::string::npos; begin = end + 1) {
+        names.push_back(lines.substr(begin, end - begin));
+    }
+    return names;
+}
+
 /* The text of a number, and where its parts stand in it, as talmuiga_formatter_parts tells them. */
 struct marked_text {
     std::string text;
@@ -89,6 +117,17 @@ public:
     formatter() {
         talmuiga_formatter *made;
         judge(talmuiga_formatter_open_english(&made));
+        held_.reset(made);
+    }
+
+    /* In English by a number skeleton, without tables. */
+    explicit formatter(skeleton asked) {
+        talmuiga_formatter *made;
+        talmuiga_fault fault;
+        std::uint32_t status =
+            talmuiga_formatter_open_english_skeleton(asked.text.data(), asked.text.size(), &fault, &made);
+        if (status == TALMUIGA_SKELETON_REFUSED) throw skeleton_refused(fault);
+        judge(status);
         held_.reset(made);
     }
 

@@ -40,6 +40,7 @@ build_after_ci() {
     done
     (cd crates/talmuiga_c && "$kit/bin/rattle" build --crate-name talmuiga_c src/lib.rt --crate-type staticlib \
         --extern "std=$kit/rlibs/std.rlib" --extern "memchr=$kit/rlibs/memchr.rlib" \
+        --extern "serde_json=$kit/rlibs/serde_json.rlib" \
         -L "dependency=$kit/rlibs" "${words[@]}" --antt-project "$kit/rattle/logic/antt-project.json" \
         --logic-built "$kit/logic_built" --toolchain "$kit/toolchain" --backend llvm -o "$archive")
 }
@@ -262,6 +263,18 @@ kept() {
         "$folder/kept_sanitized" "$sample" "$@" "$folder/few" "$folder/few.wanted"
 }
 
+# by_skeletons: twenty thousand numbers by each skeleton of tests/skeletons.txt, in one run of the library, are as locnum writes them.
+by_skeletons() {
+    local line
+    grep -E '^-?[0-9]*\.?[0-9]+$' "$folder/random" >"$folder/numbers"
+    while IFS= read -r line; do
+        echo "# $line"
+        crates/locnum/out/locnum -t tables/six_locales.json -l "${line%% *}" --skeleton "${line#* }" <"$folder/numbers"
+    done <tests/skeletons.txt >"$folder/by_locnum" 2>&1
+    "$folder/by_skeleton" tables/six_locales.json tests/skeletons.txt "$folder/numbers" >"$folder/by_library" 2>&1
+    judge "C: $(wc -l <"$folder/numbers") numbers by $(wc -l <tests/skeletons.txt) skeletons" cmp "$folder/by_locnum" "$folder/by_library"
+}
+
 # shown LANGUAGE HEAD: a program of the blocks of README.md and docs/LIBRARY.md in this language, each in braces, behind HEAD.
 shown() {
     printf '%b\n{\n' "$2"
@@ -311,6 +324,12 @@ if is_there "${compiler[0]}"; then
         kept en - short
         kept bn - plain always
         kept en - short '' compact-short
+        builds by_skeleton tests/c_by_skeleton.c "$folder/libtalmuiga.a"
+        if [ -x crates/locnum/out/locnum ]; then
+            by_skeletons
+        else
+            skipped "there is no crates/locnum/out/locnum: 'rt run' in crates/locnum builds it"
+        fi
     else
         skipped "there is no crates/decfmt/out/decfmt: 'rt run' in crates/decfmt builds it"
     fi
@@ -323,6 +342,11 @@ if is_there "${compiler[0]}"; then
     builds skeletons tests/c_skeletons.c "$folder/libtalmuiga.a" -O1 -g -fsanitize=address,undefined
     judge 'C: rows of skeletons' "$folder/skeletons" tables/six_locales.json tables/english.json \
         crates/rows_reports/data/numbers.json
+    for sanitizer in address,undefined thread; do
+        judge "C: tests/c_hostile.c builds with ${sanitizer}" "${compiler[@]}" -std=gnu11 -O1 -g -Wall -Wextra -Wcast-qual -Werror \
+            "-fsanitize=$sanitizer" -pthread -Iinclude tests/c_hostile.c "$folder/libtalmuiga.a" -o "$folder/hostile"
+        judge "C: bad input, with ${sanitizer}" "$folder/hostile" tables/six_locales.json
+    done
     judge 'C: what the shared object exports' same '' \
         "$(nm -D --defined-only "$folder/libtalmuiga.so.0" | awk '{print $3}' | grep -v '^talmuiga_')"
     if [ -x crates/decfmt/out/decfmt ] && [ -x crates/locnum/out/locnum ]; then
@@ -348,13 +372,20 @@ if is_there "${cpp_compiler[0]}"; then
     reads_header c++ c++98 "${cpp_compiler[@]}"
     reads_header c++ c++11 "${cpp_compiler[@]}"
     calls_from_cpp
-    "${cpp_compiler[@]}" -std=c++17 -O1 -g -Wall -Wextra -Werror -pedantic -fsanitize=address,undefined -Iinclude \
+    "${cpp_compiler[@]}" -std=c++17 -O1 -g -Wall -Wextra -Werror -pedantic -fsanitize=address,undefined -pthread -Iinclude \
         tests/cpp_kept.cpp "$folder/libtalmuiga.a" -o "$folder/cpp_kept"
-    shown cpp '#include "talmuiga.hpp"\n#include <fstream>\n#include <iostream>\n#include <sstream>\nint main() {
+    # C++20 has std::format where the compiler's library has it
+    for standard in c++17 c++20; do
+        judge "C++: tests/cpp_format.cpp builds as $standard" "${cpp_compiler[@]}" "-std=$standard" -O1 -g -Wall -Wextra -Werror \
+            -pedantic -fsanitize=address,undefined -Iinclude tests/cpp_format.cpp "$folder/libtalmuiga.a" -o "$folder/cpp_format"
+        judge "C++: std::format and parts as $standard" "$folder/cpp_format" tables/six_locales.json
+    done
+    shown cpp '#include "talmuiga_format.hpp"\n#include <fstream>\n#include <iostream>\n#include <sstream>\nint main() {
         std::stringstream read;\nread << std::ifstream("tables/six_locales.json").rdbuf();\nconst std::string tables = read.str();' \
         >"$folder/readme.cpp"
     "${cpp_compiler[@]}" -std=c++17 -Iinclude "$folder/readme.cpp" "$folder/libtalmuiga.a" -o "$folder/readme_cpp"
-    judge 'C++: as README.md and docs/LIBRARY.md show' same $'1.234.567,8\n1.234.567,8\n1,2\u00a0Mio.\u00a0€' "$("$folder/readme_cpp" 2>&1)"
+    judge 'C++: as README.md and docs/LIBRARY.md show' same $'1.234.567,8\n1.234.567,8\n1,2\u00a0Mio.\u00a0€\n- $ 5 . 00 ' \
+        "$("$folder/readme_cpp" 2>&1)"
     judge 'C++: formatters that are kept' "$folder/cpp_kept" "$sample" tables/six_locales.json
 else
     skipped "there is no C++ compiler ${cpp_compiler[0]}"
@@ -380,9 +411,24 @@ if is_there sqlite3 && [ -e /usr/include/sqlite3ext.h ]; then
         number_format(1234567.5, 'de', 'K currency/EUR'), number_format(12, 'de', '')" tables/six_locales.json
     in_sql 'Error: stepping, skeleton: unknown stem, byte 8' "SELECT number_format(5, 'de', 'percent foo')"
     in_sql 'Error: stepping, skeleton: left out: scientific, byte 0' "SELECT number_format(5, 'de', 'scientific')"
-    in_sql 'Error: stepping, skeleton: not supported: permille' "SELECT number_format(5, 'de', 'permille')"
+    in_sql 'Error: stepping, skeleton: not supported: group-thousands' "SELECT number_format(5, 'de', 'group-thousands')"
     in_sql 'Error: stepping, not a decimal' "SELECT number_format('x', 'de', 'currency/EUR')" tables/six_locales.json
     in_sql 'Error: stepping, no data' "SELECT number_format(5, 'de', 'currency/USD')" tables/six_locales.json
+    # SQLite has no NaN: it is NULL
+    in_sql '|' "SELECT number_format(9e999 - 9e999, 'de', ''), decfmt(0.0 / 0, 'en')" tables/six_locales.json
+    in_sql 'Error: stepping, not a decimal' "SELECT number_format(9e999, 'de', '')" tables/six_locales.json
+    in_sql 'Error: stepping, not a decimal' "SELECT number_format('NaN', 'de', '')" tables/six_locales.json
+    in_sql 'Error: stepping, not a decimal' "SELECT number_format('5' || char(0), 'de', '')" tables/six_locales.json
+    in_sql 'Error: stepping, not a decimal' "SELECT number_format(CAST(x'35e282' AS TEXT), 'de', '')" tables/six_locales.json
+    in_sql 'Error: stepping, not a decimal' "SELECT number_format(x'35', 'de', '')" tables/six_locales.json
+    in_sql 'Error: stepping, words refused' "SELECT number_format(5, CAST(x'ff' AS TEXT), '')" tables/six_locales.json
+    in_sql 'Error: stepping, skeleton: unknown stem, byte 2' "SELECT number_format(5, 'de', '% ' || char(0))" tables/six_locales.json
+    in_sql 'Error: stepping, skeleton: not UTF-8, byte 2' "SELECT number_format(5, 'de', '% ' || CAST(x'e282' AS TEXT))" \
+        tables/six_locales.json
+    in_sql 'Error: stepping, skeleton: more than 999 digits, byte 0' \
+        "SELECT number_format(5, 'de', replace(hex(zeroblob(524288)), '00', '00'))" tables/six_locales.json
+    in_sql 'Error: stepping, no data' "SELECT number_format(5, 'de', 'unit/' || lower(hex(zeroblob(524288))))" tables/six_locales.json
+    in_sql 'Error: stepping, tables refused' "SELECT number_format(5, 'en', '')" tables/hostile.json
     in_sql $'100\n100' "WITH RECURSIVE n(i) AS (SELECT 1 UNION ALL SELECT i + 1 FROM n WHERE i < 100)
         SELECT count(*) FROM n
         WHERE length(number_format(7, 'de', 'group-off integer-width/*' || printf('%.*c', i, '0'))) = i

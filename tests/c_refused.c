@@ -1,6 +1,6 @@
 /* Formatters that are kept, where one allocation finds no memory (tests/refuse_nth.c, loaded before): by the tables of the
  * first word one is opened by words and one by a skeleton, each formats lines, one number and its parts, and is closed; then
- * other tables are judged, and a canonical text is written. What was refused is asked once more, and then all is as ever; where
+ * other tables are judged and listed, and a canonical text is written. What was refused is asked once more, and then all is as ever; where
  * it was refused nothing else is told. The tables lie in memory of their own, which isn't refused. */
 #include "talmuiga.h"
 
@@ -65,6 +65,13 @@ int main(int count, char **words) {
         status = talmuiga_tables_fault("{", 1, output, sizeof output, &length);
     }
     if (status != TALMUIGA_TABLES_REFUSED || length != 8 || memcmp(output, "not JSON", 8)) return 7;
+    memcpy(output, "xx", 2);
+    static const char listed[] = "{\"units\":[{\"unit\":\"day\"},{\"unit\":\"hour\"}]}";
+    status = talmuiga_tables_list(listed, sizeof listed - 1, TALMUIGA_LIST_UNITS, output, sizeof output, &length);
+    if (status == TALMUIGA_OUT_OF_MEMORY && length == 0 && output[0] == 'x') {
+        status = talmuiga_tables_list(listed, sizeof listed - 1, TALMUIGA_LIST_UNITS, output, sizeof output, &length);
+    }
+    if (status || length != 9 || memcmp(output, "day\nhour\n", 9)) return 9;
     memcpy(output, "xx", 2);
     status = talmuiga_skeleton_canonical("K", 1, output, sizeof output, &length, NULL);
     if (status == TALMUIGA_OUT_OF_MEMORY && length == 0 && output[0] == 'x') {

@@ -1,5 +1,5 @@
 /* What single calls of the library for C answer, a row each: lines in English and by tables, lines by a kept formatter, one
- * number and its parts, and why tables are rejected. Each row has a room of its own, whose bytes behind the answer have to
+ * number and its parts, why tables are rejected, and which names they have. Each row has a room of its own, whose bytes behind the answer have to
  * stay as they were. */
 #include "talmuiga.h"
 
@@ -206,6 +206,46 @@ static void judge_tables(size_t row) {
 
 #define ROWS(table) (sizeof(table) / sizeof(table)[0])
 
+#define NAMES(text) text, sizeof(text) - 1
+
+/* Tables, a kind, a room, and what a call for their names ends in: a status, a length, and what is written. */
+static const struct {
+    const char *tables;
+    size_t tables_len;
+    uint32_t kind;
+    size_t room;
+    uint32_t status;
+    size_t length;
+    const char *written;
+} listed[] = {
+    {NAMES("{\"symbols\":[{\"locale\":\"en\"},{\"locale\":\"de\"},{\"locale\":\"en\"}]}"), 1, 6, TALMUIGA_DONE, 6, "en\nde\n"},
+    {NAMES("{\"symbols\":[{\"locale\":\"en\"},{\"locale\":\"de\"}]}"), 1, 5, TALMUIGA_OUTPUT_TOO_SMALL, 6, ""},
+    {NAMES("{\"symbols\":[{\"locale\":7},{},9,{\"locale\":\"de\"}]}"), 1, ROOM, TALMUIGA_DONE, 3, "de\n"},
+    {NAMES("{\"digits\":[[\"latn\",\"0123456789\"],[],[\"arab\"]]}"), 2, ROOM, TALMUIGA_DONE, 10, "latn\narab\n"},
+    {NAMES("{\"currency_symbols\":[{\"symbols\":[[\"USD\"],[\"EUR\"]]},{},{\"symbols\":[[\"EUR\"],[\"JPY\"]]}]}"), 3, ROOM, TALMUIGA_DONE, 12,
+     "USD\nEUR\nJPY\n"},
+    {NAMES("{\"units\":[{\"unit\":\"day\",\"width\":\"long\"},{\"unit\":\"day\",\"width\":\"short\"}]}"), 4, ROOM, TALMUIGA_DONE, 4, "day\n"},
+    {NAMES("{\"units\":{\"unit\":\"day\"}}"), 4, ROOM, TALMUIGA_DONE, 0, ""},
+    {NAMES("{}"), 1, 0, TALMUIGA_DONE, 0, ""},
+    {NAMES("[]"), 1, ROOM, TALMUIGA_DONE, 0, ""},
+    {NAMES("{\"symbols\":[{\"locale\":\"\\u0000\"}]}"), 1, ROOM, TALMUIGA_DONE, 2, "\0\n"},
+    {NAMES("{"), 1, ROOM, TALMUIGA_TABLES_REFUSED, 0, ""},
+    {NAMES(""), 4, ROOM, TALMUIGA_TABLES_REFUSED, 0, ""},
+    {NAMES("{\"x\":1.5}"), 1, ROOM, TALMUIGA_TABLES_REFUSED, 0, ""},
+    {NAMES("\xff"), 1, ROOM, TALMUIGA_TABLES_REFUSED, 0, ""},
+    {NAMES("\xff"), 0, ROOM, TALMUIGA_WORDS_REFUSED, 0, ""},
+    {NAMES("{}"), 5, ROOM, TALMUIGA_WORDS_REFUSED, 0, ""},
+    {NAMES("{}"), 4294967295u, ROOM, TALMUIGA_WORDS_REFUSED, 0, ""},
+};
+
+static void judge_listed(size_t row) {
+    char *room = fresh_room();
+    size_t length = 99, written = listed[row].status == TALMUIGA_DONE ? listed[row].length : 0;
+    uint32_t status = talmuiga_tables_list(listed[row].tables, listed[row].tables_len, listed[row].kind, room, listed[row].room, &length);
+    judge("names of tables", row,
+          status == listed[row].status && length == listed[row].length && holds(room, listed[row].written, written));
+}
+
 int main(void) {
     talmuiga_formatter *formatter;
     if (talmuiga_formatter_open_english(&formatter) != TALMUIGA_DONE) return 1;
@@ -215,6 +255,7 @@ int main(void) {
     for (size_t row = 0; row < ROWS(one); row++) judge_one(formatter, row);
     for (size_t row = 0; row < ROWS(parts); row++) judge_parts(formatter, row);
     for (size_t row = 0; row < ROWS(judged); row++) judge_tables(row);
+    for (size_t row = 0; row < ROWS(listed); row++) judge_listed(row);
     talmuiga_formatter_close(formatter);
     return failed;
 }

@@ -276,6 +276,45 @@ static void judge_canonical(size_t row) {
     }
 }
 
+/* English without tables: a skeleton, what opening it ends in, a number and its text. */
+static const struct {
+    const char *skeleton;
+    uint32_t status;
+    const char *number, *text;
+} english[] = {
+    {"", TALMUIGA_DONE, "1234567.5", "1,234,567.5"},
+    {"currency/USD", TALMUIGA_DONE, "-1234.5", "-$1,234.50"},
+    {"currency/EUR", TALMUIGA_DONE, "0.125", "€0.12"},
+    {"currency/GBP sign-accounting", TALMUIGA_DONE, "-5", "(£5.00)"},
+    {"currency/JPY", TALMUIGA_DONE, "1234.5", "¥1,234"},
+    {"currency/JPY unit-width-full-name", TALMUIGA_DONE, "1", "1 Japanese yen"},
+    {"K currency/USD", TALMUIGA_DONE, "-999950", "-$1M"},
+    {"K", TALMUIGA_DONE, "1650", "1.6K"},
+    {"KK @@@", TALMUIGA_DONE, "1234567", "1.23 million"},
+    {"%x100 .0", TALMUIGA_DONE, "0.12345", "12.3%"},
+    {"currency/CHF", TALMUIGA_NO_DATA, NULL, NULL},
+    {"unit/kilometer", TALMUIGA_NO_DATA, NULL, NULL},
+    {"percent foo", TALMUIGA_SKELETON_REFUSED, NULL, NULL},
+    {"percent \xff", TALMUIGA_SKELETON_REFUSED, NULL, NULL},
+};
+
+static void judge_english(size_t row) {
+    const char *skeleton = english[row].skeleton;
+    talmuiga_formatter *formatter;
+    talmuiga_fault fault = {77, 78, 79};
+    char output[ROOM];
+    size_t length = 99;
+    uint32_t status = talmuiga_formatter_open_english_skeleton(skeleton, strlen(skeleton), &fault, &formatter);
+    judge("English", skeleton, talmuiga_status_text(status), status == english[row].status);
+    judge("English", skeleton, "its fault",
+          status == TALMUIGA_SKELETON_REFUSED ? fault.byte == 8 && fault.kind : is_fault(&fault, 0, TALMUIGA_FAULT_NONE, 0));
+    if (!formatter) return;
+    status = talmuiga_formatter_one(formatter, english[row].number, strlen(english[row].number), output, ROOM, &length);
+    judge("English", skeleton, "its text",
+          status == TALMUIGA_DONE && length == strlen(english[row].text) && memcmp(output, english[row].text, length) == 0);
+    talmuiga_formatter_close(formatter);
+}
+
 /* Long skeletons of one text over and over: what opening them ends in, and the fault. */
 static const struct {
     const char *front, *text;
@@ -318,6 +357,7 @@ int main(int count, char **words) {
     for (size_t row = 0; row < ROWS(faults); row++) judge_fault(row);
     for (size_t row = 0; row < ROWS(order); row++) judge_order(row);
     for (size_t row = 0; row < ROWS(canonical); row++) judge_canonical(row);
+    for (size_t row = 0; row < ROWS(english); row++) judge_english(row);
     for (size_t row = 0; row < ROWS(longest); row++) judge_longest(row);
     return failed;
 }

@@ -1,10 +1,13 @@
 /* Formatters from C++, by the tables whose files are the two words. */
 #include "talmuiga.hpp"
 
+#include <atomic>
 #include <fstream>
 #include <iostream>
 #include <sstream>
+#include <thread>
 #include <utility>
+#include <vector>
 
 static int failed;
 
@@ -57,13 +60,73 @@ static void by_skeletons(const std::string &tables) {
     const auto opened = [&](std::string_view text) { return [&tables, text] { talmuiga::formatter(tables, "de", skeleton{text}); }; };
     judge("a fault", fault_of(opened("percent foo")) == "8 2 unknown stem");
     judge("a NUL", fault_of(opened(std::string_view("% \0", 3))) == "2 2 unknown stem");
-    judge("what no formatter has", fault_of(opened("permille")) == "0 12 not supported: permille");
-    judge("its status", refusal(opened("permille")) == TALMUIGA_SKELETON_REFUSED);
+    judge("what no formatter has", fault_of(opened("group-thousands")) == "0 12 not supported: group-thousands");
+    judge("its status", refusal(opened("group-thousands")) == TALMUIGA_SKELETON_REFUSED);
     judge("a currency that the tables lack", refusal(opened("currency/USD")) == TALMUIGA_NO_DATA);
     judge("canonical", talmuiga::canonical({"%x100 .00"}) == "percent .00 scale/100");
     const std::string long_name = "unit/" + std::string(3000, 'a');
     judge("canonical and long", talmuiga::canonical({long_name}) == long_name);
     judge("not canonical", fault_of([] { talmuiga::canonical({"currency/EURO"}); }) == "9 9 unknown option");
+}
+
+/* English by skeletons, without tables. */
+static void in_english() {
+    using talmuiga::formatter;
+    using talmuiga::skeleton;
+    judge("dollars", formatter(skeleton{"currency/USD"})("-1234.5") == "-$1,234.50");
+    judge("compact pounds", formatter(skeleton{"K currency/GBP"})("1234567") == "£1.2M");
+    judge("percents", formatter(skeleton{"%x100 .0"})("0.12345") == "12.3%");
+    judge("a number", formatter(skeleton{""})("1234.5") == "1,234.5");
+    judge("Swiss francs", refusal([] { formatter(skeleton{"currency/CHF"}); }) == TALMUIGA_NO_DATA);
+    judge("a fault in English", fault_of([] { formatter(skeleton{"percent foo"}); }) == "8 2 unknown stem");
+}
+
+/* What tables hold. */
+static void by_names(std::string_view tables) {
+    using talmuiga::listed;
+    using talmuiga::names_in;
+    using names = std::vector<std::string>;
+    judge("locales", names_in(tables, listed::locales) == names{"en", "de", "fr", "ja", "bn", "ar-EG"});
+    judge("currencies", names_in(tables, listed::currencies) == names{"EUR"});
+    judge("no units", names_in(tables, listed::units).empty());
+    judge("more names than have room at first", names_in(R"({"units":[{"unit":")" + std::string(5000, 'a') + R"("}]})", listed::units) ==
+                                                    names{std::string(5000, 'a')});
+    judge("names in no tables", refusal([] { names_in("{", listed::units); }) == TALMUIGA_TABLES_REFUSED);
+    judge("names of another kind", refusal([&] { names_in(tables, static_cast<listed>(9)); }) == TALMUIGA_WORDS_REFUSED);
+}
+
+/* Bad input: numbers that are none, skeletons of a megabyte, bytes that are no text, threads that open and close. */
+static void on_bad_input(std::string_view tables) {
+    using talmuiga::formatter;
+    using talmuiga::skeleton;
+    const formatter prices(tables, "de", skeleton{"currency/EUR"});
+    for (std::string_view none : {std::string_view("NaN"), std::string_view("inf"), std::string_view("-Infinity"), std::string_view("5\0", 2),
+                                  std::string_view("\xff"), std::string_view("5\xe2\x82"), std::string_view()}) {
+        judge("no decimal by a skeleton", refusal([&] { prices(none); }) == TALMUIGA_NOT_DECIMAL);
+        judge("no decimal by a skeleton, with parts", refusal([&] { prices.parts(none); }) == TALMUIGA_NOT_DECIMAL);
+    }
+    judge("lines by a skeleton", prices.lines("1\nNaN\n-inf\n2\n") ==
+                                     "1,00\u00a0€\nerror: not a decimal\nerror: not a decimal\n2,00\u00a0€\n");
+    const auto opened = [&](const std::string &text) { return [&tables, text] { formatter(tables, "de", skeleton{text}); }; };
+    judge("a megabyte of digits", fault_of(opened(std::string(1 << 20, '0'))) == "0 5 more than 999 digits");
+    judge("a megabyte of blanks", refusal(opened(std::string(1 << 20, ' '))) == TALMUIGA_DONE);
+    judge("a unit of a megabyte", refusal(opened("unit/" + std::string(1 << 20, 'a'))) == TALMUIGA_NO_DATA);
+    judge("half a character", fault_of(opened("% \xe2\x82")) == "2 1 not UTF-8");
+    judge("tables cut short", refusal([&] { formatter(tables.substr(0, tables.size() / 2), "de"); }) == TALMUIGA_TABLES_REFUSED);
+    judge("tables of another version", refusal([] { formatter(R"({"version": 2})", "de"); }) == TALMUIGA_TABLES_REFUSED);
+    std::atomic<int> wrong{0};
+    std::vector<std::thread> threads;
+    for (int number = 0; number < 8; number++) {
+        threads.emplace_back([&] {
+            for (int time = 0; time < 100; time++) {
+                const formatter own(tables, "de", skeleton{time % 2 ? "currency/EUR" : "K currency/EUR"});
+                wrong += prices("1234567.5") != "1.234.567,50\u00a0€";
+                wrong += own("1234567.5") != (time % 2 ? "1.234.567,50\u00a0€" : "1,2\u00a0Mio.\u00a0€");
+            }
+        });
+    }
+    for (std::thread &thread : threads) thread.join();
+    judge("eight threads", wrong == 0);
 }
 
 /* The whole file of a name. */
@@ -76,6 +139,9 @@ static std::string whole(const char *name) {
 int main(int, char **words) {
     const std::string tables = whole(words[1]);
     by_skeletons(whole(words[2]));
+    in_english();
+    by_names(whole(words[2]));
+    on_bad_input(whole(words[2]));
     talmuiga::formatter english, moved;
     judge("English", english.one("1000007") == "1,000,007");
     judge("a long number", english.one(std::string(3000, '9')).size() == 3999);

@@ -1,7 +1,8 @@
 #!/bin/bash
 # Formats a column of partitioned CSV files on a cluster of Dask: a scheduler and three workers on the loopback, one of which
-# is killed while it works. The output has to be whole, and equal to that of one process. It installs nothing: where Dask
-# (Debian's python3-dask and python3-distributed) or the Python package's wheel isn't there, it says so. It isn't part of CI.
+# is killed while it works. The output has to be whole, and equal to that of one process. Then columns of prices in frames of pandas
+# and of Dask. It installs nothing: where Dask (Debian's python3-dask and python3-distributed), pandas (python3-pandas) or the Python
+# package's wheel isn't there, it says so. It isn't part of CI.
 # usage: tests/dask.sh [WHEEL], by default the one in lib/ as tests/python_wheel.sh --build lib makes it
 source "$(dirname "$0")/usage.sh"
 takes 1 -- "$@"
@@ -43,7 +44,7 @@ for part in range(60):
             writer.writerow([f"row {row}", price, 'with a "quote", and a comma'])
 PYTHON
 
-words=(tables/six_locales.json de plain price)
+words=(tables/six_locales.json de currency/EUR price)
 # by one process
 from=${EPOCHREALTIME/./}
 "$python" - "$folder" "${words[@]}" <<'PYTHON'
@@ -53,10 +54,10 @@ import sys
 
 from format_column import format_file
 
-folder, tables, locale, style, column = sys.argv[1:]
+folder, tables, locale, skeleton, column = sys.argv[1:]
 os.mkdir(f"{folder}/one")
 for name in sorted(glob.glob(f"{folder}/in/*.csv")):
-    format_file(name, f"{folder}/one/{os.path.basename(name)}", tables, locale, style, column)
+    format_file(name, f"{folder}/one/{os.path.basename(name)}", tables, locale, skeleton, column)
 PYTHON
 
 one=$(((${EPOCHREALTIME/./} - from) / 1000))
@@ -94,6 +95,39 @@ judge 'the last line of the run' same '60 files, 1200000 rows' "$(tail -n 1 "$fo
 # what the killed worker left of a file
 rm -f "$folder"/many/.[!.]*
 judge 'the output is that of one process' diff -rq "$folder/one" "$folder/many"
-judge 'numbers are formatted' grep -Eq '^row [0-9]+,"-?[0-9.]+\.[0-9]{3},[0-9]{2}",' "$folder/many/part-000.csv"
+judge 'numbers are formatted' grep -Eq $'^row [0-9]+,"-?[0-9.]+\\.[0-9]{3},[0-9]{2}\u00a0€",' "$folder/many/part-000.csv"
 judge 'what is no number stays' [ "$(grep -c ',n/a,' "$folder/many/part-059.csv")" = 200 ]
+
+if "$python" -c 'import pandas, dask.dataframe' 2>/dev/null; then
+    # what is no number is missing in a frame
+    "$python" examples/dask/format_frame.py "${words[@]}" "$folder/in/part-000.csv" >"$folder/frame.csv" 2>"$folder/said"
+    judge "a frame of pandas: $(tail -n 3 "$folder/said")" "$python" - "$folder" <<'PYTHON'
+import csv
+import sys
+
+folder = sys.argv[1]
+with open(f"{folder}/frame.csv", newline="") as file:
+    given = [row["price_text"] for row in csv.DictReader(file)]
+with open(f"{folder}/one/part-000.csv", newline="") as file:
+    wanted = ["" if row["price"] == "n/a" else row["price"] for row in csv.DictReader(file)]
+assert given == wanted and len(given) == 20000, [pair for pair in zip(given, wanted) if pair[0] != pair[1]][:3]
+PYTHON
+    judge 'a frame of Dask has the texts of that of pandas' "$python" - "$folder" "${words[@]}" <<'PYTHON'
+import sys
+
+import dask.dataframe
+import pandas
+from format_frame import texts_of, with_texts, with_texts_of_parts
+
+folder, tables, locale, skeleton, column = sys.argv[1:]
+frame = pandas.read_csv(f"{folder}/in/part-000.csv")
+parts = with_texts_of_parts(dask.dataframe.from_pandas(frame, npartitions=7), column, tables, locale, skeleton)
+assert parts.compute().equals(with_texts(frame, column, tables, locale, skeleton))
+assert list(texts_of(pandas.Series([1, 2], dtype="int32"), tables, locale, skeleton)) == ["1,00\u00a0€", "2,00\u00a0€"]
+assert list(texts_of(pandas.Series(["0.125", None, "3"]), tables, locale, skeleton).fillna("-")) == ["0,12\u00a0€", "-", "3,00\u00a0€"]
+assert list(texts_of(pandas.Series([], dtype="float64"), tables, locale, skeleton)) == []
+PYTHON
+else
+    skipped 'there is no pandas, or no dask.dataframe'
+fi
 ended_all

@@ -138,6 +138,7 @@ puts docs/completions/_locnum share/zsh/site-functions/_locnum
 puts docs/completions/locnum.fish share/fish/vendor_completions.d/locnum.fish
 puts include/talmuiga.h include/talmuiga.h
 puts include/talmuiga.hpp include/talmuiga.hpp
+puts include/talmuiga_format.hpp include/talmuiga_format.hpp
 puts "$library/libtalmuiga.a" lib/libtalmuiga.a
 for file in tools/cldr_*.py; do
     puts "$file" "share/talmuiga/$file"

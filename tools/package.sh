@@ -240,6 +240,7 @@ copies "$prefix/lib/libtalmuiga.a" libtalmuiga-dev "$multiarch/libtalmuiga.a"
 ln -s libtalmuiga.so.0 "$work/libtalmuiga-dev/$multiarch/libtalmuiga.so"
 copies include/talmuiga.h libtalmuiga-dev usr/include/talmuiga.h
 copies include/talmuiga.hpp libtalmuiga-dev usr/include/talmuiga.hpp
+copies include/talmuiga_format.hpp libtalmuiga-dev usr/include/talmuiga_format.hpp
 copies docs/talmuiga.3 libtalmuiga-dev usr/share/man/man3/talmuiga.3
 copies examples/c/format_lines.c libtalmuiga-dev usr/share/doc/libtalmuiga-dev/examples/format_lines.c
 mkdir -p "$work/libtalmuiga-dev/$multiarch/pkgconfig"

@@ -1,11 +1,13 @@
 #!/usr/bin/env python3
 """Formats a column of CSV files on a cluster of Dask: each file is a piece of work, each worker reads the tables once.
 
+The form of the numbers is a locale's, by a number skeleton: `currency/EUR` writes prices, an empty one plain numbers.
+
 The files are read and written by Python's csv, line by line, with a header each; fields that aren't in the column are
 kept. What spells no decimal stays as it is. An output file is written beside its place and then moved there, so it is
 whole or not there, whichever worker dies.
 
-usage: format_column.py SCHEDULER TABLES LOCALE STYLE COLUMN OUTPUT_FOLDER FILE..
+usage: format_column.py SCHEDULER TABLES LOCALE SKELETON COLUMN OUTPUT_FOLDER FILE..
 """
 import argparse
 import csv
@@ -26,12 +28,12 @@ SPELLED = re.compile(r"[+-]?[0-9]*\.?[0-9]+", re.ASCII)
 
 
 @functools.lru_cache(maxsize=None)
-def formatter_of(tables, locale, style):
-    """The formatter of a worker's process, which is made when it is first asked for."""
+def formatter_of(tables, locale, skeleton):
+    """The formatter of a worker's process, which is made when it is first asked for, and kept from one file to the next."""
     from talmuiga import Formatter
 
     with open(tables, "rb") as file:
-        return Formatter(file.read(), locale, style=style)
+        return Formatter(file.read(), locale, skeleton=skeleton)
 
 
 def in_blocks(rows):
@@ -53,9 +55,9 @@ def format_rows(formatter, place, rows):
     return rows
 
 
-def format_file(name, output, tables, locale, style, column):
+def format_file(name, output, tables, locale, skeleton, column):
     """Writes the file with its column formatted, and answers how many rows it has."""
-    formatter = formatter_of(tables, locale, style)
+    formatter = formatter_of(tables, locale, skeleton)
     count = 0
     with open(name, newline="") as source, tempfile.NamedTemporaryFile(
         "w", newline="", dir=os.path.dirname(output), prefix=".", delete=False
@@ -73,7 +75,7 @@ def format_file(name, output, tables, locale, style, column):
 
 def main():
     parser = argparse.ArgumentParser(description=__doc__.splitlines()[0])
-    for word in ("scheduler", "tables", "locale", "style", "column", "folder"):
+    for word in ("scheduler", "tables", "locale", "skeleton", "column", "folder"):
         parser.add_argument(word)
     parser.add_argument("files", nargs="+")
     words = parser.parse_args()
@@ -90,7 +92,7 @@ def main():
                 os.path.abspath(os.path.join(words.folder, os.path.basename(name))),
                 tables,
                 words.locale,
-                words.style,
+                words.skeleton,
                 words.column,
                 retries=3,
             )

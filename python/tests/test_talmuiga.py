@@ -1,12 +1,24 @@
-"""Cases of the Python package, by the tables of the two words. The last line says how many there were."""
+"""Cases of the Python package, by the tables of the two words. The last line says how many there were.
+
+Texts are those of ICU 72 and of ECMA-402's `Intl.NumberFormat`, by the tables of the two words; Babel's are those of its documentation.
+"""
+import array
+import importlib
+import importlib.util
 import json
+import os
+import random
+import subprocess
 import sys
+import time
 import threading
 from collections.abc import Callable, Iterable
 from decimal import Decimal
+from fractions import Fraction
 from typing import Any
 
 import talmuiga
+import talmuiga.babel
 from talmuiga import Formatter, NoData, NotFormatted, Number, SkeletonRefused, TablesRefused, WordsRefused
 
 SAMPLE = open(sys.argv[1], "rb").read()
@@ -33,6 +45,15 @@ def judge(name: str, wanted: object, call: Callable[[], object]) -> None:
     if given != wanted:
         FAILED += 1
         print(f"FAILED {name}: wanted {wanted!r}, given {given!r}")
+
+
+def call_error(call: Callable[[], object]) -> Exception | None:
+    """The exception of a call, if it has one."""
+    try:
+        call()
+    except Exception as error:
+        return error
+    return None
 
 
 def pieces(text: str, parts: Iterable[tuple[int, int, str]]) -> tuple[str, list[str]]:
@@ -105,7 +126,7 @@ judge("parts of a share", ("12\u00a0%", ["12", "%"]), lambda: pieces(*Formatter(
 judge("the skeleton that sets nothing", "1.234,5", lambda: Formatter(SIX, "de", skeleton="").format(1234.5))
 for skeleton, fault in [("percent foo", (8, "unknownStem", "unknown stem")), ("scientific", (0, "leftOut", "left out: scientific")),
                         ("% \ud800", (2, "notUtf8", "not UTF-8")), ("%\0", (0, "unknownStem", "unknown stem")),
-                        ("permille", (0, "unsupported", "not supported: permille"))]:
+                        ("group-thousands", (0, "unsupported", "not supported: group-thousands"))]:
     judge(f"refused {skeleton!r}", (SkeletonRefused, *fault), lambda: Formatter(b"{", "de", skeleton=skeleton))
 judge("a skeleton and a style", TypeError, lambda: Formatter(SIX, "de", skeleton="%", style="short"))
 judge("a skeleton and no fraction", TypeError, lambda: Formatter(SIX, "de", skeleton="%", fraction=0))
@@ -123,6 +144,274 @@ judge("an entry that is refused", "entry 0 of `rules`: rule 0 isn't a condition,
 judge("exceptions of values", True, lambda: issubclass(NoData, ValueError) and issubclass(NotFormatted, ValueError))
 judge("the version", "0.2.0", lambda: talmuiga.__version__)
 
+# Numbers that are refused by name, and numbers of other types.
+NO_NUMBERS: list[tuple[Number, str]] = [
+    (float("nan"), "NaN"), (float("-inf"), "-Infinity"), (Decimal("sNaN"), "sNaN"), (Decimal("Infinity"), "Infinity")]
+for number, text in NO_NUMBERS:
+    judge(f"refused {text}", (NotFormatted, 0, text, "not a decimal"), lambda: ENGLISH.format(number))
+    judge(f"refused {text} among many", (NotFormatted, 1, text, "not a decimal"), lambda: ENGLISH.format_many([1, number]))
+judge("marked NaN", ["0.5", "-"], lambda: ENGLISH.format_many([0.5, float("nan")], mark="-"))
+judge("whole numbers longer than Python spells", "9" * 3 + ",999" * 3332, lambda: ENGLISH.format(10**9999 - 1))
+judge("the same among many", ["1", "9" * 3 + ",999" * 3332], lambda: ENGLISH.format_many([1, 10**9999 - 1]))
+judge("whole numbers of 64 bits and more", ["9,223,372,036,854,775,807", "-9,223,372,036,854,775,808", "9,223,372,036,854,775,808"],
+      lambda: ENGLISH.format_many([2**63 - 1, -2**63, 2**63]))
+judge("a fraction", "0.25", lambda: ENGLISH.format(Fraction(1, 4)))
+judge("numbers of each type", ["1", "1", "0.5", "0.00", "-0.0", "7"],
+      lambda: ENGLISH.format_many([1, True, 0.5, Decimal("0.00"), -0.0, "7"]))
+judge("no number among many", TypeError, lambda: ENGLISH.format_many([1, NOTHING]))
+judge("half of a pair among many", (NotFormatted, 1, "\ud800", "not a decimal"), lambda: ENGLISH.format_many(["1", "\ud800"]))
+judge("a NUL among many", (NotFormatted, 0, "5\0", "not a decimal"), lambda: ENGLISH.format_many(["5\0"]))
+judge("a long text among short ones", ["1", "9" * 3 + ",999" * 9999, "2"], lambda: ENGLISH.format_many(["1", "9" * 30000, "2"]))
+judge("a formatter as a function", ["1,000", "2"], lambda: list(map(ENGLISH, [1000, 2])))
+
+# Floats: the shortest text that is read as them, without an exponent, as Python's own decimal has it.
+CHANCE = random.Random(74)
+FLOATS = [CHANCE.uniform(-1, 1) * 10.0 ** CHANCE.randint(-320, 308) for _ in range(2000)] + [2.0**n for n in range(-1074, 1024)]
+FLOATS += [0.1, 1e16, 1e22, 1e23, 123456789012345680.0, 5e-324, 1.7976931348623157e308, 1e-5, 0.0001, 1e15, 123456789.125]
+SPELLED = [format(Decimal(repr(value)), "f") for value in FLOATS]
+PLAIN = [ENGLISH.format(text) for text in SPELLED]
+judge("floats by their texts", PLAIN, lambda: ENGLISH.format_many(FLOATS))
+judge("floats of a buffer", PLAIN, lambda: ENGLISH.format_many(array.array("d", FLOATS)))
+judge("a part of a buffer", PLAIN[::3], lambda: ENGLISH.format_many(memoryview(array.array("d", FLOATS))[::3]))
+for letter, bits in [("b", 8), ("h", 16), ("i", 32), ("l", 64), ("q", 64)]:
+    ENDS = [-2 ** (bits - 1), -1, 0, 1, 1000 % 2 ** (bits - 1), 2 ** (bits - 1) - 1]
+    judge(f"a buffer of {letter}", [f"{value:,}" for value in ENDS], lambda: ENGLISH.format_many(array.array(letter, ENDS)))
+    UNSIGNED = [0, 1, 2**bits - 1]
+    judge(f"a buffer of {letter.upper()}", [f"{value:,}" for value in UNSIGNED],
+          lambda: ENGLISH.format_many(array.array(letter.upper(), UNSIGNED)))
+judge("a buffer of floats of four bytes", ["0.5", "16,777,216.0"], lambda: ENGLISH.format_many(array.array("f", [0.5, 2.0**24])))
+judge("bytes are whole numbers", ["49", "0", "255"], lambda: ENGLISH.format_many(b"1\0\xff"))
+judge("NaN of a buffer", (NotFormatted, 1, "NaN", "not a decimal"), lambda: ENGLISH.format_many(array.array("d", [1, float("nan")])))
+judge("infinity of a buffer, marked", ["1.0", "?"], lambda: ENGLISH.format_many(array.array("d", [1, float("inf")]), mark="?"))
+judge("an empty buffer", [], lambda: ENGLISH.format_many(array.array("d")))
+judge("more numbers than are read at once", [f"{value:,}" for value in range(5000)], lambda: ENGLISH.format_many(range(5000)))
+judge("as many as are read at once", [f"{value:,}" for value in range(1024)], lambda: ENGLISH.format_many(array.array("q", range(1024))))
+numpy: Any = importlib.import_module("numpy") if importlib.util.find_spec("numpy") else None
+if numpy is not None:
+    for kind in ("int8", "uint16", "int32", "int64", "uint64", "float64"):
+        COLUMN = numpy.array([0, 1, 100], dtype=kind)
+        judge(f"numpy's {kind}", ["0", "1", "100"], lambda: Formatter(SIX, "en", skeleton="").format_many(COLUMN))
+        judge(f"one of numpy's {kind}", "100", lambda: Formatter(SIX, "en", skeleton="").format(COLUMN[2]))
+    judge("numpy's float64 of a list", ["0.1", "0.5"], lambda: ENGLISH.format_many([numpy.float64(0.1), numpy.float64(0.5)]))
+    judge("numpy's float32", ["0.5", "2.0"], lambda: ENGLISH.format_many(numpy.array([0.5, 2], dtype="float32")))
+    judge("one of numpy's float32", "0.5", lambda: ENGLISH.format(numpy.float32(0.5)))
+    judge("a column of a matrix", ["1", "3"], lambda: ENGLISH.format_many(numpy.array([[1, 2], [3, 4]])[:, 0]))
+    judge("numbers of another order", ["1", "2"], lambda: ENGLISH.format_many(numpy.array([1, 2], dtype=">i8")))
+
+# `fraction` is a skeleton: plain numbers have the texts that Python's decimal gave them, and compact ones the digits asked for.
+ROUNDED = [f"{CHANCE.randrange(-10**12, 10**12)}e-{CHANCE.randrange(0, 12)}" for _ in range(500)]
+for count in (0, 1, 2, 5):
+    QUANTUM = Decimal((0, (1,), -count))
+    EXACT = [Decimal(text) for text in ROUNDED]
+    judge(f"{count} fraction digits as Python's decimal rounds", [f"{value.quantize(QUANTUM):,f}" for value in EXACT],
+          lambda: Formatter(SIX, "en", fraction=count).format_many(EXACT))
+    judge(f"{count} fraction digits in plain English", [f"{value.quantize(QUANTUM):,f}" for value in EXACT],
+          lambda: Formatter.english(fraction=count).format_many(EXACT))
+judge("fraction digits of a compact number", ["1.65K", "1.00M"],
+      lambda: Formatter(SIX, "en", style="short", fraction=2).format_many([1650, 999999]))
+judge("fraction, system and grouping", "১২৩৪৫.৫০", lambda: Formatter(SIX, "bn", system="beng", grouping="never", fraction=2).format("12345.5"))
+judge("fraction and always", "1,234.5", lambda: Formatter(SIX, "en", grouping="always", fraction=1).format("1234.5"))
+judge("fraction and another style", WordsRefused, lambda: Formatter(SIX, "en", style="tall", fraction=1))
+judge("fraction and another grouping", WordsRefused, lambda: Formatter(SIX, "en", grouping="some", fraction=1))
+judge("fraction and another system", WordsRefused, lambda: Formatter(SIX, "en", system="no system", fraction=1))
+WRONG: list[Any] = [-1, 1000, True, 0.5]
+for wrong in WRONG:
+    judge(f"fraction {wrong}", ValueError, lambda: Formatter(SIX, "en", fraction=wrong))
+judge("a text that can't be rounded", (NotFormatted, 0, "1e3", "not a decimal"), lambda: Formatter.english(fraction=2).format("1e3"))
+
+# English by a skeleton, without tables.
+judge("dollars", "$1,234.50", lambda: Formatter.english(skeleton="currency/USD").format(1234.5))
+judge("compact yen", "¥1.2M", lambda: Formatter.english(skeleton="K currency/JPY").format(1234567))
+judge("percents", "12.3%", lambda: Formatter.english(skeleton="%x100 .0").format(0.1234))
+judge("Swiss francs", NoData, lambda: Formatter.english(skeleton="currency/CHF"))
+judge("a fault in English", (SkeletonRefused, 8, "unknownStem", "unknown stem"), lambda: Formatter.english(skeleton="percent foo"))
+judge("a skeleton and a fraction in English", TypeError, lambda: Formatter.english(skeleton="%", fraction=1))
+
+# Skeletons of ECMA-402's options.
+SKELETONS: list[tuple[dict[str, Any], str]] = [
+    ({}, ".### rounding-mode-half-up"),
+    ({"style": "percent"}, "percent precision-integer rounding-mode-half-up scale/100"),
+    ({"style": "percent", "minimum_fraction_digits": 1}, "percent .0 rounding-mode-half-up scale/100"),
+    ({"style": "currency", "currency": "eur"}, "currency/EUR rounding-mode-half-up"),
+    ({"style": "currency", "currency": "USD", "currency_display": "narrowSymbol", "currency_sign": "accounting",
+      "rounding_mode": "halfEven"}, "currency/USD unit-width-narrow sign-accounting"),
+    ({"style": "currency", "currency": "USD", "currency_display": "code"}, "currency/USD rounding-mode-half-up unit-width-iso-code"),
+    ({"style": "currency", "currency": "USD", "currency_display": "name"}, "currency/USD rounding-mode-half-up unit-width-full-name"),
+    ({"style": "currency", "currency": "USD", "maximum_fraction_digits": 0}, "currency/USD precision-integer rounding-mode-half-up"),
+    ({"style": "currency", "currency": "USD", "maximum_fraction_digits": 4}, "currency/USD .00## rounding-mode-half-up"),
+    ({"style": "currency", "currency": "JPY", "maximum_fraction_digits": 4}, "currency/JPY .#### rounding-mode-half-up"),
+    ({"style": "currency", "currency": "KWD", "minimum_fraction_digits": 1}, "currency/KWD .0## rounding-mode-half-up"),
+    ({"style": "currency", "currency": "USD", "trailing_zero_display": "stripIfInteger"},
+     "currency/USD precision-currency-standard/w rounding-mode-half-up"),
+    ({"style": "currency", "currency": "USD", "notation": "compact"}, "compact-short currency/USD rounding-mode-half-up"),
+    ({"style": "unit", "unit": "kilometer-per-hour"}, "unit/kilometer-per-hour .### rounding-mode-half-up"),
+    ({"style": "unit", "unit": "liter", "unit_display": "long"}, "unit/liter .### rounding-mode-half-up unit-width-full-name"),
+    ({"style": "unit", "unit": "liter", "unit_display": "narrow"}, "unit/liter .### rounding-mode-half-up unit-width-narrow"),
+    ({"notation": "compact"}, "compact-short rounding-mode-half-up"),
+    ({"notation": "compact", "compact_display": "long", "rounding_mode": "halfEven"}, "compact-long"),
+    ({"notation": "compact", "maximum_fraction_digits": 1}, "compact-short .# rounding-mode-half-up"),
+    ({"notation": "compact", "minimum_fraction_digits": 1}, "compact-short .0## rounding-mode-half-up"),
+    ({"notation": "compact", "use_grouping": "auto"}, "compact-short rounding-mode-half-up group-auto"),
+    ({"notation": "compact", "use_grouping": "min2"}, "compact-short rounding-mode-half-up"),
+    ({"notation": "compact", "trailing_zero_display": "stripIfInteger"}, "compact-short precision-integer/@@*/w rounding-mode-half-up"),
+    ({"use_grouping": False}, ".### rounding-mode-half-up group-off"),
+    ({"use_grouping": True}, ".### rounding-mode-half-up group-on-aligned"),
+    ({"use_grouping": "auto"}, ".### rounding-mode-half-up"),
+    ({"use_grouping": "min2"}, ".### rounding-mode-half-up group-min2"),
+    ({"numbering_system": "latn"}, ".### rounding-mode-half-up latin"),
+    ({"numbering_system": "arab"}, ".### rounding-mode-half-up numbering-system/arab"),
+    ({"minimum_integer_digits": 3}, ".### rounding-mode-half-up integer-width/*000"),
+    ({"minimum_fraction_digits": 5}, ".00000 rounding-mode-half-up"),
+    ({"minimum_fraction_digits": 1, "maximum_fraction_digits": 2}, ".0# rounding-mode-half-up"),
+    ({"maximum_fraction_digits": 0}, "precision-integer rounding-mode-half-up"),
+    ({"minimum_significant_digits": 2, "maximum_significant_digits": 4}, "@@## rounding-mode-half-up"),
+    ({"maximum_significant_digits": 3}, "@## rounding-mode-half-up"),
+    ({"minimum_significant_digits": 3}, "@@@" + "#" * 18 + " rounding-mode-half-up"),
+    ({"minimum_fraction_digits": 1, "maximum_significant_digits": 3}, "@## rounding-mode-half-up"),
+    ({"maximum_fraction_digits": 2, "maximum_significant_digits": 3, "rounding_priority": "morePrecision"},
+     ".##/@##r rounding-mode-half-up"),
+    ({"maximum_fraction_digits": 0, "minimum_significant_digits": 2, "maximum_significant_digits": 3, "rounding_priority": "lessPrecision"},
+     "precision-integer/@@#s rounding-mode-half-up"),
+    ({"rounding_increment": 5, "minimum_fraction_digits": 2, "maximum_fraction_digits": 2}, "precision-increment/0.05 rounding-mode-half-up"),
+    ({"rounding_increment": 50, "minimum_fraction_digits": 2, "maximum_fraction_digits": 2}, "precision-increment/0.50 rounding-mode-half-up"),
+    ({"rounding_increment": 2500, "minimum_fraction_digits": 2, "maximum_fraction_digits": 2},
+     "precision-increment/25.00 rounding-mode-half-up"),
+    ({"rounding_increment": 25}, "precision-increment/25 rounding-mode-half-up"),
+    ({"rounding_increment": 5, "style": "currency", "currency": "CHF"}, "currency/CHF precision-increment/0.05 rounding-mode-half-up"),
+    ({"sign_display": "always"}, ".### rounding-mode-half-up sign-always"),
+    ({"sign_display": "exceptZero", "style": "currency", "currency": "USD", "currency_sign": "accounting"},
+     "currency/USD rounding-mode-half-up sign-accounting-except-zero"),
+    ({"sign_display": "never", "style": "currency", "currency": "USD", "currency_sign": "accounting"},
+     "currency/USD rounding-mode-half-up sign-never"),
+    ({"sign_display": "negative", "currency_sign": "accounting"}, ".### rounding-mode-half-up sign-negative"),
+    ({"rounding_mode": "ceil"}, ".### rounding-mode-ceiling"),
+    ({"rounding_mode": "expand"}, ".### rounding-mode-up"),
+    ({"rounding_mode": "trunc"}, ".### rounding-mode-down"),
+    ({"rounding_mode": "halfTrunc"}, ".### rounding-mode-half-down"),
+]
+for options, skeleton in SKELETONS:
+    judge(f"the skeleton of {options}", skeleton, lambda: talmuiga.skeleton_of(**options))
+    judge(f"it is canonical: {options}", skeleton, lambda: talmuiga.canonical_skeleton(skeleton))
+judge("a skeleton that is left out", "scientific", lambda: talmuiga.skeleton_of(notation="scientific").split()[0])
+REFUSED: list[tuple[dict[str, Any], type[Exception]]] = [
+    ({"style": "money"}, ValueError), ({"style": "currency"}, TypeError), ({"style": "unit"}, TypeError), ({"currency": "EURO"}, ValueError),
+    ({"currency": "EU/"}, ValueError), ({"unit": "a b"}, ValueError), ({"numbering_system": "a"}, ValueError), ({"tall": 1}, TypeError),
+    ({"minimum_integer_digits": 0}, ValueError), ({"minimum_integer_digits": 22}, ValueError), ({"minimum_integer_digits": True}, ValueError),
+    ({"minimum_fraction_digits": -1}, ValueError), ({"maximum_fraction_digits": 101}, ValueError),
+    ({"minimum_fraction_digits": 3, "maximum_fraction_digits": 2}, ValueError),
+    ({"minimum_significant_digits": 3, "maximum_significant_digits": 2}, ValueError), ({"maximum_significant_digits": 22}, ValueError),
+    ({"rounding_increment": 3}, ValueError), ({"rounding_increment": True}, ValueError),
+    ({"rounding_increment": 5, "maximum_significant_digits": 2}, TypeError), ({"rounding_increment": 5, "notation": "compact"}, TypeError),
+    ({"rounding_increment": 5, "minimum_fraction_digits": 1, "maximum_fraction_digits": 2}, ValueError),
+    ({"use_grouping": "some"}, ValueError), ({"rounding_mode": "half"}, ValueError),
+]
+for options, exception in REFUSED:
+    judge(f"no skeleton of {options}", exception, lambda: talmuiga.skeleton_of(**options))
+judge("options in a locale", "1.234.567,13\u00a0€",
+      lambda: Formatter(SIX, "de", skeleton=talmuiga.skeleton_of(style="currency", currency="EUR")).format("1234567.125"))
+
+# Babel's names.
+BABEL = talmuiga.babel
+BABEL.use_tables(SIX)
+judge("Babel: a number", "1.236,123", lambda: BABEL.format_decimal(1236.1234, locale="de"))
+judge("Babel: without groups", "1236,123", lambda: BABEL.format_decimal(1236.1234, locale="de_DE", group_separator=False))
+judge("Babel: all digits", "1,236.12345678", lambda: BABEL.format_decimal("1236.12345678", locale="en_US", decimal_quantization=False))
+judge("Babel: half to even", ["1.234", "1.236"], lambda: [BABEL.format_number(text, "en") for text in ("1.2345", "1.2355")])
+judge("Babel: an amount", "1.099,98\u00a0€", lambda: BABEL.format_currency(1099.98, "EUR", locale="de_DE"))
+judge("Babel: all digits of an amount", "€1,099.9876", lambda: BABEL.format_currency("1099.9876", "EUR", locale="en", decimal_quantization=False))
+judge("Babel: at least the digits of an amount", "€1,099.00", lambda: BABEL.format_currency(1099, "EUR", locale="en", decimal_quantization=False))
+judge("Babel: two digits", "€1.00", lambda: BABEL.format_currency(1, "EUR", locale="en", currency_digits=False))
+judge("Babel: in accounting", "(€1.50)", lambda: BABEL.format_currency(-1.5, "EUR", locale="en", format_type="accounting"))
+judge("Babel: without groups of an amount", "€1099.98", lambda: BABEL.format_currency(1099.98, "EUR", locale="en", group_separator=False))
+judge("Babel: percents", "34%", lambda: BABEL.format_percent(0.34, locale="en_US"))
+judge("Babel: percents in groups", "2,512%", lambda: BABEL.format_percent(25.1234, locale="en_US"))
+judge("Babel: all digits of percents", "2,512.34%", lambda: BABEL.format_percent(25.1234, locale="en_US", decimal_quantization=False))
+judge("Babel: compact", ["12K", "12 thousand", "12.34K", "1.23M"], lambda: [
+    BABEL.format_compact_decimal(12345, locale="en_US"), BABEL.format_compact_decimal(12345, format_type="long", locale="en_US"),
+    BABEL.format_compact_decimal(12345, locale="en_US", fraction_digits=2), BABEL.format_compact_decimal(1234567, locale="en", fraction_digits=2)])
+judge("Babel: a pattern", ValueError, lambda: BABEL.format_decimal(1, "#,##0", locale="en"))
+judge("Babel: another form", ValueError, lambda: BABEL.format_currency(1, "EUR", locale="en", format_type="tall"))
+judge("Babel: another length", ValueError, lambda: BABEL.format_unit(1, "meter", "tall", locale="en"))
+judge("Babel: another locale", NoData, lambda: BABEL.format_decimal(1, locale="tlh"))
+judge("Babel: another currency", NoData, lambda: BABEL.format_currency(1, "XTS", locale="en"))
+judge("Babel: no such unit", NoData, lambda: BABEL.format_unit(1, "length-parsec", locale="en"))
+judge("Babel: no number", (NotFormatted, 0, "x", "not a decimal"), lambda: BABEL.format_decimal("x", locale="en"))
+theirs: Any = importlib.import_module("babel.numbers") if importlib.util.find_spec("babel") else None
+if theirs is not None:
+    for locale in ("en", "de", "fr", "ja"):
+        NUMBERS = [Decimal(CHANCE.randrange(-10**9, 10**9)).scaleb(-CHANCE.randrange(0, 7)) for _ in range(100)]
+        for arguments in ({}, {"group_separator": False}, {"decimal_quantization": False}):
+            for name, words in (("format_decimal", []), ("format_percent", []), ("format_currency", ["EUR"])):
+                judge(f"{name} as Babel in {locale}, {arguments}",
+                      [getattr(theirs, name)(number, *words, locale=locale, **arguments) for number in NUMBERS],
+                      lambda: [getattr(BABEL, name)(number, *words, locale=locale, **arguments) for number in NUMBERS])
+        judge(f"accounting as Babel in {locale}",
+              [theirs.format_currency(number, "EUR", locale=locale, format_type="accounting") for number in NUMBERS],
+              lambda: [BABEL.format_currency(number, "EUR", locale=locale, format_type="accounting") for number in NUMBERS])
+os.environ.update(LC_ALL="de_DE.UTF-8")
+judge("Babel: the locale of the environment", "1,5", lambda: BABEL.format_decimal(1.5))
+os.environ.update(LC_ALL="C")
+judge("Babel: no locale", "1.5", lambda: BABEL.format_decimal(1.5))
+os.environ.update(LC_ALL="", LC_NUMERIC="fr_FR", LANG="de")
+judge("Babel: the locale for numbers", "1,5", lambda: BABEL.format_decimal(1.5))
+UNITS = json.loads(SIX)
+UNITS["units"] = [{"locale": "en", "width": width, "unit": "kilometer", "patterns": patterns} for width, patterns in (
+    ("long", {"one": "{0} kilometer", "other": "{0} kilometers"}), ("short", {"other": "{0} km"}), ("narrow", {"other": "{0}km"}))]
+BABEL.use_tables(json.dumps(UNITS).encode())
+judge("Babel: units", ["12 kilometers", "1 kilometer", "1,234.5 km"], lambda: [
+    BABEL.format_unit(12, "length-kilometer", locale="en"), BABEL.format_unit(1, "kilometer", locale="en_GB"),
+    BABEL.format_unit("1234.5", "length-kilometer", length="short", locale="en")])
+
+
+def command(*words: str, given: str = "") -> tuple[int, str, str]:
+    """The status, output and messages of `python -m talmuiga`."""
+    ran = subprocess.run([sys.executable, "-m", "talmuiga", *words], input=given, capture_output=True, text=True, check=False)
+    return ran.returncode, ran.stdout, ran.stderr
+
+
+SIX_NAME = sys.argv[2]
+judge("command: English", (0, "1,234.5\n-5\n", ""), lambda: command("1234.5", "--", "-5"))
+judge("command: a skeleton", (0, "1.234,50\u00a0€\n", ""), lambda: command("-t", SIX_NAME, "-l", "de", "-s", "currency/EUR", "1234.5"))
+judge("command: lines", (0, "1,000\n2\n", ""), lambda: command(given="1000\r\n2"))
+judge("command: parts", (0, "$1.50\n  0..1 currency $\n  1..2 integer 1\n  2..3 decimal .\n  3..5 fraction 50\n", ""),
+      lambda: command("-s", "currency/USD", "--parts", "1.5"))
+judge("command: no number", (2, "1\n2\n", "talmuiga: number 2: 'x': not a decimal\n"), lambda: command("1", "x", "2"))
+judge("command: a fault", (1, "", "talmuiga: the skeleton is refused: unknown stem, byte 8\n"), lambda: command("-s", "percent foo", "1"))
+judge("command: a canonical text", (0, "compact-short currency/EUR\n", ""), lambda: command("--canonical", "currency/eur K"))
+judge("command: tables", (0, f"{SIX_NAME}: accepted\n", ""), lambda: command("--judge", SIX_NAME))
+judge("command: no tables", (1, "", "talmuiga: /none: No such file or directory\n"), lambda: command("-t", "/none", "1"))
+judge("command: another locale", (1, "", "talmuiga: de: without tables the locale is en\n"), lambda: command("-l", "de", "1"))
+judge("command: another option", 2, lambda: command("--tall")[0])
+judge("command: no data", 1, lambda: command("-t", SIX_NAME, "-l", "xx", "1")[0])
+
+# What tables hold.
+judge("locales", ["en", "de", "fr", "ja", "bn", "ar-EG"], lambda: talmuiga.names_in(SIX, "locales"))
+judge("systems", {"latn", "beng", "arab"}, lambda: set(talmuiga.names_in(SIX, "systems")))
+judge("currencies", ["EUR"], lambda: talmuiga.names_in(SIX, "currencies"))
+judge("no units", [], lambda: talmuiga.names_in(SIX, "units"))
+judge("units", ["kilometer"], lambda: talmuiga.names_in(json.dumps(UNITS).encode(), "units"))
+judge("tables without lists", [], lambda: talmuiga.names_in(b"{}", "locales"))
+judge("names in no tables", (TablesRefused, "the tables are refused: not JSON"), lambda: talmuiga.names_in(b"{", "units"))
+ANYTHING: Any = "words"
+judge("names of another kind", ValueError, lambda: talmuiga.names_in(SIX, ANYTHING))
+MANY_NAMES = [f"x{number:07}" for number in range(1000)]
+judge("many names", MANY_NAMES, lambda: talmuiga.names_in(
+    json.dumps({"units": [{"unit": name} for name in MANY_NAMES + MANY_NAMES[::-1]]}).encode(), "units"))
+judge("command: names", (0, "EUR\n", ""), lambda: command("-t", SIX_NAME, "--list", "currencies"))
+judge("command: names without tables", 2, lambda: command("--list", "currencies")[0])
+
+# Bad input: long skeletons, skeletons and tables that threads open and close, tables of another version.
+MEGABYTE = 1 << 20
+judge("a skeleton of a megabyte of digits", (SkeletonRefused, 0, "tooManyDigits", "more than 999 digits"),
+      lambda: Formatter(SIX, "de", skeleton="0" * MEGABYTE))
+judge("a skeleton of a megabyte of blanks", "1", lambda: Formatter(SIX, "de", skeleton=" " * MEGABYTE).format(1))
+judge("a unit of a megabyte", NoData, lambda: Formatter(SIX, "de", skeleton="unit/" + "a" * MEGABYTE))
+judge("tables with keys of another version", "1,0", lambda: Formatter(json.dumps({**json.loads(SIX), "exponents": [7]}).encode(), "de").format("1.0"))
+judge("tables of an older version", NoData, lambda: Formatter(SAMPLE, "de", skeleton="currency/EUR"))
+judge("tables cut short", TablesRefused, lambda: type(call_error(lambda: Formatter(SIX[:-40], "de"))))
+for size in (0, 1, 100, len(SIX) - 2):
+    judge(f"the first {size} bytes of tables", TablesRefused, lambda: type(call_error(lambda: Formatter(SIX[:size], "de"))))
+
 WANTED = [f"{n:,}" for n in range(20000)]
 GIVEN: list[list[str]] = []
 THREADS = [threading.Thread(target=lambda: GIVEN.append(ENGLISH.format_many(range(20000)))) for _ in range(8)]
@@ -131,4 +420,22 @@ for thread in THREADS:
 for thread in THREADS:
     thread.join()
 judge("eight threads", [WANTED] * 8, lambda: GIVEN)
+
+
+def opens_and_closes(seconds: float, seen: list[object]) -> None:
+    """Opens formatters of its own and closes them, and formats with one that others use."""
+    until = time.monotonic() + seconds
+    while time.monotonic() < until:
+        seen.append(PRICES.format("1234.5"))
+        seen.append(Formatter(SIX, "de", skeleton="currency/EUR").format("1234.5"))
+        seen.append(ENGLISH.format_many(array.array("d", [1234.5]))[0].replace(",", "."))
+
+
+SEEN: list[object] = []
+THREADS = [threading.Thread(target=opens_and_closes, args=(0.5, SEEN)) for _ in range(8)]
+for thread in THREADS:
+    thread.start()
+for thread in THREADS:
+    thread.join()
+judge("eight threads that open and close", {"1.234,50\u00a0€", "1.234.5"}, lambda: set(SEEN))
 print(f"{CASES - FAILED} passed, {FAILED} failed")

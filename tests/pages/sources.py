@@ -73,10 +73,11 @@ def judge_sample() -> None:
 
 
 def judge_english() -> None:
-    """The constant of the program locnum has the bytes of the file."""
-    literal = re.search(r'= "((?:[^"\\]|\\["\\])*)";$', read_exactly("crates/locnum/src/english.rt"), flags=re.M)
-    text = re.sub(r"\\(.)", r"\1", literal.group(1)) if literal else None
-    judge(text == read_exactly("tables/english.json"), "crates/locnum: isn't the text of tables/english.json")
+    """The constants of the program locnum and of the library for C have the bytes of the file."""
+    for crate in ("locnum", "talmuiga_c"):
+        literal = re.search(r'= "((?:[^"\\]|\\["\\])*)";$', read_exactly(f"crates/{crate}/src/english.rt"), flags=re.M)
+        text = re.sub(r"\\(.)", r"\1", literal.group(1)) if literal else None
+        judge(text == read_exactly("tables/english.json"), f"crates/{crate}: isn't the text of tables/english.json")
 
 
 def judge_signs() -> None:

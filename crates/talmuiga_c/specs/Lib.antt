@@ -1,9 +1,11 @@
 pub mod Answers
 pub mod Asked
 pub mod Endings
+pub mod English
 pub mod Faults
 pub mod Handle
 pub mod Kept
+pub mod Listing
 pub mod Marked
 pub mod SkeletonFaults
 pub mod Skeletons

@@ -3,12 +3,14 @@
 #![tactic(auto)]
 
 mod asked;
+mod english;
 mod fault;
 mod form_lines;
 mod formatting;
 mod handle;
 mod judging;
 mod kept;
+mod listing;
 mod marked;
 mod output;
 mod skeletons;
@@ -18,9 +20,11 @@ ghost use Rattle.decimal_lines.specs.Plain.{english};
 ghost use Rattle.decimal_lines.specs.declared.mode.Mode.TheVariants.{Plain};
 ghost use Rattle.talmuiga_c.specs.Asked.{words_asked};
 ghost use Rattle.talmuiga_c.specs.Endings.{Ends, IsFormatted};
+ghost use Rattle.talmuiga_c.specs.English.{english_locale, english_tables};
 ghost use Rattle.talmuiga_c.specs.Faults.{IsJudged};
 ghost use Rattle.talmuiga_c.specs.Handle.{empty, holding};
 ghost use Rattle.talmuiga_c.specs.Kept.{IsWrittenSoFar, IsShown, Opens, OpensIn, version};
+ghost use Rattle.talmuiga_c.specs.Listing.{IsListed, listed_kind};
 ghost use Rattle.talmuiga_c.specs.Marked.{IsShownInParts};
 ghost use Rattle.std.specs.Prelude.{◌≡◌, Ok};
 ghost use Rattle.std.specs.Mem.{type_size};
@@ -30,11 +34,13 @@ ghost use Rattle.talmuiga_c.specs.Skeletons.{IsCanonical, OpensSkeleton};
 
 use asked::words_asked;
 use decimal_lines::Mode;
+use english::ENGLISH;
 use fault::Fault;
 use formatting::{format_asked, format_by};
 use handle::Formatter;
 use judging::judge_in_words;
 use kept::{Kept, Reached, format_lines_in, format_one_in, open_asked};
+use listing::list_tables;
 use marked::{Span, format_parts_in};
 use skeletons::{open_skeleton, put_canonical};
 use std::alloc::Global;
@@ -158,6 +164,24 @@ pub extern "C" fn talmuiga_formatter_open_skeleton_sized(
     open_skeleton(alloc, tables, locale, skeleton, fault, formatter)
 }
 
+/// Opens a formatter in English by a number skeleton, without tables: by those of English that the
+/// library has. What is wrong with the skeleton is set, or zeros.
+// promise: A skeleton determines the English form, or none.
+// mutations: english_skeleton_in_another_locale
+#[unsafe(no_mangle)]
+pub extern "C" fn talmuiga_formatter_open_english_skeleton_sized(
+    alloc: Global,
+    skeleton: &[u8],
+    fault: &mut Fault,
+    formatter: &mut Formatter,
+) -> u32
+    requires empty { formatter.old.held ≡ empty }
+    ensures opens { OpensSkeleton english_locale skeleton.now english_tables formatter.new.held
+        fault.new result }
+{
+    open_skeleton(alloc, ENGLISH.as_bytes(), b"en", skeleton, fault, formatter)
+}
+
 /// Writes the canonical text of a number skeleton, if it fits, and sets its length, and what is
 /// wrong with the skeleton, or zeros.
 // promise: A skeleton has its canonical text, or its first fault.
@@ -271,6 +295,23 @@ pub extern "C" fn talmuiga_tables_fault_sized(
     ensures { IsJudged tables.now output.old output.new length.new result }
 {
     judge_in_words(alloc, tables, output, length)
+}
+
+/// Writes what tables have of a kind, a name in each line and each once, if it fits, and sets the
+/// length.
+// promise: A kind and tables determine the names that are listed.
+// mutations: listed_twice
+#[unsafe(no_mangle)]
+pub extern "C" fn talmuiga_tables_list_sized(
+    alloc: Global,
+    tables: &[u8],
+    kind: u32,
+    output: &mut [u8],
+    length: &mut usize,
+) -> u32
+    ensures { IsListed (listed_kind kind) tables.now output.old output.new length.new result }
+{
+    list_tables(alloc, tables, kind, output, length)
 }
 
 /// The number of the version: the first part times 10000, the second times 100, the third.

@@ -5,22 +5,29 @@
     '1,000,007'
     >>> talmuiga.canonical_skeleton("K currency/eur")
     'compact-short currency/EUR'
+    >>> talmuiga.skeleton_of(style="unit", unit="kilometer", unit_display="long")
+    'unit/kilometer .### rounding-mode-half-up unit-width-full-name'
 
-A `Formatter` reads its tables once, when it is made, and threads may share it.
+A `Formatter` reads its tables once, when it is made, and threads may share it. `talmuiga.babel` has functions with Babel's names, and
+`python -m talmuiga` is a command.
 """
 from __future__ import annotations
 
-from decimal import MAX_EMAX, MAX_PREC, MIN_EMIN, ROUND_HALF_EVEN, Context, Decimal, InvalidOperation
-from typing import Iterable, List, Optional, Tuple, Union, cast
+import operator
+import re
+from decimal import Decimal
+from typing import Any, Iterable, List, Literal, Optional, Sequence, SupportsFloat, SupportsIndex, Tuple, Union, cast
 
 from . import _library
+from .options import skeleton_of
 
 __all__ = ["Formatter", "NoData", "NotFormatted", "Number", "Refused", "SkeletonRefused", "TablesRefused", "WordsRefused",
-           "canonical_skeleton", "tables_fault"]
+           "canonical_skeleton", "names_in", "skeleton_of", "tables_fault"]
 __version__ = "0.2.0"
 
-#: What is formatted: a whole number, a decimal, a text that spells one, or a float by its shortest text.
-Number = Union[int, Decimal, str, float]
+#: What is formatted: a whole number, a decimal, a text that spells one, or a float by its shortest text. Numbers of other types, as
+#: those of numpy, are taken as the whole number or the float that they convert to.
+Number = Union[int, Decimal, str, float, SupportsIndex, SupportsFloat]
 
 #: Statuses of the library for C.
 OUT_OF_MEMORY, WORDS_REFUSED, TABLES_REFUSED, NO_DATA = 1, 2, 3, 4
@@ -36,8 +43,20 @@ PARTS = {1: "minusSign", 2: "plusSign", 3: "integer", 4: "fraction", 5: "group",
 KINDS = {1: "notUtf8", 2: "unknownStem", 3: "leftOut", 4: "repeated", 5: "tooManyDigits", 6: "noOptionHere", 7: "straySlash",
          8: "emptyOption", 9: "badOption", 10: "optionMissing", 11: "incrementOfCompact", 12: "unsupported"}
 
-#: Decimals as long as they are.
-EXACT = Context(prec=MAX_PREC, Emax=MAX_EMAX, Emin=MIN_EMIN, rounding=ROUND_HALF_EVEN)
+#: What tables can be asked for, by the numbers in the library for C.
+LISTED = {"locales": 1, "systems": 2, "currencies": 3, "units": 4}
+
+#: The stems of groups by the words of `grouping`: always and auto write the same.
+GROUPINGS = {"auto": "group-auto", "always": "group-auto", "never": "group-off", "min2": "group-min2"}
+
+#: The stems of styles.
+STYLES = {"plain": "", "short": "compact-short", "long": "compact-long"}
+
+#: The most fraction digits.
+MOST_DIGITS = 999
+
+#: The letters of `struct` whose numbers are read from a buffer as they lie.
+LETTERS = frozenset("bBhHiIlLqQfd")
 
 
 class Refused(ValueError):
@@ -80,22 +99,18 @@ class NotFormatted(ValueError):
 
 
 def text_of(number: Number) -> str:
-    """The text of a number: of a float the shortest that is read as it, without an exponent."""
+    """The text of a number: of a float the shortest that is read as it, without an exponent; else a `TypeError`."""
     if isinstance(number, str):
         return number
     if isinstance(number, float):
-        number = Decimal(repr(number))
-    if isinstance(number, Decimal):
-        return format(number, "f")
-    return str(int(number))
-
-
-def rounded(text: str, fraction: int) -> str:
-    """The text of a decimal with so many digits of fraction, half to even; another text is as it was."""
-    try:
-        return format(Decimal(text).quantize(Decimal((0, (1,), -fraction)), context=EXACT), "f")
-    except InvalidOperation:
-        return text
+        number = Decimal(float.__repr__(number))
+    if not isinstance(number, Decimal):
+        try:
+            # a decimal, since Python refuses to spell whole numbers of more than 4300 digits itself
+            number = Decimal(operator.index(cast(SupportsIndex, number)))
+        except TypeError:
+            number = Decimal(float.__repr__(float(cast(SupportsFloat, number))))
+    return format(number, "f")
 
 
 def utf8(text: str) -> bytes:
@@ -122,6 +137,20 @@ def tables_fault(tables: bytes) -> Optional[str]:
     return _library.fault(bytes(tables)) or None
 
 
+def names_in(tables: bytes, kind: Literal["locales", "systems", "currencies", "units"]) -> List[str]:
+    """The names of a kind that tables have, each once, in the order in which they stand first.
+
+    A `ValueError` where the kind is none, and `TablesRefused` where the tables aren't JSON in UTF-8.
+    """
+    if kind not in LISTED:
+        raise ValueError(f"kind is one of {', '.join(LISTED)}, not {kind!r}")
+    tables = bytes(tables)
+    lines = _library.list(tables, LISTED[kind])
+    if isinstance(lines, int):
+        raise refusal(lines, [], tables)
+    return lines.split("\n")[:-1]
+
+
 def refusal(status: int, words: List[str], tables: bytes = b"") -> Exception:
     """The exception of a formatter that isn't opened."""
     if status == WORDS_REFUSED:
@@ -140,14 +169,44 @@ def not_formatted(index: int, text: str, status: int) -> Exception:
     return NotFormatted(index, text, REASONS[status])
 
 
+def rounding_skeleton(style: Optional[str], system: Optional[str], grouping: Optional[str], fraction: int) -> str:
+    """The skeleton of the words of a formatter that rounds; `WordsRefused` where a word is none, and `ValueError` where the count is none."""
+    if isinstance(fraction, bool) or not isinstance(fraction, int) or not 0 <= fraction <= MOST_DIGITS:
+        raise ValueError(f"fraction is a whole number from 0 to {MOST_DIGITS}, not {fraction!r}")
+    is_system = not system or system == "-" or re.fullmatch("[A-Za-z0-9]{3,8}", system)
+    if not is_system or (style or "plain") not in STYLES or (grouping or "auto") not in GROUPINGS:
+        raise refusal(WORDS_REFUSED, ["-", system or "-", style or "plain", grouping or ""])
+    tokens = [
+        STYLES[style or "plain"],
+        "." + "0" * fraction if fraction else "precision-integer",
+        GROUPINGS[grouping] if grouping else "",
+        f"numbering-system/{system.lower()}" if system and system != "-" else "",
+    ]
+    return " ".join(filter(None, tokens))
+
+
+def raw_numbers(numbers: object) -> Optional[Tuple[bytes, str, int]]:
+    """The bytes of a buffer of numbers, the letter of one and how many bytes it has; none for anything else."""
+    try:
+        view = memoryview(cast(Any, numbers))
+    except (TypeError, ValueError):
+        return None
+    letter = view.format.lstrip("@")
+    if view.ndim != 1 or letter not in LETTERS:
+        return None
+    return view.tobytes(), letter, view.itemsize
+
+
 class Formatter:
     """Formats numbers by tables (docs/FORMATS.md), in a locale.
 
     `system` is the numbering system that is preferred, `style` is plain, short or long, plain by default, and `grouping`
-    auto, never, always or min2; without it the style decides. `fraction` rounds each number half to even to so many digits
-    behind the point. In the place of these four `skeleton` is a number skeleton, as `currency/EUR` or `%x100 .0`, by which
-    the library rounds. What can't be is refused here, by `WordsRefused`, `SkeletonRefused`, `TablesRefused` or `NoData`,
-    and if memory runs out, by `MemoryError`.
+    auto, never, always or min2; without it the style decides. `fraction` rounds half to even to so many digits behind the point,
+    in a compact number behind that of its significand. In the place of these four `skeleton` is a number skeleton, as
+    `currency/EUR` or `%x100 .0`; `skeleton_of` makes one of options. The library rounds, and Python computes nothing.
+
+    What can't be is refused here, by `WordsRefused`, `SkeletonRefused` (with byte and kind), `TablesRefused` or `NoData`, and if
+    memory runs out, by `MemoryError`.
     """
 
     def __init__(
@@ -163,6 +222,8 @@ class Formatter:
     ):
         if skeleton is not None and any(word is not None for word in (system, style, grouping, fraction)):
             raise TypeError("a formatter by a skeleton has no system, style, grouping or fraction")
+        if fraction is not None:
+            skeleton = rounding_skeleton(style, system, grouping, fraction)
         words = [locale] if skeleton is not None else [locale, system or "-", style or "plain", grouping or ""]
         tables = bytes(tables)
         opened: Union[_library.Capsule, int, Tuple[int, int, str]]
@@ -177,28 +238,42 @@ class Formatter:
             raise skeleton_refusal(opened)
         if isinstance(opened, int):
             raise refusal(opened, words, tables)
-        self._opened, self._fraction = opened, fraction
+        self._opened = opened
 
     @classmethod
-    def english(cls, *, fraction: Optional[int] = None) -> "Formatter":
-        """A formatter in plain English, as 1,234.5, without tables."""
-        opened = _library.open_english()
+    def english(cls, *, skeleton: Optional[str] = None, fraction: Optional[int] = None) -> "Formatter":
+        """A formatter in plain English, as 1,234.5, or by a skeleton in English, without tables.
+
+        English knows numbers in full and in compact form, percents, and dollars, euros, pounds and yen; what else a skeleton asks for
+        is `NoData`. `fraction` rounds half to even to so many digits behind the point.
+        """
+        if skeleton is not None and fraction is not None:
+            raise TypeError("a formatter by a skeleton has no fraction")
+        if fraction is not None:
+            skeleton = rounding_skeleton(None, None, None, fraction)
+        opened: Union[_library.Capsule, int, Tuple[int, int, str]]
+        if skeleton is None:
+            opened = _library.open_english()
+        else:
+            opened = _library.open_english_skeleton(utf8(skeleton))
+        if isinstance(opened, tuple):
+            raise skeleton_refusal(opened)
         if isinstance(opened, int):
             raise refusal(opened, ["en"])
         formatter = cls.__new__(cls)
-        formatter._opened, formatter._fraction = opened, fraction
+        formatter._opened = opened
         return formatter
-
-    def _text(self, number: Number) -> str:
-        text = number if type(number) is str else text_of(number)
-        return text if self._fraction is None else rounded(text, self._fraction)
 
     def format(self, number: Number) -> str:
         """The text of one number; `NotFormatted` where it has none."""
-        shown = _library.one(self._opened, self._text(number))
+        shown = _library.one(self._opened, number, text_of)
         if isinstance(shown, int):
-            raise not_formatted(0, self._text(number), shown)
+            raise not_formatted(0, text_of(number), shown)
         return shown
+
+    def __call__(self, number: Number) -> str:
+        """The same as `format`."""
+        return self.format(number)
 
     def parts(self, number: Number) -> Tuple[str, List[Tuple[int, int, str]]]:
         """The text of one number, and of each of its parts where it begins, where it ends, and its name.
@@ -207,28 +282,39 @@ class Formatter:
         plusSign, integer, fraction, group, decimal, currency, percentSign and unit; the integer holds the separators of its
         groups, and in a compact number the sign alone has a part. `NotFormatted` where the number has no text.
         """
-        shown = _library.parts(self._opened, self._text(number))
+        given = text_of(number)
+        shown = _library.parts(self._opened, given)
         if isinstance(shown, int):
-            raise not_formatted(0, self._text(number), shown)
+            raise not_formatted(0, given, shown)
         text, spans = shown
         return text, [(begin, end, PARTS.get(part, "other")) for begin, end, part in spans]
 
     def format_many(self, numbers: Iterable[Number], *, mark: Optional[str] = None) -> List[str]:
-        """The texts of numbers, in their order, by one call of the library.
+        """The texts of numbers, in their order, by one call of the library, without the interpreter's lock.
 
-        Where one isn't formatted `NotFormatted` says which; with `mark` that text stands in its place, and the rest is
-        formatted.
+        The numbers are those of any iterable. A buffer of numbers, as an `array.array` or a column of numpy, is read as it lies. Where
+        a number isn't formatted, `NotFormatted` has its index, its text and the reason; with `mark` that text stands in its place, and
+        the rest is formatted.
         """
-        if self._fraction is None:
-            texts = [number if type(number) is str else text_of(number) for number in numbers]
+        buffer = raw_numbers(numbers)
+        if buffer is None:
+            # a list of our own, since nobody may change it meanwhile
+            own = list(numbers)
+            given: Sequence[Number] = own
+            answers = _library.many(self._opened, own, text_of)
         else:
-            texts = [self._text(number) for number in numbers]
-        answers = _library.many(self._opened, texts)
+            given = cast(Sequence[Number], numbers)
+            answers = _library.raw(self._opened, *buffer)
         if int in set(map(type, answers)):
-            for index, answer in enumerate(answers):
-                if isinstance(answer, int):
-                    if mark is None or answer == OUT_OF_MEMORY:
-                        raise not_formatted(index, texts[index], answer)
-                    answers[index] = mark
+            replace_refused(answers, given, mark)
         # no status is left among them
         return cast(List[str], answers)
+
+
+def replace_refused(answers: List[Union[str, int]], given: Sequence[Number], mark: Optional[str]) -> None:
+    """Puts a mark in the place of each status, or raises the exception of the first."""
+    for index, answer in enumerate(answers):
+        if isinstance(answer, int):
+            if mark is None or answer == OUT_OF_MEMORY:
+                raise not_formatted(index, text_of(given[index]), answer)
+            answers[index] = mark

@@ -5,6 +5,8 @@
 
 #include "talmuiga.h"
 
+#include <stdio.h>
+
 static const char NAME[] = "talmuiga formatter";
 
 enum { ROOM = 512, SPANS = 64 };
@@ -25,8 +27,12 @@ static PyObject *open_by_tables(PyObject *Py_UNUSED(module), PyObject *words) {
     const char *tables, *locale, *system, *style, *grouping;
     Py_ssize_t len;
     talmuiga_formatter *formatter;
+    uint32_t status;
     if (!PyArg_ParseTuple(words, "y#ssss", &tables, &len, &locale, &system, &style, &grouping)) return NULL;
-    uint32_t status = talmuiga_formatter_open(tables, (size_t)len, locale, system, style, grouping, &formatter);
+    /* bytes and texts don't change, and the tuple keeps them */
+    Py_BEGIN_ALLOW_THREADS
+    status = talmuiga_formatter_open(tables, (size_t)len, locale, system, style, grouping, &formatter);
+    Py_END_ALLOW_THREADS
     return opened(status, formatter);
 }
 
@@ -40,9 +46,11 @@ static PyObject *open_by_skeleton(PyObject *Py_UNUSED(module), PyObject *words) 
     Py_ssize_t len, skeleton_len;
     talmuiga_fault found;
     talmuiga_formatter *formatter;
+    uint32_t status;
     if (!PyArg_ParseTuple(words, "y#sy#", &tables, &len, &locale, &skeleton, &skeleton_len)) return NULL;
-    uint32_t status = talmuiga_formatter_open_skeleton(tables, (size_t)len, locale, skeleton, (size_t)skeleton_len, &found,
-                                                       &formatter);
+    Py_BEGIN_ALLOW_THREADS
+    status = talmuiga_formatter_open_skeleton(tables, (size_t)len, locale, skeleton, (size_t)skeleton_len, &found, &formatter);
+    Py_END_ALLOW_THREADS
     return status == TALMUIGA_SKELETON_REFUSED ? triple_of(&found) : opened(status, formatter);
 }
 
@@ -52,6 +60,105 @@ static PyObject *open_english(PyObject *Py_UNUSED(module), PyObject *Py_UNUSED(n
     return opened(status, formatter);
 }
 
+static PyObject *open_english_by_skeleton(PyObject *Py_UNUSED(module), PyObject *words) {
+    const char *skeleton;
+    Py_ssize_t skeleton_len;
+    talmuiga_fault found;
+    talmuiga_formatter *formatter;
+    if (!PyArg_ParseTuple(words, "y#", &skeleton, &skeleton_len)) return NULL;
+    uint32_t status = talmuiga_formatter_open_english_skeleton(skeleton, (size_t)skeleton_len, &found, &formatter);
+    return status == TALMUIGA_SKELETON_REFUSED ? triple_of(&found) : opened(status, formatter);
+}
+
+/* ---- The texts of numbers. */
+
+enum { SHORT = 32 };
+
+/* Bytes that grow. */
+struct bytes {
+    char *at;
+    size_t len, room;
+};
+
+/* Room for so many bytes more; whether there is. */
+static int grows(struct bytes *bytes, size_t more) {
+    size_t room = bytes->room;
+    if (room - bytes->len >= more) return 1;
+    while (room - bytes->len < more) room = 2 * room + SHORT;
+    char *at = (char *)realloc(bytes->at, room);
+    if (!at) return 0;
+    bytes->at = at;
+    bytes->room = room;
+    return 1;
+}
+
+/* Appends a text; whether there was memory. */
+static int append(struct bytes *bytes, const char *text, size_t len) {
+    if (!grows(bytes, len)) {
+        PyErr_NoMemory();
+        return 0;
+    }
+    memcpy(bytes->at + bytes->len, text, len);
+    bytes->len += len;
+    return 1;
+}
+
+static int append_whole(struct bytes *bytes, long long value) {
+    char text[SHORT];
+    return append(bytes, text, (size_t)snprintf(text, sizeof text, "%lld", value));
+}
+
+static int append_unsigned(struct bytes *bytes, unsigned long long value) {
+    char text[SHORT];
+    return append(bytes, text, (size_t)snprintf(text, sizeof text, "%llu", value));
+}
+
+/* Appends the digits of a text as "1.5e-07" without the exponent: "0.00000015". */
+static int append_without_exponent(struct bytes *bytes, const char *text, const char *mark) {
+    char digits[SHORT], plain[400];
+    size_t count = 0, at = 0;
+    long before, power = strtol(mark + 1, NULL, 10);
+    const char *point = NULL, *c = text;
+    if (*c == '-') plain[at++] = *c++;
+    for (; c < mark && count < sizeof digits; c++) {
+        if (*c == '.') point = c;
+        else digits[count++] = *c;
+    }
+    /* how many digits stand before the separator; an exponent of a double has three digits, so that there is room */
+    before = (long)(point ? point - text - (long)at : (long)count) + power;
+    if (before <= 0) {
+        plain[at++] = '0';
+        plain[at++] = '.';
+        for (long i = before; i < 0; i++) plain[at++] = '0';
+    }
+    for (size_t i = 0; i < count; i++) {
+        if (i > 0 && (long)i == before) plain[at++] = '.';
+        plain[at++] = digits[i];
+    }
+    for (long i = (long)count; i < before; i++) plain[at++] = '0';
+    return append(bytes, plain, at);
+}
+
+/* Appends the shortest text that is read as a float. */
+static int append_float(struct bytes *bytes, double value) {
+    char *text = PyOS_double_to_string(value, 'r', 0, Py_DTSF_ADD_DOT_0, NULL);
+    if (!text) return 0;
+    const char *mark = strchr(text, 'e');
+    int appended = mark ? append_without_exponent(bytes, text, mark) : append(bytes, text, strlen(text));
+    PyMem_Free(text);
+    return appended;
+}
+
+/* Appends the text of a float or of a whole number of 64 bits: 1, or 0 with an exception, or -1 for anything else. */
+static int append_number(struct bytes *bytes, PyObject *number) {
+    if (PyFloat_Check(number)) return append_float(bytes, PyFloat_AsDouble(number));
+    if (!PyLong_Check(number)) return -1;
+    int overflow;
+    long long value = PyLong_AsLongLongAndOverflow(number, &overflow);
+    if (overflow) return -1;
+    return (value != -1 || !PyErr_Occurred()) && append_whole(bytes, value);
+}
+
 /* The answer to a number that isn't UTF-8: a text with half of a pair is no decimal. */
 static PyObject *no_text(void) {
     if (!PyErr_ExceptionMatches(PyExc_UnicodeEncodeError)) return NULL;
@@ -59,18 +166,15 @@ static PyObject *no_text(void) {
     return PyLong_FromLong(TALMUIGA_NOT_DECIMAL);
 }
 
-/* The text that a number is formatted to, or the status where it isn't. */
-static PyObject *shown(const talmuiga_formatter *formatter, PyObject *number) {
+/* The text that a decimal's text is formatted to, or the status where it isn't. */
+static PyObject *shown_bytes(const talmuiga_formatter *formatter, const char *text, size_t len) {
     char room[ROOM], *output = room;
-    Py_ssize_t len;
     size_t length;
-    const char *text = PyUnicode_AsUTF8AndSize(number, &len);
-    if (!text) return no_text();
-    uint32_t status = talmuiga_formatter_one(formatter, text, (size_t)len, output, ROOM, &length);
+    uint32_t status = talmuiga_formatter_one(formatter, text, len, output, ROOM, &length);
     if (status == TALMUIGA_OUTPUT_TOO_SMALL) {
         output = (char *)PyMem_Malloc(length);
         if (!output) return PyErr_NoMemory();
-        status = talmuiga_formatter_one(formatter, text, (size_t)len, output, length, &length);
+        status = talmuiga_formatter_one(formatter, text, len, output, length, &length);
     }
     PyObject *answer =
         status ? PyLong_FromUnsignedLong(status) : PyUnicode_DecodeUTF8(output, (Py_ssize_t)length, NULL);
@@ -78,11 +182,37 @@ static PyObject *shown(const talmuiga_formatter *formatter, PyObject *number) {
     return answer;
 }
 
-static PyObject *one(PyObject *Py_UNUSED(module), PyObject *words) {
-    PyObject *capsule, *number;
-    if (!PyArg_ParseTuple(words, "OU", &capsule, &number)) return NULL;
-    const talmuiga_formatter *formatter = (const talmuiga_formatter *)PyCapsule_GetPointer(capsule, NAME);
-    return formatter ? shown(formatter, number) : NULL;
+/* The same of a str. */
+static PyObject *shown(const talmuiga_formatter *formatter, PyObject *number) {
+    Py_ssize_t len;
+    const char *text = PyUnicode_AsUTF8AndSize(number, &len);
+    return text ? shown_bytes(formatter, text, (size_t)len) : no_text();
+}
+
+/* The same of a number that isn't a str; of what is no float and no whole number of 64 bits `text_of` answers the text. */
+static PyObject *shown_number(const talmuiga_formatter *formatter, PyObject *number, PyObject *text_of) {
+    struct bytes own = {NULL, 0, 0};
+    PyObject *answer = NULL;
+    int appended = append_number(&own, number);
+    if (appended > 0) {
+        answer = shown_bytes(formatter, own.at, own.len);
+    } else if (appended < 0) {
+        PyObject *text = PyObject_CallFunctionObjArgs(text_of, number, NULL);
+        if (text) answer = shown(formatter, text);
+        Py_XDECREF(text);
+    }
+    free(own.at);
+    return answer;
+}
+
+static PyObject *one(PyObject *Py_UNUSED(module), PyObject *const *words, Py_ssize_t count) {
+    if (count != 3) {
+        PyErr_SetString(PyExc_TypeError, "a formatter, a number and a function");
+        return NULL;
+    }
+    const talmuiga_formatter *formatter = (const talmuiga_formatter *)PyCapsule_GetPointer(words[0], NAME);
+    if (!formatter) return NULL;
+    return PyUnicode_Check(words[1]) ? shown(formatter, words[1]) : shown_number(formatter, words[1], words[2]);
 }
 
 /* A list of spans as triples; places in bytes become places in characters. */
@@ -142,19 +272,198 @@ static PyObject *parts(PyObject *Py_UNUSED(module), PyObject *words) {
     return formatter ? shown_in_parts(formatter, number) : NULL;
 }
 
-/* A list of what `one` answers to each text of a list. */
+/* ---- Many numbers: read with the interpreter's lock, formatted without it, made into texts with it again, a thousand at
+ * a time. */
+
+enum { AT_ONCE = 1024 };
+
+/* A number's text, which a str keeps or which stands in `own` from `start` on, and its answer, which stands in `output`. */
+struct number {
+    const char *text;
+    size_t start, len;
+    uint32_t status;
+    size_t answer_len;
+};
+
+/* Some numbers on their way. */
+struct batch {
+    size_t count;
+    struct number numbers[AT_ONCE];
+    struct bytes own, output;
+};
+
+static struct batch *new_batch(void) {
+    struct batch *batch = (struct batch *)calloc(1, sizeof *batch);
+    if (!batch) PyErr_NoMemory();
+    return batch;
+}
+
+static void free_batch(struct batch *batch) {
+    free(batch->own.at);
+    free(batch->output.at);
+    free(batch);
+}
+
+/* Adds a text that somebody keeps. */
+static void add_kept(struct batch *batch, const char *text, size_t len) {
+    batch->numbers[batch->count++] = (struct number){text, 0, len, TALMUIGA_DONE, 0};
+}
+
+/* Adds the text that the last bytes of `own` are, from one on; what `append` answered is handed on. */
+static int add_own(struct batch *batch, size_t start, int appended) {
+    if (appended) batch->numbers[batch->count++] = (struct number){NULL, start, batch->own.len - start, TALMUIGA_DONE, 0};
+    return appended;
+}
+
+/* Formats the numbers; the interpreter's lock isn't needed. Whether there was memory for their texts. */
+static int format_batch(const talmuiga_formatter *formatter, struct batch *batch) {
+    struct bytes *output = &batch->output;
+    output->len = 0;
+    for (size_t i = 0; i < batch->count; i++) {
+        struct number *number = &batch->numbers[i];
+        const char *text = number->text ? number->text : batch->own.at + number->start;
+        if (!grows(output, number->len + SHORT)) return 0;
+        number->status = talmuiga_formatter_one(formatter, text, number->len, output->at + output->len,
+                                                output->room - output->len, &number->answer_len);
+        if (number->status == TALMUIGA_OUTPUT_TOO_SMALL) {
+            if (!grows(output, number->answer_len)) return 0;
+            number->status = talmuiga_formatter_one(formatter, text, number->len, output->at + output->len,
+                                                    output->room - output->len, &number->answer_len);
+        }
+        output->len += number->answer_len;
+    }
+    return 1;
+}
+
+/* Formats what is in the batch, puts the texts or statuses into a list from `first` on, and empties the batch. */
+static int put_batch(const talmuiga_formatter *formatter, struct batch *batch, PyObject *answers, Py_ssize_t first) {
+    int formatted;
+    size_t start = 0;
+    Py_BEGIN_ALLOW_THREADS
+    formatted = format_batch(formatter, batch);
+    Py_END_ALLOW_THREADS
+    if (!formatted) {
+        PyErr_NoMemory();
+        return 0;
+    }
+    for (size_t i = 0; i < batch->count; i++) {
+        const struct number *number = &batch->numbers[i];
+        PyObject *answer = number->status
+                               ? PyLong_FromUnsignedLong(number->status)
+                               : PyUnicode_DecodeUTF8(batch->output.at + start, (Py_ssize_t)number->answer_len, NULL);
+        start += number->answer_len;
+        /* the list takes the answer, whether it finds the place or not */
+        if (!answer || PyList_SetItem(answers, first + (Py_ssize_t)i, answer)) return 0;
+    }
+    batch->count = batch->own.len = 0;
+    return 1;
+}
+
+/* The text of a number that is neither a str, a float nor a whole number of 64 bits: as `text_of` answers, in place of it in the
+ * list, which so keeps it. */
+static int add_text(struct batch *batch, PyObject *numbers, Py_ssize_t index, PyObject *text_of) {
+    PyObject *number = PyList_GetItem(numbers, index);
+    if (!PyUnicode_Check(number)) {
+        number = PyObject_CallFunctionObjArgs(text_of, number, NULL);
+        if (!number || PyList_SetItem(numbers, index, number)) return 0;
+    }
+    Py_ssize_t len;
+    const char *text = PyUnicode_AsUTF8AndSize(number, &len);
+    if (text) {
+        add_kept(batch, text, (size_t)len);
+        return 1;
+    }
+    if (!PyErr_ExceptionMatches(PyExc_UnicodeEncodeError)) return 0;
+    PyErr_Clear();
+    /* half of a pair: a text that is no decimal either */
+    add_kept(batch, "", 0);
+    return 1;
+}
+
+/* Adds a number of a list. */
+static int add_number(struct batch *batch, PyObject *numbers, Py_ssize_t index, PyObject *text_of) {
+    PyObject *number = PyList_GetItem(numbers, index);
+    if (!number) return 0;
+    size_t start = batch->own.len;
+    int appended = append_number(&batch->own, number);
+    return appended < 0 ? add_text(batch, numbers, index, text_of) : add_own(batch, start, appended);
+}
+
+/* A list of what `one` answers to each number of a list, which nobody else has; what spells no number itself is replaced in it by
+ * its text, by a function. */
 static PyObject *many(PyObject *Py_UNUSED(module), PyObject *words) {
-    PyObject *capsule, *numbers;
-    if (!PyArg_ParseTuple(words, "OO!", &capsule, &PyList_Type, &numbers)) return NULL;
+    PyObject *capsule, *numbers, *text_of;
+    if (!PyArg_ParseTuple(words, "OO!O", &capsule, &PyList_Type, &numbers, &text_of)) return NULL;
     const talmuiga_formatter *formatter = (const talmuiga_formatter *)PyCapsule_GetPointer(capsule, NAME);
-    if (!formatter) return NULL;
-    Py_ssize_t count = PyList_Size(numbers);
+    struct batch *batch = formatter ? new_batch() : NULL;
+    if (!batch) return NULL;
+    Py_ssize_t count = PyList_Size(numbers), first = 0;
     PyObject *answers = PyList_New(count);
     for (Py_ssize_t i = 0; answers && i < count; i++) {
-        PyObject *number = PyList_GetItem(numbers, i);
-        PyObject *answer = number ? shown(formatter, number) : NULL;
-        if (!answer || PyList_SetItem(answers, i, answer)) Py_CLEAR(answers);
+        int is_last = i + 1 == count || batch->count + 1 == AT_ONCE;
+        if (!add_number(batch, numbers, i, text_of) || (is_last && !put_batch(formatter, batch, answers, first))) {
+            Py_CLEAR(answers);
+        } else if (is_last) {
+            first = i + 1;
+        }
     }
+    free_batch(batch);
+    return answers;
+}
+
+/* Appends the text of the number at some bytes, by its letter of Python's module `struct`. */
+static int append_raw(struct bytes *own, const char *at, int letter) {
+#define WHOLE(letter_of, type, kind, wide) \
+    case letter_of: { \
+        type value; \
+        memcpy(&value, at, sizeof value); \
+        return append_##kind(own, (wide)value); \
+    }
+    switch (letter) {
+        WHOLE('b', signed char, whole, long long)
+        WHOLE('B', unsigned char, whole, long long)
+        WHOLE('h', short, whole, long long)
+        WHOLE('H', unsigned short, whole, long long)
+        WHOLE('i', int, whole, long long)
+        WHOLE('I', unsigned, whole, long long)
+        WHOLE('l', long, whole, long long)
+        WHOLE('q', long long, whole, long long)
+        WHOLE('L', unsigned long, unsigned, unsigned long long)
+        WHOLE('Q', unsigned long long, unsigned, unsigned long long)
+        WHOLE('f', float, float, double)
+        WHOLE('d', double, float, double)
+        default: PyErr_SetString(PyExc_ValueError, "no such letter"); return 0;
+    }
+#undef WHOLE
+}
+
+/* Adds the number at some bytes. */
+static int add_raw(struct batch *batch, const char *at, int letter) {
+    size_t start = batch->own.len;
+    return add_own(batch, start, append_raw(&batch->own, at, letter));
+}
+
+/* A list of what `one` answers to each number of bytes, which are numbers of one letter of `struct`, in this machine's form. */
+static PyObject *raw(PyObject *Py_UNUSED(module), PyObject *words) {
+    PyObject *capsule;
+    const char *bytes;
+    Py_ssize_t len, size;
+    int letter;
+    if (!PyArg_ParseTuple(words, "Oy#Cn", &capsule, &bytes, &len, &letter, &size)) return NULL;
+    const talmuiga_formatter *formatter = (const talmuiga_formatter *)PyCapsule_GetPointer(capsule, NAME);
+    struct batch *batch = formatter ? new_batch() : NULL;
+    if (!batch) return NULL;
+    Py_ssize_t count = size > 0 ? len / size : 0, first = 0;
+    PyObject *answers = PyList_New(count);
+    for (Py_ssize_t i = 0; answers && i < count; i++) {
+        int is_last = i + 1 == count || batch->count + 1 == AT_ONCE;
+        if (!add_raw(batch, bytes + i * size, letter) || (is_last && !put_batch(formatter, batch, answers, first))) {
+            Py_CLEAR(answers);
+        } else if (is_last) {
+            first = i + 1;
+        }
+    }
+    free_batch(batch);
     return answers;
 }
 
@@ -173,6 +482,26 @@ static PyObject *fault(PyObject *Py_UNUSED(module), PyObject *words) {
     }
     PyObject *answer = status == TALMUIGA_OUT_OF_MEMORY ? PyErr_NoMemory()
                                                         : PyUnicode_DecodeUTF8(output, (Py_ssize_t)length, NULL);
+    if (output != room) PyMem_Free(output);
+    return answer;
+}
+
+/* What tables hold of a kind, a name in each line, or the status. */
+static PyObject *list(PyObject *Py_UNUSED(module), PyObject *words) {
+    char room[ROOM], *output = room;
+    const char *tables;
+    Py_ssize_t len;
+    size_t length;
+    unsigned kind;
+    if (!PyArg_ParseTuple(words, "y#I", &tables, &len, &kind)) return NULL;
+    uint32_t status = talmuiga_tables_list(tables, (size_t)len, kind, output, ROOM, &length);
+    if (status == TALMUIGA_OUTPUT_TOO_SMALL) {
+        output = (char *)PyMem_Malloc(length);
+        if (!output) return PyErr_NoMemory();
+        status = talmuiga_tables_list(tables, (size_t)len, kind, output, length, &length);
+    }
+    PyObject *answer =
+        status ? PyLong_FromUnsignedLong(status) : PyUnicode_DecodeUTF8(output, (Py_ssize_t)length, NULL);
     if (output != room) PyMem_Free(output);
     return answer;
 }
@@ -203,10 +532,14 @@ static PyMethodDef methods[] = {
     {"open_skeleton", open_by_skeleton, METH_VARARGS, "A formatter by tables, a locale and a skeleton, or a status or a fault."},
     {"canonical", canonical, METH_VARARGS, "The canonical text of a skeleton, or a fault."},
     {"open_english", open_english, METH_NOARGS, "A formatter in plain English, or a status."},
+    {"open_english_skeleton", open_english_by_skeleton, METH_VARARGS,
+     "A formatter in English by a skeleton, or a status or a fault."},
     {"fault", fault, METH_VARARGS, "Why tables are refused; an empty text where they aren't."},
-    {"one", one, METH_VARARGS, "What a text is formatted to, or a status."},
+    {"list", list, METH_VARARGS, "What tables hold of a kind, a name in each line, or a status."},
+    {"one", (PyCFunction)(void (*)(void))one, METH_FASTCALL, "What a number is formatted to, or a status."},
     {"parts", parts, METH_VARARGS, "What a text is formatted to and its parts, in characters, or a status."},
-    {"many", many, METH_VARARGS, "A list of what the texts of a list are formatted to, or of statuses."},
+    {"many", many, METH_VARARGS, "A list of what the numbers of a list are formatted to, or of statuses."},
+    {"raw", raw, METH_VARARGS, "A list of what the numbers of some bytes are formatted to, or of statuses."},
     {NULL, NULL, 0, NULL},
 };
 

@@ -1,0 +1,9 @@
+use Rattle.std.proofs.Common.{◌≡◌, map, drop}
+use Rattle.serde_json.specs.View.{view}
+use Rattle.talmuiga_c.specs.Listing.{with_codes}
+use Rattle.talmuiga_c.proofs.listing.take_codes.Given as goal
+
+-- the codes so far and those of the entries that are left are all
+abbrev pub invariant-loop-value : goal.invariant-loop-value
+invariant-loop-value l = with_codes (map (λ text. text.now) l.names.items) (map view (drop l.value-index l.values))
+    ≡ with_codes (map (λ text. text.now) l.initial.names.items) (map view l.values)
