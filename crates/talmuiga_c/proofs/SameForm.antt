@@ -2,7 +2,7 @@
 use Rattle.std.proofs.Common.{◌≡◌, ℕ, List, refl, sym, inl, inr}
 use Rattle.std.specs.Prelude.{◌⊎◌, Bool, true, false, Option, Some, None, option_map, Result, Ok, Err}
 use Rattle.std.specs.Borrow.{Bor}
-use Rattle.number_forms.specs.Loaded.{unit_by_notation}
+use Rattle.number_forms.specs.Loaded.{unit_by_notation, unit_loaded, unit_long_loaded, unit_short_loaded}
 use Rattle.number_forms.specs.Making.{form_of}
 use Rattle.number_forms.specs.Settings.{FormSettings}
 use Rattle.number_forms.specs.Skeleton.{◌>>=◌, default_precision, grouping_set, kind_set, money_set, patterns_set, percent_set, permille_set}
@@ -101,9 +101,32 @@ module _ {G : Type 0} (grouping : Result G Unsupported) (with_kind : G → Optio
       → SameKind k l → SameForms (with_all grouping o k) (with_all grouping o l)
   same-all = same grouping
 
+-- settings with another kind
+abbrev with_kind : FormSettings → Kind → FormSettings
+with_kind x kind = record {
+  locale = x.locale;
+  system = x.system;
+  grouping = x.grouping;
+  precision = x.precision;
+  mode = x.mode;
+  hides_zeros_of_whole = x.hides_zeros_of_whole;
+  integer_digits = x.integer_digits;
+  scale = x.scale;
+  sign = x.sign;
+  kind = kind;
+}
+
+-- the form of numbers with a unit, wherever the unit's name lies
+same-unit : (x : FormSettings) (name : Bor (List ℕ)) (w : patterns.UnitWidth) (n : Notation) (tables : List ℕ)
+    → form_asked (with_kind x (WithUnit (unit.Named name) w n)) tables ≡ form_asked (with_kind x (WithUnit (unit.Named (lent name.now)) w n)) tables
+unfolding form_asked form_of unit_by_notation unit_loaded unit_short_loaded unit_long_loaded
+same-unit x name w Simple tables = refl
+same-unit x name w CompactShort tables = refl
+same-unit x name w CompactLong tables = refl
+
 -- the settings of a skeleton, wherever its names lie
 pub same-settings : (locale : List ℕ) (s : Skeleton) → SameForms (settings_of locale s) (settings_of locale (moved s))
-unfolding settings_of form_asked form_of unit_by_notation
+unfolding settings_of
 same-settings locale s = rw (sym (same-system s.system), sym (same-precision s s.notation s.precision))
     (same-all (grouping_set s.grouping) (λ g o k. record {
       locale = locale;
@@ -116,4 +139,15 @@ same-settings locale s = rw (sym (same-system s.system), sym (same-precision s s
       scale = s.scale;
       sign = s.sign;
       kind = k;
-    }) (λ g o name w n tables. refl) (system_set s.system) (kind_set s s.unit) (kind_set (moved s) (moved s).unit) (same-kind s s.unit))
+    }) (λ g o name w n tables. same-unit (record {
+      locale = locale;
+      system = o;
+      grouping = g;
+      precision = precision_set s s.notation s.precision;
+      mode = s.mode;
+      hides_zeros_of_whole = s.hides_zeros_of_whole;
+      integer_digits = s.integer_digits;
+      scale = s.scale;
+      sign = s.sign;
+      kind = WithUnit (unit.Named name) w n;
+    }) name w n tables) (system_set s.system) (kind_set s s.unit) (kind_set (moved s) (moved s).unit) (same-kind s s.unit))

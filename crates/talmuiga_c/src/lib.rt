@@ -279,7 +279,7 @@ pub extern "C" fn talmuiga_formatter_close_sized(formatter: &mut Formatter)
     requires open { formatter.old.held ≡ holding kept }
     ensures closed { formatter.new.held ≡ empty }
 {
-    let _kept = formatter.take();
+    drop(formatter.take());
 }
 
 /// Judges tables, and says in a text why they are rejected.
