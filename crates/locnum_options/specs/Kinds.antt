@@ -109,8 +109,8 @@ unfoldable pub named_given : List ℕ → Notation → Given → Result Kind Opt
 named_given text notation given = do
   code ← currency_named text
   if flag_of given (codes "accounting") then Err fault.Accounting
-    else if flag_of given (codes "cash") && not (is_simple notation) then Err fault.CompactCash
-    else Ok (MoneyNamed code (flag_of given (codes "cash")) notation)
+      else if flag_of given (codes "cash") && not (is_simple notation) then Err fault.CompactCash
+      else Ok (MoneyNamed code (flag_of given (codes "cash")) notation)
 
 -- amounts of a currency, with its name or its symbol
 unfoldable pub currency_given : List ℕ → Notation → Given → Result Kind OptionFault
