@@ -47,7 +47,7 @@ _locnum() {
     --style) mapfile -t COMPREPLY < <(compgen -W 'plain short long' -- "$word") ;;
     --currency) mapfile -t COMPREPLY < <(compgen -W "$(_locnum_list currencies)" -- "$word") ;;
     --unit) mapfile -t COMPREPLY < <(compgen -W "$(_locnum_list units)" -- "$word") ;;
-    --width) mapfile -t COMPREPLY < <(compgen -W 'short narrow name long' -- "$word") ;;
+    --width) mapfile -t COMPREPLY < <(compgen -W 'short narrow code hidden name long' -- "$word") ;;
     --round) mapfile -t COMPREPLY < <(compgen -W 'half-even half-up half-down half-ceiling half-floor up down ceiling floor' -- "$word") ;;
     --grouping=) mapfile -t COMPREPLY < <(compgen -W 'auto never always min2' -- "$word") ;;
     --sign) mapfile -t COMPREPLY < <(compgen -W 'auto always never except-zero negative' -- "$word") ;;
