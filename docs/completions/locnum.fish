@@ -25,7 +25,7 @@ complete -c locnum -l currency -x -a '(__locnum_list currencies)' -d 'amounts of
 complete -c locnum -l accounting -d 'amounts as in accounts, as ($1.00)'
 complete -c locnum -l cash -d 'amounts as in cash, 1.13 francs as CHF 1.15'
 complete -c locnum -l unit -x -a '(__locnum_list units)' -d 'a unit of the tables, such as kilometer'
-complete -c locnum -l width -x -a 'short narrow code hidden name long' -d 'short, narrow, code, hidden or name; of units long'
+complete -c locnum -l width -x -a 'short narrow code hidden name long' -d 'short, narrow, code, hidden, name or long'
 complete -c locnum -l percent -d 'numbers as percents, 0.5 as 50%'
 complete -c locnum -l fraction -x -d 'how many fraction digits'
 complete -c locnum -l significant -x -d 'how many significant digits'

@@ -108,7 +108,7 @@ pub(crate) const OPTIONS: [OptionEntry; 28] = [
         name: "width",
         letter: None,
         takes: Takes::Text("WIDTH"),
-        help: "short, narrow, code, hidden or name; of units long",
+        help: "short, narrow, code, hidden, name or long",
     },
     OptionEntry {
         heading: NUMBERS,
