@@ -128,8 +128,20 @@ fn result_of<'a>(
     }
 }
 
-/// What the form of a file answers. No other function has a form of its own, since all that it may
-/// hold is gone through where it is given back.
+/// What a form answers that isn't used any more.
+fn last_result_of<'a>(
+    alloc: Global,
+    form: Form,
+    asked: (&'a [Pair<'a>], &LineSettings),
+    question: Question<'_>,
+) -> CallResult {
+    let answer = result_of(alloc, &form, asked, question);
+    drop(form);
+    answer
+}
+
+/// What the form of a file answers. A form is given back by a function of its own, since all that
+/// it may hold is gone through there.
 fn by_form<'a>(
     alloc: Global,
     settings: &Settings<'_>,
@@ -138,7 +150,7 @@ fn by_form<'a>(
     question: Question<'_>,
 ) -> CallResult {
     match Form::of(alloc, settings, file) {
-        Ok(form) => result_of(alloc, &form, asked, question),
+        Ok(form) => last_result_of(alloc, form, asked, question),
         Err(error) => no_form(alloc, error),
     }
 }
