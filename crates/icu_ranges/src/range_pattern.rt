@@ -67,7 +67,7 @@ impl RangePattern {
     /// The pattern of a text: `{0}`, a separator without braces, and `{1}`. Any other text is a
     /// `BadRangePattern`.
     // promise: Just the other texts are rejected.
-    // mutations: parse_no_space_before, parse_space_beside_white_space
+    // mutations: parse_empty_separator_accepted, parse_brace_in_the_separator
     pub fn parse(alloc: Global, text: &str) -> Result<Self, RangePatternError>
         ensures read { IfOk result (λ p. (s : List ℕ) × IsRangePattern text.now s
             × (p ≡ separator_of s)) }

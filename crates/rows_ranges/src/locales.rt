@@ -1,0 +1,114 @@
+//! Ranges by the numbers of a locale: `LOCALE`, or `LOCALE/short` and `LOCALE/long` for compact
+//! numbers. Behind them may stand `/twice`: two equal texts are both written.
+
+use crate::ends::range;
+use crate::faults::Fault;
+use crate::written::asked;
+use icu_decimal::options::{CompactDecimalFormatterOptions, DecimalFormatterOptions};
+use icu_decimal::preferences::{CompactDecimalFormatterPreferences, DecimalFormatterPreferences};
+use icu_decimal::{CompactDecimalFormatter, DecimalFormatter};
+use icu_decimal_interface::AbstractFormatter;
+use icu_provider::DataLocale;
+use icu_ranges::{NumberRangeFormatter, RangeIdentityFallback, RangePattern};
+use icu_tables::Tables;
+use rows::Documents;
+use std::alloc::Global;
+
+/// A pattern and two numbers.
+type Range<'a> = (&'a str, &'a str, &'a str);
+
+/// What is written for two equal texts, by a word.
+pub(crate) fn fallback_of(word: &str) -> RangeIdentityFallback {
+    if word.ends_with("/twice") {
+        RangeIdentityFallback::Range
+    } else {
+        RangeIdentityFallback::default()
+    }
+}
+
+/// What ranges over a formatter answer.
+fn over<F: AbstractFormatter + Drop>(
+    alloc: Global,
+    formatter: F,
+    fallback: RangeIdentityFallback,
+    call: &str,
+    (pattern, start, end): Range<'_>,
+) -> Result<String, Fault> {
+    let pattern = RangePattern::parse(alloc, pattern)?;
+    let formatter = NumberRangeFormatter::new(formatter, pattern, fallback);
+    asked(alloc, &formatter, call, &range(alloc, start, end)?)
+}
+
+/// The name of the locale in a word.
+pub(crate) fn name_of(word: &str) -> &str {
+    match word.split_once('/') {
+        Some((name, _)) => name,
+        None => word,
+    }
+}
+
+/// The compact formatter of a locale.
+fn compact(alloc: Global, tables: &Tables, word: &str) -> Result<CompactDecimalFormatter, Fault> {
+    let Ok(locale) = DataLocale::try_from_str(name_of(word)) else {
+        return Err(Fault::Unreadable);
+    };
+    let preferences = CompactDecimalFormatterPreferences {
+        locale_preferences: locale,
+        numbering_system: None,
+    };
+    let options = CompactDecimalFormatterOptions::default();
+    if word.contains("/short") {
+        Ok(CompactDecimalFormatter::try_new_short_unstable(alloc, tables, preferences, options)?)
+    } else {
+        Ok(CompactDecimalFormatter::try_new_long_unstable(alloc, tables, preferences, options)?)
+    }
+}
+
+/// The plain formatter of a locale.
+pub(crate) fn plain(alloc: Global, tables: &Tables, word: &str) -> Result<DecimalFormatter, Fault> {
+    let Ok(locale) = DataLocale::try_from_str(name_of(word)) else {
+        return Err(Fault::Unreadable);
+    };
+    let preferences = DecimalFormatterPreferences {
+        locale_preferences: locale,
+        numbering_system: None,
+    };
+    let options = DecimalFormatterOptions::default();
+    Ok(DecimalFormatter::try_new_unstable(alloc, tables, preferences, options)?)
+}
+
+/// What a call by tables answers.
+fn by_tables(
+    alloc: Global,
+    tables: &Tables,
+    call: &str,
+    word: &str,
+    range: Range<'_>,
+) -> Result<String, Fault> {
+    let fallback = fallback_of(word);
+    if word.contains("/short") || word.contains("/long") {
+        over(alloc, compact(alloc, tables, word)?, fallback, call, range)
+    } else {
+        over(alloc, plain(alloc, tables, word)?, fallback, call, range)
+    }
+}
+
+/// The tables of `ranges.json`.
+pub(crate) fn tables(alloc: Global, documents: &Documents) -> Result<Tables, Fault> {
+    match documents.text("ranges.json") {
+        Some(text) => Ok(Tables::from_json(alloc, text)?),
+        None => Err(Fault::Unreadable),
+    }
+}
+
+/// What a call of ranges of numbers answers.
+pub(crate) fn numbers(
+    alloc: Global,
+    documents: &Documents,
+    call: &str,
+    word: &str,
+    range: Range<'_>,
+) -> Result<String, Fault> {
+    let tables = tables(alloc, documents)?;
+    by_tables(alloc, &tables, call, word, range)
+}

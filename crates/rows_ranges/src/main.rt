@@ -1,0 +1,62 @@
+//! Rows of ranges: separators, ends, and what is written for them.
+#![tactic(auto)]
+
+mod amounts;
+mod ends;
+mod faults;
+mod locales;
+mod plural;
+mod written;
+
+use faults::{Fault, reported};
+use rows::{Calls, Documents};
+use std::alloc::{AllocError, Global};
+use std::io;
+
+/// What a call answers; `None` if there is no such call.
+type CallResult = Result<Option<String>, AllocError>;
+
+/// The calls of `icu_ranges`.
+struct RangeCalls;
+
+/// What a call answers: of the type that its name begins with.
+fn returned(
+    alloc: Global,
+    documents: &Documents,
+    call: &str,
+    arguments: &[String],
+) -> Result<String, Fault> {
+    let (kind, call) = call.split_once("::").unwrap_or(("", call));
+    match (kind, arguments) {
+        ("RangePattern", [text]) if call == "parse" => ends::separator(alloc, text),
+        ("DecimalRange", [start, end]) if call == "try_new" => ends::range_made(alloc, start, end),
+        ("NumberRangeFormatter", [locale, pattern, start, end]) => {
+            let range = (pattern.as_str(), start.as_str(), end.as_str());
+            locales::numbers(alloc, documents, call, locale, range)
+        }
+        ("PluralRanges", _) => plural::returned(alloc, documents, call, arguments),
+        ("PercentRangeFormatter" | "CurrencyRangeFormatter", _) => {
+            amounts::returned(alloc, documents, (kind, call), arguments)
+        }
+        _ => Err(Fault::Unreadable),
+    }
+}
+
+impl Calls for RangeCalls {
+    fn returned(
+        &self,
+        alloc: Global,
+        documents: &Documents,
+        call: &str,
+        arguments: &[String],
+    ) -> CallResult {
+        match returned(alloc, documents, call, arguments) {
+            Ok(text) => Ok(Some(text)),
+            Err(fault) => reported(alloc, fault),
+        }
+    }
+}
+
+fn main(rt: HostRuntime) -> io::Result<()> {
+    rows::run(&rt, &RangeCalls)
+}
