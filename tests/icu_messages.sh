@@ -8,13 +8,6 @@ source "$(dirname "$0")/usage.sh"
 takes 2 -- "$@"
 here=$(dirname "$0")
 source "$here/judging.sh"
-if [ -z "${PEER:-}" ]; then
-    folder=$(mktemp -d)
-    trap 'rm -rf "$folder"' EXIT
-    PEER=$folder/peer
-    pkg-config --exists icu-i18n 2>/dev/null || skipped_all 'no ICU for pkg-config'
-    read -r -a flags < <(pkg-config --cflags --libs icu-i18n icu-uc)
-    "${CXX:-g++}" -O2 "$here/icu_messages_peer.cpp" -o "$PEER" "${flags[@]}" ||
-        skipped_all "tests/icu_messages_peer.cpp doesn't compile"
-fi
+source_of_peer=icu_messages_peer.cpp
+source "$here/skeletons_peer.sh"
 python3 "$here/icu_messages.py" "$PEER" "${2:-$here/../crates/rows_messages/out/rows_messages}" "${1:-5000}"
