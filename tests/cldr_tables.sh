@@ -54,14 +54,6 @@ has rules \
     '{"locale":"qaa-CC","rules":[["two","n = 2"]]}' \
     '{"locale":"qaa-DD","rules":[["one","i = 0,1"],["few","n % 10 = 2..4 and n % 100 != 12..14 or f % 10 = 2..4"]]}' \
     '{"locale":"qab","rules":[["one","i = 0,1"],["few","n % 10 = 2..4 and n % 100 != 12..14 or f % 10 = 2..4"]]}'
-# ordinal rules, where they are asked for, found as cardinal ones are
-makes ordinals "$release" qaa qaa-001 qab --ordinals
-counts ordinals 3
-has ordinals \
-    '{"locale":"qaa","rules":[["one","n % 10 = 1 and n % 100 != 11"],["few","n = 3"]]}' \
-    '{"locale":"qaa-001","rules":[["one","n % 10 = 1 and n % 100 != 11"],["few","n = 3"]]}' \
-    '{"locale":"qab","rules":[]}'
-judge 'no ordinals unless they are asked for' [ "$(grep -c '"ordinals"' "$folder/modern.json")" = 0 ]
 # `0` alone shortens nothing; quoted points and signs, quotes in quotes; repeated types
 has short "{\"locale\":\"qaa\",\"patterns\":[[4,4,{\"other\":\"{0}W.\"}],[6,6,{\"other\":\"{0}-m'm'\"}]]}"
 # exactly one, a literal alone, a doubled quote; past the last long type the short one, by root's alias
@@ -84,6 +76,15 @@ answers 'qaa - long' '1000\n1100\n999500\n2000000\n' "a thousand\n1,1 thousands\
 answers 'qaa-BB - plain' '1234567.5\n' '1234567·5\n'
 answers 'qab - plain' '-1234\n+5\n' '(১\u00a0২৩৪-)\n(৫+)\n'
 answers 'qab arab short' '1000\n2000\n5000\n' '١ x\n٢ y\n٥ z\n'
+
+# Ordinal rules, where they are asked for, found as cardinal ones are.
+makes ordinals "$release" qaa qaa-001 qab --ordinals
+counts ordinals 3
+has ordinals \
+    '{"locale":"qaa","rules":[["one","n % 10 = 1 and n % 100 != 11"],["few","n = 3"]]}' \
+    '{"locale":"qaa-001","rules":[["one","n % 10 = 1 and n % 100 != 11"],["few","n = 3"]]}' \
+    '{"locale":"qab","rules":[]}'
+judge 'no ordinals unless they are asked for' [ "$(grep -c '"ordinals"' "$folder/modern.json")" = 0 ]
 
 # Named locales, basic ones too: root as a parent, by name or for a script that isn't likely; a POSIX locale; root.
 makes named "$release" root qaa_Arab qaa-deva-cc qaf-ZZ-posix
