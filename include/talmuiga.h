@@ -139,7 +139,7 @@ enum {
     TALMUIGA_PART_DECIMAL = 6,        /* the separator of integer and fraction */
     TALMUIGA_PART_CURRENCY = 7,       /* the symbol or the name of a currency */
     TALMUIGA_PART_PERCENT_SIGN = 8,
-    TALMUIGA_PART_PER_MILLE_SIGN = 9, /* no part in this version */
+    TALMUIGA_PART_PER_MILLE_SIGN = 9,
     TALMUIGA_PART_UNIT = 10,          /* the name of a unit */
     TALMUIGA_PART_COMPACT = 11        /* no part in this version */
 };
@@ -328,8 +328,7 @@ static inline const char *talmuiga_fault_text(const talmuiga_fault *fault) {
         "set twice: rounding mode", "set twice: integer width", "set twice: scale", "set twice: grouping",
         "set twice: numbering system", "set twice: sign", "set twice: decimal separator"};
     static const char *const unsupported[] = {
-        "not supported", "not supported: group-on-aligned", "not supported: group-thousands",
-        "not supported: numbering-system", "not supported: permille", "not supported: currency"};
+        "not supported", "not supported: numbering-system", "not supported: currency"};
     const char *const *texts = kinds;
     size_t count = sizeof kinds / sizeof *kinds, at = fault->kind;
     switch (fault->kind) {

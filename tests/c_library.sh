@@ -411,7 +411,7 @@ if is_there sqlite3 && [ -e /usr/include/sqlite3ext.h ]; then
         number_format(1234567.5, 'de', 'K currency/EUR'), number_format(12, 'de', '')" tables/six_locales.json
     in_sql 'Error: stepping, skeleton: unknown stem, byte 8' "SELECT number_format(5, 'de', 'percent foo')"
     in_sql 'Error: stepping, skeleton: left out: scientific, byte 0' "SELECT number_format(5, 'de', 'scientific')"
-    in_sql 'Error: stepping, skeleton: not supported: group-thousands' "SELECT number_format(5, 'de', 'group-thousands')"
+    in_sql '1.234.567' "SELECT number_format(1234567, 'de', 'group-thousands')" tables/six_locales.json
     in_sql 'Error: stepping, not a decimal' "SELECT number_format('x', 'de', 'currency/EUR')" tables/six_locales.json
     in_sql 'Error: stepping, no data' "SELECT number_format(5, 'de', 'currency/USD')" tables/six_locales.json
     # SQLite has no NaN: it is NULL

@@ -52,9 +52,9 @@ reports "${digits_lines[@]}" "qaa: percentFormats[latn]/$percents: '%#,##0;(%#,#
     "qaa: percentFormats[beng]/$percents: '%#,##0;(%#,##0-)': $groups"
 counts percents 3
 has percents \
-    '{"locale":"qaa","pattern":"%#,##0;(%#,##0-)","minus":"−","plus":"+","percent":"%"}' \
-    $'{"locale":"qab","pattern":"#,##0\u00a0%;[#,##0\u00a0%]","minus":"-","plus":"+","percent":"%"}' \
-    $'{"locale":"qab","system":"arab","pattern":"#,##0\u00a0%;[#,##0\u00a0%]","minus":"\u061c-","plus":"\u061c+","percent":"٪\u061c"}'
+    '{"locale":"qaa","pattern":"%#,##0;(%#,##0-)","minus":"−","plus":"+","percent":"%","permille":"‰"}' \
+    $'{"locale":"qab","pattern":"#,##0\u00a0%;[#,##0\u00a0%]","minus":"-","plus":"+","percent":"%","permille":"‰"}' \
+    $'{"locale":"qab","system":"arab","pattern":"#,##0\u00a0%;[#,##0\u00a0%]","minus":"\u061c-","plus":"\u061c+","percent":"٪\u061c","permille":"؉"}'
 
 # Units: three widths with root's aliases between them, no other cases, a pattern without a number, one with two.
 makes units "$release" qaa --units kilometer,day
@@ -128,7 +128,7 @@ counts currencies 3
 has currency_decimals \
     '{"locale":"qbi","minus":["-",""],"plus":["+",""],"decimal":".","group":",","numsys":"latn","sizes":[0,0,1]}'
 counts currency_decimals 1
-has percents $'{"locale":"qba","pattern":"0%-\'%\'","minus":"-","plus":"+","percent":"%"}'
+has percents $'{"locale":"qba","pattern":"0%-\'%\'","minus":"-","plus":"+","percent":"%","permille":"‰"}'
 counts percents 7
 
 # Compact patterns with negative subpatterns; `0` alone behind others; a symbol's code; none; a sign.
@@ -215,12 +215,12 @@ answers 'qbl - long' '1000\n200000\n' '1000\n2a\n'
 
 # Names: a numbering system without patterns for them has those of latn, as one without patterns of money has; names that
 # can't be expressed leave the rest; they go with the default system alone. Compact money in two systems. Percents without
-# their sign, empty signs.
+# their sign, empty signs; an empty per mille sign is left out alone.
 names_of() {
     cat >"$folder/odd/main/$1.xml" <<END
 <ldml><numbers>
     <defaultNumberingSystem>arab</defaultNumberingSystem>
-    <symbols numberSystem="arab"><minusSign>${3--}</minusSign><percentSign>${4-%}</percentSign></symbols>
+    <symbols numberSystem="arab"><minusSign>${3--}</minusSign><percentSign>${4-%}</percentSign>${6-}</symbols>
     <currencyFormats numberSystem="arab">
         <currencyFormatLength>
             <currencyFormat type="standard"><pattern>¤0</pattern></currencyFormat>
@@ -244,7 +244,8 @@ names_of qbn '{0}'
 names_of qbo '{0} {1}' ''
 names_of qbp '{0} {1}' - ''
 names_of qbq '{0} {1}' - % '0%;(0)'
-makes names_of "$folder/odd" qbm qbn qbo qbp qbq --currencies QQA --percents
+names_of qbr '{0} {1}' - % '0%' '<perMille></perMille>'
+makes names_of "$folder/odd" qbm qbn qbo qbp qbq qbr --currencies QQA --percents
 empty='minusSign is empty'
 judge 'names that are left out' grep -qxF "qbn: currencyFormats[arab]/unitPattern: {1} stands 0 times in '{0}', not once" "$folder/names_of.err"
 judge 'an empty minus in money' grep -qxF "qbo: currencyFormats[arab]: $empty" "$folder/names_of.err"
@@ -259,9 +260,10 @@ has currencies \
     $'{"locale":"qbo","system":"latn","standard":"¤\u00a0#,##0.00","accounting":"¤\u00a0#,##0.00","minus":"-","plus":"+"}'
 has currency_compact '{"locale":"qbm","patterns":[[3,3,{"other":"0x ¤"}]]}' \
     '{"locale":"qbm","system":"latn","patterns":[[3,3,{"other":"¤0K"}]]}'
-counts currency_compact 10
-has percents '{"locale":"qbp","system":"latn","pattern":"#,##0%","minus":"-","plus":"+","percent":"%"}'
-judge 'percents in arab' [ "$(grep '^{' "$folder/names_of.percents" | grep -cv '"system"')" = 2 ]
+counts currency_compact 12
+has percents '{"locale":"qbp","system":"latn","pattern":"#,##0%","minus":"-","plus":"+","percent":"%","permille":"‰"}' \
+    $'{"locale":"qbr","pattern":"0%","minus":"-","plus":"\u061c+","percent":"%"}'
+judge 'percents in arab' [ "$(grep '^{' "$folder/names_of.percents" | grep -cv '"system"')" = 3 ]
 
 pays 'QQA: ٢٫٠٠\nQQA: -١٢٣٤٥٫٠٠\n' -l qbm --currency QQA --width name 2 -12345
 pays 'QQA\u00a02.00\n' -l qbm --system latn --currency QQA 2
@@ -292,7 +294,7 @@ judge 'as the default one' [ "$(grep -c '"system":"deva"' "$folder/systems.json"
 has currency_decimals \
     $'{"locale":"qaa","system":"arab","minus":["\u061c-",""],"plus":["\u061c+",""],"decimal":"٫","group":"٬","numsys":"arab","sizes":[3,3,2]}'
 has currencies $'{"locale":"qaa","system":"arab","standard":"#,##0.00\u00a0¤","accounting":"#,##0.00\u00a0¤;(#,##0.00\u00a0¤)","minus":"\u061c-","plus":"\u061c+"}'
-has percents $'{"locale":"qaa","system":"arab","pattern":"%#,##0;(%#,##0-)","minus":"\u061c-","plus":"\u061c+","percent":"٪\u061c"}'
+has percents $'{"locale":"qaa","system":"arab","pattern":"%#,##0;(%#,##0-)","minus":"\u061c-","plus":"\u061c+","percent":"٪\u061c","permille":"؉"}'
 answers 'qaa arab plain' '-12345.5\n' '\u061c-١٢٬٣٤٥٫٥\n'
 answers 'qaa deva plain' '-12345.5\n' '−१२.३४५,५\n'
 pays '\u061c-١٢٬٣٤٥٫٥٠\u00a0A\n' -l qaa --system arab --currency QQA -12345.5
@@ -353,8 +355,8 @@ has currency_symbols '{"locale":"qaa","symbols":[["QQA","A","a",{"one":"one alph
 has currency_compact '{"locale":"qaa","patterns":[[4,4,{"one":"0 wan ¤","other":"0 wans ¤"}]]}'
 has currency_digits '["DEFAULT",2,2]' '["QQB",0,0]'
 counts currency_digits 2
-has percents '{"locale":"qaa","pattern":"#,##0 %","minus":"−","plus":"+","percent":"%"}' \
-    '{"locale":"qaa","system":"arab","pattern":"#,##0 %","minus":"-","plus":"+","percent":"٪"}'
+has percents '{"locale":"qaa","pattern":"#,##0 %","minus":"−","plus":"+","percent":"%","permille":"‰"}' \
+    '{"locale":"qaa","system":"arab","pattern":"#,##0 %","minus":"-","plus":"+","percent":"٪","permille":"؉"}'
 has units '{"locale":"qaa","width":"long","unit":"kilometer","patterns":{"one":"{0} kilo","other":"{0} kilos"}}' \
     '{"locale":"qaa","width":"narrow","unit":"kilometer","patterns":{"other":"{0}km"}}'
 counts units 3

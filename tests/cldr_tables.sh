@@ -86,6 +86,37 @@ has ordinals \
     '{"locale":"qab","rules":[]}'
 judge 'no ordinals unless they are asked for' [ "$(grep -c '"ordinals"' "$folder/modern.json")" = 0 ]
 
+# Range patterns, where they are asked for: those of the parents, of the aliases of root, and of a system of its own; the
+# categories of ranges, without `other`, without those that the rules lack, and with those of a parent for plural rules.
+makes ranges "$release" root qaa qaa-001 qaa-CC qaa-DD qab --ranges
+reports "${digits_lines[@]}" \
+    "qaa_CC: range one-other other: the locale's rules lack one" \
+    "qaa_CC: range other-one one: the locale's rules lack one" \
+    "qaa_DD: range few-many few: the locale's rules lack many" \
+    "qab: range few-many few: the locale's rules lack many"
+counts ranges 7
+has ranges \
+    '{"locale":"und","pattern":"{0}–{1}","approximately":"~"}' \
+    '{"locale":"qaa","pattern":"{0}-{1}","approximately":"ca."}' \
+    '{"locale":"qaa-001","pattern":"{0}-{1}","approximately":"ca."}' \
+    '{"locale":"qab","pattern":"{0}–{1}","approximately":"~"}' \
+    $'{"locale":"qab","system":"arab","pattern":"{0}\u2009–\u2009{1}","approximately":"≈"}'
+counts plural_ranges 4
+has plural_ranges \
+    '{"locale":"qaa","ranges":[["other","one","one"]]}' \
+    '{"locale":"qaa-001","ranges":[["other","one","one"]]}' \
+    '{"locale":"qaa-DD","ranges":[["one","one","one"],["one","few","few"]]}' \
+    '{"locale":"qab","ranges":[["one","one","one"],["one","few","few"]]}'
+judge 'no ranges unless they are asked for' [ "$(grep -c '"ranges"\|"plural_ranges"' "$folder/modern.json")" = 0 ]
+makes no_ranges "$release" qac --ranges
+counts ranges 0
+judge 'a range pattern with a text before it' \
+    grep -qxF "qac: miscPatterns[latn]/range: the range pattern 'from {0} to {1}' isn't some text between {0} and {1}" "$folder/no_ranges.err"
+makes json_ranges "$release/json" qaa --ranges
+counts ranges 1
+has ranges '{"locale":"qaa","pattern":"{0}-{1}","approximately":"ca."}'
+has plural_ranges '{"locale":"qaa","ranges":[["other","one","one"]]}'
+
 # Named locales, basic ones too: root as a parent, by name or for a script that isn't likely; a POSIX locale; root.
 makes named "$release" root qaa_Arab qaa-deva-cc qaf-ZZ-posix
 reports "${digits_lines[@]}" \

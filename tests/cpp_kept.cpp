@@ -60,8 +60,9 @@ static void by_skeletons(const std::string &tables) {
     const auto opened = [&](std::string_view text) { return [&tables, text] { talmuiga::formatter(tables, "de", skeleton{text}); }; };
     judge("a fault", fault_of(opened("percent foo")) == "8 2 unknown stem");
     judge("a NUL", fault_of(opened(std::string_view("% \0", 3))) == "2 2 unknown stem");
-    judge("what no formatter has", fault_of(opened("group-thousands")) == "0 12 not supported: group-thousands");
-    judge("its status", refusal(opened("group-thousands")) == TALMUIGA_SKELETON_REFUSED);
+    judge("what is left out", fault_of(opened("scientific")) == "0 3 left out: scientific");
+    judge("its status", refusal(opened("scientific")) == TALMUIGA_SKELETON_REFUSED);
+    judge("groups of three", talmuiga::formatter(tables, "de", skeleton{"group-thousands"})("1234567") == "1.234.567");
     judge("a currency that the tables lack", refusal(opened("currency/USD")) == TALMUIGA_NO_DATA);
     judge("canonical", talmuiga::canonical({"%x100 .00"}) == "percent .00 scale/100");
     const std::string long_name = "unit/" + std::string(3000, 'a');

@@ -6,7 +6,7 @@ third as many inputs are explained, and the fields of as many others
 
 The model of arguments has the command line (what isn't an option, is given twice or has no text) and the options, with each of
 their faults. The model of lines has fields, headers, byte order marks, the width of fields, what becomes of texts that are
-invalid, where the notes say that they stand and how they show them, and plain English numbers, money and percents: groups of
+invalid, where the notes say that they stand and how they show them, and plain English numbers, money, percents and permilles: groups of
 three, rounding to fraction digits, significant digits and increments by each mode, signs, symbols; that of CSV has quotes, what stands between them, and quotes without an end; that of
 explanations has the parts of plain English numbers and their magnitudes. Standard output and standard error are compared whole,
 but for a fault of the command line or a file, of whose text the beginning is known, for compact numbers, units and amounts with

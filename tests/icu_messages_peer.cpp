@@ -2,11 +2,10 @@
 // `NAME=NUMBER` or `NAME:TEXT`; a line feed in a message is `\n`, a tab `\t` and a backslash `\\`. A line is answered by `= TEXT`,
 // with the same escapes, or by `!` where ICU rejects the message, or by `?` where it doesn't write it. With the word --version it
 // prints the version of ICU.
-#include <iostream>
+#include "icu_peer_lines.hpp"
 #include <string>
 #include <unicode/msgfmt.h>
 #include <unicode/unistr.h>
-#include <unicode/uversion.h>
 #include <vector>
 
 using namespace icu;
@@ -54,23 +53,22 @@ static std::string answer_of(const std::vector<std::string> &fields) {
     return U_SUCCESS(status) ? "= " + escaped(text.toUTF8String(bytes)) : "? " + std::string(u_errorName(status));
 }
 
-int main(int count, char **words) {
-    if (count > 1) {
-        std::cout << U_ICU_VERSION << '\n';
-        return std::string(words[1]) != "--version";
-    }
-    std::ios::sync_with_stdio(false);
-    std::string line;
-    while (std::getline(std::cin, line)) {
-        std::vector<std::string> fields(1);
-        for (char c : line) {
-            if (c == '\t') {
-                fields.emplace_back();
-            } else {
-                fields.back() += c;
-            }
+// What stands between the tabs of a line.
+static std::vector<std::string> fields_of(const std::string &line) {
+    std::vector<std::string> fields(1);
+    for (char c : line) {
+        if (c == '\t') {
+            fields.emplace_back();
+        } else {
+            fields.back() += c;
         }
-        std::cout << (fields.size() < 2 ? "?" : answer_of(fields)) << '\n';
     }
-    return 0;
+    return fields;
+}
+
+int main(int count, char **words) {
+    return answer_lines(count, words, [](const std::string &line) {
+        std::vector<std::string> fields = fields_of(line);
+        return fields.size() < 2 ? "?" : answer_of(fields);
+    });
 }

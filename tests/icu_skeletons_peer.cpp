@@ -1,12 +1,11 @@
 // Reads number skeletons by ICU, for tests/icu_skeletons.py. Each line is a skeleton in UTF-8, and is answered by a line:
 // `= CANONICAL`, or `! OFFSET` with the offset of the error in code units of UTF-16. A line `# LOCALE NUMBER SKELETON` is
 // answered by the text of the number. With the word --version it prints the version of ICU.
-#include <iostream>
+#include "icu_peer_lines.hpp"
 #include <sstream>
 #include <string>
 #include <unicode/numberformatter.h>
 #include <unicode/unistr.h>
-#include <unicode/uversion.h>
 
 using namespace icu;
 using namespace icu::number;
@@ -45,14 +44,6 @@ static std::string text_of(const std::string &line) {
 }
 
 int main(int count, char **words) {
-    if (count > 1) {
-        std::cout << U_ICU_VERSION << '\n';
-        return std::string(words[1]) != "--version";
-    }
-    std::ios::sync_with_stdio(false);
-    std::string line;
-    while (std::getline(std::cin, line)) {
-        std::cout << (line.compare(0, 2, "# ") == 0 ? text_of(line) : answer_of(line)) << '\n';
-    }
-    return 0;
+    return answer_lines(count, words,
+                        [](const std::string &line) { return line.compare(0, 2, "# ") == 0 ? text_of(line) : answer_of(line); });
 }

@@ -63,6 +63,10 @@ writes '12K%\n' --style short --percent 123.45
 writes '1.2 million%\n' --style long --percent --fraction 1 12345.67
 writes '12 percent\n' --unit percent --width long 12
 writes '1.2M\xe2\x80\xb0\n' --unit permille --style short 1234567
+writes '12.3\xe2\x80\xb0\n' --permille 0.0123
+writes '-1,234.5\xe2\x80\xb0\n' --permille -- -1.2345
+writes '1.2M\xe2\x80\xb0\n' --permille --style short 1234.567
+writes '5\xe2\x80\xb0\n' --permille --scale 1 5
 writes '1.23K percent\n' --skeleton 'K percent unit-width-full-name @@@' 1234
 writes '+$1T\n' --currency USD --style short --sign always 999999999999
 writes '$1234T\n' --currency USD --style short 1234000000000000
@@ -84,6 +88,53 @@ writes '1.2K\n' --scale 0.01 --style short 123456
 writes '$12.34\n' --scale 0.01 --currency USD 1234.5
 writes '50%\n5%\n' --percent --scale 1 50 5
 writes '0.1\n' --scale 100 --fraction 1 0.00125
+# messages
+files='{n, plural, =0{no files} one{# file} other{# files}}'
+lines 0 '0\n1\n2\n' 'no files\n1 file\n2 files\n' '' --message "$files"
+writes '1.2M views\n1M views\n1 view\n' --style short --message '{n, plural, one{# view} other{# views}}' 1234567 999999 1
+writes '1.00 files\n' --fraction 2 --message '{n, plural, one{# file} other{# files}}' 1
+writes 'exactly\n2.00 files\n' --fraction 2 --message '{n, plural, =1{exactly} other{# files}}' 1.0 2
+writes '1%\none\n' --percent --message '{n, plural, =1{one} other{#}}' 0.01 1
+writes 'pay $1.00s\n' --currency USD --message '{n, plural, one{pay #} other{pay #s}}' 1
+writes '1 euro is 1\n' --skeleton 'currency/EUR unit-width-full-name precision-integer' --message '{n, plural, one{# is 1} other{# are}}' 1
+writes 'one\nelse\n' --message '{n, select, 1{one} other{else}}' 1 2
+lines 0 'who,sent\nAna,1\n"Ben, C.",12\n' 'Ana sent 1 file\nBen, C. sent 12 files\n' '' \
+    --csv --header --field sent --message "{who} sent $files"
+lines 0 'Ana 1\nBen 2000\n' 'Ana: 1; Ana 1\nBen: 2,000; Ben 2000\n' '' --field 2 --message '{f1}: {n}; {f1} {f2}'
+lines 0 '3 1000\n1 5\n' '1,000 of 3 files\n5 of 1 file\n' '' --field 2 --message "{n} of {f1, plural, one{# file} other{# files}}"
+lines 0 '1 2\n' '1\n2\n' '' --field - --message '{n}'
+lines 0 '1\x002\x00' '1!\x002!\x00' '' -z --message '{n}!'
+lines 0 '\xef\xbb\xbf7\n' '7\n' '' --message '{n}'
+lines 2 'Ana 1\nBen x\nCy 3\n' 'Ana 1\n' 'locnum: line 2, field 2: x: not a decimal' --field 2 --message '{f1} {n}'
+lines 2 'Ana 1\nBen x\nCy 3\n' 'Ana 1\nCy 3\n' 'locnum: line 2, field 2: x: not a decimal' --field 2 --invalid fail --message '{f1} {n}'
+lines 0 'Ana 1\nBen x\nCy 3\n' 'Ana 1\nCy 3\n' '' --field 2 --invalid ignore --message '{f1} {n}'
+lines 2 'Ana 1\n' '' 'locnum: line 1, field 2: no field f3 for the message' --field 2 --message '{f3} {n}'
+lines 2 'a b\nAna 1\n' '' 'locnum: line 2, field 2 (b): no field A for the message' --header --field b --message '{A} {n}'
+lines 2 'x 1\n' '' 'locnum: line 1, field 2: x: not a decimal' --field 2 --message '{f1, plural, other{#}} {n}'
+lines 1 'a,b\n"1' '' 'locnum: line 2: a quote without an end' --csv --header --message '{n}'
+catalogue=$(mktemp)
+printf '{"@@locale":"en","files":"{n, plural, one{# file} other{# files}}","@files":{"description":"how many"}}' >"$catalogue"
+writes '1 file\n2 files\n' --messages "$catalogue" --id files 1 2
+rejects "locnum: $catalogue: no message file" --messages "$catalogue" --id file
+printf '{"files":"{n, plural, one{x}}"}' >"$catalogue"
+rejects "locnum: $catalogue: the message \`files\`: the choice that ends at byte 18 has no \`other\`" --messages "$catalogue" --id files
+printf '{"files":1}' >"$catalogue"
+rejects "locnum: $catalogue: the value of \`files\` isn't a text" --messages "$catalogue" --id files
+printf '[]' >"$catalogue"
+rejects "locnum: $catalogue: the catalogue isn't a JSON object" --messages "$catalogue" --id files
+printf '{"files":"\xff"}' >"$catalogue"
+rejects "locnum: $catalogue: not UTF-8" --messages "$catalogue" --id files
+rm "$catalogue"
+rejects "locnum: $catalogue: No such file or directory" --messages "$catalogue" --id files
+rejects 'locnum: --message: a key is due at byte 12' --message '{n, plural, uno{x} other{}}'
+rejects 'locnum: --message: the text ends within an argument, at byte 2' --message '{n'
+rejects "locnum: a message's number has the form of the other options: {n}, and not {n, number}" --message '{n, number}'
+rejects 'locnum: en has no ordinal rules, by which the message picks' --message '{n, selectordinal, one{#st} other{#th}}'
+rejects 'locnum: --messages and --id: only together' --id a
+rejects 'locnum: --message: not with --messages and --id' --message a --id b
+rejects 'locnum: --explain: not with a message' --message a --explain
+rejects 'locnum: --padding: not with a message' --message a --padding 3
+
 # number skeletons
 writes '1,234.56789\n' --skeleton '' 1234.5678901
 writes '\xe2\x82\xac1.2M\n' --skeleton 'K currency/EUR' 1234567.5
@@ -144,6 +195,28 @@ lines 2 '1234\nx\n5\n' '1,234\nx\n5\n' 'locnum: line 2, field 1: x: not a decima
 lines 0 'x\n5\n' 'x\n5\n' 'locnum: line 1, field 1: x: not a decimal' --invalid warn
 lines 0 'x\n5\n' 'x\n5\n' '' --invalid ignore
 lines 2 '\n' '' 'locnum: line 1, field 1: (empty): not a decimal'
+
+# words that are ranges
+writes '3\xe2\x80\x935\n-3 \xe2\x80\x93 5\n7\n' 3..5 -3..5 7
+writes '$3.00 \xe2\x80\x93 $5.00\n' --currency USD 3..5
+writes '3% \xe2\x80\x93 5%\n' --percent 0.03..0.05
+writes '1K \xe2\x80\x93 2K\n1.2M\n' --style short 1000..2000 1200000..1210000
+writes '   3\xe2\x80\x935\n' --padding 6 3..5
+writes '3\xe2\x80\x935   \n' --padding -6 3..5
+writes '1 \xe2\x80\x93 2 thousand\n1 thousand \xe2\x80\x93 2 thousand\n' --style long 1..2000 1000..2000
+judge_range() { # judge_range STATUS OUTPUT ERROR WORD..
+    local wanted=$1 output=$2 error=$3
+    shift 3
+    ran "$program" "$@" </dev/null
+    judge_run "$*" "$wanted" "$output" "$error"
+}
+judge_range 2 '' 'locnum: word 1: 5..3: the start is above the end' 5..3 7
+judge_range 2 '1\n' 'locnum: word 2: x..3: the start: not a decimal' 1 x..3
+judge_range 2 '3..y\n1\n' 'locnum: word 1: 3..y: the end: not a decimal' --invalid fail 3..y 1
+judge_range 0 '5..3\n' '' --invalid ignore 5..3
+judge_range 2 '' 'locnum: word 1: 1..2: no ranges of numbers with a unit or a name' --currency USD --width name 1..2
+judge_range 2 '' 'locnum: word 1: 1..: not a decimal' 1..
+
 ran "$program" ''
 judge_run 'an empty word' 2 '' 'locnum: word 1: (empty): not a decimal'
 # explanations: words, lines, each kind, refused texts, and the columns of a line; the first line says what they go by
@@ -237,8 +310,9 @@ writes '1.234,5\n' -l de 1234.5
 export TALMUIGA_TABLES=
 writes '1,234.5\n' 1234.5
 unset TALMUIGA_TABLES
-rejects 'locnum: --currency, --percent and --unit: not together' --percent --currency USD
-rejects 'locnum: --currency, --percent and --unit: not together' --unit meter --percent --style plain
+rejects 'locnum: --currency, --percent, --permille and --unit: not together' --percent --currency USD
+rejects 'locnum: --currency, --percent, --permille and --unit: not together' --unit meter --percent --style plain
+rejects 'locnum: --currency, --percent, --permille and --unit: not together' --permille --percent
 rejects 'locnum: --cash: not with --style short or long' --currency USD --style short --cash
 rejects 'locnum: --cash: not with --style short or long' --currency USD --style long --cash --width name
 rejects 'locnum: --style: neither plain, short nor long' --currency USD --style wide
@@ -268,8 +342,8 @@ rejects 'locnum: --scale: not a power of ten in digits, such as 100 or 0.01' --s
 rejects 'locnum: --scale: not a power of ten in digits, such as 100 or 0.01' --scale '1 percent'
 rejects 'locnum: skeleton: left out: scientific, byte 8' --skeleton 'percent scientific'
 rejects 'locnum: skeleton: set twice: precision, byte 4' --skeleton '.00 @@'
-rejects 'locnum: skeleton: not supported: permille' --skeleton permille
-rejects 'locnum: skeleton: not supported: group-thousands' --skeleton 'group-thousands permille'
+writes '12.3\xe2\x80\xb0\n' --skeleton permille 12.3
+writes '1,234.5\xe2\x80\xb0\n' --skeleton 'group-thousands permille' 1234.5
 rejects 'locnum: --skeleton: not with --percent' --skeleton .00 --percent
 rejects 'locnum: --skeleton: not with --style' --skeleton foo --system latn --style short
 cat >"$folder/fr.json" <<'FRENCH'

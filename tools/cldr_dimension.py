@@ -94,6 +94,14 @@ def signs_of(release: Release, locale: str, system: str) -> dict[str, str]:
     return {name: sign(release, locale, system, f"{name}Sign") for name in ("minus", "plus")}
 
 
+def permille_sign(release: Release, locale: str, system: str) -> dict[str, str]:
+    """The text of the per mille sign by its name in tables; nothing where there is none, or where it is empty."""
+    try:
+        return {"permille": sign(release, locale, system, "perMille")}
+    except Inexpressible:
+        return {}
+
+
 def plain_pattern(release: Release, locale: str, system: str) -> str | None:
     """The pattern of plain numbers of a numbering system, or None."""
     return release.text(locale, plain_path(formats_of(release, locale, system)))
@@ -107,7 +115,8 @@ def tell_groups(release: Release, locale: str, path: ElementPath, pattern: str |
 
 
 def percent_entry(release: Release, locale: str, system: str) -> dict[str, str]:
-    """The pattern of percents and the texts of the signs in it (UTS 35 Part 3, Number Patterns)."""
+    """The pattern of percents and the texts of the signs in it (UTS 35 Part 3, Number Patterns), with the per mille sign, if
+    the locale has one."""
     path = percent_path(formats_of(release, locale, system, percent_path))
     pattern = release.text(locale, path)
     if pattern is None:
@@ -115,7 +124,8 @@ def percent_entry(release: Release, locale: str, system: str) -> dict[str, str]:
     refuse_unreadable(pattern, "", once=PERCENT)
     tell_groups(release, locale, path, pattern, plain_pattern(release, locale, system))
     percent = sign(release, locale, system, "percentSign")
-    return {"pattern": pattern, **signs_of(release, locale, system), "percent": percent}
+    permille = permille_sign(release, locale, system)
+    return {"pattern": pattern, **signs_of(release, locale, system), "percent": percent, **permille}
 
 
 class CompactMoneyReader(CompactReader):

@@ -17,11 +17,12 @@ from cldr_paths import (
     money_path,
     percent_path,
     plain_path,
+    range_path,
     step,
     symbols_path,
     unit_path,
 )
-from cldr_release import STYLES, Folder, LocaleRules, Release, Scope, Tree, below
+from cldr_release import STYLES, Folder, LocaleRanges, LocaleRules, Release, Scope, Tree, below
 from cldr_reports import Reports
 
 # An object of JSON, whose members are what the packages have them to be.
@@ -65,6 +66,12 @@ def add_percents(tree: Tree, system: str, formats: JsonObject) -> None:
     tree.values[percent_path(system)] = formats["standard"]
 
 
+def add_misc(tree: Tree, system: str, formats: JsonObject) -> None:
+    """Adds the range pattern of a numbering system."""
+    if "range" in formats:
+        tree.values[range_path(system)] = formats["range"]
+
+
 def add_currencies(tree: Tree, currencies: Mapping[str, Mapping[str, str]]) -> None:
     """Adds symbols and names of currencies."""
     for code, texts in currencies.items():
@@ -85,6 +92,7 @@ ADDERS: dict[str, Callable[[Tree, str, JsonObject], None]] = {
     "decimalFormats": add_decimals,
     "currencyFormats": add_money,
     "percentFormats": add_percents,
+    "miscPatterns": add_misc,
 }
 
 
@@ -113,6 +121,15 @@ class JsonRelease(Release):
     def read_ordinals(self) -> LocaleRules:
         """The ordinal rules of each locale that is named with some."""
         return self.read_rules("ordinals.json", "ordinal")
+
+    def read_ranges(self) -> LocaleRanges:
+        """The plural categories of ranges of each locale that is named with some."""
+        plurals = self.load("cldr-core", "supplemental", "pluralRanges.json")["supplemental"]["plurals"]
+        named: LocaleRanges = {}
+        for locale, ranges in plurals.items():
+            words = [(key.split("-"), result) for key, result in ranges.items()]
+            named[self.internal(locale)] = [(start, end, result) for (_, _, start, _, end), result in words]
+        return named
 
     @staticmethod
     def internal(name: str) -> str:

@@ -8,7 +8,7 @@ from xml.etree import ElementTree
 
 import cldr_names
 from cldr_paths import ElementPath, step
-from cldr_release import STYLES, Folder, LocaleRules, Release, Scope, Tree, below, truncated
+from cldr_release import STYLES, Folder, LocaleRanges, LocaleRules, Release, Scope, Tree, below, truncated
 from cldr_reports import Reports
 
 UNCERTAIN = ("unconfirmed", "provisional")
@@ -101,6 +101,14 @@ class LdmlRelease(Release):
     def read_ordinals(self) -> LocaleRules:
         """The ordinal rules of each locale that is named with some."""
         return self.read_rules("ordinals.xml", "ordinal")
+
+    def read_ranges(self) -> LocaleRanges:
+        """The plural categories of ranges of each locale that is named with some (UTS 35 Part 3, Plural Ranges)."""
+        named: LocaleRanges = {}
+        for ranges in self.parse("supplemental", "pluralRanges.xml").iterfind("plurals/pluralRanges"):
+            found = [(it.attrib["start"], it.attrib["end"], it.attrib["result"]) for it in ranges.findall("pluralRange")]
+            named.update(dict.fromkeys(ranges.attrib["locales"].split(), found))
+        return named
 
     @functools.lru_cache(maxsize=None)
     def chain(self, locale: str) -> tuple[str, ...]:

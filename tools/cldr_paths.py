@@ -110,6 +110,11 @@ def percent_path(system: str) -> ElementPath:
     return number_path("percent", system)
 
 
+def range_path(system: str) -> ElementPath:
+    """The pattern of ranges."""
+    return (step("miscPatterns", {"numberSystem": system}), step("pattern", {"type": "range"}))
+
+
 def unit_path(width: str, unit: str, count: str) -> ElementPath:
     """The pattern of a unit in a width."""
     return (

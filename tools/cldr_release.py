@@ -7,7 +7,7 @@ import itertools
 import pathlib
 import re
 import zipfile
-from typing import Callable, Dict, Iterable, Iterator, List, NamedTuple, Sequence, Tuple, Union
+from typing import Callable, Container, Dict, Iterable, Iterator, List, NamedTuple, Sequence, Tuple, Union
 
 import cldr_names
 from cldr_paths import ElementPath, follow, shown, system_of, without_count
@@ -22,6 +22,8 @@ Folder = Union[pathlib.Path, zipfile.Path]
 PathOf = Callable[[str], ElementPath]
 # Plural rules by locale: pairs of a category and a text with samples.
 LocaleRules = Dict[str, List[Tuple[str, str]]]
+# Plural categories of ranges by locale: those of the start, of the end and of the range.
+LocaleRanges = Dict[str, List[Tuple[str, str, str]]]
 
 
 class Scope(NamedTuple):
@@ -37,8 +39,9 @@ NUMBERS = Scope(
     {"decimal", "group", "minusSign", "plusSign"},
 )
 MONEY = Scope({"currencyFormats", "currencies"}, {"currencyDecimal", "currencyGroup"})
-PERCENTS = Scope({"percentFormats", "shares"}, {"percentSign"})
+PERCENTS = Scope({"percentFormats", "shares"}, {"percentSign", "perMille"})
 UNITS = Scope({"unitLength"}, set())
+RANGES = Scope({"miscPatterns"}, {"approximatelySign"})
 
 
 class Tree(NamedTuple):
@@ -208,12 +211,29 @@ class Release(abc.ABC):
         """The ordinal rules of locales that have some."""
         return self.read_ordinals()
 
-    def rules_of(self, locale: str, named: LocaleRules) -> list[tuple[str, str]]:
-        """The plural rules of the locale, or of what is left when subtags are taken off its end, unless a parent is
-        named for plural rules: pairs of a category and a text with samples (UTS 35 Part 3, Language Plural Rules)."""
+    @abc.abstractmethod
+    def read_ranges(self) -> LocaleRanges:
+        """Reads the plural categories of ranges of locales that have some."""
+
+    @functools.cached_property
+    def ranges(self) -> LocaleRanges:
+        """The plural categories of ranges of locales that have some."""
+        return self.read_ranges()
+
+    def ruled(self, locale: str, named: Container[str]) -> str:
+        """The locale, or what is left when subtags are taken off its end, unless a parent is named for plural rules: the
+        first of these that is named (UTS 35 Part 3, Language Plural Rules)."""
         while locale not in named and locale != "root":
             locale = self.plural_parents.get(locale, truncated(locale))
-        return named.get(locale, [])
+        return locale
+
+    def rules_of(self, locale: str, named: LocaleRules) -> list[tuple[str, str]]:
+        """The plural rules of the locale: pairs of a category and a text with samples."""
+        return named.get(self.ruled(locale, named), [])
+
+    def ranges_of(self, locale: str) -> list[tuple[str, str, str]]:
+        """The plural categories of the locale's ranges (UTS 35 Part 3, Plural Ranges)."""
+        return self.ranges.get(self.ruled(locale, self.ranges), [])
 
 
 def below(folder: Folder, *names: str) -> Folder:

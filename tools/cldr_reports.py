@@ -20,6 +20,7 @@ GROUPS = "groups of accounts, names and percents left out, for which those of ot
 OWN_PATTERN = "patterns and separators of single currencies left out"
 CASH = "digits and roundings of currencies left out"
 UNIT = "units left out"
+RANGE = "range patterns or categories of ranges left out"
 
 
 class NotARelease(Exception):

@@ -5,7 +5,8 @@ The release is read as the LDML XML of core.zip (the archive, its folder or its 
 the JSON packages cldr-core and cldr-numbers-full, and cldr-units-full for units. What the format of tables can't
 express is left out, with one line on standard error for each kind; with --verbose one for each: locale, key and reason.
 
-The tables have what numbers need; --currencies, --percents and --units add the keys of money, percents and units.
+The tables have what numbers need; --currencies, --percents and --units add the keys of money, percents and units,
+--ordinals the rules of ordinal numbers, and --ranges the keys of ranges.
 --systems adds what locales have in further numbering systems beside their default one, their native one and latn.
 
 Beside the release's locales the tables have the names by which these are known elsewhere, such as zh-TW, no-NO and iw.
@@ -46,11 +47,13 @@ from cldr_json import JsonRelease
 from cldr_ldml import LdmlRelease
 from cldr_numbers import LATIN, CompactReader, Symbols, formats_of, named, symbols_entry, systems_of
 from cldr_patterns import Rules, conditions
-from cldr_release import LEVELS, MONEY, PERCENTS, STYLES, UNITS, Folder, Release, Scope
+from cldr_ranges import plural_ranges, range_entry
+from cldr_release import LEVELS, MONEY, PERCENTS, RANGES, STYLES, UNITS, Folder, Release, Scope
 from cldr_reports import (
     ENTRY,
     MONEY_ENTRY,
     NAMES,
+    RANGE,
     SYSTEM,
     UNREADABLE,
     Inexpressible,
@@ -73,13 +76,15 @@ class NoOutput(Exception):
 
 class Wanted(NamedTuple):
     """What tables have beside numbers in the usual numbering systems: codes of currencies, percents or not, names of
-    units, further numbering systems, and ordinal rules or not. `all` may stand for a list, and a list may be empty."""
+    units, further numbering systems, ordinal rules or not, and ranges or not. `all` may stand for a list, and a list may be
+    empty."""
 
     currencies: Names = ()
     percents: bool = False
     units: Names = ()
     systems: Names = ()
     ordinals: bool = False
+    ranges: bool = False
 
 
 NUMBERS_ALONE = Wanted()
@@ -119,6 +124,8 @@ class TablesMaker:
         tables["digits"].extend(sorted(self.digits.items()))
         if self.wanted.ordinals:
             tables["ordinals"] = []
+        if self.wanted.ranges:
+            tables.update(ranges=[], plural_ranges=[])
         if self.wanted.currencies:
             tables.update(currencies=[], currency_decimals=[], currency_symbols=[], currency_compact=[])
             tables["currency_digits"] = [*currency_digits(self.release, self.wanted.currencies)]
@@ -155,6 +162,10 @@ class TablesMaker:
         entries.update((style, self.compact(locale, systems, style, rules)) for style in STYLES)
         if self.wanted.ordinals:
             entries["ordinals"] = [{"rules": conditions(self.release, ruled, self.release.ordinals)}]
+        if self.wanted.ranges:
+            entries["ranges"] = self.ranges(locale, systems)
+            triples = plural_ranges(self.release, ruled, rules)
+            entries["plural_ranges"] = [{"ranges": triples}] if triples else []
         if self.wanted.currencies:
             entries["currencies"] = self.money(locale, systems, rules)
             amounts = self.symbols(locale, systems, money_symbols, "symbols of money")
@@ -243,6 +254,15 @@ class TablesMaker:
             key = f"percentFormats[{system}]"
             entry = functools.partial(percent_entry, self.release, locale, system)
             return self.try_entry(locale, key, entry, MONEY_ENTRY)
+
+        return self.where_new(systems, make)
+
+    def ranges(self, locale: str, systems: Sequence[str]) -> list[Entry]:
+        """The range patterns."""
+
+        def make(system: str) -> Mapping[str, object] | None:
+            entry = functools.partial(range_entry, self.release, locale, system)
+            return self.try_entry(locale, f"miscPatterns[{system}]/range", entry, RANGE)
 
         return self.where_new(systems, make)
 
@@ -441,7 +461,12 @@ def listed(word: str) -> Names:
 
 def scopes_of(options: argparse.Namespace) -> list[Scope]:
     """What is read beside numbers."""
-    asked = (options.currencies, MONEY), (options.percents, PERCENTS), (options.units, UNITS)
+    asked = (
+        (options.currencies, MONEY),
+        (options.percents, PERCENTS),
+        (options.units, UNITS),
+        (options.ranges, RANGES),
+    )
     return [scope for is_asked, scope in asked if is_asked]
 
 
@@ -458,6 +483,7 @@ def words_parser() -> argparse.ArgumentParser:
     parser.add_argument("--units", metavar="UNITS", type=listed, default=(), help="with kilometer,day, or all")
     parser.add_argument("--systems", metavar="SYSTEMS", type=listed, default=(), help="also in arab,deva, or all")
     parser.add_argument("--ordinals", action="store_true", help="with rules of ordinal numbers, as of 1st and 2nd")
+    parser.add_argument("--ranges", action="store_true", help="with range patterns and categories of ranges, as of 3–5")
     parser.add_argument("--which", metavar="NAME", action="append", help="tells which locale NAME means; no tables")
     parser.add_argument("--verbose", action="store_true", help="names each thing that isn't in the tables as in CLDR")
     parser.add_argument("--version", action=TellVersion, nargs=0, help="tells the version of this program, and ends")
@@ -488,7 +514,9 @@ def tell_which(release: Release, names: Iterable[str]) -> int:
 def asked(release: Release, options: argparse.Namespace) -> tuple[list[tuple[str, str]], Wanted]:
     """The names that tables are asked for, each with its locale, and what the tables have beside numbers."""
     pairs = chosen(release, options.locales, options.coverage or "modern", options.names or "usual")
-    wanted = Wanted(options.currencies, options.percents, options.units, options.systems, options.ordinals)
+    wanted = Wanted(
+        options.currencies, options.percents, options.units, options.systems, options.ordinals, options.ranges
+    )
     refuse_unknown(release, {locale for _, locale in pairs}, wanted)
     return pairs, wanted
 

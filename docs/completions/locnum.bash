@@ -6,7 +6,7 @@ _locnum_list() {
     local place file=()
     for ((place = 1; place < COMP_CWORD; place++)); do
         case ${COMP_WORDS[place]} in
-        --tables | -t)
+        --tables | -t | --messages)
             file=(-t "${COMP_WORDS[place + 1]}")
             [ "${file[1]}" != = ] || file=(-t "${COMP_WORDS[place + 2]}")
             ;;
@@ -18,9 +18,10 @@ _locnum_list() {
 _locnum() {
     local at=$COMP_CWORD
     local word=${COMP_WORDS[at]} before=${COMP_WORDS[at - 1]} place
-    local options='--tables --locale --system --list --style --currency --accounting --cash --unit --width --percent --fraction
-        --significant --increment --integer --scale --round --grouping --sign --skeleton --delimiter --csv --field
-        --header --zero-terminated --padding --invalid --explain --help --version -t -l -d -z -h -V'
+    local options='--tables --locale --system --list --style --currency --accounting --cash --unit --width --percent --permille
+        --fraction --significant --increment --integer --scale --round --grouping --sign --skeleton --message
+        --messages --id --delimiter --csv --field --header --zero-terminated --padding --invalid --explain --help
+        --version -t -l -d -z -h -V'
     COMPREPLY=()
     # --style=short is three words, the sign one of them
     if [ "$word" = = ]; then
@@ -30,14 +31,14 @@ _locnum() {
         before=${COMP_WORDS[at - 2]}=
     fi
     case $before in
-    --tables= | --locale= | --system= | --list= | --style= | --currency= | --unit= | --width= | --fraction= | --significant= | --increment= | --integer= | --scale= | --round= | --sign= | --skeleton= | --delimiter= | --field= | --padding= | --invalid=) before=${before%=} ;;
+    --tables= | --locale= | --system= | --list= | --style= | --currency= | --unit= | --width= | --fraction= | --significant= | --increment= | --integer= | --scale= | --round= | --sign= | --skeleton= | --message= | --messages= | --id= | --delimiter= | --field= | --padding= | --invalid=) before=${before%=} ;;
     esac
     # behind -- all are numbers
     for ((place = 1; place < at; place++)); do
         [ "${COMP_WORDS[place]}" != -- ] || return 0
     done
     case $before in
-    --tables | -t)
+    --tables | -t | --messages)
         compopt -o filenames 2>/dev/null
         mapfile -t COMPREPLY < <(compgen -f -- "$word")
         ;;
@@ -52,7 +53,7 @@ _locnum() {
     --grouping=) mapfile -t COMPREPLY < <(compgen -W 'auto never always min2' -- "$word") ;;
     --sign) mapfile -t COMPREPLY < <(compgen -W 'auto always never except-zero negative' -- "$word") ;;
     --invalid) mapfile -t COMPREPLY < <(compgen -W 'abort fail warn ignore' -- "$word") ;;
-    --fraction | --significant | --increment | --integer | --scale | --skeleton | -d | --delimiter | --field | --padding | --header=) ;;
+    --fraction | --significant | --increment | --integer | --scale | --skeleton | --message | --id | -d | --delimiter | --field | --padding | --header=) ;;
     *) [[ $word != -* || $before = *= ]] || mapfile -t COMPREPLY < <(compgen -W "$options" -- "$word") ;;
     esac
 }

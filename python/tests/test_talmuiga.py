@@ -123,10 +123,10 @@ judge("parts of a price", ("-3,50\u00a0€", [(0, 1, "minusSign"), (1, 2, "integ
 judge("no price", (NotFormatted, 0, "x", "not a decimal"), lambda: PRICES.format("x"))
 judge("a share", "12,3\u00a0%", lambda: Formatter(SIX, "de", skeleton="%x100 .0").format(0.12345))
 judge("parts of a share", ("12\u00a0%", ["12", "%"]), lambda: pieces(*Formatter(SIX, "de", skeleton="%").parts(12)))
+judge("groups of three digits", "1.234.567", lambda: Formatter(SIX, "de", skeleton="group-thousands").format(1234567))
 judge("the skeleton that sets nothing", "1.234,5", lambda: Formatter(SIX, "de", skeleton="").format(1234.5))
 for skeleton, fault in [("percent foo", (8, "unknownStem", "unknown stem")), ("scientific", (0, "leftOut", "left out: scientific")),
-                        ("% \ud800", (2, "notUtf8", "not UTF-8")), ("%\0", (0, "unknownStem", "unknown stem")),
-                        ("group-thousands", (0, "unsupported", "not supported: group-thousands"))]:
+                        ("% \ud800", (2, "notUtf8", "not UTF-8")), ("%\0", (0, "unknownStem", "unknown stem"))]:
     judge(f"refused {skeleton!r}", (SkeletonRefused, *fault), lambda: Formatter(b"{", "de", skeleton=skeleton))
 judge("a skeleton and a style", TypeError, lambda: Formatter(SIX, "de", skeleton="%", style="short"))
 judge("a skeleton and no fraction", TypeError, lambda: Formatter(SIX, "de", skeleton="%", fraction=0))

@@ -7,7 +7,7 @@ TEXTS = ["tables", "locale", "system", "style", "fraction", "significant", "incr
          "skeleton", "currency", "width", "unit", "delimiter", "field", "padding", "invalid", "list"]
 # Those that have a text behind `=` or none, with what stands for none.
 PERHAPS = {"header": "1", "grouping": "auto"}
-FLAGS = ["accounting", "cash", "percent", "csv", "zero-terminated", "explain"]
+FLAGS = ["accounting", "cash", "percent", "permille", "csv", "zero-terminated", "explain"]
 ENDING_AT_ONCE = ["help", "version"]
 LETTERS = {"t": "tables", "l": "locale", "d": "delimiter", "z": "zero-terminated", "h": "help", "V": "version"}
 # The endings that the command line has.

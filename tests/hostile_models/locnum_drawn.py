@@ -5,7 +5,7 @@ from collections.abc import Sequence
 from dataclasses import dataclass
 
 from hostile_models.locnum_arguments import FLAGS, LETTERS, PERHAPS, TEXTS
-from hostile_models.locnum_settings import MODES, NO_SKELETON, NOT_SUPPORTED, OF_NUMBERS, SIGNS, SKELETONS, delimiter_named
+from hostile_models.locnum_settings import MODES, NO_SKELETON, OF_NUMBERS, SIGNS, SKELETONS, delimiter_named
 from hostile_models.numbers import LIMIT, STRATEGIES
 from hostile_models.rounding import MODES as ROUNDING_MODES
 from hostile_models.running import Word
@@ -34,7 +34,7 @@ BAD: dict[str, list[str]] = {
                   "1" + "0" * 1000, "0." + "0" * 999 + "1", "5." + "0" * 1000],
     "integer": ["", "0", "000", "1000", "-1", "+1", "1.0", "1..2", "9" * 30, "\u0665"],
     "scale": ["", "0", "2", "11", "100.", ".", "-1", "+10", "1e2", "1,000", "1/2", "1 percent", "1" + "0" * 1000],
-    "skeleton": [*NO_SKELETON, *NOT_SUPPORTED],
+    "skeleton": [*NO_SKELETON],
     "round": ["", "Up", "half", "half-", "even", "half-odd", "unnecessary", "half-half-up"],
     "sign": ["", "plus", "except_zero"], "currency": ["", "usd", "US", "USDD", "ÜSD"], "width": ["", "wide"],
     "unit": [], "delimiter": ["", "ab", "é", ";;", ";" * 5000],
@@ -56,7 +56,7 @@ PUT_IN: list[list[Word]] = [
     ["--currency=USD", "--accounting", "--width=name"], ["--accounting", "--currency=EUR", "--width=name"],
     ["--currency=EUR", "--style=long"], ["--style=short", "--currency=USD", "--cash"],
     ["--width=narrow", "--currency=EUR", "--style=short"], ["--currency=USD", "--style=short"],
-    ["--percent", "--percent"], ["-z", "--zero-terminated"],
+    ["--percent", "--percent"], ["--percent", "--permille"], ["--permille", "--scale=1"], ["-z", "--zero-terminated"],
     ["--fraction=2", "--significant=2"], ["--increment=0.05", "--currency=EUR", "--cash"], ["--cash", "--fraction=1"],
     ["--style=short", "--significant=3"], ["--increment", "5", "--style=long"], ["--round=up"], ["--percent", "--round=floor"],
     ["--currency=USD", "--round=half-up"], ["--style=short", "--currency=USD", "--round", "down"], ["--si=auto"], ["--in=5"],
@@ -78,7 +78,7 @@ MODELLED_SKELETONS = [
     text for text, meaning in SKELETONS.items()
     if not {"system", "style", "unit"} & set(meaning.options) and meaning.options.get("width") != "name"
 ]
-OTHER_KINDS = [{"percent": ""}, {"currency": "USD"}, {"currency": "JPY"}, {"currency": "EUR", "accounting": ""}]
+OTHER_KINDS = [{"percent": ""}, {"permille": ""}, {"currency": "USD"}, {"currency": "JPY"}, {"currency": "EUR", "accounting": ""}]
 
 
 def a_number(rng: random.Random) -> str:

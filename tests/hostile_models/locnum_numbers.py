@@ -1,10 +1,10 @@
-"""What locnum writes for a number: plain English, money and percents; the texts of notes, by the page of number_forms, and
+"""What locnum writes for a number: plain English, money, percents and permilles; the texts of notes, by the page of number_forms, and
 explanations, by that of locnum_explain."""
 import re
 from collections.abc import Iterator
 from dataclasses import dataclass, replace
 
-from hostile_models.locnum_settings import CURRENCIES, MONEY, PERCENT, PLAIN, Settings
+from hostile_models.locnum_settings import CURRENCIES, MONEY, PERCENT, PERMILLE, PLAIN, Settings
 from hostile_models.numbers import ENGLISH, Numeral, magnitude_of, numeral_of, unsigned_text
 from hostile_models.rounding import is_changed, rounded, scaled
 
@@ -47,6 +47,8 @@ def in_pattern(sign: str, number: str, settings: Settings) -> str:
     """A number between what its kind writes around it."""
     if settings.kind == PERCENT:
         return sign + number + "%"
+    if settings.kind == PERMILLE:
+        return sign + number + "‰"
     amount = CURRENCIES[settings.currency].symbol + number if settings.kind == MONEY and settings.currency else number
     return "(" + amount + ")" if settings.accounting and sign == "-" else sign + amount
 

@@ -12,7 +12,7 @@ MODES = ["abort", "fail", "warn", "ignore"]
 # What cuts lines: beside --explain the chosen fields are explained.
 OF_LINES = ["csv", "delimiter", "field", "header", "zero-terminated"]
 TABS = {"tab": "\t", "\\t": "\t"}
-PLAIN, MONEY, PERCENT, OTHER = "plain", "money", "percents", "another kind"
+PLAIN, MONEY, PERCENT, PERMILLE, OTHER = "plain", "money", "percents", "permilles", "another kind"
 
 
 @dataclass(frozen=True)
@@ -35,12 +35,11 @@ FAULTS = {
     "integer": "--integer: not a number of digits, from 1 to 999",
     "scale": "--scale: not a power of ten in digits, such as 100 or 0.01",
     "skeleton": "skeleton: FAULT, byte N",
-    "unsupported skeleton": "skeleton: not supported: PART",
     "beside skeleton": "--skeleton: not with --OPTION",
     "precisions": "--fraction, --significant, --increment and --cash: not together",
     "round": "--round: neither up, down, ceiling nor floor, with or without half-, nor half-even",
     "sign": "--sign: neither auto, always, never, except-zero nor negative",
-    "together": "--currency, --percent and --unit: not together",
+    "together": "--currency, --percent, --permille and --unit: not together",
     "alone": "--accounting and --cash want --currency, and --width wants --currency or --unit",
     "currency": "--currency: not three capital letters",
     "accounting": "--accounting: not with --width name",
@@ -88,10 +87,14 @@ SKELETONS = {
     "rounding-mode-half-up precision-increment/.5": Meaning("precision-increment/0.5 rounding-mode-half-up", {"increment": ".5", "round": "half-up"}),
     "+! ,_": Meaning("group-off sign-always", {"grouping": "never", "sign": "always", **SIX}),
     "group-min2": Meaning("group-min2", {"grouping": "min2", **SIX}),
+    "group-on-aligned": Meaning("group-on-aligned", {"grouping": "always", **SIX}),
+    "group-thousands": Meaning("group-thousands", {"grouping": "always", **SIX}),
     "scale/100 000": Meaning("integer-width/*000 scale/100", {"integer": "3", "scale": "100", **SIX}),
     "precision-unlimited": Meaning("precision-unlimited", {"integer": "1"}),
     "%x100": Meaning("percent scale/100", {"percent": "", **SIX}),
     "percent": Meaning("percent", {"percent": "", "scale": "1", **SIX}),
+    "scale/1000 unit/permille": Meaning("permille scale/1000", {"permille": "", **SIX}),
+    "permille": Meaning("permille", {"permille": "", "scale": "1", **SIX}),
     "currency/eur": Meaning("currency/EUR", {"currency": "EUR"}),
     "() currency/USD": Meaning("currency/USD sign-accounting", {"currency": "USD", "accounting": ""}),
     "currency/CHF": Meaning("currency/CHF", {"currency": "CHF"}),
@@ -105,9 +108,6 @@ SKELETONS = {
     "latin": Meaning("latin", {"system": "latn", **SIX}),
     "numbering-system/arab": Meaning("numbering-system/arab", {"system": "arab", **SIX}),
 }
-NOT_SUPPORTED = {
-    "permille": "permille", "group-thousands .00": "group-thousands", ",!": "group-on-aligned",
-}
 NO_SKELETON = {
     "percent scientific": "left out: scientific, byte 8", ".00 @@": "set twice: precision, byte 4", "percents": "unknown stem, byte 0",
     "currency": "option missing, byte 8", "currency/": "empty option, byte 9", "currency/EURO": "unknown option, byte 9",
@@ -116,8 +116,8 @@ NO_SKELETON = {
     "\u0665": "unknown stem, byte 0", "percent\u00a0": "unknown stem, byte 0",
 }
 # The options that say of numbers what a skeleton says, in the order in which they are looked for.
-OF_NUMBERS = ["style", "currency", "percent", "unit", "width", "accounting", "cash", "fraction", "significant", "increment", "round",
-              "integer", "scale", "grouping", "sign", "system"]
+OF_NUMBERS = ["style", "currency", "percent", "permille", "unit", "width", "accounting", "cash", "fraction", "significant", "increment",
+              "round", "integer", "scale", "grouping", "sign", "system"]
 # Faults of whose note the beginning is known.
 FILE, UNIT = "a file that can't be read", "a unit without data"
 NO_TEXT = "words that aren't text"
@@ -210,8 +210,10 @@ def scale_named(text: str) -> int | None:
 
 
 def scale_of(given: Given) -> int:
-    """The power of ten by which numbers are multiplied: percents are hundredths."""
-    return (scale_named(given["scale"]) or 0) if "scale" in given else 2 if "percent" in given else 0
+    """The power of ten by which numbers are multiplied: percents are hundredths, permilles are thousandths."""
+    if "scale" in given:
+        return scale_named(given["scale"]) or 0
+    return 2 if "percent" in given else 3 if "permille" in given else 0
 
 
 def fields_named(text: str) -> Range | None:
@@ -262,7 +264,7 @@ def kind_of_money(given: Given, style: str) -> str:
 
 def kind_of(given: Given) -> str:
     """Which kind of numbers is asked for."""
-    if sum(name in given for name in ("currency", "percent", "unit")) > 1:
+    if sum(name in given for name in ("currency", "percent", "permille", "unit")) > 1:
         raise Ended("together")
     if "currency" not in given and ("accounting" in given or "cash" in given or "width" in given and "unit" not in given):
         raise Ended("alone")
@@ -273,7 +275,9 @@ def kind_of(given: Given) -> str:
         return kind_of_money(given, style)
     if given.get("width", "short") not in ("short", "narrow", "long"):
         raise Ended("width")
-    return OTHER if "unit" in given or style != "plain" else PERCENT if "percent" in given else PLAIN
+    if "unit" in given or style != "plain":
+        return OTHER
+    return PERCENT if "percent" in given else PERMILLE if "permille" in given else PLAIN
 
 
 def precision_of(given: Given) -> Precision | None:
@@ -310,7 +314,7 @@ def meant(given: Given) -> Given:
 
 
 def judge_skeleton(given: Given) -> None:
-    """Whether a skeleton stands alone and is one, of which forms have all."""
+    """Whether a skeleton stands alone and is one."""
     if "skeleton" not in given:
         return
     beside = next((name for name in OF_NUMBERS if name in given), None)
@@ -319,15 +323,13 @@ def judge_skeleton(given: Given) -> None:
     text = given["skeleton"]
     if text in NO_SKELETON:
         raise Ended("skeleton", f"skeleton: {NO_SKELETON[text]}")
-    if text in NOT_SUPPORTED:
-        raise Ended("unsupported skeleton", f"skeleton: not supported: {NOT_SUPPORTED[text]}")
 
 
 def data_of(given: Given) -> str:
     """The options that ask tools/cldr_to_tables.py for the data of what is wanted."""
     currency = f" --currencies {given['currency']}" if "currency" in given else ""
     unit = f" --units {given['unit'] or '(empty)'}" if "unit" in given else ""
-    return currency or unit or (" --percents" if "percent" in given else "")
+    return currency or unit or (" --percents" if "percent" in given or "permille" in given else "")
 
 
 def judge_data(given: Given) -> None:
@@ -381,7 +383,7 @@ def heading_of(given: Given) -> bytes:
     """The lines in front of explanations: what they go by."""
     style = given.get("style", "plain")
     key = style.replace("plain", "symbols")
-    if "percent" in given:
+    if "percent" in given or "permille" in given:
         key = "percents" if style == "plain" else "units"
     if "currency" in given:
         key = "currencies" if style == "plain" or given.get("width") == "name" else "currency_compact"

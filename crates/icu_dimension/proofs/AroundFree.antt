@@ -12,7 +12,7 @@ use Rattle.writeable.specs.Writes.{characters-append}
 use Rattle.writeable.proofs.EventLemmas.{characters-map_Char}
 use Rattle.icu_decimal_readable.specs.Readable.{HasNoDigit}
 use Rattle.icu_dimension_data.specs.declared.affix_token.AffixToken.{AffixToken}
-use Rattle.icu_dimension_data.specs.declared.affix_token.AffixToken.TheVariants.{Character, CurrencySymbol, MinusSign, PlusSign, PercentSign}
+use Rattle.icu_dimension_data.specs.declared.affix_token.AffixToken.TheVariants.{Character, CurrencySymbol, MinusSign, PlusSign, PercentSign, PerMilleSign}
 use Rattle.icu_dimension_data.specs.Patterns.{Affixes, PatternText}
 use Rattle.icu_dimension_data.specs.Resolved.{Texts, affixes_of, are_digits, first_character, has_minus, is_symbol, last_character, led_by, minus_affixes}
 use Rattle.icu_dimension_data.specs.Resolved.{minus_by}
@@ -37,6 +37,7 @@ module _ (digits : List ℕ) where
   token_free texts MinusSign h k = part_free (codes "decimal") (codes "minusSign") texts.minus_sign h.minus_free
   token_free texts PlusSign h k = part_free (codes "decimal") (codes "plusSign") texts.plus_sign h.plus_free
   token_free texts PercentSign h k = part_free (codes "dimension") (codes "percentSign") texts.percent_sign h.percent_free
+  token_free texts PerMilleSign h k = part_free (codes "dimension") (codes "perMilleSign") texts.percent_sign h.percent_free
 
   tokens_free : (texts : Texts) (ts : List AffixToken) → TextsHaveNoDigit digits texts → All (StandsForNoDigit digits) ts →
       HasNoDigit digits (characters (affix_events texts ts))
@@ -53,6 +54,7 @@ module _ (digits : List ℕ) where
   plus_free MinusSign h = tt
   plus_free PlusSign h = h
   plus_free PercentSign h = h
+  plus_free PerMilleSign h = h
 
   pluses_free : (ts : List AffixToken) → All (StandsForNoDigit digits) ts → All (StandsForNoDigit digits) (map plus_for ts)
   pluses_free ts h = All-map (StandsForNoDigit digits) plus_for ts (λ k d l. plus_free (slice_index_or ts k d) (h k d l))

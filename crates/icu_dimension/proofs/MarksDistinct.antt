@@ -10,7 +10,7 @@ use Rattle.std.proofs.lemmas.Map.Views.{Contains-from_any}
 use Rattle.fixed_decimal.specs.declared.signs.Sign.{Sign}
 use Rattle.icu_decimal_readable.specs.Readable.{Surroundings}
 use Rattle.icu_dimension_data.specs.declared.affix_token.AffixToken.{AffixToken}
-use Rattle.icu_dimension_data.specs.declared.affix_token.AffixToken.TheVariants.{Character, CurrencySymbol, MinusSign, PlusSign, PercentSign}
+use Rattle.icu_dimension_data.specs.declared.affix_token.AffixToken.TheVariants.{Character, CurrencySymbol, MinusSign, PlusSign, PercentSign, PerMilleSign}
 use Rattle.icu_dimension_data.specs.Patterns.{Affixes, PatternText}
 use Rattle.icu_dimension_data.specs.Resolved.{Texts, are_digits, first_character, is_symbol, last_character, needs_space, no_break_space, resolved}
 use Rattle.icu_dimension_data.specs.Resolved.{spaced_after, spaced_before}
@@ -46,6 +46,7 @@ module _ (marks : List ℕ) where
   among-piece texts cs h MinusSign = refl
   among-piece texts cs h PlusSign = refl
   among-piece texts cs h PercentSign = refl
+  among-piece texts cs h PerMilleSign = refl
 
   among-written : (texts : Texts) (cs : List ℕ) → HasNoMark marks cs → (ts : List AffixToken) →
       marks_among marks (written texts cs ts) ≡ marks_among marks (written texts [] ts)

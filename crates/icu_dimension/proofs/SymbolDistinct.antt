@@ -13,7 +13,7 @@ use Rattle.writeable.specs.Events.{characters}
 use Rattle.writeable.specs.Writes.{characters-append}
 use Rattle.icu_decimal_readable.specs.Readable.{Surroundings}
 use Rattle.icu_dimension_data.specs.declared.affix_token.AffixToken.{AffixToken}
-use Rattle.icu_dimension_data.specs.declared.affix_token.AffixToken.TheVariants.{Character, CurrencySymbol, MinusSign, PlusSign, PercentSign}
+use Rattle.icu_dimension_data.specs.declared.affix_token.AffixToken.TheVariants.{Character, CurrencySymbol, MinusSign, PlusSign, PercentSign, PerMilleSign}
 use Rattle.icu_dimension_data.specs.Patterns.{Affixes, PatternText}
 use Rattle.icu_dimension_data.specs.Resolved.{Texts, affixes_of, are_digits, first_character, has_minus, is_symbol, last_character, led_by, minus_affixes}
 use Rattle.icu_dimension_data.specs.Resolved.{minus_by}
@@ -30,6 +30,7 @@ piece texts cs CurrencySymbol = cs
 piece texts cs MinusSign = chars texts.minus_sign
 piece texts cs PlusSign = chars texts.plus_sign
 piece texts cs PercentSign = chars texts.percent_sign
+piece texts cs PerMilleSign = chars texts.percent_sign
 
 -- the characters of tokens
 abbrev pub written : Texts → List ℕ → List AffixToken → List ℕ
@@ -43,6 +44,7 @@ characters-token texts currency CurrencySymbol = characters-part (codes "dimensi
 characters-token texts currency MinusSign = characters-part (codes "decimal") (codes "minusSign") texts.minus_sign
 characters-token texts currency PlusSign = characters-part (codes "decimal") (codes "plusSign") texts.plus_sign
 characters-token texts currency PercentSign = characters-part (codes "dimension") (codes "percentSign") texts.percent_sign
+characters-token texts currency PerMilleSign = characters-part (codes "dimension") (codes "perMilleSign") texts.percent_sign
 
 pub characters-tokens : (texts : Texts) (currency : List ℕ) (ts : List AffixToken) →
     characters (affix_events (with_symbol texts currency) ts) ≡ written texts (chars currency) ts
@@ -63,6 +65,7 @@ module _ (texts : Texts) where
   piece_longer xs ys l MinusSign = omega arith
   piece_longer xs ys l PlusSign = omega arith
   piece_longer xs ys l PercentSign = omega arith
+  piece_longer xs ys l PerMilleSign = omega arith
 
   -- with more characters in the symbol's place there are no fewer
   longer : (xs ys : List ℕ) → length xs ≤ length ys → (ts : List AffixToken) → length (written texts xs ts) ≤ length (written texts ys ts)
@@ -102,6 +105,9 @@ module _ (texts : Texts) where
   place_distinct xs ys (PercentSign ∷ ts) has e =
       place_distinct xs ys ts (later PercentSign ts (λ is. cc) has)
       (append_cancel_left (chars texts.percent_sign) (written texts xs ts) (written texts ys ts) e)
+  place_distinct xs ys (PerMilleSign ∷ ts) has e =
+      place_distinct xs ys ts (later PerMilleSign ts (λ is. cc) has)
+      (append_cancel_left (chars texts.percent_sign) (written texts xs ts) (written texts ys ts) e)
 
   -- ---- after the number
 
@@ -136,6 +142,7 @@ module _ (texts : Texts) where
   after_distinct inserted one other (MinusSign ∷ ts) h k has e = place_distinct (chars one) (chars other) (MinusSign ∷ ts) has e
   after_distinct inserted one other (PlusSign ∷ ts) h k has e = place_distinct (chars one) (chars other) (PlusSign ∷ ts) has e
   after_distinct inserted one other (PercentSign ∷ ts) h k has e = place_distinct (chars one) (chars other) (PercentSign ∷ ts) has e
+  after_distinct inserted one other (PerMilleSign ∷ ts) h k has e = place_distinct (chars one) (chars other) (PerMilleSign ∷ ts) has e
 
   -- ---- before the number
 
@@ -196,6 +203,7 @@ module _ (texts : Texts) where
   symbol_is MinusSign e = cc
   symbol_is PlusSign e = cc
   symbol_is PercentSign e = cc
+  symbol_is PerMilleSign e = cc
 
   ends_with_symbol : (ts : List AffixToken) → is_symbol (slice_get ts (length ts - 1)) ≡ true → IsLast CurrencySymbol ts
   ends_with_symbol ts e = elim (last_of ts) [

@@ -43,7 +43,7 @@ loaded_currency symbols digits patterns currencies prefs code options =
     and_then (currencies (named_id code locale)) (λ s.
     Ok (record { formatter = f; patterns = money_patterns f.digits p s code options }))))
 
--- percents: the plain formatter, then the patterns by the preferred system in the locale, or else by the locale; or the
+-- percents or permilles: the plain formatter, then the patterns by the preferred system in the locale, or else by the locale; or the
 -- first error
 abbrev pub loaded_percent : Provider DecimalSymbols → Provider (List ℕ) → Provider Signed
     → DecimalFormatterPreferences → DecimalFormatterOptions → Result (SignedFormat DecimalFormat) Refusal

@@ -61,6 +61,13 @@ impl<F: AbstractFormatter> CurrencyFormatter<F> {
         &self.patterns
     }
 
+    /// The formatter of numbers (this project's own).
+    pub fn formatter(&self) -> &F
+        ensures { result.now ≡ self.now.formatter }
+    {
+        &self.formatter
+    }
+
     /// Writes an amount into any writer: the parts of the number, and those of the sign and of the
     /// symbol.
     ///

@@ -12,7 +12,7 @@ use crate::currency_formatter::CurrencyFormatter;
 use crate::long_currency_formatter::LongCurrencyFormatter;
 use crate::markers::{
     CurrencyDecimalSymbolsV1, CurrencyDigitsV1, CurrencyNamesV1, CurrencyPatternsV1,
-    CurrencySymbolsV1, PercentPatternsV1,
+    CurrencySymbolsV1, PercentPatternsV1, PermillePatternsV1,
 };
 use crate::options::CurrencyFormatterOptions;
 use crate::percent_formatter::PercentFormatter;
@@ -253,6 +253,35 @@ impl PercentFormatter<DecimalFormatter> {
     {
         let formatter = DecimalFormatter::try_new_unstable::<D>(alloc, provider, prefs, options)?;
         let patterns = load_preferred_in::<PercentPatternsV1, D>(alloc, provider, &prefs)?;
+        Ok(PercentFormatter::new(formatter, patterns))
+    }
+
+    /// The formatter of permilles, of a provider's data (this project's own).
+    ///
+    /// The plain formatter and then the patterns of permilles are asked for as by
+    /// [`PercentFormatter::try_new_unstable`]. Numbers of permilles are written by
+    /// [`write_percents_into`](PercentFormatter::write_percents_into), as they are given: `12.3‰`
+    /// of 12.3. The other calls write a hundred times a number.
+    // promise: Patterns of permilles are asked by the preferred system first.
+    // mutations: loading_permilles_without_the_preferred_system
+    pub fn try_new_permille_unstable<
+        D: DataProvider<DecimalSymbolsV1>
+            + DataProvider<DecimalDigitsV1>
+            + DataProvider<PermillePatternsV1>,
+    >(
+        alloc: Global,
+        provider: &D,
+        prefs: DecimalFormatterPreferences,
+        options: DecimalFormatterOptions,
+    ) -> Result<Self, DataError>
+        ensures { Answers result
+            (loaded_percent (⟦<D as DataProvider<DecimalSymbolsV1>>⟧.answer provider.now)
+            (⟦<D as DataProvider<DecimalDigitsV1>>⟧.answer provider.now)
+            (⟦<D as DataProvider<PermillePatternsV1>>⟧.answer provider.now)
+            prefs options) }
+    {
+        let formatter = DecimalFormatter::try_new_unstable::<D>(alloc, provider, prefs, options)?;
+        let patterns = load_preferred_in::<PermillePatternsV1, D>(alloc, provider, &prefs)?;
         Ok(PercentFormatter::new(formatter, patterns))
     }
 }

@@ -63,6 +63,14 @@ impl DataMarker for PercentPatternsV1 {
     type DataStruct = SignedPatterns;
 }
 
+/// The patterns of permilles for the three signs (this project's own), asked for as those of
+/// percents.
+pub struct PermillePatternsV1;
+
+impl DataMarker for PermillePatternsV1 {
+    type DataStruct = SignedPatterns;
+}
+
 /// The long patterns of a unit, as `{0} kilometers`, asked for by the unit in the locale.
 pub struct UnitsLongV1;
 

@@ -24,6 +24,9 @@ use writeable::{EventWriter, PartsWrite, WithParts};
 
 /// Writes numbers as percents, as `12.34%` of 0.1234: a hundred times the number in the percent
 /// pattern of its sign.
+///
+/// In patterns of permilles it writes numbers of permilles by
+/// [`write_percents_into`](PercentFormatter::write_percents_into), as `12.3‰` of 12.3.
 #[derive(Drop)]
 pub struct PercentFormatter<F> {
     formatter: F,
@@ -54,6 +57,13 @@ impl<F: AbstractFormatter> PercentFormatter<F> {
         ensures { result.now ≡ self.now.patterns }
     {
         &self.patterns
+    }
+
+    /// The formatter of numbers (this project's own).
+    pub fn formatter(&self) -> &F
+        ensures { result.now ≡ self.now.formatter }
+    {
+        &self.formatter
     }
 
     /// Writes a hundred times the number, exactly and without leading zeros, as a percent into any
@@ -88,7 +98,8 @@ impl<F: AbstractFormatter> PercentFormatter<F> {
 
     /// Writes a number of percents into any writer, as `12.34%` of 12.34, with the parts of
     /// [`write_into`](PercentFormatter::write_into) (this project's own; ICU's `percent` without a
-    /// scale).
+    /// scale). In patterns of permilles it is a number of permilles, as `12.3‰` of 12.3 (ICU's
+    /// `permille` without a scale).
     ///
     /// After `Overflow` and `OutOfMemory` the writer is unchanged. `Sink` only where the writer
     /// failed. `Overflow` exactly where the formatter overflows. It takes no memory of its own.

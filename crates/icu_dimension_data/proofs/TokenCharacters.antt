@@ -13,7 +13,7 @@ use Rattle.writeable.specs.Events.Event.{Close}
 use Rattle.writeable.specs.Writes.{characters-append}
 use Rattle.writeable.proofs.EventLemmas.{characters-map_Char}
 use Rattle.icu_dimension_data.specs.declared.affix_token.AffixToken.{AffixToken}
-use Rattle.icu_dimension_data.specs.declared.affix_token.AffixToken.TheVariants.{Character, CurrencySymbol, MinusSign, PlusSign, PercentSign}
+use Rattle.icu_dimension_data.specs.declared.affix_token.AffixToken.TheVariants.{Character, CurrencySymbol, MinusSign, PlusSign, PercentSign, PerMilleSign}
 use Rattle.icu_dimension_data.specs.Comparing.{affix_characters, token_text}
 use Rattle.icu_dimension_data.specs.Resolved.{Texts}
 use Rattle.icu_dimension_data.specs.Surrounding.{affix_events, in_part, token_events}
@@ -52,6 +52,9 @@ text_first texts PlusSign ts other =
 text_first texts PercentSign ts other =
     token_first texts PercentSign ts
     ∙ ap (λ l. l ++ affix_characters texts ts) (characters-in_part (codes "dimension") (codes "percentSign") texts.percent_sign)
+text_first texts PerMilleSign ts other =
+    token_first texts PerMilleSign ts
+    ∙ ap (λ l. l ++ affix_characters texts ts) (characters-in_part (codes "dimension") (codes "perMilleSign") texts.percent_sign)
 
 -- without a text or a token left there are none
 pub at_end : (texts : Texts) (bs : List ℕ) (ts : List AffixToken) → length bs ≡ 0 → length ts ≡ 0 → chars bs ++ affix_characters texts ts ≡ []

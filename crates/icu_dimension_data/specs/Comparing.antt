@@ -2,7 +2,7 @@
 use Rattle.std.specs.Prelude.{◌≡◌, ℕ, List, [], All, Contains}
 use Rattle.writeable.specs.Events.{characters}
 use Rattle.icu_dimension_data.specs.declared.affix_token.AffixToken.{AffixToken}
-use Rattle.icu_dimension_data.specs.declared.affix_token.AffixToken.TheVariants.{Character, CurrencySymbol, MinusSign, PlusSign, PercentSign}
+use Rattle.icu_dimension_data.specs.declared.affix_token.AffixToken.TheVariants.{Character, CurrencySymbol, MinusSign, PlusSign, PercentSign, PerMilleSign}
 use Rattle.icu_dimension_data.specs.Resolved.{Texts}
 use Rattle.icu_dimension_data.specs.Surrounding.{SignedText, affix_events}
 
@@ -17,6 +17,7 @@ token_text texts CurrencySymbol = texts.currency
 token_text texts MinusSign = texts.minus_sign
 token_text texts PlusSign = texts.plus_sign
 token_text texts PercentSign = texts.percent_sign
+token_text texts PerMilleSign = texts.percent_sign
 
 -- Two patterns have the same characters before the number, and the same after it.
 pub record HaveSameCharacters (p q : SignedText) : Type 0 where

@@ -4,6 +4,7 @@ pub mod Patterns
 pub mod Stepping
 pub mod Reading
 pub mod Resolved
+pub mod Permilles
 pub mod Flat
 pub mod LentTexts
 pub mod Surrounding

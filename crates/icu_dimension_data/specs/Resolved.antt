@@ -14,7 +14,7 @@ use Rattle.icu_dimension_data.specs.declared.affix_token.AffixToken.{AffixToken}
 use Rattle.icu_dimension_data.specs.declared.affix_token.AffixToken.TheVariants.{Character, CurrencySymbol, MinusSign, PlusSign}
 use Rattle.icu_dimension_data.specs.Patterns.{Affixes, PatternText}
 
--- the texts for the tokens
+-- the texts for the tokens; that of the percent sign also stands for the per mille sign
 pub record Texts : Type 0 where
   pub minus_sign : List ℕ
   pub plus_sign : List ℕ

@@ -3,7 +3,7 @@ use Rattle.std.specs.Prelude.{ℕ, List, [], ◌∷◌, ◌++◌, codes}
 use Rattle.writeable.specs.Events.{Event, text_events}
 use Rattle.writeable.specs.Events.Event.{Char, Open, Close}
 use Rattle.icu_dimension_data.specs.declared.affix_token.AffixToken.{AffixToken}
-use Rattle.icu_dimension_data.specs.declared.affix_token.AffixToken.TheVariants.{Character, CurrencySymbol, MinusSign, PlusSign, PercentSign}
+use Rattle.icu_dimension_data.specs.declared.affix_token.AffixToken.TheVariants.{Character, CurrencySymbol, MinusSign, PlusSign, PercentSign, PerMilleSign}
 use Rattle.icu_dimension_data.specs.Patterns.{Affixes}
 use Rattle.icu_dimension_data.specs.Resolved.{Texts}
 
@@ -28,6 +28,7 @@ token_events texts CurrencySymbol = in_part (codes "dimension") (codes "currency
 token_events texts MinusSign = in_part (codes "decimal") (codes "minusSign") texts.minus_sign
 token_events texts PlusSign = in_part (codes "decimal") (codes "plusSign") texts.plus_sign
 token_events texts PercentSign = in_part (codes "dimension") (codes "percentSign") texts.percent_sign
+token_events texts PerMilleSign = in_part (codes "dimension") (codes "perMilleSign") texts.percent_sign
 
 -- tokens one after the other
 abbrev pub affix_events : Texts → List AffixToken → List Event

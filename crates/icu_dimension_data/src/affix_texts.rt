@@ -11,7 +11,7 @@ pub struct AffixTexts<'a> {
     pub minus_sign: &'a str,
     /// The plus sign, as `+`.
     pub plus_sign: &'a str,
-    /// The percent sign, as `%`.
+    /// The percent sign, as `%`; of a pattern of permilles the per mille sign, as `‰`.
     pub percent_sign: &'a str,
     /// The symbol of the currency, as `$` or `CHF`; for percents it may be empty.
     pub currency: &'a str,

@@ -14,4 +14,7 @@ pub enum AffixToken {
     PlusSign,
     /// `%`, the percent sign of the locale.
     PercentSign,
+    /// The per mille sign of the locale, which stands for `%` in a pattern of permilles. No text of
+    /// a pattern spells it.
+    PerMilleSign,
 }

@@ -47,7 +47,7 @@ impl KeptTexts {
             AffixToken::CurrencySymbol => self.currency.as_str(),
             AffixToken::MinusSign => self.minus_sign.as_str(),
             AffixToken::PlusSign => self.plus_sign.as_str(),
-            AffixToken::PercentSign => self.percent_sign.as_str(),
+            AffixToken::PercentSign | AffixToken::PerMilleSign => self.percent_sign.as_str(),
         }
     }
 }

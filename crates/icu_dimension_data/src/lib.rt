@@ -31,6 +31,7 @@ pub mod currency_digits;
 pub mod error;
 mod flattening;
 pub mod parts;
+mod permilles;
 mod reading;
 mod resolving;
 pub mod signed_patterns;

@@ -26,6 +26,12 @@ pub const PERCENT_SIGN: Part = Part {
     value: "percentSign",
 };
 
+/// The part around a per mille sign.
+pub const PER_MILLE_SIGN: Part = Part {
+    category: "dimension",
+    value: "perMilleSign",
+};
+
 /// The part around a unit.
 pub const UNIT: Part = Part {
     category: "dimension",

@@ -2,7 +2,7 @@
 
 use crate::affix_texts::{AffixTexts, KeptTexts};
 use crate::affix_token::AffixToken;
-use crate::parts::{CURRENCY, MINUS_SIGN, PERCENT_SIGN, PLUS_SIGN};
+use crate::parts::{CURRENCY, MINUS_SIGN, PER_MILLE_SIGN, PERCENT_SIGN, PLUS_SIGN};
 use crate::subpattern::Subpattern;
 use fixed_decimal::Sign;
 use std::fmt;
@@ -119,6 +119,7 @@ impl KeptTexts {
             AffixToken::MinusSign => out.part(MINUS_SIGN, self.minus_sign.as_str()),
             AffixToken::PlusSign => out.part(PLUS_SIGN, self.plus_sign.as_str()),
             AffixToken::PercentSign => out.part(PERCENT_SIGN, self.percent_sign.as_str()),
+            AffixToken::PerMilleSign => out.part(PER_MILLE_SIGN, self.percent_sign.as_str()),
         }
     }
 

@@ -12,7 +12,6 @@ use Rattle.serde_json.specs.Read.{read as read_text}
 use Rattle.serde_json.specs.Written.{has_float, members_have_float}
 use Rattle.icu_decimal_data.specs.declared.decimal_symbols.DecimalSymbols.{DecimalSymbols}
 use Rattle.icu_dimension_data.specs.Digits.{Digits as DigitsData}
-use Rattle.icu_dimension_data.specs.Resolved.{Signed}
 use Rattle.icu_dimension_data.specs.declared.compact_rows.CompactRow.{CompactRow}
 use Rattle.icu_dimension.specs.Names.{NameText}
 use Rattle.icu_plurals.specs.Elements.{Elements}
@@ -32,7 +31,7 @@ use Rattle.icu_tables.specs.Tables.{TablesData, tables_of}
 use Rattle.icu_tables.proofs.ForLocale.{HoldsAt-here, HoldsAt-other, KeptOf, adds_other, apart, filter-all}
 use Rattle.icu_tables.proofs.ForLocale.{first_filed-filter, optional_read, optional_same}
 use Rattle.icu_dimension_tables.specs.AllTables.{all_tables_of}
-use Rattle.icu_dimension_tables.specs.Answering.{decimals_answer, names_answer, symbols_answer, unit_answer}
+use Rattle.icu_dimension_tables.specs.Answering.{decimals_answer, names_answer, permilles_answer, symbols_answer, unit_answer}
 use Rattle.icu_dimension_tables.specs.CurrencyCompact.{currency_compact_at}
 use Rattle.icu_dimension_tables.specs.CurrencyDigits.{currency_digits_of, currency_digits_under, digits_row_at}
 use Rattle.icu_dimension_tables.specs.CurrencyNames.{names_found}
@@ -42,7 +41,7 @@ use Rattle.icu_dimension_tables.specs.ForLocale.{AllFoundData, HoldsAll, IsAllFo
 use Rattle.icu_dimension_tables.specs.ForLocale.{currencies_are_of, unit_is_of}
 use Rattle.icu_dimension_tables.specs.Money.{LocaleMoney, currencies_at, filed_part, patterns_filed, placeholders_filed}
 use Rattle.icu_dimension_tables.specs.NamePlaceholders.{NamePlaceholders}
-use Rattle.icu_dimension_tables.specs.Percents.{percents_at}
+use Rattle.icu_dimension_tables.specs.Percents.{LocalePercents, percents_at, percents_filed, permilles_filed, permilles_found}
 use Rattle.icu_dimension_tables.specs.Units.{UnitPatterns, first_unit, units_at}
 use Rattle.icu_dimension_tables.specs.declared.currency_digits.DigitsRow.{DigitsRow}
 use Rattle.icu_dimension_tables.specs.declared.units.UnitWidth.{UnitWidth}
@@ -126,6 +125,21 @@ module _ (locale : List ℕ) (id : Identifier) (same : id.locale ≡ locale) whe
   currencies_same None (Some all) is = absurd is
   currencies_same (Some kept) None is = absurd is
   currencies_same (Some kept) (Some all) is = rw is (ap or_not_found (part-filter (λ m. m.patterns) locale id same all))
+
+  percents_same : (kept all : Option (List (NamedEntry LocalePercents))) → KeptOf (is_of locale) kept all
+      → optional_answer (option_map percents_filed kept) id ≡ optional_answer (option_map percents_filed all) id
+  percents_same None None is = refl
+  percents_same None (Some all) is = absurd is
+  percents_same (Some kept) None is = absurd is
+  percents_same (Some kept) (Some all) is = rw is (ap or_not_found (part-filter (λ p. p.percents) locale id same all))
+
+  permilles_same : (kept all : Option (List (NamedEntry LocalePercents))) → KeptOf (is_of locale) kept all
+      → permilles_answer (option_map permilles_filed kept) id ≡ permilles_answer (option_map permilles_filed all) id
+  permilles_same None None is = refl
+  permilles_same None (Some all) is = absurd is
+  permilles_same (Some kept) None is = absurd is
+  permilles_same (Some kept) (Some all) is =
+      rw is (ap (λ permilles. or_not_found (permilles_found permilles)) (part-filter (λ p. p.permilles) locale id same all))
 
   -- the names of a row in places, or none
   abbrev found : Option (Option (Elements NamePlaceholders)) → Option CurrencyRow → Result (Elements NameText) Refusal
@@ -211,7 +225,7 @@ module _ (locale : List ℕ) (ts : List Token) (f : AllFoundData) (rest : List T
   )
 
   -- the first member with percents
-  pub adds_percents : (name : List ℕ) (slot : Option (List (NamedEntry Signed))) → name ≡ name_of Percents
+  pub adds_percents : (name : List ℕ) (slot : Option (List (NamedEntry LocalePercents))) → name ≡ name_of Percents
       → IsOnce percents_at (is_of locale) Percents ts f.percents slot rest → AddsAll locale name ts f (record f { percents = slot }) rest
   adds_percents name slot named (fresh, kept, same, (d, is, served)) = rw named (
     d,
@@ -322,7 +336,7 @@ module _ (locale : List ℕ) (ts : List Token) (f : AllFoundData) (rest : List T
 -- ---- the tables of members
 
 -- the tables of money, percents and units of members of which each list was read
-dimension_read : (ds : Members) (digits : Option (List DigitsRow)) (percents : Option (List (NamedEntry Signed))) (units : Option (List UnitPatterns))
+dimension_read : (ds : Members) (digits : Option (List DigitsRow)) (percents : Option (List (NamedEntry LocalePercents))) (units : Option (List UnitPatterns))
     (money : Option (List (NamedEntry LocaleMoney))) (symbols : Option (List LocaleCurrencies)) (decimals : Option (List (NamedEntry DecimalSymbols)))
     (compact : Option (List (NamedEntry (List CompactRow))))
     → optional (entries_in digits_row_at CurrencyDigits) (get_member (name_of CurrencyDigits) ds) ≡ Ok digits
@@ -334,7 +348,8 @@ dimension_read : (ds : Members) (digits : Option (List DigitsRow)) (percents : O
     → optional (entries_in currency_compact_at CurrencyCompact) (get_member (name_of CurrencyCompact) ds) ≡ Ok compact
     → dimension_tables_at (object ds) ≡ Ok (record {
       digits = option_map currency_digits_of digits;
-      percents = percents;
+      percents = option_map percents_filed percents;
+      permilles = option_map permilles_filed percents;
       units = units;
       currencies = option_map patterns_filed money;
       placeholders = option_map placeholders_filed money;
@@ -355,7 +370,8 @@ pub dimension_for : (locale text : List ℕ) (ds : Members) (f : AllFoundData) (
     → digits ≡ option_map currency_digits_of f.digits → HoldsAll locale ds f → read_text text ≡ Some (object ds)
     → IsDimensionFor locale (record {
       digits = digits;
-      percents = f.percents;
+      percents = option_map percents_filed f.percents;
+      permilles = option_map permilles_filed f.percents;
       units = f.units;
       currencies = option_map patterns_filed f.money;
       placeholders = option_map placeholders_filed f.money;
@@ -374,7 +390,8 @@ dimension_for locale text ds f digits are holds reads =
     let c = optional_read currency_compact_at (is_of locale) CurrencyCompact (get_member (name_of CurrencyCompact) ds) f.compact holds.compact in
     let all : DimensionData = record {
       digits = option_map currency_digits_of d.0;
-      percents = p.0;
+      percents = option_map percents_filed p.0;
+      permilles = option_map permilles_filed p.0;
       units = u.0;
       currencies = option_map patterns_filed m.0;
       placeholders = option_map placeholders_filed m.0;
@@ -387,7 +404,8 @@ dimension_for locale text ds f digits are holds reads =
       ap (λ v. v >>= dimension_tables_at) (value_read text ds reads holds.numbers.whole) ∙ read,
       record {
         digits = are ∙ digits_same f.digits d.0 d.2;
-        percents = optional_same locale f.percents p.0 p.2;
+        percents = λ id same. percents_same locale id same f.percents p.0 p.2;
+        permilles = λ id same. permilles_same locale id same f.percents p.0 p.2;
         units = λ width id same. units_same locale id same width f.units u.0 u.2;
         currencies = λ id same. currencies_same locale id same f.money m.0 m.2;
         symbols = λ id same. symbols_same locale id same f.symbols s.0 s.2;

@@ -6,12 +6,14 @@ use Rattle.icu_provider.specs.Answer.{Refusal, refused}
 use Rattle.icu_provider.specs.Identifier.{Identifier, same_identifier}
 use Rattle.icu_provider.specs.declared.error.DataErrorKind.TheVariants.{IdentifierNotFound, MarkerNotFound}
 use Rattle.icu_dimension_data.specs.Digits.{Digits}
+use Rattle.icu_dimension_data.specs.Resolved.{Signed}
 use Rattle.icu_decimal_data.specs.declared.decimal_symbols.DecimalSymbols.{DecimalSymbols}
 use Rattle.icu_dimension.specs.CurrencyData.{SymbolTexts}
 use Rattle.icu_dimension.specs.Names.{NameText}
 use Rattle.icu_dimension_tables.specs.CurrencyNames.{names_found}
 use Rattle.icu_dimension_tables.specs.CurrencySymbols.{LocaleCurrencies, row_filed}
 use Rattle.icu_dimension_tables.specs.NamePlaceholders.{NamePlaceholders}
+use Rattle.icu_dimension_tables.specs.Percents.{permilles_found}
 use Rattle.icu_dimension_tables.specs.Units.{UnitPatterns, first_unit}
 use Rattle.icu_dimension_tables.specs.declared.units.UnitWidth.{UnitWidth}
 use Rattle.icu_table_entries.specs.Answering.{filed_answer, or_not_found}
@@ -22,6 +24,11 @@ abbrev pub digits_answer : Option Digits → Identifier → Result Digits Refusa
 digits_answer None id = refused MarkerNotFound
 digits_answer (Some digits) id =
     if same_identifier id (record { system = None; locale = codes "und" }) then Ok digits else refused IdentifierNotFound
+
+-- the patterns of permilles of the first entry with the identifier, if it has any; without the key there are none for any identifier
+abbrev pub permilles_answer : Option (List (NamedEntry (Option Signed))) → Identifier → Result Signed Refusal
+permilles_answer None id = refused MarkerNotFound
+permilles_answer (Some entries) id = or_not_found (permilles_found (first_filed id entries))
 
 -- the patterns of a width of the first entry with the identifier; without the key there are none for any identifier
 abbrev pub unit_answer : UnitWidth → Option (List UnitPatterns) → Identifier → Result (Elements PatternText) Refusal

@@ -10,7 +10,7 @@ use Rattle.icu_dimension_tables.specs.CurrencyDigits.{currency_digits_under}
 use Rattle.icu_dimension_tables.specs.CurrencySymbols.{LocaleCurrencies, currency_symbols_at}
 use Rattle.icu_dimension_tables.specs.Money.{currencies_at, patterns_filed, placeholders_filed}
 use Rattle.icu_dimension_tables.specs.NamePlaceholders.{NamePlaceholders}
-use Rattle.icu_dimension_tables.specs.Percents.{percents_at}
+use Rattle.icu_dimension_tables.specs.Percents.{percents_at, percents_filed, permilles_filed}
 use Rattle.icu_dimension_tables.specs.Units.{UnitPatterns, units_at}
 use Rattle.icu_dimension_data.specs.declared.compact_rows.CompactRow.{CompactRow}
 use Rattle.icu_plurals.specs.Elements.{Elements}
@@ -24,6 +24,7 @@ use Rattle.icu_table_entries.specs.declared.error.TableError.{TableError}
 pub record DimensionData : Type 0 where
   pub digits : Option Digits
   pub percents : Option (List (NamedEntry Signed))
+  pub permilles : Option (List (NamedEntry (Option Signed)))
   pub units : Option (List UnitPatterns)
   pub currencies : Option (List (NamedEntry MoneyPatterns))
   pub placeholders : Option (List (NamedEntry (Option (Elements NamePlaceholders))))
@@ -44,7 +45,8 @@ dimension_tables_at d = do
   compact ← optional_at (entries_in currency_compact_at CurrencyCompact) CurrencyCompact d
   Ok (record {
     digits = digits;
-    percents = percents;
+    percents = option_map percents_filed percents;
+    permilles = option_map permilles_filed percents;
     units = units;
     currencies = option_map patterns_filed money;
     placeholders = option_map placeholders_filed money;

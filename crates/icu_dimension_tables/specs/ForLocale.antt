@@ -5,16 +5,15 @@ use Rattle.serde_json.specs.Data.{Members}
 use Rattle.serde_json.specs.Find.{get_member}
 use Rattle.icu_provider.specs.Identifier.{Identifier}
 use Rattle.icu_decimal_data.specs.declared.decimal_symbols.DecimalSymbols.{DecimalSymbols}
-use Rattle.icu_dimension_data.specs.Resolved.{Signed}
 use Rattle.icu_dimension_data.specs.declared.compact_rows.CompactRow.{CompactRow}
 use Rattle.icu_dimension_tables.specs.AllTables.{AllData}
-use Rattle.icu_dimension_tables.specs.Answering.{decimals_answer, names_answer, symbols_answer, unit_answer}
+use Rattle.icu_dimension_tables.specs.Answering.{decimals_answer, names_answer, permilles_answer, symbols_answer, unit_answer}
 use Rattle.icu_dimension_tables.specs.CurrencyCompact.{currency_compact_at}
 use Rattle.icu_dimension_tables.specs.CurrencyDigits.{digits_row_at}
 use Rattle.icu_dimension_tables.specs.CurrencySymbols.{LocaleCurrencies, currency_symbols_at}
 use Rattle.icu_dimension_tables.specs.DimensionTables.{DimensionData}
 use Rattle.icu_dimension_tables.specs.Money.{LocaleMoney, currencies_at}
-use Rattle.icu_dimension_tables.specs.Percents.{percents_at}
+use Rattle.icu_dimension_tables.specs.Percents.{LocalePercents, percents_at}
 use Rattle.icu_dimension_tables.specs.Units.{UnitPatterns, units_at}
 use Rattle.icu_dimension_tables.specs.declared.currency_digits.DigitsRow.{DigitsRow}
 use Rattle.icu_dimension_tables.specs.declared.units.UnitWidth.{UnitWidth}
@@ -33,6 +32,7 @@ use Rattle.icu_tables.specs.Symbols.{symbols_at}
 pub record DimensionAnswersAs (locale : List ℕ) (kept all : DimensionData) : Type 0 where
   pub digits : kept.digits ≡ all.digits
   pub percents : (id : Identifier) → id.locale ≡ locale → optional_answer kept.percents id ≡ optional_answer all.percents id
+  pub permilles : (id : Identifier) → id.locale ≡ locale → permilles_answer kept.permilles id ≡ permilles_answer all.permilles id
   pub units : (width : UnitWidth) (id : Identifier) → id.locale ≡ locale → unit_answer width kept.units id ≡ unit_answer width all.units id
   pub currencies : (id : Identifier) → id.locale ≡ locale → optional_answer kept.currencies id ≡ optional_answer all.currencies id
   pub symbols : (id : Identifier) → id.locale ≡ locale → symbols_answer kept.symbols id ≡ symbols_answer all.symbols id
@@ -70,7 +70,7 @@ currencies_are_of locale entry = pointwise nat_eq locale entry.locale
 pub record AllFoundData : Type 0 where
   pub numbers : FoundData
   pub digits : Option (List DigitsRow)
-  pub percents : Option (List (NamedEntry Signed))
+  pub percents : Option (List (NamedEntry LocalePercents))
   pub units : Option (List UnitPatterns)
   pub money : Option (List (NamedEntry LocaleMoney))
   pub symbols : Option (List LocaleCurrencies)

@@ -5,9 +5,9 @@ pub mod CurrencyCompact
 pub mod SignTexts
 pub mod NamePlaceholders
 pub mod CurrencyDigits
-pub mod Percents
 pub mod Units
 pub mod Money
+pub mod Percents
 pub mod CurrencySymbols
 pub mod CurrencyNames
 pub mod DimensionTables

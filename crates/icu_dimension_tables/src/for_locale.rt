@@ -11,11 +11,11 @@ use crate::currency_compact::CurrencyCompactEntry;
 use crate::currency_digits::{DigitsRow, DigitsRowEntry, digits_of_rows};
 use crate::currency_symbols::{CurrencySymbolsEntry, LocaleCurrencies};
 use crate::money::{CurrenciesEntry, LocaleMoney};
-use crate::percents::PercentsEntry;
+use crate::percents::{LocalePercents, PercentsEntry};
 use crate::tables::DimensionTables;
 use crate::units::{UnitEntry, UnitPatterns};
 use icu_decimal_symbols::DecimalSymbols;
-use icu_dimension_data::{CompactRows, SignedPatterns};
+use icu_dimension_data::CompactRows;
 use icu_provider::DataLocale;
 use icu_table_entries::named::NamedEntry;
 use icu_table_entries::{Key, TableError};
@@ -31,7 +31,7 @@ use std::marker::Model;
 struct AllFound {
     numbers: Found,
     digits: Option<Vec<DigitsRow>>,
-    percents: Option<Vec<NamedEntry<SignedPatterns>>>,
+    percents: Option<Vec<NamedEntry<LocalePercents>>>,
     units: Option<Vec<UnitPatterns>>,
     money: Option<Vec<NamedEntry<LocaleMoney>>>,
     symbols: Option<Vec<LocaleCurrencies>>,

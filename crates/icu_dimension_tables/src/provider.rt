@@ -5,6 +5,7 @@ use crate::copying::patterns_copy;
 use crate::currency_names::names_with_placeholders;
 use crate::currency_symbols::row_filed;
 use crate::money::{patterns_filed, placeholders_filed};
+use crate::percents::{percents_filed, permilles_filed};
 use crate::units::{UnitWidth, first_unit};
 use icu_decimal_data::{
     CompactPatterns, DecimalCompactLongV1, DecimalCompactShortV1, DecimalDigitsV1, DecimalSymbolsV1,
@@ -14,7 +15,7 @@ use icu_dimension::NamePattern;
 use icu_dimension::provider::{
     CurrencyCompactShortV1, CurrencyDecimalSymbolsV1, CurrencyDigitsV1, CurrencyNamesV1,
     CurrencyPatterns, CurrencyPatternsV1, CurrencySymbols, CurrencySymbolsV1, PercentPatternsV1,
-    UnitsLongV1, UnitsNarrowV1, UnitsShortV1,
+    PermillePatternsV1, UnitsLongV1, UnitsNarrowV1, UnitsShortV1,
 };
 use icu_dimension_data::{CompactRows, CurrencyDigits, SignedPatterns};
 use icu_pattern::SinglePlaceholder;
@@ -109,7 +110,23 @@ impl DataProvider<PercentPatternsV1> for AllTables {
     /// or none.
     fn load(&self, alloc: Global, request: &DataRequest<'_>) -> Result<SignedPatterns, DataError> {
         let entries = present(&self.dimension.percents)?;
-        let patterns = found(first_filed(entries, &request.id))?;
+        let patterns = found(percents_filed(entries, &request.id))?;
+        answered(patterns.copy(alloc))
+    }
+}
+
+impl DataProvider<PermillePatternsV1> for AllTables {
+    ghost use Rattle.icu_dimension_tables.specs.Answering.{permilles_answer};
+
+    ghost answer = { λ tables id. permilles_answer tables.dimension.permilles id };
+
+    /// A copy of the patterns of permilles of the first entry of `percents` with the identifier's
+    /// locale and numbering system, or none, if it has a per mille sign.
+    // promise: Permilles are answered from the entry of percents.
+    // mutations: permilles_answered_by_percents
+    fn load(&self, alloc: Global, request: &DataRequest<'_>) -> Result<SignedPatterns, DataError> {
+        let entries = present(&self.dimension.percents)?;
+        let patterns = found(permilles_filed(entries, &request.id))?;
         answered(patterns.copy(alloc))
     }
 }

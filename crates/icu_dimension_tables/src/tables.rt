@@ -8,10 +8,10 @@ use crate::currency_compact::CurrencyCompactEntry;
 use crate::currency_digits::currency_digits_under;
 use crate::currency_symbols::{CurrencySymbolsEntry, LocaleCurrencies};
 use crate::money::{CurrenciesEntry, LocaleMoney};
-use crate::percents::PercentsEntry;
+use crate::percents::{LocalePercents, PercentsEntry};
 use crate::units::{UnitEntry, UnitPatterns};
 use icu_decimal_symbols::DecimalSymbols;
-use icu_dimension_data::{CompactRows, CurrencyDigits, SignedPatterns};
+use icu_dimension_data::{CompactRows, CurrencyDigits};
 use icu_table_entries::entries::optional_entries;
 use icu_table_entries::fields::object_in;
 use icu_table_entries::named::NamedEntry;
@@ -27,7 +27,7 @@ use std::marker::Model;
 #[derive(Drop)]
 pub struct DimensionTables {
     pub(crate) digits: Option<CurrencyDigits>,
-    pub(crate) percents: Option<Vec<NamedEntry<SignedPatterns>>>,
+    pub(crate) percents: Option<Vec<NamedEntry<LocalePercents>>>,
     pub(crate) units: Option<Vec<UnitPatterns>>,
     pub(crate) money: Option<Vec<NamedEntry<LocaleMoney>>>,
     pub(crate) symbols: Option<Vec<LocaleCurrencies>>,
@@ -39,12 +39,14 @@ impl Model for DimensionTables {
     ghost use Rattle.std.specs.Prelude.{option_map};
     ghost use Rattle.icu_dimension_tables.specs.DimensionTables.{DimensionData};
     ghost use Rattle.icu_dimension_tables.specs.Money.{patterns_filed, placeholders_filed};
+    ghost use Rattle.icu_dimension_tables.specs.Percents.{percents_filed, permilles_filed};
 
     ghost Value = { DimensionData };
 
     ghost view = { λ t. record {
       digits = t.digits;
-      percents = option_map (λ v. v.items) t.percents;
+      percents = option_map percents_filed (option_map (λ v. v.items) t.percents);
+      permilles = option_map permilles_filed (option_map (λ v. v.items) t.percents);
       units = option_map (λ v. v.items) t.units;
       currencies = option_map patterns_filed (option_map (λ v. v.items) t.money);
       placeholders = option_map placeholders_filed (option_map (λ v. v.items) t.money);

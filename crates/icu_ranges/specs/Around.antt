@@ -32,10 +32,14 @@ around_joined separator patterns start_sign end_sign start end =
     else joined separator (sign_framed patterns start_sign start) (sign_framed patterns end_sign end)
 
 -- two amounts as a range; where both texts are one, the first alone
-abbrev pub amounts_framed : RangeStyle → Signed → Sign → Sign → Operands → List Event → Operands → List Event → List Event
-amounts_framed style patterns start_sign end_sign o start p end =
+abbrev pub amounts_of : RangeStyle → Signed → Sign → Sign → List Event → List Event → List Event
+amounts_of style patterns start_sign end_sign start end =
     if is_single style.fallback (sign_framed patterns start_sign start) (sign_framed patterns end_sign end) then sign_framed patterns start_sign start
     else around_joined style.separator patterns start_sign end_sign start end
+
+-- two amounts as a range, by their numbers as they are shown
+abbrev pub amounts_framed : RangeStyle → Signed → Sign → Sign → Operands → List Event → Operands → List Event → List Event
+amounts_framed style patterns start_sign end_sign o start p end = amounts_of style patterns start_sign end_sign start end
 
 -- what is written for two numbers as they are shown
 abbrev pub amounts_events : RangeStyle → Signed → Sign → Sign → ShownPair → List Event

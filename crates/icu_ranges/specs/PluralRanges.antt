@@ -1,5 +1,5 @@
 -- The plural category of a range (UTS 35 Part 3, Plural Ranges).
-use Rattle.std.specs.Prelude.{ℕ, Bool, false, ◌==◌, ◌&&◌, ◌||◌, List, [], ◌∷◌, if◌then◌else◌}
+use Rattle.std.specs.Prelude.{ℕ, ◌+◌, Bool, false, ◌==◌, ◌&&◌, ◌||◌, List, [], ◌∷◌, Option, Some, None, if◌then◌else◌}
 use Rattle.icu_plurals.specs.declared.category.PluralCategory.{PluralCategory}
 use Rattle.icu_plurals.specs.declared.category.PluralCategory.TheVariants.{Zero, One, Two, Few, Many, Other}
 use Rattle.icu_ranges.specs.declared.plural_ranges.PluralRange.{PluralRange}
@@ -31,3 +31,8 @@ has_pair (r ∷ rs) start end = is_for r start end || has_pair rs start end
 abbrev pub has_repeated : List PluralRange → Bool
 has_repeated [] = false
 has_repeated (r ∷ rs) = has_pair rs r.start r.end || has_repeated rs
+
+-- the index, from i on, of the first entry whose pair of categories a later entry has too
+abbrev pub first_repeated : ℕ → List PluralRange → Option ℕ
+first_repeated i [] = None
+first_repeated i (r ∷ rs) = if has_pair rs r.start r.end then Some i else first_repeated (i + 1) rs

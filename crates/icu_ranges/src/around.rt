@@ -6,8 +6,9 @@ ghost use Rattle.icu_ranges.specs.Around.{around_joined, around_none, has_no_sig
 ghost use Rattle.icu_ranges.specs.Edges.{is_long};
 
 use crate::edges::is_long;
-use crate::joined::{JoinedTexts, Lent, Style, is_single, write_joined};
+use crate::joined::{JoinedTexts, Lent, is_single, write_joined};
 use crate::range_pattern::RangePattern;
+use crate::range_style::RangeStyle;
 use crate::showing::RangeFrame;
 use fixed_decimal::Sign;
 use icu_decimal::error::FormatError;
@@ -76,7 +77,7 @@ fn write_around<A: Writeable, B: Writeable, K: EventWriter>(
 #[derive(Drop)]
 pub(crate) struct AroundFrame<'a> {
     pub(crate) patterns: &'a SignedPatterns,
-    pub(crate) style: Style<'a>,
+    pub(crate) style: RangeStyle<'a>,
     pub(crate) start_sign: Sign,
     pub(crate) end_sign: Sign,
 }
@@ -84,7 +85,9 @@ pub(crate) struct AroundFrame<'a> {
 impl AroundFrame<'_> {
     ghost use Rattle.std.specs.Prelude.{◌≡◌, IfOk};
     ghost use Rattle.icu_dimension.specs.Money.{sign_framed};
+    ghost use Rattle.icu_ranges.specs.Around.{amounts_of};
     ghost use Rattle.icu_ranges.specs.Ranges.{is_single};
+    ghost use Rattle.icu_ranges.specs.Writing.{WroteText};
 
     /// Whether both texts are written as one.
     fn is_single<A: Writeable, B: Writeable>(
@@ -107,23 +110,21 @@ impl AroundFrame<'_> {
             .interpolate(Lent { value: end });
         is_single(alloc, self.style.fallback, &first, &second)
     }
-}
 
-impl RangeFrame for AroundFrame<'_> {
-    ghost use Rattle.icu_ranges.specs.Around.{amounts_framed};
-
-    ghost framed = { λ f. amounts_framed (record {
-      separator = f.style.pattern.now;
-      fallback = f.style.fallback;
-    }) f.patterns.now f.start_sign f.end_sign };
-
-    fn write_range<M: ShownNumber, N: ShownNumber, K: EventWriter>(
+    /// Writes two texts in the patterns of their signs, as a range.
+    pub(crate) fn write_texts<A: Writeable, B: Writeable, K: EventWriter>(
         &self,
         alloc: Global,
-        start: &M,
-        end: &N,
+        start: &A,
+        end: &B,
         out: &mut K,
-    ) -> Result<(), FormatError> {
+    ) -> Result<(), FormatError>
+        ensures { WroteText K.wrote out.old result (amounts_of (record {
+          separator = self.now.style.pattern.now;
+          fallback = self.now.style.fallback;
+        }) self.now.patterns.now self.now.start_sign self.now.end_sign (A.events start.now)
+            (B.events end.now)) out.new }
+    {
         let result = match self.is_single(alloc, start, end) {
             Ok(true) => self
                 .patterns
@@ -145,5 +146,24 @@ impl RangeFrame for AroundFrame<'_> {
             Ok(()) => Ok(()),
             Err(WriteFault) => Err(FormatError::Sink),
         }
+    }
+}
+
+impl RangeFrame for AroundFrame<'_> {
+    ghost use Rattle.icu_ranges.specs.Around.{amounts_framed};
+
+    ghost framed = { λ f. amounts_framed (record {
+      separator = f.style.pattern.now;
+      fallback = f.style.fallback;
+    }) f.patterns.now f.start_sign f.end_sign };
+
+    fn write_range<M: ShownNumber, N: ShownNumber, K: EventWriter>(
+        &self,
+        alloc: Global,
+        start: &M,
+        end: &N,
+        out: &mut K,
+    ) -> Result<(), FormatError> {
+        self.write_texts(alloc, start, end, out)
     }
 }

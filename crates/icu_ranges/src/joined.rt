@@ -9,6 +9,7 @@ ghost use Rattle.icu_ranges.specs.Writing.{WroteText};
 use crate::edges::is_bare;
 use crate::options::RangeIdentityFallback;
 use crate::range_pattern::{RangePattern, write_separator};
+use crate::range_style::RangeStyle;
 use icu_decimal::error::FormatError;
 use std::alloc::Global;
 use writeable::{EventWriter, OutOfMemory, WriteFault, Writeable};
@@ -91,17 +92,10 @@ pub(crate) fn is_single<A: Writeable, B: Writeable>(
     }
 }
 
-/// How ranges are written.
-#[derive(Drop)]
-pub(crate) struct Style<'a> {
-    pub(crate) pattern: &'a RangePattern,
-    pub(crate) fallback: RangeIdentityFallback,
-}
-
 /// Writes two texts as a range.
 pub(crate) fn write_range_of<A: Writeable, B: Writeable, K: EventWriter>(
     alloc: Global,
-    style: &Style<'_>,
+    style: &RangeStyle<'_>,
     start: &A,
     end: &B,
     out: &mut K,

@@ -9,9 +9,10 @@ ghost use Rattle.icu_decimal_interface.specs.WritesSuch.{KeepsLimitSuch, WritesS
 ghost use Rattle.icu_ranges.specs.Ranges.{numbers_events};
 
 use crate::decimal_range::DecimalRange;
-use crate::joined::{Lent, Style, write_range_of};
+use crate::joined::{Lent, write_range_of};
 use crate::options::RangeIdentityFallback;
 use crate::range_pattern::RangePattern;
+use crate::range_style::RangeStyle;
 use crate::showing::{RangeFrame, write_range_into};
 use fixed_decimal::Sign;
 use icu_decimal::error::FormatError;
@@ -47,7 +48,7 @@ impl<F> Model for NumberRangeFormatter<F> {
 #[derive(Drop)]
 struct NumberFrame<'a, F> {
     formatter: &'a F,
-    style: Style<'a>,
+    style: RangeStyle<'a>,
     start_sign: Sign,
     end_sign: Sign,
 }
@@ -121,7 +122,7 @@ impl<F: AbstractFormatter> NumberRangeFormatter<F> {
         let (start, end) = (range.start(), range.end());
         let frame = NumberFrame {
             formatter: &self.formatter,
-            style: Style {
+            style: RangeStyle {
                 pattern: &self.pattern,
                 fallback: self.fallback,
             },

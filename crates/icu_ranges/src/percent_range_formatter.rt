@@ -10,9 +10,9 @@ ghost use Rattle.icu_ranges.specs.Around.{amounts_events};
 
 use crate::around::AroundFrame;
 use crate::decimal_range::DecimalRange;
-use crate::joined::Style;
 use crate::options::RangeIdentityFallback;
 use crate::range_pattern::RangePattern;
+use crate::range_style::RangeStyle;
 use crate::showing::write_range_into;
 use icu_decimal::error::FormatError;
 use icu_decimal_interface::AbstractFormatter;
@@ -93,7 +93,7 @@ impl<F: AbstractFormatter> PercentRangeFormatter<F> {
         let (start, end) = (range.start(), range.end());
         let frame = AroundFrame {
             patterns: &self.patterns,
-            style: Style {
+            style: RangeStyle {
                 pattern: &self.pattern,
                 fallback: self.fallback,
             },

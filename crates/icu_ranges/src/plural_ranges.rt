@@ -1,11 +1,11 @@
 //! The plural category of a range.
 
 ghost use Rattle.std.specs.Prelude.{◌≡◌};
-ghost use Rattle.icu_ranges.specs.PluralRanges.{category_number, has_pair, has_repeated, is_for, resolved};
+ghost use Rattle.icu_ranges.specs.PluralRanges.{category_number, first_repeated, has_pair, has_repeated, is_for, resolved};
 
 use crate::error::PluralRangesError;
 use icu_plurals::{PluralCategory, PluralOperands, PluralRules};
-use std::alloc::Global;
+use std::alloc::{AllocError, Global};
 use std::marker::Model;
 
 /// The category of the ranges whose ends have two given categories.
@@ -95,10 +95,32 @@ fn resolved(ranges: &[PluralRange], start: PluralCategory, end: PluralCategory) 
     PluralCategory::Other
 }
 
+/// The index of the first entry whose pair of categories a later entry has too.
+pub fn first_repeated(ranges: &[PluralRange]) -> Option<usize>
+    ensures { result ≡ first_repeated 0 ranges.now }
+{
+    for index in 0..ranges.len() {
+        let range = ranges[index];
+        if has_pair(ranges.split_at(index + 1).1, range.start, range.end) {
+            return Some(index);
+        }
+    }
+    None
+}
+
 impl PluralRanges {
-    ghost use Rattle.std.specs.Prelude.{◌≡◌, true, false, IfOk, IsErrOf};
+    ghost use Rattle.std.specs.Prelude.{◌≡◌, [], true, false, IfOk, IsErrOf};
     ghost use Rattle.icu_plurals.specs.Rules.{category_of};
     ghost use Rattle.icu_ranges.specs.PluralRanges.{has_repeated, resolved};
+
+    /// No entries: each range has the category `Other`.
+    pub fn empty(alloc: Global) -> Self
+        ensures { result ≡ [] }
+    {
+        PluralRanges {
+            ranges: Vec::new(alloc),
+        }
+    }
 
     /// The categories of these entries. Two entries for one pair of categories are rejected.
     pub fn try_new(alloc: Global, ranges: &[PluralRange]) -> Result<Self, PluralRangesError>
@@ -112,6 +134,15 @@ impl PluralRanges {
         }
         Ok(PluralRanges {
             ranges: Vec::from_slice(alloc, ranges)?,
+        })
+    }
+
+    /// A copy of the entries, with its own memory.
+    pub fn copy(&self, alloc: Global) -> Result<Self, AllocError>
+        ensures { IfOk result (λ r. r ≡ self.now) }
+    {
+        Ok(PluralRanges {
+            ranges: Vec::from_slice(alloc, &self.ranges)?,
         })
     }
 

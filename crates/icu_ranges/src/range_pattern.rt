@@ -5,7 +5,7 @@ ghost use Rattle.icu_ranges.specs.Separator.{IsRangePattern, plain_events, space
 
 use crate::edges::ink_at_edges;
 use crate::error::RangePatternError;
-use std::alloc::Global;
+use std::alloc::{AllocError, Global};
 use std::marker::Model;
 use writeable::{EventWriter, WriteFault};
 
@@ -90,6 +90,17 @@ impl RangePattern {
         ensures { result.now ≡ self.now.text }
     {
         self.separator.as_str()
+    }
+
+    /// A copy of the pattern, with its own memory.
+    pub fn copy(&self, alloc: Global) -> Result<Self, AllocError>
+        ensures { IfOk result (λ p. p ≡ self.now) }
+    {
+        Ok(RangePattern {
+            separator: String::from_str(alloc, self.separator.as_str())?,
+            space_before: self.space_before,
+            space_after: self.space_after,
+        })
     }
 }
 

@@ -6,7 +6,7 @@ use Rattle.icu_table_entries.specs.declared.error.Key.TheVariants.{Minus, Plus, 
 use Rattle.icu_table_entries.specs.declared.error.Key.TheVariants.{Sizes, Patterns, ExplicitZero, ExplicitOne, Zero, One, Two, Few, Many, Other}
 use Rattle.icu_table_entries.specs.declared.error.Key.TheVariants.{CurrencyDigits, Percents, Units, Currencies, CurrencySymbols, CurrencyDecimals}
 use Rattle.icu_table_entries.specs.declared.error.Key.TheVariants.{CurrencyCompact, Pattern, Percent, Width, Unit, Standard, Accounting, Names}
-use Rattle.icu_table_entries.specs.declared.error.Key.TheVariants.{Ordinals, Permille}
+use Rattle.icu_table_entries.specs.declared.error.Key.TheVariants.{Ordinals, Permille, Ranges, PluralRanges, Approximately}
 
 -- as the document spells them
 abbrev pub name_of : Key → List ℕ
@@ -49,3 +49,6 @@ name_of Accounting = codes "accounting"
 name_of Names = codes "names"
 name_of Ordinals = codes "ordinals"
 name_of Permille = codes "permille"
+name_of Ranges = codes "ranges"
+name_of PluralRanges = codes "plural_ranges"
+name_of Approximately = codes "approximately"

@@ -53,6 +53,9 @@ pub enum Key {
     Names,
     Ordinals,
     Permille,
+    Ranges,
+    PluralRanges,
+    Approximately,
 }
 
 impl Key {
@@ -102,6 +105,9 @@ impl Key {
             Key::Names => "names",
             Key::Ordinals => "ordinals",
             Key::Permille => "permille",
+            Key::Ranges => "ranges",
+            Key::PluralRanges => "plural_ranges",
+            Key::Approximately => "approximately",
         }
     }
 }
@@ -219,6 +225,21 @@ pub enum EntryFault {
     /// The pattern of a number with a currency's name hasn't one place for each of the two.
     #[error("a pattern of names hasn't one place for the number and one for the name")]
     BadNamePlaces,
+    /// The pattern of a range isn't `{0}`, some text without braces, and `{1}`.
+    #[error("the pattern of a range isn't some text between two places")]
+    BadRangePattern,
+    /// A category of plural ranges is none of `zero`, `one`, `two`, `few`, `many` and `other`.
+    #[error("triple {range} has a plural category that isn't known")]
+    BadCategory {
+        /// The index of the triple in its list.
+        range: usize,
+    },
+    /// A pair of categories has two results.
+    #[error("triple {range} has the categories of a later one")]
+    RepeatedPair {
+        /// The index of the earlier triple in its list.
+        range: usize,
+    },
 }
 
 /// Why tables were not made (this project's own).

@@ -62,7 +62,7 @@ fn explain_record(
 
 /// The bytes of a record behind that many of them, and at the front of an input behind its byte
 /// order mark.
-fn bytes_behind(record: &[u8], start: usize, is_first: bool) -> &[u8] {
+pub(crate) fn bytes_behind(record: &[u8], start: usize, is_first: bool) -> &[u8] {
     let bytes = record.split_at(start.min(record.len())).1;
     if is_first && start == 0 {
         behind_mark(Source::Lines, bytes)
@@ -73,7 +73,7 @@ fn bytes_behind(record: &[u8], start: usize, is_first: bool) -> &[u8] {
 
 /// Reads a record, perhaps the first one: a line, and further ones while quotes of CSV are open. The
 /// result is whether there was one; it has no byte that ends lines behind it.
-fn read_record(
+pub(crate) fn read_record(
     streams: &mut Streams,
     reader: &mut BufReader<Stdin>,
     lines: &LineSettings,

@@ -84,15 +84,37 @@ fn lacking_compact<'a>(
     lacking_kind(alloc, tables, locale, "short amounts", "currency_compact")
 }
 
-/// The locales that have patterns of amounts with names.
-fn locales_with_names<'a>(alloc: Global, tables: &'a Value) -> Result<Vec<&'a str>, AllocError> {
+/// The locales that have a member in their entry under a key.
+fn locales_with<'a>(
+    alloc: Global,
+    tables: &'a Value,
+    key: &str,
+    member: &str,
+) -> Result<Vec<&'a str>, AllocError> {
     let mut names = Vec::new(alloc);
-    for entry in list_of(tables, "currencies") {
-        if let (Some(locale), Some(_)) = (text_of(entry, "locale"), entry.get("names")) {
+    for entry in list_of(tables, key) {
+        if let (Some(locale), Some(_)) = (text_of(entry, "locale"), entry.get(member)) {
             names.push(locale)?;
         }
     }
     Ok(names)
+}
+
+/// What is lacking of permilles, which entries of percents may have.
+fn lacking_permilles<'a>(
+    alloc: Global,
+    tables: &'a Value,
+    locale: &str,
+) -> Result<Option<Lack<'a>>, AllocError> {
+    let held = locales_with(alloc, tables, "percents", "permille")?;
+    if held.contains(&locale) {
+        return Ok(None);
+    }
+    Ok(Some(Lack {
+        kind: "permilles",
+        name: "",
+        held,
+    }))
 }
 
 /// What is lacking of the name of a currency.
@@ -103,7 +125,7 @@ fn lacking_names<'a>(
     code: &'a CurrencyCode,
 ) -> Result<Option<Lack<'a>>, AllocError> {
     let lack = lacking_currency(alloc, tables, locale, code)?;
-    let held = locales_with_names(alloc, tables)?;
+    let held = locales_with(alloc, tables, "currencies", "names")?;
     if lack.is_some() || held.contains(&locale) {
         return Ok(lack);
     }
@@ -185,6 +207,7 @@ fn lacking_of_kind<'a>(
         }
         Kind::MoneyShort { code, .. } => lacking_compact(alloc, tables, locale, code),
         Kind::Percent => lacking_kind(alloc, tables, locale, "percents", "percents"),
+        Kind::Permille => lacking_permilles(alloc, tables, locale),
         Kind::Unit {
             unit,
             width,

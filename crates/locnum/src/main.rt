@@ -14,10 +14,16 @@ mod held;
 mod lacks;
 mod listed;
 mod lone_locale;
+mod message_arguments;
+mod message_given;
+mod message_lines;
+mod message_rules;
+mod message_run;
 mod mistakes;
 mod near;
 mod options;
 mod positions;
+mod ranges;
 mod read_tables;
 mod running;
 mod streams;
@@ -28,10 +34,13 @@ use clap::ArgMatches;
 use command::{command, given};
 use headings::heading_of;
 use icu_provider::DataLocale;
-use locnum_options::{Environment, Given, OptionFault, Options, parse_options};
+use locnum_options::{Environment, Explain, Given, OptionFault, Options, parse_options};
 use lone_locale::locale_of_tables;
+use message_given::source_given;
+use message_run::MessageRun;
 use mistakes::status_of_words;
 use number_forms::{Form, Settings, StartError};
+use ranges::{has_range, note_of_no_ranges, run_ranges};
 use read_tables::read_tables;
 use running::run_formed;
 use std::alloc::AllocError;
@@ -123,6 +132,25 @@ fn in_locale<'a>(options: Options<'a>, locale: Option<DataLocale>) -> Options<'a
     }
 }
 
+/// Runs words some of which are ranges; the status.
+fn run_ranges_by(
+    rt: &HostRuntime,
+    options: Options<'_>,
+    file: TablesFile<'_>,
+    form: &Form,
+    words: &[&str],
+) -> Result<u8, Failure> {
+    let settings = options.settings;
+    match run_ranges(rt, &settings, options.lines, file, form, words) {
+        Ok(status) => Ok(status),
+        Err(StartError::NoData) => {
+            let note = note_of_no_ranges(rt.alloc(), file, &settings)?;
+            Err(put_note(rt, &note))
+        }
+        Err(error) => Err(failure_of(rt, &settings, file, error)),
+    }
+}
+
 /// Runs what is asked for by the tables; the status.
 fn run_by_tables(
     rt: &HostRuntime,
@@ -139,6 +167,21 @@ fn run_by_tables(
         return Err(put_note(rt, &note));
     }
     let numbers = numbers_given(rt.alloc(), matches)?;
+    if let Some(source) = source_given(rt, matches)? {
+        let run = MessageRun {
+            form: &form,
+            file,
+            locale: options.settings.locale,
+            numbers: numbers.as_deref(),
+        };
+        let mut lines = options.lines;
+        return run.run(rt, &mut lines, source);
+    }
+    if let (Some(words), Explain::Nothing) = (numbers.as_deref(), options.explain) {
+        if has_range(words) {
+            return run_ranges_by(rt, options, file, &form, words);
+        }
+    }
     let heading = heading_of(rt.alloc(), matches, file, &options.settings)?;
     Ok(run_formed(rt, matches, options, &form, &heading, numbers.as_deref()))
 }

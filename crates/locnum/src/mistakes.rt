@@ -20,7 +20,7 @@ const ABSENT: [(&str, &str); 9] = [
     ),
     (
         "--suffix",
-        "--currency, --percent and --unit write what stands beside numbers",
+        "--currency, --percent, --permille and --unit write what stands beside numbers",
     ),
     (
         "--to",

@@ -32,6 +32,9 @@ const LOCALE: &str = "Locale";
 /// The heading of what is written of a number.
 const NUMBERS: &str = "Numbers";
 
+/// The heading of messages.
+const MESSAGES: &str = "Messages";
+
 /// The heading of lines and their fields.
 const LINES: &str = "Lines";
 
@@ -39,7 +42,7 @@ const LINES: &str = "Lines";
 pub(crate) const PROGRAM: &str = "Program";
 
 /// The options, in the order of `--help`.
-pub(crate) const OPTIONS: [OptionEntry; 28] = [
+pub(crate) const OPTIONS: [OptionEntry; 32] = [
     OptionEntry {
         heading: LOCALE,
         name: "tables",
@@ -119,6 +122,13 @@ pub(crate) const OPTIONS: [OptionEntry; 28] = [
     },
     OptionEntry {
         heading: NUMBERS,
+        name: "permille",
+        letter: None,
+        takes: Takes::Nothing,
+        help: "numbers as permilles, 0.5 as 500‰",
+    },
+    OptionEntry {
+        heading: NUMBERS,
         name: "fraction",
         letter: None,
         takes: Takes::Text("N|MIN..MAX"),
@@ -179,6 +189,27 @@ pub(crate) const OPTIONS: [OptionEntry; 28] = [
         letter: None,
         takes: Takes::Text("TEXT"),
         help: "a number skeleton instead, as 'K currency/EUR'",
+    },
+    OptionEntry {
+        heading: MESSAGES,
+        name: "message",
+        letter: None,
+        takes: Takes::Text("TEXT"),
+        help: "a message for each number n, as '{n, plural, other{#}}'",
+    },
+    OptionEntry {
+        heading: MESSAGES,
+        name: "messages",
+        letter: None,
+        takes: Takes::Text("FILE"),
+        help: "a catalogue of messages (JSON)",
+    },
+    OptionEntry {
+        heading: MESSAGES,
+        name: "id",
+        letter: None,
+        takes: Takes::Text("ID"),
+        help: "the message of the catalogue",
     },
     OptionEntry {
         heading: LINES,

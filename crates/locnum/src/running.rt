@@ -21,7 +21,7 @@ fn run_given(
     numbers: Option<&[&str]>,
 ) -> Result<Report, RunError> {
     if let Some(words) = numbers {
-        return run_words(rt, streams, settings, form, words);
+        return run_words(rt, streams, settings, form, None, words);
     }
     let Streams {
         input,
@@ -43,7 +43,7 @@ fn unmet(ranges: &[FieldRange], most_fields: usize) -> Option<usize> {
 
 /// Reports what a run that came to its end met: a chosen field that no record has, and a number
 /// that holds the delimiter.
-fn report_met(rt: &HostRuntime, settings: &LineSettings, report: &Report) {
+pub(crate) fn report_met(rt: &HostRuntime, settings: &LineSettings, report: &Report) {
     if settings.refusals != Refusals::Ignore && !report.is_stopped && report.most_fields > 0 {
         if let Some(field) = unmet(&settings.fields, report.most_fields) {
             let _ = eprintln!(rt; "locnum: no record has field {field}");

@@ -39,7 +39,7 @@ fn key_of(kind: &Kind<'_>) -> &'static str {
         Kind::Long => "long",
         Kind::Money { .. } | Kind::MoneyNamed { .. } => "currencies",
         Kind::MoneyShort { .. } => "currency_compact",
-        Kind::Percent => "percents",
+        Kind::Percent | Kind::Permille => "percents",
         Kind::Unit { .. } => "units",
     }
 }
@@ -80,7 +80,7 @@ fn push_kind(kind: &Kind<'_>, out: &mut Vec<u8>) -> Result<(), AllocError> {
                 out.extend_from_slice(b" --currencies ")?;
                 out.extend_from_slice(code.as_str().as_bytes())
             }
-        Kind::Percent => out.extend_from_slice(b" --percents"),
+        Kind::Percent | Kind::Permille => out.extend_from_slice(b" --percents"),
         Kind::Unit { unit, .. } => push_unit(*unit, out),
     }
 }

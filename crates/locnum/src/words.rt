@@ -1,24 +1,28 @@
 //! The numbers on the command line.
 
+use crate::ranges::{ends_of, run_range};
 use crate::streams::Streams;
 use clap::ArgMatches;
+use icu_ranges::RangeStyle;
 use locnum_lines::{LineSettings, Refusals, Report, RunError, Source, run};
 use number_forms::Form;
 use std::alloc::{AllocError, Global};
 use std::fs;
 
-/// What stands in front of a number like `-.5`, so that it isn't read as letters of options.
+/// What stands in front of a word like `-.5` or `-3..5`, so that it isn't read as letters of options.
 const MARK: char = '\u{1}';
 
-/// Whether an argument is a hyphen, a dot and a digit, and perhaps more.
+/// Whether an argument is a hyphen, a dot and a digit, and perhaps more; or a hyphen and a digit in
+/// front of a range.
 fn is_hidden_number(word: &str) -> bool {
     match word.as_bytes() {
         [b'-', b'.', digit, ..] => digit.is_ascii_digit(),
+        [b'-', digit, ..] => digit.is_ascii_digit() && ends_of(word).is_some(),
         _ => false,
     }
 }
 
-/// An argument, marked if it is a number like `-.5`.
+/// An argument, marked if it is a number like `-.5` or a range like `-3..5`.
 fn marked_word(alloc: Global, word: &str) -> Result<String, AllocError> {
     let mut marked = String::new(alloc);
     if is_hidden_number(word) {
@@ -28,7 +32,7 @@ fn marked_word(alloc: Global, word: &str) -> Result<String, AllocError> {
     Ok(marked)
 }
 
-/// The arguments, with numbers like `-.5` marked.
+/// The arguments, with numbers like `-.5` and ranges like `-3..5` marked.
 pub(crate) fn marked(alloc: Global, words: &[String]) -> Result<Vec<String>, AllocError> {
     let mut marked = Vec::new(alloc);
     for word in words {
@@ -96,6 +100,34 @@ fn run_word(
     run(alloc, settings, form, &mut input, output, notes)
 }
 
+/// Runs an argument as a range, if it is one and ranges have a style, and else as a line.
+fn run_word_or_range(
+    rt: &HostRuntime,
+    streams: &mut Streams,
+    settings: &LineSettings,
+    form: &Form,
+    style: Option<&RangeStyle<'_>>,
+    number: u64,
+    word: &str,
+) -> Result<Report, RunError> {
+    let Some(style) = style else {
+        return run_word(rt, streams, settings, form, word);
+    };
+    match ends_of(word) {
+        Some(ends) => run_range(
+            rt.alloc(),
+            streams,
+            settings,
+            form,
+            style,
+            number,
+            word,
+            ends,
+        ),
+        None => run_word(rt, streams, settings, form, word),
+    }
+}
+
 /// Says what an argument that is no number may have been meant for: standard input, an option's
 /// value, or a file.
 fn hint(rt: &HostRuntime, word: &str) {
@@ -110,12 +142,14 @@ fn hint(rt: &HostRuntime, word: &str) {
     };
 }
 
-/// Runs the numbers among the arguments, each as a line of its own. They have no header.
+/// Runs the numbers among the arguments, each as a line of its own. They have no header. If ranges
+/// have a style, words that are ranges are written in it.
 pub(crate) fn run_words(
     rt: &HostRuntime,
     streams: &mut Streams,
     settings: &mut LineSettings,
     form: &Form,
+    style: Option<&RangeStyle<'_>>,
     words: &[&str],
 ) -> Result<Report, RunError> {
     settings.header = 0;
@@ -124,7 +158,7 @@ pub(crate) fn run_words(
     for word in words {
         number = number.saturating_add(1);
         settings.source = Source::Word(number);
-        let ran = run_word(rt, streams, settings, form, word)?;
+        let ran = run_word_or_range(rt, streams, settings, form, style, number, word)?;
         if ran.is_refused && settings.refusals != Refusals::Ignore {
             hint(rt, word);
         }

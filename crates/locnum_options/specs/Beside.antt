@@ -10,6 +10,7 @@ abbrev pub name_of : NumberOption → List ℕ
 name_of option.Style = codes "style"
 name_of option.Currency = codes "currency"
 name_of option.Percent = codes "percent"
+name_of option.Permille = codes "permille"
 name_of option.Unit = codes "unit"
 name_of option.Width = codes "width"
 name_of option.Accounting = codes "accounting"
@@ -32,8 +33,9 @@ first_given given (option ∷ options) = if flag_of given (name_of option) then 
 -- the options that say of numbers what a skeleton says, too
 abbrev pub number_options : List NumberOption
 number_options =
-    option.Style ∷ option.Currency ∷ option.Percent ∷ option.Unit ∷ option.Width ∷ option.Accounting ∷ option.Cash ∷ option.Fraction ∷
-    option.Significant ∷ option.Increment ∷ option.Round ∷ option.Integer ∷ option.Scale ∷ option.Grouping ∷ option.Sign ∷ option.System ∷ []
+    option.Style ∷ option.Currency ∷ option.Percent ∷ option.Permille ∷ option.Unit ∷ option.Width ∷ option.Accounting ∷ option.Cash ∷
+    option.Fraction ∷ option.Significant ∷ option.Increment ∷ option.Round ∷ option.Integer ∷ option.Scale ∷ option.Grouping ∷ option.Sign ∷
+    option.System ∷ []
 
 -- the first of them that is given
 unfoldable pub option_beside : Given → Option NumberOption

@@ -9,7 +9,7 @@ use Rattle.icu_dimension.specs.declared.options.Width.{Width}
 use Rattle.icu_dimension.specs.declared.options.Width.TheVariants as width
 use Rattle.icu_dimension_data.specs.Currency.{is_currency_code}
 use Rattle.number_forms.specs.declared.settings.Kind.{Kind}
-use Rattle.number_forms.specs.declared.settings.Kind.TheVariants.{Plain, Short, Long, Money, MoneyNamed, MoneyShort, Percent, Unit}
+use Rattle.number_forms.specs.declared.settings.Kind.TheVariants.{Plain, Short, Long, Money, MoneyNamed, MoneyShort, Percent, Permille, Unit}
 use Rattle.number_forms.specs.declared.settings.UnitName.TheVariants as named
 use Rattle.number_forms.specs.declared.settings.UnitWidth.{UnitWidth}
 use Rattle.number_forms.specs.declared.settings.UnitWidth.TheVariants as unit
@@ -46,6 +46,12 @@ abbrev pub percents_with : Notation → Kind
 percents_with Simple = Percent
 percents_with CompactShort = Unit named.Percent unit.Short CompactShort
 percents_with CompactLong = Unit named.Percent unit.Short CompactLong
+
+-- permilles: in full in the pattern of percents with the per mille sign, else with the unit of permilles
+abbrev pub permilles_with : Notation → Kind
+permilles_with Simple = Permille
+permilles_with CompactShort = Unit named.Permille unit.Short CompactShort
+permilles_with CompactLong = Unit named.Permille unit.Short CompactLong
 
 -- what stands for the symbol of a currency; the short one by default
 unfoldable pub money_width : Option (List ℕ) → Result Width OptionFault
@@ -123,11 +129,15 @@ unit_given name notation given = do
   width ← unit_width (text_of given (codes "width"))
   Ok (Unit (named.Named name) width notation)
 
--- more than one of money, percents and units is asked for
+-- percents or permilles are asked for beside money, units, or each other
+unfoldable pub is_share_together : Given → Bool
+is_share_together given =
+    let other = flag_of given (codes "currency") || flag_of given (codes "unit") in
+    (flag_of given (codes "percent") && (flag_of given (codes "permille") || other)) || (flag_of given (codes "permille") && other)
+
+-- more than one of money, percents, permilles and units is asked for
 unfoldable pub is_together : Given → Bool
-is_together given =
-    (flag_of given (codes "currency") && (flag_of given (codes "percent") || flag_of given (codes "unit")))
-    || (flag_of given (codes "percent") && flag_of given (codes "unit"))
+is_together given = (flag_of given (codes "currency") && flag_of given (codes "unit")) || is_share_together given
 
 -- an option of money without a currency, or a width without a currency or a unit
 unfoldable pub is_alone : Given → Bool
@@ -135,11 +145,17 @@ is_alone given =
     not (flag_of given (codes "currency"))
     && (flag_of given (codes "accounting") || flag_of given (codes "cash") || (flag_of given (codes "width") && not (flag_of given (codes "unit"))))
 
--- the kind by the currency, else the unit, else whether percents are asked for
+-- numbers in full or compact, percents or permilles
+unfoldable pub share_given : Notation → Given → Kind
+share_given notation given =
+    if flag_of given (codes "percent") then percents_with notation
+    else (if flag_of given (codes "permille") then permilles_with notation else numbers_with notation)
+
+-- the kind by the currency, else the unit, else whether percents or permilles are asked for
 abbrev pub kind_by : Option (List ℕ) → Option (Bor (List ℕ)) → Notation → Given → Result Kind OptionFault
 kind_by (Some code) unit notation given = currency_given code notation given
 kind_by None (Some name) notation given = unit_given name notation given
-kind_by None None notation given = if flag_of given (codes "percent") then Ok (percents_with notation) else Ok (numbers_with notation)
+kind_by None None notation given = Ok (share_given notation given)
 
 -- the kind by the notation of numbers
 abbrev pub kind_noted : Given → Result Notation OptionFault → Result Kind OptionFault

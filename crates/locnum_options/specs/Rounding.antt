@@ -7,7 +7,7 @@ use Rattle.fixed_decimal.specs.declared.modes.SignedRoundingMode.TheVariants as 
 use Rattle.fixed_decimal.specs.declared.modes.UnsignedRoundingMode.TheVariants as unsigned
 use Rattle.number_forms.specs.Shortened.{divides_one}
 use Rattle.number_forms.specs.declared.settings.Kind.{Kind}
-use Rattle.number_forms.specs.declared.settings.Kind.TheVariants.{Plain, Short, Long, Money, MoneyNamed, MoneyShort, Percent, Unit}
+use Rattle.number_forms.specs.declared.settings.Kind.TheVariants.{Plain, Short, Long, Money, MoneyNamed, MoneyShort, Percent, Permille, Unit}
 use Rattle.skeleton_settings.specs.declared.settings.Precision.{Precision}
 use Rattle.locnum_options.specs.Given.{flag_of}
 use Rattle.locnum_options.specs.Kinds.{is_simple}
@@ -48,6 +48,7 @@ is_compact_kind (Money code width sign is_cash) = false
 is_compact_kind (MoneyNamed code is_cash notation) = not (is_simple notation)
 is_compact_kind (MoneyShort code width sign) = true
 is_compact_kind Percent = false
+is_compact_kind Permille = false
 is_compact_kind (Unit unit width notation) = not (is_simple notation)
 
 -- compact numbers have this increment: 1 is a multiple of it

@@ -23,15 +23,15 @@ scale_read text = scale_set (skeleton_of (codes "scale/" ++ text))
 unfoldable pub scale_named : List ℕ → Result ℤ OptionFault
 scale_named text = if is_number_text text then ok_or (scale_read text) fault.Scale else Err fault.Scale
 
--- the power without the option: percents are hundredths
-abbrev pub default_scale : Bool → ℤ
-default_scale is_percent = if is_percent then pos 2 else pos 0
+-- the power without the option: percents are hundredths, permilles are thousandths
+abbrev pub default_scale : Bool → Bool → ℤ
+default_scale is_percent is_permille = if is_percent then pos 2 else (if is_permille then pos 3 else pos 0)
 
--- the power by the option's text, or else by whether percents are asked for
-abbrev pub scale_by : Option (List ℕ) → Bool → Result ℤ OptionFault
-scale_by (Some text) is_percent = scale_named text
-scale_by None is_percent = Ok (default_scale is_percent)
+-- the power by the option's text, or else by whether percents or permilles are asked for
+abbrev pub scale_by : Option (List ℕ) → Bool → Bool → Result ℤ OptionFault
+scale_by (Some text) is_percent is_permille = scale_named text
+scale_by None is_percent is_permille = Ok (default_scale is_percent is_permille)
 
 -- the power of ten by which numbers are multiplied
 unfoldable pub scale_given : Given → Result ℤ OptionFault
-scale_given given = scale_by (text_of given (codes "scale")) (flag_of given (codes "percent"))
+scale_given given = scale_by (text_of given (codes "scale")) (flag_of given (codes "percent")) (flag_of given (codes "permille"))

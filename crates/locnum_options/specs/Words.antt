@@ -2,8 +2,9 @@
 use Rattle.std.specs.Prelude.{ℕ, Bool, ◌||◌, ◌==◌, List, [], ◌∷◌, Option, Some, None, Result, Ok, Err, codes, nat_eq, if◌then◌else◌}
 use Rattle.std.specs.Cmp.Lexicographic.{pointwise}
 use Rattle.icu_provider.specs.NumberingSystem.{is_numbering_system}
-use Rattle.icu_decimal.specs.declared.options.GroupingStrategy.{GroupingStrategy}
 use Rattle.icu_decimal.specs.declared.options.GroupingStrategy.TheVariants as grouping
+use Rattle.number_forms.specs.declared.settings.FormGrouping.{FormGrouping}
+use Rattle.number_forms.specs.declared.settings.FormGrouping.TheVariants.{Strategy}
 use Rattle.fixed_decimal.specs.declared.signs.SignDisplay.{SignDisplay}
 use Rattle.fixed_decimal.specs.declared.signs.SignDisplay.TheVariants as sign
 use Rattle.locnum_lines.specs.declared.settings.Delimiter.{Delimiter}
@@ -26,14 +27,14 @@ unfoldable pub system_given : Option (List ℕ) → Result (Option (List ℕ)) O
 system_given None = Ok None
 system_given (Some text) = if is_numbering_system text then Ok (Some text) else Err fault.System
 
--- the grouping strategy; none by default
-unfoldable pub grouping_given : Option (List ℕ) → Result (Option GroupingStrategy) OptionFault
+-- when separators are written, by a strategy; none by default
+unfoldable pub grouping_given : Option (List ℕ) → Result (Option FormGrouping) OptionFault
 grouping_given None = Ok None
 grouping_given (Some word) =
-    if pointwise nat_eq word (codes "auto") then Ok (Some grouping.Auto)
-    else if pointwise nat_eq word (codes "never") then Ok (Some grouping.Never)
-    else if pointwise nat_eq word (codes "always") then Ok (Some grouping.Always)
-    else if pointwise nat_eq word (codes "min2") then Ok (Some grouping.Min2)
+    if pointwise nat_eq word (codes "auto") then Ok (Some (Strategy grouping.Auto))
+    else if pointwise nat_eq word (codes "never") then Ok (Some (Strategy grouping.Never))
+    else if pointwise nat_eq word (codes "always") then Ok (Some (Strategy grouping.Always))
+    else if pointwise nat_eq word (codes "min2") then Ok (Some (Strategy grouping.Min2))
     else Err fault.Grouping
 
 -- the signs that are written; `auto` by default

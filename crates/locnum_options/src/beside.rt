@@ -14,6 +14,8 @@ pub enum NumberOption {
     Currency,
     /// `--percent`.
     Percent,
+    /// `--permille`.
+    Permille,
     /// `--unit`.
     Unit,
     /// `--width`.
@@ -50,6 +52,7 @@ pub(crate) fn name_of(option: NumberOption) -> &'static str
         NumberOption::Style => "style",
         NumberOption::Currency => "currency",
         NumberOption::Percent => "percent",
+        NumberOption::Permille => "permille",
         NumberOption::Unit => "unit",
         NumberOption::Width => "width",
         NumberOption::Accounting => "accounting",
@@ -88,6 +91,7 @@ pub(crate) fn option_beside(given: &Given) -> Option<NumberOption>
         NumberOption::Style,
         NumberOption::Currency,
         NumberOption::Percent,
+        NumberOption::Permille,
         NumberOption::Unit,
         NumberOption::Width,
         NumberOption::Accounting,

@@ -70,7 +70,7 @@ pub enum OptionFault {
     #[error("--cash: not with --style short or long")]
     CompactCash,
     /// Two kinds of numbers are asked for at once.
-    #[error("--currency, --percent and --unit: not together")]
+    #[error("--currency, --percent, --permille and --unit: not together")]
     Together,
     /// An option of money without a currency, or a width without something that has one.
     #[error("--accounting and --cash want --currency, and --width wants --currency or --unit")]

@@ -1,8 +1,9 @@
 //! What is written of numbers: a style, money, percents or a unit.
 
 ghost use Rattle.std.specs.Prelude.{◌≡◌, option_map};
-ghost use Rattle.locnum_options.specs.Kinds.{compact_with, currency_given, currency_named, is_alone, is_name, is_together, kind_given, money_given, money_width};
-ghost use Rattle.locnum_options.specs.Kinds.{money_with, named_given, notation_given, numbers_with, percents_with, sign_of, unit_given, unit_width};
+ghost use Rattle.locnum_options.specs.Kinds.{compact_with, currency_given, currency_named, is_alone, is_name, is_share_together, is_together, kind_given};
+ghost use Rattle.locnum_options.specs.Kinds.{money_given, money_width, money_with, named_given, notation_given, numbers_with, percents_with, permilles_with};
+ghost use Rattle.locnum_options.specs.Kinds.{share_given, sign_of, unit_given, unit_width};
 
 use crate::fault::OptionFault;
 use crate::given::Given;
@@ -44,6 +45,21 @@ fn percents_with<'a>(notation: Notation) -> Kind<'a>
         Notation::Simple => Kind::Percent,
         Notation::CompactShort | Notation::CompactLong => Kind::Unit {
             unit: UnitName::Percent,
+            width: UnitWidth::Short,
+            notation,
+        },
+    }
+}
+
+/// Permilles: in full in the pattern of percents with the per mille sign, else with the unit of
+/// permilles.
+fn permilles_with<'a>(notation: Notation) -> Kind<'a>
+    ensures { result ≡ permilles_with notation }
+{
+    match notation {
+        Notation::Simple => Kind::Permille,
+        Notation::CompactShort | Notation::CompactLong => Kind::Unit {
+            unit: UnitName::Permille,
             width: UnitWidth::Short,
             notation,
         },
@@ -217,13 +233,22 @@ fn unit_given<'a>(name: &'a str, notation: Notation, given: &Given) -> Result<Ki
     })
 }
 
-/// Whether more than one of money, percents and units is asked for.
+/// Whether percents or permilles are asked for beside money, units, or each other.
+#[tactic(auto, unfolding(crate::specs::Kinds::is_share_together))]
+fn is_share_together(given: &Given) -> bool
+    ensures { result ≡ is_share_together given.now }
+{
+    let other = given.flag("currency") || given.flag("unit");
+    (given.flag("percent") && (given.flag("permille") || other))
+        || (given.flag("permille") && other)
+}
+
+/// Whether more than one of money, percents, permilles and units is asked for.
 #[tactic(auto, unfolding(crate::specs::Kinds::is_together))]
 fn is_together(given: &Given) -> bool
     ensures { result ≡ is_together given.now }
 {
-    let unit = given.flag("unit");
-    (given.flag("currency") && (given.flag("percent") || unit)) || (given.flag("percent") && unit)
+    (given.flag("currency") && given.flag("unit")) || is_share_together(given)
 }
 
 /// Whether an option of money stands without a currency, or a width without a currency or a unit.
@@ -235,6 +260,20 @@ fn is_alone(given: &Given) -> bool
         && (given.flag("accounting")
             || given.flag("cash")
             || (given.flag("width") && !given.flag("unit")))
+}
+
+/// Numbers in full or compact, percents or permilles.
+#[tactic(auto, unfolding(crate::specs::Kinds::share_given))]
+fn share_given<'a>(notation: Notation, given: &Given) -> Kind<'a>
+    ensures { result ≡ share_given notation given.now }
+{
+    if given.flag("percent") {
+        percents_with(notation)
+    } else if given.flag("permille") {
+        permilles_with(notation)
+    } else {
+        numbers_with(notation)
+    }
 }
 
 /// The kind that is asked for.
@@ -255,8 +294,5 @@ pub(crate) fn kind_given<'a>(given: &Given<'a>) -> Result<Kind<'a>, OptionFault>
     if let Some(name) = given.text("unit") {
         return unit_given(name, notation, given);
     }
-    if given.flag("percent") {
-        return Ok(percents_with(notation));
-    }
-    Ok(numbers_with(notation))
+    Ok(share_given(notation, given))
 }

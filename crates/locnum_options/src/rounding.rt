@@ -63,7 +63,7 @@ pub(crate) fn is_compact_kind(kind: &Kind<'_>) -> bool
 {
     match kind {
         Kind::Short | Kind::Long | Kind::MoneyShort { .. } => true,
-        Kind::Plain | Kind::Percent | Kind::Money { .. } => false,
+        Kind::Plain | Kind::Percent | Kind::Permille | Kind::Money { .. } => false,
         Kind::MoneyNamed { notation, .. } | Kind::Unit { notation, .. } => !is_simple(*notation),
     }
 }

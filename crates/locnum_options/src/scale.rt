@@ -53,11 +53,17 @@ fn scale_named(alloc: Global, text: &str) -> Result<i16, OptionFault>
     }
 }
 
-/// The power without the option: percents are hundredths.
-fn default_scale(is_percent: bool) -> i16
-    ensures { result ≡ default_scale is_percent }
+/// The power without the option: percents are hundredths, permilles are thousandths.
+fn default_scale(is_percent: bool, is_permille: bool) -> i16
+    ensures { result ≡ default_scale is_percent is_permille }
 {
-    if is_percent { 2 } else { 0 }
+    if is_percent {
+        2
+    } else if is_permille {
+        3
+    } else {
+        0
+    }
 }
 
 /// The power of ten by which numbers are multiplied.
@@ -67,6 +73,6 @@ pub(crate) fn scale_given(alloc: Global, given: &Given) -> Result<i16, OptionFau
 {
     match given.text("scale") {
         Some(text) => scale_named(alloc, text),
-        None => Ok(default_scale(given.flag("percent"))),
+        None => Ok(default_scale(given.flag("percent"), given.flag("permille"))),
     }
 }

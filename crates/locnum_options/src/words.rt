@@ -9,6 +9,7 @@ use fixed_decimal::SignDisplay;
 use icu_decimal_options::options::GroupingStrategy;
 use icu_provider::NumberingSystem;
 use locnum_lines::{Delimiter, Refusals};
+use number_forms::FormGrouping;
 
 /// The numbering system; none by default.
 #[tactic(auto, unfolding(crate::specs::Words::system_given))]
@@ -24,19 +25,19 @@ pub(crate) fn system_given(text: Option<&str>) -> Result<Option<NumberingSystem>
     }
 }
 
-/// The grouping strategy; none by default.
+/// When separators are written, by a strategy; none by default.
 #[tactic(auto, unfolding(crate::specs::Words::grouping_given))]
-pub(crate) fn grouping_given(word: Option<&str>) -> Result<Option<GroupingStrategy>, OptionFault>
+pub(crate) fn grouping_given(word: Option<&str>) -> Result<Option<FormGrouping>, OptionFault>
     ensures { result ≡ grouping_given (option_map (λ t. t.now) word.entry) }
 {
     let Some(word) = word else {
         return Ok(None);
     };
     match word {
-        "auto" => Ok(Some(GroupingStrategy::Auto)),
-        "never" => Ok(Some(GroupingStrategy::Never)),
-        "always" => Ok(Some(GroupingStrategy::Always)),
-        "min2" => Ok(Some(GroupingStrategy::Min2)),
+        "auto" => Ok(Some(FormGrouping::Strategy(GroupingStrategy::Auto))),
+        "never" => Ok(Some(FormGrouping::Strategy(GroupingStrategy::Never))),
+        "always" => Ok(Some(FormGrouping::Strategy(GroupingStrategy::Always))),
+        "min2" => Ok(Some(FormGrouping::Strategy(GroupingStrategy::Min2))),
         _ => Err(OptionFault::Grouping),
     }
 }

@@ -1,5 +1,7 @@
 -- All tables for the locale that is wanted make the same form as those of the whole text.
-use Rattle.std.proofs.Common.{◌≡◌, ℕ, Bool, List, None, Ok, Option, Result, refl, sym, ap, ◌∙◌}
+use Rattle.std.proofs.Common.{◌≡◌, ℕ, Bool, List, None, Ok, Option, Result, refl, sym, ap, ap₂, ◌∙◌}
+use Rattle.icu_decimal_data.specs.Decided.{or_else}
+use Rattle.icu_decimal_data.specs.declared.decimal_symbols.DecimalSymbols.{DecimalSymbols}
 use Rattle.icu_decimal.specs.Loaded.{Provider, and_then, loaded, preferably}
 use Rattle.icu_decimal_options.specs.Preferences.{locale_id}
 use Rattle.icu_decimal.specs.declared.options.DecimalFormatterOptions.{DecimalFormatterOptions}
@@ -11,7 +13,7 @@ use Rattle.icu_dimension_data.specs.declared.compact_rows.CompactRow.{CompactRow
 use Rattle.icu_plurals.specs.Rules.{Rule}
 use Rattle.icu_dimension.specs.declared.options.CurrencyFormatterOptions.{CurrencyFormatterOptions}
 use Rattle.icu_dimension_tables.specs.AllTables.{AllData, all_tables_of}
-use Rattle.icu_dimension_tables.specs.Answering.{digits_answer}
+use Rattle.icu_dimension_tables.specs.Answering.{digits_answer, permilles_answer}
 use Rattle.icu_dimension_tables.specs.DimensionTables.{DimensionData}
 use Rattle.icu_dimension_tables.specs.ForLocale.{AllAnswersAs, IsAllFor}
 use Rattle.icu_dimension_tables.specs.declared.units.UnitWidth.TheVariants as filed
@@ -21,19 +23,21 @@ use Rattle.icu_table_entries.specs.Answering.{optional_answer}
 use Rattle.icu_table_entries.specs.declared.error.TableError.{TableError}
 use Rattle.icu_tables.specs.Tables.{TablesData}
 use Rattle.decimal_lines.specs.ModeOfTables.{plain_options}
-use Rattle.decimal_lines.proofs.OneLocale.{and_then_both, digits_same, loaded_same, preferably_same}
+use Rattle.decimal_lines.proofs.OneLocale.{and_then_both, digits_same}
 use Rattle.number_rounding.specs.declared.rounding.Rounding.{Rounding}
 use Rattle.number_forms.specs.Forms.{FormData}
+use Rattle.number_forms.specs.Grouped.{strategy_of, with_sizes}
 use Rattle.number_forms.specs.Loaded.{amounts_rounding, compact_money_loaded}
 use Rattle.number_forms.specs.Loaded.{currency_loaded, currency_rounding, form_with, money_by, money_loaded}
 use Rattle.number_forms.specs.Loaded.{money_precision, money_rounded_loaded, money_short_loaded, named_loaded}
 use Rattle.number_forms.specs.Loaded.{names_loaded}
-use Rattle.number_forms.specs.Loaded.{percent_loaded, preferences, symbols_for_money, system_digits, unit_loaded}
+use Rattle.number_forms.specs.Loaded.{percent_loaded, permille_loaded, preferences, symbols_for_money, system_digits, unit_loaded}
 use Rattle.number_forms.specs.Loaded.{unit_patterns}
 use Rattle.number_forms.specs.Making.{read_then, started, with_all}
 use Rattle.number_forms.specs.Settings.{FormSettings}
 use Rattle.number_forms.specs.declared.settings.UnitWidth.{UnitWidth}
 use Rattle.number_forms.specs.declared.settings.UnitWidth.TheVariants.{Long, Short, Narrow}
+use Rattle.number_forms.proofs.Served.{numbers-same, preferred-same, symbols-same}
 
 -- what is made of all tables for a locale is made of the text
 pub with_all-for : (locale text : List ℕ) (kept : AllData) (load : TablesData → DimensionData → Result FormData Refusal)
@@ -44,22 +48,19 @@ with_all-for locale text kept load (all, read, answers) same =
     ap (λ (r : Result AllData TableError). read_then r (λ t. started (load t.numbers t.dimension))) read ∙ ap started (sym (same all answers))
 
 module _ (settings : FormSettings) (kept all : AllData) (answers : AllAnswersAs settings.locale kept all) where
-  -- by the preferred system in the locale, or else by the locale
-  pub preferred_same : {X : Type 0} (p q : Provider X) → ((id : Identifier) → id.locale ≡ settings.locale → p id ≡ q id)
-      → preferably p (preferences settings) (locale_id settings.locale) ≡ preferably q (preferences settings) (locale_id settings.locale)
-  preferred_same p q alike =
-      preferably_same p q settings.locale settings.system (locale_id settings.locale) (λ s. alike _ refl) (alike _ refl)
-
   -- the symbols for numbers of money
   money_symbols-same : (id : Identifier) → id.locale ≡ settings.locale
-      → symbols_for_money kept.numbers kept.dimension id ≡ symbols_for_money all.numbers all.dimension id
-  money_symbols-same id same = rw (answers.dimension.decimals id same, answers.numbers.symbols id same) refl
+      → symbols_for_money settings.grouping kept.numbers kept.dimension id ≡ symbols_for_money settings.grouping all.numbers all.dimension id
+  money_symbols-same id same = ap₂ (λ (x y : Result DecimalSymbols Refusal). or_else x y) (ap (with_sizes settings.grouping) (answers.dimension.decimals id same))
+      (symbols-same settings kept.numbers all.numbers answers.numbers id same)
 
   -- the formatter of numbers of money
   pub money_numbers-same : (options : DecimalFormatterOptions)
-      → loaded (symbols_for_money kept.numbers kept.dimension) (system_digits kept.numbers) (preferences settings) options
-      ≡ loaded (symbols_for_money all.numbers all.dimension) (system_digits all.numbers) (preferences settings) options
-  money_numbers-same options = and_then_both _ _ _ _ (preferred_same _ _ money_symbols-same) (λ s.
+      → loaded (symbols_for_money settings.grouping kept.numbers kept.dimension) (system_digits kept.numbers) (preferences settings) options
+      ≡ loaded (symbols_for_money settings.grouping all.numbers all.dimension) (system_digits all.numbers) (preferences settings) options
+  money_numbers-same options = and_then_both _ _ _ _ (preferred-same settings kept.numbers all.numbers answers.numbers
+      (symbols_for_money settings.grouping kept.numbers kept.dimension) (symbols_for_money settings.grouping all.numbers all.dimension)
+      money_symbols-same) (λ s.
       and_then_both _ _ _ _ (digits_same settings.locale settings.system kept.numbers all.numbers answers.numbers s) (λ d. refl))
 
   -- the formatter of amounts
@@ -67,7 +68,7 @@ module _ (settings : FormSettings) (kept all : AllData) (answers : AllAnswersAs 
       → currency_loaded settings code options kept.numbers kept.dimension ≡ currency_loaded settings code options all.numbers all.dimension
   unfolding currency_loaded
   currency-same code options = and_then_both _ _ _ _ (money_numbers-same options.decimal) (λ f.
-      and_then_both _ _ _ _ (preferred_same _ _ answers.dimension.currencies) (λ p.
+      and_then_both _ _ _ _ (preferred-same settings kept.numbers all.numbers answers.numbers _ _ answers.dimension.currencies) (λ p.
       and_then_both _ _ _ _ (answers.dimension.symbols _ refl) (λ s. refl)))
 
   -- the precision of amounts
@@ -88,7 +89,7 @@ module _ (settings : FormSettings) (kept all : AllData) (answers : AllAnswersAs 
       → named_loaded settings code is_cash kept.numbers kept.dimension ≡ named_loaded settings code is_cash all.numbers all.dimension
   unfolding named_loaded names_loaded
   named-same code is_cash = and_then_both _ _ _ _ (precision-same code is_cash) (λ precision.
-      and_then_both _ _ _ _ (and_then_both _ _ _ _ (money_numbers-same (plain_options settings.grouping)) (λ f.
+      and_then_both _ _ _ _ (and_then_both _ _ _ _ (money_numbers-same (plain_options (strategy_of settings.grouping))) (λ f.
       and_then_both _ _ _ _ (answers.numbers.rules _ refl) (λ r.
       and_then_both _ _ _ _ (answers.dimension.names _ refl) (λ x. refl)))) (λ f. refl))
 
@@ -99,7 +100,7 @@ module _ (settings : FormSettings) (kept all : AllData) (answers : AllAnswersAs 
   unfolding compact_money_loaded currency_loaded
   compact_money-same code options = and_then_both _ _ _ _ (currency-same code options) (λ m.
       and_then_both _ _ _ (next m) (answers.numbers.rules (locale_id settings.locale) refl) (λ r.
-      and_then_both _ _ _ (made m r) (preferred_same _ _ answers.dimension.compact) (λ rows. refl)))
+      and_then_both _ _ _ (made m r) (preferred-same settings kept.numbers all.numbers answers.numbers _ _ answers.dimension.compact) (λ rows. refl)))
     where
       made : SignedFormat DecimalFormat → List Rule → List CompactRow → Result CompactMoney Refusal
       made m r rows = and_then (tables_for m.formatter.digits m.patterns.texts rows) (λ t. Ok (compact_money m r t))
@@ -135,8 +136,16 @@ module _ (settings : FormSettings) (kept all : AllData) (answers : AllAnswersAs 
   pub percent-same : percent_loaded settings kept.numbers kept.dimension ≡ percent_loaded settings all.numbers all.dimension
   unfolding percent_loaded
   percent-same = and_then_both _ _ _ _ (and_then_both _ _ _ _
-      (loaded_same settings.locale settings.system kept.numbers all.numbers answers.numbers (plain_options settings.grouping)) (λ f.
-      and_then_both _ _ _ _ (preferred_same _ _ answers.dimension.percents) (λ p. refl))) (λ f. refl)
+      (numbers-same settings kept.numbers all.numbers answers.numbers (plain_options (strategy_of settings.grouping))) (λ f.
+      and_then_both _ _ _ _ (preferred-same settings kept.numbers all.numbers answers.numbers _ _ answers.dimension.percents) (λ p. refl))) (λ f. refl)
+
+  -- permilles
+  pub permille-same : permille_loaded settings kept.numbers kept.dimension ≡ permille_loaded settings all.numbers all.dimension
+  unfolding permille_loaded
+  permille-same = and_then_both _ _ _ _ (and_then_both _ _ _ _
+      (numbers-same settings kept.numbers all.numbers answers.numbers (plain_options (strategy_of settings.grouping))) (λ f.
+      and_then_both _ _ _ _ (preferred-same settings kept.numbers all.numbers answers.numbers
+      (permilles_answer kept.dimension.permilles) (permilles_answer all.dimension.permilles) answers.dimension.permilles) (λ p. refl))) (λ f. refl)
 
   -- the patterns of a unit
   pub unit_patterns-same : (width : UnitWidth) (id : Identifier) → id.locale ≡ settings.locale
@@ -150,6 +159,6 @@ module _ (settings : FormSettings) (kept all : AllData) (answers : AllAnswersAs 
       → unit_loaded settings name width kept.numbers kept.dimension ≡ unit_loaded settings name width all.numbers all.dimension
   unfolding unit_loaded
   unit-same name width = and_then_both _ _ _ _ (and_then_both _ _ _ _
-      (loaded_same settings.locale settings.system kept.numbers all.numbers answers.numbers (plain_options settings.grouping)) (λ f.
+      (numbers-same settings kept.numbers all.numbers answers.numbers (plain_options (strategy_of settings.grouping))) (λ f.
       and_then_both _ _ _ _ (answers.numbers.rules _ refl) (λ r.
       and_then_both _ _ _ _ (unit_patterns-same width _ refl) (λ x. refl)))) (λ f. refl)

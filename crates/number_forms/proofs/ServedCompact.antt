@@ -20,9 +20,10 @@ use Rattle.icu_dimension_tables.specs.ForLocale.{AllAnswersAs}
 use Rattle.icu_table_entries.specs.Answering.{optional_answer}
 use Rattle.icu_table_entries.specs.Named.{NamedEntry}
 use Rattle.decimal_lines.specs.ModeOfTables.{compact_options}
-use Rattle.decimal_lines.proofs.OneLocale.{and_then_both, compact_loaded}
+use Rattle.decimal_lines.proofs.OneLocale.{and_then_both}
 use Rattle.number_rounding.specs.declared.rounding.Rounding.{Rounding}
 use Rattle.number_forms.specs.Forms.{FormData}
+use Rattle.number_forms.specs.Grouped.{strategy_of}
 use Rattle.number_forms.specs.Loaded.{compact_names_loaded, compact_precision, compact_preferences, compact_unit_loaded, form_with}
 use Rattle.number_forms.specs.Loaded.{long_names_loaded, named_by_notation, named_long_loaded, named_short_loaded, preferences, rounding_to}
 use Rattle.number_forms.specs.Loaded.{short_names_loaded, symbols_for_money, system_digits, unit_by_notation, unit_long_loaded, unit_patterns}
@@ -32,21 +33,22 @@ use Rattle.number_forms.specs.declared.form.Formatter.TheVariants.{ShortNamed, S
 use Rattle.number_forms.specs.declared.settings.UnitWidth.{UnitWidth}
 use Rattle.skeleton_settings.specs.declared.settings.Notation.{Notation}
 use Rattle.skeleton_settings.specs.declared.settings.Notation.TheVariants.{Simple, CompactShort, CompactLong}
-use Rattle.number_forms.proofs.ServedAll.{currency_rounding-same, money_numbers-same, named-same, preferred_same, unit-same, unit_patterns-same}
+use Rattle.number_forms.proofs.ServedAll.{currency_rounding-same, money_numbers-same, named-same, unit-same, unit_patterns-same}
+use Rattle.number_forms.proofs.Served.{compact-same, preferred-same}
 
 module _ (settings : FormSettings) (kept all : AllData) (answers : AllAnswersAs settings.locale kept all) where
   -- the formatter of compact numbers of money, by patterns that answer alike in the locale
   compact_numbers-same : (one other : Option (List (NamedEntry (List TableEntry))))
       → ((id : Identifier) → id.locale ≡ settings.locale → optional_answer one id ≡ optional_answer other id)
       → (options : CompactDecimalFormatterOptions)
-      → loaded_compact (symbols_for_money kept.numbers kept.dimension) (system_digits kept.numbers) (optional_answer kept.numbers.rules)
+      → loaded_compact (symbols_for_money settings.grouping kept.numbers kept.dimension) (system_digits kept.numbers) (optional_answer kept.numbers.rules)
       (optional_answer one) (compact_preferences settings) options
-      ≡ loaded_compact (symbols_for_money all.numbers all.dimension) (system_digits all.numbers) (optional_answer all.numbers.rules)
+      ≡ loaded_compact (symbols_for_money settings.grouping all.numbers all.dimension) (system_digits all.numbers) (optional_answer all.numbers.rules)
       (optional_answer other) (compact_preferences settings) options
   compact_numbers-same one other alike options = and_then_both _ _ (with_numbers kept one) (with_numbers all other)
       (money_numbers-same settings kept all answers (record { grouping_strategy = options.grouping_strategy })) (λ f.
       and_then_both _ _ (with_rules f one) (with_rules f other) (answers.numbers.rules (locale_id settings.locale) refl) (λ r.
-      and_then_both _ _ (made f r) (made f r) (preferred_same settings kept all answers (optional_answer one) (optional_answer other) alike)
+      and_then_both _ _ (made f r) (made f r) (preferred-same settings kept.numbers all.numbers answers.numbers (optional_answer one) (optional_answer other) alike)
       (λ t. refl)))
     where
       made : DecimalFormat → List Rule → List TableEntry → Result CompactFormat Refusal
@@ -63,7 +65,7 @@ module _ (settings : FormSettings) (kept all : AllData) (answers : AllAnswersAs 
       → ((id : Identifier) → id.locale ≡ settings.locale → optional_answer one id ≡ optional_answer other id)
       → compact_names_loaded settings code one kept.numbers kept.dimension ≡ compact_names_loaded settings code other all.numbers all.dimension
   compact_names-same code one other alike = and_then_both _ _ (with_numbers kept) (with_numbers all)
-      (compact_numbers-same one other alike (compact_options settings.grouping)) (λ f.
+      (compact_numbers-same one other alike (compact_options (strategy_of settings.grouping))) (λ f.
       and_then_both _ _ (with_rules kept f) (with_rules all f) (answers.numbers.rules (locale_id settings.locale) refl) (λ r.
       and_then_both _ _ (made f r) (made f r) (answers.dimension.names (named_id code settings.locale) refl) (λ x. refl)))
     where
@@ -126,7 +128,7 @@ module _ (settings : FormSettings) (kept all : AllData) (answers : AllAnswersAs 
       → ((id : Identifier) → id.locale ≡ settings.locale → optional_answer one id ≡ optional_answer other id)
       → compact_unit_loaded settings name width one kept.numbers kept.dimension ≡ compact_unit_loaded settings name width other all.numbers all.dimension
   compact_unit-same name width one other alike = and_then_both _ _ form form (and_then_both _ _ (with_numbers kept) (with_numbers all)
-      (compact_loaded settings.locale settings.system kept.numbers all.numbers answers.numbers one other alike (compact_options settings.grouping))
+      (compact-same settings kept.numbers all.numbers answers.numbers one other alike (compact_options (strategy_of settings.grouping)))
       (λ f. and_then_both _ _ (with_rules kept f) (with_rules all f) (answers.numbers.rules (locale_id settings.locale) refl) (λ r.
       and_then_both _ _ (made f r) (made f r) (unit_patterns-same settings kept all answers width (named_id name settings.locale) refl)
       (λ x. refl)))) (λ f. refl)

@@ -1,4 +1,5 @@
 pub mod Settings
+pub mod Grouped
 pub mod Skeleton
 pub mod Rounded
 pub mod Cut

@@ -11,7 +11,6 @@ use Rattle.icu_decimal_options.specs.Preferences.{locale_id}
 use Rattle.icu_decimal.specs.Loaded.{Provider, and_then, loaded, loaded_compact}
 use Rattle.icu_decimal.specs.declared.options.CompactDecimalFormatterOptions.{CompactDecimalFormatterOptions}
 use Rattle.icu_decimal.specs.declared.options.DecimalFormatterOptions.{DecimalFormatterOptions}
-use Rattle.icu_decimal.specs.declared.options.GroupingStrategy.{GroupingStrategy}
 use Rattle.icu_decimal.specs.declared.preferences.CompactDecimalFormatterPreferences.{CompactDecimalFormatterPreferences}
 use Rattle.icu_decimal.specs.declared.preferences.DecimalFormatterPreferences.{DecimalFormatterPreferences}
 use Rattle.icu_decimal.specs.CompactFormat.{CompactFormat}
@@ -30,7 +29,7 @@ use Rattle.icu_table_entries.specs.Answering.{filed_answer, optional_answer}
 use Rattle.icu_table_entries.specs.Named.{NamedEntry}
 use Rattle.icu_tables.specs.Digits.{system_answer}
 use Rattle.icu_tables.specs.Tables.{TablesData}
-use Rattle.icu_dimension_tables.specs.Answering.{decimals_answer, digits_answer, names_answer, symbols_answer, unit_answer}
+use Rattle.icu_dimension_tables.specs.Answering.{decimals_answer, digits_answer, names_answer, permilles_answer, symbols_answer, unit_answer}
 use Rattle.icu_dimension_tables.specs.DimensionTables.{DimensionData}
 use Rattle.icu_dimension_tables.specs.declared.units.UnitWidth.TheVariants as filed
 use Rattle.skeleton_settings.specs.declared.settings.Notation.{Notation}
@@ -42,10 +41,12 @@ use Rattle.number_rounding.specs.declared.rounding.Rounding.{Rounding}
 use Rattle.decimal_lines.specs.ModeOfTables.{compact_options, plain_options}
 use Rattle.decimal_lines.specs.declared.mode.Mode.TheVariants.{Plain, Compact}
 use Rattle.number_forms.specs.Forms.{FormData}
+use Rattle.number_forms.specs.Grouped.{grouped, strategy_of}
 use Rattle.number_forms.specs.Settings.{FormSettings, is_half_even}
 use Rattle.number_forms.specs.declared.form.Formatter.{Formatter}
 use Rattle.number_forms.specs.declared.form.Formatter.TheVariants.{Numbers, ShortNumbers, Money, MoneyNamed, MoneyShort, Percent, Units}
 use Rattle.number_forms.specs.declared.form.Formatter.TheVariants.{ShortMoney, ShortNamed, ShortUnits}
+use Rattle.number_forms.specs.declared.settings.FormGrouping.{FormGrouping}
 use Rattle.number_forms.specs.declared.settings.UnitWidth.{UnitWidth}
 use Rattle.number_forms.specs.declared.settings.UnitWidth.TheVariants.{Long, Short, Narrow}
 
@@ -58,8 +59,8 @@ abbrev pub compact_preferences : FormSettings → CompactDecimalFormatterPrefere
 compact_preferences settings = record { locale_preferences = settings.locale; numbering_system = settings.system }
 
 -- the options of money
-abbrev pub money_options : Option GroupingStrategy → Width → CurrencySign → CurrencyFormatterOptions
-money_options grouping width sign = record { decimal = plain_options grouping; width = width; sign = sign }
+abbrev pub money_options : Option FormGrouping → Width → CurrencySign → CurrencyFormatterOptions
+money_options grouping width sign = record { decimal = plain_options (strategy_of grouping); width = width; sign = sign }
 
 -- rounding to a precision as it is wanted
 abbrev pub rounding_to : FormSettings → Precision → Rounding
@@ -78,9 +79,13 @@ settings_rounding settings = option_map (rounding_to settings) settings.precisio
 abbrev pub form_with : FormSettings → Option Rounding → Formatter → FormData
 form_with settings rounding formatter = record { scale = settings.scale; rounding = rounding; sign = settings.sign; formatter = formatter }
 
--- the symbols that tables answer for numbers of money
-abbrev pub symbols_for_money : TablesData → DimensionData → Provider DecimalSymbols
-symbols_for_money tables dimension = money_symbols (decimals_answer dimension.decimals) (filed_answer tables.symbols)
+-- the symbols that tables answer, with the sizes of a grouping
+abbrev pub symbols_of : Option FormGrouping → TablesData → Provider DecimalSymbols
+symbols_of grouping tables = grouped grouping (filed_answer tables.symbols)
+
+-- those for numbers of money
+abbrev pub symbols_for_money : Option FormGrouping → TablesData → DimensionData → Provider DecimalSymbols
+symbols_for_money grouping tables dimension = money_symbols (grouped grouping (decimals_answer dimension.decimals)) (symbols_of grouping tables)
 
 -- the digits of numbering systems that they answer
 abbrev pub system_digits : TablesData → Provider (List ℕ)
@@ -89,7 +94,7 @@ system_digits tables id = system_answer tables.digits id.system
 -- numbers in full
 unfoldable pub plain_loaded : FormSettings → TablesData → Result FormData Refusal
 plain_loaded settings tables =
-    and_then (loaded (filed_answer tables.symbols) (system_digits tables) (preferences settings) (plain_options settings.grouping)) (λ f.
+    and_then (loaded (symbols_of settings.grouping tables) (system_digits tables) (preferences settings) (plain_options (strategy_of settings.grouping))) (λ f.
     Ok (form_with settings (settings_rounding settings) (Numbers (Plain f))))
 
 -- the precision of compact numbers where none is set: no fraction digit, or two significant digits
@@ -114,8 +119,8 @@ compact_by format (Some rounding) = ShortNumbers format rounding
 -- numbers shortened by patterns of these tables, which may have none
 abbrev pub compact_loaded : FormSettings → TablesData → Option (List (NamedEntry (List TableEntry))) → Result FormData Refusal
 compact_loaded settings tables patterns =
-    and_then (loaded_compact (filed_answer tables.symbols) (system_digits tables) (optional_answer tables.rules) (optional_answer patterns)
-    (compact_preferences settings) (compact_options settings.grouping)) (λ f.
+    and_then (loaded_compact (symbols_of settings.grouping tables) (system_digits tables) (optional_answer tables.rules) (optional_answer patterns)
+    (compact_preferences settings) (compact_options (strategy_of settings.grouping))) (λ f.
     Ok (form_with settings None (compact_by f (compact_rounding settings))))
 
 -- by the short patterns
@@ -149,7 +154,7 @@ money_precision (Some (Both least most few many priority keeps)) digits code is_
 unfoldable pub currency_loaded : FormSettings → List ℕ → CurrencyFormatterOptions → TablesData → DimensionData
     → Result (SignedFormat DecimalFormat) Refusal
 currency_loaded settings code options tables dimension =
-    loaded_currency (symbols_for_money tables dimension) (system_digits tables) (optional_answer dimension.currencies)
+    loaded_currency (symbols_for_money settings.grouping tables dimension) (system_digits tables) (optional_answer dimension.currencies)
     (symbols_answer dimension.symbols) (preferences settings) code options
 
 -- amounts of a currency: first their precision, then the formatter
@@ -162,8 +167,8 @@ money_loaded settings code options is_cash tables dimension =
 -- the formatter of amounts with the name of a currency
 unfoldable pub names_loaded : FormSettings → List ℕ → TablesData → DimensionData → Result (PluralFormat DecimalFormat NameText) Refusal
 names_loaded settings code tables dimension =
-    loaded_plural (symbols_for_money tables dimension) (system_digits tables) (optional_answer tables.rules)
-    (names_answer dimension.placeholders dimension.symbols) (preferences settings) code (plain_options settings.grouping)
+    loaded_plural (symbols_for_money settings.grouping tables dimension) (system_digits tables) (optional_answer tables.rules)
+    (names_answer dimension.placeholders dimension.symbols) (preferences settings) code (plain_options (strategy_of settings.grouping))
     (λ f r x. record { formatter = f; rules = r; elements = x })
 
 -- amounts with the name of a currency
@@ -174,9 +179,9 @@ named_loaded settings code is_cash tables dimension =
     Ok (form_with settings (Some (rounding_to settings precision)) (MoneyNamed f))))
 
 -- the options of compact amounts: those of compact numbers, `min2` without a strategy
-abbrev pub compact_money_options : Option GroupingStrategy → Width → CurrencySign → CurrencyFormatterOptions
+abbrev pub compact_money_options : Option FormGrouping → Width → CurrencySign → CurrencyFormatterOptions
 compact_money_options grouping width sign = record {
-  decimal = record { grouping_strategy = (compact_options grouping).grouping_strategy };
+  decimal = record { grouping_strategy = (compact_options (strategy_of grouping)).grouping_strategy };
   width = width;
   sign = sign;
 }
@@ -184,7 +189,7 @@ compact_money_options grouping width sign = record {
 -- the formatter of compact amounts of a currency
 unfoldable pub compact_money_loaded : FormSettings → List ℕ → CurrencyFormatterOptions → TablesData → DimensionData → Result CompactMoney Refusal
 compact_money_loaded settings code options tables dimension =
-    loaded_compact_amounts (symbols_for_money tables dimension) (system_digits tables) (optional_answer dimension.currencies)
+    loaded_compact_amounts (symbols_for_money settings.grouping tables dimension) (system_digits tables) (optional_answer dimension.currencies)
     (symbols_answer dimension.symbols) (optional_answer tables.rules) (optional_answer dimension.compact)
     (preferences settings) code options
 
@@ -219,8 +224,8 @@ money_short_loaded settings code options tables dimension =
 abbrev pub compact_names_loaded : FormSettings → List ℕ → Option (List (NamedEntry (List TableEntry))) → TablesData → DimensionData
     → Result (PluralFormat CompactFormat NameText) Refusal
 compact_names_loaded settings code patterns tables dimension =
-    loaded_compact_plural (symbols_for_money tables dimension) (system_digits tables) (optional_answer tables.rules) (optional_answer patterns)
-    (names_answer dimension.placeholders dimension.symbols) (compact_preferences settings) code (compact_options settings.grouping)
+    loaded_compact_plural (symbols_for_money settings.grouping tables dimension) (system_digits tables) (optional_answer tables.rules) (optional_answer patterns)
+    (names_answer dimension.placeholders dimension.symbols) (compact_preferences settings) code (compact_options (strategy_of settings.grouping))
     (λ f r x. record { formatter = f; rules = r; elements = x })
 
 -- by the short patterns
@@ -252,8 +257,15 @@ named_by_notation CompactLong settings code is_cash tables dimension = named_lon
 -- percents
 unfoldable pub percent_loaded : FormSettings → TablesData → DimensionData → Result FormData Refusal
 percent_loaded settings tables dimension =
-    and_then (loaded_percent (filed_answer tables.symbols) (system_digits tables) (optional_answer dimension.percents)
-    (preferences settings) (plain_options settings.grouping)) (λ f.
+    and_then (loaded_percent (symbols_of settings.grouping tables) (system_digits tables) (optional_answer dimension.percents)
+    (preferences settings) (plain_options (strategy_of settings.grouping))) (λ f.
+    Ok (form_with settings (settings_rounding settings) (Percent f)))
+
+-- permilles
+unfoldable pub permille_loaded : FormSettings → TablesData → DimensionData → Result FormData Refusal
+permille_loaded settings tables dimension =
+    and_then (loaded_percent (symbols_of settings.grouping tables) (system_digits tables) (permilles_answer dimension.permilles)
+    (preferences settings) (plain_options (strategy_of settings.grouping))) (λ f.
     Ok (form_with settings (settings_rounding settings) (Percent f)))
 
 -- the patterns of a unit in a width
@@ -263,30 +275,30 @@ unit_patterns Short dimension = unit_answer filed.Short dimension.units
 unit_patterns Narrow dimension = unit_answer filed.Narrow dimension.units
 
 -- the formatter of numbers with a unit
-abbrev pub units_loaded : UnitWidth → TablesData → DimensionData → DecimalFormatterPreferences → List ℕ → DecimalFormatterOptions
+abbrev pub units_loaded : Option FormGrouping → UnitWidth → TablesData → DimensionData → DecimalFormatterPreferences → List ℕ → DecimalFormatterOptions
     → Result (PluralFormat DecimalFormat PatternText) Refusal
-units_loaded width tables dimension prefs name options =
-    loaded_plural (filed_answer tables.symbols) (system_digits tables) (optional_answer tables.rules) (unit_patterns width dimension)
+units_loaded grouping width tables dimension prefs name options =
+    loaded_plural (symbols_of grouping tables) (system_digits tables) (optional_answer tables.rules) (unit_patterns width dimension)
     prefs name options (λ f r x. record { formatter = f; rules = r; elements = x })
 
 -- numbers with a unit
 unfoldable pub unit_loaded : FormSettings → List ℕ → UnitWidth → TablesData → DimensionData → Result FormData Refusal
 unit_loaded settings name width tables dimension =
-    and_then (units_loaded width tables dimension (preferences settings) name (plain_options settings.grouping)) (λ f.
+    and_then (units_loaded settings.grouping width tables dimension (preferences settings) name (plain_options (strategy_of settings.grouping))) (λ f.
     Ok (form_with settings (settings_rounding settings) (Units f)))
 
 -- the formatter of compact numbers with a unit, by compact patterns of the tables
-abbrev pub compact_units_loaded : UnitWidth → Option (List (NamedEntry (List TableEntry))) → TablesData → DimensionData
+abbrev pub compact_units_loaded : Option FormGrouping → UnitWidth → Option (List (NamedEntry (List TableEntry))) → TablesData → DimensionData
     → CompactDecimalFormatterPreferences → List ℕ → CompactDecimalFormatterOptions → Result (PluralFormat CompactFormat PatternText) Refusal
-compact_units_loaded width patterns tables dimension prefs name options =
-    loaded_compact_plural (filed_answer tables.symbols) (system_digits tables) (optional_answer tables.rules) (optional_answer patterns)
+compact_units_loaded grouping width patterns tables dimension prefs name options =
+    loaded_compact_plural (symbols_of grouping tables) (system_digits tables) (optional_answer tables.rules) (optional_answer patterns)
     (unit_patterns width dimension) prefs name options (λ f r x. record { formatter = f; rules = r; elements = x })
 
 -- compact numbers with a unit, by these patterns
 abbrev pub compact_unit_loaded : FormSettings → List ℕ → UnitWidth → Option (List (NamedEntry (List TableEntry))) → TablesData → DimensionData
     → Result FormData Refusal
 compact_unit_loaded settings name width patterns tables dimension =
-    and_then (compact_units_loaded width patterns tables dimension (compact_preferences settings) name (compact_options settings.grouping)) (λ f.
+    and_then (compact_units_loaded settings.grouping width patterns tables dimension (compact_preferences settings) name (compact_options (strategy_of settings.grouping))) (λ f.
     Ok (form_with settings None (ShortUnits f (rounding_to settings (compact_precision settings.precision)))))
 
 -- by the short patterns

@@ -10,11 +10,11 @@ use Rattle.icu_dimension_tables.specs.AllTables.{all_tables_of}
 use Rattle.icu_dimension_tables.specs.DimensionTables.{DimensionData}
 use Rattle.number_forms.specs.Forms.{FormData}
 use Rattle.number_forms.specs.Loaded.{compact_money_options, long_loaded, money_loaded, money_options, money_short_loaded, named_by_notation}
-use Rattle.number_forms.specs.Loaded.{percent_loaded, plain_loaded, short_loaded, unit_by_notation}
+use Rattle.number_forms.specs.Loaded.{percent_loaded, permille_loaded, plain_loaded, short_loaded, unit_by_notation}
 use Rattle.number_forms.specs.Settings.{FormSettings, unit_text}
 use Rattle.number_forms.specs.declared.error.StartError.{StartError}
 use Rattle.number_forms.specs.declared.error.StartError.TheVariants as start
-use Rattle.number_forms.specs.declared.settings.Kind.TheVariants.{Plain, Short, Long, Money, MoneyNamed, MoneyShort, Percent, Unit as WithUnit}
+use Rattle.number_forms.specs.declared.settings.Kind.TheVariants.{Plain, Short, Long, Money, MoneyNamed, MoneyShort, Percent, Permille, Unit as WithUnit}
 
 -- There is no form for this reason; `OutOfMemory` may be reported in place of any result.
 abbrev pub StopsForm : {X : Type 0} → StartError → Result X StartError → Type 0
@@ -73,5 +73,6 @@ form_of settings text = elim settings.kind [
   | MoneyNamed code is_cash notation ↦ with_all text (named_by_notation notation settings code is_cash)
   | MoneyShort code width sign ↦ with_all text (money_short_loaded settings code (compact_money_options settings.grouping width sign))
   | Percent ↦ with_all text (percent_loaded settings)
+  | Permille ↦ with_all text (permille_loaded settings)
   | WithUnit unit width notation ↦ with_all text (unit_by_notation notation settings (unit_text unit) width)
 ]

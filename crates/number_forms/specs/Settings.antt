@@ -4,8 +4,8 @@ use Rattle.fixed_decimal.specs.declared.modes.SignedRoundingMode.{SignedRounding
 use Rattle.fixed_decimal.specs.declared.modes.SignedRoundingMode.TheVariants.{Unsigned as OfSizes, Ceil, Floor, HalfCeil, HalfFloor}
 use Rattle.fixed_decimal.specs.declared.modes.UnsignedRoundingMode.TheVariants.{Expand, Trunc, HalfExpand, HalfTrunc, HalfEven}
 use Rattle.fixed_decimal.specs.declared.signs.SignDisplay.{SignDisplay}
-use Rattle.icu_decimal.specs.declared.options.GroupingStrategy.{GroupingStrategy}
 use Rattle.skeleton_settings.specs.declared.settings.Precision.{Precision}
+use Rattle.number_forms.specs.declared.settings.FormGrouping.{FormGrouping}
 use Rattle.number_forms.specs.declared.settings.Kind.{Kind}
 use Rattle.number_forms.specs.declared.settings.UnitName.{UnitName}
 use Rattle.number_forms.specs.declared.settings.UnitName.TheVariants as unit
@@ -32,7 +32,7 @@ unit_text (unit.Named name) = name.now
 pub record FormSettings : Type 0 where
   pub locale : List ℕ
   pub system : Option (List ℕ)
-  pub grouping : Option GroupingStrategy
+  pub grouping : Option FormGrouping
   pub precision : Option Precision
   pub mode : SignedRoundingMode
   pub hides_zeros_of_whole : Bool

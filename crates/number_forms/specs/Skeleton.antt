@@ -3,7 +3,6 @@ use Rattle.std.specs.Prelude.{ℕ, List, [], ◌∷◌, Bool, true, false, not, 
 use Rattle.std.specs.Borrow.{Bor}
 use Rattle.std.specs.Option.{unwrap_or}
 use Rattle.icu_provider.specs.NumberingSystem.{is_numbering_system}
-use Rattle.icu_decimal.specs.declared.options.GroupingStrategy.{GroupingStrategy}
 use Rattle.icu_decimal.specs.declared.options.GroupingStrategy.TheVariants as strategy
 use Rattle.icu_dimension.specs.declared.options.CurrencySign.{CurrencySign}
 use Rattle.icu_dimension.specs.declared.options.CurrencySign.TheVariants.{Standard, Accounting}
@@ -23,8 +22,10 @@ use Rattle.skeleton_settings.specs.declared.settings.Skeleton.{Skeleton}
 use Rattle.skeleton_settings.specs.declared.settings.UnitWidth.{UnitWidth}
 use Rattle.skeleton_settings.specs.declared.settings.UnitWidth.TheVariants as width
 use Rattle.number_forms.specs.Settings.{FormSettings}
+use Rattle.number_forms.specs.declared.settings.FormGrouping.{FormGrouping}
+use Rattle.number_forms.specs.declared.settings.FormGrouping.TheVariants.{Strategy, OnAligned, Thousands}
 use Rattle.number_forms.specs.declared.settings.Kind.{Kind}
-use Rattle.number_forms.specs.declared.settings.Kind.TheVariants.{Plain, Short, Long, Money, MoneyNamed, MoneyShort, Percent, Unit as WithUnit}
+use Rattle.number_forms.specs.declared.settings.Kind.TheVariants.{Plain, Short, Long, Money, MoneyNamed, MoneyShort, Percent, Permille, Unit as WithUnit}
 use Rattle.number_forms.specs.declared.settings.UnitName.{UnitName}
 use Rattle.number_forms.specs.declared.settings.UnitName.TheVariants as unit
 use Rattle.number_forms.specs.declared.settings.UnitWidth.{UnitWidth as Patterns}
@@ -38,14 +39,18 @@ abbrev pub ◌>>=◌ : {A B : Type 0} → Result A Unsupported → (A → Result
 (Ok x) >>= next = next x
 (Err error) >>= next = Err error
 
+-- when separators are written, where that is set
+abbrev pub set_grouping : Grouping → FormGrouping
+set_grouping group.Off = Strategy strategy.Never
+set_grouping group.Min2 = Strategy strategy.Min2
+set_grouping group.Auto = Strategy strategy.Auto
+set_grouping group.OnAligned = OnAligned
+set_grouping group.Thousands = Thousands
+
 -- when separators are written; the default of the notation where nothing is set
-unfoldable pub grouping_set : Option Grouping → Result (Option GroupingStrategy) Unsupported
-grouping_set None = Ok None
-grouping_set (Some group.Off) = Ok (Some strategy.Never)
-grouping_set (Some group.Min2) = Ok (Some strategy.Min2)
-grouping_set (Some group.Auto) = Ok (Some strategy.Auto)
-grouping_set (Some group.OnAligned) = Err unsupported.OnAligned
-grouping_set (Some group.Thousands) = Err unsupported.Thousands
+unfoldable pub grouping_set : Option Grouping → Option FormGrouping
+grouping_set None = None
+grouping_set (Some grouping) = Some (set_grouping grouping)
 
 -- the numbering system; none is preferred where none is set
 unfoldable pub system_set : Option (Bor (List ℕ)) → Result (Option (List ℕ)) Unsupported
@@ -137,16 +142,16 @@ unfoldable pub percent_set : Skeleton → Kind
 percent_set skeleton =
     if is_simple skeleton.notation && not (is_full_name skeleton.width) then Percent else share_set skeleton unit.Percent
 
--- permilles as a unit; in full with their sign they have no form
-unfoldable pub permille_set : Skeleton → Result Kind Unsupported
+-- permilles: in full in the locale's pattern of percents with its per mille sign, else as a unit
+unfoldable pub permille_set : Skeleton → Kind
 permille_set skeleton =
-    if is_simple skeleton.notation && not (is_full_name skeleton.width) then Err unsupported.Permille else Ok (share_set skeleton unit.Permille)
+    if is_simple skeleton.notation && not (is_full_name skeleton.width) then Permille else share_set skeleton unit.Permille
 
 -- what is written of numbers
 unfoldable pub kind_set : Skeleton → NumberUnit → Result Kind Unsupported
 kind_set skeleton counted.None = Ok (numbers_set skeleton.notation)
 kind_set skeleton counted.Percent = Ok (percent_set skeleton)
-kind_set skeleton counted.Permille = permille_set skeleton
+kind_set skeleton counted.Permille = Ok (permille_set skeleton)
 kind_set skeleton (counted.Currency letters) = do
   code ← code_set letters
   Ok (money_set skeleton code)
@@ -170,13 +175,12 @@ precision_set skeleton CompactLong None = None
 -- what the skeleton asks for in a locale
 unfoldable pub settings_of : List ℕ → Skeleton → Result FormSettings Unsupported
 settings_of locale skeleton = do
-  grouping ← grouping_set skeleton.grouping
   system ← system_set skeleton.system
   kind ← kind_set skeleton skeleton.unit
   Ok (record {
     locale = locale;
     system = system;
-    grouping = grouping;
+    grouping = grouping_set skeleton.grouping;
     precision = precision_set skeleton skeleton.notation skeleton.precision;
     mode = skeleton.mode;
     hides_zeros_of_whole = skeleton.hides_zeros_of_whole;

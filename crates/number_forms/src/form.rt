@@ -27,7 +27,7 @@ pub enum Formatter {
     ShortMoney(CompactCurrencyFormatter, Rounding),
     /// An amount of money in compact form with the name of its currency.
     ShortNamed(LongCurrencyFormatter<CompactDecimalFormatter>, Rounding),
-    /// The number of percents.
+    /// The number of percents or of permilles.
     Percent(PercentFormatter<DecimalFormatter>),
     /// The number with a unit.
     Units(UnitsFormatter<DecimalFormatter>),

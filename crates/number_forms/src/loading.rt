@@ -5,9 +5,10 @@ ghost use Rattle.icu_provider.specs.Answer.{Answers};
 ghost use Rattle.icu_dimension_tables.specs.Answering.{digits_answer};
 ghost use Rattle.number_forms.specs.Loaded.{currency_loaded, currency_precision, digits_precision, money_loaded};
 ghost use Rattle.number_forms.specs.Loaded.{money_precision, named_loaded, names_loaded};
-ghost use Rattle.number_forms.specs.Loaded.{percent_loaded, plain_loaded, preferences, rounding_to, settings_rounding, unit_loaded, units_loaded};
+ghost use Rattle.number_forms.specs.Loaded.{percent_loaded, permille_loaded, plain_loaded, preferences, rounding_to, settings_rounding, unit_loaded, units_loaded};
 
 use crate::form::{Form, Formatter};
+use crate::grouped::{Grouped, strategy_of};
 use crate::settings::{Settings, UnitWidth};
 use decimal_lines::{Mode, plain_options};
 use icu_decimal::DecimalFormatter;
@@ -62,9 +63,13 @@ pub(crate) fn load_plain(
 ) -> Result<Form, DataError>
     ensures { Answers result (plain_loaded settings.now tables.now) }
 {
-    let options = plain_options(settings.grouping);
+    let options = plain_options(strategy_of(settings.grouping));
     let prefs = preferences(settings);
-    let formatter = DecimalFormatter::try_new_unstable(alloc, tables, prefs, options)?;
+    let tables = Grouped {
+        provider: tables,
+        grouping: settings.grouping,
+    };
+    let formatter = DecimalFormatter::try_new_unstable(alloc, &tables, prefs, options)?;
     Ok(Form {
         scale: settings.scale,
         rounding: settings_rounding(settings),
@@ -138,7 +143,13 @@ fn load_currency(
         (currency_loaded settings.now code options all.now.numbers all.now.dimension) }
 {
     let prefs = preferences(settings);
-    CurrencyFormatter::try_new_unstable::<AllTables>(alloc, all, prefs, code, options)
+    let tables = Grouped {
+        provider: all,
+        grouping: settings.grouping,
+    };
+    CurrencyFormatter::try_new_unstable::<Grouped<'_, AllTables>>(
+        alloc, &tables, prefs, code, options,
+    )
 }
 
 /// Amounts of a currency.
@@ -175,9 +186,15 @@ fn load_names(
     ensures { Answers result
         (names_loaded settings.now code all.now.numbers all.now.dimension) }
 {
-    let options = plain_options(settings.grouping);
+    let options = plain_options(strategy_of(settings.grouping));
     let prefs = preferences(settings);
-    LongCurrencyFormatter::try_new_unstable::<AllTables>(alloc, all, prefs, code, options)
+    let tables = Grouped {
+        provider: all,
+        grouping: settings.grouping,
+    };
+    LongCurrencyFormatter::try_new_unstable::<Grouped<'_, AllTables>>(
+        alloc, &tables, prefs, code, options,
+    )
 }
 
 /// Amounts with the name of a currency.
@@ -211,9 +228,41 @@ pub(crate) fn load_percent(
 ) -> Result<Form, DataError>
     ensures { Answers result (percent_loaded settings.now all.now.numbers all.now.dimension) }
 {
-    let options = plain_options(settings.grouping);
+    let options = plain_options(strategy_of(settings.grouping));
     let prefs = preferences(settings);
-    let formatter = PercentFormatter::try_new_unstable::<AllTables>(alloc, all, prefs, options)?;
+    let tables = Grouped {
+        provider: all,
+        grouping: settings.grouping,
+    };
+    let formatter = PercentFormatter::try_new_unstable::<Grouped<'_, AllTables>>(
+        alloc, &tables, prefs, options,
+    )?;
+    Ok(Form {
+        scale: settings.scale,
+        rounding: settings_rounding(settings),
+        sign: settings.sign,
+        formatter: Formatter::Percent(formatter),
+    })
+}
+
+/// Permilles.
+#[tactic(auto, unfolding(crate::specs::Loaded::permille_loaded))]
+pub(crate) fn load_permille(
+    alloc: Global,
+    all: &AllTables,
+    settings: &Settings<'_>,
+) -> Result<Form, DataError>
+    ensures { Answers result (permille_loaded settings.now all.now.numbers all.now.dimension) }
+{
+    let options = plain_options(strategy_of(settings.grouping));
+    let prefs = preferences(settings);
+    let tables = Grouped {
+        provider: all,
+        grouping: settings.grouping,
+    };
+    let formatter = PercentFormatter::try_new_permille_unstable::<Grouped<'_, AllTables>>(
+        alloc, &tables, prefs, options,
+    )?;
     Ok(Form {
         scale: settings.scale,
         rounding: settings_rounding(settings),
@@ -225,25 +274,28 @@ pub(crate) fn load_percent(
 /// The formatter of numbers with a unit in a width.
 fn load_units(
     alloc: Global,
-    all: &AllTables,
+    tables: &Grouped<'_, AllTables>,
     prefs: DecimalFormatterPreferences,
     name: &str,
     width: UnitWidth,
     options: DecimalFormatterOptions,
 ) -> Result<UnitsFormatter<DecimalFormatter>, DataError>
     ensures { Answers result
-        (units_loaded width all.now.numbers all.now.dimension prefs name.now options) }
+        (units_loaded tables.now.grouping width tables.now.provider.now.numbers
+        tables.now.provider.now.dimension prefs name.now options) }
 {
     match width {
-        UnitWidth::Long => UnitsFormatter::try_new_unstable::<UnitsLongV1, AllTables>(
-            alloc, all, prefs, name, options,
+        UnitWidth::Long => UnitsFormatter::try_new_unstable::<UnitsLongV1, Grouped<'_, AllTables>>(
+            alloc, tables, prefs, name, options,
         ),
-        UnitWidth::Short => UnitsFormatter::try_new_unstable::<UnitsShortV1, AllTables>(
-            alloc, all, prefs, name, options,
-        ),
-        UnitWidth::Narrow => UnitsFormatter::try_new_unstable::<UnitsNarrowV1, AllTables>(
-            alloc, all, prefs, name, options,
-        ),
+        UnitWidth::Short => UnitsFormatter::try_new_unstable::<
+            UnitsShortV1,
+            Grouped<'_, AllTables>,
+        >(alloc, tables, prefs, name, options),
+        UnitWidth::Narrow => UnitsFormatter::try_new_unstable::<
+            UnitsNarrowV1,
+            Grouped<'_, AllTables>,
+        >(alloc, tables, prefs, name, options),
     }
 }
 
@@ -259,8 +311,12 @@ pub(crate) fn load_unit(
     ensures { Answers result
         (unit_loaded settings.now name.now width all.now.numbers all.now.dimension) }
 {
-    let options = plain_options(settings.grouping);
-    let formatter = load_units(alloc, all, preferences(settings), name, width, options)?;
+    let options = plain_options(strategy_of(settings.grouping));
+    let tables = Grouped {
+        provider: all,
+        grouping: settings.grouping,
+    };
+    let formatter = load_units(alloc, &tables, preferences(settings), name, width, options)?;
     Ok(Form {
         scale: settings.scale,
         rounding: settings_rounding(settings),

@@ -7,14 +7,13 @@ ghost use Rattle.number_forms.specs.Loaded.{currency_rounding, long_names_loaded
 ghost use Rattle.number_forms.specs.Loaded.{named_by_notation, named_long_loaded, named_short_loaded, short_names_loaded, unit_by_notation, unit_long_loaded, unit_short_loaded};
 
 use crate::form::{Form, Formatter};
+use crate::grouped::{Grouped, strategy_of};
 use crate::loading::{load_named, load_unit, money_precision, preferences, rounding_to};
 use crate::loading_short::{compact_precision, compact_preferences, sets_digits};
-use crate::settings::{Settings, UnitWidth};
+use crate::settings::{FormGrouping, Settings, UnitWidth};
 use decimal_lines::compact_options;
 use icu_decimal::CompactDecimalFormatter;
-use icu_decimal_options::options::{
-    CompactDecimalFormatterOptions, DecimalFormatterOptions, GroupingStrategy,
-};
+use icu_decimal_options::options::{CompactDecimalFormatterOptions, DecimalFormatterOptions};
 use icu_decimal_options::preferences::CompactDecimalFormatterPreferences;
 use icu_dimension::options::{CurrencyFormatterOptions, CurrencySign, Width};
 use icu_dimension::provider::{UnitsLongV1, UnitsNarrowV1, UnitsShortV1};
@@ -28,14 +27,14 @@ use std::alloc::Global;
 
 /// The options of compact amounts under a strategy, or the default ones, those of compact numbers.
 pub(crate) fn compact_money_options(
-    grouping: Option<GroupingStrategy>,
+    grouping: Option<FormGrouping>,
     width: Width,
     sign: CurrencySign,
 ) -> CurrencyFormatterOptions
     ensures { result ≡ compact_money_options grouping width sign }
 {
     CurrencyFormatterOptions {
-        decimal: DecimalFormatterOptions::from(compact_options(grouping)),
+        decimal: DecimalFormatterOptions::from(compact_options(strategy_of(grouping))),
         width,
         sign,
     }
@@ -54,8 +53,12 @@ fn load_compact_money(
         (compact_money_loaded settings.now code options all.now.numbers all.now.dimension) }
 {
     let prefs = preferences(settings);
-    CompactCurrencyFormatter::try_new_with_options_unstable::<AllTables>(
-        alloc, all, prefs, code, options,
+    let tables = Grouped {
+        provider: all,
+        grouping: settings.grouping,
+    };
+    CompactCurrencyFormatter::try_new_with_options_unstable::<Grouped<'_, AllTables>>(
+        alloc, &tables, prefs, code, options,
     )
 }
 
@@ -151,9 +154,15 @@ fn load_short_names(
     ensures { Answers result
         (short_names_loaded settings.now code all.now.numbers all.now.dimension) }
 {
-    let options = compact_options(settings.grouping);
+    let options = compact_options(strategy_of(settings.grouping));
     let prefs = compact_preferences(settings);
-    LongCurrencyFormatter::try_new_short_unstable::<AllTables>(alloc, all, prefs, code, options)
+    let tables = Grouped {
+        provider: all,
+        grouping: settings.grouping,
+    };
+    LongCurrencyFormatter::try_new_short_unstable::<Grouped<'_, AllTables>>(
+        alloc, &tables, prefs, code, options,
+    )
 }
 
 /// The same, shortened by the long patterns.
@@ -167,9 +176,15 @@ fn load_long_names(
     ensures { Answers result
         (long_names_loaded settings.now code all.now.numbers all.now.dimension) }
 {
-    let options = compact_options(settings.grouping);
+    let options = compact_options(strategy_of(settings.grouping));
     let prefs = compact_preferences(settings);
-    LongCurrencyFormatter::try_new_long_unstable::<AllTables>(alloc, all, prefs, code, options)
+    let tables = Grouped {
+        provider: all,
+        grouping: settings.grouping,
+    };
+    LongCurrencyFormatter::try_new_long_unstable::<Grouped<'_, AllTables>>(
+        alloc, &tables, prefs, code, options,
+    )
 }
 
 /// Amounts with the name of a currency, shortened by the short patterns.
@@ -237,52 +252,58 @@ pub(crate) fn load_named_by(
 /// The formatter of numbers with a unit in a width, shortened by the short patterns.
 fn load_short_units(
     alloc: Global,
-    all: &AllTables,
+    tables: &Grouped<'_, AllTables>,
     prefs: CompactDecimalFormatterPreferences,
     name: &str,
     width: UnitWidth,
     options: CompactDecimalFormatterOptions,
 ) -> Result<UnitsFormatter<CompactDecimalFormatter>, DataError>
     ensures { Answers result
-        (compact_units_loaded width all.now.numbers.short all.now.numbers all.now.dimension
-        prefs name.now options) }
+        (compact_units_loaded tables.now.grouping width tables.now.provider.now.numbers.short
+        tables.now.provider.now.numbers tables.now.provider.now.dimension prefs name.now options) }
 {
     match width {
-        UnitWidth::Long => UnitsFormatter::try_new_short_unstable::<UnitsLongV1, AllTables>(
-            alloc, all, prefs, name, options,
-        ),
-        UnitWidth::Short => UnitsFormatter::try_new_short_unstable::<UnitsShortV1, AllTables>(
-            alloc, all, prefs, name, options,
-        ),
-        UnitWidth::Narrow => UnitsFormatter::try_new_short_unstable::<UnitsNarrowV1, AllTables>(
-            alloc, all, prefs, name, options,
-        ),
+        UnitWidth::Long => UnitsFormatter::try_new_short_unstable::<
+            UnitsLongV1,
+            Grouped<'_, AllTables>,
+        >(alloc, tables, prefs, name, options),
+        UnitWidth::Short => UnitsFormatter::try_new_short_unstable::<
+            UnitsShortV1,
+            Grouped<'_, AllTables>,
+        >(alloc, tables, prefs, name, options),
+        UnitWidth::Narrow => UnitsFormatter::try_new_short_unstable::<
+            UnitsNarrowV1,
+            Grouped<'_, AllTables>,
+        >(alloc, tables, prefs, name, options),
     }
 }
 
 /// The same, shortened by the long patterns.
 fn load_long_units(
     alloc: Global,
-    all: &AllTables,
+    tables: &Grouped<'_, AllTables>,
     prefs: CompactDecimalFormatterPreferences,
     name: &str,
     width: UnitWidth,
     options: CompactDecimalFormatterOptions,
 ) -> Result<UnitsFormatter<CompactDecimalFormatter>, DataError>
     ensures { Answers result
-        (compact_units_loaded width all.now.numbers.long all.now.numbers all.now.dimension
-        prefs name.now options) }
+        (compact_units_loaded tables.now.grouping width tables.now.provider.now.numbers.long
+        tables.now.provider.now.numbers tables.now.provider.now.dimension prefs name.now options) }
 {
     match width {
-        UnitWidth::Long => UnitsFormatter::try_new_long_unstable::<UnitsLongV1, AllTables>(
-            alloc, all, prefs, name, options,
-        ),
-        UnitWidth::Short => UnitsFormatter::try_new_long_unstable::<UnitsShortV1, AllTables>(
-            alloc, all, prefs, name, options,
-        ),
-        UnitWidth::Narrow => UnitsFormatter::try_new_long_unstable::<UnitsNarrowV1, AllTables>(
-            alloc, all, prefs, name, options,
-        ),
+        UnitWidth::Long => UnitsFormatter::try_new_long_unstable::<
+            UnitsLongV1,
+            Grouped<'_, AllTables>,
+        >(alloc, tables, prefs, name, options),
+        UnitWidth::Short => UnitsFormatter::try_new_long_unstable::<
+            UnitsShortV1,
+            Grouped<'_, AllTables>,
+        >(alloc, tables, prefs, name, options),
+        UnitWidth::Narrow => UnitsFormatter::try_new_long_unstable::<
+            UnitsNarrowV1,
+            Grouped<'_, AllTables>,
+        >(alloc, tables, prefs, name, options),
     }
 }
 
@@ -298,9 +319,13 @@ fn load_unit_short(
     ensures { Answers result
         (unit_short_loaded settings.now name.now width all.now.numbers all.now.dimension) }
 {
-    let options = compact_options(settings.grouping);
+    let options = compact_options(strategy_of(settings.grouping));
     let prefs = compact_preferences(settings);
-    let formatter = load_short_units(alloc, all, prefs, name, width, options)?;
+    let tables = Grouped {
+        provider: all,
+        grouping: settings.grouping,
+    };
+    let formatter = load_short_units(alloc, &tables, prefs, name, width, options)?;
     let rounding = rounding_to(settings, compact_precision(settings.precision));
     Ok(Form {
         scale: settings.scale,
@@ -322,9 +347,13 @@ fn load_unit_long(
     ensures { Answers result
         (unit_long_loaded settings.now name.now width all.now.numbers all.now.dimension) }
 {
-    let options = compact_options(settings.grouping);
+    let options = compact_options(strategy_of(settings.grouping));
     let prefs = compact_preferences(settings);
-    let formatter = load_long_units(alloc, all, prefs, name, width, options)?;
+    let tables = Grouped {
+        provider: all,
+        grouping: settings.grouping,
+    };
+    let formatter = load_long_units(alloc, &tables, prefs, name, width, options)?;
     let rounding = rounding_to(settings, compact_precision(settings.precision));
     Ok(Form {
         scale: settings.scale,

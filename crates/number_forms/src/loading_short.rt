@@ -5,6 +5,7 @@ ghost use Rattle.icu_provider.specs.Answer.{Answers};
 ghost use Rattle.number_forms.specs.Loaded.{compact_by, compact_precision, compact_preferences, compact_rounding, long_loaded, sets_digits, short_loaded};
 
 use crate::form::{Form, Formatter};
+use crate::grouped::{Grouped, strategy_of};
 use crate::loading::rounding_to;
 use crate::settings::{Settings, is_half_even};
 use decimal_lines::{Mode, compact_options};
@@ -84,9 +85,15 @@ pub(crate) fn load_short(
 ) -> Result<Form, DataError>
     ensures { Answers result (short_loaded settings.now tables.now) }
 {
-    let options = compact_options(settings.grouping);
+    let options = compact_options(strategy_of(settings.grouping));
     let prefs = compact_preferences(settings);
-    let formatter = CompactDecimalFormatter::try_new_short_unstable(alloc, tables, prefs, options)?;
+    let tables = Grouped {
+        provider: tables,
+        grouping: settings.grouping,
+    };
+    let formatter = CompactDecimalFormatter::try_new_short_unstable(
+        alloc, &tables, prefs, options,
+    )?;
     Ok(Form {
         scale: settings.scale,
         rounding: None,
@@ -104,9 +111,13 @@ pub(crate) fn load_long(
 ) -> Result<Form, DataError>
     ensures { Answers result (long_loaded settings.now tables.now) }
 {
-    let options = compact_options(settings.grouping);
+    let options = compact_options(strategy_of(settings.grouping));
     let prefs = compact_preferences(settings);
-    let formatter = CompactDecimalFormatter::try_new_long_unstable(alloc, tables, prefs, options)?;
+    let tables = Grouped {
+        provider: tables,
+        grouping: settings.grouping,
+    };
+    let formatter = CompactDecimalFormatter::try_new_long_unstable(alloc, &tables, prefs, options)?;
     Ok(Form {
         scale: settings.scale,
         rounding: None,

@@ -8,13 +8,14 @@ ghost use Rattle.icu_dimension_tables.specs.AllTables.{AllData, all_tables_of};
 ghost use Rattle.icu_dimension_tables.specs.ForLocale.{IsAllFor};
 ghost use Rattle.number_forms.specs.Forms.{FormData};
 ghost use Rattle.number_forms.specs.Settings.{unit_text};
-ghost use Rattle.number_forms.specs.Loaded.{compact_money_options, long_loaded, money_loaded, money_options, money_short_loaded, named_by_notation, percent_loaded};
+ghost use Rattle.number_forms.specs.Loaded.{compact_money_options, long_loaded, money_loaded, money_options, money_short_loaded, named_by_notation, percent_loaded, permille_loaded};
 ghost use Rattle.number_forms.specs.Loaded.{plain_loaded, short_loaded, unit_by_notation};
 ghost use Rattle.number_forms.specs.Making.{StartsForm, StopsForm, form_of, read_then, start_error, started, table_error, with_all, with_tables};
 
 use crate::error::StartError;
 use crate::form::Form;
-use crate::loading::{load_money, load_percent, load_plain};
+use crate::grouped::strategy_of;
+use crate::loading::{load_money, load_percent, load_permille, load_plain};
 use crate::loading_compact::{
     compact_money_options, load_money_short, load_named_by, load_unit_by,
 };
@@ -166,6 +167,14 @@ fn percent_form(alloc: Global, settings: &Settings<'_>, text: &str) -> Result<Fo
     started(load_percent(alloc, &all, settings))
 }
 
+/// Permilles, by a text of tables.
+fn permille_form(alloc: Global, settings: &Settings<'_>, text: &str) -> Result<Form, StartError>
+    ensures { StartsForm result (with_all text.now (permille_loaded settings.now)) }
+{
+    let all = all_in(alloc, settings, text)?;
+    started(load_permille(alloc, &all, settings))
+}
+
 /// Numbers with a unit, by a text of tables.
 fn unit_form(
     alloc: Global,
@@ -240,6 +249,7 @@ fn form_of(alloc: Global, settings: &Settings<'_>, text: &str) -> Result<Form, S
             money_short_with(alloc, settings, text, code, width, sign)
         }
         Kind::Percent => percent_form(alloc, settings, text),
+        Kind::Permille => permille_form(alloc, settings, text),
         Kind::Unit {
             unit,
             width,
@@ -257,7 +267,7 @@ fn money_options(
     ensures { result ≡ money_options settings.now.grouping width sign }
 {
     CurrencyFormatterOptions {
-        decimal: plain_options(settings.grouping),
+        decimal: plain_options(strategy_of(settings.grouping)),
         width,
         sign,
     }

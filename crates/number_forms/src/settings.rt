@@ -11,6 +11,18 @@ use icu_provider::{DataLocale, NumberingSystem};
 use skeleton_settings::{Notation, Precision};
 use std::marker::Model;
 
+/// When separators are written, and between which groups (this project's own).
+#[derive(Clone, Copy, Debug, PartialEq, Eq)]
+pub enum FormGrouping {
+    /// By a strategy, between the groups of the locale.
+    Strategy(GroupingStrategy),
+    /// Between the groups of the locale, or groups of three digits where the locale has none; one
+    /// digit before the last group suffices.
+    OnAligned,
+    /// Between groups of three digits; one digit before the last group suffices.
+    Thousands,
+}
+
 /// Which patterns write a unit.
 #[derive(Clone, Copy, Debug, PartialEq, Eq)]
 pub enum UnitWidth {
@@ -86,6 +98,8 @@ pub enum Kind<'a> {
     },
     /// The number of percents, as `12%` of 12.
     Percent,
+    /// The number of permilles, as `12‰` of 12.
+    Permille,
     /// The number with a unit, as `2 km`.
     Unit {
         /// The unit.
@@ -123,7 +137,7 @@ pub struct Settings<'a> {
     pub system: Option<NumberingSystem>,
     /// When separators are written; `None` is the default: `min2` for compact numbers and compact
     /// amounts, else `auto`.
-    pub grouping: Option<GroupingStrategy>,
+    pub grouping: Option<FormGrouping>,
     /// How fine a written number is. `None`: as the digits of the currency for money in full;
     /// no fraction digit, or two significant digits, for what is shortened; else the digits are as
     /// they are given. The precision of a currency is two digits where no currency is asked for.

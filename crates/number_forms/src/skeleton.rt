@@ -2,10 +2,10 @@
 
 ghost use Rattle.std.specs.Prelude.{◌≡◌, option_map};
 ghost use Rattle.number_forms.specs.Skeleton.{code_set, default_precision, grouping_set, is_full_name, is_simple, kind_set, money_set, money_sign};
-ghost use Rattle.number_forms.specs.Skeleton.{money_with, named_money, numbers_set, patterns_set, percent_set, permille_set, precision_set};
+ghost use Rattle.number_forms.specs.Skeleton.{money_with, named_money, numbers_set, patterns_set, percent_set, permille_set, precision_set, set_grouping};
 ghost use Rattle.number_forms.specs.Skeleton.{share_set, symbol_set, system_set, unit_set};
 
-use crate::settings::{Kind, Settings, UnitName, UnitWidth};
+use crate::settings::{FormGrouping, Kind, Settings, UnitName, UnitWidth};
 use icu_decimal_options::options::GroupingStrategy;
 use icu_dimension::options::{CurrencySign, Width};
 use icu_dimension_data::CurrencyCode;
@@ -17,35 +17,35 @@ use thiserror::Error;
 /// What a skeleton asks for that no form has.
 #[derive(Clone, Copy, Debug, PartialEq, Eq, Error)]
 pub enum Unsupported {
-    /// `group-on-aligned`.
-    #[error("group-on-aligned")]
-    OnAligned,
-    /// `group-thousands`.
-    #[error("group-thousands")]
-    Thousands,
     /// A name that no numbering system can have. No text sets it.
     #[error("numbering-system")]
     System,
-    /// `permille` in full, but with `unit-width-full-name`.
-    #[error("permille")]
-    Permille,
     /// Letters that no currency can have. No text sets them.
     #[error("currency")]
     Currency,
 }
 
+/// When separators are written, where that is set.
+fn set_grouping(grouping: Grouping) -> FormGrouping
+    ensures { result ≡ set_grouping grouping }
+{
+    match grouping {
+        Grouping::Off => FormGrouping::Strategy(GroupingStrategy::Never),
+        Grouping::Min2 => FormGrouping::Strategy(GroupingStrategy::Min2),
+        Grouping::Auto => FormGrouping::Strategy(GroupingStrategy::Auto),
+        Grouping::OnAligned => FormGrouping::OnAligned,
+        Grouping::Thousands => FormGrouping::Thousands,
+    }
+}
+
 /// When separators are written.
 #[tactic(auto, unfolding(crate::specs::Skeleton::grouping_set))]
-fn grouping_set(grouping: Option<Grouping>) -> Result<Option<GroupingStrategy>, Unsupported>
+fn grouping_set(grouping: Option<Grouping>) -> Option<FormGrouping>
     ensures { result ≡ grouping_set grouping }
 {
     match grouping {
-        None => Ok(None),
-        Some(Grouping::Off) => Ok(Some(GroupingStrategy::Never)),
-        Some(Grouping::Min2) => Ok(Some(GroupingStrategy::Min2)),
-        Some(Grouping::Auto) => Ok(Some(GroupingStrategy::Auto)),
-        Some(Grouping::OnAligned) => Err(Unsupported::OnAligned),
-        Some(Grouping::Thousands) => Err(Unsupported::Thousands),
+        None => None,
+        Some(grouping) => Some(set_grouping(grouping)),
     }
 }
 
@@ -229,15 +229,15 @@ fn percent_set<'a>(skeleton: &Skeleton<'a>) -> Kind<'a>
     }
 }
 
-/// Permilles as a unit; in full with their sign they have no form.
+/// Permilles: in full in the locale's pattern of percents with its per mille sign, else as a unit.
 #[tactic(auto, unfolding(crate::specs::Skeleton::permille_set))]
-fn permille_set<'a>(skeleton: &Skeleton<'a>) -> Result<Kind<'a>, Unsupported>
+fn permille_set<'a>(skeleton: &Skeleton<'a>) -> Kind<'a>
     ensures { result ≡ permille_set skeleton.now }
 {
     if is_simple(skeleton.notation) && !is_full_name(skeleton.width) {
-        Err(Unsupported::Permille)
+        Kind::Permille
     } else {
-        Ok(share_set(skeleton, UnitName::Permille))
+        share_set(skeleton, UnitName::Permille)
     }
 }
 
@@ -249,7 +249,7 @@ fn kind_set<'a>(skeleton: &Skeleton<'a>) -> Result<Kind<'a>, Unsupported>
     match skeleton.unit {
         NumberUnit::None => Ok(numbers_set(skeleton.notation)),
         NumberUnit::Percent => Ok(percent_set(skeleton)),
-        NumberUnit::Permille => permille_set(skeleton),
+        NumberUnit::Permille => Ok(permille_set(skeleton)),
         NumberUnit::Currency(letters) => match code_set(letters) {
             Ok(code) => Ok(money_set(skeleton, code)),
             Err(error) => Err(error),
@@ -293,10 +293,10 @@ impl<'a> Settings<'a> {
     /// What a number skeleton asks for in a locale (this project's own).
     ///
     /// Numbers in full have at most six fraction digits where the skeleton sets no precision, and
-    /// amounts of money the digits of their currency. The first part that no form has is reported,
-    /// of the grouping, the numbering system, and then of what is written.
+    /// amounts of money the digits of their currency. What no form has is reported, of the numbering
+    /// system first; no text of a skeleton asks for it.
     // promise: A skeleton determines the settings, or what no form has.
-    // mutations: percent_of_a_skeleton_scaled, narrow_symbol_of_a_skeleton_left_out
+    // mutations: percent_of_a_skeleton_scaled, permille_of_a_skeleton_as_percent
     #[tactic(auto, unfolding(crate::specs::Skeleton::settings_of))]
     pub fn of_skeleton(
         locale: DataLocale,
@@ -304,7 +304,6 @@ impl<'a> Settings<'a> {
     ) -> Result<Settings<'a>, Unsupported>
         ensures { result ≡ settings_of locale skeleton.now }
     {
-        let grouping = grouping_set(skeleton.grouping)?;
         let system = system_set(skeleton.system)?;
         let kind = match kind_set(skeleton) {
             Ok(kind) => kind,
@@ -313,7 +312,7 @@ impl<'a> Settings<'a> {
         Ok(Settings {
             locale,
             system,
-            grouping,
+            grouping: grouping_set(skeleton.grouping),
             precision: precision_set(skeleton),
             mode: skeleton.mode,
             hides_zeros_of_whole: skeleton.hides_zeros_of_whole,

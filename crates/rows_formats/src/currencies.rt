@@ -9,7 +9,9 @@ use crate::dimension_faults::{Fault, said, yes_or_no};
 use crate::dimension_making::decimal;
 use crate::money::code_of;
 use fixed_decimal::{Decimal, RoundingIncrement, Sign};
-use icu_dimension_data::parts::{CURRENCY, MINUS_SIGN, PERCENT_SIGN, PLUS_SIGN, UNIT};
+use icu_dimension_data::parts::{
+    CURRENCY, MINUS_SIGN, PER_MILLE_SIGN, PERCENT_SIGN, PLUS_SIGN, UNIT,
+};
 use icu_dimension_data::{
     BadCurrencyCode, CashStep, CurrencyCode, CurrencyDigits, CurrencyEntry, FractionDigits,
     PatternFault,
@@ -186,6 +188,7 @@ fn part_of(name: &str) -> Option<Part> {
         "PLUS_SIGN" => Some(PLUS_SIGN),
         "CURRENCY" => Some(CURRENCY),
         "PERCENT_SIGN" => Some(PERCENT_SIGN),
+        "PER_MILLE_SIGN" => Some(PER_MILLE_SIGN),
         "UNIT" => Some(UNIT),
         _ => None,
     }

@@ -8,8 +8,8 @@ use crate::money::code_of;
 use crate::tables::one_of;
 use icu_dimension::provider::{
     CurrencyCompactShortV1, CurrencyDecimalSymbolsV1, CurrencyDigitsV1, CurrencyNamesV1,
-    CurrencyPatternsV1, CurrencySymbolsV1, PercentPatternsV1, UnitsLongV1, UnitsNarrowV1,
-    UnitsShortV1, load_currency_digits,
+    CurrencyPatternsV1, CurrencySymbolsV1, PercentPatternsV1, PermillePatternsV1, UnitsLongV1,
+    UnitsNarrowV1, UnitsShortV1, load_currency_digits,
 };
 use icu_dimension_data::CurrencyCode;
 use icu_dimension_tables::{AllTables, DimensionTables};
@@ -64,6 +64,9 @@ fn of_others(
             tables, alloc, request,
         ))),
         "PercentPatternsV1" => Some(refusal(<AllTables as DataProvider<PercentPatternsV1>>::load(
+            tables, alloc, request,
+        ))),
+        "PermillePatternsV1" => Some(refusal(<AllTables as DataProvider<PermillePatternsV1>>::load(
             tables, alloc, request,
         ))),
         "UnitsLongV1" => Some(refusal(<AllTables as DataProvider<UnitsLongV1>>::load(

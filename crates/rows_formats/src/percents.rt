@@ -3,7 +3,7 @@
 use crate::amounts::asked;
 use crate::dimension_faults::{Fault, yes_or_no};
 use crate::dimension_loading::{Asked, tables_in};
-use crate::dimension_making::{numbers_of, patterns, plain};
+use crate::dimension_making::{decimal, numbers_of, patterns, plain};
 use crate::surrounding::surrounding;
 use icu_decimal::DecimalFormatter;
 use icu_dimension::PercentFormatter;
@@ -57,6 +57,41 @@ fn by_tables(
     asked(alloc, &formatter, "try_new_unstable", number)
 }
 
+/// Permilles by tables.
+fn loaded_permilles(
+    alloc: Global,
+    tables: &AllTables,
+    asked: Asked<'_>,
+) -> Result<PercentFormatter<DecimalFormatter>, Fault> {
+    let (prefs, options) = (asked.preferences(), asked.numbers());
+    Ok(PercentFormatter::try_new_permille_unstable(alloc, tables, prefs, options)?)
+}
+
+/// What permilles by these tables answer for a number of permilles.
+fn permilles_by_tables(
+    alloc: Global,
+    tables: &AllTables,
+    locale: &str,
+    number: &str,
+) -> Result<String, Fault> {
+    let number = decimal(alloc, number)?;
+    let formatter = loaded_permilles(alloc, tables, Asked::of(locale))?;
+    let mut text = String::new(alloc);
+    formatter.write_percents_into(alloc, &number, &mut text)?;
+    Ok(text)
+}
+
+/// What permilles by tables of a document answer.
+fn of_permilles(
+    alloc: Global,
+    documents: &Documents,
+    (document, locale): (&str, &str),
+    number: &str,
+) -> Result<String, Fault> {
+    let tables = tables_in(alloc, documents, document)?;
+    permilles_by_tables(alloc, &tables, locale, number)
+}
+
 /// What percents by tables of a document answer.
 fn of_loaded(
     alloc: Global,
@@ -92,6 +127,9 @@ pub(crate) fn returned(
         }
         [document, locale, number] if call == "try_new_unstable" => {
             of_loaded(alloc, documents, (document, locale), number)
+        }
+        [document, locale, number] if call == "try_new_permille_unstable" => {
+            of_permilles(alloc, documents, (document, locale), number)
         }
         [numbers, pattern, word] => by_parts(alloc, numbers, pattern, (call, word)),
         _ => Err(Fault::Unreadable),

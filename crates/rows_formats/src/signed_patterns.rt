@@ -216,6 +216,26 @@ fn beginnings(alloc: Global, around: Around<'_>, number: &str) -> Result<String,
     Ok(beginnings)
 }
 
+/// The patterns of permilles for a pattern of percents, with other texts in them.
+fn permilles_of(alloc: Global, pattern: &str, texts: &str) -> Result<SignedPatterns, Fault> {
+    let texts = texts_of(texts)?;
+    let pattern = CldrPattern::parse(alloc, pattern)?;
+    let permilles = pattern.permilles(alloc)?;
+    Ok(permilles.resolve(alloc, &texts, &ASCII_DIGITS)?)
+}
+
+/// A number of permilles in a pattern of percents with its parts.
+fn permilles(
+    alloc: Global,
+    (pattern, texts): (&str, &str),
+    sign: &str,
+    number: &str,
+) -> Result<String, Fault> {
+    let sign = sign_of(sign)?;
+    let patterns = permilles_of(alloc, pattern, texts)?;
+    parts_text(alloc, (&patterns, sign), number)
+}
+
 /// The characters of a word.
 fn characters_of(alloc: Global, word: &str) -> Result<Vec<char>, Fault> {
     let mut characters = Vec::new(alloc);
@@ -330,6 +350,9 @@ pub(crate) fn returned(alloc: Global, call: &str, arguments: &[String]) -> Resul
             "to_pattern" => by_text(alloc, (pattern, texts), call, (word, "")),
             _ => Err(Fault::Unreadable),
         },
+        [pattern, texts, sign, word] if call == "permilles" => {
+            permilles(alloc, (pattern, texts), sign, word)
+        }
         [pattern, texts, sign, word] => by_text(alloc, (pattern, texts), call, (sign, word)),
         [outer, outer_texts, inner, inner_texts, number] if call == "write_nested" => {
             write_nested(alloc, (outer, outer_texts), (inner, inner_texts), number)

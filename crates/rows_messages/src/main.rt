@@ -2,7 +2,9 @@
 #![tactic(auto)]
 
 mod arguments;
+mod catalogues;
 mod faults;
+mod forms;
 mod locales;
 mod messages;
 mod numbers;
@@ -14,7 +16,7 @@ use std::io;
 /// What a call answers; `None` if there is no such call.
 type CallResult = Result<Option<String>, AllocError>;
 
-/// The calls of `icu_message`.
+/// The calls of messages.
 struct MessageCalls;
 
 impl Calls for MessageCalls {
@@ -26,6 +28,12 @@ impl Calls for MessageCalls {
         arguments: &[String],
     ) -> CallResult {
         if let Some(returned) = messages::returned(alloc, call, arguments)? {
+            return Ok(Some(returned));
+        }
+        if let Some(returned) = catalogues::returned(alloc, call, arguments)? {
+            return Ok(Some(returned));
+        }
+        if let Some(returned) = forms::returned(alloc, documents, call, arguments)? {
             return Ok(Some(returned));
         }
         locales::returned(alloc, documents, call, arguments)

@@ -16,7 +16,7 @@ pub(crate) fn text_of(alloc: Global, bytes: &[u8]) -> CallResult {
 }
 
 /// The spelling of a message.
-fn spelled(alloc: Global, message: &Message) -> CallResult {
+pub(crate) fn spelled(alloc: Global, message: &Message) -> CallResult {
     let mut out = Vec::new(alloc);
     message.spell(&mut out)?;
     text_of(alloc, &out)
@@ -55,7 +55,7 @@ fn list(out: &mut String, message: &Message, named: NamedKind) -> Result<(), All
 }
 
 /// The names of a message with their kinds.
-fn names_of(alloc: Global, message: &Message) -> CallResult {
+pub(crate) fn names_of(alloc: Global, message: &Message) -> CallResult {
     let mut out = String::new(alloc);
     for named in &message.signature(alloc)? {
         list(&mut out, message, *named)?;

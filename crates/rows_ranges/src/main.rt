@@ -6,6 +6,7 @@ mod ends;
 mod faults;
 mod locales;
 mod plural;
+mod tables;
 mod written;
 
 use faults::{Fault, reported};
@@ -28,6 +29,10 @@ fn returned(
 ) -> Result<String, Fault> {
     let (kind, call) = call.split_once("::").unwrap_or(("", call));
     match (kind, arguments) {
+        ("RangeTables", _) if call == "from_json" => {
+            tables::returned(alloc, documents, kind, arguments)
+        }
+        (_, _) if call == "try_new_unstable" => tables::returned(alloc, documents, kind, arguments),
         ("RangePattern", [text]) if call == "parse" => ends::separator(alloc, text),
         ("DecimalRange", [start, end]) if call == "try_new" => ends::range_made(alloc, start, end),
         ("NumberRangeFormatter", [locale, pattern, start, end]) => {

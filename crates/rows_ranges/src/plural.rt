@@ -12,7 +12,7 @@ use rows::Documents;
 use std::alloc::Global;
 
 /// The category of a name.
-fn category_of(name: &str) -> Option<PluralCategory> {
+pub(crate) fn category_of(name: &str) -> Option<PluralCategory> {
     match name {
         "zero" => Some(PluralCategory::Zero),
         "one" => Some(PluralCategory::One),
@@ -62,7 +62,7 @@ fn ranges(alloc: Global, text: &str) -> Result<PluralRanges, Fault> {
 }
 
 /// A category's name as a text.
-fn said(alloc: Global, category: PluralCategory) -> Result<String, Fault> {
+pub(crate) fn said(alloc: Global, category: PluralCategory) -> Result<String, Fault> {
     Ok(String::from_str(alloc, name_of(category))?)
 }
 

@@ -72,8 +72,8 @@ pub(crate) fn no_options(alloc: Global, fault: OptionFault) -> CallResult {
 /// The fault of a skeleton that asks for what no form has.
 fn unsupported(part: &str) -> Option<Unsupported> {
     match part {
-        "Permille" => Some(Unsupported::Permille),
-        "Thousands" => Some(Unsupported::Thousands),
+        "System" => Some(Unsupported::System),
+        "Currency" => Some(Unsupported::Currency),
         _ => None,
     }
 }
@@ -82,6 +82,7 @@ fn unsupported(part: &str) -> Option<Unsupported> {
 fn option_beside(option: &str) -> Option<NumberOption> {
     match option {
         "Percent" => Some(NumberOption::Percent),
+        "Permille" => Some(NumberOption::Permille),
         "System" => Some(NumberOption::System),
         _ => None,
     }

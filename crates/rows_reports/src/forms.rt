@@ -5,6 +5,7 @@ use crate::explanations::{Explained, explanation};
 use crate::faults::{no_form, not_written};
 use crate::lines::{ran, reported};
 use crate::options::{parsed, settings_of};
+use crate::ranges::{AskedRange, ranged};
 use crate::words::{Pair, file_of, given, options_of};
 use crate::{CallResult, lines, parts, records};
 use decimal_lines::{Mode, TextError};
@@ -31,6 +32,8 @@ pub(crate) enum Question<'a> {
     Run(&'a str),
     /// What the report of a run says.
     Report(&'a str),
+    /// What it writes for a range.
+    Ranged(AskedRange<'a>),
     /// An explanation.
     Explained(Explained<'a>),
 }
@@ -124,6 +127,7 @@ fn result_of<'a>(
         Question::Formatter => Ok(Some(String::from_str(alloc, formatter_name(form.formatter()))?)),
         Question::Run(input) => ran(alloc, form, lines, &bytes_of(alloc, input)?),
         Question::Report(input) => reported(alloc, form, lines, &bytes_of(alloc, input)?),
+        Question::Ranged(asked) => ranged(alloc, form, asked),
         Question::Explained(asked) => explanation(alloc, form, &given(options), asked),
     }
 }
@@ -211,6 +215,7 @@ fn question_of<'a>(call: &str, words: &'a [String]) -> Option<Question<'a>> {
     match words {
         [] => question_alone(call),
         [word] => question_by(call, word.as_str()),
+        _ if call == "range" => Some(Question::Ranged(AskedRange::of(words)?)),
         _ => Some(Question::Explained(Explained::of(call, words)?)),
     }
 }

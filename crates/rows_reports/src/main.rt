@@ -11,6 +11,7 @@ mod modes;
 mod options;
 mod parts;
 mod pieces;
+mod ranges;
 mod records;
 mod rooms;
 mod words;

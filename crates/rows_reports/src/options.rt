@@ -8,7 +8,7 @@ use fixed_decimal::{SignedRoundingMode, UnsignedRoundingMode};
 use icu_decimal::options::GroupingStrategy;
 use locnum_lines::{Delimiter, FieldRange, LineSettings, Padding, Source};
 use locnum_options::{Given, OptionFault, Options, parse_options};
-use number_forms::{Kind, Settings};
+use number_forms::{FormGrouping, Kind, Settings};
 use skeleton_settings::{Notation, Precision};
 use std::alloc::{AllocError, Global};
 
@@ -28,6 +28,7 @@ fn push_kind(alloc: Global, kind: &Kind<'_>, text: &mut String) -> Result<(), Al
         Kind::Short => text.push_str("short"),
         Kind::Long => text.push_str("long"),
         Kind::Percent => text.push_str("percent"),
+        Kind::Permille => text.push_str("permille"),
         Kind::Money {
             code,
             width,
@@ -73,6 +74,19 @@ pub(crate) fn push_grouping(
     text: &mut String,
 ) -> Result<(), AllocError> {
     match grouping {
+        Some(grouping) => text.push_str(format!(in alloc; " grouping {grouping:?}")?.as_str()),
+        None => Ok(()),
+    }
+}
+
+/// Appends when separators are written, if that is asked for.
+fn push_form_grouping(
+    alloc: Global,
+    grouping: Option<FormGrouping>,
+    text: &mut String,
+) -> Result<(), AllocError> {
+    match grouping {
+        Some(FormGrouping::Strategy(strategy)) => push_grouping(alloc, Some(strategy), text),
         Some(grouping) => text.push_str(format!(in alloc; " grouping {grouping:?}")?.as_str()),
         None => Ok(()),
     }
@@ -180,7 +194,7 @@ fn push_form(alloc: Global, settings: &Settings<'_>, text: &mut String) -> Resul
         None => "",
     };
     push_behind(" system ", system.as_bytes(), text)?;
-    push_grouping(alloc, settings.grouping, text)?;
+    push_form_grouping(alloc, settings.grouping, text)?;
     push_precision(alloc, settings.precision, text)?;
     push_mode(alloc, settings.mode, text)?;
     push_digits(alloc, settings, text)?;

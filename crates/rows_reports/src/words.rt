@@ -15,6 +15,7 @@ const FLAGS: &[&str] = &[
     "csv",
     "explain",
     "percent",
+    "permille",
     "zero-terminated",
 ];
 

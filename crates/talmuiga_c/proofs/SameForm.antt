@@ -74,32 +74,26 @@ SameForms (Ok x) (Err b) = ⊥
 SameForms (Err a) (Ok y) = ⊥
 SameForms (Err a) (Err b) = a ≡ b
 
--- settings of a grouping, a system and a kind
-module _ {G : Type 0} (grouping : Result G Unsupported) (with_kind : G → Option (List ℕ) → Kind → FormSettings)
-    (elsewhere : (g : G) (o : Option (List ℕ)) (name : Bor (List ℕ)) (w : patterns.UnitWidth) (n : Notation) (tables : List ℕ)
-    → form_asked (with_kind g o (WithUnit (unit.Named name) w n)) tables
-    ≡ form_asked (with_kind g o (WithUnit (unit.Named (lent name.now)) w n)) tables) where
-  abbrev with_all : Result G Unsupported → Result (Option (List ℕ)) Unsupported → Result Kind Unsupported → Result FormSettings Unsupported
-  with_all grouping system kind = do
-    g ← grouping
+-- settings of a system and a kind
+module _ (with_kind : Option (List ℕ) → Kind → FormSettings)
+    (elsewhere : (o : Option (List ℕ)) (name : Bor (List ℕ)) (w : patterns.UnitWidth) (n : Notation) (tables : List ℕ)
+    → form_asked (with_kind o (WithUnit (unit.Named name) w n)) tables
+    ≡ form_asked (with_kind o (WithUnit (unit.Named (lent name.now)) w n)) tables) where
+  abbrev with_both : Result (Option (List ℕ)) Unsupported → Result Kind Unsupported → Result FormSettings Unsupported
+  with_both system kind = do
     o ← system
     k ← kind
-    Ok (with_kind g o k)
+    Ok (with_kind o k)
 
-  same : (g : Result G Unsupported) (o : Result (Option (List ℕ)) Unsupported) (k l : Result Kind Unsupported)
-      → SameKind k l → SameForms (with_all g o k) (with_all g o l)
-  same (Err x) o k l is = refl
-  same (Ok g) (Err x) k l is = refl
-  same (Ok g) (Ok o) k l (inl e) = rw e (go l)
+  same : (o : Result (Option (List ℕ)) Unsupported) (k l : Result Kind Unsupported)
+      → SameKind k l → SameForms (with_both o k) (with_both o l)
+  same (Err x) k l is = refl
+  same (Ok o) k l (inl e) = rw e (go l)
     where
-      go : (l : Result Kind Unsupported) → SameForms (with_all (Ok g) (Ok o) l) (with_all (Ok g) (Ok o) l)
+      go : (l : Result Kind Unsupported) → SameForms (with_both (Ok o) l) (with_both (Ok o) l)
       go (Ok kind) = λ tables. refl
       go (Err x) = refl
-  same (Ok g) (Ok o) k l (inr (name, w, n, (e, f))) = rw (e, f) (elsewhere g o name w n)
-
-  same-all : (o : Result (Option (List ℕ)) Unsupported) (k l : Result Kind Unsupported)
-      → SameKind k l → SameForms (with_all grouping o k) (with_all grouping o l)
-  same-all = same grouping
+  same (Ok o) k l (inr (name, w, n, (e, f))) = rw (e, f) (elsewhere o name w n)
 
 -- settings with another kind
 abbrev with_kind : FormSettings → Kind → FormSettings
@@ -128,10 +122,10 @@ same-unit x name w CompactLong tables = refl
 pub same-settings : (locale : List ℕ) (s : Skeleton) → SameForms (settings_of locale s) (settings_of locale (moved s))
 unfolding settings_of
 same-settings locale s = rw (sym (same-system s.system), sym (same-precision s s.notation s.precision))
-    (same-all (grouping_set s.grouping) (λ g o k. record {
+    (same (λ o k. record {
       locale = locale;
       system = o;
-      grouping = g;
+      grouping = grouping_set s.grouping;
       precision = precision_set s s.notation s.precision;
       mode = s.mode;
       hides_zeros_of_whole = s.hides_zeros_of_whole;
@@ -139,10 +133,10 @@ same-settings locale s = rw (sym (same-system s.system), sym (same-precision s s
       scale = s.scale;
       sign = s.sign;
       kind = k;
-    }) (λ g o name w n tables. same-unit (record {
+    }) (λ o name w n tables. same-unit (record {
       locale = locale;
       system = o;
-      grouping = g;
+      grouping = grouping_set s.grouping;
       precision = precision_set s s.notation s.precision;
       mode = s.mode;
       hides_zeros_of_whole = s.hides_zeros_of_whole;

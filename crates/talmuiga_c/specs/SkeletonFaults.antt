@@ -82,11 +82,8 @@ fault_of fault = record { byte = fault.byte; kind = kind_number fault.kind; thin
 
 -- what no form has, from 1 on
 abbrev pub unsupported_number : Unsupported → ℕ
-unsupported_number unsupported.OnAligned = 1
-unsupported_number unsupported.Thousands = 2
-unsupported_number unsupported.System = 3
-unsupported_number unsupported.Permille = 4
-unsupported_number unsupported.Currency = 5
+unsupported_number unsupported.System = 1
+unsupported_number unsupported.Currency = 2
 
 -- a skeleton asks for this, which no form has
 abbrev pub unsupported_fault : Unsupported → Fault

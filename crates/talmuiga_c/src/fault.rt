@@ -139,11 +139,8 @@ fn unsupported_number(thing: Unsupported) -> u32
     ensures { result ≡ unsupported_number thing }
 {
     match thing {
-        Unsupported::OnAligned => 1,
-        Unsupported::Thousands => 2,
-        Unsupported::System => 3,
-        Unsupported::Permille => 4,
-        Unsupported::Currency => 5,
+        Unsupported::System => 1,
+        Unsupported::Currency => 2,
     }
 }
 

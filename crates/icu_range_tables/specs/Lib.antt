@@ -1,0 +1,3 @@
+pub mod RangePatterns
+pub mod PluralRanges
+pub mod RangeTables
