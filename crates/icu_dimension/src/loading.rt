@@ -262,7 +262,7 @@ impl PercentFormatter<DecimalFormatter> {
     /// [`PercentFormatter::try_new_unstable`]. Numbers of permilles are written by
     /// [`write_percents_into`](PercentFormatter::write_percents_into), as they are given: `12.3‰`
     /// of 12.3. The other calls write a hundred times a number.
-    // promise: Patterns of permilles are asked by the preferred system first.
+    // promise: Permilles are asked by the preferred system first.
     // mutations: loading_permilles_without_the_preferred_system
     pub fn try_new_permille_unstable<
         D: DataProvider<DecimalSymbolsV1>

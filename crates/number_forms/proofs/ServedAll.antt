@@ -51,7 +51,8 @@ module _ (settings : FormSettings) (kept all : AllData) (answers : AllAnswersAs 
   -- the symbols for numbers of money
   money_symbols-same : (id : Identifier) → id.locale ≡ settings.locale
       → symbols_for_money settings.grouping kept.numbers kept.dimension id ≡ symbols_for_money settings.grouping all.numbers all.dimension id
-  money_symbols-same id same = ap₂ (λ (x y : Result DecimalSymbols Refusal). or_else x y) (ap (with_sizes settings.grouping) (answers.dimension.decimals id same))
+  money_symbols-same id same = ap₂ (λ (x y : Result DecimalSymbols Refusal). or_else x y)
+      (ap (with_sizes settings.grouping) (answers.dimension.decimals id same))
       (symbols-same settings kept.numbers all.numbers answers.numbers id same)
 
   -- the formatter of numbers of money

@@ -48,7 +48,8 @@ module _ (settings : FormSettings) (kept all : AllData) (answers : AllAnswersAs 
   compact_numbers-same one other alike options = and_then_both _ _ (with_numbers kept one) (with_numbers all other)
       (money_numbers-same settings kept all answers (record { grouping_strategy = options.grouping_strategy })) (λ f.
       and_then_both _ _ (with_rules f one) (with_rules f other) (answers.numbers.rules (locale_id settings.locale) refl) (λ r.
-      and_then_both _ _ (made f r) (made f r) (preferred-same settings kept.numbers all.numbers answers.numbers (optional_answer one) (optional_answer other) alike)
+      and_then_both _ _ (made f r) (made f r)
+      (preferred-same settings kept.numbers all.numbers answers.numbers (optional_answer one) (optional_answer other) alike)
       (λ t. refl)))
     where
       made : DecimalFormat → List Rule → List TableEntry → Result CompactFormat Refusal

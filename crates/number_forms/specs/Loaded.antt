@@ -224,8 +224,9 @@ money_short_loaded settings code options tables dimension =
 abbrev pub compact_names_loaded : FormSettings → List ℕ → Option (List (NamedEntry (List TableEntry))) → TablesData → DimensionData
     → Result (PluralFormat CompactFormat NameText) Refusal
 compact_names_loaded settings code patterns tables dimension =
-    loaded_compact_plural (symbols_for_money settings.grouping tables dimension) (system_digits tables) (optional_answer tables.rules) (optional_answer patterns)
-    (names_answer dimension.placeholders dimension.symbols) (compact_preferences settings) code (compact_options (strategy_of settings.grouping))
+    loaded_compact_plural (symbols_for_money settings.grouping tables dimension) (system_digits tables) (optional_answer tables.rules)
+    (optional_answer patterns) (names_answer dimension.placeholders dimension.symbols) (compact_preferences settings) code
+    (compact_options (strategy_of settings.grouping))
     (λ f r x. record { formatter = f; rules = r; elements = x })
 
 -- by the short patterns
@@ -275,8 +276,8 @@ unit_patterns Short dimension = unit_answer filed.Short dimension.units
 unit_patterns Narrow dimension = unit_answer filed.Narrow dimension.units
 
 -- the formatter of numbers with a unit
-abbrev pub units_loaded : Option FormGrouping → UnitWidth → TablesData → DimensionData → DecimalFormatterPreferences → List ℕ → DecimalFormatterOptions
-    → Result (PluralFormat DecimalFormat PatternText) Refusal
+abbrev pub units_loaded : Option FormGrouping → UnitWidth → TablesData → DimensionData → DecimalFormatterPreferences → List ℕ
+    → DecimalFormatterOptions → Result (PluralFormat DecimalFormat PatternText) Refusal
 units_loaded grouping width tables dimension prefs name options =
     loaded_plural (symbols_of grouping tables) (system_digits tables) (optional_answer tables.rules) (unit_patterns width dimension)
     prefs name options (λ f r x. record { formatter = f; rules = r; elements = x })
@@ -298,8 +299,8 @@ compact_units_loaded grouping width patterns tables dimension prefs name options
 abbrev pub compact_unit_loaded : FormSettings → List ℕ → UnitWidth → Option (List (NamedEntry (List TableEntry))) → TablesData → DimensionData
     → Result FormData Refusal
 compact_unit_loaded settings name width patterns tables dimension =
-    and_then (compact_units_loaded settings.grouping width patterns tables dimension (compact_preferences settings) name (compact_options (strategy_of settings.grouping))) (λ f.
-    Ok (form_with settings None (ShortUnits f (rounding_to settings (compact_precision settings.precision)))))
+    and_then (compact_units_loaded settings.grouping width patterns tables dimension (compact_preferences settings) name
+    (compact_options (strategy_of settings.grouping))) (λ f. Ok (form_with settings None (ShortUnits f (rounding_to settings (compact_precision settings.precision)))))
 
 -- by the short patterns
 unfoldable pub unit_short_loaded : FormSettings → List ℕ → UnitWidth → TablesData → DimensionData → Result FormData Refusal
