@@ -300,7 +300,8 @@ abbrev pub compact_unit_loaded : FormSettings → List ℕ → UnitWidth → Opt
     → Result FormData Refusal
 compact_unit_loaded settings name width patterns tables dimension =
     and_then (compact_units_loaded settings.grouping width patterns tables dimension (compact_preferences settings) name
-    (compact_options (strategy_of settings.grouping))) (λ f. Ok (form_with settings None (ShortUnits f (rounding_to settings (compact_precision settings.precision)))))
+    (compact_options (strategy_of settings.grouping))) (λ f.
+    Ok (form_with settings None (ShortUnits f (rounding_to settings (compact_precision settings.precision)))))
 
 -- by the short patterns
 unfoldable pub unit_short_loaded : FormSettings → List ℕ → UnitWidth → TablesData → DimensionData → Result FormData Refusal
